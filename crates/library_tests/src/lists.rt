@@ -1,16 +1,18 @@
 //! A map of stretches, a tree of sides, the list of a section, and an empty manuscript, by value.
 
-ghost use Rattle.std.specs.Prelude.{◌≡◌, IsTrue, true};
+ghost use Rattle.std.specs.Prelude.{◌≡◌, ◌<◌, IsTrue, true};
 ghost use Rattle.origin_model.specs.sides.Node.{has_origin};
 
 use crate::assertions::{equal, equal_at, holds_at};
 use crate::ids::id;
-use fugue_ids::ElementId;
+use fugue_ids::{ElementId, NoMemory};
 use outer_ports::MemSink;
 use run_store::RunStore;
 use section_catalogue::Manuscript;
 use section_list::SectionList;
 use sided_tree::{Gap, Side, SidedTree};
+use std::ops::Range;
+use std::test::Fail;
 use stretch_map::{Follows, Position, Same, StretchMap, Typed};
 
 /// Whether the identifier had no value, and has this one now.
@@ -95,6 +97,94 @@ fn values_are_read_and_taken_out(rt: HostRuntime) {
     drop(origins);
     drop(sections);
     drop(positions);
+}
+
+/// Whether none of so many identifiers had a value, and each has this one now.
+fn put_run(map: &mut StretchMap<Same>, first: ElementId, count: u32, value: Same) -> bool {
+    count > 0
+        && count < 100
+        && first.counter < 100
+        && map.is_free(first, count)
+        && map.insert_run(first, count, value).is_ok()
+}
+
+/// Runs of identifiers: the replica, the first counter, and how many. Some go on with others, some overlap them, and
+/// some lie around one.
+const RUNS: [(u32, u32, u32); 16] = [
+    (2, 10, 5),
+    (2, 15, 3),
+    (1, 4, 1),
+    (2, 8, 2),
+    (2, 8, 1),
+    (2, 0, 30),
+    (2, 17, 2),
+    (2, 30, 4),
+    (1, 0, 4),
+    (1, 0, 5),
+    (3, 7, 9),
+    (3, 0, 7),
+    (3, 15, 1),
+    (3, 16, 1),
+    (2, 20, 10),
+    (2, 18, 2),
+];
+
+/// What the identifier has in a list.
+fn listed(list: &[(ElementId, Same)], own: ElementId) -> Option<Same> {
+    for entry in list {
+        if entry.0 == own {
+            return Some(entry.1);
+        }
+    }
+    None
+}
+
+/// The identifiers of a replica with these counters have the value of the turn.
+fn list_run(
+    list: &mut Vec<(ElementId, Same)>,
+    replica: u32,
+    counters: Range<u32>,
+    turn: u32,
+) -> Result<(), NoMemory>
+    requires { 0 < replica }
+{
+    for counter in counters {
+        let value = Same { of: id(9, turn) };
+        list.push((id(replica, counter), value))?;
+    }
+    Ok(())
+}
+
+/// A run goes in where all of its identifiers are free, beside a list of what each identifier has.
+#[test]
+fn a_run_goes_in_where_all_of_it_is_free(rt: HostRuntime) -> Result<(), Fail> {
+    let mut map = StretchMap::new(rt.alloc());
+    let mut list = Vec::new(rt.alloc());
+    let mut turn = 0u32;
+    for (number, counter, count) in RUNS {
+        turn = turn.saturating_add(1);
+        let replica = number.max(1);
+        let end = counter.saturating_add(count);
+        let section = Same { of: id(9, turn) };
+        let mut is_free = true;
+        for one in counter..end {
+            is_free = is_free && listed(&list, id(replica, one)).is_none();
+        }
+        let is_put = put_run(&mut map, id(replica, counter), count, section);
+        equal_at(&rt, &turn, is_put, is_free);
+        if is_free {
+            list_run(&mut list, replica, counter..end, turn)?;
+        }
+    }
+    for number in 0..4u32 {
+        for counter in 0..40 {
+            let own = id(number.saturating_add(1), counter);
+            equal_at(&rt, &(number, counter), map.get(own), listed(&list, own));
+        }
+    }
+    drop(list);
+    drop(map);
+    Ok(())
 }
 
 /// The second element hangs on the side of its origins, and is taken back.

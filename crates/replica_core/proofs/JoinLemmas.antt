@@ -1,21 +1,20 @@
 -- What an operation of an edit leaves as it was, and operations that join one after another.
-use Rattle.std.proofs.Common.{◌≡◌, refl, sym, ◌∙◌, ap, subst, ℕ, suc, ◌+◌, ◌++◌, ◌∷◌, ◌<◌, ◌≤◌, List, [], length, false, arith, append_assoc, drop, get_or, length-append, take}
-use Rattle.std.specs.Prelude.{All, Option, Some}
+use Rattle.std.proofs.Common.{◌≡◌, refl, sym, ◌∙◌, ap, subst, ℕ, suc, ◌+◌, ◌++◌, ◌∷◌, ◌<◌, List, [], length, false, arith, append_assoc, drop, get_or, length-append, take}
+use Rattle.std.specs.Prelude.{All}
 use Rattle.std.proofs.lemmas.Bool.{ne_eqb}
-use Rattle.std.proofs.lemmas.List.{append-nil, at_drop_all, at_drop_more}
+use Rattle.std.proofs.lemmas.List.{append-nil, at_drop_more}
 use Rattle.std.proofs.lemmas.List.Elements.{All-head, All-tail}
 use Rattle.fugue_ids.specs.Identifiers.{Identifier}
 use Rattle.fugue_ids.specs.declared.op.Op.{Op}
-use Rattle.fugue_ids.specs.declared.op.Op.TheVariants.{Delete, Text}
+use Rattle.fugue_ids.specs.declared.op.Op.TheVariants.{Delete}
 use Rattle.origin_model.specs.operations.History.{accepted}
 use Rattle.origin_model.specs.taking.Taking.{Accepted, answer, decided_on}
-use Rattle.origin_model.specs.edits.Edits.{deletes_of, id_at, typed}
+use Rattle.origin_model.specs.edits.Edits.{deletes_of}
 use Rattle.origin_model.proofs.edits.MadeLemmas.{extended-append, join_at_end}
 use Rattle.replica_core.specs.Due.{due_marks}
 use Rattle.origin_model.specs.edits.Effect.{Gains, StopsPartly, with_ops}
-use Rattle.replica_core.specs.Edits.{CanJoin, typed_at}
+use Rattle.replica_core.specs.Edits.{CanJoin}
 use Rattle.origin_model.specs.edits.State.{State, Stands}
-use Rattle.replica_core.specs.declared.edits.planning.TextSpot.{TextSpot}
 use Rattle.origin_model.proofs.edits.EditIntakeLemmas.{accepts}
 use Rattle.replica_core.proofs.StandingLemmas.{stands_by_accept}
 
@@ -97,45 +96,8 @@ stops old now ops rest op j =
 pub stops_at_once : (s : State) (ops : List Op) → 0 < length ops → StopsPartly s s ops
 stops_at_once s ops some = record { count = 0; fewer = some; gained = gains s s [] refl }
 
--- a text that is typed has come as far as the scalar k
-pub record IsTyping (old now : State) (spot : TextSpot) (cs : List ℕ) (counter k : ℕ) (left : Option Identifier) : Type 0 where
-  pub joining : IsJoining old now (typed_at old.number spot cs) (typed old.number counter spot.section left spot.right (drop k cs))
-  pub counted : counter ≡ spot.counter + k
-
--- the next scalar makes a text
-pub types : (old now : State) (spot : TextSpot) (cs : List ℕ) (counter k ch : ℕ) (left : Option Identifier) (id : Identifier)
-    → IsTyping old now spot cs counter k left → (k < length cs) × (ch ≡ get_or cs k ch) → id ≡ id_at now.number counter
-    → IsJoining old now (typed_at old.number spot cs) (Text id spot.section left spot.right ch ∷ typed old.number (counter + 1) spot.section (Some id) spot.right (drop (k + 1) cs))
-types old now spot cs counter k ch left id t turn is =
-    let own : id_at old.number counter ≡ id = ap (λ (s : State). id_at s.number counter) (sym t.joining.others) ∙ sym is in
-    let next : suc counter ≡ counter + 1 = omega arith in
-    let step : typed old.number counter spot.section left spot.right (drop k cs) ≡ Text id spot.section left spot.right ch ∷ typed old.number (counter + 1) spot.section (Some id) spot.right (drop (k + 1) cs) =
-    at_drop_more (typed old.number counter spot.section left spot.right) cs k ch turn.0
-    ∙ ap (λ c. typed old.number counter spot.section left spot.right (c ∷ drop (k + 1) cs)) (sym turn.1)
-    ∙ (λ i. Text (own i) spot.section left spot.right ch ∷ typed old.number (next i) spot.section (Some (own i)) spot.right (drop (k + 1) cs)) in
-    subst (IsJoining old now (typed_at old.number spot cs)) step t.joining
-
 -- the next element makes a Delete
 pub deletes : (old now : State) (xs : List Identifier) (k : ℕ) (x : Identifier) → IsJoining old now (deletes_of xs) (deletes_of (drop k xs)) → k < length xs → x ≡ get_or xs k x
     → IsJoining old now (deletes_of xs) (Delete x ∷ deletes_of (drop (k + 1) xs))
 deletes old now xs k x j within is =
     subst (IsJoining old now (deletes_of xs)) (at_drop_more deletes_of xs k x within ∙ ap (λ y. Delete y ∷ deletes_of (drop (k + 1) xs)) (sym is)) j
-
--- one scalar more is typed
-pub types_more : (old now new : State) (spot : TextSpot) (cs : List ℕ) (counter k ch next : ℕ) (left : Option Identifier) (id : Identifier)
-    → IsTyping old now spot cs counter k left → (k < length cs) × (ch ≡ get_or cs k ch) → id ≡ id_at now.number counter
-    → new ≡ with_ops now (Text id spot.section left spot.right ch ∷ []) → Stands new → next ≡ k + 1 → IsTyping old new spot cs (counter + 1) next (Some id)
-types_more old now new spot cs counter k ch next left id t turn is joined stands more =
-    let rest : ℕ → List Op = λ n. typed old.number (counter + 1) spot.section (Some id) spot.right (drop n cs) in
-    record {
-      joining = subst (λ n. IsJoining old new (typed_at old.number spot cs) (rest n)) (sym more)
-          (goes_on old now new (typed_at old.number spot cs) (rest (k + 1)) (Text id spot.section left spot.right ch) (types old now spot cs counter k ch left id t turn is) joined stands);
-      counted = omega (arith, t.counted, more);
-    }
-
--- all scalars are typed
-pub types_all : (old now : State) (spot : TextSpot) (cs : List ℕ) (counter k : ℕ) (left : Option Identifier) → IsTyping old now spot cs counter k left → length cs ≤ k
-    → Gains old now (typed_at old.number spot cs)
-types_all old now spot cs counter k left t done =
-    ends old now (typed_at old.number spot cs)
-    (subst (IsJoining old now (typed_at old.number spot cs)) (at_drop_all (typed old.number counter spot.section left spot.right) cs k done) t.joining)

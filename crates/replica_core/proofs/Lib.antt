@@ -12,6 +12,7 @@ pub mod ManuscriptLemmas
 pub mod MarkLemmas
 pub mod PlanLemmas
 pub mod PositionLemmas
+pub mod RunLemmas
 pub mod StandingLemmas
 pub mod StepLemmas
 pub mod StepStandingLemmas

@@ -1,6 +1,8 @@
-ghost use Rattle.std.specs.Prelude.{◌≡◌, ◌<◌, ◌∷◌, [], length, option_map, slice_get, IfErr, IfSome, OnErr, OnOk};
+ghost use Rattle.std.specs.Prelude.{◌≡◌, ◌<◌, ◌≤◌, ◌+◌, ◌^◌, ◌∷◌, [], length, option_map, slice_get, IfErr, IfSome, OnErr, OnOk};
 ghost use Rattle.fugue_ids.specs.Outs.{WritesBytes};
+ghost use Rattle.fugue_ids.specs.Runs.{run_from};
 ghost use Rattle.fugue_ids.specs.declared.op.Op.TheVariants.{Delete as DeleteOf};
+ghost use Rattle.origin_model.specs.edits.Edits.{ReadyInTurn, extended};
 ghost use Rattle.origin_model.specs.operations.History.{accepted as accepted_list, holds as holds_on};
 ghost use Rattle.origin_model.specs.operations.Counters.{counters, IsGreatest};
 ghost use Rattle.origin_model.specs.order.Printed.{manuscript as manuscript_on, shown};
@@ -13,7 +15,7 @@ ghost use Rattle.section_catalogue.specs.Manuscript.{GrowsBy, IsPlaceOf, IsReady
 
 use crate::history::History;
 use crate::look_ups::ShownSection;
-use fugue_ids::{ElementId, Failed, MOST_OPERATIONS, NoMemory, Op, OpKey};
+use fugue_ids::{ElementId, Failed, MOST_OPERATIONS, NoMemory, Op, OpKey, RunStart};
 use origin_model::{Lookup, NoMemoryFor, Role, Verdict, fits_at, verdict_in};
 use outer_ports::Sink;
 use section_catalogue::Manuscript;
@@ -195,6 +197,26 @@ impl Accepted {
             Err(NoMemory) => Err(NoMemoryFor {
                 op: self.history.pop(),
             }),
+        }
+    }
+
+    /// Takes in a run whose Texts are Ready in their turn, by one call on the places. After want of memory all is as
+    /// before.
+    pub fn accept_run(&mut self, start: &RunStart, text: &[char]) -> Result<(), NoMemory>
+        requires some { 0 < length text.now }
+        requires counters { start.now.id.counter + length text.now ≤ 2 ^ 32 }
+        requires ready { ReadyInTurn self.old (run_from start.now text.now) }
+        requires room { length self.old + length text.now ≤ MOST_OPERATIONS }
+        ensures ok { OnOk result (self.new ≡ extended self.old (run_from start.now text.now)) }
+        ensures err { OnErr result (self.new ≡ self.old) }
+    {
+        self.history.push_run(start, text)?;
+        match self.manuscript.insert_run(start, text) {
+            Ok(()) => Ok(()),
+            Err(NoMemory) => {
+                self.history.pop_all(text.len());
+                Err(NoMemory)
+            }
         }
     }
 

@@ -1,4 +1,7 @@
-ghost use Rattle.std.specs.Prelude.{◌≡◌, ◌≢◌, ◌<◌, ◌∷◌, [], Some, OnErr, OnOk, IfErr, option_copied, slice_get};
+ghost use Rattle.std.specs.Prelude.{◌≡◌, ◌≢◌, ◌<◌, ◌≤◌, ◌+◌, ◌^◌, ◌∷◌, [], Some, OnErr, OnOk, IfErr, drop, length};
+ghost use Rattle.std.specs.Prelude.{option_copied, slice_get};
+ghost use Rattle.fugue_ids.specs.Runs.{run_from};
+ghost use Rattle.origin_model.specs.edits.Edits.{ReadyInTurn, extended};
 ghost use Rattle.origin_model.specs.operations.History.{accepted};
 ghost use Rattle.origin_model.specs.operations.Counters.{counters, IsGreatest};
 ghost use Rattle.origin_model.specs.operations.Verdict.{verdict, Lawful};
@@ -6,7 +9,7 @@ ghost use Rattle.origin_model.specs.declared.operations.Verdict.TheVariants.{Rea
 ghost use Rattle.replica_core.specs.Index.{has_key, position_of, sections_and_notes as positions_in};
 
 use crate::index::Index;
-use fugue_ids::{ElementId, Op, OpKey};
+use fugue_ids::{ElementId, NoMemory, Op, OpKey, RunStart};
 use origin_model::{Lookup, NoMemoryFor};
 use std::alloc::Global;
 use std::marker::Model;
@@ -118,6 +121,24 @@ impl History {
         }
     }
 
+    /// The Texts of a run, which are Ready in their turn. After want of memory all is as before.
+    pub fn push_run(&mut self, start: &RunStart, text: &[char]) -> Result<(), NoMemory>
+        requires counters { start.now.id.counter + length text.now ≤ 2 ^ 32 }
+        requires ready { ReadyInTurn self.old (run_from start.now text.now) }
+        ensures ok { OnOk result (self.new ≡ extended self.old (run_from start.now text.now)) }
+        ensures err { OnErr result (self.new ≡ self.old) }
+    {
+        let mut count = 0;
+        'pushed: for ch in text {
+            let Ok(()) = self.push(start.nth(count).text(*ch)) else {
+                self.pop_all(count);
+                return Err(NoMemory);
+            };
+            count += 1;
+        }
+        Ok(())
+    }
+
     /// The greatest counter of the replica among the identifiers that the operations have or name. What one names is
     /// another's own.
     pub fn greatest(&self, replica: u32) -> Option<u32>
@@ -142,5 +163,17 @@ impl History {
         let op = self.ops.pop().unwrap();
         self.index.forget(&op);
         op
+    }
+
+    /// Takes the newest operations back, so many.
+    pub fn pop_all(&mut self, count: usize)
+        requires { count ≤ length self.old }
+        ensures { self.new ≡ drop count self.old }
+    {
+        let mut left = count;
+        'popped: while left > 0 {
+            let _op = self.pop();
+            left -= 1;
+        }
     }
 }

@@ -1,6 +1,7 @@
 ghost use Rattle.std.specs.Prelude.{◌≡◌, ◌≢◌, ◌↔◌, ◌<◌, ◌≤◌, ◌+◌, ◌-◌, ◌^◌, ◌==◌, ◌∷◌, [], length, IsTrue, IfOk, OnOk};
 ghost use Rattle.std.specs.Prelude.{OnErr, IfErr, All, List, ℕ, ◌++◌};
 ghost use Rattle.fugue_ids.specs.Outs.{WritesBytes};
+ghost use Rattle.fugue_ids.specs.Runs.{run_from};
 ghost use Rattle.origin_model.specs.operations.History.{accepted as accepted_list};
 ghost use Rattle.origin_model.specs.operations.Verdict.{verdict as verdict_on};
 ghost use Rattle.origin_model.specs.order.Printed.{manuscript};
@@ -21,7 +22,7 @@ use crate::accepted::Accepted;
 use crate::due::Due;
 use crate::waking::{open_and_wake, wait};
 use causal_inbox::{Found, Inbox, PushFault};
-use fugue_ids::{ElementId, Failed, GREATEST_HOLD, MOST_OPERATIONS, NoMemory, Op};
+use fugue_ids::{ElementId, Failed, GREATEST_HOLD, MOST_OPERATIONS, NoMemory, Op, RunStart};
 use origin_model::{Tally, Verdict};
 use outer_ports::Sink;
 use std::alloc::Global;
@@ -240,6 +241,23 @@ impl Replica {
         ensures stands { Stands self.new }
     {
         let Ok(()) = self.accepted.accept(op) else {
+            return Err(NoMemory);
+        };
+        Ok(())
+    }
+
+    /// Accepts a run that an edit makes, by one call on the places. Nothing that waits is decided by it, so the marks
+    /// stay.
+    pub(crate) fn join_run(&mut self, start: &RunStart, text: &[char]) -> Result<(), NoMemory>
+        requires some { 0 < length text.now }
+        requires counters { start.now.id.counter + length text.now ≤ 2 ^ 32 }
+        requires can { CanJoin self.old (run_from start.now text.now) }
+        ensures ok { OnOk result (self.new ≡ with_ops self.old (run_from start.now text.now)) }
+        ensures err { OnErr result (self.new ≡ self.old) }
+        ensures settled { IsSettled self.new.held }
+        ensures stands { Stands self.new }
+    {
+        let Ok(()) = self.accepted.accept_run(start, text) else {
             return Err(NoMemory);
         };
         Ok(())

@@ -1,7 +1,7 @@
 -- A cell among others that have other identifiers.
 use Rattle.std.proofs.Common.{◌≡◌, ◌≢◌, suc, Bool, true, false, ◌&&◌, ◌||◌, List, [], ◌∷◌, ◌++◌, ap, inl, inr, length, refl, sym, subst, ◌∙◌}
 use Rattle.std.specs.Prelude.{Option, None, Some, if◌then◌else◌, map, option_map, slice_get}
-use Rattle.std.specs.List.{All, AllPairs, Contains, insert}
+use Rattle.std.specs.List.{All, AllPairs, Contains}
 use Rattle.std.proofs.lemmas.Bool.{cases_Bool, true≢false}
 use Rattle.std.proofs.lemmas.List.Elements.{All-head, All-tail}
 use Rattle.fugue_ids.specs.Identifiers.{Identifier, id_eq}
@@ -11,6 +11,7 @@ use Rattle.fugue_ids.proofs.IdentifierLemmas.{cases_id, eq-id_eq, id_eq-true, in
 use Rattle.fugue_ids.proofs.ListLemmas.{all_pairs_head, all_pairs_tail, contains_here, contains_there}
 use Rattle.origin_model.specs.edits.Landing.{following, first_after}
 use Rattle.run_store.specs.Cells.{cell_of, cell_hiding, cell_ids, is_hidden_cell, keyed_cells}
+use Rattle.run_store.specs.Growth.{inserted_at}
 use Rattle.run_store.specs.Heads.{run_head_of as said_of}
 use Rattle.run_store.specs.declared.cell.Cell.{Cell}
 use Rattle.run_store.specs.declared.cell.Head.{Head}
@@ -121,10 +122,10 @@ pub hiding-at : (x : Identifier) (front : List Cell) (c : Cell) (back : List Cel
 hiding-at x [] c back p q e = λ i. hiding-own x c e i ∷ hiding-none x back q i
 hiding-at x (a ∷ front) c back p q e = λ i. (if p.0 i then record a { hidden = true } else a) ∷ hiding-at x front c back p.1 q e i
 
--- another directly behind it, and directly before it
-pub insert-at : (front : List Cell) (c : Cell) (back : List Cell) → insert (front ++ back) (length front) c ≡ front ++ c ∷ back
-insert-at [] c back = refl
-insert-at (a ∷ front) c back = ap (λ cs. a ∷ cs) (insert-at front c back)
+-- others directly behind a part
+pub inserted-at : (front new back : List Cell) → inserted_at (length front) new (front ++ back) ≡ front ++ (new ++ back)
+inserted-at [] new back = refl
+inserted-at (a ∷ front) new back = ap (λ cs. a ∷ cs) (inserted-at front new back)
 
 -- the cell of x stands at its index
 pub cell-get : (x : Identifier) (cs : List Cell) → cell_of cs x ≡ slice_get cs (index_of (cell_ids cs) x)

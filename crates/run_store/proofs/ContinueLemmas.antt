@@ -15,6 +15,7 @@ use Rattle.run_store.specs.declared.cell.Head.{Head}
 use Rattle.run_store.specs.declared.run.Run.{Run}
 use Rattle.run_store.specs.declared.run.Runs.{Runs}
 use Rattle.run_store.proofs.FindLemmas.{cell-found, spot-held}
+use Rattle.run_store.proofs.InsertLemmas.{fresh-first}
 use Rattle.run_store.proofs.HeadLemmas.{behind-depth, behind-hidden, behind-id, behind-right}
 use Rattle.run_store.proofs.RunsLemmas.{cell_there}
 
@@ -45,7 +46,7 @@ continued-is last h ch t =
 pub next-by : (b : Bool) (last k h : Head) → b ≡ is_continued (Some (lettered last 0)) h.id h.left h.right → b ≡ true → last ≡ k → IsNext k h
 next-by b last k h e t same = subst (λ (j : Head). IsNext j h) same (continued-is last h 0 (sym e ∙ t))
 
-module _ (r : Runs) (s : AreRuns r) (run : Run) (o : ℕ) (v : value_under run.id r.rope ≡ Some run) (l : o < run.len) (h : Head) (new : IsNew (cells_in r) h)
+module _ (r : Runs) (s : AreRuns r) (run : Run) (o : ℕ) (v : value_under run.id r.rope ≡ Some run) (l : o < run.len) (h : Head) (count : ℕ) (new : IsNew (cells_in r) h count)
     (n : IsNext (head_behind o (first_of run)) h) where
   abbrev last : Head
   last = head_behind o (first_of run)
@@ -58,7 +59,7 @@ module _ (r : Runs) (s : AreRuns r) (run : Run) (o : ℕ) (v : value_under run.i
   -- it stands behind the last cell of the run
   pub next-last : suc o ≡ run.len
   next-last = elim (cases_less (suc o) run.len) [
-    | inl more ↦ absurd (new.fresh (subst (Contains (cell_ids (cells_in r))) (sym id-is)
+    | inl more ↦ absurd (fresh-first (cells_in r) h count new (subst (Contains (cell_ids (cells_in r))) (sym id-is)
         (spot-held r s (id_behind run.id (suc o)) run (suc o) (record { held = v; inside = more; is = refl }))))
     | inr none ↦ omega (arith, l, none)
   ]
@@ -70,13 +71,13 @@ module _ (r : Runs) (s : AreRuns r) (run : Run) (o : ℕ) (v : value_under run.i
   left-cell = ap (cell_of_origin (cells_in r)) n.left ∙ cell-found r s last.id run o (record { held = v; inside = l; is = refl })
 
   depth-is : h.key.depth ≡ run.key.depth + suc o
-  depth-is = omega (arith, ap (λ k. k.depth) new.key, ap cell_depth left-cell, behind-depth o (first_of run))
+  depth-is = omega (arith, ap (λ k. k.depth) new.head.key, ap cell_depth left-cell, behind-depth o (first_of run))
 
   shares : shares_right (cells_in r) h.left h.right ≡ true
   shares = (λ i. has_right (left-cell i) (n.right i)) ∙ origin_eq-refl last.right
 
   forest-is : h.key.forest ≡ 0
-  forest-is = ap (λ k. k.forest) new.key ∙ ap (λ b. if b then 0 else forest_beside (cells_in r) h.left h.right) shares
+  forest-is = ap (λ k. k.forest) new.head.key ∙ ap (λ b. if b then 0 else forest_beside (cells_in r) h.left h.right) shares
 
   -- and is the next one
   pub next-is : h ≡ head_behind run.len (first_of run)
@@ -85,7 +86,7 @@ module _ (r : Runs) (s : AreRuns r) (run : Run) (o : ℕ) (v : value_under run.i
         id = id-is i;
         left = (n.left ∙ ap Some (behind-id o (first_of run))) i;
         right = (n.right ∙ behind-right o (first_of run)) i;
-        hidden = (new.shown ∙ sym n.shown ∙ behind-hidden o (first_of run)) i;
+        hidden = (new.head.shown ∙ sym n.shown ∙ behind-hidden o (first_of run)) i;
         key = record { depth = depth-is i; forest = forest-is i };
       })
       ∙ ap (λ k. head_behind k (first_of run)) next-last

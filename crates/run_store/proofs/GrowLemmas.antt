@@ -23,7 +23,7 @@ pub new-stretch : (L : List (List ℕ)) (new : List ℕ) → slice_index_or (L +
 new-stretch [] new = refl
 new-stretch (l ∷ L) new = new-stretch L new
 
--- a letter more in one
+-- more letters in one
 pub grown-set : (L : List (List ℕ)) (i : ℕ) (more : List ℕ) → AreGrown L (slice_set L i (slice_index_or L i [] ++ more))
 grown-set [] i more s = ([], sym (append-nil (slice_index_or [] s [])))
 grown-set (l ∷ L) zero more zero = (more, refl)
@@ -36,11 +36,11 @@ set-stretch [] i new l = absurd (omega (arith, l))
 set-stretch (x ∷ L) zero new l = refl
 set-stretch (x ∷ L) (suc i) new l = set-stretch L i new (omega (arith, l))
 
--- where a letter comes to one, the first one is as it was or has that letter more
-set-first : (L : List (List ℕ)) (i ch : ℕ) → length (slice_index_or (slice_set L i (slice_index_or L i [] ++ ch ∷ [])) 0 []) ≤ length (slice_index_or L 0 []) + 1
-set-first [] i ch = omega arith
-set-first (l ∷ L) zero ch = omega (arith, length-append l (ch ∷ []))
-set-first (l ∷ L) (suc i) ch = omega arith
+-- where letters come to one, the first one is as it was or has these letters more
+set-first : (L : List (List ℕ)) (i : ℕ) (more : List ℕ) → length (slice_index_or (slice_set L i (slice_index_or L i [] ++ more)) 0 []) ≤ length (slice_index_or L 0 []) + length more
+set-first [] i more = omega arith
+set-first (l ∷ L) zero more = omega (arith, length-append l more)
+set-first (l ∷ L) (suc i) more = omega arith
 
 -- a new stretch is not the first one, where there is one
 first-kept : (L : List (List ℕ)) (new : List ℕ) → 0 < length L → slice_index_or (L ++ new ∷ []) 0 [] ≡ slice_index_or L 0 []
@@ -81,49 +81,49 @@ module _ (L M : List (List ℕ)) (g : AreGrown L M) (n m : ℕ) (le : n ≤ m) w
       λ i. typed_cells (first_of x.1) (grown-letters x (All-head (IsRun L n) x xs a) i) ++ grown-cells xs (All-tail (IsRun L n) x xs a) i
 
 -- a part of a list whose end is the part's, with more behind
-pub part-longer : {X : Type 0} (start n : ℕ) (xs : List X) (x : X) → start + n ≡ length xs → take (suc n) (drop start (xs ++ x ∷ [])) ≡ take n (drop start xs) ++ x ∷ []
-part-longer start n xs x e =
+pub part-longer : {X : Type 0} (start n : ℕ) (xs more : List X) → start + n ≡ length xs → take (n + length more) (drop start (xs ++ more)) ≡ take n (drop start xs) ++ more
+part-longer start n xs more e =
     let l : length (drop start xs) ≡ n = omega (arith, e, length-drop start xs) in
-    ap (take (suc n)) (drop-append-le start xs (x ∷ []) (omega (arith, e)))
-    ∙ take_all (suc n) (drop start xs ++ x ∷ []) (omega (arith, l, length-append (drop start xs) (x ∷ [])))
-    ∙ ap (λ ys. ys ++ x ∷ []) (sym (take_all n (drop start xs) (omega (arith, l))))
+    ap (take (n + length more)) (drop-append-le start xs more (omega (arith, e)))
+    ∙ take_all (n + length more) (drop start xs ++ more) (omega (arith, l, length-append (drop start xs) more))
+    ∙ ap (λ ys. ys ++ more) (sym (take_all n (drop start xs) (omega (arith, l))))
 
-pub longer-pushed : (L : List (List ℕ)) (run : Run) (ch : ℕ) → 0 < run.len → run.start + run.len ≡ length (slice_index_or L run.stretch [])
-    → IsLonger L (slice_set L run.stretch (slice_index_or L run.stretch [] ++ ch ∷ [])) run ch (record run { len = suc run.len })
-longer-pushed L run ch some e =
+pub longer-pushed : (L : List (List ℕ)) (run : Run) (text : List ℕ) → 0 < run.len → run.start + run.len ≡ length (slice_index_or L run.stretch [])
+    → IsLonger L (slice_set L run.stretch (slice_index_or L run.stretch [] ++ text)) run text (record run { len = run.len + length text })
+longer-pushed L run text some e =
     let old = slice_index_or L run.stretch [] in
     let there = stretch-there L run.stretch (omega (arith, some, e)) in
-    let now = set-stretch L run.stretch (old ++ ch ∷ []) there in
+    let now = set-stretch L run.stretch (old ++ text) there in
     record {
       same = refl;
-      grown = grown-set L run.stretch (ch ∷ []);
-      letters = ap (λ xs. take (suc run.len) (drop run.start xs)) now ∙ part-longer run.start run.len old ch e;
-      within = omega (arith, e, ap length now, length-append old (ch ∷ []));
+      grown = grown-set L run.stretch text;
+      letters = ap (λ xs. take (run.len + length text) (drop run.start xs)) now ∙ part-longer run.start run.len old text e;
+      within = omega (arith, e, ap length now, length-append old text);
       begin = omega arith;
       few = λ count ends are. record {
-        first = omega (arith, are.first, length-set L run.stretch (old ++ ch ∷ []));
-        shared = omega (arith, are.shared, set-first L run.stretch ch);
-        others = omega (arith, are.others, length-set L run.stretch (old ++ ch ∷ []));
+        first = omega (arith, are.first, length-set L run.stretch (old ++ text));
+        shared = omega (arith, are.shared, set-first L run.stretch text);
+        others = omega (arith, are.others, length-set L run.stretch (old ++ text));
       };
     }
 
-pub longer-copied : (L : List (List ℕ)) (run : Run) (ch n : ℕ) → n ≡ length L → run.start + run.len ≤ length (slice_index_or L run.stretch [])
-    → IsLonger L (L ++ (letters_of L run ++ ch ∷ []) ∷ []) run ch (record run { stretch = n; start = 0; len = suc run.len })
-longer-copied L run ch n is within =
-    let new = letters_of L run ++ ch ∷ [] in
+pub longer-copied : (L : List (List ℕ)) (run : Run) (text : List ℕ) (n : ℕ) → 0 < length text → n ≡ length L → run.start + run.len ≤ length (slice_index_or L run.stretch [])
+    → IsLonger L (L ++ (letters_of L run ++ text) ∷ []) run text (record run { stretch = n; start = 0; len = run.len + length text })
+longer-copied L run text n some is within =
+    let new = letters_of L run ++ text in
     let now = ap (λ k. slice_index_or (L ++ new ∷ []) k []) is ∙ new-stretch L new in
     let old = slice_index_or L run.stretch [] in
     let l : length (letters_of L run) ≡ run.len = length-take-le run.len (drop run.start old) (omega (arith, within, length-drop run.start old)) in
-    let m : length new ≡ suc run.len = omega (arith, l, length-append (letters_of L run) (ch ∷ [])) in
+    let m : length new ≡ run.len + length text = omega (arith, l, length-append (letters_of L run) text) in
     record {
       same = refl;
       grown = grown-more L new;
-      letters = ap (λ xs. take (suc run.len) xs) now ∙ take_all (suc run.len) new (omega (arith, m));
+      letters = ap (λ xs. take (run.len + length text) xs) now ∙ take_all (run.len + length text) new (omega (arith, m));
       within = omega (arith, m, ap length now);
       begin = omega arith;
       few = λ count ends are. record {
         first = omega (arith, length-append L (new ∷ []));
         shared = omega (arith, are.shared, ap length (first-kept L new are.first));
-        others = omega (arith, are.others, length-append L (new ∷ []));
+        others = omega (arith, are.others, length-append L (new ∷ []), some);
       };
     }

@@ -3,7 +3,7 @@ use Rattle.std.specs.Prelude.{◌≡◌, List, [], ◌∷◌, Some, IsSome}
 use Rattle.fugue_ids.specs.Identifiers.{Identifier}
 use Rattle.node_rope.specs.Beside.{placed_after, placed_before}
 use Rattle.node_rope.specs.Items.{value_under}
-use Rattle.run_store.specs.Growth.{cell_inserted_before, cell_inserted_behind, last_id_of_run}
+use Rattle.run_store.specs.Growth.{cells_inserted_before, cells_inserted_behind, last_id_of_run}
 use Rattle.run_store.specs.declared.insert.Beginning.{Beginning}
 use Rattle.run_store.specs.declared.insert.Beginning.TheVariants.{Before, Behind, First}
 use Rattle.run_store.specs.declared.cell.Cell.{Cell}
@@ -21,8 +21,8 @@ placed_at First new rope = new ∷ []
 placed_at (Before key) new rope = placed_before key new rope
 placed_at (Behind run) new rope = placed_after run.id new rope
 
--- the cells with the new one of a run that begins there
-abbrev pub begun_run : Beginning → Cell → List Cell → List Cell
-begun_run First c cells = c ∷ []
-begun_run (Before key) c cells = cell_inserted_before key c cells
-begun_run (Behind run) c cells = cell_inserted_behind (last_id_of_run run) c cells
+-- the cells with those of a run that begins there
+abbrev pub begun_run : Beginning → List Cell → List Cell → List Cell
+begun_run First new cells = new
+begun_run (Before key) new cells = cells_inserted_before key new cells
+begun_run (Behind run) new cells = cells_inserted_behind (last_id_of_run run) new cells

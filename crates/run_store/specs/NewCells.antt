@@ -1,12 +1,14 @@
 -- A new cell: its key, where it goes in, and whether it continues a run.
-use Rattle.std.specs.Prelude.{Bool, false, not, if◌then◌else◌, ◌&&◌, nat_eq, List, Option, Some, None, slice_get, ℕ, zero, suc}
+use Rattle.std.specs.Prelude.{Bool, false, not, if◌then◌else◌, ◌&&◌, List, Option, Some, None, slice_get, ℕ, zero, suc}
 use Rattle.fugue_ids.specs.Identifiers.{Identifier, id_eq, origin_eq}
 use Rattle.fugue_ids.specs.Runs.{next_id}
 use Rattle.fugue_ids.specs.declared.key.Gap.{Gap}
 use Rattle.origin_model.specs.sides.KeyedGap.{gap_index}
 use Rattle.fugue_ids.specs.declared.key.Key.{Key}
 use Rattle.run_store.specs.Cells.{cell_ids, cell_of_origin}
+use Rattle.run_store.specs.Heads.{typed_cells}
 use Rattle.run_store.specs.declared.cell.Cell.{Cell}
+use Rattle.run_store.specs.declared.cell.Head.{Head}
 
 -- the depth of a cell: 0 where it is not held
 abbrev pub cell_depth : Option Cell → ℕ
@@ -44,6 +46,14 @@ new_cell_key cells left right = record {
 -- a new cell, which is not hidden
 abbrev pub new_cell : List Cell → Identifier → Option Identifier → Option Identifier → ℕ → Cell
 new_cell cells id left right ch = record { id = id; left = left; right = right; ch = ch; hidden = false; key = new_cell_key cells left right }
+
+-- what it says of itself
+abbrev pub new_head : List Cell → Identifier → Option Identifier → Option Identifier → Head
+new_head cells id left right = record { id = id; left = left; right = right; hidden = false; key = new_cell_key cells left right }
+
+-- a run of new cells: each but the first is the letter behind the one before it
+abbrev pub new_cells : List Cell → Identifier → Option Identifier → Option Identifier → List ℕ → List Cell
+new_cells cells id left right text = typed_cells (new_head cells id left right) text
 
 -- the cell directly before the place i
 abbrev pub cell_before : List Cell → ℕ → Option Cell

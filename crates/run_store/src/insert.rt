@@ -1,4 +1,5 @@
-// A new cell goes in: into the run behind which it was typed, or into one of its own.
+// New cells go in, each but the first behind the one before it: into the run behind which they were typed, or into one
+// of their own.
 ghost use Rattle.std.specs.Prelude.{◌≡◌, ◌<◌, ◌≤◌, ◌+◌, ◌^◌, [], Some, IsNone, Contains, IfOk, length, suc, true};
 ghost use Rattle.std.specs.Prelude.{false, slice_index_or, OnErr, OnOk};
 ghost use Rattle.fugue_ids.specs.Listed.{index_of};
@@ -6,8 +7,8 @@ ghost use Rattle.node_rope.specs.Items.{value_under};
 ghost use Rattle.run_store.specs.Beginning.{CanBegin, begun_run, placed_at};
 ghost use Rattle.run_store.specs.Changes.{MakesCells};
 ghost use Rattle.run_store.specs.Cells.{cell_of, cell_ids};
-ghost use Rattle.run_store.specs.Growth.{IsLonger, IsNew, cell_inserted_before, cell_inserted_behind, last_id_of_run};
-ghost use Rattle.run_store.specs.Heads.{head_behind, lettered};
+ghost use Rattle.run_store.specs.Growth.{IsLonger, IsNew, cells_inserted_before, cells_inserted_behind, last_id_of_run};
+ghost use Rattle.run_store.specs.Heads.{head_behind, lettered, typed_cells};
 ghost use Rattle.run_store.specs.NewCells.{cell_before, is_continued as continues};
 ghost use Rattle.run_store.specs.Runs.{AreRuns, IsSpot, cells_in, first_of};
 ghost use Rattle.run_store.specs.Stored.{IsRaised};
@@ -32,41 +33,42 @@ pub(crate) enum Beginning {
     Behind(Run),
 }
 
-/// The run with one letter more, which has its letters there.
-fn longer_at(run: &Run, stretch: u32, start: u32) -> Run
-    requires { run.now.len + 1 < 2 ^ 32 }
-    ensures { result ≡ record run.now { stretch = stretch; start = start; len = suc run.now.len } }
+/// The run with more letters, which has its letters there.
+fn longer_at(run: &Run, stretch: u32, start: u32, count: usize) -> Run
+    requires { run.now.len + count < 2 ^ 32 }
+    ensures { result ≡ record run.now { stretch = stretch; start = start; len = run.now.len + count } }
 {
     Run {
         stretch,
         start,
-        len: run.len + 1,
+        len: run.len + count as u32,
         ..*run
     }
 }
 
-/// One letter more behind those of the run. Where another stands there, which is another run's, the run's letters are
+/// More letters behind those of the run. Where another stands there, which is another run's, the run's letters are
 /// copied.
-fn lengthened(letters: &mut Letters, run: &Run, ch: char) -> Result<Run, NoMemory>
+fn lengthened(letters: &mut Letters, run: &Run, text: &[char]) -> Result<Run, NoMemory>
     requires some { 0 < run.now.len }
-    requires few { run.now.start + run.now.len < 2 ^ 31 }
+    requires more { 0 < length text.now }
+    requires few { run.now.start + run.now.len + length text.now < 2 ^ 31 }
     requires within { run.now.start + run.now.len ≤ length (slice_index_or letters.old run.now.stretch []) }
     requires stretches { length letters.old < 2 ^ 32 }
-    ensures ok { IfOk result (λ longer. IsLonger letters.old letters.new run.now ch longer) }
+    ensures ok { IfOk result (λ longer. IsLonger letters.old letters.new run.now text.now longer) }
     ensures err { OnErr result (letters.new ≡ letters.old) }
 {
     let end = run.start as usize + run.len as usize;
     if letters.stretch(run.stretch).len() == end {
-        letters.push(run.stretch, ch)?;
-        Ok(longer_at(run, run.stretch, run.start))
+        letters.extend(run.stretch, text)?;
+        Ok(longer_at(run, run.stretch, run.start, text.len()))
     } else {
-        let stretch = letters.copy(run.stretch, run.start, run.len, ch)?;
-        Ok(longer_at(run, stretch, 0))
+        let stretch = letters.copy(run.stretch, run.start, run.len, text)?;
+        Ok(longer_at(run, stretch, 0, text.len()))
     }
 }
 
-/// A run of one cell, whose letter stands there in the first stretch.
-fn alone(head: &Head, start: u32) -> Run
+/// A run of so many cells, whose letters begin there in the first stretch.
+fn alone(head: &Head, start: u32, len: u32) -> Run
     ensures { result ≡ record {
       id = head.now.id;
       left = head.now.left;
@@ -75,7 +77,7 @@ fn alone(head: &Head, start: u32) -> Run
       key = head.now.key;
       stretch = 0;
       start = start;
-      len = 1;
+      len = len;
     } }
 {
     Run {
@@ -86,7 +88,7 @@ fn alone(head: &Head, start: u32) -> Run
         key: head.key,
         stretch: 0,
         start,
-        len: 1,
+        len,
     }
 }
 
@@ -106,72 +108,82 @@ fn place(rope: &mut Rope<Run>, at: Beginning, key: ElementId, run: Run) -> Resul
 }
 
 impl Runs {
-    /// The run with the cell that continues it.
-    fn extend(&mut self, run: &Run, head: &Head, ch: char) -> Result<(), NoMemory>
+    /// The run with the cells that continue it.
+    fn extend(&mut self, run: &Run, head: &Head, text: &[char]) -> Result<(), NoMemory>
         requires sound { AreRuns self.old }
         requires held { value_under run.now.id self.old.rope ≡ Some run.now }
-        requires new { IsNew (cells_in self.old) head.now }
+        requires new { IsNew (cells_in self.old) head.now (length text.now) }
         requires next { head.now ≡ head_behind run.now.len (first_of run.now) }
         ensures sound { AreRuns self.new }
         ensures ok { OnOk result (cells_in self.new
-            ≡ cell_inserted_behind (last_id_of_run run.now) (lettered head.now ch) (cells_in self.old)) }
+            ≡ cells_inserted_behind (last_id_of_run run.now) (typed_cells head.now text.now) (cells_in self.old)) }
         ensures kept { OnOk result (length self.new.rope ≡ length self.old.rope) }
         ensures err { OnErr result (self.new ≡ self.old) }
     {
         // The contract alone needs the head.
         let _ = head;
-        let longer = lengthened(&mut self.letters, run, ch)?;
+        let longer = lengthened(&mut self.letters, run, text)?;
         self.rope.put(run.id, longer);
-        self.count += 1;
+        self.count += text.len();
         Ok(())
     }
 
-    /// A new run of one cell begins there.
-    pub(crate) fn begin(&mut self, at: Beginning, head: &Head, ch: char) -> Result<(), NoMemory>
+    /// A new run begins there.
+    pub(crate) fn begin(
+        &mut self,
+        at: Beginning,
+        head: &Head,
+        text: &[char],
+    ) -> Result<(), NoMemory>
         requires sound { AreRuns self.old }
         requires held { CanBegin at self.old.rope }
-        requires new { IsNew (cells_in self.old) head.now }
+        requires new { IsNew (cells_in self.old) head.now (length text.now) }
         ensures sound { AreRuns self.new }
-        ensures ok { OnOk result (cells_in self.new ≡ begun_run at (lettered head.now ch) (cells_in self.old)) }
+        ensures ok { OnOk result (cells_in self.new ≡ begun_run at (typed_cells head.now text.now) (cells_in self.old)) }
         ensures raised { OnOk result (length self.new.rope ≡ length self.old.rope + 1) }
         ensures err { OnErr result (self.new ≡ self.old) }
     {
-        let start = self.letters.begin(ch)?;
-        match place(&mut self.rope, at, head.id, alone(head, start)) {
+        let start = self.letters.begin(text)?;
+        match place(
+            &mut self.rope,
+            at,
+            head.id,
+            alone(head, start, text.len() as u32),
+        ) {
             Ok(()) => {
-                self.count += 1;
+                self.count += text.len();
                 Ok(())
             }
             Err(_) => {
-                self.letters.take_back();
+                self.letters.take_back(start);
                 Err(NoMemory)
             }
         }
     }
 
     /// A new run directly behind the cell at the spot.
-    fn insert_between(&mut self, spot: &Spot, head: &Head, ch: char) -> Result<(), NoMemory>
+    fn insert_between(&mut self, spot: &Spot, head: &Head, text: &[char]) -> Result<(), NoMemory>
         requires sound { AreRuns self.old }
         requires held { value_under spot.now.run.id self.old.rope ≡ Some spot.now.run }
         requires inside { spot.now.offset < spot.now.run.len }
-        requires new { IsNew (cells_in self.old) head.now }
+        requires new { IsNew (cells_in self.old) head.now (length text.now) }
         ensures { MakesCells result self.old self.new
-            (cell_inserted_behind (head_behind spot.now.offset (first_of spot.now.run)).id (lettered head.now ch)
+            (cells_inserted_behind (head_behind spot.now.offset (first_of spot.now.run)).id (typed_cells head.now text.now)
             (cells_in self.old)) }
     {
         let end = spot.offset + 1;
         self.cut_behind(&spot.run, end)?;
-        self.begin(Beginning::Behind(run_to(&spot.run, end)), head, ch)
+        self.begin(Beginning::Behind(run_to(&spot.run, end)), head, text)
     }
 
-    /// A new cell directly behind the one at the spot.
-    fn insert_at(&mut self, spot: &Spot, head: &Head, ch: char) -> Result<(), NoMemory>
+    /// New cells directly behind the one at the spot.
+    fn insert_at(&mut self, spot: &Spot, head: &Head, text: &[char]) -> Result<(), NoMemory>
         requires sound { AreRuns self.old }
         requires held { value_under spot.now.run.id self.old.rope ≡ Some spot.now.run }
         requires inside { spot.now.offset < spot.now.run.len }
-        requires new { IsNew (cells_in self.old) head.now }
+        requires new { IsNew (cells_in self.old) head.now (length text.now) }
         ensures makes { MakesCells result self.old self.new
-            (cell_inserted_behind (head_behind spot.now.offset (first_of spot.now.run)).id (lettered head.now ch)
+            (cells_inserted_behind (head_behind spot.now.offset (first_of spot.now.run)).id (typed_cells head.now text.now)
             (cells_in self.old)) }
         ensures continued { OnOk result
             (continues (Some (lettered
@@ -179,54 +191,54 @@ impl Runs {
             → length self.new.rope ≡ length self.old.rope) }
     {
         if is_continued(&cell_at(&spot.run, spot.offset), head) {
-            self.extend(&spot.run, head, ch)
+            self.extend(&spot.run, head, text)
         } else {
-            self.insert_between(spot, head, ch)
+            self.insert_between(spot, head, text)
         }
     }
 
-    /// A new cell directly behind this one.
+    /// New cells directly behind this one.
     pub(crate) fn insert_behind(
         &mut self,
         at: ElementId,
         head: &Head,
-        ch: char,
+        text: &[char],
     ) -> Result<(), NoMemory>
         requires sound { AreRuns self.old }
         requires held { Contains (cell_ids (cells_in self.old)) at }
-        requires new { IsNew (cells_in self.old) head.now }
+        requires new { IsNew (cells_in self.old) head.now (length text.now) }
         ensures makes { MakesCells result self.old self.new
-            (cell_inserted_behind at (lettered head.now ch) (cells_in self.old)) }
+            (cells_inserted_behind at (typed_cells head.now text.now) (cells_in self.old)) }
         ensures continued { OnOk result
             (continues (cell_of (cells_in self.old) at) head.now.id head.now.left head.now.right ≡ true
             → length self.new.rope ≡ length self.old.rope) }
     {
         match self.find(at) {
-            Some(spot) => self.insert_at(&spot, head, ch),
+            Some(spot) => self.insert_at(&spot, head, text),
             None => unreachable!(),
         }
     }
 
-    /// A new cell directly before this one.
+    /// New cells directly before this one.
     pub(crate) fn insert_before(
         &mut self,
         next: ElementId,
         head: &Head,
-        ch: char,
+        text: &[char],
     ) -> Result<(), NoMemory>
         requires sound { AreRuns self.old }
         requires held { Contains (cell_ids (cells_in self.old)) next }
-        requires new { IsNew (cells_in self.old) head.now }
+        requires new { IsNew (cells_in self.old) head.now (length text.now) }
         ensures makes { MakesCells result self.old self.new
-            (cell_inserted_before next (lettered head.now ch) (cells_in self.old)) }
+            (cells_inserted_before next (typed_cells head.now text.now) (cells_in self.old)) }
         ensures continued { OnOk result
             (continues (cell_before (cells_in self.old)
             (index_of (cell_ids (cells_in self.old)) next)) head.now.id head.now.left head.now.right ≡ true
             → length self.new.rope ≡ length self.old.rope) }
     {
         match self.before(Some(next)) {
-            Some(behind) => self.insert_behind(behind, head, ch),
-            None => self.begin(Beginning::Before(next), head, ch),
+            Some(behind) => self.insert_behind(behind, head, text),
+            None => self.begin(Beginning::Before(next), head, text),
         }
     }
 }

@@ -1,4 +1,4 @@
-ghost use Rattle.std.specs.Prelude.{◌≡◌, ◌<◌, ◌≤◌, ◌-◌, ◌+◌, ◌^◌, [], ◌∷◌, ◌++◌, drop, length, map, take};
+ghost use Rattle.std.specs.Prelude.{◌≡◌, ◌<◌, ◌≤◌, ◌+◌, ◌^◌, [], ◌∷◌, ◌++◌, drop, length, map, take};
 ghost use Rattle.std.specs.Prelude.{slice_index_or, slice_set, OnErr, OnOk, IfOk};
 
 use fugue_ids::NoMemory;
@@ -49,81 +49,84 @@ impl Letters {
         }
     }
 
-    /// A letter behind those of the first stretch. The answer is where it stands there.
-    pub(crate) fn begin(&mut self, ch: char) -> Result<u32, NoMemory>
+    /// Letters behind those of the first stretch. The answer is where they begin there.
+    pub(crate) fn begin(&mut self, text: &[char]) -> Result<u32, NoMemory>
         requires { length (slice_index_or self.old 0 []) < 2 ^ 32 }
         ensures ok { IfOk result (λ start. (start ≡ length (slice_index_or self.old 0 []))
-            × (self.new ≡ slice_set self.old 0 (slice_index_or self.old 0 [] ++ ch ∷ []))) }
+            × (self.new ≡ slice_set self.old 0 (slice_index_or self.old 0 [] ++ text.now))) }
         ensures err { OnErr result (self.new ≡ self.old) }
     {
         let start = self.first.len() as u32;
-        self.first.push(ch)?;
+        self.first.extend_from_slice(text)?;
         Ok(start)
     }
 
-    /// A new stretch of a part of another one and one letter more.
+    /// A new stretch of a part of another one and more letters.
     pub(crate) fn copy(
         &mut self,
         stretch: u32,
         start: u32,
         len: u32,
-        ch: char,
+        text: &[char],
     ) -> Result<u32, NoMemory>
         requires within { start + len ≤ length (slice_index_or self.old stretch []) }
         requires few { length self.old < 2 ^ 32 }
         ensures ok { IfOk result (λ n. (n ≡ length self.old)
-            × (self.new ≡ self.old ++ (take len (drop start (slice_index_or self.old stretch [])) ++ ch ∷ []) ∷ [])) }
+            × (self.new ≡ self.old ++ (take len (drop start (slice_index_or self.old stretch [])) ++ text.now) ∷ [])) }
         ensures err { OnErr result (self.new ≡ self.old) }
     {
         let start = start as usize;
         let end = start + len as usize;
-        let letters = followed(self.alloc, &self.stretch(stretch)[start..end], ch)?;
+        let letters = followed(self.alloc, &self.stretch(stretch)[start..end], text)?;
         let stretch = self.others.len() as u32 + 1;
         self.others.push(letters)?;
         Ok(stretch)
     }
 
-    /// One letter more in a stretch.
-    pub(crate) fn push(&mut self, stretch: u32, ch: char) -> Result<(), NoMemory>
+    /// More letters in a stretch.
+    pub(crate) fn extend(&mut self, stretch: u32, text: &[char]) -> Result<(), NoMemory>
         requires { stretch < length self.old }
         ensures ok { OnOk result (self.new
-            ≡ slice_set self.old stretch (slice_index_or self.old stretch [] ++ ch ∷ [])) }
+            ≡ slice_set self.old stretch (slice_index_or self.old stretch [] ++ text.now)) }
         ensures err { OnErr result (self.new ≡ self.old) }
     {
         if stretch == 0 {
-            self.first.push(ch)?;
+            self.first.extend_from_slice(text)?;
             return Ok(());
         }
-        push_letter(&mut self.others, stretch as usize - 1, ch)
+        extend_letters(&mut self.others, stretch as usize - 1, text)
     }
 
-    /// Takes the last letter of the first stretch back.
-    pub(crate) fn take_back(&mut self)
-        ensures { self.new ≡ slice_set self.old 0
-            (take (length (slice_index_or self.old 0 []) - 1) (slice_index_or self.old 0 [])) }
+    /// Takes the letters of the first stretch back that stand there or behind.
+    pub(crate) fn take_back(&mut self, start: u32)
+        ensures { self.new ≡ slice_set self.old 0 (take start (slice_index_or self.old 0 [])) }
     {
-        let _ = self.first.pop();
+        self.first.truncate(start as usize);
     }
 }
 
-/// The letters, and one more.
-fn followed(alloc: Global, front: &[char], ch: char) -> Result<Vec<char>, NoMemory>
-    ensures { IfOk result (λ v. v.items ≡ front.now ++ ch ∷ []) }
+/// The letters, and more.
+fn followed(alloc: Global, front: &[char], text: &[char]) -> Result<Vec<char>, NoMemory>
+    ensures { IfOk result (λ v. v.items ≡ front.now ++ text.now) }
 {
     let mut letters = Vec::new(alloc);
     letters.extend_from_slice(front)?;
-    letters.push(ch)?;
+    letters.extend_from_slice(text)?;
     Ok(letters)
 }
 
-fn push_letter(stretches: &mut [Vec<char>], stretch: usize, ch: char) -> Result<(), NoMemory>
+fn extend_letters(
+    stretches: &mut [Vec<char>],
+    stretch: usize,
+    text: &[char],
+) -> Result<(), NoMemory>
     requires { stretch < length stretches.old }
     ensures ok { OnOk result (map (λ v. v.items) stretches.new
         ≡ slice_set (map (λ v. v.items) stretches.old) stretch
-        (slice_index_or (map (λ v. v.items) stretches.old) stretch [] ++ ch ∷ [])) }
+        (slice_index_or (map (λ v. v.items) stretches.old) stretch [] ++ text.now)) }
     ensures err { OnErr result (map (λ v. v.items) stretches.new ≡ map (λ v. v.items) stretches.old) }
 {
     let letters = &mut stretches[stretch];
-    letters.push(ch)?;
+    letters.extend_from_slice(text)?;
     Ok(())
 }

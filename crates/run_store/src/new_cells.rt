@@ -1,12 +1,12 @@
 // What a new cell is: its key, and whether it continues a run.
-ghost use Rattle.std.specs.Prelude.{◌≡◌, ◌<◌, ◌≤◌, ◌^◌, ℕ, Contains, IfSome, Some, length, option_map, suc};
+ghost use Rattle.std.specs.Prelude.{◌≡◌, ◌<◌, ◌≤◌, IfSome, Some, length, option_map, suc};
 ghost use Rattle.fugue_ids.specs.Identifiers.{id_eq};
 ghost use Rattle.fugue_ids.specs.Runs.{next_id};
-ghost use Rattle.run_store.specs.Cells.{cell_of_origin, cell_ids};
-ghost use Rattle.run_store.specs.Growth.{IsNew};
+ghost use Rattle.run_store.specs.Cells.{cell_of_origin};
+ghost use Rattle.run_store.specs.Growth.{IsHead};
 ghost use Rattle.run_store.specs.Heads.{run_head_of, lettered};
 ghost use Rattle.run_store.specs.NewCells.{depth_under, forest_beside as forest_by, is_continued as continues};
-ghost use Rattle.run_store.specs.NewCells.{new_cell, shares_right};
+ghost use Rattle.run_store.specs.NewCells.{new_head as head_of, shares_right};
 ghost use Rattle.run_store.specs.Runs.{AreRuns, cells_in};
 
 use crate::cell::Head;
@@ -31,14 +31,6 @@ pub(crate) fn is_continued(last: &Head, new: &Head) -> bool
         return false;
     }
     new.right == last.right && !last.hidden
-}
-
-// That the counter fits is told where it is read.
-fn counter_of(id: &ElementId) -> u32
-    ensures is { result ≡ id.now.counter }
-    ensures fits { result < 2 ^ 32 }
-{
-    id.counter
 }
 
 impl Runs {
@@ -109,11 +101,9 @@ impl Runs {
     ) -> Head
         requires sound { AreRuns self.now }
         requires room { length (cells_in self.now) < MOST_OPERATIONS }
-        requires fresh { Contains (cell_ids (cells_in self.now)) id → ⊥ }
-        ensures new { IsNew (cells_in self.now) result }
-        ensures cell { (ch : ℕ) → lettered result ch ≡ new_cell (cells_in self.now) id left right ch }
+        ensures is { result ≡ head_of (cells_in self.now) id left right }
+        ensures head { IsHead (cells_in self.now) result }
     {
-        let _ = counter_of(&id);
         let (depth, shares) = self.parent(&left, &right);
         let forest = if shares {
             0

@@ -1,4 +1,4 @@
-ghost use Rattle.std.specs.Prelude.{◌≡◌, ◌≢◌, ◌↔◌, ◌<◌, ◌≤◌, [], AllPairs, Contains, IsTrue, length, map, true, OnErr};
+ghost use Rattle.std.specs.Prelude.{◌≡◌, ◌≢◌, ◌↔◌, ◌<◌, ◌≤◌, ◌+◌, ◌^◌, [], AllPairs, Contains, IsTrue, length, map, true, OnErr};
 ghost use Rattle.std.specs.Prelude.{OnOk, slice_get};
 ghost use Rattle.std.specs.List.{insert};
 ghost use Rattle.std.specs.Str.{encode_utf8_all};
@@ -9,7 +9,8 @@ ghost use Rattle.origin_model.specs.sides.KeyedGap.{gap_index};
 ghost use Rattle.origin_model.specs.edits.Landing.{following};
 ghost use Rattle.run_store.specs.Cells.{cell_hiding, cell_ids, is_hidden_cell as hidden_in, keyed_cells, origins_of};
 ghost use Rattle.run_store.specs.Cells.{cell_text, cells_shown};
-ghost use Rattle.run_store.specs.NewCells.{continues, new_cell};
+ghost use Rattle.run_store.specs.Growth.{AreFresh, inserted_at};
+ghost use Rattle.run_store.specs.NewCells.{continues, new_cell, new_cells};
 ghost use Rattle.run_store.specs.Stored.{IsAloneWhereEmpty, IsRaised};
 
 use crate::insert::Beginning;
@@ -85,11 +86,41 @@ impl RunStore {
         ensures raised { OnOk result (IsRaised 2 self.old.runs self.new.runs) }
         ensures refused { OnErr result (IsRaised 1 self.old.runs self.new.runs) }
     {
+        let counter = id.counter;
+        prove!(counter <= u32::MAX);
+        self.insert_run(gap, id, left, right, &[ch])
+    }
+
+    /// A run of new cells, in the gap, which are not hidden: each but the first has the identifier behind that of the one
+    /// before it, which is its left origin, and the right origin of the first. After want of memory a run may be parted.
+    pub fn insert_run(
+        &mut self,
+        gap: Gap,
+        id: ElementId,
+        left: Option<ElementId>,
+        right: Option<ElementId>,
+        text: &[char],
+    ) -> Result<(), NoMemory>
+        requires some { 0 < length text.now }
+        requires counters { id.counter + length text.now ≤ 2 ^ 32 }
+        requires fresh { AreFresh self.old.cells id (length text.now) }
+        requires beside { IsBeside gap (cell_ids self.old.cells) }
+        requires alone { IsAloneWhereEmpty gap self.old.cells }
+        requires room { length self.old.cells + length text.now ≤ MOST_OPERATIONS }
+        ensures ok { OnOk result (self.new.cells
+            ≡ inserted_at (gap_index gap (cell_ids self.old.cells))
+            (new_cells self.old.cells id left right text.now) self.old.cells) }
+        ensures err { OnErr result (self.new.cells ≡ self.old.cells) }
+        ensures continued { OnOk result
+            (continues self.old.cells gap id left right ≡ true → self.new.runs ≡ self.old.runs) }
+        ensures raised { OnOk result (IsRaised 2 self.old.runs self.new.runs) }
+        ensures refused { OnErr result (IsRaised 1 self.old.runs self.new.runs) }
+    {
         let head = self.runs.new_head(id, left, right);
         match gap {
-            Gap::Alone => self.runs.begin(Beginning::First, &head, ch),
-            Gap::Before(at) => self.runs.insert_before(at, &head, ch),
-            Gap::After(at) => self.runs.insert_behind(at, &head, ch),
+            Gap::Alone => self.runs.begin(Beginning::First, &head, text),
+            Gap::Before(at) => self.runs.insert_before(at, &head, text),
+            Gap::After(at) => self.runs.insert_behind(at, &head, text),
         }
     }
 

@@ -6,6 +6,7 @@ pub mod HolderLemmas
 pub mod HomeLemmas
 pub mod ListingLemmas
 pub mod PrintingLemmas
+pub mod RunLemmas
 pub mod ShownLemmas
 pub mod TextLemmas
 pub mod UnchangedLemmas

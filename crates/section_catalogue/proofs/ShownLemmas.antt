@@ -8,7 +8,7 @@ use Rattle.fugue_ids.specs.Identifiers.{Identifier}
 use Rattle.fugue_ids.proofs.IdentifierLemmas.{cases_id, eq-id_eq, id_eq-refl, id_eq-true, ne-id_eq}
 use Rattle.fugue_ids.proofs.ListLemmas.{contains_cases, contains_filter_from, contains_here, contains_none, contains_there}
 use Rattle.fugue_ids.specs.declared.op.Op.{Op}
-use Rattle.fugue_ids.specs.declared.op.Op.TheVariants.{Section, Text, Delete}
+use Rattle.fugue_ids.specs.declared.op.Op.TheVariants.{Section, Text}
 use Rattle.origin_model.specs.order.Laws.{IsIn}
 use Rattle.origin_model.specs.operations.History.{element_of, holder}
 use Rattle.origin_model.specs.order.Order.{order}

@@ -1,12 +1,13 @@
 -- One step of a manuscript, by its look-ups.
-use Rattle.std.specs.Prelude.{◌≡◌, Option, Some, true, ℕ, List, option_map, IfSome, IsSome}
+use Rattle.std.specs.Prelude.{◌≡◌, ◌≢◌, ◌<◌, Option, Some, true, ℕ, List, length, option_map, IfSome, IsSome}
 use Rattle.fugue_ids.specs.Identifiers.{Identifier}
 use Rattle.fugue_ids.specs.Keyed.{IsReplaced}
-use Rattle.origin_model.specs.sides.Node.{has_node}
+use Rattle.fugue_ids.specs.Runs.{id_behind}
+use Rattle.origin_model.specs.sides.Node.{has_node, has_origin}
 use Rattle.origin_model.specs.declared.operations.node.Node.{Node}
 use Rattle.origin_model.specs.declared.operations.Place.{Place}
 use Rattle.origin_model.specs.declared.operations.Place.TheVariants.{Catalogue as catalogue, Section as within}
-use Rattle.section_list.specs.SectionList.{empty_listing as no_elements, with_element, with_hidden}
+use Rattle.section_list.specs.SectionList.{AreUnheld, empty_listing as no_elements, with_element, with_elements, with_hidden}
 use Rattle.section_catalogue.specs.declared.tables.Section.{Section as Titled}
 use Rattle.section_catalogue.specs.Contents.{Contents, section_at, place_at}
 
@@ -26,6 +27,25 @@ section_with_text n ch e = option_map (λ (t : Titled). record t { text = with_e
 abbrev pub with_hidden_text : Identifier → Option Titled → Option Titled
 with_hidden_text x e = option_map (λ (t : Titled). record t { text = with_hidden x t.text }) e
 
+-- the section with an element for each letter: n, and then each typed behind the one before it
+abbrev pub section_with_run : Node → List ℕ → Option Titled → Option Titled
+section_with_run n text e = option_map (λ (t : Titled). record t { text = with_elements n text t.text }) e
+
+-- the first k identifiers from this one on have this answer
+abbrev pub Answer : {X : Type 0} → (Identifier → X) → Identifier → ℕ → X → Type 0
+Answer f first k value = (j : ℕ) → j < k → f (id_behind first j) ≡ value
+
+-- the first k identifiers from this one on have this answer now, and each other one has its own as before
+pub record IsFilled {X : Type 0} (old new : Identifier → X) (first : Identifier) (k : ℕ) (value : X) : Type 0 where
+  pub here : Answer new first k value
+  pub others : (y : Identifier) → ((j : ℕ) → j < k → y ≢ id_behind first j) → new y ≡ old y
+
+-- a node and so many behind it may come to these: none of their identifiers is there, and the origins of the first are
+pub record CanFollow (ns : List Node) (n : Node) (k : ℕ) : Type 0 where
+  pub fresh : AreUnheld ns n.id k
+  pub left : has_origin ns n.left ≡ true
+  pub right : has_origin ns n.right ≡ true
+
 -- a section came
 pub record AddsSection (old new : Contents) (n : Node) (title : List ℕ) : Type 0 where
   pub listed : new.catalogue ≡ with_element n 32 old.catalogue
@@ -37,6 +57,12 @@ pub record AddsText (old new : Contents) (s : Identifier) (n : Node) (ch : ℕ) 
   pub listed : new.catalogue ≡ old.catalogue
   pub sections : IsReplaced (section_at old) (section_at new) s (section_with_text n ch (section_at old s))
   pub places : IsReplaced (place_at old) (place_at new) n.id (Some (within s))
+
+-- elements of the section s came, one for each letter: n, and then each typed behind the one before it
+pub record AddsRun (old new : Contents) (s : Identifier) (n : Node) (text : List ℕ) : Type 0 where
+  pub listed : new.catalogue ≡ old.catalogue
+  pub sections : IsReplaced (section_at old) (section_at new) s (section_with_run n text (section_at old s))
+  pub places : IsFilled (place_at old) (place_at new) n.id (length text) (Some (within s))
 
 -- the element x was hidden in the catalogue
 pub record HidesSection (old new : Contents) (x : Identifier) : Type 0 where

@@ -11,6 +11,7 @@ use Rattle.origin_model.specs.order.Printed.{is_hidden, shown, text}
 use Rattle.origin_model.specs.declared.operations.Place.{Place}
 use Rattle.origin_model.specs.declared.operations.Place.TheVariants.{Catalogue as catalogue, Section as within}
 use Rattle.origin_model.specs.declared.operations.Verdict.TheVariants.{Ready}
+use Rattle.origin_model.specs.edits.Edits.{ReadyInTurn, extended}
 use Rattle.origin_model.specs.edits.Landing.{following}
 use Rattle.section_list.specs.Cells.{section_cell_ids, is_hidden_in_section as hidden_in, section_text as text_in, section_cells_shown}
 use Rattle.section_list.specs.SectionList.{Listing, empty_listing as no_elements}
@@ -44,6 +45,16 @@ pub record IsReadyOn (m : Contents) (op : Op) : Type 0 where
 -- the operation came to each history on which it was Ready
 abbrev pub GrowsBy : Contents → Contents → Op → Type 0
 GrowsBy old new op = (h : List Op) → StandsFor old h → verdict h op ≡ Ready → StandsFor new (op ∷ h)
+
+-- each of the operations is Ready in its turn on a history that it stands for
+pub record AreReadyOn (m : Contents) (ops : List Op) : Type 0 where
+  pub history : List Op
+  pub stands : StandsFor m history
+  pub ready : ReadyInTurn history ops
+
+-- the operations came, one after another, to each history on which each was Ready in its turn
+abbrev pub GrowsByAll : Contents → Contents → List Op → Type 0
+GrowsByAll old new ops = (h : List Op) → StandsFor old h → ReadyInTurn h ops → StandsFor new (extended h ops)
 
 -- the history with a Delete of x, where none names it yet
 abbrev pub once_hidden : Identifier → List Op → List Op

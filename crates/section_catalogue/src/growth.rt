@@ -1,12 +1,12 @@
 //! One element more.
-ghost use Rattle.std.specs.Prelude.{◌≡◌, ◌<◌, None, IfSome, IsSome, OnErr, OnOk, length, Some, true};
+ghost use Rattle.std.specs.Prelude.{◌≡◌, ◌<◌, ◌≤◌, ◌+◌, ◌^◌, None, IfSome, IsSome, OnErr, OnOk, length, Some, true};
 ghost use Rattle.origin_model.specs.sides.Node.{IsNew, has_node};
-ghost use Rattle.section_catalogue.specs.Changes.{AddsSection, AddsText, IsUnchanged, AnswersSame, section_with_text};
-ghost use Rattle.section_catalogue.specs.Changes.{with_hidden_text};
+ghost use Rattle.section_catalogue.specs.Changes.{AddsRun, AddsSection, Answer, AnswersSame, CanFollow, IsUnchanged};
+ghost use Rattle.section_catalogue.specs.Changes.{section_with_run, with_hidden_text};
 ghost use Rattle.section_catalogue.specs.Contents.{contents_of, entry_at, place_at};
 ghost use Rattle.fugue_ids.specs.Keyed.{IsReplaced};
 
-use crate::homes::{forget_home, note_home};
+use crate::homes::{forget_home, forget_homes, note_home, note_homes};
 use crate::tables::{Section, Tables};
 use fugue_ids::{ElementId, MOST_OPERATIONS, NoMemory, Title};
 use origin_model::{Node, Place};
@@ -47,26 +47,37 @@ pub(crate) fn add_section(
     }
 }
 
-/// A new element of a section. The place that was noted is forgotten after want of memory.
-pub(crate) fn add_text(
+/// New elements of a section, one for each letter: the first, and then each typed behind the one before it. The places
+/// that were noted are forgotten after want of memory.
+pub(crate) fn add_run(
     tables: &mut Tables,
     section: &ElementId,
-    node: &Node,
-    ch: char,
+    first: &Node,
+    text: &[char],
 ) -> Result<(), NoMemory>
+    requires some { 0 < length text.now }
+    requires few { length text.now < 2 ^ 32 }
+    requires counters { first.now.id.counter + length text.now ≤ 2 ^ 32 }
     requires there { IsSome (entry_at tables.old.sections.entries section.now) }
-    requires new { IfSome (entry_at tables.old.sections.entries section.now) (λ e. IsNew e.text.nodes node.now) }
+    requires new { IfSome (entry_at tables.old.sections.entries section.now)
+        (λ e. CanFollow e.text.nodes first.now (length text.now)) }
     requires room { IfSome (entry_at tables.old.sections.entries section.now)
-        (λ e. length e.text.cells < MOST_OPERATIONS) }
-    requires unplaced { place_at (contents_of tables.old) node.now.id ≡ None }
-    ensures ok { OnOk result (AddsText (contents_of tables.old) (contents_of tables.new) section.now node.now ch) }
+        (λ e. length e.text.cells + length text.now ≤ MOST_OPERATIONS) }
+    requires unplaced { Answer (place_at (contents_of tables.old)) first.now.id (length text.now) None }
+    ensures ok { OnOk result (AddsRun (contents_of tables.old) (contents_of tables.new) section.now first.now text.now) }
     ensures err { OnErr result (IsUnchanged (contents_of tables.old) (contents_of tables.new)) }
 {
-    note_home(&mut tables.places, node.id, Place::Section(*section))?;
-    match insert_text(&mut tables.sections, section, node, ch) {
+    let count = text.len() as u32;
+    note_homes(
+        &mut tables.places,
+        first.id,
+        count,
+        Place::Section(*section),
+    )?;
+    match insert_text(&mut tables.sections, section, first, text) {
         Ok(()) => Ok(()),
         Err(refused) => {
-            forget_home(&mut tables.places, node.id);
+            forget_homes(&mut tables.places, first.id, count);
             Err(refused)
         }
     }
@@ -92,22 +103,26 @@ pub(crate) fn clear<V: Drop>(map: &mut BTreeMap<ElementId, V>, id: &ElementId)
     map.remove(id);
 }
 
-/// One element more in the text of a section. After want of memory all is as before.
+/// More elements in the text of a section. After want of memory all is as before.
 pub(crate) fn insert_text(
     sections: &mut BTreeMap<ElementId, Section>,
     section: &ElementId,
-    node: &Node,
-    ch: char,
+    first: &Node,
+    text: &[char],
 ) -> Result<(), NoMemory>
+    requires some { 0 < length text.now }
+    requires counters { first.now.id.counter + length text.now ≤ 2 ^ 32 }
     requires there { IsSome (entry_at sections.old.entries section.now) }
-    requires new { IfSome (entry_at sections.old.entries section.now) (λ e. IsNew e.text.nodes node.now) }
-    requires room { IfSome (entry_at sections.old.entries section.now) (λ e. length e.text.cells < MOST_OPERATIONS) }
+    requires new { IfSome (entry_at sections.old.entries section.now)
+        (λ e. CanFollow e.text.nodes first.now (length text.now)) }
+    requires room { IfSome (entry_at sections.old.entries section.now)
+        (λ e. length e.text.cells + length text.now ≤ MOST_OPERATIONS) }
     ensures ok { OnOk result (IsReplaced (entry_at sections.old.entries) (entry_at sections.new.entries) section.now
-        (section_with_text node.now ch (entry_at sections.old.entries section.now))) }
+        (section_with_run first.now text.now (entry_at sections.old.entries section.now))) }
     ensures err { OnErr result (AnswersSame (entry_at sections.old.entries) (entry_at sections.new.entries)) }
 {
     match sections.get_mut(section) {
-        Some(entry) => entry.text.insert(node.id, node.left, node.right, ch),
+        Some(entry) => entry.text.insert_run(first, text),
         None => Ok(()),
     }
 }

@@ -1,6 +1,8 @@
 //! The places of elements.
-ghost use Rattle.std.specs.Prelude.{◌≡◌, None, Some, OnErr, OnOk, ℕ, refl};
+ghost use Rattle.std.specs.Prelude.{◌≡◌, ◌<◌, ◌≤◌, ◌+◌, ◌-◌, ◌^◌, None, Some, OnErr, OnOk, ℕ, refl};
 ghost use Rattle.fugue_ids.specs.Keyed.{IsReplaced};
+ghost use Rattle.fugue_ids.specs.Runs.{id_behind};
+ghost use Rattle.section_catalogue.specs.Changes.{Answer, IsFilled};
 ghost use Rattle.section_catalogue.specs.Contents.{entry_at, places_of};
 
 use fugue_ids::{ElementId, NoMemory};
@@ -52,6 +54,40 @@ pub(crate) fn note_home(
     ensures err { OnErr result (homes.new ≡ homes.old) }
 {
     homes.insert(id, Home { place })
+}
+
+/// The place of new elements, whose identifiers follow each other.
+pub(crate) fn note_homes(
+    homes: &mut StretchMap<Home>,
+    first: ElementId,
+    count: u32,
+    place: Place,
+) -> Result<(), NoMemory>
+    requires some { 0 < count }
+    requires counters { first.counter + count ≤ 2 ^ 32 }
+    requires unplaced { Answer (entry_at (places_of homes.old.values)) first count None }
+    ensures ok { OnOk result (IsFilled (entry_at (places_of homes.old.values))
+        (entry_at (places_of homes.new.values)) first count (Some place)) }
+    ensures newest { OnOk result (homes.new.newest ≡ Some (id_behind first (count - 1))) }
+    ensures err { OnErr result (homes.new ≡ homes.old) }
+{
+    homes.insert_run(first, count, Home { place })
+}
+
+/// The places of the elements that came last go, the newest first. This wants no memory.
+pub(crate) fn forget_homes(homes: &mut StretchMap<Home>, first: ElementId, count: u32)
+    requires counters { first.counter + count ≤ 2 ^ 32 }
+    requires newest { homes.old.newest ≡ Some (id_behind first (count - 1)) }
+    ensures { IsFilled (entry_at (places_of homes.old.values)) (entry_at (places_of homes.new.values)) first count None }
+{
+    let mut left = count;
+    'forgotten: while left > 0 {
+        left -= 1;
+        let _gone = homes.remove(ElementId {
+            replica: first.replica,
+            counter: first.counter + left,
+        });
+    }
 }
 
 /// The place of the element that came last goes. This wants no memory.

@@ -1,18 +1,20 @@
-ghost use Rattle.std.specs.Prelude.{◌≡◌, ◌<◌, [], length, slice_get, option_map, IsSome, OnErr, OnOk};
+ghost use Rattle.std.specs.Prelude.{◌≡◌, ◌<◌, ◌≤◌, ◌+◌, ◌^◌, [], length, slice_get, option_map, IsSome, OnErr, OnOk};
 ghost use Rattle.fugue_ids.specs.Outs.{WritesBytes};
 ghost use Rattle.origin_model.specs.operations.History.{place};
 ghost use Rattle.origin_model.specs.order.Printed.{manuscript as manuscript_on, shown};
-ghost use Rattle.origin_model.specs.declared.operations.Place.TheVariants.{Catalogue as catalogue};
-ghost use Rattle.section_catalogue.specs.Contents.{place_at, place_count, text_at, contents_of};
-ghost use Rattle.section_catalogue.specs.Manuscript.{GrowsBy, HasHistory, Hides, IsReadyOn, OnEach, StandsFor, Stays};
+ghost use Rattle.origin_model.specs.declared.operations.Place.TheVariants.{Catalogue as catalogue, Section as within};
+ghost use Rattle.fugue_ids.specs.Runs.{run_from};
+ghost use Rattle.section_catalogue.specs.Contents.{place_at, place_count, section_count_at, text_at, contents_of};
+ghost use Rattle.section_catalogue.specs.Manuscript.{AreReadyOn, GrowsBy, GrowsByAll, HasHistory, Hides, IsReadyOn, OnEach};
+ghost use Rattle.section_catalogue.specs.Manuscript.{StandsFor, Stays};
 ghost use Rattle.section_catalogue.specs.Manuscript.{empty_contents, LookUpsAreDefinitions};
 ghost use Rattle.section_catalogue.specs.Changes.{HidesAt, HoldsAt, IsUnchanged};
 
-use crate::growth::{add_section, add_text, hide_text};
+use crate::growth::{add_run, add_section, hide_text};
 use crate::homes::home_of;
 use crate::printing::put_sections;
 use crate::tables::Tables;
-use fugue_ids::{ElementId, Failed, Gather, MOST_OPERATIONS, NoMemory, Op, Sink};
+use fugue_ids::{ElementId, Failed, Gather, MOST_OPERATIONS, NoMemory, Op, RunStart, Sink};
 use origin_model::{Node, Place};
 use section_list::SectionList;
 use std::alloc::Global;
@@ -124,11 +126,32 @@ impl Manuscript {
                 id,
             } => {
                 let (id, left, right) = (*id, *left, *right);
+                let counter = id.counter;
+                prove!(counter <= u32::MAX);
                 let node = Node { id, left, right };
-                add_text(&mut self.tables, section, &node, *ch)
+                add_run(&mut self.tables, section, &node, &[*ch])
             }
             _ => Ok(()),
         }
+    }
+
+    /// Takes in a run whose Texts are Ready in their turn, at the cost of one, but for its letters. After want of memory
+    /// all is as before.
+    pub fn insert_run(&mut self, start: &RunStart, text: &[char]) -> Result<(), NoMemory>
+        requires some { 0 < length text.now }
+        requires counters { start.now.id.counter + length text.now ≤ 2 ^ 32 }
+        requires ready { AreReadyOn self.old (run_from start.now text.now) }
+        requires room { section_count_at self.old (within start.now.section) + length text.now ≤ MOST_OPERATIONS }
+        ensures ok { OnOk result (GrowsByAll self.old self.new (run_from start.now text.now)) }
+        ensures err { OnErr result (Stays self.old self.new) }
+        ensures has_history { HasHistory self.new }
+    {
+        let first = Node {
+            id: start.id,
+            left: start.left,
+            right: start.right,
+        };
+        add_run(&mut self.tables, &start.section, &first, text)
     }
 
     /// Hides an element that a place holds. A hidden one stays as it is. After want of memory all is as before.

@@ -1,31 +1,42 @@
 -- A place as readers see it, and one element more in it.
-use Rattle.std.proofs.Common.{List, [], ap, length, refl, subst, sym, ℕ, ◌∙◌, ◌∷◌, ◌≡◌, ◌↔◌, false, true}
-use Rattle.std.specs.Prelude.{Some, if◌then◌else◌, is_some, map}
+use Rattle.std.proofs.Common.{List, [], ap, append_assoc, arith, drop, length, length-append, refl, subst, suc, sym, take, ℕ, ◌++◌, ◌+◌, ◌<◌, ◌∙◌, ◌∷◌, ◌≡◌, ◌≢◌, ◌≤◌, ◌↔◌, false, true}
+use Rattle.std.specs.Prelude.{Option, Some, None, if◌then◌else◌, is_some, map}
 use Rattle.std.specs.List.{Contains, insert}
 use Rattle.std.proofs.lemmas.Bool.{true≢false}
-use Rattle.std.proofs.lemmas.List.{length-map}
-use Rattle.std.proofs.lemmas.List.Elements.{All-nil}
-use Rattle.fugue_ids.specs.Identifiers.{Identifier}
+use Rattle.std.proofs.lemmas.List.{length-map, map-append}
+use Rattle.std.proofs.lemmas.List.Elements.{All-contains, All-nil, Contains-append_left}
+use Rattle.fugue_ids.specs.Identifiers.{Identifier, id_eq, origin_eq}
 use Rattle.fugue_ids.specs.Keys.{ids as keyed_ids}
 use Rattle.fugue_ids.specs.Listed.{index_of}
-use Rattle.fugue_ids.proofs.IdentifierLemmas.{eq-id_eq, index_of-insert}
-use Rattle.fugue_ids.proofs.ListLemmas.{contains_none}
+use Rattle.fugue_ids.specs.Runs.{id_behind, next_id}
+use Rattle.fugue_ids.specs.declared.key.Key.{Key}
+use Rattle.fugue_ids.proofs.IdentifierLemmas.{eq-id_eq, index_of-insert, ne-id_eq, origin_eq-refl}
+use Rattle.fugue_ids.proofs.ListLemmas.{contains_map, contains_middle, contains_none}
+use Rattle.fugue_ids.proofs.RunLemmas.{none_behind, one_behind}
 use Rattle.fugue_ids.specs.declared.key.Gap.{Gap}
 use Rattle.fugue_ids.specs.declared.key.Gap.TheVariants.{Alone}
 use Rattle.origin_model.specs.order.Order.{order}
 use Rattle.origin_model.specs.sides.KeyedGap.{gap_index}
-use Rattle.origin_model.specs.sides.Node.{IsNew, find_node, has_node, node_order}
+use Rattle.origin_model.specs.sides.Keys.{search_key_of}
+use Rattle.origin_model.specs.sides.Node.{IsNew, as_op, as_ops, find_node, has_node, has_origin, node_order}
 use Rattle.origin_model.specs.sides.Slot.{IsBeside, at_gap}
 use Rattle.origin_model.specs.declared.operations.node.Node.{Node}
-use Rattle.origin_model.proofs.SharedLemmas.{gap_at, gap_within, nodes_listed}
+use Rattle.origin_model.specs.declared.operations.Place.TheVariants.{Catalogue as catalogue}
+use Rattle.origin_model.proofs.SharedLemmas.{gap_at, gap_within, nodes-lawful, nodes_listed}
+use Rattle.origin_model.proofs.edits.LandsBehindLeafLemmas.{lands_behind_newest}
 use Rattle.run_store.specs.Cells.{cell_ids as stored_ids, keyed_cells}
-use Rattle.run_store.specs.NewCells.{new_cell}
+use Rattle.run_store.specs.Growth.{AreFresh, inserted_at}
+use Rattle.run_store.specs.Heads.{lettered, next_head, typed_cells}
+use Rattle.run_store.specs.NewCells.{cell_depth, forest_beside, has_right, new_cell, new_cell_key, new_cells, new_head, shares_right}
 use Rattle.run_store.specs.Stored.{IsAloneWhereEmpty}
 use Rattle.run_store.specs.declared.cell.Cell.{Cell as StoredCell}
+use Rattle.run_store.specs.declared.cell.Head.{Head}
+use Rattle.run_store.proofs.CellLemmas.{inserted-at}
 use Rattle.section_list.specs.Cells.{Cell, section_cell_ids}
-use Rattle.section_list.specs.Kept.{IsOfNode, KeepsNodes, plain}
-use Rattle.section_list.specs.SectionList.{IsInOrder, Listing, with_element}
-use Rattle.section_list.proofs.KeptLemmas.{keeps_more}
+use Rattle.section_list.specs.Kept.{IsOfNode, KeepsNodes, node_of, plain}
+use Rattle.section_list.specs.SectionList.{AreUnheld, IsInOrder, Listing, with_element, with_elements}
+use Rattle.sided_tree.specs.Rows.{next_node, run_nodes}
+use Rattle.section_list.proofs.KeptLemmas.{find_cell, keeps_more}
 use Rattle.section_list.proofs.PlainLemmas.{plain_ids, plain_insert}
 
 -- what readers see of a store
@@ -97,11 +108,121 @@ joins ns cs k now see n new gap place beside alone =
       alone = alone_kept ns cs k gap (subst (λ (s : Listing). (gap ≡ Alone) ↔ (s.nodes ≡ [])) (sym see) alone);
     }
 
-module _ (ns : List Node) (cs : List StoredCell) (n : Node) (gap : Gap) (j : Joins ns cs n gap) where
+-- a new node of a store, and its place in the order
+module _ (ns : List Node) (cs : List StoredCell) (k : KeepsNodes ns cs) (n : Node) (new : IsNew ns n) (index : ℕ) (within : index ≤ length (stored_ids cs))
+    (placed : node_order (n ∷ ns) ≡ insert (stored_ids cs) index n.id) where
   -- the node has no cell yet
-  pub is_fresh : Contains (stored_ids cs) n.id → ⊥
-  is_fresh m = true≢false (sym ((nodes_listed ns j.kept.are_nodes n.id).1 (subst (λ t. Contains t n.id) j.kept.in_order m)) ∙ j.new.fresh)
+  unheld : Contains (stored_ids cs) n.id → ⊥
+  unheld m = true≢false (sym ((nodes_listed ns k.are_nodes n.id).1 (subst (λ t. Contains t n.id) k.in_order m)) ∙ new.fresh)
 
+  -- the longer place
+  one_grown : (ch : ℕ) → seen (n ∷ ns) (insert cs index (new_cell cs n.id n.left n.right ch)) ≡ with_element n ch (seen ns cs)
+  one_grown ch =
+      let here : index_of (node_order (n ∷ ns)) n.id ≡ index = ap (λ xs. index_of xs n.id) placed ∙ index_of-insert (stored_ids cs) index n.id within unheld in
+      let cell : Cell = record { id = n.id; ch = ch; hidden = false } in
+      let cells : map plain (insert cs index (new_cell cs n.id n.left n.right ch)) ≡ insert (map plain cs) (index_of (node_order (n ∷ ns)) n.id) cell =
+      plain_insert cs index (new_cell cs n.id n.left n.right ch) ∙ ap (λ i. insert (map plain cs) i cell) (sym here) in
+      λ i. record { nodes = n ∷ ns; cells = cells i }
+
+-- an origin of an older node is there still
+origin_stays : (ns : List Node) (n : Node) (o : Option Identifier) → has_origin ns o ≡ true → has_origin (n ∷ ns) o ≡ true
+origin_stays ns n None k = refl
+origin_stays ns n (Some x) k = elim (id_eq n.id x) as (λ b. is_some (if b then Some n else find_node ns x) ≡ true) [ true ↦ refl | false ↦ k ]
+
+-- what a place of nodes and cells is once others have come to it
+abbrev Grown : List Node → List StoredCell → Listing → Type 0
+Grown ns cs s = KeepsNodes ns cs × (seen ns cs ≡ s)
+
+-- the cell of the newest node, the last one of a part, is what the next one follows
+module _ (older : List Node) (n : Node) (front : List StoredCell) (c : StoredCell) (back : List StoredCell) (own : c.id ≡ n.id) (k : KeepsNodes (n ∷ older) ((front ++ c ∷ []) ++ back)) where
+  abbrev ns : List Node
+  ns = n ∷ older
+
+  abbrev cs : List StoredCell
+  cs = (front ++ c ∷ []) ++ back
+
+  c_in : Contains cs c
+  c_in = Contains-append_left (front ++ c ∷ []) back c (contains_middle front c [])
+
+  n_held : has_node ns n.id ≡ true
+  n_held = ap (λ b. is_some (if b then Some n else find_node older n.id)) (eq-id_eq n.id n.id refl)
+
+  -- the next node is new
+  next_new : has_node ns (next_id n.id) ≡ false → IsNew ns (next_node n)
+  next_new fresh = record { fresh = fresh; left = n_held; right = origin_stays older n n.right k.are_nodes.0.right }
+
+  -- it stands directly behind
+  ids-are : stored_ids cs ≡ stored_ids front ++ n.id ∷ stored_ids back
+  ids-are =
+      map-append (λ (z : StoredCell). z.id) (front ++ c ∷ []) back ∙ ap (λ ids. ids ++ stored_ids back) (map-append (λ (z : StoredCell). z.id) front (c ∷ []))
+      ∙ append_assoc (stored_ids front) (c.id ∷ []) (stored_ids back) ∙ ap (λ x. stored_ids front ++ x ∷ stored_ids back) own
+
+  next_order : has_node ns (next_id n.id) ≡ false → node_order (next_node n ∷ ns) ≡ insert (stored_ids cs) (length (front ++ c ∷ [])) (next_id n.id)
+  next_order fresh =
+      let ids = stored_ids (front ++ c ∷ []) in
+      let same : ids ≡ stored_ids front ++ n.id ∷ [] = map-append (λ (z : StoredCell). z.id) front (c ∷ []) ∙ ap (λ x. stored_ids front ++ x ∷ []) own in
+      lands_behind_newest catalogue (as_op (next_node n)) (as_op n) (as_ops older) (next_id n.id) n.id (stored_ids front) (stored_ids back) (nodes-lawful (next_node n ∷ ns) (next_new fresh, k.are_nodes))
+      refl refl refl (sym k.in_order ∙ ids-are)
+      ∙ sym (append_assoc (stored_ids front) (n.id ∷ []) (next_id n.id ∷ stored_ids back))
+      ∙ ap (λ xs. xs ++ next_id n.id ∷ stored_ids back) (sym same)
+      ∙ sym (insert_at_end ids (stored_ids back) (next_id n.id))
+      ∙ (λ i. insert (sym (map-append (λ (z : StoredCell). z.id) (front ++ c ∷ []) back) i) (length-map (front ++ c ∷ []) (λ (z : StoredCell). z.id) i) (next_id n.id))
+    where
+      insert_at_end : (xs ys : List Identifier) (x : Identifier) → insert (xs ++ ys) (length xs) x ≡ xs ++ x ∷ ys
+      insert_at_end [] ys x = refl
+      insert_at_end (y ∷ xs) ys x = ap (λ zs. y ∷ zs) (insert_at_end xs ys x)
+
+  -- and its key is that of a letter behind the newest one
+  next_key : new_cell_key cs (Some n.id) n.right ≡ record { depth = suc c.key.depth; forest = 0 }
+  next_key =
+      let f = find_cell cs n.id (subst (λ x. Contains (stored_ids cs) x) own (contains_map (λ (z : StoredCell). z.id) cs c c_in)) in
+      let its = All-contains (IsOfNode ns) cs f.cell k.each f.member in
+      let mine = All-contains (IsOfNode ns) cs c k.each c_in in
+      let both : Some n ≡ Some (node_of f.cell) = sym (ap (λ b. if b then Some n else find_node older f.cell.id) (eq-id_eq n.id f.cell.id (sym f.own))) ∙ its.node in
+      let same : n ≡ node_of f.cell = cc in
+      let key : f.cell.key ≡ c.key = its.key ∙ ap (search_key_of (as_ops ns)) (f.own ∙ sym own) ∙ sym mine.key in
+      let shares : shares_right cs (Some n.id) n.right ≡ true = ap (λ o. has_right o n.right) f.found ∙ ap (λ (m : Node). origin_eq m.right n.right) (sym same) ∙ origin_eq-refl n.right in
+      λ i. record {
+        depth = suc ((ap cell_depth f.found ∙ ap (λ (z : Key). z.depth) key) i);
+        forest = ap (λ b. if b then 0 else forest_beside cs (Some n.id) n.right) shares i;
+      }
+
+-- the letters behind the newest one go in one after another
+rest_grown : (older : List Node) (n : Node) (front : List StoredCell) (h : Head) (ch : ℕ) (back : List StoredCell) → h.id ≡ n.id → h.right ≡ n.right → h.hidden ≡ false
+    → KeepsNodes (n ∷ older) ((front ++ lettered h ch ∷ []) ++ back) → (text : List ℕ) → AreUnheld (n ∷ older) (next_id n.id) (length text)
+    → Grown (run_nodes (next_node n) (length text) (n ∷ older)) ((front ++ lettered h ch ∷ []) ++ (typed_cells (next_head h) text ++ back))
+    (with_elements (next_node n) text (seen (n ∷ older) ((front ++ lettered h ch ∷ []) ++ back)))
+rest_grown older n front h ch back own right shown k [] fresh = (k, refl)
+rest_grown older n front h ch back own right shown k (next ∷ text) fresh =
+    let c : StoredCell = lettered h ch in
+    let ns : List Node = n ∷ older in
+    let one : List StoredCell = front ++ c ∷ [] in
+    let cs : List StoredCell = one ++ back in
+    let first : has_node ns (next_id n.id) ≡ false = ap (has_node ns) (sym (none_behind (next_id n.id))) ∙ fresh 0 (omega arith) in
+    let new : IsNew ns (next_node n) = next_new older n front c back own k first in
+    let order = next_order older n front c back own k first in
+    let within : length one ≤ length (stored_ids cs) = omega (arith, length-append one back, length-map cs (λ (z : StoredCell). z.id)) in
+    let key = next_key older n front c back own k in
+    let cell : new_cell cs (next_id n.id) (Some n.id) n.right next ≡ lettered (next_head h) next =
+    λ i. record { id = next_id (sym own i); left = Some (sym own i); right = sym right i; ch = next; hidden = sym shown i; key = key i } in
+    let cells : insert cs (length one) (new_cell cs (next_id n.id) (Some n.id) n.right next) ≡ (one ++ lettered (next_head h) next ∷ []) ++ back =
+    ap (insert cs (length one)) cell ∙ inserted-at one (lettered (next_head h) next ∷ []) back ∙ sym (append_assoc one (lettered (next_head h) next ∷ []) back) in
+    let kept : KeepsNodes (next_node n ∷ ns) ((one ++ lettered (next_head h) next ∷ []) ++ back) =
+    subst (KeepsNodes (next_node n ∷ ns)) cells (keeps_more ns cs k (next_node n) new (length one) next order) in
+    let is : seen (next_node n ∷ ns) ((one ++ lettered (next_head h) next ∷ []) ++ back) ≡ with_element (next_node n) next (seen ns cs) =
+    ap (seen (next_node n ∷ ns)) (sym cells) ∙ one_grown ns cs k (next_node n) new (length one) within order next in
+    let more : AreUnheld (next_node n ∷ ns) (next_id (next_id n.id)) (length text) = λ j less.
+    let up : next_id n.id ≢ id_behind (next_id (next_id n.id)) j = λ e. let c : n.id.counter + 1 ≡ n.id.counter + 1 + 1 + j = ap (λ (x : Identifier). x.counter) e in absurd (omega (arith, c)) in
+    ap (λ b. is_some (if b then Some (next_node n) else find_node ns (id_behind (next_id (next_id n.id)) j))) (ne-id_eq (next_id n.id) (id_behind (next_id (next_id n.id)) j) up)
+    ∙ ap (has_node ns) (one_behind (next_id n.id) j) ∙ fresh (suc j) (omega (arith, less)) in
+    let grown = rest_grown ns (next_node n) one (next_head h) next back (ap next_id own) right shown kept text more in
+    let same : (one ++ lettered (next_head h) next ∷ []) ++ (typed_cells (next_head (next_head h)) text ++ back) ≡ one ++ (typed_cells (next_head h) (next ∷ text) ++ back) =
+    append_assoc one (lettered (next_head h) next ∷ []) (typed_cells (next_head (next_head h)) text ++ back) in (
+      subst (KeepsNodes (run_nodes (next_node (next_node n)) (length text) (next_node n ∷ ns))) same grown.0,
+      ap (seen (run_nodes (next_node (next_node n)) (length text) (next_node n ∷ ns))) (sym same) ∙ grown.1 ∙ ap (with_elements (next_node (next_node n)) text) is,
+    )
+
+module _ (ns : List Node) (cs : List StoredCell) (n : Node) (gap : Gap) (j : Joins ns cs n gap) where
   -- how many cells stand before it
   abbrev index : ℕ
   index = gap_index gap (stored_ids cs)
@@ -109,20 +230,41 @@ module _ (ns : List Node) (cs : List StoredCell) (n : Node) (gap : Gap) (j : Joi
   placed : node_order (n ∷ ns) ≡ insert (stored_ids cs) index n.id
   placed = j.place ∙ gap_at gap n.id (stored_ids cs) j.beside
 
-  -- the longer place
-  module _ (longer : List Node) (more : List StoredCell) (ch : ℕ) (l : longer ≡ n ∷ ns) (m : more ≡ insert cs index (new_cell cs n.id n.left n.right ch)) where
-    pub grown_kept : KeepsNodes longer more
-    grown_kept = subst (λ t. KeepsNodes t more) (sym l) (subst (KeepsNodes (n ∷ ns)) (sym m) (keeps_more ns cs j.kept n j.new index ch placed))
+  -- cells with identifiers that no node has are fresh
+  pub are_fresh : (count : ℕ) → AreUnheld ns n.id count → AreFresh cs n.id count
+  are_fresh count free i less m = true≢false (sym ((nodes_listed ns j.kept.are_nodes (id_behind n.id i)).1 (subst (λ t. Contains t (id_behind n.id i)) j.kept.in_order m)) ∙ free i less)
 
-    pub is_grown : seen longer more ≡ with_element n ch (seen ns cs)
-    is_grown =
-        let within = gap_within gap (stored_ids cs) j.beside in
-        let here : index_of (node_order (n ∷ ns)) n.id ≡ index = ap (λ xs. index_of xs n.id) placed ∙ index_of-insert (stored_ids cs) index n.id within is_fresh in
-        let cell : Cell = record { id = n.id; ch = ch; hidden = false } in
-        let cells : map plain more ≡ insert (map plain cs) (index_of (node_order (n ∷ ns)) n.id) cell =
-        ap (map plain) m ∙ plain_insert cs index (new_cell cs n.id n.left n.right ch) ∙ ap (λ i. insert (map plain cs) i cell) (sym here) in
-        λ i. record { nodes = l i; cells = cells i }
+  -- the longer place
+  module _ (longer : List Node) (more : List StoredCell) (text : List ℕ) (some : 0 < length text) (free : AreUnheld ns n.id (length text)) (l : longer ≡ run_nodes n (length text) ns)
+      (m : more ≡ inserted_at index (new_cells cs n.id n.left n.right text) cs) where
+    all_grown : (letters : List ℕ) → 0 < length letters → AreUnheld ns n.id (length letters)
+        → Grown (run_nodes n (length letters) ns) (inserted_at index (new_cells cs n.id n.left n.right letters) cs) (with_elements n letters (seen ns cs))
+    all_grown [] none unheld = absurd (omega (arith, none))
+    all_grown (ch ∷ rest) _ unheld =
+        let h : Head = new_head cs n.id n.left n.right in
+        let front : List StoredCell = take index cs in
+        let back : List StoredCell = drop index cs in
+        let c : StoredCell = lettered h ch in
+        let same : (front ++ c ∷ []) ++ back ≡ insert cs index c = append_assoc front (c ∷ []) back in
+        let within : index ≤ length (stored_ids cs) = gap_within gap (stored_ids cs) j.beside in
+        let kept : KeepsNodes (n ∷ ns) ((front ++ c ∷ []) ++ back) = subst (KeepsNodes (n ∷ ns)) (sym same) (keeps_more ns cs j.kept n j.new index ch placed) in
+        let is : seen (n ∷ ns) ((front ++ c ∷ []) ++ back) ≡ with_element n ch (seen ns cs) = ap (seen (n ∷ ns)) same ∙ one_grown ns cs j.kept n j.new index within placed ch in
+        let behind : AreUnheld (n ∷ ns) (next_id n.id) (length rest) = λ i less.
+        let up : n.id ≢ id_behind (next_id n.id) i = λ e. let k : n.id.counter ≡ n.id.counter + 1 + i = ap (λ (x : Identifier). x.counter) e in absurd (omega (arith, k)) in
+        ap (λ b. is_some (if b then Some n else find_node ns (id_behind (next_id n.id) i))) (ne-id_eq n.id (id_behind (next_id n.id) i) up)
+        ∙ ap (has_node ns) (one_behind n.id i) ∙ unheld (suc i) (omega (arith, less)) in
+        let grown = rest_grown ns n front h ch back refl refl refl kept rest behind in
+        let all : (front ++ c ∷ []) ++ (typed_cells (next_head h) rest ++ back) ≡ inserted_at index (typed_cells h (ch ∷ rest)) cs = append_assoc front (c ∷ []) (typed_cells (next_head h) rest ++ back) in (
+          subst (KeepsNodes (run_nodes (next_node n) (length rest) (n ∷ ns))) all grown.0,
+          ap (seen (run_nodes (next_node n) (length rest) (n ∷ ns))) (sym all) ∙ grown.1 ∙ ap (with_elements (next_node n) rest) is,
+        )
+
+    pub grown_kept : KeepsNodes longer more
+    grown_kept = subst (λ t. KeepsNodes t more) (sym l) (subst (KeepsNodes (run_nodes n (length text) ns)) (sym m) (all_grown text some free).0)
+
+    pub is_grown : seen longer more ≡ with_elements n text (seen ns cs)
+    is_grown = (λ i. record { nodes = l i; cells = map plain (m i) }) ∙ (all_grown text some free).1
 
 -- a store without cells keeps no nodes
 pub nothing_kept : (ns : List Node) (cs : List StoredCell) → ns ≡ [] → cs ≡ [] → KeepsNodes ns cs
-nothing_kept ns cs e f = subst (λ t. KeepsNodes t cs) (sym e) (subst (KeepsNodes []) (sym f) (record { are_nodes = tt; in_order = sym none_in_order; each = All-nil (IsOfNode []) }))
+nothing_kept ms cs e f = subst (λ t. KeepsNodes t cs) (sym e) (subst (KeepsNodes []) (sym f) (record { are_nodes = tt; in_order = sym none_in_order; each = All-nil (IsOfNode []) }))

@@ -43,7 +43,7 @@ pub record Found (cs : List StoredCell) (x : Identifier) : Type 0 where
   pub member : Contains cs cell
 
 -- a member has one
-find_cell : (cs : List StoredCell) (x : Identifier) → Contains (cell_ids cs) x → Found cs x
+pub find_cell : (cs : List StoredCell) (x : Identifier) → Contains (cell_ids cs) x → Found cs x
 find_cell [] x m = absurd (contains_none x m)
 find_cell (c ∷ cs) x m =
     elim (cases_id c.id x) [

@@ -1,10 +1,12 @@
 -- A place as contracts see it.
-use Rattle.std.specs.Prelude.{◌≡◌, false, List, [], ◌∷◌, ℕ, map}
+use Rattle.std.specs.Prelude.{◌≡◌, ◌<◌, false, List, [], ◌∷◌, ℕ, map}
 use Rattle.std.specs.List.{insert}
 use Rattle.fugue_ids.specs.Identifiers.{Identifier}
 use Rattle.fugue_ids.specs.Listed.{index_of}
-use Rattle.origin_model.specs.sides.Node.{AreNodes, node_order}
+use Rattle.fugue_ids.specs.Runs.{id_behind}
+use Rattle.origin_model.specs.sides.Node.{AreNodes, has_node, node_order}
 use Rattle.origin_model.specs.declared.operations.node.Node.{Node}
+pub use Rattle.sided_tree.specs.Rows.{next_node}
 use Rattle.section_list.specs.Cells.{Cell, section_cell_ids, section_hiding}
 
 pub record Listing : Type 0 where
@@ -26,6 +28,15 @@ abbrev pub with_element : Node → ℕ → Listing → Listing
 with_element n ch s =
     let cell : Cell = record { id = n.id; ch = ch; hidden = false } in
     record { nodes = n ∷ s.nodes; cells = insert s.cells (index_of (node_order (n ∷ s.nodes)) n.id) cell }
+
+-- an element for each letter, one after another: n, and then each behind the one before it
+abbrev pub with_elements : Node → List ℕ → Listing → Listing
+with_elements n [] s = s
+with_elements n (ch ∷ text) s = with_elements (next_node n) text (with_element n ch s)
+
+-- none of the first k identifiers from this one on is a node's
+abbrev pub AreUnheld : List Node → Identifier → ℕ → Type 0
+AreUnheld ns id k = (j : ℕ) → j < k → has_node ns (id_behind id j) ≡ false
 
 -- the element x hidden
 abbrev pub with_hidden : Identifier → Listing → Listing

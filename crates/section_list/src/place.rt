@@ -1,4 +1,4 @@
-ghost use Rattle.std.specs.Prelude.{◌≡◌, ◌↔◌, ◌⊎◌, ◌<◌, ◌∷◌, [], false, true, drop, length, nat_lt, slice_get, IfSome};
+ghost use Rattle.std.specs.Prelude.{◌≡◌, ◌↔◌, ◌⊎◌, ◌<◌, ◌≤◌, ◌+◌, ◌^◌, ◌∷◌, [], false, true, drop, length, nat_lt, slice_get, IfSome};
 ghost use Rattle.std.specs.Prelude.{IsNone, OnErr, OnOk};
 ghost use Rattle.std.specs.List.{Contains};
 ghost use Rattle.std.specs.Str.{encode_utf8_all};
@@ -11,12 +11,13 @@ ghost use Rattle.origin_model.specs.sides.Node.{IsNew, has_node, has_origin, nod
 ghost use Rattle.origin_model.specs.sides.Slot.{IsBeside, at_gap};
 ghost use Rattle.section_list.specs.Cells.{section_cell_ids, is_hidden_in_section as hidden_in, section_text};
 ghost use Rattle.section_list.specs.Cells.{section_cells_shown, section_shown_before};
-ghost use Rattle.section_list.specs.SectionList.{IsInOrder, empty_listing, with_element, with_hidden};
+ghost use Rattle.section_list.specs.SectionList.{AreUnheld, IsInOrder, empty_listing, with_element, with_elements};
+ghost use Rattle.section_list.specs.SectionList.{with_hidden};
 
 use fugue_ids::{ElementId, Failed, Gap, Gather, MOST_OPERATIONS, NoMemory, Out, Sink};
 use origin_model::Node;
 use run_store::{RunStore, Shown};
-use sided_tree::{Ages, NodeLookup, find_gap};
+use sided_tree::{Ages, NodeLookup, NodeRun, find_gap};
 use std::alloc::Global;
 use std::marker::Model;
 
@@ -158,11 +159,31 @@ impl SectionList {
         ensures err { OnErr result (self.new ≡ self.old) }
         ensures in_order { IsInOrder self.new }
     {
-        let node = Node { id, left, right };
-        self.look_at(node.left);
-        let gap = self.gap_of(&node);
-        self.store.insert(gap, node.id, node.left, node.right, ch)?;
-        self.ages = self.ages.with(&node);
+        let counter = id.counter;
+        prove!(counter <= u32::MAX);
+        self.insert_run(&Node { id, left, right }, &[ch])
+    }
+
+    /// An element for each letter, which are not hidden: the first, and then each typed behind the one before it. After
+    /// want of memory all is as before.
+    pub fn insert_run(&mut self, first: &Node, text: &[char]) -> Result<(), NoMemory>
+        requires some { 0 < length text.now }
+        requires counters { first.now.id.counter + length text.now ≤ 2 ^ 32 }
+        requires fresh { AreUnheld self.old.nodes first.now.id (length text.now) }
+        requires left { has_origin self.old.nodes first.now.left ≡ true }
+        requires right { has_origin self.old.nodes first.now.right ≡ true }
+        requires room { length self.old.cells + length text.now ≤ MOST_OPERATIONS }
+        ensures ok { OnOk result (self.new ≡ with_elements first.now text.now self.old) }
+        ensures err { OnErr result (self.new ≡ self.old) }
+        ensures in_order { IsInOrder self.new }
+    {
+        self.look_at(first.left);
+        let gap = self.gap_of(first);
+        self.store
+            .insert_run(gap, first.id, first.left, first.right, text)?;
+        let count = text.len();
+        let first = *first;
+        self.ages = self.ages.with_run(&NodeRun { first, count });
         Ok(())
     }
 

@@ -2,6 +2,7 @@ ghost use Rattle.std.specs.Prelude.{◌≡◌, ◌∷◌, [], List};
 ghost use Rattle.std.specs.Borrow.{ftrue};
 ghost use Rattle.origin_model.specs.declared.operations.node.Node.{Node};
 ghost use Rattle.origin_model.specs.sides.Detached.{without};
+ghost use Rattle.sided_tree.specs.Rows.{run_nodes};
 
 use fugue_ids::ElementId;
 use origin_model::Node;
@@ -13,6 +14,14 @@ use std::marker::Model;
 pub struct Ages {
     /// The nodes, the newest first.
     pub ghost nodes: { List Node },
+}
+
+/// Nodes that were typed in a row: the first, and how many there are. Each other one has the one before it as its left
+/// origin, and all have one right origin.
+#[derive(Clone, Copy)]
+pub struct NodeRun {
+    pub first: Node,
+    pub count: usize,
 }
 
 impl Model for Ages {
@@ -30,6 +39,13 @@ impl Ages {
     /// With a newer one.
     pub fn with(&self, _node: &Node) -> Ages
         ensures { result.nodes ≡ _node.now ∷ self.now.nodes }
+    {
+        Ages {}
+    }
+
+    /// With those of a run, each newer than the one before it.
+    pub fn with_run(&self, _run: &NodeRun) -> Ages
+        ensures { result.nodes ≡ run_nodes _run.now.first _run.now.count self.now.nodes }
     {
         Ages {}
     }

@@ -12,7 +12,7 @@ mod siblings;
 mod slots;
 mod tree;
 
-pub use ages::Ages;
+pub use ages::{Ages, NodeRun};
 pub use fugue_ids::{Gap, Key, OrderOf, Side};
 pub use gaps::find_gap;
 pub use node_lookup::NodeLookup;

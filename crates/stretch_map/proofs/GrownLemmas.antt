@@ -1,129 +1,175 @@
--- Stretches with one value more.
-use Rattle.std.proofs.Common.{ap, arith, inl, inr, refl, subst, sym, ℕ, ◌+◌, ◌-◌, ◌<◌, ◌∙◌, ◌≡◌, ◌≢◌, ◌≤◌}
-use Rattle.std.specs.Prelude.{None, Some}
+-- Stretches with a new one.
+use Rattle.std.proofs.Common.{ap, arith, inl, inr, refl, subst, suc, sym, zero, ℕ, ◌+◌, ◌-◌, ◌<◌, ◌∙◌, ◌≡◌, ◌≤◌}
+use Rattle.std.specs.Prelude.{Some}
 use Rattle.fugue_ids.specs.Identifiers.{Identifier}
+use Rattle.fugue_ids.specs.Runs.{id_behind}
 use Rattle.fugue_ids.proofs.IdentifierLemmas.{cases_id}
 use Rattle.stretch_map.specs.Contents.{Entry, Layout, value_in}
-use Rattle.stretch_map.specs.Stretches.{Adds, AreStretches, Covers, EndsAt, GoesOn, Has, up_to}
+use Rattle.stretch_map.specs.Stretches.{Adds, AreStretches, CanCome, Covers, EndsAt, GoesOn, Has, last_id, up_to}
 use Rattle.stretch_map.proofs.FoundLemmas.{cases_le, covered, not_covered}
-use Rattle.stretch_map.proofs.SetLemmas.{Fits, Sets, by_key, set_are, value_stays, value_within}
+use Rattle.stretch_map.proofs.SetLemmas.{Fits, Sets, set_are, value_stays, value_within}
 
-module _ {V : Type 0} (nth : Identifier → V → ℕ → V) (reaches : Identifier → V → ℕ → Type 0) (l k : Layout V) (are : AreStretches reaches l) (key : Identifier) (value : V)
-    (fresh : value_in nth l key ≡ None) where
-  -- a stretch that ends with the key is the only one that has it
-  set_ends : (e : Entry V) → e.1.last ≡ key.counter → Sets l k e → EndsAt k key
-  set_ends e last sets = λ x h c.
-      elim (sets.cases x h) [
-        | inl d ↦ let same : x.1.last ≡ e.1.last = ap (λ (z : Entry V). z.1.last) d in omega (arith, same, last)
-        | inr d ↦ absurd (not_covered nth reaches l are key fresh x d.1 c)
-      ]
+module _ {V : Type 0} (nth : Identifier → V → ℕ → V) (reaches : Identifier → V → ℕ → Type 0) (l : Layout V) (are : AreStretches reaches l) (run : Entry V) (comes : CanCome nth reaches l run) where
+  -- no stretch has an identifier of the new one
+  pub not_in_new : (q : Identifier) → Covers run q → (e : Entry V) → Has l e → Covers e q → ⊥
+  not_in_new q c e h d = not_covered nth reaches l are q (comes.free q c) e h d
 
-  module _ (e : Entry V) (old : Has l e) (goes : GoesOn nth reaches e key value) (sets : Sets l k (up_to e key.counter)) where
-    grown_fits : Fits reaches l (up_to e key.counter)
-    grown_fits =
-        let begun : e.0.counter ≤ e.1.last = are.begun e old in
-        let next : e.1.last + 1 ≡ key.counter = goes.next in
-        record {
-          begun = omega arith;
-          before = λ x h r less. are.apart x e h old r less;
-          behind = λ x h r less.
-              let over : e.1.last < x.0.counter = are.apart e x old h r less in
-              elim (cases_le x.0.counter key.counter) [
-                | inr i ↦ i
-                | inl i ↦
-                    let end : x.0.counter ≤ x.1.last = are.begun x h in
-                    absurd (not_covered nth reaches l are key fresh x h (record { replica = sym r ∙ goes.replica; from = i; to = omega arith }))
-              ];
-          reached = λ n less.
-              elim (cases_le (e.0.counter + n) e.1.last) [
-                | inl j ↦ are.reached e old n j
-                | inr j ↦ let steps : key.counter - e.0.counter ≡ n = omega arith in subst (reaches e.0 e.1.value) steps goes.reached
-              ];
-        }
+  -- so none has its first one
+  pub first_not_in : (e : Entry V) → Has l e → e.0.replica ≡ run.0.replica → e.0.counter ≤ run.0.counter → run.0.counter ≤ e.1.last → ⊥
+  first_not_in e h r from to =
+      let begun : run.0.counter ≤ run.1.last = comes.begun in
+      not_in_new run.0 (record { replica = refl; from = omega arith; to = begun }) e h (record { replica = r; from = from; to = to })
 
-    joined_are : AreStretches reaches k
-    joined_are = set_are reaches l k are (up_to e key.counter) grown_fits sets
+  -- and none begins in it
+  pub none_begins_in : (e : Entry V) → Has l e → run.0.replica ≡ e.0.replica → run.0.counter ≤ e.0.counter → e.0.counter ≤ run.1.last → ⊥
+  none_begins_in e h r from to =
+      let begun : e.0.counter ≤ e.1.last = are.begun e h in
+      not_in_new e.0 (record { replica = r; from = from; to = to }) e h (record { replica = refl; from = omega arith; to = begun })
 
-    -- a stretch that goes on with the key
-    pub joined : Adds nth reaches l k key value
-    joined =
-        let begun : e.0.counter ≤ e.1.last = are.begun e old in
-        let next : e.1.last + 1 ≡ key.counter = goes.next in
-        record {
-          are = joined_are;
-          found = λ q.
-              by_key q key _ _ _
-              (λ d.
-              let qr : e.0.replica ≡ q.replica = goes.replica ∙ ap (λ x. x.replica) (sym d) in
-              let qc : q.counter ≡ key.counter = ap (λ x. x.counter) d in
-              covered nth reaches k joined_are q (up_to e key.counter) sets.here (record { replica = qr; from = omega arith; to = omega arith })
-              ∙ ap (λ c. Some (nth e.0 e.1.value (c - e.0.counter))) qc ∙ ap Some goes.follows)
-              (λ d.
-              value_within nth reaches l k are joined_are q e old key.counter sets
-              (λ c.
-              let rep : q.replica ≡ key.replica = sym c.replica ∙ goes.replica in
-              let high : q.counter ≤ key.counter = c.to in
-              let apart : q.counter ≢ key.counter = λ same. d (λ i. record { replica = rep i; counter = same i }) in
-              omega (arith, apart, high, next))
-              (λ c. let high : q.counter ≤ e.1.last = c.to in omega (arith, high, next)));
-          ends = set_ends (up_to e key.counter) refl sets;
-        }
+  module _ (k : Layout V) where
+    -- a stretch that ends with the new one is the only one that has its end
+    set_ends : (e : Entry V) → e.1.last ≡ run.1.last → Sets l k e → EndsAt k (last_id run)
+    set_ends e last sets = λ x h c.
+        elim (sets.cases x h) [
+          | inl d ↦ let same : x.1.last ≡ e.1.last = ap (λ (z : Entry V). z.1.last) d in omega (arith, same, last)
+          | inr d ↦
+              let begun : run.0.counter ≤ run.1.last = comes.begun in
+              absurd (not_in_new (last_id run) (record { replica = refl; from = begun; to = omega arith }) x d.1 c)
+        ]
 
-  module _ (at_start : (first : Identifier) (v : V) → nth first v 0 ≡ v) (starts : (first : Identifier) (v : V) → reaches first v 0)
-      (sets : Sets l k (key, record { value = value; last = key.counter })) where
-    one : Entry V
-    one = (key, record { value = value; last = key.counter })
+    module _ (joins : (first : Identifier) (v : V) (j : ℕ) → reaches first v j → reaches (id_behind first j) (nth first v j) 1 → reaches first v (j + 1))
+        (adds : (first : Identifier) (v : V) (j k : ℕ) → nth (id_behind first j) (nth first v j) k ≡ nth first v (j + k))
+        (goes_on : (first : Identifier) (v : V) (j k : ℕ) → reaches first v (j + k) → reaches (id_behind first j) (nth first v j) k)
+        (e : Entry V) (old : Has l e) (goes : GoesOn nth reaches e run.0 run.1.value) (sets : Sets l k (up_to e run.1.last)) where
+      -- how many steps the new one is behind the first identifier of the one that goes on
+      abbrev steps : ℕ
+      steps = run.0.counter - e.0.counter
 
-    one_fits : Fits reaches l one
-    unfolding one
-    one_fits =
-        record {
-          begun = omega arith;
-          before = λ x h r less.
-              elim (cases_le key.counter x.1.last) [
-                | inl i ↦ absurd (not_covered nth reaches l are key fresh x h (record { replica = r; from = omega (arith, less); to = i }))
-                | inr i ↦ i
-              ];
-          behind = λ x h r less. less;
-          reached = λ n less. let none : 0 ≡ n = omega arith in subst (reaches key value) none (starts key value);
-        }
+      begun_old : e.0.counter ≤ e.1.last
+      begun_old = are.begun e old
 
-    added_are : AreStretches reaches k
-    unfolding one
-    added_are = set_are reaches l k are one one_fits sets
+      begun_new : run.0.counter ≤ run.1.last
+      begun_new = comes.begun
 
-    -- the key alone is in it
-    one_has : (q : Identifier) → Covers one q → q ≡ key
-    unfolding one
-    one_has q c =
-        let low : key.counter ≤ q.counter = c.from in
-        let high : q.counter ≤ key.counter = c.to in
-        let same : q.counter ≡ key.counter = omega arith in
-        λ i. record { replica = sym c.replica i; counter = same i }
+      next_is : e.1.last + 1 ≡ run.0.counter
+      next_is = goes.next
 
-    -- a stretch of the key alone
-    pub added : Adds nth reaches l k key value
-    unfolding one
-    added =
-        record {
-          are = added_are;
-          found = λ q.
-              by_key q key _ _ _
-              (λ d.
-              let qr : key.replica ≡ q.replica = ap (λ x. x.replica) (sym d) in
-              let qc : q.counter ≡ key.counter = ap (λ x. x.counter) d in
-              let none : q.counter - key.counter ≡ 0 = omega arith in
-              covered nth reaches k added_are q one sets.here (record { replica = qr; from = omega arith; to = omega arith }) ∙ ap (λ n. Some (nth key value n)) none ∙ ap Some (at_start key value))
-              (λ d.
-              value_stays nth reaches l k are added_are q
-              (λ x h c. elim (sets.cases x h) [ inl i ↦ absurd (d (one_has q (subst (λ (z : Entry V). Covers z q) i c))) | inr i ↦ (x, i.1, c) ])
-              (λ x h c.
-              elim (cases_id x.0 key) [
-                | inl i ↦
-                    let first : x.0.counter ≡ key.counter = ap (λ (z : Identifier). z.counter) i in
-                    let begun : x.0.counter ≤ x.1.last = are.begun x h in
-                    absurd (not_covered nth reaches l are key fresh x h (record { replica = ap (λ (z : Identifier). z.replica) i; from = omega arith; to = omega arith }))
-                | inr i ↦ (x, sets.stays x i h, c, refl)
-              ]));
-          ends = set_ends one refl sets;
-        }
+      there : (j : ℕ) → id_behind run.0 j ≡ id_behind e.0 (steps + j)
+      there j =
+          let begun = begun_old in
+          let next = next_is in
+          let c : run.0.counter + j ≡ e.0.counter + (run.0.counter - e.0.counter + j) = omega (arith, begun, next) in
+          λ i. record { replica = sym goes.replica i; counter = c i }
+
+      here : run.0 ≡ id_behind e.0 steps
+      here =
+          let begun = begun_old in
+          let next = next_is in
+          let c : run.0.counter ≡ e.0.counter + (run.0.counter - e.0.counter) = omega (arith, begun, next) in
+          λ i. record { replica = sym goes.replica i; counter = c i }
+
+      -- the values of the new one are those of the one that goes on
+      value_there : (j : ℕ) → nth run.0 run.1.value j ≡ nth e.0 e.1.value (steps + j)
+      value_there j = (λ i. nth (here i) (sym goes.follows i) j) ∙ adds e.0 e.1.value steps j
+
+      -- and the rule reaches to them
+      reached_there : (j : ℕ) → run.0.counter + j ≤ run.1.last → reaches e.0 e.1.value (steps + j)
+      reached_there zero less = let same : run.0.counter - e.0.counter ≡ run.0.counter - e.0.counter + 0 = omega arith in subst (reaches e.0 e.1.value) same goes.reached
+      reached_there (suc j) less =
+          let plus : j + 1 ≡ suc j = omega arith in
+          let same : run.0.counter - e.0.counter + j + 1 ≡ run.0.counter - e.0.counter + suc j = omega arith in
+          let one : reaches (id_behind run.0 j) (nth run.0 run.1.value j) 1 = goes_on run.0 run.1.value j 1 (subst (reaches run.0 run.1.value) (sym plus) (comes.reached (suc j) less)) in
+          subst (reaches e.0 e.1.value) same
+          (joins e.0 e.1.value (steps + j) (reached_there j (omega (arith, less))) (subst (λ v. reaches (id_behind e.0 (steps + j)) v 1) (value_there j) (subst (λ x. reaches x (nth run.0 run.1.value j) 1) (there j) one)))
+
+      grown_fits : Fits reaches l (up_to e run.1.last)
+      grown_fits =
+          let begun = begun_old in
+          let more = begun_new in
+          let next = next_is in
+          record {
+            begun = omega (arith, begun, more, next);
+            before = λ x h r less. are.apart x e h old r less;
+            behind = λ x h r less.
+                let over : e.1.last < x.0.counter = are.apart e x old h r less in
+                elim (cases_le x.0.counter run.1.last) [
+                  | inr i ↦ i
+                  | inl i ↦ absurd (none_begins_in x h (sym goes.replica ∙ r) (omega (arith, over, next)) i)
+                ];
+            reached = λ n less.
+                elim (cases_le (e.0.counter + n) e.1.last) [
+                  | inl j ↦ are.reached e old n j
+                  | inr j ↦
+                      let far : run.0.counter - e.0.counter + (e.0.counter + n - run.0.counter) ≡ n = omega (arith, j, next, begun) in
+                      subst (reaches e.0 e.1.value) far (reached_there (e.0.counter + n - run.0.counter) (omega (arith, j, next, less)))
+                ];
+          }
+
+      joined_are : AreStretches reaches k
+      joined_are = set_are reaches l k are (up_to e run.1.last) grown_fits sets
+
+      -- a stretch that goes on with the new one
+      pub joined : Adds nth reaches l k run
+      joined =
+          let begun = begun_old in
+          let more = begun_new in
+          let next = next_is in
+          record {
+            are = joined_are;
+            inside = λ q c.
+                let from : run.0.counter ≤ q.counter = c.from in
+                let far : run.0.counter - e.0.counter + (q.counter - run.0.counter) ≡ q.counter - e.0.counter = omega (arith, from, next, begun) in
+                covered nth reaches k joined_are q (up_to e run.1.last) sets.here (record { replica = goes.replica ∙ c.replica; from = omega (arith, from, next, begun); to = c.to })
+                ∙ sym (ap (λ n. Some (nth e.0 e.1.value n)) far) ∙ sym (ap Some (value_there (q.counter - run.0.counter)));
+            outside = λ q d.
+                value_within nth reaches l k are joined_are q e old run.1.last sets
+                (λ c.
+                let to : q.counter ≤ run.1.last = c.to in
+                elim (cases_le q.counter e.1.last) [
+                  | inl i ↦ i
+                  | inr i ↦ absurd (d (record { replica = sym goes.replica ∙ c.replica; from = omega (arith, i, next); to = to }))
+                ])
+                (λ c. let high : q.counter ≤ e.1.last = c.to in omega (arith, high, next, more));
+            ends = set_ends (up_to e run.1.last) refl sets;
+          }
+
+    module _ (sets : Sets l k run) where
+      new_fits : Fits reaches l run
+      new_fits =
+          record {
+            begun = comes.begun;
+            before = λ x h r less.
+                elim (cases_le run.0.counter x.1.last) [
+                  | inl i ↦ absurd (first_not_in x h r (omega (arith, less)) i)
+                  | inr i ↦ i
+                ];
+            behind = λ x h r less.
+                elim (cases_le x.0.counter run.1.last) [
+                  | inl i ↦ absurd (none_begins_in x h r (omega (arith, less)) i)
+                  | inr i ↦ i
+                ];
+            reached = comes.reached;
+          }
+
+      added_are : AreStretches reaches k
+      added_are = set_are reaches l k are run new_fits sets
+
+      -- the new stretch as one of its own
+      pub added : Adds nth reaches l k run
+      added =
+          record {
+            are = added_are;
+            inside = λ q c. covered nth reaches k added_are q run sets.here c;
+            outside = λ q d.
+                value_stays nth reaches l k are added_are q
+                (λ x h c. elim (sets.cases x h) [ inl i ↦ absurd (d (subst (λ (z : Entry V). Covers z q) i c)) | inr i ↦ (x, i.1, c) ])
+                (λ x h c.
+                elim (cases_id x.0 run.0) [
+                  | inl i ↦
+                      let first : x.0.counter ≡ run.0.counter = ap (λ (z : Identifier). z.counter) i in
+                      let begun : x.0.counter ≤ x.1.last = are.begun x h in
+                      absurd (first_not_in x h (ap (λ (z : Identifier). z.replica) i) (omega arith) (omega arith))
+                  | inr i ↦ (x, sets.stays x i h, c, refl)
+                ]);
+            ends = set_ends run refl sets;
+          }

@@ -1,4 +1,5 @@
 pub mod FoundLemmas
+pub mod FreeLemmas
 pub mod GreatestLemmas
 pub mod GrownLemmas
 pub mod KeptLemmas

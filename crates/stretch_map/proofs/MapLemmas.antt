@@ -1,15 +1,53 @@
 -- The finite map that stretches stand for, as it is read, grows and shrinks.
-use Rattle.std.proofs.Common.{ap, arith, cond, inl, inr, sym, ℕ, ◌+◌, ◌-◌, ◌∙◌, ◌≡◌, ◌≤◌}
-use Rattle.std.specs.Prelude.{IfSome, None, Option, Some}
-use Rattle.std.specs.FinMap.{get, get-from_entries, get-insert, get-remove, insert, remove, same_map}
+use Rattle.std.proofs.Common.{ap, arith, cond, inl, inr, refl, suc, sym, zero, ℕ, ◌+◌, ◌-◌, ◌<◌, ◌∙◌, ◌≡◌, ◌≢◌, ◌≤◌}
+use Rattle.std.specs.Prelude.{◌↔◌, Bool, false, true, IfSome, IsFalse, IsTrue, None, Option, Some}
+use Rattle.std.specs.FinMap.{FinMap, get, get-from_entries, get-insert, get-remove, insert, remove, same_map}
 use Rattle.std.specs.Ordering.{is_eq}
 use Rattle.fugue_ids.specs.Identifiers.{Identifier, id_cmp}
-use Rattle.stretch_map.specs.Contents.{Layout, entries_with, contents, spread, value_in}
-use Rattle.stretch_map.specs.Rules.{IsFollowed}
-use Rattle.stretch_map.specs.Stretches.{Adds, AreStretches, EndsAt, IsSame, Loses}
-use Rattle.stretch_map.proofs.FoundLemmas.{cases_le, covered}
+use Rattle.fugue_ids.proofs.IdentifierLemmas.{cases_id, id_at-other, id_at-same}
+use Rattle.fugue_ids.proofs.RunLemmas.{none_behind}
+use Rattle.stretch_map.specs.Contents.{Entry, Layout, entries_with, contents, spread, value_in}
+use Rattle.stretch_map.specs.Rules.{AreFree, IsFollowed, ReachesRun, with_run}
+use Rattle.stretch_map.specs.Stretches.{Adds, AreFreeTo, AreStretches, CanCome, EndsAt, IsAmong, IsSame, Loses}
+use Rattle.stretch_map.proofs.FoundLemmas.{cases_covers, cases_le, covered}
 use Rattle.fugue_ids.proofs.OrderLemmas.{id_cmp-IsAntisymmetric, id_cmp_total}
 use Rattle.fugue_ids.specs.Runs.{id_behind}
+
+-- identifiers are free where all of them are among those that are
+pub all_free : {V : Type 0} (value_of : Identifier → Option V) (first : Identifier) (count last : ℕ) → 0 < count → last ≡ first.counter + (count - 1) → AreFree value_of first count → (q : Identifier)
+    → IsAmong first last q → value_of q ≡ None
+all_free value_of first count last some is free q c =
+    let from : first.counter ≤ q.counter = c.from in
+    let to : q.counter ≤ last = c.to in
+    let there : first.counter + (q.counter - first.counter) ≡ q.counter = omega (arith, from) in
+    let same : id_behind first (q.counter - first.counter) ≡ q = λ i. record { replica = c.replica i; counter = there i } in
+    sym (ap value_of same) ∙ free (q.counter - first.counter) (omega (arith, from, to, is, some))
+
+-- and the other way round
+pub free_all : {V : Type 0} (value_of : Identifier → Option V) (first : Identifier) (count last : ℕ) → last ≡ first.counter + (count - 1)
+    → ((q : Identifier) → IsAmong first last q → value_of q ≡ None) → AreFree value_of first count
+free_all value_of first count last is free k less = free (id_behind first k) (record { replica = refl; from = omega arith; to = omega (arith, less, is) })
+
+-- one identifier is free where it has no value
+pub only_first : {V : Type 0} (value_of : Identifier → Option V) (key : Identifier) → value_of key ≡ None → AreFree value_of key 1
+only_first value_of key none zero less = ap value_of (none_behind key) ∙ none
+only_first value_of key none (suc k) less = absurd (omega (arith, less))
+
+-- and the rule reaches to one value
+pub reaches_one : {V : Type 0} (reaches : Identifier → V → ℕ → Type 0) → ((first : Identifier) (v : V) → reaches first v 0) → (key : Identifier) (v : V) → ReachesRun reaches key v 1
+reaches_one reaches starts key v zero less = starts key v
+reaches_one reaches starts key v (suc k) less = absurd (omega (arith, less))
+
+-- an answer decides whether identifiers are free
+pub free_by : {V : Type 0} (nth : Identifier → V → ℕ → V) (l : Layout V) (value_of : Identifier → Option V) → ((q : Identifier) → value_of q ≡ value_in nth l q) → (first : Identifier) (count last : ℕ) → 0 < count
+    → last ≡ first.counter + (count - 1) → (b : Bool) → (IsTrue b → AreFreeTo nth l first last) → (IsFalse b → AreFreeTo nth l first last → ⊥) → IsTrue b ↔ AreFree value_of first count
+free_by nth l value_of seen first count last some is b on off = (
+  (λ t. free_all value_of first count last is (λ q c. seen q ∙ on t q c)),
+  (λ free. elim b as (λ x. (IsFalse x → AreFreeTo nth l first last → ⊥) → IsTrue x) [
+    | true ↦ λ _. refl
+    | false ↦ λ n. absurd (n refl (λ q c. sym (seen q) ∙ all_free value_of first count last some is free q c))
+  ] off),
+)
 
 module _ {V : Type 0} (nth : Identifier → V → ℕ → V) where
   -- a value of the finite map is the one that is found in the entries
@@ -20,15 +58,67 @@ module _ {V : Type 0} (nth : Identifier → V → ℕ → V) where
   pub contents-same : (l k : Layout V) → ((q : Identifier) → value_in nth k q ≡ value_in nth l q) → contents nth k ≡ contents nth l
   contents-same l k same = same_map id_cmp_total id_cmp-IsAntisymmetric (contents nth k) (contents nth l) (λ q. get-contents k q ∙ same q ∙ sym (get-contents l q))
 
-  module _ (reaches : Identifier → V → ℕ → Type 0) (l k : Layout V) (key : Identifier) where
-    -- one value more
-    pub contents-adds : (value : V) → Adds nth reaches l k key value → contents nth k ≡ insert (contents nth l) key value
-    contents-adds value adds =
-        same_map id_cmp_total id_cmp-IsAntisymmetric (contents nth k) (insert (contents nth l) key value)
-        (λ q.
-        get-contents k q ∙ adds.found q ∙ ap (λ o. cond (is_eq (id_cmp q key)) (Some value) o) (sym (get-contents l q))
-        ∙ sym (get-insert id_cmp_total (contents nth l) key value q))
+  -- a value of a run is there
+  run_inside : (first : Identifier) (v : V) (n : ℕ) (m : FinMap id_cmp V) (q : Identifier) → first.replica ≡ q.replica → first.counter ≤ q.counter → q.counter < first.counter + n
+      → get (with_run nth first v n m) q ≡ Some (nth first v (q.counter - first.counter))
+  run_inside first v zero m q r from to = absurd (omega (arith, from, to))
+  run_inside first v (suc n) m q r from to =
+      let older : FinMap id_cmp V = with_run nth first v n m in
+      get-insert id_cmp_total older (id_behind first n) (nth first v n) q
+      ∙ elim (cases_id q (id_behind first n)) [
+        | inl e ↦
+            let there : q.counter ≡ first.counter + n = ap (λ (x : Identifier). x.counter) e in
+            let steps : n ≡ q.counter - first.counter = omega (arith, there) in
+            ap (λ b. cond b (Some (nth first v n)) (get older q)) (ap (λ z. is_eq (id_cmp z (id_behind first n))) e ∙ id_at-same (id_behind first n)) ∙ ap (λ k. Some (nth first v k)) steps
+        | inr d ↦
+            let apart : q.counter ≢ first.counter + n = λ e. d (λ i. record { replica = sym r i; counter = e i }) in
+            ap (λ b. cond b (Some (nth first v n)) (get older q)) (id_at-other q (id_behind first n) (λ e. d (sym e))) ∙ run_inside first v n m q r from (omega (arith, apart, to))
+      ]
 
+  -- and every other value stays
+  run_outside : (first : Identifier) (v : V) (n : ℕ) (m : FinMap id_cmp V) (q : Identifier) → (first.replica ≡ q.replica → first.counter ≤ q.counter → q.counter < first.counter + n → ⊥)
+      → get (with_run nth first v n m) q ≡ get m q
+  run_outside first v zero m q out = refl
+  run_outside first v (suc n) m q out =
+      let older : FinMap id_cmp V = with_run nth first v n m in
+      let other : id_behind first n ≢ q = λ e.
+      let there : first.counter + n ≡ q.counter = ap (λ (x : Identifier). x.counter) e in
+      out (ap (λ (x : Identifier). x.replica) e) (omega (arith, there)) (omega (arith, there))
+      in
+      get-insert id_cmp_total older (id_behind first n) (nth first v n) q ∙ ap (λ b. cond b (Some (nth first v n)) (get older q)) (id_at-other q (id_behind first n) other)
+      ∙ run_outside first v n m q (λ r from to. out r from (omega (arith, to)))
+
+  -- a run more
+  pub contents-adds : (reaches : Identifier → V → ℕ → Type 0) (l k : Layout V) (first : Identifier) (v : V) (count last : ℕ) → 0 < count → last ≡ first.counter + (count - 1)
+      → Adds nth reaches l k (first, record { value = v; last = last }) → contents nth k ≡ with_run nth first v count (contents nth l)
+  contents-adds reaches l k first v count last some is adds =
+      let run : Entry V = (first, record { value = v; last = last }) in
+      same_map id_cmp_total id_cmp-IsAntisymmetric (contents nth k) (with_run nth first v count (contents nth l))
+      (λ q.
+      get-contents k q
+      ∙ elim (cases_covers run q) [
+        | inl c ↦
+            let to : q.counter ≤ last = c.to in
+            adds.inside q c ∙ sym (run_inside first v count (contents nth l) q c.replica c.from (omega (arith, to, is, some)))
+        | inr d ↦
+            adds.outside q d ∙ sym (get-contents l q)
+            ∙ sym (run_outside first v count (contents nth l) q (λ r from to. d (record { replica = r; from = from; to = omega (arith, to, is, some) })))
+      ])
+
+  -- a run of one is one value
+  pub run_of_one : ((first : Identifier) (v : V) → nth first v 0 ≡ v) → (key : Identifier) (v : V) (m : FinMap id_cmp V) → with_run nth key v 1 m ≡ insert m key v
+  run_of_one at_start key v m = λ i. insert m (none_behind key i) (at_start key v i)
+
+  -- a run may come where its identifiers are free
+  pub can_come : (reaches : Identifier → V → ℕ → Type 0) (l : Layout V) (value_of : Identifier → Option V) → ((q : Identifier) → value_of q ≡ value_in nth l q) → (first : Identifier) (v : V) (count last : ℕ)
+      → 0 < count → last ≡ first.counter + (count - 1) → ReachesRun reaches first v count → AreFree value_of first count → CanCome nth reaches l (first, record { value = v; last = last })
+  can_come reaches l value_of seen first v count last some is reached free = record {
+    begun = omega (arith, is);
+    reached = λ n to. reached n (omega (arith, to, is, some));
+    free = λ q c. sym (seen q) ∙ all_free value_of first count last some is free q c;
+  }
+
+  module _ (reaches : Identifier → V → ℕ → Type 0) (l k : Layout V) (key : Identifier) where
     -- one value less
     pub contents-loses : Loses nth reaches l k key → contents nth k ≡ remove (contents nth l) key
     contents-loses loses =

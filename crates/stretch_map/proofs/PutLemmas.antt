@@ -1,4 +1,4 @@
--- What becomes of stretches as one value more is put.
+-- What becomes of stretches as a new one is put.
 use Rattle.std.proofs.Common.{ap, arith, inl, inr, refl, subst, sym, List, ℕ, ◌+◌, ◌-◌, ◌<◌, ◌∙◌, ◌≡◌, ◌≤◌}
 use Rattle.std.specs.Prelude.{None, Some}
 use Rattle.std.specs.BTreeMap.{BTreeMap, IsOrdered, UpdatesBy}
@@ -6,27 +6,35 @@ use Rattle.fugue_ids.specs.Identifiers.{Identifier, id_cmp}
 use Rattle.fugue_ids.specs.Runs.{id_behind}
 use Rattle.stretch_map.specs.Contents.{Entry, Latest, Layout, value_in}
 use Rattle.stretch_map.specs.Rules.{IsNext}
-use Rattle.stretch_map.specs.Stretches.{Adds, AreStretches, GoesOn, Grows, Has, IsBehindAll, IsFloor, IsLatest, IsLatestUpTo, KeepsEntry, KeptBecomes, LatestBecomes, NoLatestUpTo, latest_at, up_to}
+use Rattle.stretch_map.specs.Stretches.{Adds, AreStretches, CanCome, GoesOn, Grows, Has, IsBehindAll, IsFloor, IsLatest, IsLatestUpTo, KeepsEntry, KeptBecomes, LatestBecomes, NoLatestUpTo, latest_at, up_to}
 use Rattle.stretch_map.specs.declared.stretches.Stretch.{Stretch}
-use Rattle.stretch_map.proofs.FoundLemmas.{cases_le, found, not_covered, same_latest}
-use Rattle.stretch_map.proofs.GrownLemmas.{added, joined}
+use Rattle.stretch_map.proofs.FoundLemmas.{cases_le, found, same_latest}
+use Rattle.stretch_map.proofs.GrownLemmas.{added, first_not_in, joined}
 use Rattle.stretch_map.proofs.KeptLemmas.{kept_becomes, sets_behind, sets_kept, sets_latest}
 
-module _ {V : Type 0} (nth : Identifier → V → ℕ → V) (reaches : Identifier → V → ℕ → Type 0) (l : Layout V) (are : AreStretches reaches l) (key : Identifier) (value : V)
-    (fresh : value_in nth l key ≡ None) where
-  -- the last stretch of the replica goes on
-  pub latest_grew : (e : Entry V) → IsLatest l.0 e → GoesOn nth reaches e key value → (s : Stretch V) → s ≡ (up_to e key.counter).1 → (ls : List (ℕ × Latest V))
-      → LatestBecomes l.0 ls e.0.replica (Some (e.0.counter, s)) → Adds nth reaches l (ls, l.1) key value
-  latest_grew e old goes s is ls becomes =
-      joined nth reaches l (ls, l.1) are key value fresh e (inl old) goes
-      (sets_latest l (ls, l.1) are.laid (up_to e key.counter) (λ x a r. ap (λ (z : Entry V). z.0) (same_latest l.0 x e a old r)) (λ x h r. are.laid.before e x old h r)
-      (subst (λ t. LatestBecomes l.0 ls e.0.replica (Some (e.0.counter, t))) is becomes) refl)
+module _ {V : Type 0} (nth : Identifier → V → ℕ → V) (reaches : Identifier → V → ℕ → Type 0) (l : Layout V) (are : AreStretches reaches l) (run : Entry V) (comes : CanCome nth reaches l run) where
+  abbrev key : Identifier
+  key = run.0
 
-  -- a kept stretch goes on
-  pub kept_grew : (es : List (Entry V)) → Grows nth reaches l.1 es key value → Adds nth reaches l (l.0, es) key value
-  kept_grew es grows =
-      joined nth reaches l (l.0, es) are key value fresh grows.stretch (inr grows.kept) grows.goes_on
-      (sets_kept l (l.0, es) are.laid (up_to grows.stretch key.counter) (λ x a r. are.laid.before x grows.stretch a grows.kept r) grows.becomes refl)
+  abbrev value : V
+  value = run.1.value
+
+  module _ (joins : (first : Identifier) (v : V) (j : ℕ) → reaches first v j → reaches (id_behind first j) (nth first v j) 1 → reaches first v (j + 1))
+      (adds : (first : Identifier) (v : V) (j k : ℕ) → nth (id_behind first j) (nth first v j) k ≡ nth first v (j + k))
+      (goes_on : (first : Identifier) (v : V) (j k : ℕ) → reaches first v (j + k) → reaches (id_behind first j) (nth first v j) k) where
+    -- the last stretch of the replica goes on
+    pub latest_grew : (e : Entry V) → IsLatest l.0 e → GoesOn nth reaches e key value → (s : Stretch V) → s ≡ (up_to e run.1.last).1 → (ls : List (ℕ × Latest V))
+        → LatestBecomes l.0 ls e.0.replica (Some (e.0.counter, s)) → Adds nth reaches l (ls, l.1) run
+    latest_grew e old goes s is ls becomes =
+        joined nth reaches l are run comes (ls, l.1) joins adds goes_on e (inl old) goes
+        (sets_latest l (ls, l.1) are.laid (up_to e run.1.last) (λ x a r. ap (λ (z : Entry V). z.0) (same_latest l.0 x e a old r)) (λ x h r. are.laid.before e x old h r)
+        (subst (λ t. LatestBecomes l.0 ls e.0.replica (Some (e.0.counter, t))) is becomes) refl)
+
+    -- a kept stretch goes on
+    pub kept_grew : (es : List (Entry V)) → Grows nth reaches l.1 es run → Adds nth reaches l (l.0, es) run
+    kept_grew es grows =
+        joined nth reaches l are run comes (l.0, es) joins adds goes_on grows.stretch (inr grows.kept) grows.goes_on
+        (sets_kept l (l.0, es) are.laid (up_to grows.stretch run.1.last) (λ x a r. are.laid.before x grows.stretch a grows.kept r) grows.becomes refl)
 
   -- the last stretch of the replica does not begin with a key without a value
   begins_before : (e : Entry V) → IsLatestUpTo l.0 key e → e.0.counter < key.counter
@@ -35,30 +43,26 @@ module _ {V : Type 0} (nth : Identifier → V → ℕ → V) (reaches : Identifi
         | inl i ↦
             let from : e.0.counter ≤ key.counter = is.from in
             let begun : e.0.counter ≤ e.1.last = are.begun e (inl is.latest) in
-            absurd (not_covered nth reaches l are key fresh e (inl is.latest) (record { replica = is.replica; from = from; to = omega arith }))
+            absurd (first_not_in nth reaches l are run comes e (inl is.latest) is.replica from (omega arith))
         | inr i ↦ i
       ]
 
-  module _ (at_start : (first : Identifier) (v : V) → nth first v 0 ≡ v) (starts : (first : Identifier) (v : V) → reaches first v 0) where
-    -- a stretch begins with the key, the only last one of its replica
-    pub begun_first : IsBehindAll l key → (ls : List (ℕ × Latest V)) → LatestBecomes l.0 ls key.replica (Some (key.counter, record { value = value; last = key.counter })) → Adds nth reaches l (ls, l.1) key value
-    begun_first behind ls becomes =
-        added nth reaches l (ls, l.1) are key value fresh at_start starts
-        (sets_latest l (ls, l.1) are.laid (key, record { value = value; last = key.counter })
-        (λ x a r. let own : Latest V = (x.0.counter, x.1) in let both : None ≡ Some own = sym behind.none ∙ ap (latest_at l.0) (sym r) ∙ a in absurd cc) behind.before becomes refl)
+  -- the new stretch is the only last one of its replica
+  pub begun_first : IsBehindAll l key → (ls : List (ℕ × Latest V)) → LatestBecomes l.0 ls key.replica (Some (key.counter, run.1)) → Adds nth reaches l (ls, l.1) run
+  begun_first behind ls becomes =
+      added nth reaches l are run comes (ls, l.1)
+      (sets_latest l (ls, l.1) are.laid run
+      (λ x a r. let own : Latest V = (x.0.counter, x.1) in let both : None ≡ Some own = sym behind.none ∙ ap (latest_at l.0) (sym r) ∙ a in absurd cc) behind.before becomes refl)
 
-    -- before the last one of its replica
-    pub begun_kept : NoLatestUpTo l.0 key → (es : List (Entry V)) → KeptBecomes l.1 es key (Some (record { value = value; last = key.counter })) → Adds nth reaches l (l.0, es) key value
-    begun_kept none es becomes =
-        added nth reaches l (l.0, es) are key value fresh at_start starts
-        (sets_kept l (l.0, es) are.laid (key, record { value = value; last = key.counter }) (λ x a r. none x a (sym r)) becomes refl)
+  -- before the last one of its replica
+  pub begun_kept : NoLatestUpTo l.0 key → (es : List (Entry V)) → KeptBecomes l.1 es key (Some run.1) → Adds nth reaches l (l.0, es) run
+  begun_kept none es becomes = added nth reaches l are run comes (l.0, es) (sets_kept l (l.0, es) are.laid run (λ x a r. none x a (sym r)) becomes refl)
 
-    -- and behind it
-    pub begun_behind : (e : Entry V) → IsLatestUpTo l.0 key e → (ls : List (ℕ × Latest V)) (es : List (Entry V))
-        → LatestBecomes l.0 ls key.replica (Some (key.counter, record { value = value; last = key.counter })) → KeptBecomes l.1 es e.0 (Some e.1) → Adds nth reaches l (ls, es) key value
-    begun_behind e is ls es becomes keeps =
-        added nth reaches l (ls, es) are key value fresh at_start starts
-        (sets_behind l (ls, es) are.laid e (key, record { value = value; last = key.counter }) is.latest is.replica (begins_before e is) becomes keeps)
+  -- and behind it
+  pub begun_behind : (e : Entry V) → IsLatestUpTo l.0 key e → (ls : List (ℕ × Latest V)) (es : List (Entry V)) → LatestBecomes l.0 ls key.replica (Some (key.counter, run.1))
+      → KeptBecomes l.1 es e.0 (Some e.1) → Adds nth reaches l (ls, es) run
+  begun_behind e is ls es becomes keeps =
+      added nth reaches l are run comes (ls, es) (sets_behind l (ls, es) are.laid e run is.latest is.replica (begins_before e is) becomes keeps)
 
   -- the stretch of the identifier before is one that goes on
   goes_from : (joins : (first : Identifier) (v : V) (j : ℕ) → reaches first v j → reaches (id_behind first j) (nth first v j) 1 → reaches first v (j + 1))
@@ -74,7 +78,7 @@ module _ {V : Type 0} (nth : Identifier → V → ℕ → V) (reaches : Identifi
             let rep : e.0.replica ≡ key.replica = w.2.replica ∙ ap (λ (x : Identifier). x.replica) next.at_key in
             let after : next.before.counter + 1 ≡ key.counter = ap (λ (x : Identifier). x.counter) next.at_key in
             let end : e.1.last + 1 ≡ key.counter = elim (cases_le key.counter e.1.last) [
-              | inl i ↦ absurd (not_covered nth reaches l are key fresh e w.1 (record { replica = rep; from = omega arith; to = i }))
+              | inl i ↦ absurd (first_not_in nth reaches l are run comes e w.1 rep (omega arith) i)
               | inr i ↦ omega arith
             ] in
             let steps : ℕ = next.before.counter - e.0.counter in
@@ -115,7 +119,7 @@ module _ {V : Type 0} (nth : Identifier → V → ℕ → V) (reaches : Identifi
                     | inr j ↦
                         let far : e.1.last < f.0.counter = are.apart e f (inr kept) (inr h) (sym r) j in
                         let end : f.0.counter ≤ f.1.last = are.begun f (inr h) in
-                        absurd (not_covered nth reaches l are key fresh f (inr h) (record { replica = i.0; from = low; to = omega arith }))
+                        absurd (first_not_in nth reaches l are run comes f (inr h) i.0 low (omega arith))
                   ]
             ];
       }
@@ -151,8 +155,8 @@ module _ {V : Type 0} (nth : Identifier → V → ℕ → V) (reaches : Identifi
         ]
 
 -- the map as the longer stretch is written
-pub map_grew : {V : Type 0} (nth : Identifier → V → ℕ → V) (reaches : Identifier → V → ℕ → Type 0) (m n : BTreeMap Identifier (Stretch V)) (key : Identifier) (value : V) (e : Entry V)
-    → KeepsEntry m.entries e → GoesOn nth reaches e key value → (s : Stretch V) → s ≡ (up_to e key.counter).1 → UpdatesBy id_cmp (id_cmp e.0) m n (Some s) → IsOrdered id_cmp n
-    → Grows nth reaches m.entries n.entries key value
-map_grew nth reaches m n key value e kept goes s is u ordered =
-    record { stretch = e; kept = kept; goes_on = goes; becomes = kept_becomes m n e.0 (Some (up_to e key.counter).1) (subst (λ t. UpdatesBy id_cmp (id_cmp e.0) m n (Some t)) is u) ordered }
+pub map_grew : {V : Type 0} (nth : Identifier → V → ℕ → V) (reaches : Identifier → V → ℕ → Type 0) (m n : BTreeMap Identifier (Stretch V)) (run e : Entry V) → KeepsEntry m.entries e
+    → GoesOn nth reaches e run.0 run.1.value → (s : Stretch V) → s ≡ (up_to e run.1.last).1 → UpdatesBy id_cmp (id_cmp e.0) m n (Some s) → IsOrdered id_cmp n
+    → Grows nth reaches m.entries n.entries run
+map_grew nth reaches m n run e kept goes s is u ordered =
+    record { stretch = e; kept = kept; goes_on = goes; becomes = kept_becomes m n e.0 (Some (up_to e run.1.last).1) (subst (λ t. UpdatesBy id_cmp (id_cmp e.0) m n (Some t)) is u) ordered }

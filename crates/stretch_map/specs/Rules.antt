@@ -1,6 +1,7 @@
 -- The rules of the values that stretches have.
-use Rattle.std.specs.Prelude.{◌≡◌, ℕ, ◌+◌, ◌<◌, ◌≤◌, ◌^◌, IfSome, IsNone, IsSome, None, Option, Some}
-use Rattle.fugue_ids.specs.Identifiers.{Identifier}
+use Rattle.std.specs.Prelude.{◌≡◌, ℕ, zero, suc, ◌+◌, ◌<◌, ◌≤◌, ◌^◌, IfSome, IsNone, IsSome, None, Option, Some}
+use Rattle.std.specs.FinMap.{FinMap, insert}
+use Rattle.fugue_ids.specs.Identifiers.{Identifier, id_cmp}
 use Rattle.fugue_ids.specs.Runs.{id_behind, left_behind}
 use Rattle.stretch_map.specs.declared.follows.Position.{Position}
 use Rattle.stretch_map.specs.declared.follows.Typed.{Typed}
@@ -16,6 +17,19 @@ CanBeLater p k = 0 < k → p.at + k < 2 ^ 64
 -- the origins so many steps behind: the identifier before it is the left origin
 abbrev pub typed_behind : Identifier → Typed → ℕ → Typed
 typed_behind first t k = record { left = left_behind t.left first k; right = t.right }
+
+-- none of the first n identifiers from this one on has a value
+abbrev pub AreFree : {V : Type 0} → (Identifier → Option V) → Identifier → ℕ → Type 0
+AreFree value_of first n = (k : ℕ) → k < n → value_of (id_behind first k) ≡ None
+
+-- the rule gives the first n values
+abbrev pub ReachesRun : {V : Type 0} → (Identifier → V → ℕ → Type 0) → Identifier → V → ℕ → Type 0
+ReachesRun reaches first value n = (k : ℕ) → k < n → reaches first value k
+
+-- the map with a value for each of the first n identifiers from this one on, as the rule gives them
+abbrev pub with_run : {V : Type 0} → (Identifier → V → ℕ → V) → Identifier → V → ℕ → FinMap id_cmp V → FinMap id_cmp V
+with_run nth first value zero m = m
+with_run nth first value (suc n) m = insert (with_run nth first value n m) (id_behind first n) (nth first value n)
 
 -- the value is the one that follows that of the identifier before
 pub record IsNext {V : Type 0} (nth : Identifier → V → ℕ → V) (reaches : Identifier → V → ℕ → Type 0) (value_of : Identifier → Option V) (key : Identifier) (value : V) : Type 0 where

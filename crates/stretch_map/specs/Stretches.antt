@@ -36,11 +36,15 @@ pub record IsLaid {V : Type 0} (l : Layout V) : Type 0 where
   pub latest : IsStrictlySortedBy nat_cmp (keys_of l.0)
   pub kept : IsStrictlySortedBy id_cmp (keys_of l.1)
 
+-- q is one of the identifiers from the first to that of the last counter
+pub record IsAmong (first : Identifier) (last : ℕ) (q : Identifier) : Type 0 where
+  pub replica : first.replica ≡ q.replica
+  pub from : first.counter ≤ q.counter
+  pub to : q.counter ≤ last
+
 -- q is one of the identifiers of a stretch
-pub record Covers {V : Type 0} (e : Entry V) (q : Identifier) : Type 0 where
-  pub replica : e.0.replica ≡ q.replica
-  pub from : e.0.counter ≤ q.counter
-  pub to : q.counter ≤ e.1.last
+abbrev pub Covers : {V : Type 0} → Entry V → Identifier → Type 0
+Covers e q = IsAmong e.0 e.1.last q
 
 -- the rule reaches to the end of a stretch
 abbrev pub IsReached : {V : Type 0} → (Identifier → V → ℕ → Type 0) → Entry V → Type 0
@@ -94,7 +98,7 @@ pub record GoesOn {V : Type 0} (nth : Identifier → V → ℕ → V) (reaches :
   pub reached : reaches e.0 e.1.value (key.counter - e.0.counter)
   pub follows : nth e.0 e.1.value (key.counter - e.0.counter) ≡ value
 
--- the stretch has the key as its last identifier too
+-- the stretch as it is where this counter is its last one
 abbrev pub up_to : {V : Type 0} → Entry V → ℕ → Entry V
 up_to e last = (e.0, record { value = e.1.value; last = last })
 
@@ -110,24 +114,39 @@ pub record LatestBecomes {V : Type 0} (ls ks : List (ℕ × Latest V)) (replica 
   pub others : (q : ℕ) → q ≢ replica → latest_at ks q ≡ latest_at ls q
   pub ordered : IsStrictlySortedBy nat_cmp (keys_of ks)
 
--- the kept stretches fs are es, but that one goes on with the value at the key, and has it
-pub record Grows {V : Type 0} (nth : Identifier → V → ℕ → V) (reaches : Identifier → V → ℕ → Type 0) (es fs : List (Entry V)) (key : Identifier) (value : V) : Type 0 where
+-- the identifier of a stretch's last value
+abbrev pub last_id : {V : Type 0} → Entry V → Identifier
+last_id e = record { replica = e.0.replica; counter = e.1.last }
+
+-- none of the identifiers from the first to that of the last counter has a value
+abbrev pub AreFreeTo : {V : Type 0} → (Identifier → V → ℕ → V) → Layout V → Identifier → ℕ → Type 0
+AreFreeTo nth l first last = (q : Identifier) → IsAmong first last q → value_in nth l q ≡ None
+
+-- a stretch may come to these: it is not empty, the rule reaches to its end, and none of its identifiers has a value
+pub record CanCome {V : Type 0} (nth : Identifier → V → ℕ → V) (reaches : Identifier → V → ℕ → Type 0) (l : Layout V) (run : Entry V) : Type 0 where
+  pub begun : run.0.counter ≤ run.1.last
+  pub reached : IsReached reaches run
+  pub free : AreFreeTo nth l run.0 run.1.last
+
+-- the kept stretches fs are es, but that one goes on with the new one, and has its identifiers too
+pub record Grows {V : Type 0} (nth : Identifier → V → ℕ → V) (reaches : Identifier → V → ℕ → Type 0) (es fs : List (Entry V)) (run : Entry V) : Type 0 where
   pub stretch : Entry V
   pub kept : KeepsEntry es stretch
-  pub goes_on : GoesOn nth reaches stretch key value
-  pub becomes : KeptBecomes es fs stretch.0 (Some (up_to stretch key.counter).1)
+  pub goes_on : GoesOn nth reaches stretch run.0 run.1.value
+  pub becomes : KeptBecomes es fs stretch.0 (Some (up_to stretch run.1.last).1)
 
--- k has the value at the key, and else those of l; a stretch ends there
-pub record Adds {V : Type 0} (nth : Identifier → V → ℕ → V) (reaches : Identifier → V → ℕ → Type 0) (l k : Layout V) (key : Identifier) (value : V) : Type 0 where
+-- k has the values of the new stretch, and else those of l; a stretch ends where the new one does
+pub record Adds {V : Type 0} (nth : Identifier → V → ℕ → V) (reaches : Identifier → V → ℕ → Type 0) (l k : Layout V) (run : Entry V) : Type 0 where
   pub are : AreStretches reaches k
-  pub found : (q : Identifier) → value_in nth k q ≡ cond (is_eq (id_cmp q key)) (Some value) (value_in nth l q)
-  pub ends : EndsAt k key
+  pub inside : (q : Identifier) → Covers run q → value_in nth k q ≡ Some (nth run.0 run.1.value (q.counter - run.0.counter))
+  pub outside : (q : Identifier) → (Covers run q → ⊥) → value_in nth k q ≡ value_in nth l q
+  pub ends : EndsAt k (last_id run)
 
--- l becomes k as the value is put at the key: an error leaves all as before, and there is none where the value follows that of the identifier before
-pub record Puts {V T E : Type 0} (nth : Identifier → V → ℕ → V) (reaches : Identifier → V → ℕ → Type 0) (l k : Layout V) (key : Identifier) (value : V) (result : Result T E) : Type 0 where
-  pub ok : OnOk result (Adds nth reaches l k key value)
+-- l becomes k as the new stretch is put: an error leaves all as before, and there is none where its first value follows that of the identifier before
+pub record Puts {V T E : Type 0} (nth : Identifier → V → ℕ → V) (reaches : Identifier → V → ℕ → Type 0) (l k : Layout V) (run : Entry V) (result : Result T E) : Type 0 where
+  pub ok : OnOk result (Adds nth reaches l k run)
   pub err : OnErr result (k ≡ l)
-  pub sure : IsNext nth reaches (value_in nth l) key value → IsOk result
+  pub sure : IsNext nth reaches (value_in nth l) run.0 run.1.value → IsOk result
 
 -- k has the values of l, but none at the key
 pub record Loses {V : Type 0} (nth : Identifier → V → ℕ → V) (reaches : Identifier → V → ℕ → Type 0) (l k : Layout V) (key : Identifier) : Type 0 where

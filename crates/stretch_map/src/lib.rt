@@ -3,6 +3,7 @@
 #![tactic(auto)]
 
 mod follows;
+mod free;
 mod greatest;
 mod latest;
 mod map;

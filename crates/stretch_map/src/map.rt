@@ -1,13 +1,16 @@
-ghost use Rattle.std.specs.Prelude.{◌≡◌, ◌⊎◌, ◌<◌, None, Some, IfOk, IsOk, OnErr, OnOk};
+ghost use Rattle.std.specs.Prelude.{◌≡◌, ◌⊎◌, ◌↔◌, ◌<◌, ◌≤◌, ◌+◌, ◌-◌, ◌^◌, None, Some, IfOk, IsOk, IsTrue, OnErr};
+ghost use Rattle.std.specs.Prelude.{OnOk};
 ghost use Rattle.std.specs.FinMap as map;
-ghost use Rattle.stretch_map.specs.Rules.{IsFollowed, IsGreatestIn, IsNext};
+ghost use Rattle.fugue_ids.specs.Runs.{id_behind};
+ghost use Rattle.stretch_map.specs.Rules.{AreFree, IsFollowed, IsGreatestIn, IsNext, ReachesRun, with_run};
 
 use crate::follows::Follows;
+use crate::free::is_free;
 use crate::greatest::greatest;
 use crate::latest::LatestMap;
 use crate::put::put;
 use crate::read::value_at;
-use crate::stretches::Stretches;
+use crate::stretches::{Stretch, Stretches};
 use crate::take_out::take_out;
 use fugue_ids::{ElementId, NoMemory};
 use std::alloc::Global;
@@ -79,6 +82,17 @@ impl<V: Follows> StretchMap<V> {
         greatest(&self.stretches, replica)
     }
 
+    /// Whether none of so many identifiers, from this one on, has a value.
+    pub fn is_free(&self, first: ElementId, count: u32) -> bool
+        requires { first.counter + count ≤ 2 ^ 32 }
+        ensures { IsTrue result ↔ AreFree (map.get self.now.values) first count }
+    {
+        if count == 0 {
+            return true;
+        }
+        is_free(&self.stretches, first, first.counter + (count - 1))
+    }
+
     /// A value for an identifier that has none. No memory is wanted where the value follows that of the identifier
     /// before.
     pub fn insert(&mut self, key: ElementId, value: V) -> Result<(), NoMemory>
@@ -88,8 +102,29 @@ impl<V: Follows> StretchMap<V> {
         ensures err { OnErr result (self.new ≡ self.old) }
         ensures sure { IsNext V.nth V.reaches (map.get self.old.values) key value → IsOk result }
     {
-        put(&mut self.stretches, key, value)?;
-        self.newest = Some(key);
+        self.insert_run(key, 1, value)
+    }
+
+    /// A value for each of so many identifiers, from the first on, which have none: the rule gives them from the first
+    /// one's. This is one entry. No memory is wanted where the first value follows that of the identifier before.
+    pub fn insert_run(&mut self, first: ElementId, count: u32, value: V) -> Result<(), NoMemory>
+        requires some { 0 < count }
+        requires counters { first.counter + count ≤ 2 ^ 32 }
+        requires reached { ReachesRun V.reaches first value count }
+        requires free { AreFree (map.get self.old.values) first count }
+        ensures ok { OnOk result (self.new ≡ record {
+          values = with_run V.nth first value count self.old.values;
+          newest = Some (id_behind first (count - 1));
+        }) }
+        ensures err { OnErr result (self.new ≡ self.old) }
+        ensures sure { IsNext V.nth V.reaches (map.get self.old.values) first value → IsOk result }
+    {
+        let last = first.counter + (count - 1);
+        put(&mut self.stretches, first, Stretch { value, last })?;
+        self.newest = Some(ElementId {
+            replica: first.replica,
+            counter: last,
+        });
         Ok(())
     }
 

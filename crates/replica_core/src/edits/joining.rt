@@ -1,4 +1,4 @@
-//! Operations of an edit, accepted one after another as far as memory lasts.
+//! Operations of an edit: a text is accepted whole, and Deletes one after another as far as memory lasts.
 ghost use Rattle.std.specs.Prelude.{◌≡◌, ◌<◌, ◌≤◌, ◌+◌, ◌^◌, length, IfOk, OnErr, OnOk};
 ghost use Rattle.std.specs.Str.{chars};
 ghost use Rattle.origin_model.specs.edits.Edits.{deletes_of, id_at};
@@ -9,7 +9,14 @@ ghost use Rattle.origin_model.specs.edits.State.{Stands};
 
 use crate::Replica;
 use crate::edits::planning::TextSpot;
-use fugue_ids::{ElementId, NoMemory, Op};
+use fugue_ids::{ElementId, NoMemory, Op, RunStart};
+use std::alloc::Global;
+
+fn scalars_of(alloc: Global, text: &str) -> Result<Vec<char>, NoMemory>
+    ensures { IfOk result (λ scalars. scalars.items ≡ chars text.now) }
+{
+    Ok(text.chars().collect(alloc)?)
+}
 
 impl Replica {
     /// The replica's own identifier with the counter.
@@ -24,7 +31,8 @@ impl Replica {
         }
     }
 
-    /// Types a text, each scalar behind the one before it. The answer is how many there are.
+    /// Types a text, each scalar behind the one before it: all of it, or none after want of memory. The answer is how many
+    /// there are.
     pub(crate) fn type_text(&mut self, spot: TextSpot, text: &str) -> Result<u32, NoMemory>
         requires stands { Stands self.old }
         requires can_join { CanJoin self.old (typed_at self.old.number spot (chars text.now)) }
@@ -36,21 +44,17 @@ impl Replica {
         ensures settled { IsSettled self.new.held }
         ensures stands { Stands self.new }
     {
-        let spot = &spot;
-        let mut left = spot.left;
-        let mut counter = spot.counter;
-        'typed: for ch in text.chars() {
-            let id = self.own_id(counter);
-            self.join(Op::Text {
-                id,
-                section: spot.section,
-                left,
-                right: spot.right,
-                ch,
-            })?;
-            left = Some(id);
-            counter += 1;
+        if spot.count == 0 {
+            return Ok(0);
         }
+        let letters = scalars_of(self.alloc, text)?;
+        let start = RunStart {
+            id: self.own_id(spot.counter),
+            section: spot.section,
+            left: spot.left,
+            right: spot.right,
+        };
+        self.join_run(&start, letters.as_slice())?;
         Ok(spot.count)
     }
 

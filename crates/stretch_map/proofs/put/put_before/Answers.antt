@@ -7,8 +7,8 @@ use Rattle.stretch_map.proofs.put.put_before.Goals as goal
 
 pub returns-then-extend_kept : goal.returns-then-extend_kept
 returns-then-extend_kept g c = record {
-  ok = kept_grew g.V.Follows.nth g.V.Follows.reaches (layout c.args.stretches.now) c.requires.are c.args.key c.args.value c.requires.fresh c.extend_kept.new.kept.entries
-      (c.if-extend_kept.ensures.on refl);
+  ok = kept_grew g.V.Follows.nth g.V.Follows.reaches (layout c.args.stretches.now) c.requires.are (c.args.key, c.args.run) c.requires.comes g.met.V.Follows.joins g.met.V.Follows.adds
+      g.met.V.Follows.goes_on c.extend_kept.new.kept.entries (c.if-extend_kept.ensures.on refl);
   err = tt;
   sure = λ next. refl;
 }
@@ -21,10 +21,10 @@ returns g c =
     let new = layout c.begin.new.stretches in
     let same : (old.latest.by_replica.entries, c.extend_kept.new.kept.entries) ≡ layout old = λ i. (old.latest.by_replica.entries, c.if-extend_kept.ensures.off refl i) in
     record {
-      ok = subst (λ (l : Layout g.row.V.Denot). OnOk c.begin.result (Adds nth reaches l new c.args.key c.args.value)) same c.begin.ensures.ok;
+      ok = subst (λ (l : Layout g.row.V.Denot). OnOk c.begin.result (Adds nth reaches l new (c.args.key, c.args.run))) same c.begin.ensures.ok;
       err = subst (λ (l : Layout g.row.V.Denot). OnErr c.begin.result (new ≡ l)) same c.begin.ensures.err;
       sure = λ next.
           absurd
-          (not_next_before nth reaches (layout old) c.requires.are c.args.key c.args.value c.requires.fresh g.met.V.Follows.joins g.met.V.Follows.adds c.requires.before (c.if-extend_kept.ensures.goes_not refl)
-          next);
+          (not_next_before nth reaches (layout old) c.requires.are (c.args.key, c.args.run) c.requires.comes g.met.V.Follows.joins g.met.V.Follows.adds c.requires.before
+          (c.if-extend_kept.ensures.goes_not refl) next);
     }

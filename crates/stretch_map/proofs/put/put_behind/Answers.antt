@@ -1,11 +1,8 @@
-use Rattle.std.proofs.Common.{inl, refl, subst}
-use Rattle.std.specs.Prelude.{Some}
+use Rattle.std.proofs.Common.{inl, refl}
 use Rattle.std.proofs.lemmas.Result.{err_from_is_err_and}
-use Rattle.fugue_ids.specs.Identifiers.{Identifier}
 use Rattle.stretch_map.proofs.KeptLemmas.{kept_becomes}
 use Rattle.stretch_map.proofs.PutLemmas.{begun_behind, latest_grew, not_next_behind}
 use Rattle.stretch_map.specs.Contents.{layout}
-use Rattle.stretch_map.specs.Stretches.{LatestBecomes}
 use Rattle.stretch_map.proofs.put.put_behind.Goals as goal
 
 pub longer-requires : goal.longer-requires
@@ -13,8 +10,9 @@ longer-requires g c = c.requires.are.begun _ (inl c.requires.behind.latest)
 
 pub returns-in-Some : goal.returns-in-Some
 returns-in-Some g c = record {
-  ok = latest_grew g.V.Follows.nth g.V.Follows.reaches (layout c.args.stretches.now) c.requires.are c.args.key c.args.value c.requires.fresh (c.args.first, c.args.stretch.now)
-      c.requires.behind.latest c.in-Some.ensures.some.0 c.in-Some.longer c.in-Some.ensures.some.1 c.replace.new.self.by_replica.entries c.replace.ensures;
+  ok = latest_grew g.V.Follows.nth g.V.Follows.reaches (layout c.args.stretches.now) c.requires.are (c.args.key, c.args.run) c.requires.comes g.met.V.Follows.joins g.met.V.Follows.adds
+      g.met.V.Follows.goes_on (c.args.first, c.args.stretch.now) c.requires.behind.latest c.in-Some.ensures.some.0 c.in-Some.longer c.in-Some.ensures.some.1
+      c.replace.new.self.by_replica.entries c.replace.ensures;
   err = tt;
   sure = λ next. refl;
 }
@@ -27,19 +25,16 @@ returns-in_err-insert g c =
       err = λ i. (c.args.stretches.now.latest.by_replica.entries, c.in_err-insert.ensures.err i);
       sure = λ next.
           absurd
-          (not_next_behind g.V.Follows.nth g.V.Follows.reaches (layout c.args.stretches.now) c.requires.are c.args.key c.args.value c.requires.fresh g.met.V.Follows.joins g.met.V.Follows.adds
+          (not_next_behind g.V.Follows.nth g.V.Follows.reaches (layout c.args.stretches.now) c.requires.are (c.args.key, c.args.run) c.requires.comes g.met.V.Follows.joins g.met.V.Follows.adds
           (c.args.first, c.args.stretch.now) c.requires.behind c.in_default.ensures.none next);
     })
 
 pub returns : goal.returns
 returns g c =
     let old = c.args.stretches.now in
-    let new = c.replace-2.new.self.by_replica in
     record {
-      ok = begun_behind g.V.Follows.nth g.V.Follows.reaches (layout old) c.requires.are c.args.key c.args.value c.requires.fresh g.met.V.Follows.at_start g.met.V.Follows.starts
-          (c.args.first, c.args.stretch.now) c.requires.behind new.entries c.insert.new.self.entries
-          (subst (λ (k : Identifier). LatestBecomes old.latest.by_replica.entries new.entries c.args.key.replica (Some (c.args.key.counter, record { value = c.args.value; last = k.counter }))) c.key.view_is
-          c.replace-2.ensures)
+      ok = begun_behind g.V.Follows.nth g.V.Follows.reaches (layout old) c.requires.are (c.args.key, c.args.run) c.requires.comes (c.args.first, c.args.stretch.now) c.requires.behind
+          c.replace-2.new.self.by_replica.entries c.insert.new.self.entries c.replace-2.ensures
           (kept_becomes old.kept c.insert.new.self c.args.first _ c.in_ok-insert.ensures.updates c.in_ok-insert.ensures.ordered);
       err = tt;
       sure = λ next. refl;

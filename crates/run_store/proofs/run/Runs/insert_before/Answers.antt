@@ -1,11 +1,11 @@
 use Rattle.std.proofs.Common.{ap, arith, length, refl, subst, sym, true, ℕ, ◌+◌, ◌∙◌, ◌≡◌}
 use Rattle.std.specs.Prelude.{OnOk, Option}
-use Rattle.std.specs.List.{insert}
 use Rattle.std.proofs.lemmas.Bool.{false≢true}
 use Rattle.fugue_ids.specs.Listed.{index_of}
 use Rattle.run_store.specs.Cells.{cell_ids}
 use Rattle.run_store.specs.Changes.{MakesCells}
-use Rattle.run_store.specs.Heads.{lettered}
+use Rattle.run_store.specs.Growth.{inserted_at}
+use Rattle.run_store.specs.Heads.{typed_cells}
 use Rattle.run_store.specs.NewCells.{cell_before, is_continued}
 use Rattle.run_store.specs.Runs.{cells_in}
 use Rattle.run_store.specs.Stored.{IsRaised}
@@ -27,7 +27,7 @@ pub returns-in-Some-clause-makes : goal.returns-in-Some-clause-makes
 returns-in-Some-clause-makes c =
     let cs = cells_in c.args.self.now in
     let b = is-behind cs c.requires.sound.distinct c.args.next c.requires.held c.in-Some.behind c.in-Some.ensures in
-    subst (λ (n : ℕ). MakesCells c.insert_behind.result c.args.self.now c.insert_behind.new.self (insert cs n (lettered c.args.head.now c.args.ch))) (sym b.index) c.insert_behind.ensures.makes
+    subst (λ (n : ℕ). MakesCells c.insert_behind.result c.args.self.now c.insert_behind.new.self (inserted_at n (typed_cells c.args.head.now c.args.text.now) cs)) (sym b.index) c.insert_behind.ensures.makes
 
 pub returns-in-None-clause-makes : goal.returns-in-None-clause-makes
 returns-in-None-clause-makes c =

@@ -1,8 +1,8 @@
 use Rattle.std.proofs.Common.{List, ap, arith, length, subst, ◌+◌, ◌-◌, ◌∙◌, ◌≡◌}
 use Rattle.std.specs.Prelude.{OnOk}
 use Rattle.fugue_ids.specs.Identifiers.{Identifier}
-use Rattle.run_store.specs.Growth.{cell_inserted_behind, last_id_of_run}
-use Rattle.run_store.specs.Heads.{head_behind, lettered}
+use Rattle.run_store.specs.Growth.{cells_inserted_behind, last_id_of_run}
+use Rattle.run_store.specs.Heads.{head_behind, typed_cells}
 use Rattle.run_store.specs.Runs.{cells_in, first_of}
 use Rattle.run_store.specs.Stored.{IsRaised}
 use Rattle.run_store.specs.declared.cell.Cell.{Cell}
@@ -31,7 +31,7 @@ returns c =
     let n = length old.rope in
     record {
       sound = begun.sound;
-      ok = subst (λ (p : Identifier × List Cell). OnOk c.begin.result (cells_in new ≡ cell_inserted_behind p.0 (lettered c.args.head.now c.args.ch) p.1)) (λ i. (id i, cut.cells i)) begun.ok;
+      ok = subst (λ (p : Identifier × List Cell). OnOk c.begin.result (cells_in new ≡ cells_inserted_behind p.0 (typed_cells c.args.head.now c.args.text.now) p.1)) (λ i. (id i, cut.cells i)) begun.ok;
       err = where-err (λ (r : Runs). cells_in r ≡ cells_in old) c.begin.result parted new begun.err cut.cells;
       raised = on-ok c.begin.result (length new.rope ≡ length parted.rope + 1) (IsRaised 2 n (length new.rope))
           (λ more. raised-twice 1 1 n (length parted.rope) (length new.rope) cut.raised (one-raised (length parted.rope) (length new.rope) more)) begun.raised;
