@@ -19,8 +19,10 @@ use Rattle.origin_model.specs.edits.Refusal.{made_by, refusal_message}
 use Rattle.origin_model.specs.edits.Effect.{Lands, with_ops}
 use Rattle.origin_model.specs.edits.Noting.{ShowsAsBefore, note_by, note_refusal}
 use Rattle.origin_model.specs.declared.edit_fault.EditFault.{EditFault}
-use Rattle.origin_model.proofs.edits.NotedLemmas.{noted_ready, noted_shows, unchanged_shows}
+use Rattle.origin_model.proofs.edits.FreshIdLemmas.{IsUnknown}
+use Rattle.origin_model.proofs.edits.NotedLemmas.{noted_ready, noted_shows, noted_unknown, unchanged_shows}
 use Rattle.origin_model.proofs.edits.RefusalLemmas.{edit_lands, made_ready}
+use Rattle.origin_model.proofs.edits.UndecidedLemmas.{made_unknown}
 use Rattle.list_spec.specs.Worlds.{annotated, edited, effect, note_effect}
 use Rattle.list_spec.proofs.PoolLemmas.{IsBy}
 
@@ -66,14 +68,19 @@ note_of s named code body b o = elim o [ None ↦ if b then note_by s named code
 pub record IsEffect (s : State) (ops : List Op) : Type 0 where
   pub ready : ReadyInTurn s.held.history ops
   pub by : All (IsBy s.number) ops
+  pub unknown : All (IsUnknown s.held.waiting) ops
 
 pub effect_is : (command : Command) (s : State) → Lawful s.held.history → IsEffect s (effect s command)
 effect_is command s w = by_refusal (refusal_message s command) refl
   where
     by_refusal : (o : Option EditFault) → refusal_message s command ≡ o → IsEffect s (effect s command)
     by_refusal None e =
-        subst (IsEffect s) (sym (made_whole command s e)) (record { ready = made_ready command s w e; by = made_are_by s.number s.held.history s.held.waiting command })
-    by_refusal (Some fault) e = subst (IsEffect s) (sym (made_none command s fault e)) (record { ready = tt; by = All-nil (IsBy s.number) })
+        subst (IsEffect s) (sym (made_whole command s e)) (record {
+          ready = made_ready command s w e;
+          by = made_are_by s.number s.held.history s.held.waiting command;
+          unknown = made_unknown s.number s.held.history s.held.waiting command;
+        })
+    by_refusal (Some fault) e = subst (IsEffect s) (sym (made_none command s fault e)) (record { ready = tt; by = All-nil (IsBy s.number); unknown = All-nil (IsUnknown s.held.waiting) })
 
 -- an edit that is not refused lands where it was asked
 pub lands : (command : Command) (s : State) → Lawful s.held.history → refusal_message s command ≡ None → Lands s (edited command s) command
@@ -101,7 +108,7 @@ pub note_effect_is : (named : List Identifier) (code : ℕ) (body : List ℕ) (s
 note_effect_is named code body s w = by_refusal (note_refusal s) refl
   where
     none : IsEffect s []
-    none = record { ready = tt; by = All-nil (IsBy s.number) }
+    none = record { ready = tt; by = All-nil (IsBy s.number); unknown = All-nil (IsUnknown s.held.waiting) }
 
     by_refusal : (o : Option EditFault) → note_refusal s ≡ o → IsEffect s (note_effect s named code body)
     by_refusal (Some fault) e = subst (IsEffect s) (sym (note_refused named code body s fault e)) none
@@ -110,6 +117,7 @@ note_effect_is named code body s w = by_refusal (note_refusal s) refl
           | inl t ↦ subst (IsEffect s) (sym (note_whole named code body s e t)) (record {
             ready = (noted_ready s.number s.held.history s.held.waiting named code body w (AllPass-from_list_all (holds s.held.history) named t), tt);
             by = All-cons (IsBy s.number) (note_by s named code body) [] refl (All-nil (IsBy s.number));
+            unknown = All-cons (IsUnknown s.held.waiting) (note_by s named code body) [] (noted_unknown s.number s.held.history s.held.waiting named code body) (All-nil (IsUnknown s.held.waiting));
           })
           | inr f ↦ subst (IsEffect s) (sym (note_lacking named code body s f)) none
         ]

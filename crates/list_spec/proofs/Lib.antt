@@ -4,6 +4,7 @@ pub mod EffectLemmas
 pub mod WorldLemmas
 pub mod CallLemmas
 pub mod ListLawLemmas
+pub mod AgreementLemmas
 mod Examples
 mod NotingExamples
 mod PassageExamples

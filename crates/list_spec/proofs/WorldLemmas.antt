@@ -28,24 +28,24 @@ pub record IsMember (pool : List Op) (s : State) : Type 0 where
   pub own : HoldsOwn s.number s.held.history pool
 
 -- the number is another one
-abbrev HasOther : ℕ → State → Type 0
+abbrev pub HasOther : ℕ → State → Type 0
 HasOther n s = s.number ≢ n
 
 abbrev AreDistinct : List State → Type 0
 AreDistinct replicas = AllPairs (λ m n. m ≢ n) (numbers replicas)
 
 -- the replica with the number, among the others
-record IsAt (n : ℕ) (replicas : List State) : Type 0 where
-  front : List State
-  it : State
-  back : List State
-  whole : replicas ≡ front ++ it ∷ back
-  number : it.number ≡ n
-  before : All (HasOther n) front
-  behind : All (HasOther n) back
+pub record IsAt (n : ℕ) (replicas : List State) : Type 0 where
+  pub front : List State
+  pub it : State
+  pub back : List State
+  pub whole : replicas ≡ front ++ it ∷ back
+  pub number : it.number ≡ n
+  pub before : All (HasOther n) front
+  pub behind : All (HasOther n) back
 
 -- there is one at most
-find_at : (n : ℕ) (replicas : List State) → AreDistinct replicas → All (HasOther n) replicas ⊎ IsAt n replicas
+pub find_at : (n : ℕ) (replicas : List State) → AreDistinct replicas → All (HasOther n) replicas ⊎ IsAt n replicas
 find_at n [] d = inl (All-nil (HasOther n))
 find_at n (s ∷ ss) d =
     elim (cases_Bool (nat_eq s.number n)) [
@@ -60,22 +60,22 @@ find_at n (s ∷ ss) d =
     ]
 
 -- where no replica has the number, none changes and nothing is made
-none_changes : (n : ℕ) (f : State → State) (ss : List State) → All (HasOther n) ss → changed n f ss ≡ ss
+pub none_changes : (n : ℕ) (f : State → State) (ss : List State) → All (HasOther n) ss → changed n f ss ≡ ss
 none_changes n f [] a = refl
 none_changes n f (s ∷ ss) a = λ i. (if ne_eqb s.number n (All-head (HasOther n) s ss a) i then f s else s) ∷ none_changes n f ss (All-tail (HasOther n) s ss a) i
 
-none_makes : (n : ℕ) (makes : State → List Op) (ss : List State) → All (HasOther n) ss → made_at n makes ss ≡ []
+pub none_makes : (n : ℕ) (makes : State → List Op) (ss : List State) → All (HasOther n) ss → made_at n makes ss ≡ []
 none_makes n makes [] a = refl
 none_makes n makes (s ∷ ss) a = λ i. (if ne_eqb s.number n (All-head (HasOther n) s ss a) i then makes s else []) ++ none_makes n makes ss (All-tail (HasOther n) s ss a) i
 
 -- otherwise that one changes
-one_changes : (n : ℕ) (f : State → State) (ss : List State) (k : IsAt n ss) → changed n f ss ≡ k.front ++ f k.it ∷ k.back
+pub one_changes : (n : ℕ) (f : State → State) (ss : List State) (k : IsAt n ss) → changed n f ss ≡ k.front ++ f k.it ∷ k.back
 one_changes n f ss k =
     let g : State → State = λ s. if nat_eq s.number n then f s else s in
     ap (map g) k.whole ∙ map-append g k.front (k.it ∷ k.back)
     ∙ (λ i. none_changes n f k.front k.before i ++ (if eq-eqb k.it.number n k.number i then f k.it else k.it) ∷ none_changes n f k.back k.behind i)
 
-one_makes : (n : ℕ) (makes : State → List Op) (ss : List State) (k : IsAt n ss) → made_at n makes ss ≡ makes k.it
+pub one_makes : (n : ℕ) (makes : State → List Op) (ss : List State) (k : IsAt n ss) → made_at n makes ss ≡ makes k.it
 one_makes n makes ss k =
     let g : State → List Op = λ s. if nat_eq s.number n then makes s else [] in
     let at : flat_map g (k.it ∷ k.back) ≡ makes k.it =
@@ -217,7 +217,7 @@ world_sound replicas events new =
     (record { lawful = tt; distinct = new.distinct; members = All-weaker (λ (s : State). s.held ≡ nothing_held) (IsMember []) (λ s e. empty_member s e) replicas new.empty })
 
 -- no event takes from the pool
-event_keeps : (w : World) (event : Event) → IsPartOf w.pool (after_event w event).pool
+pub event_keeps : (w : World) (event : Event) → IsPartOf w.pool (after_event w event).pool
 event_keeps w (Edit n command) x k = pool_keeps w.pool (made_at n (λ (s : State). effect s command) w.replicas) x k
 event_keeps w (Noting n named code body) x k = pool_keeps w.pool (made_at n (λ (s : State). note_effect s named code body) w.replicas) x k
 event_keeps w (Deliver n op) x k =

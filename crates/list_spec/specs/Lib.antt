@@ -1,3 +1,4 @@
 pub mod Worlds
 pub mod StrongList
 pub mod Calls
+pub mod Agreement

@@ -1,6 +1,7 @@
 //! Each function takes and answers nothing, and its clauses are the law.
 
 ghost use Rattle.origin_model.specs.edits.Passages.{BeforeRight, ByIdentifier, NeverMixed, Together};
+ghost use Rattle.list_spec.specs.Agreement.{AllAgree, HasEverything};
 ghost use Rattle.list_spec.specs.Calls.{CallsAreEdits, CallsAreNotings};
 ghost use Rattle.list_spec.specs.StrongList.{EditsLand, NotingsShowNothing, StrongList};
 
@@ -15,6 +16,15 @@ pub fn strong_list()
     ensures quiet { NotingsShowNothing }
     ensures calls { CallsAreEdits }
     ensures notings { CallsAreNotings }
+{}
+
+/// A replica that made or was delivered each operation that was ever made, and met no limit, has accepted them all; any
+/// two such replicas have the same order, and show and print the same. This is strong eventual consistency.
+///
+/// The replicas begin with nothing and have distinct numbers. It is not promised that anything is ever delivered.
+pub fn all_agree()
+    ensures everything { HasEverything }
+    ensures agree { AllAgree }
 {}
 
 /// An element and all elements whose chains of left origins pass it stand without a gap, the element first, in every

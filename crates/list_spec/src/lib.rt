@@ -4,4 +4,4 @@
 
 mod laws;
 
-pub use laws::{before_right, by_identifier, never_mixed, strong_list, together};
+pub use laws::{all_agree, before_right, by_identifier, never_mixed, strong_list, together};

@@ -14,7 +14,7 @@ use fugue_ids::{
 };
 
 /// The most Texts of a run.
-pub(crate) const LONGEST_RUN: usize = 1_024;
+pub const LONGEST_RUN: usize = 1_024;
 
 /// The longest part of a run's frame before its scalars: its kind, two identifiers, both origins, and the number of the
 /// scalars.

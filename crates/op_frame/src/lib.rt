@@ -29,7 +29,7 @@ mod title;
 mod unread;
 
 pub use decoding::decode;
-pub use encoding::{LONGEST_FRAME, encode};
+pub use encoding::{LONGEST_FRAME, LONGEST_RUN, encode};
 pub use encodings::encode_all;
 pub use fault::FrameFault;
 pub use first::{First, first_frame};

@@ -5,9 +5,10 @@ pub use Rattle.origin_model.proofs.operations.LookupLemmas.{Fits, IsHeld, all_fi
 pub use Rattle.origin_model.proofs.operations.OneLookUpLemmas.{owns}
 pub use Rattle.origin_model.proofs.operations.OwnIdLemmas.{lawful_own, other_ids}
 pub use Rattle.origin_model.proofs.operations.FoundedLemmas.{no_text_before, not_hidden_before, ready_is_new, same_nodes_same_order, section_first, shown_can_go, target_is_shown}
-pub use Rattle.origin_model.proofs.order.OrderLawLemmas.{Within-part, hidden-has, later_ops_keep_order, order_total, parts_keep_order}
+pub use Rattle.origin_model.proofs.order.OrderLawLemmas.{Within-part, hidden-has, later_ops_keep_order, order_by_set, order_total, parts_keep_order}
 pub use Rattle.origin_model.proofs.order.OrderLemmas.{IsIn-held, further, lefts-in, order-none, order-some, order_bounded, right_at_in, rights-in}
-pub use Rattle.origin_model.proofs.order.PositionLemmas.{index_end, origin_before}
+pub use Rattle.origin_model.proofs.order.OrderedListLemmas.{Ordered-agree, same_ordered}
+pub use Rattle.origin_model.proofs.order.PositionLemmas.{index_end, member_lt, origin_before}
 pub use Rattle.origin_model.proofs.order.PrintedLemmas.{section_joins}
 pub use Rattle.origin_model.proofs.sides.DetachedLemmas.{absent_stays, found_without, nodes_stay}
 pub use Rattle.origin_model.proofs.sides.KeyedOrderLemmas.{adjacent, gap_at, gap_found, gap_within, key_found, key_held, keyed_at_gap, keyed_ids, keyed_joins, keys_fit, new_key_slot, order_once, part_bounds, part_least, siblings_fall, slot_held}
@@ -16,10 +17,12 @@ pub use Rattle.origin_model.proofs.sides.NodeHistoryLemmas.{holder-nodes, nodes-
 pub use Rattle.origin_model.proofs.sides.NodeOrderLemmas.{IsByNodes, nodes-none, nodes_listed, order_by_nodes}
 pub use Rattle.origin_model.specs.sides.Slot.{IsPlace}
 pub use Rattle.origin_model.proofs.taking.AcceptedFrontLemmas.{first_accepted}
-pub use Rattle.origin_model.proofs.taking.KeptLemmas.{answers-append, held-append, kept-append, kept-no, kept-yes, kept_suffice, saved_suffice, stays_settled, tally-append}
+pub use Rattle.origin_model.proofs.taking.KeptLemmas.{answers-append, held-append, kept-append, kept-no, kept-yes, kept_suffice, nothing_settled, saved_suffice, stays_settled, tally-append}
 pub use Rattle.origin_model.proofs.taking.RefusedLemmas.{Refused, no_place_left, places-append, places-none, places-one, same_refused, taken_or_refused}
-pub use Rattle.origin_model.proofs.taking.SettlingLemmas.{IsEarliest, earliest-no, earliest-yes, earliest_found, passed_over, settle-settled, within-none, within-some, without}
-pub use Rattle.origin_model.proofs.taking.TakingLemmas.{accepted_is_ready}
+pub use Rattle.origin_model.proofs.taking.SettlingLemmas.{IsEarliest, earliest-no, earliest-yes, earliest_found, passed_over, settle-settled, settles, within-none, within-some, without}
+pub use Rattle.origin_model.proofs.taking.ClosureLawLemmas.{covered_closed, nothing_covers}
+pub use Rattle.origin_model.proofs.taking.ClosureLemmas.{same_closed}
+pub use Rattle.origin_model.proofs.taking.TakingLemmas.{Covers, Covers-same, accept_covers, accepted_is_ready, fold_covers, has-moved}
 pub use Rattle.origin_model.proofs.edits.NextCounterLemmas.{counters-append}
 pub use Rattle.origin_model.proofs.files.AppendLemmas.{Parts, batch_appended, from_parts, new_file_holds, same_to_gate, to_parts, with_batch}
 pub use Rattle.origin_model.proofs.files.BatchLemmas.{batch_of, behind_word, is_batch, length_is, one_grammar, same_batch, word_is}

@@ -1,3 +1,4 @@
 -- The bytes of operations.
 pub mod Frames
 pub mod Framings
+pub mod Joins

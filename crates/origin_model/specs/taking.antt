@@ -1,3 +1,4 @@
 -- Taking operations in.
 pub mod Taking
 pub mod Closure
+pub mod Repeats

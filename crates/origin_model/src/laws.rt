@@ -3,6 +3,9 @@
 ghost use Rattle.origin_model.specs.taking.Closure.{ClosureOfSet, ClosureIsClosed, ClosureBySet, SameSetConverges};
 ghost use Rattle.origin_model.specs.taking.Closure.{ClosureOfUnion, ClosureOfMerge, KeptSuffice, SettlingEnds};
 ghost use Rattle.origin_model.specs.taking.Closure.{StaysSettled, PartsAsOne, SavedSuffice, SelfNamedNeverAccepted};
+ghost use Rattle.origin_model.specs.frames.Joins.{StreamsJoin};
+ghost use Rattle.origin_model.specs.taking.Repeats.{AcceptedIsInClosure, ClosureIsGreatest, ClosureIsMonotone};
+ghost use Rattle.origin_model.specs.taking.Repeats.{QuietPassIsLast, RepeatsChangeNothing, ReplicaIsRebuilt};
 ghost use Rattle.origin_model.specs.edits.Landing.{LandsBehind, LandsBehindLeaf, LandsBehindNewest, LandsBehindOrigin};
 ghost use Rattle.origin_model.specs.edits.RunLaws.{RunLands, RunsGoInWhole, TypedIsRun};
 ghost use Rattle.origin_model.specs.order.Laws.{OrderTotal, LaterOpsKeepOrder, PartsKeepOrder, OrderBySet};
@@ -83,6 +86,32 @@ pub fn closure_of_set()
     ensures same_set { SameSetConverges }
     ensures union { ClosureOfUnion }
     ensures merge { ClosureOfMerge }
+{}
+
+/// Two whole streams, one behind the other, are one: its operations are those of the first and then those of the second.
+///
+/// The second one may be cut short or end in bytes that are no frame. The joined stream then ends so too, as many bytes
+/// further on as the first one has.
+pub fn streams_join()
+    ensures { StreamsJoin }
+{}
+
+/// The closure of a list is the greatest lawful part of it, so it grows with the list, and whatever the limits, nothing
+/// else is accepted.
+///
+/// A list may be taken in again and again. The first time that no answer is TooMany and nothing is accepted, all of the
+/// closure had been accepted before, however few operations may wait.
+pub fn closure_is_greatest()
+    ensures greatest { ClosureIsGreatest }
+    ensures monotone { ClosureIsMonotone }
+    ensures accepted { AcceptedIsInClosure }
+    ensures last { QuietPassIsLast }
+{}
+
+/// What a replica holds may be taken in again: by itself it changes nothing, and from nothing it leads to the same.
+pub fn replicas_are_rebuilt()
+    ensures again { RepeatsChangeNothing }
+    ensures rebuilt { ReplicaIsRebuilt }
 {}
 
 /// The kept operations of a list stand for all of it.

@@ -17,8 +17,9 @@ pub use edit_fault::EditFault;
 pub use files::{LONGEST_BATCH, TAG_UNIT};
 pub use grammar::Grammar;
 pub use laws::{
-    closure_of_set, gap_by_keys, kept_suffice, keys_are_fixed, lands_behind, later_ops_keep_order,
-    order_by_set, order_total, self_named_never_accepted, walk_is_order,
+    closure_is_greatest, closure_of_set, gap_by_keys, kept_suffice, keys_are_fixed, lands_behind,
+    later_ops_keep_order, order_by_set, order_total, replicas_are_rebuilt, runs_go_in_whole,
+    self_named_never_accepted, streams_join, walk_is_order,
 };
 pub use operations::element::{element_of, left_of, right_of};
 pub use operations::lookup::find_holder;

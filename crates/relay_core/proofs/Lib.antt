@@ -1,6 +1,7 @@
 pub mod LogLemmas
 pub mod SessionLemmas
 pub mod JoiningLemmas
+pub mod OpLogLemmas
 pub mod TakingLemmas
 pub mod PieceLemmas
 pub mod KindLemmas

@@ -4,4 +4,5 @@ pub mod Joins
 pub mod Sessions
 pub mod Relays
 pub mod Texts
+pub mod OpLogs
 pub mod Laws

@@ -11,6 +11,6 @@ mod relay;
 mod sessions;
 mod taking;
 
-pub use law::{events_come_once, sessions_by_whole_texts};
+pub use law::{events_come_once, logs_only_grow, sessions_by_whole_texts};
 pub use origin_model::{Event, Reply};
 pub use relay::{MOST_LOGGED, NoMemoryFor, Relay};

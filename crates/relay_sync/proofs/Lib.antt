@@ -8,3 +8,4 @@ pub mod SyncingLemmas
 pub mod OutcomeLemmas
 pub mod HeardLemmas
 pub mod WholeLemmas
+pub mod TwoEndsLemmas

@@ -6,3 +6,4 @@ pub mod Saying
 pub mod FeedFaults
 pub mod Syncing
 pub mod Outcomes
+pub mod TwoEnds

@@ -75,7 +75,7 @@ module _ (R : Identifier → Identifier → Bool) (irrefl : (a : Identifier) →
   in_order o s r w p q l = (λ i. R (sym (at-index_of o s s p) i) (sym (at-index_of o r s q) i)) ∙ w (index_of o s) (index_of o r) s l (contains-below o r q)
 
   -- the indexes of two members are in the order of the members
-  member_lt : (o : List Identifier) (s r : Identifier) → IsOrderedBy R o → Contains o s → Contains o r → nat_lt (index_of o s) (index_of o r) ≡ R s r
+  pub member_lt : (o : List Identifier) (s r : Identifier) → IsOrderedBy R o → Contains o s → Contains o r → nat_lt (index_of o s) (index_of o r) ≡ R s r
   member_lt o s r w p q =
       elim (cases_Bool (nat_lt (index_of o s) (index_of o r))) [
         | inl l ↦ l ∙ sym (in_order o s r w p q (ltb-true _ _ l))

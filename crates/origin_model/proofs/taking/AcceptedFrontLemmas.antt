@@ -4,7 +4,7 @@ use Rattle.origin_model.specs.taking.Taking.{Accepted, Answer, Held, answer, hel
 use Rattle.origin_model.proofs.taking.SettlingLemmas.{earliest_found, within-none, within-some, without}
 
 -- the older history is the end of the newer one
-abbrev EndsIn : List Op → Held → Type 0
+abbrev pub EndsIn : List Op → Held → Type 0
 EndsIn h s = (more : List Op) × (s.history ≡ more ++ h)
 
 -- one step of settling keeps it
@@ -23,7 +23,7 @@ steps h (o ∷ room) s e =
       | inr k ↦ subst (EndsIn h) (sym (within-some o room s k.0 k.1)) (steps h room (without s k.0) (leaves h s k.0 e))
     ]
 
-settling : (h : List Op) (s : Held) → EndsIn h s → EndsIn h (settle s)
+pub settling : (h : List Op) (s : Held) → EndsIn h s → EndsIn h (settle s)
 unfolding settle
 settling h s e = steps h s.waiting s e
 
@@ -32,7 +32,7 @@ answering h Accepted s op e = (op ∷ e.0, ap (λ l. op ∷ l) e.1)
 answering h _ s op e = e
 
 -- what was accepted stays at the end of the history
-hears_on : (hold most : ℕ) (h : List Op) (s : Held) (ops : List Op) → EndsIn h s → EndsIn h (held_from hold most s ops)
+pub hears_on : (hold most : ℕ) (h : List Op) (s : Held) (ops : List Op) → EndsIn h s → EndsIn h (held_from hold most s ops)
 hears_on hold most h s [] e = e
 hears_on hold most h s (op ∷ ops) e =
     hears_on hold most h (intake hold most s op) ops (settling h (taken (answer hold most s op) s op) (answering h (answer hold most s op) s op e))

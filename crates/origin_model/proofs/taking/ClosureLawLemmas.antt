@@ -11,7 +11,7 @@ use Rattle.origin_model.proofs.taking.TakingLemmas.{Covers, fold_covers}
 use Rattle.origin_model.proofs.taking.KeptLemmas.{answers-append, held-append, kept_suffice, nothing_settled, stays_settled}
 
 -- nothing is held at first
-nothing_covers : Covers [] nothing_held
+pub nothing_covers : Covers [] nothing_held
 nothing_covers = record { lawful = tt; history_part = λ x m. m; waiting_part = λ x m. m; decided = λ x m. absurd (false≢true m) }
 
 -- where no limit is met, the state covers the whole list
@@ -21,7 +21,7 @@ held_covers hold most ops k n =
     (fold_covers hold most ops ops [] nothing_held k (λ x m. subst (λ l. has_op l x ≡ true) (append-nil ops) m) nothing_covers n)
 
 -- a settled state that covers a list is closed
-covered_closed : (ops : List Op) (s : Held) → Covers ops s → IsSettled s → IsClosed ops s.history
+pub covered_closed : (ops : List Op) (s : Held) → Covers ops s → IsSettled s → IsClosed ops s.history
 covered_closed ops s c z =
     record {
       lawful = c.lawful;
@@ -42,7 +42,7 @@ pub closure_of_set : ClosureOfSet
 closure_of_set hold most ops k n = same_closed ops (held hold most ops).history (closure ops) k (held_closed hold most ops k n) (closure_is ops)
 
 -- a part of a consistent list is consistent
-consistent_part : (a b : List Op) → IsPartOf a b → Consistent b → Consistent a
+pub consistent_part : (a b : List Op) → IsPartOf a b → Consistent b → Consistent a
 consistent_part a b f k x y i m n = k x y i (f x m) (f y n)
 
 -- lists with the same operations have the same closure
@@ -96,7 +96,7 @@ has-given r x =
     has-append (accepted s.history) s.waiting x ∙ ap (λ t. t || has_op s.waiting x) (has-reverse s.history x)
 
 -- the state of a replica covers what it kept
-state_covers : (r : Taker) → Consistent (kept_by r) → Covers (kept_by r) (taker_state r)
+pub state_covers : (r : Taker) → Consistent (kept_by r) → Covers (kept_by r) (taker_state r)
 state_covers r k =
     let alone = kept_suffice r.hold r.most nothing_held r.ops nothing_settled in
     subst (Covers (kept_by r)) alone.same_state (held_covers r.hold r.most (kept_by r) k alone.within_limits)

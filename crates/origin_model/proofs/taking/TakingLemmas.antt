@@ -17,7 +17,7 @@ pub record Covers (done : List Op) (s : Held) : Type 0 where
   pub decided : (op : Op) → has_op done op ≡ true → has_op s.history op ≡ false → has_op s.waiting op ≡ false → Dead s.history op
 
 -- a list covers what any list with the same operations covers
-Covers-same : (a b : List Op) (s : Held) → SameOps a b → Covers a s → Covers b s
+pub Covers-same : (a b : List Op) (s : Held) → SameOps a b → Covers a s → Covers b s
 Covers-same a b s e c =
     record {
       lawful = c.lawful;
@@ -125,7 +125,7 @@ grow done s op c d =
     }
 
 -- it stays so where a Ready operation is accepted
-accept_covers : (done : List Op) (s : Held) (op : Op) → Covers done s → verdict s.history op ≡ Ready → Covers (op ∷ done) (record { history = op ∷ s.history; waiting = s.waiting })
+pub accept_covers : (done : List Op) (s : Held) (op : Op) → Covers done s → verdict s.history op ≡ Ready → Covers (op ∷ done) (record { history = op ∷ s.history; waiting = s.waiting })
 accept_covers done s op c v =
     let w : Lawful (op ∷ s.history) = (v, c.lawful) in
     record {
@@ -187,7 +187,7 @@ taken_covers hold most all done s op k f m c n =
     ]
 
 -- an operation in front of two lists, or between them
-has-moved : (op : Op) (ops done : List Op) (x : Op) → has_op (ops ++ op ∷ done) x ≡ (op_eq op x || has_op (ops ++ done) x)
+pub has-moved : (op : Op) (ops done : List Op) (x : Op) → has_op (ops ++ op ∷ done) x ≡ (op_eq op x || has_op (ops ++ done) x)
 has-moved op [] done x = refl
 has-moved op (o ∷ ops) done x = ap (λ t. op_eq o x || t) (has-moved op ops done x) ∙ swap_or (op_eq o x) (op_eq op x) (has_op (ops ++ done) x)
 

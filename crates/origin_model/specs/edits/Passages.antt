@@ -1,5 +1,5 @@
 -- How concurrent insertions stand to one another, for every lawful history, honest or not.
-use Rattle.std.specs.Prelude.{◌≡◌, ◌≢◌, ◌⊎◌, Some, true, List, [], ◌∷◌, All}
+use Rattle.std.specs.Prelude.{◌≡◌, ◌≢◌, ◌⊎◌, Bool, Some, true, List, [], ◌∷◌, All}
 use Rattle.fugue_ids.specs.Identifiers.{Identifier, id_lt}
 use Rattle.fugue_ids.specs.declared.op.Op.{Op}
 use Rattle.origin_model.specs.order.Laws.{IsIn}
@@ -7,11 +7,18 @@ use Rattle.origin_model.specs.order.Order.{Passes, before, left_at, lefts, right
 use Rattle.origin_model.specs.operations.Verdict.{Lawful}
 use Rattle.origin_model.specs.declared.operations.Place.{Place}
 
--- an element and all whose chains of left origins pass it stand without a gap, the element first
-pub record StandsTogether (p : Place) (h : List Op) (x : Identifier) : Type 0 where
-  pub first : (e : Identifier) → IsIn p h e → e ≢ x → Passes (lefts h x) (lefts h e) → before p h x e ≡ true
-  pub no_gap : (z e : Identifier) → IsIn p h z → IsIn p h e → Passes (lefts h x) (lefts h e) → before p h x z ≡ true → before p h z e ≡ true
-      → Passes (lefts h x) (lefts h z)
+-- which of two elements stands first
+abbrev pub Relation : Type 0
+Relation = Identifier → Identifier → Bool
+
+-- by a relation, an element and all whose chains of left origins pass it stand without a gap, the element first
+pub record GoTogether (p : Place) (h : List Op) (R : Relation) (x : Identifier) : Type 0 where
+  pub first : (e : Identifier) → IsIn p h e → e ≢ x → Passes (lefts h x) (lefts h e) → R x e ≡ true
+  pub no_gap : (z e : Identifier) → IsIn p h z → IsIn p h e → Passes (lefts h x) (lefts h e) → R x z ≡ true → R z e ≡ true → Passes (lefts h x) (lefts h z)
+
+-- so they stand in the order of their place
+abbrev pub StandsTogether : (p : Place) → (h : List Op) → (x : Identifier) → Type 0
+StandsTogether p h x = GoTogether p h (before p h) x
 
 abbrev pub Together : Type 0
 Together = (p : Place) (h : List Op) (x : Identifier) → Lawful h → IsIn p h x → StandsTogether p h x
@@ -25,10 +32,14 @@ pub record IsOnLeft (p : Place) (h : List Op) (r e : Identifier) : Type 0 where
   pub through : Passes (rights h r) (rights h top)
   pub below : Passes (lefts h top) (lefts h e)
 
--- these stand without a gap directly before r
-pub record StandsBefore (p : Place) (h : List Op) (r : Identifier) : Type 0 where
-  pub last : (e : Identifier) → IsIn p h e → IsOnLeft p h r e → before p h e r ≡ true
-  pub no_gap : (e z : Identifier) → IsIn p h e → IsIn p h z → IsOnLeft p h r e → before p h e z ≡ true → before p h z r ≡ true → IsOnLeft p h r z
+-- by a relation, these stand without a gap directly before r
+pub record GoBefore (p : Place) (h : List Op) (R : Relation) (r : Identifier) : Type 0 where
+  pub last : (e : Identifier) → IsIn p h e → IsOnLeft p h r e → R e r ≡ true
+  pub no_gap : (e z : Identifier) → IsIn p h e → IsIn p h z → IsOnLeft p h r e → R e z ≡ true → R z r ≡ true → IsOnLeft p h r z
+
+-- so they stand in the order of their place
+abbrev pub StandsBefore : (p : Place) → (h : List Op) → (r : Identifier) → Type 0
+StandsBefore p h r = GoBefore p h (before p h) r
 
 abbrev pub BeforeRight : Type 0
 BeforeRight = (p : Place) (h : List Op) (r : Identifier) → Lawful h → IsIn p h r → StandsBefore p h r
