@@ -6,6 +6,7 @@ pub mod ArrangedLemmas
 pub mod MoveLemmas
 pub mod RetitleLemmas
 pub mod SetLemmas
+pub mod KeptOrderLemmas
 pub mod ValidLemmas
 pub mod WinningLemmas
 pub mod LiftingLemmas

@@ -283,4 +283,5 @@ move_lands h id s k j w absent left_over at below =
       stamped = stamped h id s n l r w new left_over later here left_is right_is refl;
       same_shown = same_shown h id s n l r w new left_over later here left_is right_is;
       same_headings = same_heading h id s n l r w new left_over later here left_is right_is;
+      adds = record { claim = m; on = refl; in_front = moves_are h id s n l r w new left_over later here left_is right_is };
     }

@@ -119,6 +119,8 @@ module _ (h : List Op) (id s : Identifier) (title : List ℕ) (w : Lawful h) (ne
         ∙ omega arith;
     same_shown = same_shown;
     same_arranged = λ i. flat_map (λ x. filter (λ s. id_eq (position_by s (winner h s (same_moves i))) x) (same_shown i)) (order catalogue (same_lift i));
+    adds = record { claim = r; on = refl; in_front = retitles_are };
+    same_moves = same_moves;
   }
 
 -- a retitle gives its section the title

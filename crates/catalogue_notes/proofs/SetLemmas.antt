@@ -16,8 +16,8 @@ use Rattle.origin_model.specs.declared.operations.Place.TheVariants.{Catalogue a
 use Rattle.origin_model.specs.declared.operations.Role.TheVariants.{Section as SectionRole}
 use Rattle.origin_model.specs.operations.History.{has_op, holder, holds, is_own}
 use Rattle.origin_model.specs.operations.Verdict.{Lawful, fits, names}
-use Rattle.origin_model.specs.order.Laws.{IsPartOf}
-use Rattle.origin_model.specs.order.Order.{order}
+use Rattle.origin_model.specs.order.Laws.{IsIn, IsPartOf}
+use Rattle.origin_model.specs.order.Order.{before, order}
 use Rattle.origin_model.specs.order.Printed.{is_hidden, scalar_of, shown, title_of}
 use Rattle.origin_model.proofs.SharedLemmas.{Fits, found, has-holder, hidden-has, holder-has, holder-own, order_total, parts_keep_order, Within-part}
 use Rattle.catalogue_notes.specs.Arranged.{arranged, counts, heading, winner}
@@ -130,6 +130,12 @@ has_lifted (e ∷ h) op k =
 pub lifted_order_stays : LiftedOrderStays
 lifted_order_stays a b v w f =
     (parts_keep_order catalogue (lift a) (lift b) (lift_lawful a v) (lift_lawful b w) (part (lift a) (lift b) (lift_lawful a v) (has_lifted a) (lift-within a b v w (Within-part a b w f)))).same_order
+
+-- and two of its elements stand so in the whole as in the part
+pub lifted_before_stays : (a b : List Op) → Lawful a → Lawful b → IsPartOf a b → (x y : Identifier) → IsIn catalogue (lift a) x → IsIn catalogue (lift a) y
+    → before catalogue (lift a) x y ≡ before catalogue (lift b) x y
+lifted_before_stays a b v w f =
+    (parts_keep_order catalogue (lift a) (lift b) (lift_lawful a v) (lift_lawful b w) (part (lift a) (lift b) (lift_lawful a v) (has_lifted a) (lift-within a b v w (Within-part a b w f)))).same_before
 
 -- the same claims are valid, where the tests agree on what is holder
 module _ {V : Type 0} (says : Op → Option (Claim V)) (test : List Op → Claim V → Bool)

@@ -80,6 +80,12 @@ pub record HasWinner {V : Type 0} (h : List Op) (s : Identifier) (cs : List (Cla
 abbrev pub Winners : Type 0
 Winners = (h : List Op) (s : Identifier) → Lawful h → HasWinner h s (moves h) × HasWinner h s (retitles h)
 
+-- one claim came in front of the others, on the section
+pub record AddsOne {V : Type 0} (section : Identifier) (old new : List (Claim V)) : Type 0 where
+  pub claim : Claim V
+  pub on : claim.section ≡ section
+  pub in_front : new ≡ claim ∷ old
+
 -- the move is Ready, and after it member k of the arrangement stands at j, and the others as before; nothing else changed
 pub record IsMoved (h : List Op) (op : Op) (section : Identifier) (k j : ℕ) : Type 0 where
   pub ready : verdict h op ≡ Ready
@@ -87,6 +93,7 @@ pub record IsMoved (h : List Op) (op : Op) (section : Identifier) (k j : ℕ) : 
   pub stamped : stamp (op ∷ h) ≡ stamp h + 1
   pub same_shown : shown catalogue (op ∷ h) ≡ shown catalogue h
   pub same_headings : (t : Identifier) → heading (op ∷ h) t ≡ heading h t
+  pub adds : AddsOne section (moves h) (moves (op ∷ h))
 
 -- a move with a new identifier lands where it was asked, as long as stamps are left
 abbrev pub MoveLands : Type 0
@@ -103,6 +110,8 @@ pub record IsRetitled (h : List Op) (op : Op) (section : Identifier) (title : Li
   pub stamped : stamp (op ∷ h) ≡ stamp h + 1
   pub same_shown : shown catalogue (op ∷ h) ≡ shown catalogue h
   pub same_arranged : arranged (op ∷ h) ≡ arranged h
+  pub adds : AddsOne section (retitles h) (retitles (op ∷ h))
+  pub same_moves : moves (op ∷ h) ≡ moves h
 
 -- a retitle of a Section with a new identifier gives it the title, as long as stamps are left
 abbrev pub RetitleLands : Type 0

@@ -149,6 +149,7 @@ module _ (s : Identifier) (h ops : List Op) (w : Lawful h) (a : AreOfText s h op
     headings = λ t i. elim (same_titler t i) [ None ↦ same_titles ops h t a.kind a.ready i | Some r ↦ r.value ];
     retitled = same_retitles ops h a.kind;
     stamps = λ i. max (greatest (map (λ (m : Move). m.stamp) (same_moves ops h a.kind i))) (greatest (map (λ (r : Retitle). r.stamp) (same_retitles ops h a.kind i)));
+    moved = same_moves ops h a.kind;
   }
 
 -- texts that are typed

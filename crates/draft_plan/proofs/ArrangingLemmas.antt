@@ -15,9 +15,11 @@ use Rattle.catalogue_notes.specs.Arranged.{arranged}
 use Rattle.catalogue_notes.proofs.ArrangedLemmas.{arranged_once, arranged_shown, shown_arranged}
 use Rattle.origin_model.proofs.edits.SplitLemmas.{get_in}
 use Rattle.catalogue_notes.proofs.PartLemmas.{Distinct, get_some, within_length}
+use Rattle.section_plan.specs.Matching.{section_of}
+use Rattle.section_plan.specs.declared.pairs.Pairs.{Pairs}
 use Rattle.section_plan.specs.Orders.{ArePlaced, IsOrder, IsPlaced, moved}
 use Rattle.section_plan.specs.Rises.{IsChosen, IsRise, value_at}
-use Rattle.draft_plan.specs.Arranging.{ArePlaces, IsOrderOf, PutsPlace}
+use Rattle.draft_plan.specs.Arranging.{ArePlacesTo, IsOrderOf, PutsPlace}
 use Rattle.draft_plan.specs.Resizing.{AreDistinct}
 use Rattle.draft_plan.proofs.ResizingLemmas.{places_once}
 use Rattle.draft_plan.proofs.RevisionLemmas.{stands_at}
@@ -41,8 +43,8 @@ order_is ts xs order once once_xs there long is = record {
 }
 
 -- those that were chosen stand in the order of the parts
-pub stays_placed : (order : List ℕ) (places : List (Option ℕ)) (stays : List Bool) → IsOrder order → ArePlaces order places → IsRise places stays → ArePlaced order stays 0
-stays_placed order places stays is at rise a b l m p q =
+pub stays_placed : (order : List ℕ) (pairs : Pairs) (places : List (Option ℕ)) (stays : List Bool) → IsOrder order → ArePlacesTo order pairs (length order) places → IsRise places stays → ArePlaced order stays 0
+stays_placed order pairs places stays is at rise a b l m p q =
     let x = chosen a (omega (arith, m)) p in
     let y = chosen b m q in
     elim (cases_lt (get_or order a 0) (get_or order b 0)) [
@@ -59,7 +61,7 @@ stays_placed order places stays is at rise a b l m p q =
 
     by : (k : ℕ) → k < length order → (o : Option ℕ) → value_at places (get_or order k 0) ≡ o → IsSome (value_at places (get_or order k 0)) → value_at places (get_or order k 0) ≡ Some k
     by k n None e some = let f : false ≡ true = subst IsSome e some in cc
-    by k n (Some x) e some = let there = at.each (get_or order k 0) x e in let same = is.once x k there.0 n there.1 in e ∙ ap Some same
+    by k n (Some x) e some = let there = (at.each (get_or order k 0) x).0 e in let same = is.once x k there.0 n there.1 in e ∙ ap Some same
 
     chosen : (k : ℕ) → k < length order → IsPlaced stays 0 (get_or order k 0) → value_at places (get_or order k 0) ≡ Some k
     chosen k n p = by k n (value_at places (get_or order k 0)) refl (rise.have (get_or order k 0) (stays_of k p))
@@ -163,11 +165,39 @@ order_more ts xs order k r s is at there =
       ];
     })
 
--- one place more
-pub places_more : (order : List ℕ) (old new : List (Option ℕ)) (part place : ℕ) → ArePlaces order old → PutsPlace old new part place → place < length order → get_or order place 0 ≡ part → ArePlaces order new
-places_more order old new part place was put l is = record {
+-- one place more: that of a part that is matched
+pub places_more : (order : List ℕ) (pairs : Pairs) (old new : List (Option ℕ)) (part place : ℕ) → IsOrder order → ArePlacesTo order pairs place old → PutsPlace old new part place → place < length order → get_or order place 0 ≡ part
+    → IsSome (section_of pairs part) → ArePlacesTo order pairs (place + 1) new
+places_more order pairs old new part place is was put l here some = record {
   long = put.long ∙ was.long;
-  each = λ q x e. elim (put.each q x e) [ inl f ↦ was.each q x f | inr f ↦ (subst (λ n. n < length order) (sym f.1) l, ap (λ n. get_or order n 0) f.1 ∙ (is ∙ sym f.0)) ];
+  each = λ q x. elim (cases_eq q part) [
+    | inl e ↦ (
+      (λ v. let same : place ≡ x = same_Some place x (sym (put.here within) ∙ (ap (value_at new) (sym e) ∙ v)) in (omega (arith, same), ap (λ n. get_or order n 0) (sym same) ∙ (here ∙ sym e), subst (λ n. IsSome (section_of pairs n)) (sym e) some)),
+      λ t. let same : x ≡ place = is.once x place (omega (arith, t.0, l)) l (t.1 ∙ (e ∙ sym here)) in ap (value_at new) e ∙ (put.here within ∙ ap Some (sym same)),
+    )
+    | inr ne ↦ (
+      (λ v. let t = (was.each q x).0 (sym (put.others q ne) ∙ v) in (omega (arith, t.0), t.1, t.2)),
+      λ t.
+          let other : x ≢ place = λ d. ne (sym t.1 ∙ (ap (λ n. get_or order n 0) d ∙ here)) in
+          put.others q ne ∙ (was.each q x).1 (omega (arith, t.0, other), t.1, t.2),
+    )
+  ];
+}
+  where
+    within : part < length old
+    within = let w = is.within place l in omega (arith, w, here, was.long)
+
+-- a part that is not matched needs no place
+pub places_same : (order : List ℕ) (pairs : Pairs) (old : List (Option ℕ)) (place : ℕ) → ArePlacesTo order pairs place old → (IsSome (section_of pairs (get_or order place 0)) → ⊥) → ArePlacesTo order pairs (place + 1) old
+places_same order pairs old place was none = record {
+  long = was.long;
+  each = λ q x. (
+    (λ v. let t = (was.each q x).0 v in (omega (arith, t.0), t.1, t.2)),
+    λ t. elim (cases_eq x place) [
+      | inl e ↦ absurd (none (subst (λ n. IsSome (section_of pairs n)) (sym t.1 ∙ ap (λ n. get_or order n 0) e) t.2))
+      | inr ne ↦ (was.each q x).1 (omega (arith, t.0, ne), t.1, t.2)
+    ],
+  );
 }
 
 distinct_from : (xs : List Identifier) → AreDistinct xs → Distinct xs

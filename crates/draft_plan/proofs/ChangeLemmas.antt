@@ -24,13 +24,13 @@ use Rattle.origin_model.proofs.edits.AllowedLemmas.{allowed}
 with_more : (s : State) (xs ys : List Op) → with_ops (with_ops s xs) ys ≡ with_ops s (xs ++ ys)
 with_more s xs ys = ap (λ h. record s { held = record { history = h; waiting = s.held.waiting } }) (sym (extended-append s.held.history xs ys))
 
-gains_join : (old mid new : State) (ops more : List Op) → Gains old mid ops → Gains mid new more → Gains old new (ops ++ more)
+pub gains_join : (old mid new : State) (ops more : List Op) → Gains old mid ops → Gains mid new more → Gains old new (ops ++ more)
 gains_join old mid new ops more first next = record {
   accepted_are = next.accepted_are ∙ ap (λ l. l ++ more) first.accepted_are ∙ append_assoc (accepted old.held.history) ops more;
   others = next.others ∙ ap (λ s. with_ops s more) first.others ∙ with_more old ops more;
 }
 
-gains_none : (s : State) → Gains s s []
+pub gains_none : (s : State) → Gains s s []
 gains_none s = record { accepted_are = sym (append-nil (accepted s.held.history)); others = refl }
 
 -- the operations of changes, and of others on the replica behind them

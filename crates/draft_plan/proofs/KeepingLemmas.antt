@@ -1,7 +1,8 @@
 -- What a revision keeps, by the matching of sections and parts.
-use Rattle.std.proofs.Common.{List, [], ap, arith, inl, inr, length, not, refl, sym, true, ℕ, ◌<◌, ◌∙◌, ◌∷◌, ◌≡◌, ◌≢◌, ◌⊎◌}
+use Rattle.std.proofs.Common.{List, [], ap, arith, false, inl, inr, length, not, refl, sym, true, ℕ, ◌<◌, ◌∙◌, ◌∷◌, ◌≡◌, ◌≢◌, ◌⊎◌}
 use Rattle.std.specs.Prelude.{None, Option, Some, map, option_map, slice_get}
 use Rattle.std.specs.List.{Contains}
+use Rattle.std.specs.Str.{chars}
 use Rattle.std.proofs.lemmas.List.{length-map}
 use Rattle.std.proofs.lemmas.Option.{same_Some, slice_get-get_or, slice_get-map}
 use Rattle.fugue_ids.specs.Identifiers.{Identifier}
@@ -10,23 +11,25 @@ use Rattle.origin_model.specs.operations.Verdict.{Lawful}
 use Rattle.origin_model.proofs.edits.SplitLemmas.{get_in}
 use Rattle.catalogue_notes.specs.Arranged.{arranged}
 use Rattle.catalogue_notes.proofs.PartLemmas.{get_some}
-use Rattle.section_plan.specs.Matching.{is_keyed, is_nothing, key_at, no_part, part_at, part_of, section_of}
+use Rattle.section_plan.specs.Matching.{is_keyed, is_nothing, key_at, no_part, part_at, part_of, section_of, text_at}
+use Rattle.section_plan.specs.Likeness.{alike}
 use Rattle.section_plan.specs.declared.keys.Key.TheVariants.{Text, Title}
 use Rattle.section_plan.specs.declared.pairs.Pairs.{Pairs}
 use Rattle.section_plan.specs.declared.part.Part.{Part as ReadPart}
 use Rattle.draft_plan.specs.Drafts.{Part}
-use Rattle.draft_plan.specs.Keeping.{IsAddedBy, IsDropped, KeepsSections, KeepsText}
+use Rattle.draft_plan.specs.Keeping.{IsAddedBy, IsDropped, KeepsSections, KeepsText, MovesFew}
 use Rattle.draft_plan.specs.Matching.{IsMatched}
 use Rattle.draft_plan.specs.Plain.{arranged_part, arranged_parts}
 use Rattle.draft_plan.specs.Readings.{seen_part}
 use Rattle.draft_plan.specs.Shaping.{StandsAs}
+use Rattle.draft_plan.proofs.FewMovesLemmas.{few_none}
 use Rattle.draft_plan.proofs.RevisionLemmas.{stands_at}
 use Rattle.draft_plan.proofs.ShapeLemmas.{got}
 use Rattle.draft_plan.proofs.TargetLemmas.{matched_within}
 
 -- nothing was changed
 pub keeps_same : (o : List Op) → KeepsSections o o
-keeps_same o = record { texts = λ s t a b e some. inl ((a, a), refl); headings = λ s t d a. absurd (d.1 d.0) }
+keeps_same o = record { texts = λ s t a b e some. inl ((a, a), refl); headings = λ s t d a. absurd (d.1 d.0); alike = λ s t d a. absurd (d.1 d.0); moves = few_none o }
 
 -- the part that a section is seen as
 record IsSeen (ps : List ReadPart) (h : List Op) (k : ℕ) (s : Identifier) : Type 0 where
@@ -86,6 +89,15 @@ module _ (o n : List Op) (parts : List ReadPart) (p : Pairs) (is : IsMatched o p
             inr ((get_in (arranged o) k.0 t was, b), sym (ap (λ (q : Part). q.text) z.seen) ∙ (k.2 ∙ y_text))
       ]
 
+  -- a dropped section is free, and so is the part of an added one
+  free_section : (i : ℕ) (s : Identifier) → IsDropped o n s → slice_get (arranged o) i ≡ Some s → (q : Option ℕ) → part_of p i ≡ q → part_of p i ≡ None
+  free_section i s gone at None f = f
+  free_section i s gone at (Some k) f = absurd (gone.1 (get_in (arranged n) k s (paired i k s ((is.matching.inverse i k).1 f) at)))
+
+  free_part : (j : ℕ) (t : Identifier) → IsAddedBy o n t → slice_get (arranged n) j ≡ Some t → (q : Option ℕ) → section_of p j ≡ q → section_of p j ≡ None
+  free_part j t came at None f = f
+  free_part j t came at (Some k) f = absurd (came.1 (get_in (arranged o) k t (section_there k j t f at)))
+
   headings : (s t : Identifier) → IsDropped o n s → IsAddedBy o n t → (arranged_part o s).title ≢ (arranged_part n t).title
   headings s t gone came e =
       let i = stands_at (arranged o) s gone.0 in
@@ -93,18 +105,21 @@ module _ (o n : List Op) (parts : List ReadPart) (p : Pairs) (is : IsMatched o p
       let x = seen_at is.sections o i.0 s is.sections_are i.1 in
       let y = seen_at parts n j.0 t now j.1 in
       let key : key_at Title is.sections i.0 ≡ key_at Title parts j.0 = ap (λ (q : Part). q.title) x.seen ∙ (e ∙ sym (ap (λ (q : Part). q.title) y.seen)) in
-      is.titles i.0 j.0 x.within y.within (free_section i.0 i.1 (part_of p i.0) refl) (free_part j.0 j.1 (section_of p j.0) refl) refl key
-    where
-      free_section : (i : ℕ) → slice_get (arranged o) i ≡ Some s → (q : Option ℕ) → part_of p i ≡ q → part_of p i ≡ None
-      free_section i at None f = f
-      free_section i at (Some k) f = absurd (gone.1 (get_in (arranged n) k s (paired i k s ((is.matching.inverse i k).1 f) at)))
+      is.titles i.0 j.0 x.within y.within (free_section i.0 s gone i.1 (part_of p i.0) refl) (free_part j.0 t came j.1 (section_of p j.0) refl) refl key
 
-      free_part : (j : ℕ) → slice_get (arranged n) j ≡ Some t → (q : Option ℕ) → section_of p j ≡ q → section_of p j ≡ None
-      free_part j at None f = f
-      free_part j at (Some k) f = absurd (came.1 (get_in (arranged o) k t (section_there k j t f at)))
+  differ : (s t : Identifier) → IsDropped o n s → IsAddedBy o n t → alike (chars (arranged_part o s).text) (chars (arranged_part n t).text) ≡ false
+  differ s t gone came =
+      let i = stands_at (arranged o) s gone.0 in
+      let j = stands_at (arranged n) t came.0 in
+      let x = seen_at is.sections o i.0 s is.sections_are i.1 in
+      let y = seen_at parts n j.0 t now j.1 in
+      let none = is.alike i.0 j.0 x.within y.within (free_section i.0 s gone i.1 (part_of p i.0) refl) (free_part j.0 t came j.1 (section_of p j.0) refl) in
+      ap (λ (q : Part). alike (chars q.text) (chars (arranged_part n t).text)) (sym x.seen)
+      ∙ ap (λ (q : Part). alike (text_at is.sections i.0) (chars q.text)) (sym y.seen)
+      ∙ none
 
-  pub kept_sections : KeepsSections o n
-  kept_sections = record { texts = texts; headings = headings }
+  pub kept_sections : MovesFew o n → KeepsSections o n
+  kept_sections few = record { texts = texts; headings = headings; alike = differ; moves = few }
 
 -- the sections still stand so
 pub stands_still : (o m n : List Op) (p : Pairs) (parts : ℕ) → arranged n ≡ arranged m → StandsAs o m p parts → StandsAs o n p parts

@@ -5,8 +5,10 @@ pub mod FormLemmas
 pub mod PlainLemmas
 pub mod DifferenceLemmas
 pub mod ChangeLemmas
+pub mod NeededLemmas
 pub mod ArrangementLemmas
 pub mod NewLemmas
+pub mod OrderedLemmas
 pub mod TextLemmas
 pub mod HunkLemmas
 pub mod KeptLemmas
@@ -14,6 +16,7 @@ pub mod ReviseLemmas
 pub mod SectionLemmas
 pub mod MakingLemmas
 pub mod ShapeLemmas
+pub mod NeedlessLemmas
 pub mod FillLemmas
 pub mod RevisionLemmas
 pub mod OutlineLemmas
@@ -21,4 +24,10 @@ pub mod ResizingLemmas
 pub mod TargetLemmas
 pub mod ArrangingLemmas
 pub mod KeepingLemmas
+pub mod PassageLemmas
 pub mod ShownLemmas
+pub mod LimitLemmas
+pub mod EditCostLemmas
+pub mod FillCostLemmas
+pub mod RankLemmas
+pub mod FewMovesLemmas

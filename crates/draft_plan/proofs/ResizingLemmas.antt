@@ -54,6 +54,11 @@ left_start h es pairs w o = record {
   only = λ s m. let at = stands_at (entry_sections es) s (subst (λ l. Contains l s) (sym o.listed) (shown_arranged h s w m)) in (at.0, at.1, inl (omega arith));
 }
 
+-- what is left was shown
+pub left_shown : (h : List Op) (es : List Entry) (pairs : Pairs) (place : ℕ) (left : List Identifier) → IsOutline h es → AreLeft (entry_sections es) pairs place left
+    → (s : Identifier) → Contains left s → Contains (shown catalogue h) s
+left_shown h es pairs place left o l s m = let at = l.only s m in arranged_shown h s (subst (λ xs. Contains xs s) o.listed (get_in (entry_sections es) at.0 s at.1))
+
 -- a section that has a part is left
 pub left_stays : (ys : List Identifier) (p : Pairs) (k : ℕ) (xs : List Identifier) → AreLeft ys p k xs → IsSome (part_of p k) → AreLeft ys p (k + 1) xs
 left_stays ys p k xs was some = record {

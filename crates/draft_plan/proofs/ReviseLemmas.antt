@@ -6,7 +6,9 @@ use Rattle.std.proofs.lemmas.Option.{none-some, same_Some}
 use lib.Utf8.{encode}
 use Rattle.std.proofs.lemmas.List.{append-nil, drop_more, take_more}
 use Rattle.std.proofs.lemmas.Str.{encodes-append, encodes-chars, encodes_same}
+use Rattle.std.specs.List.{Contains}
 use Rattle.fugue_ids.specs.Identifiers.{Identifier}
+use Rattle.fugue_ids.specs.declared.op.Op.{Op}
 use Rattle.fugue_ids.specs.declared.limits.TheConstants.{MOST_OPERATIONS}
 use Rattle.origin_model.specs.declared.edit_fault.EditFault.{EditFault}
 use Rattle.origin_model.specs.edits.Edits.{spliced}
@@ -19,11 +21,14 @@ use Rattle.origin_model.proofs.edits.EditedTextLemmas.{text_length}
 use Rattle.text_diff.specs.Hunks.{Transforms, replaced}
 use Rattle.text_diff.specs.Kept.{KeepsLines}
 use Rattle.text_diff.specs.Seams.{KeepsWords}
+use Rattle.text_diff.specs.Tight.{IsTight}
 use Rattle.text_diff.specs.declared.hunk.Hunk.{Hunk}
+use Rattle.draft_plan.specs.Needed.{InText, MakesOnly}
 use Rattle.draft_plan.specs.Revising.{AreHunksMade, IsHunkMade, IsWithinText, elements}
 use Rattle.draft_plan.specs.Texts.{CountsHunks, IsRevised, KeepsCommon, StayBetween, StopsEditing, size}
 use Rattle.draft_plan.proofs.HunkLemmas.{AreOrdered, news_within, ordered_at, replaced_long, replaced_step}
-use Rattle.draft_plan.proofs.KeptLemmas.{same_common, size_more, size_within, stays_more}
+use Rattle.draft_plan.proofs.NeededLemmas.{in_drop, in_take, only_join, only_none, only_weaker, touches_weaker}
+use Rattle.draft_plan.proofs.KeptLemmas.{cut_stays, same_common, size_more, size_within, stays_more}
 use Rattle.draft_plan.proofs.NewLemmas.{new_earlier}
 use Rattle.draft_plan.proofs.TextLemmas.{revised_few, revised_join, revised_none, revised_stops, still_there}
 
@@ -39,6 +44,7 @@ hunks_none s k n hs new t e = (
   subst (λ (h : List Hunk). AreHunksMade s s k t.0 h new 0) (sym e) (record {
     revised = revised_none s k t.0;
     stays = refl;
+    touches = only_none (InText t.0 (elements s t.0)) s;
     count = refl;
   }),
 )
@@ -90,12 +96,18 @@ module _ (old mid : State) (k left made : ℕ) (hs : List Hunk) (new : List ℕ)
       let one : IsHunkMade mid now k x h new n = subst (λ (y : Identifier). IsHunkMade mid now k y h new n) (same_section mid k next.0 x next.1 there) next.2 in
       let reads : spliced (text mid.held.history x) h.old_at h.old_len put ≡ replaced old_text new 0 (h ∷ back) =
       ap (λ r. spliced r h.old_at h.old_len put) done.2.revised.here ∙ replaced_step old_text new ordered.0 h back ordered.1 in
+      let same : take h.old_len (drop h.old_at (elements mid x)) ≡ take h.old_len (drop h.old_at (elements old x)) =
+      cut_stays old.held.history old_text (elements old x) (elements mid x) ordered.0 h back (text_length old.held.history x w) ordered.1 done.2.stays in
+      let wider : (op : Op) → InText x (take h.old_len (drop h.old_at (elements mid x))) op → InText x (elements old x) op =
+      touches_weaker (λ s. s ≡ x) (Contains (take h.old_len (drop h.old_at (elements mid x)))) ⊥ (λ s. s ≡ x) (Contains (elements old x)) ⊥ (λ s e. e)
+      (λ y m. in_drop (elements old x) h.old_at y (in_take (drop h.old_at (elements old x)) h.old_len y (subst (λ l. Contains l y) same m))) (λ n. n) in
       let more : AreHunksMade old now k x (h ∷ back) new (made + n) = record {
         revised = subst (λ (r : List ℕ). IsRevised old now k x r (made + n)) reads
             (revised_join old mid now k x (replaced old_text new 0 back) (spliced (text mid.held.history x) h.old_at h.old_len put) made n done.2.revised one.revised);
         stays = subst (λ (ys : List Identifier). StayBetween old.held.history 0 (elements old x) ys (h ∷ back)) (sym one.shows)
             (stays_more old.held.history old_text (elements old x) (elements mid x) one.come ordered.0 h back (text_length old.held.history x w) ordered.1 one.as_many
             (new_earlier old mid _ done.2.revised.changed.gained one.come one.fresh) done.2.stays);
+        touches = only_join (InText x (elements old x)) old mid now done.2.touches (only_weaker (InText x (take h.old_len (drop h.old_at (elements mid x)))) (InText x (elements old x)) mid now wider one.touches);
         count = omega (arith, done.2.count, one.count, size_more h back);
       } in
       (x, done.1, subst (λ (r : List Hunk). AreHunksMade old now k x r new (made + n)) (sym split) more)
@@ -133,6 +145,10 @@ text_found s k bytes u e =
       is = sym (encodes_same (chars bytes) (text s.held.history found.0) (encodes-chars bytes u ∙ found.2));
     }
 
+-- the text of the section that is there
+pub text_reads : (s : State) (k : ℕ) (bytes : List ℕ) → IsTextAt s k bytes → (x : Identifier) → section_shown s k ≡ Some x → text s.held.history x ≡ chars bytes
+text_reads s k bytes t x e = ap (text s.held.history) (same_section s k x t.section e t.shown) ∙ t.is
+
 -- hunks of that text
 pub text_transforms : (s : State) (k : ℕ) (bytes new : List ℕ) (hs : List Hunk) → IsTextAt s k bytes → Transforms nat_eq (chars bytes) new hs
     → OfSection s k (λ x. Transforms nat_eq (text s.held.history x) new hs)
@@ -153,9 +169,9 @@ module _ (old now : State) (k n : ℕ) (bytes new : List ℕ) (hs : List Hunk) (
   abbrev Counts : (a b : List ℕ) → Type 0
   Counts a b = (kept : KeepsCommon old.held.history a b (elements old r.0) (elements now r.0)) × (n ≡ size kept.hunks)
 
-  pub text_keeps : Transforms nat_eq (chars bytes) new hs → All (KeepsWords (chars bytes) new) hs → (chars bytes ≡ new → hs ≡ []) → KeepsLines (chars bytes) new hs → OfSection old k (λ x. CountsHunks old now x n)
-  text_keeps transforms words unchanged lines =
-      let kept : KeepsCommon old.held.history (chars bytes) new (elements old r.0) (elements now r.0) = record { hunks = hs; transforms = transforms; words = words; unchanged = unchanged; lines = λ other. lines; stays = r.2.stays } in (
+  pub text_keeps : Transforms nat_eq (chars bytes) new hs → All (KeepsWords (chars bytes) new) hs → All (IsTight (chars bytes) new) hs → (chars bytes ≡ new → hs ≡ []) → KeepsLines (chars bytes) new hs → OfSection old k (λ x. CountsHunks old now x n)
+  text_keeps transforms words tight unchanged lines =
+      let kept : KeepsCommon old.held.history (chars bytes) new (elements old r.0) (elements now r.0) = record { hunks = hs; transforms = transforms; words = words; tight = tight; unchanged = unchanged; lines = λ other. lines; stays = r.2.stays } in (
         r.0,
         r.1,
         subst (λ (o : List ℕ). Counts o (text now.held.history r.0)) (sym old_is) (subst (Counts (chars bytes)) (sym all_revised.here) (kept, r.2.count)),
@@ -170,16 +186,24 @@ call_revised old now k bytes new hs (Ok n) t e r = text_revised old now k n byte
 call_revised old now k bytes new hs (Err why) t e r = tt
 
 pub call_keeps : (old now : State) (k : ℕ) (bytes new : List ℕ) (hs : List Hunk) (result : Result ℕ EditFault) → IsTextAt old k bytes → replaced (chars bytes) new 0 hs ≡ new
-    → Transforms nat_eq (chars bytes) new hs → All (KeepsWords (chars bytes) new) hs → (chars bytes ≡ new → hs ≡ []) → KeepsLines (chars bytes) new hs
+    → Transforms nat_eq (chars bytes) new hs → All (KeepsWords (chars bytes) new) hs → All (IsTight (chars bytes) new) hs → (chars bytes ≡ new → hs ≡ []) → KeepsLines (chars bytes) new hs
     → IfOk result (λ n. OfSection old k (λ x. AreHunksMade old now k x hs new n)) → IfOk result (λ n. OfSection old k (λ x. CountsHunks old now x n))
-call_keeps old now k bytes new hs (Ok n) t e transforms words unchanged lines r = text_keeps old now k n bytes new hs t e r transforms words unchanged lines
-call_keeps old now k bytes new hs (Err why) t e transforms words unchanged lines r = tt
+call_keeps old now k bytes new hs (Ok n) t e transforms words tight unchanged lines r = text_keeps old now k n bytes new hs t e r transforms words tight unchanged lines
+call_keeps old now k bytes new hs (Err why) t e transforms words tight unchanged lines r = tt
 
 pub call_few : (old now : State) (k : ℕ) (bytes new : List ℕ) (hs : List Hunk) (result : Result ℕ EditFault) → IsTextAt old k bytes → replaced (chars bytes) new 0 hs ≡ new
     → Transforms nat_eq (chars bytes) new hs → IfOk result (λ n. OfSection old k (λ x. AreHunksMade old now k x hs new n))
     → IfOk result (λ n. OfSection old k (λ x. n ≤ length (text old.held.history x) + length new))
 call_few old now k bytes new hs (Ok n) t e transforms r = text_few old now k n bytes new hs t e r transforms
 call_few old now k bytes new hs (Err why) t e transforms r = tt
+
+pub call_touches : (old now : State) (k : ℕ) (hs : List Hunk) (new : List ℕ) (result : Result ℕ EditFault) → IfOk result (λ n. OfSection old k (λ x. AreHunksMade old now k x hs new n))
+    → IfOk result (λ n. OfSection old k (λ x. MakesOnly (InText x (elements old x)) old now))
+call_touches old now k hs new (Ok n) r = (r.0, r.1, r.2.touches)
+call_touches old now k hs new (Err why) r = tt
+
+pub none_touches : (s : State) (k : ℕ) (bytes : List ℕ) → IsTextAt s k bytes → OfSection s k (λ x. MakesOnly (InText x (elements s x)) s s)
+none_touches s k bytes t = (t.section, t.shown, only_none (InText t.section (elements s t.section)) s)
 
 -- the text is the same
 pub text_same : (s : State) (k : ℕ) (bytes : List ℕ) → IsTextAt s k bytes → OfSection s k (λ x. IsRevised s s k x (chars bytes) 0)

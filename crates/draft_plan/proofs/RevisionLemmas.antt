@@ -13,16 +13,19 @@ use Rattle.origin_model.specs.edits.State.{State}
 use Rattle.origin_model.specs.operations.History.{holds}
 use Rattle.origin_model.specs.operations.Verdict.{Lawful}
 use Rattle.origin_model.specs.order.Printed.{shown, text}
+use Rattle.origin_model.proofs.edits.SplitLemmas.{get_in}
 use Rattle.catalogue_notes.specs.Arranged.{arranged}
 use Rattle.catalogue_notes.proofs.ArrangedLemmas.{arranged_once, arranged_shown, shown_arranged, shown_is}
 use Rattle.catalogue_notes.proofs.PartLemmas.{get_some}
 use Rattle.draft_plan.specs.Drafts.{Part}
+use Rattle.draft_plan.specs.Needed.{InText, InTexts, IsElement, MakesOnly}
 use Rattle.draft_plan.specs.Plain.{arranged_part, arranged_parts}
-use Rattle.draft_plan.specs.Revision.{IsRevision, KeepsSection, Makes, MakesNothing}
-use Rattle.draft_plan.specs.Shaping.{AreFilled, IsAtPlace, IsFilled, IsShaped, SameSection}
+use Rattle.draft_plan.specs.Revision.{HasOneMore, IsRevision, KeepsSection, Makes, MakesNothing, retitles_of}
+use Rattle.draft_plan.specs.Shaping.{AreFilled, IsAtPlace, IsFilled, IsReshaped, SameSection}
 use Rattle.draft_plan.specs.Texts.{KeepsCommon}
-use Rattle.draft_plan.proofs.KeptLemmas.{common_earlier}
+use Rattle.draft_plan.proofs.KeptLemmas.{common_earlier, same_common}
 use Rattle.draft_plan.proofs.MakingLemmas.{makes_join, makes_none}
+use Rattle.draft_plan.proofs.NeededLemmas.{only_join, only_none, only_weaker, touches_weaker}
 use Rattle.draft_plan.proofs.ShapeLemmas.{got, same_join, same_none}
 
 -- a section that was the same until then keeps what it keeps from then on
@@ -33,7 +36,9 @@ keeps_after a b c n s makes first next = record {
       (subst (λ t. KeepsCommon b.held.history t (text c.held.history s) (shown (within s) a.held.history) (shown (within s) c.held.history)) first.reads
       (subst (λ l. KeepsCommon b.held.history (text b.held.history s) (text c.held.history s) l (shown (within s) c.held.history)) first.elements next.elements));
   same_text = λ e. next.same_text (e ∙ sym first.reads) ∙ first.elements;
+  same_order = λ e. next.same_order (e ∙ sym first.reads) ∙ first.ordered;
   same_heading = λ e. next.same_heading (e ∙ sym first.headed) ∙ first.retitled;
+  retitled = subst (λ l. HasOneMore l (retitles_of c.held.history s)) first.retitled next.retitled;
 }
 
 -- and one that is the same from then on, what it kept
@@ -43,7 +48,9 @@ keeps_before a b c s first next = record {
       subst (λ t. KeepsCommon a.held.history (text a.held.history s) t (shown (within s) a.held.history) (shown (within s) c.held.history)) (sym next.reads)
       (subst (λ l. KeepsCommon a.held.history (text a.held.history s) (text b.held.history s) (shown (within s) a.held.history) l) (sym next.elements) first.elements);
   same_text = λ e. next.elements ∙ first.same_text (sym next.reads ∙ e);
+  same_order = λ e. next.ordered ∙ first.same_order (sym next.reads ∙ e);
   same_heading = λ e. next.retitled ∙ first.same_heading (sym next.headed ∙ e);
+  retitled = subst (HasOneMore (retitles_of a.held.history s)) (sym next.retitled) first.retitled;
 }
 
 -- the part of a section that is as it was
@@ -51,7 +58,7 @@ same_part : (a b : List Op) (s : Identifier) → SameSection a b s → arranged_
 same_part a b s k = λ i. record { title = encode_utf8_all (k.headed i); text = encode_utf8_all (k.reads i) }
 
 -- no member stands at two places
-one_place : (xs : List Identifier) (i j : ℕ) (s : Identifier) → AllPairs (λ s t. s ≢ t) xs → slice_get xs i ≡ Some s → slice_get xs j ≡ Some s → i ≡ j
+pub one_place : (xs : List Identifier) (i j : ℕ) (s : Identifier) → AllPairs (λ s t. s ≢ t) xs → slice_get xs i ≡ Some s → slice_get xs j ≡ Some s → i ≡ j
 one_place xs i j s apart e f =
     let a = got xs i s e in
     let b = got xs j s f in
@@ -69,6 +76,8 @@ filled_none s parts = record {
   makes = makes_none s;
   catalogue_is = refl;
   arranged_as = refl;
+  touches = only_none (InTexts s.held.history) s;
+  moved = refl;
   each = λ k t e. ((λ l. absurd (omega (arith, l))), λ l. same_none s.held.history t);
   nothing = λ e. (refl, refl);
 }
@@ -98,6 +107,17 @@ module _ (start now new : State) (parts : List Part) (j n m : ℕ) (s : Identifi
         λ l. same_join start.held.history now.held.history new.held.history t (old.1 (omega (arith, l))) same,
       )
 
+  still_in_texts : MakesOnly (InTexts start.held.history) start new
+  still_in_texts =
+      let h : List Op = start.held.history in
+      let same : shown (within s) now.held.history ≡ shown (within s) h = ((before.each j s here).1 (omega arith)).elements in
+      let placed : Contains (arranged h) s = get_in xs j s here in
+      only_join (InTexts h) start now new before.touches
+      (only_weaker (InText s (shown (within s) now.held.history)) (InTexts h) now new
+      (touches_weaker (λ t. t ≡ s) (Contains (shown (within s) now.held.history)) ⊥ (Contains (arranged h)) (IsElement h) ⊥
+      (λ t e. subst (Contains (arranged h)) (sym e) placed)
+      (λ x m. (s, placed, subst (λ l. Contains l x) same m)) (λ b. b)) f.touches)
+
   still_nothing : MakesNothing start new parts (n + m)
   still_nothing e =
       let first = before.nothing e in
@@ -114,6 +134,8 @@ module _ (start now new : State) (parts : List Part) (j n m : ℕ) (s : Identifi
     makes = makes_join start now new n m before.makes f.makes;
     catalogue_is = f.only.catalogue_is ∙ before.catalogue_is;
     arranged_as = f.only.arranged_as ∙ before.arranged_as;
+    touches = still_in_texts;
+    moved = f.only.moved ∙ before.moved;
     each = λ k t e.
         elim (cases_eq k j) [
           | inl q ↦
@@ -163,7 +185,7 @@ pub shown_holds : (h : List Op) (s : Identifier) → Lawful h → Contains (show
 shown_holds h s w m = ap is_some (shown_is h s w m).1
 
 -- sections were added, dropped and moved first
-pub revised_shaped : (old mid new : State) (parts : List Part) (n m : ℕ) → Lawful old.held.history → IsShaped old mid n → IsRevision mid new parts m → IsRevision old new parts (n + m)
+pub revised_shaped : (old mid new : State) (parts : List Part) (n m : ℕ) → Lawful old.held.history → IsReshaped old mid n → IsRevision mid new parts m → IsRevision old new parts (n + m)
 revised_shaped old mid new parts n m w first next = record {
   makes = makes_join old mid new n m first.makes next.makes;
   reads = next.reads;
@@ -178,4 +200,19 @@ revised_shaped old mid new parts n m w first next = record {
         | inl k ↦ elim (first.keeps.came s (arranged_shown mid.held.history s k)) [ inl q ↦ inl (shown_arranged old.held.history s w q) | inr q ↦ inr q ]
         | inr k ↦ inr (false_from_ne_true (holds old.held.history s) (λ t. true≢false (sym (first.keeps.held s t) ∙ k)))
       ];
+}
+
+-- the sections are the parts already
+pub revised_already : (s : State) (parts : List Part) → arranged_parts s.held.history ≡ parts → IsRevision s s parts 0
+revised_already s parts e = record {
+  makes = makes_none s;
+  reads = e;
+  matched = λ x a b. record {
+    elements = (same_common s.held.history (text s.held.history x) (shown (within x) s.held.history)).0;
+    same_text = λ q. refl;
+    same_order = λ q. refl;
+    same_heading = λ q. refl;
+    retitled = inl refl;
+  };
+  came = λ x m. inl m;
 }

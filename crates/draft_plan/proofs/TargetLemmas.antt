@@ -2,28 +2,31 @@
 use Rattle.std.proofs.Common.{List, [], ap, arith, drop, get_or, inl, inr, length, refl, subst, suc, sym, take, ℕ, ◌+◌, ◌++◌, ◌<◌, ◌≤◌, ◌∙◌, ◌∷◌, ◌≡◌, ◌⊎◌, true, false, zero}
 use Rattle.std.specs.Prelude.{IsSome, None, Ok, Option, Some, slice_get, ◌↔◌}
 use Rattle.std.specs.List.{Contains}
+use Rattle.std.specs.Str.{encode_utf8_all}
 use Rattle.std.proofs.lemmas.Bool.{cases_eq, cases_lt, false_from_ne_true, true≢false}
 use Rattle.std.proofs.lemmas.List.{get_or_past, length_push, take-append-drop}
 use Rattle.std.proofs.lemmas.List.Elements.{Contains-append_cases, Contains-append_left, Contains-append_right, Contains-push_cases}
 use Rattle.fugue_ids.specs.Identifiers.{Identifier}
 use Rattle.fugue_ids.proofs.ListLemmas.{contains_cases, contains_here, contains_none}
 use Rattle.origin_model.specs.declared.operations.Place.TheVariants.{Catalogue as catalogue}
-use Rattle.origin_model.specs.edits.Edits.{Add, id_at, spliced}
+use Rattle.origin_model.specs.edits.Edits.{Add, id_at, left_for, right_for, spliced}
 use Rattle.origin_model.specs.edits.Effect.{IsMade}
-use Rattle.origin_model.specs.edits.Refusal.{RefusesExactly, added_ids, next_of_own}
+use Rattle.origin_model.specs.edits.Refusal.{RefusesExactly, added_ids, made_by, next_of_own}
 use Rattle.origin_model.specs.edits.State.{State}
 use Rattle.origin_model.specs.operations.History.{holds}
 use Rattle.origin_model.specs.operations.Verdict.{Lawful}
 use Rattle.origin_model.specs.order.Printed.{shown}
 use Rattle.origin_model.proofs.edits.SplitLemmas.{get_in}
+use Rattle.catalogue_notes.specs.Arranged.{heading}
 use Rattle.catalogue_notes.proofs.MovingLemmas.{fresh}
 use Rattle.catalogue_notes.proofs.PartLemmas.{get_some}
 use Rattle.section_plan.specs.Matching.{IsMatching, part_of, section_of}
 use Rattle.section_plan.specs.declared.pairs.Pairs.{Pairs}
 use Rattle.draft_plan.specs.Resizing.{AreDistinct, AreLeft, AreTargets, AreTargetsTo, IsAdded, IsPartTaken}
-use Rattle.draft_plan.specs.Shaping.{IsShaped}
+use Rattle.draft_plan.specs.Shaping.{IsShaped, KeepsPlaces}
 use Rattle.draft_plan.proofs.RevisionLemmas.{shown_holds}
-use Rattle.draft_plan.proofs.ShapeLemmas.{add_shaped, got, in_spliced}
+use Rattle.draft_plan.proofs.SectionLemmas.{new_heading}
+use Rattle.draft_plan.proofs.ShapeLemmas.{add_shaped, got, history_is, in_spliced, places_none}
 
 -- a new member stands where it was put, beside the others
 put_there : (xs : List Identifier) (at : ℕ) (x : Identifier) (rest : List Identifier) → at ≤ length xs → slice_get ((take at xs ++ x ∷ []) ++ rest) at ≡ Some x
@@ -54,7 +57,7 @@ put_all xs at x t = (λ m. from (in_spliced xs (x ∷ []) at 0 t m), λ side. in
 -- a section was added
 pub added : (old new : State) (at n : ℕ) (title : List ℕ) (s : Identifier) → Lawful old.held.history → at ≤ length (shown catalogue old.held.history) → RefusesExactly old (Add at title) (Ok n)
     → IsMade old new (Add at title) n → shown catalogue new.held.history ≡ spliced (shown catalogue old.held.history) at 0 (added_ids old) → Some s ≡ slice_get (shown catalogue new.held.history) at
-    → IsAdded old new s
+    → IsAdded old new at (encode_utf8_all title) s
 added old new at n title s w l exact made here is =
     let xs : List Identifier = shown catalogue old.held.history in
     let x : Identifier = id_at old.number (next_of_own old) in
@@ -63,7 +66,10 @@ added old new at n title s w l exact made here is =
     let same : s ≡ x = cc (is, there) in
     record {
       shaped = subst (IsShaped old new) one (add_shaped old new at n title w l exact made).0;
+      places = (add_shaped old new at n title w l exact made).2;
       fresh = ap (holds old.held.history) same ∙ fresh old;
+      there = sym is;
+      headed = ap encode_utf8_all (ap (heading new.held.history) same ∙ (ap (λ g. heading g x) (history_is old new (made_by old (Add at title)) made.gained) ∙ new_heading old.held.history x (left_for catalogue old.held.history at) (right_for catalogue old.held.history at) title w (fresh old)));
       all = λ t. rw (here, same) (put_all xs at x t);
     }
 
@@ -107,10 +113,10 @@ targets_start start ys p parts m left = record {
     which i s e (inr some) = paired i s e (part_of p i) refl some
 
 -- one part more
-module _ (start now new : State) (ys : List Identifier) (p : Pairs) (parts k : ℕ) (ts us : List Identifier) (m : IsMatching (length ys) parts p) (once : AreDistinct ys) (w : Lawful now.held.history)
+module _ (start now new : State) (ys : List Identifier) (p : Pairs) (parts k : ℕ) (title : List ℕ) (ts us : List Identifier) (m : IsMatching (length ys) parts p) (once : AreDistinct ys) (w : Lawful now.held.history)
     (held : (j i : ℕ) (s : Identifier) → section_of p j ≡ Some i → slice_get ys i ≡ Some s → holds start.held.history s ≡ true)
     (keeps : (t : Identifier) → holds start.held.history t ≡ true → holds now.held.history t ≡ true)
-    (was : AreTargetsTo start now ys p k ts) (taken : IsPartTaken now new ys (section_of p k) ts us) where
+    (was : AreTargetsTo start now ys p k ts) (taken : IsPartTaken now new ys (section_of p k) title ts us) where
   abbrev s : Identifier
   s = taken.section
 
@@ -134,27 +140,27 @@ module _ (start now new : State) (ys : List Identifier) (p : Pairs) (parts k : �
   kept_here i e = (taken.kept i e).0
 
   fresh_here : section_of p k ≡ None → holds start.held.history s ≡ false
-  fresh_here e = false_from_ne_true (holds start.held.history s) (λ t. true≢false (sym (keeps s t) ∙ (taken.came e).fresh))
+  fresh_here e = false_from_ne_true (holds start.held.history s) (λ t. true≢false (sym (keeps s t) ∙ (taken.came e).added.fresh))
 
   shown_still : (t : Identifier) → Contains (shown catalogue now.held.history) t → Contains (shown catalogue new.held.history) t
   shown_still t c = by (section_of p k) refl
     where
       by : (o : Option ℕ) → section_of p k ≡ o → Contains (shown catalogue new.held.history) t
-      by None e = ((taken.came e).all t).1 (inl c)
+      by None e = ((taken.came e).added.all t).1 (inl c)
       by (Some i) e = subst (λ (x : State). Contains (shown catalogue x.held.history) t) (sym (taken.kept i e).1) c
 
   shown_here : Contains (shown catalogue new.held.history) s
   shown_here = by (section_of p k) refl
     where
       by : (o : Option ℕ) → section_of p k ≡ o → Contains (shown catalogue new.held.history) s
-      by None e = ((taken.came e).all s).1 (inr refl)
+      by None e = ((taken.came e).added.all s).1 (inr refl)
       by (Some i) e = shown_still s (was.later k i s e (kept_here i e))
 
   shown_before : (t : Identifier) → Contains (shown catalogue new.held.history) t → Contains (shown catalogue now.held.history) t ⊎ (t ≡ s)
   shown_before t c = by (section_of p k) refl
     where
       by : (o : Option ℕ) → section_of p k ≡ o → Contains (shown catalogue now.held.history) t ⊎ (t ≡ s)
-      by None e = ((taken.came e).all t).0 c
+      by None e = ((taken.came e).added.all t).0 c
       by (Some i) e = inl (subst (λ (x : State). Contains (shown catalogue x.held.history) t) (taken.kept i e).1 c)
 
   -- no part before it has this section
@@ -162,7 +168,7 @@ module _ (start now new : State) (ys : List Identifier) (p : Pairs) (parts k : �
   other j e = by (section_of p k) refl (section_of p j) refl
     where
       by : (o : Option ℕ) → section_of p k ≡ o → (q : Option ℕ) → section_of p j ≡ q → ⊥
-      by None f q g = true≢false (sym (shown_holds now.held.history s w (was.there s (get_in ts j s e))) ∙ (taken.came f).fresh)
+      by None f q g = true≢false (sym (shown_holds now.held.history s w (was.there s (get_in ts j s e))) ∙ (taken.came f).added.fresh)
       by (Some i) f None g = true≢false (sym (held k i s f (kept_here i f)) ∙ was.fresh j s g e)
       by (Some i) f (Some i') g =
           let within : i' < length ys = let back = (m.inverse i' j).0 g in elim (cases_lt i' (length ys)) [ inl l ↦ l | inr n ↦ let none = get_or_past_none p.of_section.items i' (omega (arith, m.sections_are)) in cc ] in
@@ -222,3 +228,8 @@ pub matched_held : (start : State) (ys : List Identifier) (parts : ℕ) (p : Pai
 matched_held start ys parts p w m left j i s e f =
     let pair = (m.inverse i j).0 e in
     shown_holds start.held.history s w (left.kept i s f (inr (subst IsSome (sym pair) refl)))
+
+-- and nothing was moved for it
+pub taken_places : (old new : State) (sections : List Identifier) (place : Option ℕ) (title : List ℕ) (before targets : List Identifier) → IsPartTaken old new sections place title before targets → KeepsPlaces old.held.history new.held.history
+taken_places old new sections (Some i) title before targets taken = subst (λ (s : State). KeepsPlaces old.held.history s.held.history) (sym (taken.kept i refl).1) (places_none old.held.history)
+taken_places old new sections None title before targets taken = (taken.came refl).added.places

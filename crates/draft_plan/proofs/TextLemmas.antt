@@ -18,6 +18,7 @@ use Rattle.origin_model.specs.edits.Refusal.{RefusesExactly, in_range, in_sectio
 use Rattle.origin_model.specs.edits.State.{Stands, State}
 use Rattle.origin_model.specs.operations.History.{accepted}
 use Rattle.origin_model.specs.operations.Verdict.{Lawful}
+use Rattle.origin_model.specs.order.Order.{order}
 use Rattle.origin_model.specs.order.Printed.{shown, text}
 use Rattle.origin_model.proofs.edits.AllowedLemmas.{allowed}
 use Rattle.origin_model.proofs.edits.CutLemmas.{cut_takes}
@@ -26,11 +27,14 @@ use Rattle.origin_model.proofs.edits.PutLemmas.{put_lands}
 use Rattle.origin_model.proofs.edits.RefusalLemmas.{cut_count, put_count}
 use Rattle.text_diff.specs.declared.hunk.Hunk.{Hunk}
 use Rattle.draft_plan.specs.Changes.{Edit, all_made}
+use Rattle.draft_plan.specs.Needed.{InText, MakesOnly}
 use Rattle.draft_plan.specs.Revising.{IsHunkMade, IsLimit, IsWithinText, elements}
 use Rattle.draft_plan.specs.Texts.{EditsText, IsRevised, KeepsArrangement, StopsEditing}
 use Rattle.draft_plan.specs.declared.fault.ReviseFault.TheVariants as revise_fault
 use Rattle.draft_plan.proofs.ArrangementLemmas.{cut_keeps, put_keeps}
 use Rattle.draft_plan.proofs.NewLemmas.{new_earlier, put_new}
+use Rattle.draft_plan.proofs.NeededLemmas.{cut_in_text, only_join, put_in_text}
+use Rattle.draft_plan.proofs.OrderedLemmas.{put_orders}
 use Rattle.draft_plan.proofs.ChangeLemmas.{changed_edit, changed_join, changed_none, count_join, count_one, stops_after, stops_edit, stops_first}
 
 -- the history after operations
@@ -54,6 +58,9 @@ module _ (old new : State) (k at n count : ℕ) (x : Identifier) (w : Lawful old
   pub cut_shows : elements new x ≡ spliced (elements old x) at n []
   cut_shows = ap (shown (within x)) cut_is ∙ (cut_takes old.number old.held.history old.held.waiting k at n x w e).0.here
 
+  pub cut_touches : MakesOnly (InText x (take n (drop at (elements old x)))) old new
+  cut_touches = (made_by old (Cut k at n), made.gained, cut_in_text old.number old.held.history old.held.waiting k at n x e)
+
   pub cut_revised : IsRevised old new k x (spliced (text old.held.history x) at n []) count
   cut_revised =
       let edit = cut_erases old.number old.held.history old.held.waiting k at n x w e in
@@ -66,6 +73,7 @@ module _ (old new : State) (k at n count : ℕ) (x : Identifier) (w : Lawful old
         elsewhere = λ t d. ap (λ g. text g t) cut_is ∙ edit.elsewhere t d;
         others = λ t d. ap (shown (within t)) cut_is
             ∙ (cut_takes old.number old.held.history old.held.waiting k at n x w e).0.elsewhere (within t) (other_place t x d);
+        ordered = λ t d. ap (order (within t)) cut_is ∙ (cut_takes old.number old.held.history old.held.waiting k at n x w e).1 (within t);
         keeps = subst (KeepsArrangement old.held.history) (sym cut_is) (cut_keeps old.number old.held.history old.held.waiting k at n x w e);
       }
 
@@ -77,6 +85,9 @@ module _ (old new : State) (k at count : ℕ) (chs : List ℕ) (x : Identifier) 
 
   pub put_shows : elements new x ≡ spliced (elements old x) at 0 (put_ids old chs)
   put_shows = ap (shown (within x)) put_is ∙ (put_lands old.number old.held.history old.held.waiting k at chs x w e within_text).0.here
+
+  pub put_touches : (xs : List Identifier) → MakesOnly (InText x xs) old new
+  put_touches xs = (made_by old (Put k at chs), made.gained, put_in_text old.number old.held.history old.held.waiting k at chs x xs e)
 
   pub put_revised : IsRevised old new k x (spliced (text old.held.history x) at 0 chs) count
   put_revised =
@@ -90,6 +101,7 @@ module _ (old new : State) (k at count : ℕ) (chs : List ℕ) (x : Identifier) 
         elsewhere = λ t d. ap (λ g. text g t) put_is ∙ edit.elsewhere t d;
         others = λ t d. ap (shown (within t)) put_is
             ∙ (put_lands old.number old.held.history old.held.waiting k at chs x w e within_text).0.elsewhere (within t) (other_place t x d);
+        ordered = λ t d. ap (order (within t)) put_is ∙ put_orders old.number old.held.history old.held.waiting k at chs x t e d;
         keeps = subst (KeepsArrangement old.held.history) (sym put_is) (put_keeps old.number old.held.history old.held.waiting k at chs x w e within_text);
       }
 
@@ -100,6 +112,7 @@ keeps_join a b c first next = record {
   headings = λ t. next.headings t ∙ first.headings t;
   retitled = next.retitled ∙ first.retitled;
   stamps = next.stamps ∙ first.stamps;
+  moved = next.moved ∙ first.moved;
 }
 
 pub revised_join : (old mid new : State) (k : ℕ) (x : Identifier) (a b : List ℕ) (n m : ℕ) → IsRevised old mid k x a n → IsRevised mid new k x b m → IsRevised old new k x b (n + m)
@@ -111,6 +124,7 @@ revised_join old mid new k x a b n m first next = record {
   here = next.here;
   elsewhere = λ t d. next.elsewhere t d ∙ first.elsewhere t d;
   others = λ t d. next.others t d ∙ first.others t d;
+  ordered = λ t d. next.ordered t d ∙ first.ordered t d;
   keeps = keeps_join old.held.history mid.held.history new.held.history first.keeps next.keeps;
 }
 
@@ -124,7 +138,8 @@ revised_none s k x = record {
   here = refl;
   elsewhere = λ t d. refl;
   others = λ t d. refl;
-  keeps = record { sections = refl; arranged_as = refl; headings = λ t. refl; retitled = refl; stamps = refl };
+  ordered = λ t d. refl;
+  keeps = record { sections = refl; arranged_as = refl; headings = λ t. refl; retitled = refl; stamps = refl; moved = refl };
 }
 
 -- so many operations there are
@@ -207,6 +222,8 @@ hunk_made old mid new k cut put h scalars chs l m is i =
         as_many = typed_long mid.number (next_of_own mid) chs ∙ long;
         fresh = new_earlier old mid _ first.changed.gained come (put_new mid chs);
         count = omega (arith, i.cut_made.count, i.put_made.count, cut_count old k at n (allowed old (Cut k at n) cut i.cuts), put_count mid k at chs (allowed mid (Put k at chs) put i.puts), long);
+        touches = only_join (InText x (take n (drop at (elements old x)))) old mid new (cut_touches old mid k at n cut x i.lawful e i.cuts i.cut_made)
+            (put_touches mid new k at put chs x i.then_lawful there still i.puts i.put_made (take n (drop at (elements old x))));
         shows = put_shows mid new k at put chs x i.then_lawful there still i.puts i.put_made ∙ ap (λ xs. spliced xs at 0 come) left ∙ spliced_again (elements old x) come at n here;
         revised = subst (λ r. IsRevised old new k x r (cut + put)) reads
             (revised_join old mid new k x (spliced old_text at n []) (spliced (text mid.held.history x) at 0 chs) cut put first next);

@@ -1,6 +1,13 @@
 -- Laws of drafts.
 use Rattle.std.specs.Prelude.{◌≡◌, ℕ, true, false, Bool, if◌then◌else◌, ◌&&◌, Ok, List, [], ◌∷◌, ◌++◌, All, flat_map}
 use Rattle.std.specs.Str.{is_utf8}
+use Rattle.fugue_ids.specs.Identifiers.{Identifier}
+use Rattle.fugue_ids.specs.declared.op.Op.{Op}
+use Rattle.fugue_ids.specs.declared.op.Op.TheVariants.{Delete}
+use Rattle.origin_model.specs.operations.History.{has_op, holds}
+use Rattle.origin_model.specs.operations.Verdict.{Lawful}
+use Rattle.origin_model.specs.order.Laws.{IsPartOf}
+use Rattle.origin_model.specs.order.Printed.{is_hidden}
 use Rattle.catalogue_notes.specs.Claims.{is_title}
 use Rattle.draft_plan.specs.Drafts.{Part, closed, form, has_heading, is_heading, lines, parts}
 
@@ -39,3 +46,10 @@ pub record IsPart (p : Part) : Type 0 where
 -- a list of parts reads back from its form
 abbrev pub PartsOfForm : Type 0
 PartsOfForm = (ps : List Part) → All IsPart ps → parts (form ps) ≡ Ok ps
+
+-- A history that has another one as a part, whichever operations it has besides, hides nothing that this part lacks, unless
+-- a Delete of its own names it. So a revision hides nothing that others wrote: the part is what it left, and its Deletes
+-- name what it showed.
+abbrev pub OthersAreSpared : Type 0
+OthersAreSpared = (part whole : List Op) (x : Identifier) → Lawful part → Lawful whole → IsPartOf part whole → holds part x ≡ false
+    → (has_op whole (Delete x) ≡ true → has_op part (Delete x) ≡ true) → is_hidden whole x ≡ false

@@ -5,10 +5,13 @@ pub mod Laws
 pub mod Matching
 pub mod Plain
 pub mod Readings
+pub mod Needed
 pub mod Revision
 pub mod Revising
+pub mod Passages
 pub mod Shaping
 pub mod Texts
 pub mod Arranging
 pub mod Resizing
 pub mod Keeping
+pub mod Limits

@@ -1,14 +1,16 @@
 -- Sections dropped and added, until there is one for each part of a draft.
 use Rattle.std.specs.Prelude.{◌≡◌, ◌≢◌, ◌⊎◌, ◌↔◌, ℕ, ◌+◌, ◌-◌, ◌≤◌, ◌<◌, false, Option, Some, None, IsSome, List, [], ◌∷◌, ◌++◌, length, slice_get}
 use Rattle.std.specs.List.{Contains}
+use Rattle.std.specs.Str.{encode_utf8_all}
 use Rattle.fugue_ids.specs.Identifiers.{Identifier}
 use Rattle.origin_model.specs.declared.operations.Place.TheVariants.{Catalogue as catalogue}
 use Rattle.origin_model.specs.edits.State.{State}
 use Rattle.origin_model.specs.operations.History.{holds}
 use Rattle.origin_model.specs.order.Printed.{shown}
+use Rattle.catalogue_notes.specs.Arranged.{heading}
 use Rattle.section_plan.specs.Matching.{part_of, section_of}
 use Rattle.section_plan.specs.declared.pairs.Pairs.{Pairs}
-use Rattle.draft_plan.specs.Shaping.{IsShaped}
+use Rattle.draft_plan.specs.Shaping.{IsShaped, KeepsPlaces}
 
 -- no member stands at two places
 abbrev pub AreDistinct : List Identifier → Type 0
@@ -23,10 +25,13 @@ pub record AreLeft (sections : List Identifier) (pairs : Pairs) (place : ℕ) (l
   pub kept : (i : ℕ) (s : Identifier) → slice_get sections i ≡ Some s → (place ≤ i) ⊎ IsSome (part_of pairs i) → Contains left s
   pub only : (s : Identifier) → Contains left s → (i : ℕ) × (slice_get sections i ≡ Some s) × ((place ≤ i) ⊎ IsSome (part_of pairs i))
 
--- a section was added, which nothing had held, and no other one came or went
-pub record IsAdded (old new : State) (section : Identifier) : Type 0 where
+-- a section was added, which nothing had held: it has this number and this heading, and no other one came or went
+pub record IsAdded (old new : State) (number : ℕ) (title : List ℕ) (section : Identifier) : Type 0 where
   pub shaped : IsShaped old new 1
+  pub places : KeepsPlaces old.held.history new.held.history
   pub fresh : holds old.held.history section ≡ false
+  pub there : slice_get (shown catalogue new.held.history) number ≡ Some section
+  pub headed : encode_utf8_all (heading new.held.history section) ≡ title
   pub all : (t : Identifier) → Contains (shown catalogue new.held.history) t ↔ (Contains (shown catalogue old.held.history) t ⊎ (t ≡ section))
 
 -- the number behind that of the last one of these sections, or the first number
@@ -34,6 +39,12 @@ pub record IsBehind (shown_now sections : List Identifier) (number : ℕ) : Type
   pub within : number ≤ length shown_now
   pub first : length sections ≡ 0 → number ≡ 0
   pub behind : (s : Identifier) → slice_get sections (length sections - 1) ≡ Some s → (n : ℕ) × (slice_get shown_now n ≡ Some s) × (number ≡ n + 1)
+
+-- a section with this title was added, directly behind the last one of these, or as the first one
+pub record ComesBehind (old new : State) (before : List Identifier) (title : List ℕ) (section : Identifier) : Type 0 where
+  pub number : ℕ
+  pub behind : IsBehind (shown catalogue old.held.history) before number
+  pub added : IsAdded old new number title section
 
 -- the sections of the parts in front of one: a part has the section that it is matched with, or one that was not held at
 -- the start. What is shown besides are the sections of later parts
@@ -55,9 +66,9 @@ pub record AreTargets (start now : State) (sections : List Identifier) (pairs : 
   pub shown_are : (s : Identifier) → Contains (shown catalogue now.held.history) s ↔ Contains targets s
   pub once : AreDistinct targets
 
--- the section of one part more came to these: that at a place, or, where there is none, one that was added
-pub record IsPartTaken (old new : State) (sections : List Identifier) (place : Option ℕ) (before targets : List Identifier) : Type 0 where
+-- the section of one part more came to these: that at a place, or, where there is none, one that was added with the title
+pub record IsPartTaken (old new : State) (sections : List Identifier) (place : Option ℕ) (title : List ℕ) (before targets : List Identifier) : Type 0 where
   pub section : Identifier
   pub targets_are : targets ≡ before ++ section ∷ []
   pub kept : (i : ℕ) → place ≡ Some i → (slice_get sections i ≡ Some section) × (new ≡ old)
-  pub came : place ≡ None → IsAdded old new section
+  pub came : place ≡ None → ComesBehind old new before title section

@@ -10,6 +10,7 @@ use Rattle.origin_model.specs.edits.State.{State}
 use Rattle.origin_model.specs.order.Printed.{shown, text}
 use Rattle.text_diff.specs.Hunks.{replaced}
 use Rattle.text_diff.specs.declared.hunk.Hunk.{Hunk}
+use Rattle.draft_plan.specs.Needed.{InText, MakesOnly}
 use Rattle.draft_plan.specs.Texts.{AreNew, IsRevised, StayBetween, size}
 
 -- the elements that a section shows
@@ -26,14 +27,17 @@ pub record IsHunkMade (old new : State) (k : ℕ) (section : Identifier) (hunk :
   pub as_many : length come ≡ hunk.new_len
   pub fresh : AreNew old.held.history come
   pub count : n ≡ hunk.old_len + hunk.new_len
+  pub touches : MakesOnly (InText section (take hunk.old_len (drop hunk.old_at (elements old section)))) old new
   pub shows : elements new section ≡ spliced (elements old section) hunk.old_at hunk.old_len come
   pub revised : IsRevised old new k section
       (spliced (text old.held.history section) hunk.old_at hunk.old_len (take hunk.new_len (drop hunk.new_at scalars))) n
 
--- hunks were made in a section: what stands between them stays, and what comes is new to the history
+-- hunks were made in a section: what stands between them stays, what comes is new to the history, and nothing is deleted
+-- but what the section showed
 pub record AreHunksMade (old new : State) (k : ℕ) (section : Identifier) (hunks : List Hunk) (scalars : List ℕ) (n : ℕ) : Type 0 where
   pub revised : IsRevised old new k section (replaced (text old.held.history section) scalars 0 hunks) n
   pub stays : StayBetween old.held.history 0 (elements old section) (elements new section) hunks
+  pub touches : MakesOnly (InText section (elements old section)) old new
   pub count : n ≡ size hunks
 
 -- the edits were not asked for what is not there

@@ -1,5 +1,5 @@
 -- What revising a whole manuscript does to a replica.
-use Rattle.std.specs.Prelude.{◌≡◌, ◌⊎◌, ℕ, false, List, filter, length}
+use Rattle.std.specs.Prelude.{◌≡◌, ◌⊎◌, ℕ, false, List, drop, filter, length}
 use Rattle.std.specs.List.{Contains}
 use Rattle.fugue_ids.specs.Identifiers.{Identifier, id_eq}
 use Rattle.fugue_ids.specs.declared.op.Op.{Op}
@@ -7,10 +7,11 @@ use Rattle.origin_model.specs.declared.edit_fault.EditFault.TheVariants as edit
 use Rattle.origin_model.specs.declared.operations.Place.TheVariants.{Section as within}
 use Rattle.origin_model.specs.edits.State.{State}
 use Rattle.origin_model.specs.operations.History.{holds}
+use Rattle.origin_model.specs.order.Order.{order}
 use Rattle.origin_model.specs.order.Printed.{shown, text}
 use Rattle.catalogue_notes.specs.Arranged.{arranged, heading}
-use Rattle.catalogue_notes.specs.Claims.{Retitle as RetitleClaim}
-use Rattle.catalogue_notes.specs.Lift.{retitles}
+use Rattle.catalogue_notes.specs.Claims.{Move as MoveClaim, Retitle as RetitleClaim}
+use Rattle.catalogue_notes.specs.Lift.{moves, retitles}
 use Rattle.catalogue_notes.specs.declared.moving.MoveFault.TheVariants as moving
 use Rattle.draft_plan.specs.Changes.{Change, Changed, Stops, all_made}
 use Rattle.draft_plan.specs.Drafts.{Part}
@@ -23,6 +24,14 @@ use Rattle.draft_plan.specs.declared.fault.ReviseFault.TheVariants as fault
 abbrev pub retitles_of : List Op → Identifier → List RetitleClaim
 retitles_of h s = filter (λ (r : RetitleClaim). id_eq r.section s) (retitles h)
 
+-- the moves of a section
+abbrev pub moves_of : List Op → Identifier → List MoveClaim
+moves_of h s = filter (λ (m : MoveClaim). id_eq m.section s) (moves h)
+
+-- a list of claims, the newest first, is as it was, or one came in front
+abbrev pub HasOneMore : {A : Type 0} → (old new : List A) → Type 0
+HasOneMore old new = (new ≡ old) ⊎ (drop 1 new ≡ old)
+
 -- n operations were made, by changes one after another
 pub record Makes (old new : State) (n : ℕ) : Type 0 where
   pub changes : List Change
@@ -30,14 +39,17 @@ pub record Makes (old new : State) (n : ℕ) : Type 0 where
   pub count : n ≡ length (all_made old changes)
 
 -- of a section that is shown before and after the elements stay that stand between hunks from its old text to its new
--- one, and what comes there is new: so all stay where the text is the same; where its heading is the same it has the
--- retitles that it had
+-- one, and what comes there is new; where the text is the same its elements, the hidden ones too, are the same list, and
+-- the same are shown; where its heading is the same it has the retitles that it had, and else one more at most
 pub record KeepsSection (old new : State) (section : Identifier) : Type 0 where
   pub elements : KeepsElements old new section
   pub same_text : text new.held.history section ≡ text old.held.history section
       → shown (within section) new.held.history ≡ shown (within section) old.held.history
+  pub same_order : text new.held.history section ≡ text old.held.history section
+      → order (within section) new.held.history ≡ order (within section) old.held.history
   pub same_heading : heading new.held.history section ≡ heading old.held.history section
       → retitles_of new.held.history section ≡ retitles_of old.held.history section
+  pub retitled : HasOneMore (retitles_of old.held.history section) (retitles_of new.held.history section)
 
 -- the manuscript was revised: as it is arranged, its headings and texts are the parts. A section and a part are matched
 -- where the section was shown before and stands at the part's place now: so each has at most one match. A section

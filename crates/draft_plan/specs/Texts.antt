@@ -9,13 +9,15 @@ use Rattle.origin_model.specs.declared.operations.Place.TheVariants.{Catalogue a
 use Rattle.origin_model.specs.edits.Edits.{Put, Cut}
 use Rattle.origin_model.specs.edits.State.{State}
 use Rattle.origin_model.specs.operations.History.{holds}
+use Rattle.origin_model.specs.order.Order.{order}
 use Rattle.origin_model.specs.order.Printed.{shown, text}
 use Rattle.text_diff.specs.Hunks.{Transforms}
 use Rattle.text_diff.specs.Kept.{KeepsLines}
 use Rattle.text_diff.specs.Seams.{KeepsWords}
+use Rattle.text_diff.specs.Tight.{IsTight}
 use Rattle.text_diff.specs.declared.hunk.Hunk.{Hunk}
 use Rattle.catalogue_notes.specs.Arranged.{arranged, heading}
-use Rattle.catalogue_notes.specs.Lift.{retitles, stamp}
+use Rattle.catalogue_notes.specs.Lift.{moves, retitles, stamp}
 use Rattle.draft_plan.specs.Changes.{Change, Changed, Edit, Stops, all_made}
 use Rattle.draft_plan.specs.declared.fault.ReviseFault.TheVariants as fault
 
@@ -25,16 +27,18 @@ EditsText k (Edit (Put j at new)) = j ≡ k
 EditsText k (Edit (Cut j at n)) = j ≡ k
 EditsText k change = ⊥
 
--- the same sections are shown, arranged so, under the same headings by the same retitles, and the next stamp is the same
+-- the same sections are shown, arranged so by the same moves, under the same headings by the same retitles, and the next
+-- stamp is the same
 pub record KeepsArrangement (old new : List Op) : Type 0 where
   pub sections : shown catalogue new ≡ shown catalogue old
   pub arranged_as : arranged new ≡ arranged old
   pub headings : (t : Identifier) → heading new t ≡ heading old t
   pub retitled : retitles new ≡ retitles old
   pub stamps : stamp new ≡ stamp old
+  pub moved : moves new ≡ moves old
 
 -- n operations were made, those of puts and cuts in this section, after which it reads so; the other sections read and
--- show what they did, and all are arranged as before
+-- show what they did, their elements, the hidden ones too, stand as they stood, and all are arranged as before
 pub record IsRevised (old new : State) (k : ℕ) (section : Identifier) (reads : List ℕ) (n : ℕ) : Type 0 where
   pub changes : List Change
   pub edits : All (EditsText k) changes
@@ -43,6 +47,7 @@ pub record IsRevised (old new : State) (k : ℕ) (section : Identifier) (reads :
   pub here : text new.held.history section ≡ reads
   pub elsewhere : (t : Identifier) → t ≢ section → text new.held.history t ≡ text old.held.history t
   pub others : (t : Identifier) → t ≢ section → shown (within t) new.held.history ≡ shown (within t) old.held.history
+  pub ordered : (t : Identifier) → t ≢ section → order (within t) new.held.history ≡ order (within t) old.held.history
   pub keeps : KeepsArrangement old.held.history new.held.history
 
 -- the history holds none of these elements: not shown ones, and not hidden ones
@@ -57,13 +62,14 @@ StayBetween history from old new (h ∷ hs) =
     (come : List Identifier) × (rest : List Identifier) × (length come ≡ h.new_len) × AreNew history come
     × (new ≡ take (h.old_at - from) (drop from old) ++ come ++ rest) × StayBetween history (h.old_at + h.old_len) old rest hs
 
--- There are hunks that transform one text into the other, in which whole words go and come, and that leave the lines of a
--- heaviest common order; two texts that are the same have none. Of the elements those stay that stand between the hunks,
+-- There are hunks that transform one text into the other, in which whole words go and come, that are as short as these
+-- allow, and that leave the lines of a heaviest common order; two texts that are the same have none. Of the elements those stay that stand between the hunks,
 -- and no others: what comes in the place of a hunk is new to the history.
 pub record KeepsCommon (history : List Op) (old_text new_text : List ℕ) (old new : List Identifier) : Type 0 where
   pub hunks : List Hunk
   pub transforms : Transforms nat_eq old_text new_text hunks
   pub words : All (KeepsWords old_text new_text) hunks
+  pub tight : All (IsTight old_text new_text) hunks
   pub unchanged : old_text ≡ new_text → hunks ≡ []
   pub lines : (old_text ≡ new_text → ⊥) → KeepsLines old_text new_text hunks
   pub stays : StayBetween history 0 old new hunks

@@ -11,7 +11,8 @@ ghost use Rattle.catalogue_notes.specs.Arranged.{arranged};
 ghost use Rattle.catalogue_notes.specs.Moving.{IsMoveMade};
 ghost use Rattle.catalogue_notes.specs.Outlining.{entry_sections};
 ghost use Rattle.section_plan.specs.Orders.{ArePlaced, IsOrder};
-ghost use Rattle.draft_plan.specs.Arranging.{ArePlaces, IsOrderOf, PutsPlace};
+ghost use Rattle.draft_plan.specs.Arranging.{ArePlacesTo, AreStaying, ArrangesFew, IsOrderOf, MovesPart, PutsPlace};
+ghost use Rattle.draft_plan.specs.Limits.{CostsShaping, cost};
 ghost use Rattle.draft_plan.specs.Resizing.{AreDistinct};
 ghost use Rattle.draft_plan.specs.Shaping.{Shapes};
 
@@ -109,7 +110,8 @@ fn put_place(places: &mut Vec<Option<usize>>, part: usize, place: usize)
 
 /// Where the section of each part that has one stands.
 fn places_of(alloc: Global, pairs: &Pairs, order: &[usize]) -> Result<Vec<Option<usize>>, NoMemory>
-    ensures { IfOk result (λ places. ArePlaces order.now places.items) }
+    requires { IsOrder order.now }
+    ensures { IfOk result (λ places. ArePlacesTo order.now pairs.now (length order.now) places.items) }
 {
     let mut places = vec![in alloc; None; order.len()]?;
     'order: for (place, part) in order.iter().enumerate() {
@@ -124,6 +126,7 @@ fn places_of(alloc: Global, pairs: &Pairs, order: &[usize]) -> Result<Vec<Option
 fn stays_of(alloc: Global, pairs: &Pairs, order: &[usize]) -> Result<Vec<bool>, NoMemory>
     requires { IsOrder order.now }
     ensures long { IfOk result (λ stays. length stays.items ≡ length order.now) }
+    ensures staying { IfOk result (λ stays. AreStaying order.now pairs.now stays.items) }
     ensures placed { IfOk result (λ stays. ArePlaced order.now stays.items 0) }
 {
     let places = places_of(alloc, pairs, order)?;
@@ -138,6 +141,7 @@ fn move_one(alloc: Global, replica: &mut Replica, step: Step) -> Result<u32, Rev
     requires from_within { step.from < length (arranged replica.old.held.history) }
     requires to_within { step.to < length (arranged replica.old.held.history) }
     ensures shapes { Shapes replica.old replica.new result }
+    ensures costs { CostsShaping replica.old replica.new (cost 1 1 1) result }
     ensures moved { IfOk result (λ n. IsMoveMade replica.old replica.new step.from step.to n) }
     ensures shown { OnOk result (shown catalogue replica.new.held.history ≡ shown catalogue replica.old.held.history) }
     ensures settled { IsSettled replica.new.held }
@@ -163,8 +167,10 @@ fn move_next(
     requires within { part < length order.old.items }
     requires long { length stays.now ≡ length order.old.items }
     ensures shapes { Shapes replica.old replica.new result }
+    ensures costs { CostsShaping replica.old replica.new (cost 1 1 1) result }
     ensures order { OnOk result (IsOrder order.new.items) }
     ensures placed { OnOk result (ArePlaced order.new.items stays.now (part + 1)) }
+    ensures moved { OnOk result (MovesPart replica.old.held.history replica.new.held.history stays.now sections.now part) }
     ensures long { OnOk result (length order.new.items ≡ length order.old.items) }
     ensures arranged { OnOk result (IsOrderOf sections.now (arranged replica.new.held.history) order.new.items) }
     ensures shown { OnOk result (shown catalogue replica.new.held.history ≡ shown catalogue replica.old.held.history) }
@@ -191,7 +197,10 @@ pub(crate) fn arrange(
     requires shown { (s : Identifier) → Contains (shown catalogue replica.old.held.history) s ↔ Contains sections.now s }
     requires once { AreDistinct sections.now }
     ensures shapes { Shapes replica.old replica.new result }
+    ensures costs { CostsShaping replica.old replica.new
+        (cost (length sections.now) (length sections.now) (length sections.now)) result }
     ensures arranged { OnOk result (arranged replica.new.held.history ≡ sections.now) }
+    ensures few { OnOk result (ArrangesFew replica.old.held.history replica.new.held.history pairs.now sections.now) }
     ensures settled { IsSettled replica.new.held }
     ensures stands { Stands replica.new }
 {

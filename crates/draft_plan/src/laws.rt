@@ -1,5 +1,6 @@
 //! Laws of drafts: each function takes and answers nothing, and its clauses are the law.
-ghost use Rattle.draft_plan.specs.Laws.{FormOfParts, PartsOfForm};
+ghost use Rattle.draft_plan.specs.Laws.{FormOfParts, OthersAreSpared, PartsOfForm};
+ghost use Rattle.draft_plan.specs.Passages.{PassagesStay};
 ghost use Rattle.draft_plan.specs.Plain.{ArrangedReads};
 
 /// The form of a draft's parts is the draft, but for its last LF and for empty lines behind headings.
@@ -15,4 +16,15 @@ pub fn parts_of_form()
 /// What is printed of a replica is a draft of the headings and texts that it shows, where no text has a heading.
 pub fn arranged_reads()
     ensures { ArrangedReads }
+{}
+
+/// What a revision lacks stays, in whatever comes of it and of what others made, unless they delete it themselves.
+pub fn others_are_spared()
+    ensures { OthersAreSpared }
+{}
+
+/// Where the first and the last letter of a passage stand in lines that stay, both stay, and where both stand in one such
+/// line, or the section keeps its text, the passage stays: so a comment on it still names what it named.
+pub fn passages_stay()
+    ensures { PassagesStay }
 {}

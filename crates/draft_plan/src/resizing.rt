@@ -1,6 +1,6 @@
 //! Sections dropped and added, until there is one for each part of a draft.
 
-ghost use Rattle.std.specs.Prelude.{◌≡◌, ◌<◌, ◌≤◌, ℕ, [], ◌∷◌, ◌++◌, IfErr, IfOk, OnOk, Some, length, slice_get};
+ghost use Rattle.std.specs.Prelude.{◌≡◌, ◌+◌, ◌<◌, ◌≤◌, ℕ, [], ◌∷◌, ◌++◌, IfErr, IfOk, Ok, OnOk, Some, length, slice_get};
 ghost use Rattle.std.specs.List.{Contains};
 ghost use Rattle.fugue_ids.specs.Identifiers.{Identifier};
 ghost use Rattle.origin_model.specs.declared.operations.Place.TheVariants.{Catalogue as catalogue};
@@ -10,9 +10,10 @@ ghost use Rattle.origin_model.specs.taking.Taking.{IsSettled};
 ghost use Rattle.catalogue_notes.specs.Arranged.{arranged};
 ghost use Rattle.catalogue_notes.specs.Outlining.{IsOutline, entry_sections};
 ghost use Rattle.section_plan.specs.Matching.{IsMatching, section_of};
+ghost use Rattle.draft_plan.specs.Limits.{CostsShaping, LacksRoom, cost};
 ghost use Rattle.draft_plan.specs.Resizing.{AreDistinct, AreLeft, AreTargets, IsAdded, IsBehind, IsPartTaken, IsWithout};
 ghost use Rattle.draft_plan.specs.Revision.{StopsAtLimit};
-ghost use Rattle.draft_plan.specs.Shaping.{Shapes};
+ghost use Rattle.draft_plan.specs.Shaping.{KeepsPlaces, Reshapes, Shapes};
 
 use crate::fault::ReviseFault;
 use crate::titles::title_of;
@@ -38,7 +39,9 @@ fn drop_one(replica: &mut Replica, section: ElementId) -> Result<u32, ReviseFaul
     requires settled { IsSettled replica.old.held }
     requires stands { Stands replica.old }
     requires there { Contains (shown catalogue replica.old.held.history) section }
-    ensures shapes { Shapes replica.old replica.new result }
+    ensures shapes { Reshapes replica.old replica.new result }
+    ensures costs { CostsShaping replica.old replica.new (cost 1 0 0) result }
+    ensures places { OnOk result (KeepsPlaces replica.old.held.history replica.new.held.history) }
     ensures gone { OnOk result (IsWithout section (shown catalogue replica.old.held.history) (shown catalogue replica.new.held.history)) }
     ensures settled { IsSettled replica.new.held }
     ensures stands { Stands replica.new }
@@ -52,7 +55,9 @@ fn drop_free(replica: &mut Replica, entries: &[Entry], pairs: &Pairs) -> Result<
     requires settled { IsSettled replica.old.held }
     requires stands { Stands replica.old }
     requires outline { IsOutline replica.old.held.history entries.now }
-    ensures shapes { Shapes replica.old replica.new result }
+    ensures shapes { Reshapes replica.old replica.new result }
+    ensures costs { CostsShaping replica.old replica.new (cost (length entries.now) 0 0) result }
+    ensures places { OnOk result (KeepsPlaces replica.old.held.history replica.new.held.history) }
     ensures left { OnOk result (AreLeft (entry_sections entries.now) pairs.now (length entries.now) (shown catalogue replica.new.held.history)) }
     ensures settled { IsSettled replica.new.held }
     ensures stands { Stands replica.new }
@@ -88,8 +93,10 @@ fn add_one(
     requires settled { IsSettled replica.old.held }
     requires stands { Stands replica.old }
     requires within { number ≤ length (shown catalogue replica.old.held.history) }
-    ensures added { IfOk result (λ section. IsAdded replica.old replica.new section) }
+    ensures added { IfOk result (λ section. IsAdded replica.old replica.new number title.now section) }
     ensures stops { IfErr result (λ why. StopsAtLimit replica.old replica.new why) }
+    ensures costs { OnOk result (CostsShaping replica.old replica.new (cost 1 1 0) (Ok 1)) }
+    ensures lacks { IfErr result (λ why. LacksRoom replica.old (cost 1 1 0) why) }
     ensures settled { IsSettled replica.new.held }
     ensures stands { Stands replica.new }
 {
@@ -122,7 +129,8 @@ fn take_part(
     requires there { (s : Identifier) → Contains sections.old.items s → Contains (shown catalogue replica.old.held.history) s }
     requires within { (i : ℕ) → section_of pairs.now part ≡ Some i → i < length entries.now }
     ensures shapes { Shapes replica.old replica.new result }
-    ensures taken { OnOk result (IsPartTaken replica.old replica.new (entry_sections entries.now) (section_of pairs.now part)
+    ensures costs { CostsShaping replica.old replica.new (cost 1 1 0) result }
+    ensures taken { OnOk result (IsPartTaken replica.old replica.new (entry_sections entries.now) (section_of pairs.now part) title.now
         sections.old.items sections.new.items) }
     ensures settled { IsSettled replica.new.held }
     ensures stands { Stands replica.new }
@@ -153,6 +161,8 @@ fn add_missing(
     requires once { AreDistinct (entry_sections entries.now) }
     requires none { sections.old.items ≡ [] }
     ensures shapes { Shapes replica.old replica.new result }
+    ensures costs { CostsShaping replica.old replica.new (cost (length parts.now) (length parts.now) 0) result }
+    ensures places { OnOk result (KeepsPlaces replica.old.held.history replica.new.held.history) }
     ensures targets { OnOk result (AreTargets replica.old replica.new (entry_sections entries.now) pairs.now (length parts.now) sections.new.items) }
     ensures settled { IsSettled replica.new.held }
     ensures stands { Stands replica.new }
@@ -179,7 +189,10 @@ pub(crate) fn resize(
     requires outline { IsOutline replica.old.held.history entries.now }
     requires matching { IsMatching (length entries.now) (length parts.now) pairs.now }
     requires none { sections.old.items ≡ [] }
-    ensures shapes { Shapes replica.old replica.new result }
+    ensures shapes { Reshapes replica.old replica.new result }
+    ensures costs { CostsShaping replica.old replica.new
+        (cost (length entries.now + length parts.now) (length parts.now) 0) result }
+    ensures places { OnOk result (KeepsPlaces replica.old.held.history replica.new.held.history) }
     ensures targets { OnOk result (AreTargets replica.old replica.new (arranged replica.old.held.history) pairs.now (length parts.now) sections.new.items) }
     ensures settled { IsSettled replica.new.held }
     ensures stands { Stands replica.new }

@@ -1,14 +1,17 @@
 //! The text of one section, revised by cuts and puts.
 
-ghost use Rattle.std.specs.Prelude.{◌≡◌, ◌≢◌, ◌↔◌, ◌+◌, ◌≤◌, IfErr, IfOk, Err, None, length, nat_eq, string_bytes};
+ghost use Rattle.std.specs.Prelude.{◌≡◌, ◌≢◌, ◌↔◌, ◌+◌, ◌≤◌, IfErr, IfOk, Err, None, Some, length, nat_eq, string_bytes};
 ghost use Rattle.std.specs.Str.{chars, encode_utf8_all};
+ghost use Rattle.fugue_ids.specs.Identifiers.{Identifier};
 ghost use Rattle.origin_model.specs.edits.Effect.{OfSection};
 ghost use Rattle.origin_model.specs.edits.Refusal.{section_shown};
 ghost use Rattle.origin_model.specs.edits.State.{Stands};
 ghost use Rattle.origin_model.specs.order.Printed.{text as text_on};
 ghost use Rattle.origin_model.specs.taking.Taking.{IsSettled};
 ghost use Rattle.text_diff.specs.Hunks.{Transforms};
-ghost use Rattle.draft_plan.specs.Revising.{AreHunksMade, IsHunkMade, IsLimit, IsWithinText};
+ghost use Rattle.draft_plan.specs.Limits.{Costs, CostsText, by_edit, hunk_cost, hunks_cost};
+ghost use Rattle.draft_plan.specs.Needed.{InText, MakesOnly};
+ghost use Rattle.draft_plan.specs.Revising.{AreHunksMade, IsHunkMade, IsLimit, IsWithinText, elements};
 ghost use Rattle.draft_plan.specs.Texts.{CountsHunks, IsRevised, StopsEditing, StopsRevising};
 
 use fugue_ids::NoMemory;
@@ -53,6 +56,7 @@ fn revise_hunk(
         (λ x. IsHunkMade replica.old replica.new section x hunk new.now n)) }
     ensures stops { IfErr result (λ fault. StopsEditing replica.old replica.new section fault) }
     ensures limits { IfErr result (λ fault. IsLimit fault) }
+    ensures costs { Costs replica.old replica.new (hunk_cost hunk) (by_edit result) }
     ensures settled { IsSettled replica.new.held }
     ensures stands { Stands replica.new }
 {
@@ -78,6 +82,7 @@ fn revise_hunks(
         (λ x. AreHunksMade replica.old replica.new section x hunks.now new.now n)) }
     ensures stops { IfErr result (λ fault. StopsEditing replica.old replica.new section fault) }
     ensures limits { IfErr result (λ fault. IsLimit fault) }
+    ensures costs { Costs replica.old replica.new (hunks_cost hunks.now) (by_edit result) }
     ensures settled { IsSettled replica.new.held }
     ensures stands { Stands replica.new }
 {
@@ -105,11 +110,15 @@ pub fn revise_text(
         (λ x. n ≤ length (text_on replica.old.held.history x) + length (chars new.now))) }
     ensures keeps { IfOk result (λ n. OfSection replica.old section
         (λ x. CountsHunks replica.old replica.new x n)) }
+    ensures touches { IfOk result (λ n. OfSection replica.old section
+        (λ x. MakesOnly (InText x (elements replica.old x)) replica.old replica.new)) }
     ensures same { IfOk result (λ n. OfSection replica.old section (λ x.
         encode_utf8_all (text_on replica.old.held.history x) ≡ new.now → (n ≡ 0) × (replica.new ≡ replica.old))) }
     ensures absent { (result ≡ Err EditFault.NoSection) ↔ (section_shown replica.old section ≡ None) }
     ensures in_range { result ≢ Err EditFault.OutOfRange }
     ensures stops { IfErr result (λ fault. StopsRevising replica.old replica.new section fault) }
+    ensures costs { (x : Identifier) → section_shown replica.old section ≡ Some x
+        → CostsText replica.old replica.new x (chars new.now) result }
     ensures settled { IsSettled replica.new.held }
     ensures stands { Stands replica.new }
 {

@@ -1,17 +1,20 @@
 //! A whole manuscript, revised until it is a draft.
 
 ghost use Rattle.std.specs.Prelude.{◌≡◌, ◌↔◌, IfErr, IfOk, IsTrue, OnOk, Some, length, map, string_bytes};
-ghost use Rattle.std.specs.Str.{encode_utf8_all};
+ghost use Rattle.std.specs.Str.{chars, encode_utf8_all};
 ghost use Rattle.fugue_ids.specs.Identifiers.{Identifier};
 ghost use Rattle.origin_model.specs.edits.Refusal.{section_shown};
 ghost use Rattle.origin_model.specs.edits.State.{Stands};
 ghost use Rattle.origin_model.specs.order.Printed.{text as text_on};
 ghost use Rattle.origin_model.specs.taking.Taking.{IsSettled};
 ghost use Rattle.catalogue_notes.specs.Arranged.{arranged, heading};
+ghost use Rattle.catalogue_notes.specs.Lift.{moves};
 ghost use Rattle.catalogue_notes.specs.Moving.{section_placed};
 ghost use Rattle.catalogue_notes.specs.Outlining.{IsEntry, IsOutline};
 ghost use Rattle.draft_plan.specs.Keeping.{KeepsSections};
+ghost use Rattle.draft_plan.specs.Limits.{Costs, IsOutOfMemory, cost, filling_cost, revision_cost, section_cost};
 ghost use Rattle.draft_plan.specs.Matching.{Matches, shown_part};
+ghost use Rattle.draft_plan.specs.Needed.{InTexts, MakesOnly, NoneIsNeedless};
 ghost use Rattle.draft_plan.specs.Plain.{arranged_part, arranged_parts};
 ghost use Rattle.draft_plan.specs.Readings.{seen_part};
 ghost use Rattle.draft_plan.specs.Revision.{IsRevision, MakesNothing, StopsAtLimit};
@@ -36,8 +39,11 @@ pub fn revise(alloc: Global, replica: &mut Replica, draft: &Draft<'_>) -> Result
     requires { IsSettled replica.old.held }
     ensures revised { IfOk result (λ n. IsRevision replica.old replica.new draft.now n) }
     ensures keeps { OnOk result (KeepsSections replica.old.held.history replica.new.held.history) }
+    ensures needed { OnOk result (NoneIsNeedless replica.old replica.new) }
     ensures same { IfOk result (λ n. MakesNothing replica.old replica.new draft.now n) }
     ensures stops { IfErr result (λ why. StopsAtLimit replica.old replica.new why) }
+    ensures costs { Costs replica.old replica.new (revision_cost replica.old.held.history draft.now) result }
+    ensures spared { arranged_parts replica.old.held.history ≡ draft.now → IfErr result (λ why. IsOutOfMemory why) }
     ensures settled { IsSettled replica.new.held }
     ensures stands { Stands replica.new }
 {
@@ -46,8 +52,7 @@ pub fn revise(alloc: Global, replica: &mut Replica, draft: &Draft<'_>) -> Result
     let entries = outline.entries();
     let pairs = match_parts(alloc, replica, entries, parts)?;
     let Some(pairs) = pairs else {
-        let unchanged = fill(alloc, replica, entries, parts)?;
-        return Ok(unchanged);
+        return Ok(0);
     };
     let shaped = shape(alloc, replica, entries, parts, &pairs)?;
     let filled = fill_shaped(alloc, replica, parts)?;
@@ -160,7 +165,11 @@ fn fill_shaped(alloc: Global, replica: &mut Replica, parts: &[Part<'_>]) -> Resu
     requires count { length (arranged replica.old.held.history) ≡ length parts.now }
     ensures revised { IfOk result (λ n. IsRevision replica.old replica.new (map seen_part parts.now) n) }
     ensures arranged { OnOk result (arranged replica.new.held.history ≡ arranged replica.old.held.history) }
+    ensures touches { OnOk result (MakesOnly (InTexts replica.old.held.history) replica.old replica.new) }
+    ensures moved { OnOk result (moves replica.new.held.history ≡ moves replica.old.held.history) }
     ensures stops { IfErr result (λ why. StopsAtLimit replica.old replica.new why) }
+    ensures costs { Costs replica.old replica.new (filling_cost replica.old.held.history
+        (arranged replica.old.held.history) (map seen_part parts.now)) result }
     ensures settled { IsSettled replica.new.held }
     ensures stands { Stands replica.new }
 {
@@ -182,7 +191,11 @@ fn fill(
     ensures revised { IfOk result (λ n. IsRevision replica.old replica.new (map seen_part parts.now) n) }
     ensures same { IfOk result (λ n. MakesNothing replica.old replica.new (map seen_part parts.now) n) }
     ensures arranged { OnOk result (arranged replica.new.held.history ≡ arranged replica.old.held.history) }
+    ensures touches { OnOk result (MakesOnly (InTexts replica.old.held.history) replica.old replica.new) }
+    ensures moved { OnOk result (moves replica.new.held.history ≡ moves replica.old.held.history) }
     ensures stops { IfErr result (λ why. StopsAtLimit replica.old replica.new why) }
+    ensures costs { Costs replica.old replica.new (filling_cost replica.old.held.history
+        (arranged replica.old.held.history) (map seen_part parts.now)) result }
     ensures settled { IsSettled replica.new.held }
     ensures stands { Stands replica.new }
 {
@@ -218,6 +231,8 @@ fn fill_section(
     ensures filled { IfOk result
         (λ n. IsFilled replica.old replica.new entry.now.section (record { title = title.now; text = text.now }) n) }
     ensures stops { IfErr result (λ why. StopsAtLimit replica.old replica.new why) }
+    ensures costs { Costs replica.old replica.new
+        (section_cost (text_on replica.old.held.history entry.now.section) (chars text.now)) result }
     ensures settled { IsSettled replica.new.held }
     ensures stands { Stands replica.new }
 {
@@ -241,6 +256,7 @@ fn retitle_other(
         ≡ encode_utf8_all (heading replica.old.held.history entry.now.section) }
     ensures titled { IfOk result (λ n. IsHeadedBy replica.old replica.new entry.now.section title.now n) }
     ensures stops { IfErr result (λ why. StopsAtLimit replica.old replica.new why) }
+    ensures costs { Costs replica.old replica.new (cost 1 1 1) result }
     ensures settled { IsSettled replica.new.held }
     ensures stands { Stands replica.new }
 {

@@ -4,3 +4,5 @@ pub mod RiseLemmas
 pub mod ChosenLemmas
 pub mod OrderLemmas
 pub mod LikenessLemmas
+pub mod AlikeLemmas
+pub mod MarkLemmas

@@ -1,8 +1,10 @@
 -- How far two lists are the same.
-use Rattle.std.proofs.Common.{List, [], ap, arith, drop, get_or, length, nat_eq, refl, true, false, ℕ, ◌+◌, ◌-◌, ◌<◌, ◌≤◌, ◌∙◌, ◌∷◌, ◌≡◌, cond, reverse}
-use Rattle.std.specs.List.{common_prefix_len}
+use Rattle.std.proofs.Common.{Bool, ◌&&◌, ◌||◌, List, [], ap, arith, drop, get_or, length, nat_eq, refl, true, false, ℕ, ◌+◌, ◌-◌, ◌<◌, ◌≤◌, ◌∙◌, ◌∷◌, ◌≡◌, cond, reverse, suc}
+use Rattle.std.specs.List.{common_prefix_len, list_any}
+use Rattle.std.specs.Char.Unicode.Alphabetic.{is_alphabetic}
+use Rattle.section_plan.specs.Likeness.{alike, longer, shares_third}
 use Rattle.std.proofs.Common.{eq-eqb, inl, inr}
-use Rattle.std.proofs.lemmas.Bool.{cases_lt, ne_eqb}
+use Rattle.std.proofs.lemmas.Bool.{cases_lt, lt-leb, ne_eqb}
 use Rattle.std.proofs.lemmas.List.{drop_all, drop_more, get_or-reverse, length-reverse}
 
 heads : (x y : ℕ) (xs ys : List ℕ) → nat_eq x y ≡ true → common_prefix_len nat_eq (x ∷ xs) (y ∷ ys) ≡ 1 + common_prefix_len nat_eq xs ys
@@ -62,3 +64,23 @@ pub end_all : (a b : List ℕ) (k : ℕ) → k ≤ length a → k ≤ length b �
     → common_prefix_len nat_eq (reverse a) (reverse b) ≡ k + common_prefix_len nat_eq (drop k (reverse a)) (drop k (reverse b)) → k ≡ common_prefix_len nat_eq (reverse a) (reverse b)
 end_all a b k l m end was =
     common_all (reverse a) (reverse b) k (omega (arith, length-reverse a)) (omega (arith, length-reverse b)) (λ x y. end (omega (arith, length-reverse a)) (omega (arith, length-reverse b))) was
+
+and_false : (b : Bool) → b && false ≡ false
+and_false true = refl
+and_false false = refl
+
+no_third : (n : ℕ) → shares_third 0 (suc n) ≡ false
+no_third n = lt-leb (suc n) 0 (omega arith)
+
+none_shared : (long : List ℕ) → list_any is_alphabetic long && (shares_third 0 (length long) || shares_third 0 (length long)) ≡ false
+none_shared [] = refl
+none_shared (x ∷ long) = ap (λ b. list_any is_alphabetic (x ∷ long) && (b || b)) (no_third (length long)) ∙ and_false (list_any is_alphabetic (x ∷ long))
+
+-- an empty text is alike with none
+pub empty_old : (b : List ℕ) → alike [] b ≡ false
+empty_old b = none_shared (longer [] b)
+
+pub empty_new : (a : List ℕ) → alike a [] ≡ false
+empty_new a =
+    (λ i. list_any is_alphabetic (longer a []) && (shares_third (none_right a i) (length (longer a [])) || shares_third (none_right (reverse a) i) (length (longer a []))))
+    ∙ none_shared (longer a [])

@@ -3,3 +3,5 @@ pub mod Completing
 pub mod Rises
 pub mod Orders
 pub mod Likeness
+pub mod Alike
+pub mod Marks

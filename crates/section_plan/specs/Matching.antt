@@ -1,5 +1,7 @@
 -- Which sections and which parts of a draft belong together. Sections and parts are counted from 0.
 use Rattle.std.specs.Prelude.{◌≡◌, ◌≢◌, ◌⊎◌, ◌↔◌, ℕ, ◌<◌, Bool, true, false, not, Option, Some, None, List, [], ◌∷◌, length, slice_index_or}
+use Rattle.std.specs.Str.{chars}
+use Rattle.section_plan.specs.Likeness.{alike}
 use Rattle.section_plan.specs.declared.pairs.Pairs.{Pairs}
 use Rattle.section_plan.specs.declared.part.Part.{Part}
 use Rattle.section_plan.specs.declared.keys.Key.{Key}
@@ -61,6 +63,14 @@ AddsSame old new sections parts key = (i j : ℕ) → section_of new j ≡ Some 
 abbrev pub NoneIsLeft : Pairs → (sections parts : List Part) → Key → Type 0
 NoneIsLeft p sections parts key = (i j : ℕ) → i < length sections → j < length parts → part_of p i ≡ None → section_of p j ≡ None
     → is_keyed key (part_at parts j) ≡ true → key_at key sections i ≢ key_at key parts j
+
+-- the scalars of the text at a place
+abbrev pub text_at : List Part → ℕ → List ℕ
+text_at ps i = chars (key_at Text ps i)
+
+-- no section and no part that are left without a pair have texts that are alike
+abbrev pub NoneIsAlike : Pairs → (sections parts : List Part) → Type 0
+NoneIsAlike p sections parts = (i j : ℕ) → i < length sections → j < length parts → part_of p i ≡ None → section_of p j ≡ None → alike (text_at sections i) (text_at parts j) ≡ false
 
 -- pairs came, of sections and parts that have the same key, and none went
 pub record GrowsBy (key : Key) (sections parts : List Part) (old new : Pairs) : Type 0 where

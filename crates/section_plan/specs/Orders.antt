@@ -1,5 +1,5 @@
 -- The order in which the sections of a draft's parts stand: a list of the parts' numbers.
-use Rattle.std.specs.Prelude.{◌≡◌, ◌⊎◌, ℕ, ◌+◌, ◌-◌, ◌<◌, Bool, true, false, Option, Some, None, List, insert, length, remove, slice_index, slice_index_or}
+use Rattle.std.specs.Prelude.{◌≡◌, ◌≢◌, ◌⊎◌, ℕ, ◌+◌, ◌-◌, ◌<◌, Bool, true, false, Option, Some, None, List, insert, length, remove, slice_index, slice_index_or}
 use Rattle.section_plan.specs.declared.orders.Step.{Step}
 
 -- each number below the length stands in the list once
@@ -29,7 +29,7 @@ pub record IsStepOf (order : List ℕ) (part from to : ℕ) : Type 0 where
   pub first : part ≡ 0 → to ≡ 0
   pub behind : (before : ℕ) → part ≡ before + 1 → (0 < to) × (slice_index (remove order from) (to - 1) ≡ before)
 
--- the section of a part was placed: by a step, which it wants since it does not stay, or by none
+-- the section of a part was placed: by a step, which it wants since it does not stay and stands elsewhere, or by none
 abbrev pub Places : (old new : List ℕ) → List Bool → (part : ℕ) → Option Step → Type 0
 Places old new stays part None = new ≡ old
-Places old new stays part (Some step) = (new ≡ moved old step.from step.to part) × IsStepOf old part step.from step.to × (slice_index_or stays part false ≡ false)
+Places old new stays part (Some step) = (new ≡ moved old step.from step.to part) × IsStepOf old part step.from step.to × (slice_index_or stays part false ≡ false) × (step.from ≢ step.to)

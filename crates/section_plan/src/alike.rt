@@ -1,70 +1,166 @@
 //! Pairs of sections and parts with texts that are alike.
 
-ghost use Rattle.section_plan.specs.Matching.{AreKept};
+ghost use Rattle.std.specs.Prelude.{◌≡◌, ◌↔◌, ◌<◌, IfNone, IfOk, IfSome, IsTrue, None, OnOk, length, reverse, true};
+ghost use Rattle.std.specs.Str.{chars};
+ghost use Rattle.section_plan.specs.Alike.{AreWithin, HasTexts, IsServed, NoneAmong};
+ghost use Rattle.section_plan.specs.Likeness.{alike};
+ghost use Rattle.section_plan.specs.Marks.{AreThirds, IsIndex, list_of, reversed_of};
+ghost use Rattle.section_plan.specs.Matching.{AreKept, IsMatching, NoneIsAlike, part_of as part_in};
 
 use crate::likeness::are_alike;
-use crate::pairing::{free_parts, free_sections};
+use crate::marks::{Marks, find_fronted, third_mark};
 use crate::pairs::Pairs;
 use crate::part::Part;
 use fugue_ids::NoMemory;
 use std::alloc::Global;
 
-/// The scalars of the text of a side.
+/// The scalars of the text of a section, from the front on and from the end on.
 #[derive(Drop)]
-struct Scalars {
-    place: usize,
-    list: Vec<char>,
+pub(crate) struct Scalars {
+    pub(crate) place: usize,
+    pub(crate) list: Vec<char>,
+    pub(crate) reversed: Vec<char>,
 }
 
-fn scalars_in(alloc: Global, text: &str) -> Result<Vec<char>, NoMemory> {
+fn scalars_in(alloc: Global, text: &str) -> Result<Vec<char>, NoMemory>
+    ensures { IfOk result (λ scalars. scalars.items ≡ chars text.now) }
+{
     Ok(text.chars().collect(alloc)?)
 }
 
-/// The scalars of the texts that stand at these places.
-fn scalars_of(
-    alloc: Global,
-    sides: &[Part<'_>],
-    places: &[usize],
-) -> Result<Vec<Scalars>, NoMemory> {
+fn reversed_in(alloc: Global, text: &str) -> Result<Vec<char>, NoMemory>
+    ensures { IfOk result (λ scalars. scalars.items ≡ reverse (chars text.now)) }
+{
+    let mut scalars = scalars_in(alloc, text)?;
+    scalars.as_mut_slice().reverse();
+    Ok(scalars)
+}
+
+/// The scalars of the texts of the free sections that are not empty: an empty one is alike with none.
+fn scalars_of(alloc: Global, pairs: &Pairs, sections: &[Part<'_>]) -> Result<Vec<Scalars>, NoMemory>
+    ensures { IfOk result (λ texts. HasTexts pairs.now sections.now (length sections.now) texts.items) }
+{
     let mut texts = Vec::new(alloc);
-    'places: for place in places {
-        if let Some(side) = sides.get(*place) {
-            texts.push(Scalars {
-                place: *place,
-                list: scalars_in(alloc, side.text)?,
-            })?;
+    'sections: for (place, section) in sections.iter().enumerate() {
+        if pairs.part_of(place).is_none() {
+            let list = scalars_in(alloc, section.text)?;
+            if !list.is_empty() {
+                let reversed = reversed_in(alloc, section.text)?;
+                texts.push(Scalars {
+                    place,
+                    list,
+                    reversed,
+                })?;
+            }
         }
     }
     Ok(texts)
 }
 
-/// The first section whose text is alike.
-fn find_alike(pairs: &Pairs, sections: &[Scalars], text: &[char]) -> Option<usize> {
-    'sections: for section in sections {
-        if pairs.part_of(section.place).is_none() && are_alike(section.list.as_slice(), text) {
-            return Some(section.place);
-        }
-    }
-    None
+/// Whether the section is free, and its text is alike.
+pub(crate) fn is_candidate(pairs: &Pairs, section: &Scalars, text: &[char]) -> bool
+    ensures { IsTrue result ↔ ((part_in pairs.now section.now.place ≡ None) × (alike section.now.list.items text.now ≡ true)) }
+{
+    pairs.part_of(section.place).is_none() && are_alike(section.list.as_slice(), text)
 }
 
-/// Pairs free sections and parts with texts that are alike.
+/// The texts of free sections, by the marks of their fronts and of their ends.
+#[derive(Drop)]
+struct Index {
+    texts: Vec<Scalars>,
+    front: Marks,
+    end: Marks,
+}
+
+fn front_marks(alloc: Global, texts: &[Scalars]) -> Result<Vec<u64>, NoMemory>
+    ensures { IfOk result (λ marks. AreThirds list_of texts.now (length texts.now) marks.items) }
+{
+    let mut marks = Vec::new(alloc);
+    'texts: for text in texts {
+        marks.push(third_mark(text.list.as_slice()))?;
+    }
+    Ok(marks)
+}
+
+fn end_marks(alloc: Global, texts: &[Scalars]) -> Result<Vec<u64>, NoMemory>
+    ensures { IfOk result (λ marks. AreThirds reversed_of texts.now (length texts.now) marks.items) }
+{
+    let mut marks = Vec::new(alloc);
+    'texts: for text in texts {
+        marks.push(third_mark(text.reversed.as_slice()))?;
+    }
+    Ok(marks)
+}
+
+/// The texts of the free sections.
+fn index_of(alloc: Global, pairs: &Pairs, sections: &[Part<'_>]) -> Result<Index, NoMemory>
+    ensures texts { IfOk result (λ index. HasTexts pairs.now sections.now (length sections.now) index.texts.items) }
+    ensures is { IfOk result (λ index. IsIndex index.texts.items index.front index.end) }
+{
+    let texts = scalars_of(alloc, pairs, sections)?;
+    let front = Marks::of(alloc, front_marks(alloc, texts.as_slice())?)?;
+    let end = Marks::of(alloc, end_marks(alloc, texts.as_slice())?)?;
+    Ok(Index { texts, front, end })
+}
+
+/// A free section whose text is alike.
+fn find_alike(pairs: &Pairs, index: &Index, text: &[char], reversed: &[char]) -> Option<usize>
+    requires index { IsIndex index.now.texts.items index.now.front index.now.end }
+    requires within { AreWithin (length pairs.now.of_section.items) index.now.texts.items }
+    requires reversed { reversed.now ≡ reverse text.now }
+    ensures within { IfSome result (λ place. place < length pairs.now.of_section.items) }
+    ensures free { IfSome result (λ place. part_in pairs.now place ≡ None) }
+    ensures none { IfNone result (NoneAmong pairs.now index.now.texts.items (length index.now.texts.items) text.now) }
+{
+    let texts = index.texts.as_slice();
+    if let Some(place) = find_fronted(pairs, texts, text, &index.front, text) {
+        return Some(place);
+    }
+    find_fronted(pairs, texts, text, &index.end, reversed)
+}
+
+/// Pairs a part that is free with a free section whose text is alike.
+fn serve_part(
+    alloc: Global,
+    pairs: &mut Pairs,
+    index: &Index,
+    place: usize,
+    text: &str,
+) -> Result<(), NoMemory>
+    requires part { place < length pairs.old.of_part.items }
+    requires index { IsIndex index.now.texts.items index.now.front index.now.end }
+    requires within { AreWithin (length pairs.old.of_section.items) index.now.texts.items }
+    ensures kept { AreKept pairs.old pairs.new }
+    ensures served { OnOk result (IsServed pairs.new index.now.texts.items place (chars text.now)) }
+{
+    if pairs.section_of(place).is_some() {
+        return Ok(());
+    }
+    let list = scalars_in(alloc, text)?;
+    if list.is_empty() {
+        return Ok(());
+    }
+    let reversed = reversed_in(alloc, text)?;
+    if let Some(section) = find_alike(pairs, index, list.as_slice(), reversed.as_slice()) {
+        pairs.add(section, place);
+    }
+    Ok(())
+}
+
+/// Pairs free sections and parts with texts that are alike, until there are no such ones.
 pub(crate) fn pair_alike(
     alloc: Global,
     pairs: &mut Pairs,
     sections: &[Part<'_>],
     parts: &[Part<'_>],
 ) -> Result<(), NoMemory>
-    ensures { AreKept pairs.old pairs.new }
+    requires { IsMatching (length sections.now) (length parts.now) pairs.old }
+    ensures kept { AreKept pairs.old pairs.new }
+    ensures done { OnOk result (NoneIsAlike pairs.new sections.now parts.now) }
 {
-    let old = free_sections(alloc, pairs, sections.len())?;
-    let new = free_parts(alloc, pairs, parts.len())?;
-    let old = scalars_of(alloc, sections, old.as_slice())?;
-    let new = scalars_of(alloc, parts, new.as_slice())?;
-    'parts: for part in new.as_slice() {
-        if let Some(section) = find_alike(pairs, old.as_slice(), part.list.as_slice()) {
-            pairs.pair_free(section, part.place);
-        }
+    let index = index_of(alloc, pairs, sections)?;
+    'parts: for (place, part) in parts.iter().enumerate() {
+        serve_part(alloc, pairs, &index, place, part.text)?;
     }
     Ok(())
 }

@@ -5,6 +5,7 @@ mod alike;
 mod completing;
 mod keys;
 mod likeness;
+mod marks;
 mod matching;
 mod orders;
 mod pairing;

@@ -1,10 +1,15 @@
+use Rattle.draft_plan.specs.Limits.{cost}
+use Rattle.draft_plan.proofs.EditCostLemmas.{shaping_join, shaping_more, shaping_none, shaping_stop}
+use Rattle.draft_plan.proofs.LimitLemmas.{up}
 use Rattle.std.proofs.Common.{ap, arith, length, subst, sym, ◌+◌, ◌∙◌, ◌≡◌}
 use Rattle.std.proofs.lemmas.Result.{err_from_is_err_and}
 use Rattle.catalogue_notes.specs.Arranged.{arranged}
 use Rattle.catalogue_notes.proofs.ArrangedLemmas.{arranged_shown}
 use Rattle.section_plan.specs.Orders.{ArePlaced, IsOrder}
 use Rattle.section_plan.proofs.OrderLemmas.{order_whole}
+use Rattle.draft_plan.specs.Arranging.{AreStaying, MovesPart}
 use Rattle.draft_plan.proofs.ArrangingLemmas.{arranged_order, order_all}
+use Rattle.draft_plan.proofs.FewMovesLemmas.{arranges_few, few_more, few_start}
 use Rattle.draft_plan.proofs.MakingLemmas.{makes_few}
 use Rattle.draft_plan.proofs.ShapeLemmas.{shaped_join, shaped_none, stops_shaped, wants_memory}
 use Rattle.draft_plan.proofs.arranging.arrange.Goals as goal
@@ -35,11 +40,17 @@ parts-init c =
       settled = c.requires.settled;
       stands = c.requires.stands;
       shaped = shaped_none s;
+      costs = shaping_none s (cost 0 0 0);
       order = is.0;
       placed = subst (λ o. ArePlaced o c.in_ok-stays.stays.items 0) c.as_slice.ensures.value c.in_ok-stays.ensures.placed;
       of = c.in_ok-order.ensures.order;
+      few = few_start s.held.history c.in_ok-stays.stays.items c.args.sections.now;
       long = is.1;
     }
+
+pub move_next-requires-clause-placed : goal.move_next-requires-clause-placed
+move_next-requires-clause-placed c =
+    subst (λ stays. ArePlaced c.parts.order.items stays c.parts.part) (sym c.as_slice-in-parts.ensures.value) c.parts.invariant.placed
 
 pub returns-in_err-made-clause-shapes : goal.returns-in_err-made-clause-shapes
 returns-in_err-made-clause-shapes c =
@@ -59,9 +70,14 @@ parts-preserved c =
       settled = e.settled;
       stands = e.stands;
       shaped = shaped_join c.args.replica.now c.parts.replica c.move_next.new.replica c.parts.made c.in_ok-made.field-0 c.parts.invariant.shaped e.shapes;
+      costs = shaping_join c.args.replica.now c.parts.replica c.move_next.new.replica (cost c.parts.part c.parts.part c.parts.part) (cost 1 1 1) (cost (c.parts.part + 1) (c.parts.part + 1) (c.parts.part + 1)) c.parts.made c.in_ok-made.field-0
+          (up (omega arith) (omega arith) (omega arith)) c.parts.invariant.costs e.costs;
       order = e.order;
       placed = subst (λ v. ArePlaced c.move_next.new.order.items v (c.parts.part + 1)) c.as_slice-in-parts.ensures.value e.placed;
       of = e.arranged;
+      few = few_more c.args.replica.now.held.history c.parts.replica.held.history c.move_next.new.replica.held.history c.in_ok-stays.stays.items c.args.sections.now c.parts.part c.requires.once
+          c.parts.invariant.stands.lawful c.parts.invariant.few
+          (subst (λ v. MovesPart c.parts.replica.held.history c.move_next.new.replica.held.history v c.args.sections.now c.parts.part) c.as_slice-in-parts.ensures.value e.moved);
       long = e.long ∙ c.parts.invariant.long;
     }
 
@@ -76,3 +92,36 @@ pub move_next-requires-clause-long : goal.move_next-requires-clause-long
 move_next-requires-clause-long c =
     let is = arranged_order c.args.replica.now.held.history c.args.sections.now c.in_ok-order.order.items c.requires.stands.lawful c.requires.shown c.requires.once c.in_ok-order.ensures.order in
     ap length c.as_slice-in-parts.ensures.value ∙ (c.in_ok-stays.ensures.long ∙ (ap length c.as_slice.ensures.value ∙ (is.1 ∙ sym c.parts.invariant.long)))
+
+pub returns-in_err-order-clause-costs : goal.returns-in_err-order-clause-costs
+returns-in_err-order-clause-costs c =
+    let p = err_from_is_err_and c.from_residual.result c.from_residual.ensures.1 in
+    rw (p.1, p.2) tt
+
+pub returns-in_err-stays-clause-costs : goal.returns-in_err-stays-clause-costs
+returns-in_err-stays-clause-costs c =
+    let p = err_from_is_err_and c.from_residual-in_err-stays.result c.from_residual-in_err-stays.ensures.1 in
+    rw (p.1, p.2) tt
+
+pub returns-in_err-made-clause-costs : goal.returns-in_err-made-clause-costs
+returns-in_err-made-clause-costs c =
+    let p = err_from_is_err_and c.from_residual-in_err-made.result c.from_residual-in_err-made.ensures.1 in
+    let n = c.parts.part in
+    let all = length c.args.sections.now in
+    rw (p.1, p.2)
+    (shaping_stop c.args.replica.now c.parts.replica (cost n n n) (cost 1 1 1) (cost all all all) c.parts.made c.in_err-made.field-0.0 (up (omega arith) (omega arith) (omega arith)) c.parts.invariant.costs c.in_err-made.ensures.costs)
+
+pub returns-clause-costs : goal.returns-clause-costs
+returns-clause-costs c =
+    let n = c.parts.part in
+    let all = length c.args.sections.now in
+    shaping_more c.args.replica.now c.parts.replica (cost n n n) (cost all all all) c.parts.made (up (omega arith) (omega arith) (omega arith)) c.parts.invariant.costs
+
+pub returns-clause-few : goal.returns-clause-few
+returns-clause-few c =
+    let h = c.args.replica.now.held.history in
+    let is = arranged_order h c.args.sections.now c.in_ok-order.order.items c.requires.stands.lawful c.requires.shown c.requires.once c.in_ok-order.ensures.order in
+    let staying = subst (λ o. AreStaying o c.args.pairs.now c.in_ok-stays.stays.items) c.as_slice.ensures.value c.in_ok-stays.ensures.staying in
+    let long = c.in_ok-stays.ensures.long ∙ ap length c.as_slice.ensures.value in
+    arranges_few h c.parts.replica.held.history c.args.pairs.now c.args.sections.now c.in_ok-order.order.items c.in_ok-stays.stays.items c.parts.part c.requires.stands.lawful is.0 c.in_ok-order.ensures.order is.1
+    staying long c.parts.invariant.few (omega arith)

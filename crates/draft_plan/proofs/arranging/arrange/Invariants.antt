@@ -1,9 +1,10 @@
-use Rattle.std.specs.Prelude.{◌≡◌, length}
+use Rattle.std.specs.Prelude.{◌≡◌, Ok, length}
 use Rattle.origin_model.specs.edits.State.{Stands}
 use Rattle.origin_model.specs.taking.Taking.{IsSettled}
 use Rattle.catalogue_notes.specs.Arranged.{arranged}
 use Rattle.section_plan.specs.Orders.{ArePlaced, IsOrder}
-use Rattle.draft_plan.specs.Arranging.{IsOrderOf}
+use Rattle.draft_plan.specs.Arranging.{IsOrderOf, MovesFewTo}
+use Rattle.draft_plan.specs.Limits.{CostsShaping, cost}
 use Rattle.draft_plan.specs.Shaping.{IsShaped}
 use Rattle.draft_plan.proofs.arranging.arrange.Given as goal
 
@@ -15,5 +16,7 @@ invariant-parts l = record {
   order : IsOrder l.order.items;
   placed : ArePlaced l.order.items l.stays.items l.part;
   of : IsOrderOf l.sections (arranged l.replica.held.history) l.order.items;
+  few : MovesFewTo l.fn.replica.held.history l.replica.held.history l.stays.items l.sections l.part;
   long : length l.order.items ≡ length l.sections;
+  costs : CostsShaping l.fn.replica l.replica (cost l.part l.part l.part) (Ok l.made);
 }

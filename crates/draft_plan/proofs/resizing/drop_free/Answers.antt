@@ -1,3 +1,7 @@
+use Rattle.std.proofs.Common.{length}
+use Rattle.draft_plan.specs.Limits.{cost}
+use Rattle.draft_plan.proofs.EditCostLemmas.{shaping_join, shaping_more, shaping_none, shaping_stop}
+use Rattle.draft_plan.proofs.LimitLemmas.{up}
 use Rattle.std.proofs.Common.{arith, inl, ◌+◌}
 use Rattle.std.proofs.lemmas.Result.{err_from_is_err_and}
 use Rattle.std.proofs.lemmas.Grind.{common_steps}
@@ -5,8 +9,8 @@ use Rattle.origin_model.specs.declared.operations.Place.TheVariants.{Catalogue a
 use Rattle.origin_model.specs.order.Printed.{shown}
 use Rattle.catalogue_notes.specs.Outlining.{entry_sections}
 use Rattle.draft_plan.proofs.MakingLemmas.{makes_few}
-use Rattle.draft_plan.proofs.ResizingLemmas.{entries_once, entry_section, left_goes, left_start, left_stays}
-use Rattle.draft_plan.proofs.ShapeLemmas.{shaped_join, shaped_none, stops_shaped}
+use Rattle.draft_plan.proofs.ResizingLemmas.{entries_once, entry_section, left_goes, left_shown, left_start, left_stays}
+use Rattle.draft_plan.proofs.ShapeLemmas.{places_join, places_none, reshaped_join, reshaped_none, stops_reshaped}
 use Rattle.draft_plan.proofs.resizing.drop_free.Goals as goal
 use Rattle.draft_plan.proofs.resizing.drop_free.Goals.{then-is_none+in_ok-made, else-is_none}
 
@@ -16,7 +20,9 @@ entries-init c =
     record {
       settled = c.requires.settled;
       stands = c.requires.stands;
-      shaped = shaped_none s;
+      shaped = reshaped_none s;
+      costs = shaping_none s (cost 0 0 0);
+      places = places_none s.held.history;
       left = left_start s.held.history c.args.entries.now c.args.pairs.now c.requires.stands.lawful c.requires.outline;
     }
 
@@ -29,11 +35,12 @@ pub returns-in_err-made-clause-shapes : goal.returns-in_err-made-clause-shapes
 returns-in_err-made-clause-shapes c =
     let p = err_from_is_err_and c.from_residual.result c.from_residual.ensures.1 in
     rw (p.1, p.2)
-    (stops_shaped c.args.replica.now c.entries.replica c.drop_one.new.replica c.entries.made c.in_err-made.field-0.0 c.entries.invariant.shaped c.in_err-made.ensures.shapes)
+    (stops_reshaped c.args.replica.now c.entries.replica c.drop_one.new.replica c.entries.made c.in_err-made.field-0.0 c.entries.invariant.shaped c.in_err-made.ensures.shapes)
 
 pub overflow_add-made : goal.overflow_add-made
 overflow_add-made c =
-    let more = shaped_join c.args.replica.now c.entries.replica c.drop_one.new.replica c.entries.made c.in_ok-made.field-0 c.entries.invariant.shaped c.in_ok-made.ensures.shapes in
+    let more = reshaped_join c.args.replica.now c.entries.replica c.drop_one.new.replica c.entries.made c.in_ok-made.field-0 c.entries.invariant.shaped c.in_ok-made.ensures.shapes
+    (left_shown c.args.replica.now.held.history c.args.entries.now c.args.pairs.now c.entries.place (shown catalogue c.entries.replica.held.history) c.requires.outline c.entries.invariant.left) in
     omega (arith, makes_few c.args.replica.now c.drop_one.new.replica (c.entries.made + c.in_ok-made.field-0) more.makes c.in_ok-made.ensures.stands)
 
 pub entries-preserved : goal.entries-preserved
@@ -47,7 +54,11 @@ entries-preserved c =
           rw (w.replica-is, w.made-is) (record {
             settled = e.settled;
             stands = e.stands;
-            shaped = shaped_join c.args.replica.now c.entries.replica w.drop_one.new.replica c.entries.made w.in_ok-made.field-0 was.shaped e.shapes;
+            shaped = reshaped_join c.args.replica.now c.entries.replica w.drop_one.new.replica c.entries.made w.in_ok-made.field-0 was.shaped e.shapes
+                (left_shown c.args.replica.now.held.history c.args.entries.now c.args.pairs.now c.entries.place (shown catalogue c.entries.replica.held.history) c.requires.outline was.left);
+            costs = shaping_join c.args.replica.now c.entries.replica w.drop_one.new.replica (cost c.entries.place 0 0) (cost 1 0 0) (cost (c.entries.place + 1) 0 0) c.entries.made w.in_ok-made.field-0
+                (up (omega arith) (omega arith) (omega arith)) was.costs e.costs;
+            places = places_join c.args.replica.now.held.history c.entries.replica.held.history w.drop_one.new.replica.held.history was.places e.places;
             left = left_goes ys c.args.pairs.now c.entries.place (shown catalogue c.entries.replica.held.history) (shown catalogue w.drop_one.new.replica.held.history) c.index-entries-place.result.section
                 (entries_once c.args.replica.now.held.history c.args.entries.now c.requires.stands.lawful c.requires.outline) was.left at (grind (arith, common_steps)) e.gone;
           })
@@ -56,6 +67,18 @@ entries-preserved c =
             settled = was.settled;
             stands = was.stands;
             shaped = was.shaped;
+            costs = shaping_more c.args.replica.now c.entries.replica (cost c.entries.place 0 0) (cost (c.entries.place + 1) 0 0) c.entries.made (up (omega arith) (omega arith) (omega arith)) was.costs;
+            places = was.places;
             left = left_stays ys c.args.pairs.now c.entries.place (shown catalogue c.entries.replica.held.history) was.left (grind (arith, common_steps));
           })
     ]
+
+pub returns-in_err-made-clause-costs : goal.returns-in_err-made-clause-costs
+returns-in_err-made-clause-costs c =
+    let p = err_from_is_err_and c.from_residual.result c.from_residual.ensures.1 in
+    rw (p.1, p.2)
+    (shaping_stop c.args.replica.now c.entries.replica (cost c.entries.place 0 0) (cost 1 0 0) (cost (length c.args.entries.now) 0 0) c.entries.made c.in_err-made.field-0.0 (up (omega arith) (omega arith) (omega arith)) c.entries.invariant.costs c.in_err-made.ensures.costs)
+
+pub returns-clause-costs : goal.returns-clause-costs
+returns-clause-costs c =
+    shaping_more c.args.replica.now c.entries.replica (cost c.entries.place 0 0) (cost (length c.args.entries.now) 0 0) c.entries.made (up (omega arith) (omega arith) (omega arith)) c.entries.invariant.costs

@@ -1,3 +1,7 @@
+use Rattle.std.proofs.Common.{arith, ◌+◌}
+use Rattle.draft_plan.specs.Limits.{cost}
+use Rattle.draft_plan.proofs.EditCostLemmas.{shaping_join, shaping_stop}
+use Rattle.draft_plan.proofs.LimitLemmas.{lacks_more, up}
 use Rattle.std.proofs.Common.{subst, length}
 use Rattle.std.proofs.lemmas.Bool.{false_from_ne_true, true≢false}
 use Rattle.std.proofs.Common.{sym, ◌∙◌}
@@ -5,7 +9,7 @@ use Rattle.std.proofs.lemmas.Result.{err_from_is_err_and}
 use Rattle.origin_model.specs.operations.History.{holds}
 use Rattle.draft_plan.specs.Resizing.{AreTargets}
 use Rattle.draft_plan.proofs.ResizingLemmas.{entries_once}
-use Rattle.draft_plan.proofs.ShapeLemmas.{shaped_join, stops_shaped}
+use Rattle.draft_plan.proofs.ShapeLemmas.{places_join, reshaped_shaped, stops_reshaped}
 use Rattle.draft_plan.proofs.resizing.resize.Goals as goal
 
 pub add_missing-requires-clause-once : goal.add_missing-requires-clause-once
@@ -15,11 +19,11 @@ pub returns-in_err-added-clause-shapes : goal.returns-in_err-added-clause-shapes
 returns-in_err-added-clause-shapes c =
     let p = err_from_is_err_and c.from_residual-in_err-added.result c.from_residual-in_err-added.ensures.1 in
     rw (p.1, p.2)
-    (stops_shaped c.args.replica.now c.drop_free.new.replica c.add_missing.new.replica c.in_ok-dropped.dropped c.in_err-added.field-0.0 c.in_ok-dropped.ensures.shapes c.in_err-added.ensures.shapes)
+    (stops_reshaped c.args.replica.now c.drop_free.new.replica c.add_missing.new.replica c.in_ok-dropped.dropped c.in_err-added.field-0.0 c.in_ok-dropped.ensures.shapes c.in_err-added.ensures.shapes)
 
 pub returns-clause-shapes : goal.returns-clause-shapes
 returns-clause-shapes c =
-    shaped_join c.args.replica.now c.drop_free.new.replica c.add_missing.new.replica c.in_ok-dropped.dropped c.in_ok-added.added c.in_ok-dropped.ensures.shapes c.in_ok-added.ensures.shapes
+    reshaped_shaped c.args.replica.now c.drop_free.new.replica c.add_missing.new.replica c.in_ok-dropped.dropped c.in_ok-added.added c.in_ok-dropped.ensures.shapes c.in_ok-added.ensures.shapes
 
 pub returns-clause-targets : goal.returns-clause-targets
 returns-clause-targets c =
@@ -34,3 +38,29 @@ returns-clause-targets c =
       shown_are = t.shown_are;
       once = t.once;
     }
+
+pub returns-in_err-dropped-clause-costs : goal.returns-in_err-dropped-clause-costs
+returns-in_err-dropped-clause-costs c =
+    let p = err_from_is_err_and c.from_residual.result c.from_residual.ensures.1 in
+    let n = length c.args.entries.now in
+    let m = length c.args.parts.now in
+    rw (p.1, p.2) (lacks_more c.args.replica.now (cost n 0 0) (cost (n + m) m 0) c.in_err-dropped.field-0.0 (up (omega arith) (omega arith) (omega arith)) c.in_err-dropped.ensures.costs)
+
+pub returns-in_err-added-clause-costs : goal.returns-in_err-added-clause-costs
+returns-in_err-added-clause-costs c =
+    let p = err_from_is_err_and c.from_residual-in_err-added.result c.from_residual-in_err-added.ensures.1 in
+    let n = length c.args.entries.now in
+    let m = length c.args.parts.now in
+    rw (p.1, p.2)
+    (shaping_stop c.args.replica.now c.drop_free.new.replica (cost n 0 0) (cost m m 0) (cost (n + m) m 0) c.in_ok-dropped.dropped c.in_err-added.field-0.0 (up (omega arith) (omega arith) (omega arith)) c.in_ok-dropped.ensures.costs c.in_err-added.ensures.costs)
+
+pub returns-clause-costs : goal.returns-clause-costs
+returns-clause-costs c =
+    let n = length c.args.entries.now in
+    let m = length c.args.parts.now in
+    shaping_join c.args.replica.now c.drop_free.new.replica c.add_missing.new.replica (cost n 0 0) (cost m m 0) (cost (n + m) m 0) c.in_ok-dropped.dropped c.in_ok-added.added
+    (up (omega arith) (omega arith) (omega arith)) c.in_ok-dropped.ensures.costs c.in_ok-added.ensures.costs
+
+pub returns-clause-places : goal.returns-clause-places
+returns-clause-places c =
+    places_join c.args.replica.now.held.history c.drop_free.new.replica.held.history c.add_missing.new.replica.held.history c.in_ok-dropped.ensures.places c.in_ok-added.ensures.places

@@ -1,3 +1,4 @@
+use Rattle.draft_plan.proofs.FillCostLemmas.{cut_costs, cut_lacks, hunk_costs, put_lacks, put_long}
 use Rattle.std.proofs.Common.{List, ap, arith, drop, take, ℕ, ◌+◌, ◌-◌, ◌∙◌, ◌≡◌}
 use Rattle.std.specs.Str.{chars}
 use Rattle.std.proofs.lemmas.Result.{err_from_is_err_and}
@@ -51,5 +52,34 @@ returns-clause-made c =
     let text = typed_whole c.as_str.result.now _ c.as_str.utf8 (c.as_str.ensures.value ∙ c.in_ok-text.ensures) in
     hunk_made c.args.replica.now c.cut.new.self c.put.new.self c.args.section c.in_ok-cut.cut c.in_ok-put.put h c.args.new.now (chars c.as_str.result.now) c.requires.old c.requires.new
     (put_text h.new_at h.new_len c.args.new.now c.as_str.result.now text)
+    (cut_and_put c.requires.stands.lawful c.in_ok-cut.ensures.stands.lawful c.in_ok-cut.ensures.refused c.in_ok-cut.ensures.made
+    c.in_ok-put.ensures.refused c.in_ok-put.ensures.made)
+
+pub returns-in_err-text-clause-costs : goal.returns-in_err-text-clause-costs
+returns-in_err-text-clause-costs c =
+    let p = err_from_is_err_and c.from_residual.result c.from_residual.ensures.1 in
+    rw (p.1, p.2) tt
+
+pub returns-in_err-cut-clause-costs : goal.returns-in_err-cut-clause-costs
+returns-in_err-cut-clause-costs c =
+    let p = err_from_is_err_and c.from_residual-in_err-cut.result c.from_residual-in_err-cut.ensures.1 in
+    rw (p.1, p.2) (cut_lacks c.args.replica.now c.args.section c.args.hunk c.in_err-cut.field-0.0 c.requires.stands c.in_err-cut.ensures.refused)
+
+pub returns-in_err-put-clause-costs : goal.returns-in_err-put-clause-costs
+returns-in_err-put-clause-costs c =
+    let h = c.args.hunk in
+    let text = typed_whole c.as_str.result.now _ c.as_str.utf8 (c.as_str.ensures.value ∙ c.in_ok-text.ensures) in
+    let long = put_long h.new_at h.new_len c.args.new.now (chars c.as_str.result.now) c.requires.new (put_text h.new_at h.new_len c.args.new.now c.as_str.result.now text) in
+    let first = cut_costs c.args.replica.now c.cut.new.self c.args.section c.in_ok-cut.cut h c.requires.stands.lawful c.in_ok-cut.ensures.refused c.in_ok-cut.ensures.made in
+    let p = err_from_is_err_and c.from_residual-in_err-put.result c.from_residual-in_err-put.ensures.1 in
+    rw (p.1, p.2)
+    (put_lacks c.args.replica.now c.cut.new.self c.args.section c.in_ok-cut.cut h (chars c.as_str.result.now) c.in_err-put.field-0.0 c.in_ok-cut.ensures.stands first long c.in_err-put.ensures.refused)
+
+pub returns-clause-costs : goal.returns-clause-costs
+returns-clause-costs c =
+    let h = c.args.hunk in
+    let text = typed_whole c.as_str.result.now _ c.as_str.utf8 (c.as_str.ensures.value ∙ c.in_ok-text.ensures) in
+    let long = put_long h.new_at h.new_len c.args.new.now (chars c.as_str.result.now) c.requires.new (put_text h.new_at h.new_len c.args.new.now c.as_str.result.now text) in
+    hunk_costs c.args.replica.now c.cut.new.self c.put.new.self c.args.section c.in_ok-cut.cut c.in_ok-put.put h (chars c.as_str.result.now) long
     (cut_and_put c.requires.stands.lawful c.in_ok-cut.ensures.stands.lawful c.in_ok-cut.ensures.refused c.in_ok-cut.ensures.made
     c.in_ok-put.ensures.refused c.in_ok-put.ensures.made)

@@ -1,3 +1,8 @@
+use Rattle.std.proofs.Common.{ap, ◌∙◌}
+use Rattle.std.specs.Prelude.{slice_get}
+use Rattle.std.specs.Str.{chars}
+use Rattle.origin_model.specs.order.Printed.{text}
+use Rattle.draft_plan.proofs.FillCostLemmas.{section_costs, section_lacks, title_lacks}
 use Rattle.std.proofs.Common.{arith, ◌+◌}
 use Rattle.std.proofs.lemmas.Result.{err_from_is_err_and}
 use Rattle.draft_plan.proofs.FillLemmas.{section_filled, text_stops}
@@ -17,7 +22,7 @@ overflow_add-result c =
     let e = c.in_ok-revised.ensures in
     let made = section_filled c.args.replica.now c.retitle_other.new.replica c.revise_text.new.replica c.args.entry.now.number c.in_ok-retitled.retitled c.in_ok-revised.revised
     c.args.entry.now.section c.args.title.now c.args.text.now c.requires.numbered c.in_ok-retitled.ensures.titled
-    (record { utf8 = c.utf8.text; revised = e.revised; keeps = e.keeps; same = e.same }) in
+    (record { utf8 = c.utf8.text; revised = e.revised; keeps = e.keeps; touches = e.touches; same = e.same }) in
     omega (arith, makes_few c.args.replica.now c.revise_text.new.replica (c.in_ok-retitled.retitled + c.in_ok-revised.revised) made.makes e.stands)
 
 pub returns-clause-filled : goal.returns-clause-filled
@@ -25,4 +30,28 @@ returns-clause-filled c =
     let e = c.in_ok-revised.ensures in
     section_filled c.args.replica.now c.retitle_other.new.replica c.revise_text.new.replica c.args.entry.now.number c.in_ok-retitled.retitled c.in_ok-revised.revised
     c.args.entry.now.section c.args.title.now c.args.text.now c.requires.numbered c.in_ok-retitled.ensures.titled
-    (record { utf8 = c.utf8.text; revised = e.revised; keeps = e.keeps; same = e.same })
+    (record { utf8 = c.utf8.text; revised = e.revised; keeps = e.keeps; touches = e.touches; same = e.same })
+
+pub returns-in_err-retitled-clause-costs : goal.returns-in_err-retitled-clause-costs
+returns-in_err-retitled-clause-costs c =
+    let p = err_from_is_err_and c.from_residual.result c.from_residual.ensures.1 in
+    rw (p.1, p.2)
+    (title_lacks c.args.replica.now (text c.args.replica.now.held.history c.args.entry.now.section) (chars c.args.text.now) c.in_err-retitled.field-0.0 c.in_err-retitled.ensures.costs)
+
+pub returns-in_err-revised-clause-costs : goal.returns-in_err-revised-clause-costs
+returns-in_err-revised-clause-costs c =
+    let p = err_from_is_err_and c.from_residual-in_err-revised.result c.from_residual-in_err-revised.ensures.1 in
+    let titled = c.in_ok-retitled.ensures.titled in
+    let x = c.args.entry.now.section in
+    let there = ap (λ xs. slice_get xs c.args.entry.now.number) titled.only.catalogue_is ∙ c.requires.numbered in
+    rw (p.1, p.2)
+    (section_lacks c.args.replica.now c.retitle_other.new.replica c.revise_text.new.replica x (chars c.args.text.now) c.in_ok-retitled.retitled c.in_err-revised.field-0.0 titled.reads c.in_ok-retitled.ensures.costs
+    (c.in_err-revised.ensures.costs x there))
+
+pub returns-clause-costs : goal.returns-clause-costs
+returns-clause-costs c =
+    let titled = c.in_ok-retitled.ensures.titled in
+    let x = c.args.entry.now.section in
+    let there = ap (λ xs. slice_get xs c.args.entry.now.number) titled.only.catalogue_is ∙ c.requires.numbered in
+    section_costs c.args.replica.now c.retitle_other.new.replica c.revise_text.new.replica x (chars c.args.text.now) c.in_ok-retitled.retitled c.in_ok-revised.revised titled.reads c.in_ok-retitled.ensures.costs
+    (c.in_ok-revised.ensures.costs x there)

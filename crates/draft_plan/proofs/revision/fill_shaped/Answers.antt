@@ -15,3 +15,8 @@ fill-requires-clause-outline c = rw c.entries.ensures c.in_ok-outline.ensures.ou
 pub fill-requires-clause-count : goal.fill-requires-clause-count
 fill-requires-clause-count c =
     ap length c.entries.ensures ∙ outline_long c.args.replica.now.held.history c.in_ok-outline.outline c.in_ok-outline.ensures.outline ∙ c.requires.count
+
+pub returns-in_err-outline-clause-costs : goal.returns-in_err-outline-clause-costs
+returns-in_err-outline-clause-costs c =
+    let p = err_from_is_err_and c.from_residual.result c.from_residual.ensures.1 in
+    rw (p.1, p.2) tt

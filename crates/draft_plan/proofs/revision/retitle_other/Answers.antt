@@ -1,3 +1,6 @@
+use Rattle.draft_plan.specs.Limits.{cost}
+use Rattle.draft_plan.proofs.EditCostLemmas.{retitle_costs, retitle_lacks}
+use Rattle.draft_plan.proofs.LimitLemmas.{costs_none}
 use Rattle.std.proofs.Common.{sym, ◌∙◌}
 use Rattle.std.proofs.lemmas.Bool.{false≢true}
 use Rattle.std.proofs.lemmas.Result.{err_from_is_err_and}
@@ -26,3 +29,19 @@ returns-clause-titled c =
     let e = c.in_ok-retitle.ensures in
     headed_by c.args.replica.now c.retitle.new.replica c.args.place c.in_ok-retitle.field-0 c.args.entry.now.section c.in_ok-title.title c.args.title.now c.requires.stands.lawful c.requires.placed
     e.refused e.made e.shown c.in_ok-title.ensures (λ d. false≢true (sym c.if-has_title.false ∙ c.has_title.ensures.1 (c.requires.headed ∙ d)))
+
+pub returns-then-has_title-clause-costs : goal.returns-then-has_title-clause-costs
+returns-then-has_title-clause-costs c = costs_none c.args.replica.now (cost 1 1 1)
+
+pub returns-in_err-title-clause-costs : goal.returns-in_err-title-clause-costs
+returns-in_err-title-clause-costs c =
+    let p = err_from_is_err_and c.from_residual.result c.from_residual.ensures.1 in
+    rw (p.1, p.2) tt
+
+pub returns-in_err-retitle-clause-costs : goal.returns-in_err-retitle-clause-costs
+returns-in_err-retitle-clause-costs c =
+    let p = err_from_is_err_and c.from_residual-in_err-retitle.result c.from_residual-in_err-retitle.ensures.1 in
+    rw (p.1, p.2) (retitle_lacks c.args.replica.now c.args.place c.in_err-retitle.field-0.0 c.requires.stands c.in_err-retitle.ensures.refused)
+
+pub returns-clause-costs : goal.returns-clause-costs
+returns-clause-costs c = retitle_costs c.args.replica.now c.retitle.new.replica c.args.place c.in_ok-retitle.field-0 c.in_ok-title.title c.in_ok-retitle.ensures.made

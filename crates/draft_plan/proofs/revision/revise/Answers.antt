@@ -1,14 +1,24 @@
-use Rattle.std.proofs.Common.{List, arith, map, subst, sym, ◌∙◌, ◌+◌, length}
+use Rattle.std.proofs.Common.{ap, refl}
+use Rattle.std.specs.Prelude.{Ok}
+use Rattle.std.proofs.lemmas.List.{length-map}
+use Rattle.catalogue_notes.specs.Arranged.{arranged}
+use Rattle.draft_plan.specs.Limits.{Costs, LacksRoom, filling_cost, revision_cost}
+use Rattle.draft_plan.proofs.FillCostLemmas.{letters_shaped, revision_costs, revision_lacks, shaping_lacks}
+use Rattle.draft_plan.proofs.LimitLemmas.{costs_none}
+use Rattle.draft_plan.proofs.OutlineLemmas.{outline_long}
+use Rattle.std.proofs.Common.{List, arith, map, subst, sym, ◌∙◌, ◌+◌, ◌≡◌, length}
 use Rattle.std.proofs.lemmas.Result.{err_from_is_err_and}
-use Rattle.origin_model.specs.edits.State.{State}
 use Rattle.draft_plan.specs.Drafts.{Part}
-use Rattle.draft_plan.specs.Keeping.{KeepsSections}
 use Rattle.draft_plan.specs.Matching.{Matches}
 use Rattle.draft_plan.specs.Readings.{seen_part}
-use Rattle.draft_plan.specs.Revision.{IsRevision, MakesNothing}
+use Rattle.draft_plan.specs.Revision.{IsRevision}
+use Rattle.draft_plan.proofs.FewMovesLemmas.{few_still}
 use Rattle.draft_plan.proofs.KeepingLemmas.{kept_sections, keeps_same, stands_still}
 use Rattle.draft_plan.proofs.MakingLemmas.{makes_few, stops_behind}
-use Rattle.draft_plan.proofs.RevisionLemmas.{revised_shaped}
+use Rattle.draft_plan.specs.Needed.{InRevision}
+use Rattle.draft_plan.proofs.NeededLemmas.{only_none}
+use Rattle.draft_plan.proofs.NeedlessLemmas.{none_needless, touches_shaped}
+use Rattle.draft_plan.proofs.RevisionLemmas.{revised_already, revised_shaped}
 use Rattle.draft_plan.proofs.ShapeLemmas.{wants_memory}
 use Rattle.draft_plan.proofs.revision.revise.Goals as goal
 
@@ -22,21 +32,33 @@ returns-in_err-pairs-clause-stops c =
     let p = err_from_is_err_and c.from_residual-in_err-pairs.result c.from_residual-in_err-pairs.ensures.1 in
     rw (p.1, p.2) (wants_memory c.args.replica.now)
 
-pub returns-in_default-clause-keeps : goal.returns-in_default-clause-keeps
-returns-in_default-clause-keeps c =
-    let h = c.args.replica.now.held.history in
-    let ps = c.parts-parts.result.now in
-    let same = subst (Matches h ps) c.in_default.is c.in_ok-pairs.ensures in
-    let none = c.in_ok-unchanged.ensures.same same in
-    subst (λ (s : State). KeepsSections h s.held.history) (sym none.1) (keeps_same h)
-
-pub returns-in_default-clause-same : goal.returns-in_default-clause-same
-returns-in_default-clause-same c =
-    subst (λ (ps : List Part). MakesNothing c.args.replica.now c.fill.new.replica ps c.in_ok-unchanged.unchanged) c.parts-parts.ensures c.in_ok-unchanged.ensures.same
-
 pub returns-in_default-clause-revised : goal.returns-in_default-clause-revised
 returns-in_default-clause-revised c =
-    subst (λ (ps : List Part). IsRevision c.args.replica.now c.fill.new.replica ps c.in_ok-unchanged.unchanged) c.parts-parts.ensures c.in_ok-unchanged.ensures.revised
+    let h = c.args.replica.now.held.history in
+    let same = subst (Matches h c.parts-parts.result.now) c.in_default.is c.in_ok-pairs.ensures in
+    revised_already c.args.replica.now c.args.draft.now (same ∙ c.parts-parts.ensures)
+
+pub returns-in_default-clause-keeps : goal.returns-in_default-clause-keeps
+returns-in_default-clause-keeps c = keeps_same c.args.replica.now.held.history
+
+pub returns-in_default-clause-same : goal.returns-in_default-clause-same
+returns-in_default-clause-same c = λ e. (refl, refl)
+
+pub returns-in_default-clause-costs : goal.returns-in_default-clause-costs
+returns-in_default-clause-costs c = costs_none c.args.replica.now (revision_cost c.args.replica.now.held.history c.args.draft.now)
+
+pub returns-in_default-clause-needed : goal.returns-in_default-clause-needed
+returns-in_default-clause-needed c =
+    let s = c.args.replica.now in
+    let w = c.in_ok-outline.ensures.stands.lawful in
+    none_needless s s w w (only_none (InRevision s.held.history s.held.history) s)
+
+pub returns-clause-needed : goal.returns-clause-needed
+returns-clause-needed c =
+    let e = c.in_ok-filled.ensures in
+    let w = c.in_ok-outline.ensures.stands.lawful in
+    none_needless c.args.replica.now c.fill_shaped.new.replica w e.stands.lawful
+    (touches_shaped c.args.replica.now c.shape.new.replica c.fill_shaped.new.replica c.in_ok-shaped.shaped w c.in_ok-shaped.ensures.shapes e.arranged e.touches)
 
 pub returns-in_err-filled-clause-stops : goal.returns-in_err-filled-clause-stops
 returns-in_err-filled-clause-stops c =
@@ -64,8 +86,71 @@ returns-clause-keeps c =
     let matched = (subst (Matches h ps) c.in-Some.is c.in_ok-pairs.ensures).0 in
     let stand = stands_still h c.shape.new.replica.held.history n c.in-Some.pairs (length ps) c.in_ok-filled.ensures.arranged c.in_ok-shaped.ensures.stand_as in
     kept_sections h n ps c.in-Some.pairs matched stand (sym c.in_ok-filled.ensures.revised.reads) c.in_ok-outline.ensures.stands.lawful
+    (few_still h c.shape.new.replica.held.history n c.in_ok-filled.ensures.arranged c.in_ok-filled.ensures.moved c.in_ok-shaped.ensures.moves)
 
 pub returns-clause-same : goal.returns-clause-same
 returns-clause-same c = λ e.
     let other = (subst (Matches c.args.replica.now.held.history c.parts-parts.result.now) c.in-Some.is c.in_ok-pairs.ensures).1 in
     absurd (other (e ∙ sym c.parts-parts.ensures))
+
+pub returns-in_err-outline-clause-costs : goal.returns-in_err-outline-clause-costs
+returns-in_err-outline-clause-costs c =
+    let p = err_from_is_err_and c.from_residual.result c.from_residual.ensures.1 in
+    rw (p.1, p.2) tt
+
+pub returns-in_err-outline-clause-spared : goal.returns-in_err-outline-clause-spared
+returns-in_err-outline-clause-spared c = λ e.
+    let p = err_from_is_err_and c.from_residual.result c.from_residual.ensures.1 in
+    rw (p.1, p.2) tt
+
+pub returns-in_err-pairs-clause-costs : goal.returns-in_err-pairs-clause-costs
+returns-in_err-pairs-clause-costs c =
+    let p = err_from_is_err_and c.from_residual-in_err-pairs.result c.from_residual-in_err-pairs.ensures.1 in
+    rw (p.1, p.2) tt
+
+pub returns-in_err-pairs-clause-spared : goal.returns-in_err-pairs-clause-spared
+returns-in_err-pairs-clause-spared c = λ e.
+    let p = err_from_is_err_and c.from_residual-in_err-pairs.result c.from_residual-in_err-pairs.ensures.1 in
+    rw (p.1, p.2) tt
+
+pub returns-in_err-shaped-clause-costs : goal.returns-in_err-shaped-clause-costs
+returns-in_err-shaped-clause-costs c =
+    let s = c.args.replica.now in
+    let count = ap length c.entries-entries.ensures ∙ outline_long s.held.history c.in_ok-outline.outline c.in_ok-outline.ensures.outline in
+    let parts : length c.args.draft.now ≡ length c.parts-parts.result.now = sym (ap length c.parts-parts.ensures) ∙ length-map c.parts-parts.result.now seen_part in
+    let p = err_from_is_err_and c.from_residual-in_err-shaped.result c.from_residual-in_err-shaped.ensures.1 in
+    rw (p.1, p.2)
+    (shaping_lacks s c.args.draft.now (length c.entries-entries.result.now) c.in_err-shaped.field-0.0 count (rw parts c.in_err-shaped.ensures.costs))
+
+pub returns-in_err-shaped-clause-spared : goal.returns-in_err-shaped-clause-spared
+returns-in_err-shaped-clause-spared c = λ e.
+    let other = (subst (Matches c.args.replica.now.held.history c.parts-parts.result.now) c.in-Some.is c.in_ok-pairs.ensures).1 in
+    absurd (other (e ∙ sym c.parts-parts.ensures))
+
+pub returns-in_err-filled-clause-costs : goal.returns-in_err-filled-clause-costs
+returns-in_err-filled-clause-costs c =
+    let s = c.args.replica.now in
+    let mid = c.shape.new.replica in
+    let count = ap length c.entries-entries.ensures ∙ outline_long s.held.history c.in_ok-outline.outline c.in_ok-outline.ensures.outline in
+    let parts : length c.args.draft.now ≡ length c.parts-parts.result.now = sym (ap length c.parts-parts.ensures) ∙ length-map c.parts-parts.result.now seen_part in
+    let fewer = letters_shaped s mid c.in_ok-shaped.shaped c.in_ok-outline.ensures.stands.lawful c.in_ok-shaped.ensures.stands.lawful c.in_ok-shaped.ensures.shapes c.in_ok-shaped.ensures.costs.1 in
+    let p = err_from_is_err_and c.from_residual-in_err-filled.result c.from_residual-in_err-filled.ensures.1 in
+    rw (p.1, p.2)
+    (revision_lacks s c.args.draft.now mid.held.history (length c.entries-entries.result.now) count fewer mid c.in_ok-shaped.shaped c.in_err-filled.field-0.0 (rw parts c.in_ok-shaped.ensures.costs.0)
+    (subst (λ (ps : List Part). LacksRoom mid (filling_cost mid.held.history (arranged mid.held.history) ps) c.in_err-filled.field-0.0) c.parts-parts.ensures c.in_err-filled.ensures.costs))
+
+pub returns-in_err-filled-clause-spared : goal.returns-in_err-filled-clause-spared
+returns-in_err-filled-clause-spared c = λ e.
+    let other = (subst (Matches c.args.replica.now.held.history c.parts-parts.result.now) c.in-Some.is c.in_ok-pairs.ensures).1 in
+    absurd (other (e ∙ sym c.parts-parts.ensures))
+
+pub returns-clause-costs : goal.returns-clause-costs
+returns-clause-costs c =
+    let s = c.args.replica.now in
+    let mid = c.shape.new.replica in
+    let last = c.fill_shaped.new.replica in
+    let count = ap length c.entries-entries.ensures ∙ outline_long s.held.history c.in_ok-outline.outline c.in_ok-outline.ensures.outline in
+    let parts : length c.args.draft.now ≡ length c.parts-parts.result.now = sym (ap length c.parts-parts.ensures) ∙ length-map c.parts-parts.result.now seen_part in
+    let fewer = letters_shaped s mid c.in_ok-shaped.shaped c.in_ok-outline.ensures.stands.lawful c.in_ok-shaped.ensures.stands.lawful c.in_ok-shaped.ensures.shapes c.in_ok-shaped.ensures.costs.1 in
+    revision_costs s c.args.draft.now mid.held.history (length c.entries-entries.result.now) count fewer mid last c.in_ok-shaped.shaped c.in_ok-filled.filled (rw parts c.in_ok-shaped.ensures.costs.0)
+    (subst (λ (ps : List Part). Costs mid last (filling_cost mid.held.history (arranged mid.held.history) ps) (Ok c.in_ok-filled.filled)) c.parts-parts.ensures c.in_ok-filled.ensures.costs)

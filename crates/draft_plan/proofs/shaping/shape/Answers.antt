@@ -1,12 +1,19 @@
-use Rattle.std.proofs.Common.{List, ap, length, subst, sym, ◌∙◌}
+use Rattle.std.proofs.Common.{List, ap, arith, length, subst, sym, ◌*◌, ◌+◌, ◌∙◌, ◌≡◌}
+use Rattle.draft_plan.specs.Limits.{cost}
+use Rattle.draft_plan.proofs.EditCostLemmas.{shaping_join, shaping_stop}
+use Rattle.draft_plan.proofs.LimitLemmas.{lacks_more, up}
 use Rattle.std.specs.Prelude.{slice_get, ◌↔◌}
 use Rattle.std.specs.List.{Contains}
 use Rattle.std.proofs.lemmas.Result.{err_from_is_err_and}
 use Rattle.fugue_ids.specs.Identifiers.{Identifier}
 use Rattle.origin_model.specs.declared.operations.Place.TheVariants.{Catalogue as catalogue}
 use Rattle.origin_model.specs.order.Printed.{shown}
+use Rattle.draft_plan.specs.Arranging.{ArrangesFew}
 use Rattle.draft_plan.specs.Resizing.{AreDistinct}
-use Rattle.draft_plan.proofs.ShapeLemmas.{shaped_join, stops_shaped}
+use Rattle.draft_plan.proofs.FewMovesLemmas.{moves_few}
+use Rattle.draft_plan.proofs.OutlineLemmas.{outline_long}
+use Rattle.draft_plan.proofs.TargetLemmas.{matched_within}
+use Rattle.draft_plan.proofs.ShapeLemmas.{reshaped_shaped, stops_reshaped}
 use Rattle.draft_plan.proofs.shaping.shape.Goals as goal
 
 pub returns-in_err-resized-clause-shapes : goal.returns-in_err-resized-clause-shapes
@@ -25,11 +32,11 @@ pub returns-in_err-moved-clause-shapes : goal.returns-in_err-moved-clause-shapes
 returns-in_err-moved-clause-shapes c =
     let p = err_from_is_err_and c.from_residual-in_err-moved.result c.from_residual-in_err-moved.ensures.1 in
     rw (p.1, p.2)
-    (stops_shaped c.args.replica.now c.resize.new.replica c.arrange.new.replica c.in_ok-resized.resized c.in_err-moved.field-0.0 c.in_ok-resized.ensures.shapes c.in_err-moved.ensures.shapes)
+    (stops_reshaped c.args.replica.now c.resize.new.replica c.arrange.new.replica c.in_ok-resized.resized c.in_err-moved.field-0.0 c.in_ok-resized.ensures.shapes c.in_err-moved.ensures.shapes)
 
 pub returns-clause-shapes : goal.returns-clause-shapes
 returns-clause-shapes c =
-    shaped_join c.args.replica.now c.resize.new.replica c.arrange.new.replica c.in_ok-resized.resized c.in_ok-moved.moved c.in_ok-resized.ensures.shapes c.in_ok-moved.ensures.shapes
+    reshaped_shaped c.args.replica.now c.resize.new.replica c.arrange.new.replica c.in_ok-resized.resized c.in_ok-moved.moved c.in_ok-resized.ensures.shapes c.in_ok-moved.ensures.shapes
 
 pub returns-clause-stand_as : goal.returns-clause-stand_as
 returns-clause-stand_as c =
@@ -40,3 +47,42 @@ returns-clause-stand_as c =
       kept = λ j i s e f. ap (λ l. slice_get l j) is ∙ t.kept j i s e f;
       fresh = λ j s e f. t.fresh j s e (ap (λ l. slice_get l j) (sym is) ∙ f);
     }
+
+pub returns-in_err-resized-clause-costs : goal.returns-in_err-resized-clause-costs
+returns-in_err-resized-clause-costs c =
+    let p = err_from_is_err_and c.from_residual.result c.from_residual.ensures.1 in
+    let n = length c.args.entries.now in
+    let m = length c.args.parts.now in
+    rw (p.1, p.2) (lacks_more c.args.replica.now (cost (n + m) m 0) (cost (n + 2 * m) (2 * m) m) c.in_err-resized.field-0.0 (up (omega arith) (omega arith) (omega arith)) c.in_err-resized.ensures.costs)
+
+pub returns-in_err-moved-clause-costs : goal.returns-in_err-moved-clause-costs
+returns-in_err-moved-clause-costs c =
+    let p = err_from_is_err_and c.from_residual-in_err-moved.result c.from_residual-in_err-moved.ensures.1 in
+    let n = length c.args.entries.now in
+    let m = length c.args.parts.now in
+    let k = length c.as_slice.result.now in
+    let long : k ≡ m = ap length c.as_slice.ensures.value ∙ c.in_ok-resized.ensures.targets.long in
+    rw (p.1, p.2)
+    (shaping_stop c.args.replica.now c.resize.new.replica (cost (n + m) m 0) (cost k k k) (cost (n + 2 * m) (2 * m) m) c.in_ok-resized.resized c.in_err-moved.field-0.0
+    (up (omega (arith, long)) (omega (arith, long)) (omega (arith, long))) c.in_ok-resized.ensures.costs c.in_err-moved.ensures.costs)
+
+pub returns-clause-costs : goal.returns-clause-costs
+returns-clause-costs c =
+    let n = length c.args.entries.now in
+    let m = length c.args.parts.now in
+    let k = length c.as_slice.result.now in
+    let long : k ≡ m = ap length c.as_slice.ensures.value ∙ c.in_ok-resized.ensures.targets.long in
+    shaping_join c.args.replica.now c.resize.new.replica c.arrange.new.replica (cost (n + m) m 0) (cost k k k) (cost (n + 2 * m) (2 * m) m) c.in_ok-resized.resized c.in_ok-moved.moved
+    (up (omega (arith, long)) (omega (arith, long)) (omega (arith, long))) c.in_ok-resized.ensures.costs c.in_ok-moved.ensures.costs
+
+pub returns-clause-moves : goal.returns-clause-moves
+returns-clause-moves c =
+    let h = c.args.replica.now.held.history in
+    let mid = c.resize.new.replica.held.history in
+    let new = c.arrange.new.replica.held.history in
+    let ts = c.resize.new.sections.items in
+    let t = c.in_ok-resized.ensures.targets in
+    let few = subst (ArrangesFew mid new c.args.pairs.now) c.as_slice.ensures.value c.in_ok-moved.ensures.few in
+    let long = outline_long h c.args.entries.now c.requires.outline in
+    moves_few h mid new c.args.pairs.now ts c.requires.stands.lawful c.in_ok-resized.ensures.stands.lawful c.in_ok-resized.ensures.places few (c.in_ok-moved.ensures.arranged ∙ c.as_slice.ensures.value)
+    t.shown_are t.kept t.fresh (λ j i e. let l = matched_within (length c.args.entries.now) (length c.args.parts.now) c.args.pairs.now j i c.requires.matching e in omega (arith, l, long))

@@ -1,0 +1,191 @@
+-- Texts by the marks of their first thirds.
+use Rattle.std.proofs.Common.{List, [], ap, arith, cond, false, get_or, inl, inr, length, nat_eq, nat_lt, refl, reverse, subst, suc, sym, take, true, zero, ℕ, ◌*◌, ◌+◌, ◌++◌, ◌/◌, ◌<◌, ◌≤◌, ◌∙◌, ◌∷◌, ◌≡◌, ◌⊎◌}
+use Rattle.std.specs.Prelude.{IfNone, None, Option, Some, slice_get}
+use Rattle.std.specs.Ordering.{nat_cmp}
+use Rattle.std.specs.BTreeMap.{BTreeMap, Updates, get, is_at}
+use Rattle.std.specs.List.{common_prefix_len}
+use Rattle.std.proofs.lemmas.Bool.{and_parts, cases_Bool, cases_eq, eqb-true, leb-true, ltb-false, ltb-true, or_cases}
+use Rattle.std.proofs.lemmas.List.Sums.{common_prefix_len-le}
+use Rattle.std.proofs.lemmas.Bool.Decides.{nat_tests}
+use Rattle.std.proofs.lemmas.List.{get_or_append_left, get_or_push, length-reverse, length_push, take_more}
+use Rattle.std.proofs.lemmas.Option.{same_Some, slice_get_within}
+use Rattle.section_plan.specs.Alike.{NoneAmong}
+use Rattle.section_plan.specs.Likeness.{alike, longer, shares_third}
+use Rattle.section_plan.specs.Marks.{AreMarked, AreThirds, AreTried, IsIndex, IsLast, IsUpTo, NoneFronted, NoneMarked, mark_from, mark_of, next_mark, third_mark, turns}
+use Rattle.section_plan.specs.Matching.{part_of}
+use Rattle.section_plan.specs.declared.alike.Scalars.{Scalars}
+use Rattle.section_plan.specs.declared.marks.Marks.{Marks}
+use Rattle.section_plan.specs.declared.pairs.Pairs.{Pairs}
+
+-- one scalar more
+mark_push : (m : ℕ) (xs : List ℕ) (c : ℕ) → mark_from m (xs ++ c ∷ []) ≡ next_mark (mark_from m xs) c
+mark_push m [] c = refl
+mark_push m (x ∷ xs) c = mark_push (next_mark m x) xs c
+
+pub mark_more : (xs : List ℕ) (i c : ℕ) → i < length xs → get_or xs i 0 ≡ c → mark_of (take (i + 1) xs) ≡ next_mark (mark_of (take i xs)) c
+mark_more xs i c l e = ap mark_of (take_more xs i 0 l ∙ ap (λ d. take i xs ++ d ∷ []) e) ∙ mark_push 0 (take i xs) c
+
+pub mark_next : (xs : List ℕ) (i m c n : ℕ) → i < length xs → get_or xs i 0 ≡ c → m ≡ mark_of (take i xs) → n ≡ next_mark m c → n ≡ mark_of (take (i + 1) xs)
+mark_next xs i m c n l e was is = is ∙ (ap (λ k. next_mark k c) was ∙ sym (mark_more xs i c l e))
+
+-- the same scalars are at the front as far as two lists are the same
+pub front_same : (a b : List ℕ) (w : ℕ) → w ≤ common_prefix_len nat_eq a b → take w a ≡ take w b
+front_same a b zero l = refl
+front_same [] b (suc w) l = absurd (omega (arith, l))
+front_same (x ∷ a) [] (suc w) l = absurd (omega (arith, l))
+front_same (x ∷ a) (y ∷ b) (suc w) l = elim (cases_Bool (nat_eq x y)) [
+  | inl e ↦
+      let n : common_prefix_len nat_eq (x ∷ a) (y ∷ b) ≡ 1 + common_prefix_len nat_eq a b = ap (λ t. cond t (1 + common_prefix_len nat_eq a b) 0) e in
+      let same : x ≡ y = eqb-true x y e in
+      let rest = front_same a b w (omega (arith, l, n)) in
+      λ i. same i ∷ rest i
+  | inr e ↦ let n : common_prefix_len nat_eq (x ∷ a) (y ∷ b) ≡ 0 = ap (λ t. cond t (1 + common_prefix_len nat_eq a b) 0) e in absurd (omega (arith, l, n))
+]
+
+other_key : (at e : ℕ) → (e ≡ at → ⊥) → is_at (nat_cmp at) e ≡ false
+other_key at e other = grind (arith, nat_tests, other)
+
+-- one mark more
+pub marked_more : (marks : List ℕ) (n : ℕ) (old new : BTreeMap ℕ ℕ) (before : List (Option ℕ)) → n < length marks → AreMarked marks n (get nat_cmp old) before → Updates nat_cmp old new (get_or marks n 0) (Some n)
+    → AreMarked marks (n + 1) (get nat_cmp new) (before ++ get nat_cmp old (get_or marks n 0) ∷ [])
+marked_more marks n old new before l was u = record {
+  long = length_push before (get nat_cmp old (get_or marks n 0)) ∙ ap (λ k. k + 1) was.long;
+  ends = λ mark. elim (cases_eq mark (get_or marks n 0)) [
+    | inl e ↦ subst (IsLast marks (n + 1) mark) (sym (ap (get nat_cmp new) e ∙ u.1)) (omega arith, sym e, λ j m same. omega (arith, m))
+    | inr ne ↦ subst (IsLast marks (n + 1) mark) (sym (u.2 mark (other_key (get_or marks n 0) mark ne))) (later mark (get nat_cmp old mark) ne (was.ends mark))
+  ];
+  chains = λ k m. elim (cases_eq k n) [
+    | inl e ↦ subst (λ i. IsLast marks i (get_or marks i 0) (get_or (before ++ get nat_cmp old (get_or marks n 0) ∷ []) i None)) (sym e)
+        (subst (IsLast marks n (get_or marks n 0)) (sym (get_or_push before (get nat_cmp old (get_or marks n 0)) None n was.long)) (was.ends (get_or marks n 0)))
+    | inr ne ↦ subst (IsLast marks k (get_or marks k 0)) (sym (get_or_append_left before (get nat_cmp old (get_or marks n 0) ∷ []) None k (omega (arith, m, ne, was.long)))) (was.chains k (omega (arith, m, ne)))
+  ];
+}
+  where
+    later : (mark : ℕ) (o : Option ℕ) → (mark ≡ get_or marks n 0 → ⊥) → IsLast marks n mark o → IsLast marks (n + 1) mark o
+    later mark None ne none = λ j m same. elim (cases_eq j n) [ inl e ↦ ne (sym same ∙ ap (λ i. get_or marks i 0) e) | inr other ↦ none j (omega (arith, m, other)) same ]
+    later mark (Some k) ne last = (
+      omega (arith, last.0),
+      last.1,
+      λ j m same. elim (cases_eq j n) [ inl e ↦ absurd (ne (sym same ∙ ap (λ i. get_or marks i 0) e)) | inr other ↦ last.2 j (omega (arith, m, other)) same ],
+    )
+
+module _ (p : Pairs) (sections : List Scalars) (marks : List ℕ) (mark : ℕ) (text : List ℕ) (long : length marks ≡ length sections) where
+  -- none was tried yet
+  pub tried_none : (o : Option ℕ) → IsLast marks (length sections) mark o → AreTried p sections marks mark text o
+  tried_none None none = record { there = λ k e. cc e; tried = λ k s at same free. absurd (none k (slice_get_within sections k s at) same) }
+  tried_none (Some l) last = record {
+    there = λ k e. let d : l ≡ k = same_Some l k e in (omega (arith, last.0, d, long), ap (λ i. get_or marks i 0) (sym d) ∙ last.1);
+    tried = λ k s at same free. inr (last.2 k (slice_get_within sections k s at) same);
+  }
+
+  -- one more was
+  pub tried_more : (k : ℕ) (o : Option ℕ) (u : Scalars) → AreTried p sections marks mark text (Some k) → IsLast marks k (get_or marks k 0) o → slice_get sections k ≡ Some u → (part_of p u.place ≡ None → alike u.list.items text ≡ false)
+      → AreTried p sections marks mark text o
+  tried_more k o u was last at other = record {
+    there = λ j e. there o last j e;
+    tried = λ j s here same free. elim (was.tried j s here same free) [
+      | inl out ↦ inl out
+      | inr l ↦ elim (cases_eq j k) [
+        | inl e ↦ let is : u ≡ s = same_Some u s (sym at ∙ (ap (slice_get sections) (sym e) ∙ here)) in inl (ap (λ (t : Scalars). alike t.list.items text) (sym is) ∙ other (ap (λ (t : Scalars). part_of p t.place) is ∙ free))
+        | inr ne ↦ inr (up_to o last j (omega (arith, l, ne)) same)
+      ]
+    ];
+  }
+    where
+      here_mark : get_or marks k 0 ≡ mark
+      here_mark = (was.there k refl).1
+
+      there : (o : Option ℕ) → IsLast marks k (get_or marks k 0) o → (j : ℕ) → o ≡ Some j → (j < length marks) × (get_or marks j 0 ≡ mark)
+      there None last j e = cc e
+      there (Some i) last j e = let d : i ≡ j = same_Some i j e in (omega (arith, last.0, d, (was.there k refl).0), ap (λ n. get_or marks n 0) (sym d) ∙ (last.1 ∙ here_mark))
+
+      up_to : (o : Option ℕ) → IsLast marks k (get_or marks k 0) o → (j : ℕ) → j < k → get_or marks j 0 ≡ mark → IsUpTo o j
+      up_to None last j l same = last j l (same ∙ sym here_mark)
+      up_to (Some i) last j l same = last.2 j l (same ∙ sym here_mark)
+
+  -- all were
+  pub tried_all : AreTried p sections marks mark text None → NoneMarked p sections marks mark text
+  tried_all was k s at same free = elim (was.tried k s at same free) [ inl out ↦ out | inr none ↦ absurd none ]
+
+-- a place before is in front
+pub falls : (marks : List ℕ) (k mark : ℕ) (o : Option ℕ) → IsLast marks k mark o → turns o < k + 1
+falls marks k mark None last = omega arith
+falls marks k mark (Some i) last = omega (arith, last.0)
+
+-- one front more
+pub fronted_more : (p : Pairs) (sections : List Scalars) (marks list text : List ℕ) (n mark : ℕ) → NoneFronted p sections marks list n text → mark ≡ mark_of (take n list) → NoneMarked p sections marks mark text
+    → NoneFronted p sections marks list (n + 1) text
+fronted_more p sections marks list text n mark was is none w l = elim (cases_eq w n) [
+  | inl e ↦ subst (λ m. NoneMarked p sections marks m text) (is ∙ ap (λ i. mark_of (take i list)) (sym e)) none
+  | inr ne ↦ was w (omega (arith, l, ne))
+]
+
+-- the whole list is a front
+pub fronted_all : (p : Pairs) (sections : List Scalars) (marks list text : List ℕ) (n mark : ℕ) (o : Option ℕ) → n ≡ length list → NoneFronted p sections marks list n text → mark ≡ mark_of (take n list)
+    → IfNone o (NoneMarked p sections marks mark text) → IfNone o (NoneFronted p sections marks list (length list + 1) text)
+fronted_all p sections marks list text n mark None all was is none = subst (λ k. NoneFronted p sections marks list (k + 1) text) all (fronted_more p sections marks list text n mark was is none)
+fronted_all p sections marks list text n mark (Some k) all was is none = tt
+
+-- the longer one of two texts is as long as each of them
+longer_long : (a b : List ℕ) → (length a ≤ length (longer a b)) × (length b ≤ length (longer a b))
+longer_long a b = by (cases_Bool (nat_lt (length a) (length b)))
+  where
+    by : (nat_lt (length a) (length b) ≡ true) ⊎ (nat_lt (length a) (length b) ≡ false) → (length a ≤ length (longer a b)) × (length b ≤ length (longer a b))
+    by (inl e) =
+        let is : length (longer a b) ≡ length b = ap (λ t. length (cond t b a)) e in
+        let less : length a < length b = ltb-true (length a) (length b) e in
+        (omega (arith, is, less), omega (arith, is))
+    by (inr e) =
+        let is : length (longer a b) ≡ length a = ap (λ t. length (cond t b a)) e in
+        let more : length b ≤ length a = ltb-false (length a) (length b) e in
+        (omega (arith, is), omega (arith, is, more))
+
+-- a third of a text that is common is a front of both
+third_front : (a b xs ys : List ℕ) → length xs ≡ length a → length ys ≡ length b → shares_third (common_prefix_len nat_eq xs ys) (length (longer a b)) ≡ true
+    → (length xs / 3 < length ys + 1) × (third_mark xs ≡ mark_of (take (length xs / 3) ys))
+third_front a b xs ys l m e =
+    let le : length (longer a b) ≤ 3 * common_prefix_len nat_eq xs ys = leb-true (length (longer a b)) (3 * common_prefix_len nat_eq xs ys) e in
+    let long = longer_long a b in
+    let bound = common_prefix_len-le nat_eq xs ys in
+    let w : length xs / 3 ≤ common_prefix_len nat_eq xs ys = omega (arith, le, long.0, l) in
+    (omega (arith, w, bound.1), ap mark_of (front_same xs ys (length xs / 3) w))
+
+-- where none that has the mark of a front is alike, nor of an end, none is
+pub none_among : (p : Pairs) (texts : List Scalars) (front end : Marks) (text back : List ℕ) → IsIndex texts front end → back ≡ reverse text → NoneFronted p texts front.marks.items text (length text + 1) text
+    → NoneFronted p texts end.marks.items back (length back + 1) text → NoneAmong p texts (length texts) text
+none_among p texts front end text back is reversed fronts ends k s l at free = by (cases_Bool (alike s.list.items text))
+  where
+    back_is : s.reversed.items ≡ reverse s.list.items
+    back_is = is.reversed k s at
+
+    by : (alike s.list.items text ≡ true) ⊎ (alike s.list.items text ≡ false) → alike s.list.items text ≡ false
+    by (inr e) = e
+    by (inl e) =
+        let sides = (and_parts _ _ e).1 in
+        elim (or_cases _ _ sides) [
+          | inl f ↦
+              let t = third_front s.list.items text s.list.items text refl refl f in
+              fronts (length s.list.items / 3) t.0 k s at (is.by_front.thirds.each k s l at ∙ t.1) free
+          | inr f ↦
+              let g : shares_third (common_prefix_len nat_eq s.reversed.items back) (length (longer s.list.items text)) ≡ true =
+              (λ i. shares_third (common_prefix_len nat_eq (back_is i) (reversed i)) (length (longer s.list.items text))) ∙ f in
+              let t = third_front s.list.items text s.reversed.items back (ap length back_is ∙ length-reverse s.list.items) (ap length reversed ∙ length-reverse text) g in
+              ends (length s.reversed.items / 3) t.0 k s at (is.by_end.thirds.each k s l at ∙ t.1) free
+        ]
+
+pub none_found : (p : Pairs) (texts : List Scalars) (front end : Marks) (text back : List ℕ) (o : Option ℕ) → IsIndex texts front end → back ≡ reverse text → NoneFronted p texts front.marks.items text (length text + 1) text
+    → IfNone o (NoneFronted p texts end.marks.items back (length back + 1) text) → IfNone o (NoneAmong p texts (length texts) text)
+none_found p texts front end text back None is reversed fronts ends = none_among p texts front end text back is reversed fronts ends
+none_found p texts front end text back (Some k) is reversed fronts ends = tt
+
+-- one mark more
+pub thirds_more : (list : Scalars → List ℕ) (texts : List Scalars) (n : ℕ) (marks : List ℕ) (s : Scalars) (m : ℕ) → AreThirds list texts n marks → slice_get texts n ≡ Some s → m ≡ third_mark (list s) → AreThirds list texts (n + 1) (marks ++ m ∷ [])
+thirds_more list texts n marks s m was at is = record {
+  long = length_push marks m ∙ ap (λ k. k + 1) was.long;
+  each = λ k t l e. elim (cases_eq k n) [
+    | inl same ↦
+        let u : s ≡ t = same_Some s t (sym at ∙ (ap (slice_get texts) (sym same) ∙ e)) in
+        get_or_push marks m 0 k (was.long ∙ sym same) ∙ (is ∙ ap (λ (t : Scalars). third_mark (list t)) u)
+    | inr ne ↦ get_or_append_left marks (m ∷ []) 0 k (omega (arith, l, ne, was.long)) ∙ was.each k t (omega (arith, l, ne)) e
+  ];
+}

@@ -1,0 +1,86 @@
+-- Texts by a mark of their first third: a number that is the same for the same scalars.
+use Rattle.std.specs.Prelude.{◌≡◌, ◌⊎◌, ℕ, ◌+◌, ◌*◌, ◌<◌, ◌≤◌, ◌/◌, ◌%◌, false, Option, None, Some, List, [], ◌∷◌, length, reverse, slice_get, slice_index, slice_index_or, take}
+use Rattle.std.specs.BTreeMap.{get}
+use Rattle.std.specs.Ordering.{nat_cmp}
+use Rattle.section_plan.specs.Likeness.{alike}
+use Rattle.section_plan.specs.Matching.{part_of}
+use Rattle.section_plan.specs.declared.alike.Scalars.{Scalars}
+use Rattle.section_plan.specs.declared.marks.Marks.{Marks}
+use Rattle.section_plan.specs.declared.marks.TheConstants.{MARKS}
+use Rattle.section_plan.specs.declared.pairs.Pairs.{Pairs}
+
+-- the mark of a text with one scalar more
+abbrev pub next_mark : (mark scalar : ℕ) → ℕ
+next_mark mark scalar = (mark % MARKS * 31 + scalar) % MARKS
+
+-- the mark of a text, from that of what is in front of it
+abbrev pub mark_from : ℕ → List ℕ → ℕ
+mark_from mark [] = mark
+mark_from mark (c ∷ cs) = mark_from (next_mark mark c) cs
+
+abbrev pub mark_of : List ℕ → ℕ
+mark_of text = mark_from 0 text
+
+-- of the first of some marks the last one that is this one: None where there is none
+abbrev pub IsLast : (marks : List ℕ) → (first mark : ℕ) → Option ℕ → Type 0
+IsLast marks first mark None = (j : ℕ) → j < first → slice_index marks j ≡ mark → ⊥
+IsLast marks first mark (Some k) = (k < first) × (slice_index marks k ≡ mark) × ((j : ℕ) → j < first → slice_index marks j ≡ mark → j ≤ k)
+
+-- the last one of each mark, and for each place the one before it with its mark
+pub record AreMarked (marks : List ℕ) (first : ℕ) (last : ℕ → Option ℕ) (before : List (Option ℕ)) : Type 0 where
+  pub long : length before ≡ first
+  pub ends : (mark : ℕ) → IsLast marks first mark (last mark)
+  pub chains : (k : ℕ) → k < first → IsLast marks k (slice_index marks k) (slice_index_or before k None)
+
+-- no free section whose text has this mark is alike
+abbrev pub NoneMarked : Pairs → List Scalars → (marks : List ℕ) → (mark : ℕ) → (text : List ℕ) → Type 0
+NoneMarked p sections marks mark text = (k : ℕ) (s : Scalars) → slice_get sections k ≡ Some s → slice_index marks k ≡ mark → part_of p s.place ≡ None → alike s.list.items text ≡ false
+
+-- the place is not behind the last one
+abbrev pub IsUpTo : Option ℕ → ℕ → Type 0
+IsUpTo None j = ⊥
+IsUpTo (Some k) j = j ≤ k
+
+-- a place that is left has this mark, and of those behind it that have it no free section is alike
+pub record AreTried (p : Pairs) (sections : List Scalars) (marks : List ℕ) (mark : ℕ) (text : List ℕ) (left : Option ℕ) : Type 0 where
+  pub there : (k : ℕ) → left ≡ Some k → (k < length marks) × (slice_index marks k ≡ mark)
+  pub tried : (k : ℕ) (s : Scalars) → slice_get sections k ≡ Some s → slice_index marks k ≡ mark → part_of p s.place ≡ None → (alike s.list.items text ≡ false) ⊎ IsUpTo left k
+
+-- none that has the mark of one of the first fronts of a list is alike
+abbrev pub NoneFronted : Pairs → List Scalars → (marks : List ℕ) → (list : List ℕ) → (first : ℕ) → (text : List ℕ) → Type 0
+NoneFronted p sections marks list first text = (w : ℕ) → w < first → NoneMarked p sections marks (mark_of (take w list)) text
+
+-- so many turns are left at most
+abbrev pub turns : Option ℕ → ℕ
+turns None = 0
+turns (Some k) = k + 1
+
+-- the marks of the first thirds of lists
+abbrev pub third_mark : List ℕ → ℕ
+third_mark list = mark_of (take (length list / 3) list)
+
+-- each of the first texts has the mark of the first third of a list of it
+pub record AreThirds (list : Scalars → List ℕ) (texts : List Scalars) (first : ℕ) (marks : List ℕ) : Type 0 where
+  pub long : length marks ≡ first
+  pub each : (k : ℕ) (s : Scalars) → k < first → slice_get texts k ≡ Some s → slice_index marks k ≡ third_mark (list s)
+
+abbrev pub list_of : Scalars → List ℕ
+list_of s = s.list.items
+
+abbrev pub reversed_of : Scalars → List ℕ
+reversed_of s = s.reversed.items
+
+-- each text is there from the end on too
+abbrev pub AreReversed : List Scalars → Type 0
+AreReversed texts = (k : ℕ) (s : Scalars) → slice_get texts k ≡ Some s → s.reversed.items ≡ reverse s.list.items
+
+-- texts by the marks of lists of them
+pub record IsMarkedBy (list : Scalars → List ℕ) (texts : List Scalars) (m : Marks) : Type 0 where
+  pub thirds : AreThirds list texts (length texts) m.marks.items
+  pub marked : AreMarked m.marks.items (length texts) (get nat_cmp m.last) m.before.items
+
+-- the texts by their fronts and by their ends
+pub record IsIndex (texts : List Scalars) (front end : Marks) : Type 0 where
+  pub reversed : AreReversed texts
+  pub by_front : IsMarkedBy list_of texts front
+  pub by_end : IsMarkedBy reversed_of texts end

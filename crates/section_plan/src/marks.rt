@@ -1,0 +1,127 @@
+//! Texts by a mark of their first third, by which those are found that may be alike.
+
+ghost use Rattle.std.specs.Prelude.{◌≡◌, ◌+◌, ◌*◌, ◌<◌, ◌≤◌, IfNone, IfOk, IfSome, None, Some, length, slice_get, slice_index_or};
+ghost use Rattle.std.specs.Ordering.{nat_cmp};
+ghost use Rattle.std.specs.BTreeMap.{get};
+ghost use Rattle.section_plan.specs.Alike.{AreWithin};
+ghost use Rattle.section_plan.specs.Marks.{AreMarked, NoneFronted, NoneMarked, mark_of as mark_in, next_mark as mark_with, third_mark as third_in};
+ghost use Rattle.section_plan.specs.Matching.{part_of as part_in};
+
+use crate::alike::{Scalars, is_candidate};
+use crate::pairs::Pairs;
+use fugue_ids::NoMemory;
+use std::alloc::Global;
+use std::collections::BTreeMap;
+
+/// What all marks are less than: a prime.
+pub(crate) const MARKS: u64 = 4_294_967_291;
+
+/// Texts by their marks: of each mark the last text, and of each text the one before it with the same mark.
+#[derive(Drop)]
+pub(crate) struct Marks {
+    marks: Vec<u64>,
+    last: BTreeMap<u64, usize>,
+    before: Vec<Option<usize>>,
+}
+
+/// The mark of a text with one scalar more.
+fn next_mark(mark: u64, scalar: char) -> u64
+    ensures { result ≡ mark_with mark scalar }
+{
+    (mark % MARKS * 31 + u64::from(scalar)) % MARKS
+}
+
+/// The mark of the first third of a list.
+pub(crate) fn third_mark(list: &[char]) -> u64
+    ensures { result ≡ third_in list.now }
+{
+    let mut mark = 0;
+    'scalars: for scalar in &list[..list.len() / 3] {
+        mark = next_mark(mark, *scalar);
+    }
+    mark
+}
+
+impl Marks {
+    pub(crate) fn of(alloc: Global, marks: Vec<u64>) -> Result<Marks, NoMemory>
+        ensures is { IfOk result (λ made. made.marks ≡ marks) }
+        ensures marked { IfOk result (λ made. AreMarked marks.items (length marks.items) (get nat_cmp made.last) made.before.items) }
+    {
+        let mut last = BTreeMap::new(alloc);
+        let mut before = Vec::new(alloc);
+        'marks: for (place, mark) in marks.as_slice().iter().enumerate() {
+            before.push(last.insert(*mark, place)?)?;
+        }
+        Ok(Marks {
+            marks,
+            last,
+            before,
+        })
+    }
+}
+
+fn section_at(sections: &[Scalars], place: usize) -> &Scalars
+    requires { place < length sections.now }
+    ensures { slice_get sections.now place ≡ Some result.now }
+{
+    &sections[place]
+}
+
+/// The text before one that has the same mark.
+fn before_of(marks: &Marks, place: usize) -> Option<usize>
+    requires { place < length marks.now.before.items }
+    ensures { result ≡ slice_index_or marks.now.before.items place None }
+{
+    marks.before[place]
+}
+
+/// A free section whose text has this mark and is alike.
+fn find_marked(
+    pairs: &Pairs,
+    sections: &[Scalars],
+    text: &[char],
+    marks: &Marks,
+    mark: u64,
+) -> Option<usize>
+    requires marked { AreMarked marks.now.marks.items (length sections.now) (get nat_cmp marks.now.last) marks.now.before.items }
+    requires long { length marks.now.marks.items ≡ length sections.now }
+    requires within { AreWithin (length pairs.now.of_section.items) sections.now }
+    ensures within { IfSome result (λ place. place < length pairs.now.of_section.items) }
+    ensures free { IfSome result (λ place. part_in pairs.now place ≡ None) }
+    ensures none { IfNone result (NoneMarked pairs.now sections.now marks.now.marks.items mark text.now) }
+{
+    let mut next = marks.last.get(&mark).copied();
+    'marked: while let Some(place) = next {
+        let section = section_at(sections, place);
+        if is_candidate(pairs, section, text) {
+            return Some(section.place);
+        }
+        next = before_of(marks, place);
+    }
+    None
+}
+
+/// A free section that is alike, and whose text has the mark of a front of this list.
+pub(crate) fn find_fronted(
+    pairs: &Pairs,
+    sections: &[Scalars],
+    text: &[char],
+    marks: &Marks,
+    list: &[char],
+) -> Option<usize>
+    requires marked { AreMarked marks.now.marks.items (length sections.now) (get nat_cmp marks.now.last) marks.now.before.items }
+    requires long { length marks.now.marks.items ≡ length sections.now }
+    requires within { AreWithin (length pairs.now.of_section.items) sections.now }
+    ensures within { IfSome result (λ place. place < length pairs.now.of_section.items) }
+    ensures free { IfSome result (λ place. part_in pairs.now place ≡ None) }
+    ensures none { IfNone result (NoneFronted pairs.now sections.now marks.now.marks.items list.now (length list.now + 1) text.now) }
+{
+    let mut mark = 0;
+    'scalars: for scalar in list {
+        if let Some(place) = find_marked(pairs, sections, text, marks, mark) {
+            return Some(place);
+        }
+        mark = next_mark(mark, *scalar);
+    }
+    find_marked(pairs, sections, text, marks, mark)
+}
