@@ -30,14 +30,14 @@ same='# A\none two\n# B\nthree\n'
 revised 'a draft as printed' "$same" 0 'made 0\n' "$same"
 check 'writes nothing' cmp -s "$f" "$work/before"
 revised 'a word' '# A\n1 two\n# B\nthree\n' 0 'made 6\n' '# A\n1 two\n# B\nthree\n'
-revised 'the sections the other way round' '# B\nthree\n# A\none two\n' 0 'made 1\n' '# B\nthree\n# A\none two\n'
-revised 'another title' '# A\none two\n# C\nthree\n' 0 'made 1\n' '# A\none two\n# C\nthree\n'
+revised 'the sections the other way round' '# B\nthree\n# A\none two\n' 0 'made 1\nsections: 0 added, 0 dropped, 1 moved, 0 retitled\n' '# B\nthree\n# A\none two\n'
+revised 'another title' '# A\none two\n# C\nthree\n' 0 'made 1\nsections: 0 added, 0 dropped, 0 moved, 1 retitled\n' '# A\none two\n# C\nthree\n'
 begin
 put draft '# A\none two\n# N\nx\n# B\nthree\n'
 "$program" revise "$f" "$base" <"$work/draft" >"$work/output" 2>"$work/notes"
 check 'a section between them takes three operations at most' grep -qx 'made [23]' "$work/notes"
 try 'and is printed there' nothing 0 '# A\none two\n# N\nx\n# B\nthree\n' '' arrange "$f"
-revised 'a section less' '# B\nthree\n' 0 'made 1\n' '# B\nthree\n'
+revised 'a section less' '# B\nthree\n' 0 'made 1\nsections: 0 added, 1 dropped, 0 moved, 0 retitled\n' '# B\nthree\n'
 revised 'no line end at the end' '# A\none two\n# B\nthree' 0 'made 0\n' "$same"
 check 'writes nothing either' cmp -s "$f" "$work/before"
 begin

@@ -38,6 +38,7 @@ unfinished answer why end is may done = let ok = subst (λ (a : Result Note Refu
 note_finished : (n : Note) → IsFinished (note_status n)
 note_finished (note.Counted counts) = done_or_partial (is_done counts.tally counts.waiting)
 note_finished (note.Made count) = inl refl
+note_finished (note.Revised count sections) = inl refl
 
 -- all was done, and noted or not
 pub note_saves : (giver : Giver) → GivesOnce giver → (file : Change DiskView) (notes : Change OutView) (n : Note) (end : Status) → SavesNoted giver file (Ok n)

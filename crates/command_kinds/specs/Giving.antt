@@ -5,7 +5,7 @@ use Rattle.origin_model.specs.operations.History.{accepted}
 use Rattle.outer_ports.specs.disk.Disks.{DiskView}
 use Rattle.origin_model.specs.edits.State.{State as Replica}
 use Rattle.replica_file.specs.declared.load_file.End.{End}
-use Rattle.command_kinds.specs.Counts.{counts_text, made_line, status_by}
+use Rattle.command_kinds.specs.Counts.{counts_text, made_line, revised_text, status_by}
 use Rattle.command_kinds.specs.Crashes.{IsFinished}
 use Rattle.command_kinds.specs.Findings.{Refuses, Does}
 use Rattle.command_kinds.specs.Intake.{ops_in}
@@ -22,15 +22,18 @@ use Rattle.command_kinds.specs.declared.status.Status.TheVariants as status
 abbrev pub note_line : Note → List ℕ
 note_line (note.Counted counts) = counts_text counts.tally counts.waiting counts.cursor
 note_line (note.Made count) = made_line count
+note_line (note.Revised count sections) = revised_text count sections
 
 abbrev pub note_status : Note → Status
 note_status (note.Counted counts) = status_by counts.tally counts.waiting
 note_status (note.Made count) = status.Done
+note_status (note.Revised count sections) = status.Done
 
--- what is to be saved: copies of what was kept, or what a script made, which was accepted behind the rest
+-- what is to be saved: copies of what was kept, or the operations of a script or a draft, which were accepted behind the rest
 abbrev pub to_save : Note → (before : ℕ) → (after : Replica) → (kept : Option (List Op)) → List Op
 to_save (note.Counted counts) before after kept = ops_in kept
 to_save (note.Made count) before after kept = drop before (accepted after.held.history)
+to_save (note.Revised count sections) before after kept = drop before (accepted after.held.history)
 
 -- a note tells of an outcome
 pub record IsNoted (outcome : Outcome) (note : Note) : Type 0 where

@@ -1,6 +1,7 @@
 ghost use Rattle.std.specs.Prelude.{◌≡◌, ◌≤◌, ◌+◌, ◌++◌, length, None, Some};
 ghost use Rattle.fugue_ids.specs.Outs.{WritesBytes};
-ghost use Rattle.command_kinds.specs.Counts.{counts_line, counts_text, cursor_line, status_by};
+ghost use Rattle.command_kinds.specs.Counts.{are_none, counts_line, counts_text, cursor_line, made_line, revised_text};
+ghost use Rattle.command_kinds.specs.Counts.{sections_lines, status_by};
 ghost use Rattle.command_kinds.specs.Changes.{notes_room};
 
 use crate::Status;
@@ -46,8 +47,28 @@ impl Counts {
 pub enum Note {
     /// What became of the operations that it took in.
     Counted(Counts),
-    /// How many operations the command made: by a script or a draft, or the one note.
+    /// How many operations the command made: by a script, or the one note.
     Made(u32),
+    /// How many operations a draft took, and how many of them were made on sections.
+    Revised(u32, SectionCounts),
+}
+
+/// How many operations add, drop, move and retitle a section.
+#[derive(Clone, Copy)]
+pub struct SectionCounts {
+    pub added: u32,
+    pub dropped: u32,
+    pub moved: u32,
+    pub retitled: u32,
+}
+
+impl SectionCounts {
+    /// Whether none does.
+    fn are_none(&self) -> bool
+        ensures { result ≡ are_none self.now }
+    {
+        self.added == 0 && self.dropped == 0 && self.moved == 0 && self.retitled == 0
+    }
 }
 
 /// Writes what became of the operations, how many wait at the end, and where the relay's log ended.
@@ -119,5 +140,57 @@ pub(crate) fn status_of(counts: &Counts) -> Status
         Status::Done
     } else {
         Status::Partial
+    }
+}
+
+/// Writes how many operations were made.
+pub(crate) fn write_made<N: Out>(notes: &mut N, made: u32) -> Result<(), Failed>
+    ensures text { WritesBytes (N.seen notes.old) (N.seen notes.new) result (made_line made) }
+    ensures short { length (made_line made) ≤ notes_room }
+{
+    let mut number = Buffer::new();
+    write_pieces(notes, &[b"made ", number.format(made).as_bytes(), b"\n"])
+}
+
+/// Writes how many operations a draft took, and how many of them were made on sections.
+fn write_sections<N: Out>(notes: &mut N, made: u32, sections: &SectionCounts) -> Result<(), Failed>
+    ensures text { WritesBytes (N.seen notes.old) (N.seen notes.new) result (sections_lines made sections.now) }
+    ensures short { length (sections_lines made sections.now) ≤ notes_room }
+{
+    let [mut operations, mut added, mut dropped] = [Buffer::new(), Buffer::new(), Buffer::new()];
+    let [mut moved, mut retitled] = [Buffer::new(), Buffer::new()];
+    write_pieces(
+        notes,
+        &[
+            b"made ",
+            operations.format(made).as_bytes(),
+            b"\n",
+            b"sections: ",
+            added.format(sections.added).as_bytes(),
+            b" added, ",
+            dropped.format(sections.dropped).as_bytes(),
+            b" dropped, ",
+            moved.format(sections.moved).as_bytes(),
+            b" moved, ",
+            retitled.format(sections.retitled).as_bytes(),
+            b" retitled",
+            b"\n",
+        ],
+    )
+}
+
+/// Writes how many operations a draft took, and how many of them were made on sections, if any was.
+pub(crate) fn write_revised<N: Out>(
+    notes: &mut N,
+    made: u32,
+    sections: &SectionCounts,
+) -> Result<(), Failed>
+    ensures text { WritesBytes (N.seen notes.old) (N.seen notes.new) result (revised_text made sections.now) }
+    ensures short { length (revised_text made sections.now) ≤ notes_room }
+{
+    if sections.are_none() {
+        write_made(notes, made)
+    } else {
+        write_sections(notes, made, sections)
     }
 }

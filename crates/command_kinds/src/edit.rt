@@ -1,7 +1,5 @@
 //! The command `edit`: a script is run.
-ghost use Rattle.std.specs.Prelude.{◌≤◌, length};
-ghost use Rattle.fugue_ids.specs.Outs.{WritesBytes};
-ghost use Rattle.command_kinds.specs.Counts.{made_line};
+ghost use Rattle.command_kinds.specs.Counts.{made_line, revised_text};
 ghost use Rattle.command_kinds.specs.Edit.{script};
 ghost use Rattle.command_kinds.specs.Printing.{NoteMeets, NotesBlameless};
 ghost use Rattle.command_kinds.specs.Saving.{ReadsInput};
@@ -9,14 +7,12 @@ ghost use Rattle.command_kinds.specs.Changes.{change, StaysCalm, notes_room};
 ghost use Rattle.command_kinds.specs.declared.status.Status.TheVariants.{Done};
 
 use crate::Status;
-use crate::counts::Note;
+use crate::counts::{Note, SectionCounts, write_made, write_revised};
 use crate::giving::Gives;
 use crate::kept::Kept;
 use crate::printing::noted;
 use crate::refusal::Refusal;
 use edit_script::run_script;
-use fugue_ids::{Failed, Out, write_pieces};
-use itoa::Buffer;
 use outer_ports::{Sink, Source};
 use replica_core::Replica;
 use std::alloc::Global;
@@ -53,10 +49,12 @@ pub(crate) fn note_made<N: Sink>(made: u32, notes: &mut N) -> Status
     noted(written, Status::Done, notes)
 }
 
-fn write_made<N: Out>(notes: &mut N, made: u32) -> Result<(), Failed>
-    ensures text { WritesBytes (N.seen notes.old) (N.seen notes.new) result (made_line made) }
-    ensures short { length (made_line made) ≤ notes_room }
+/// Writes to the notes how many operations a draft took, and how many of them were made on sections.
+pub(crate) fn note_revised<N: Sink>(made: u32, sections: &SectionCounts, notes: &mut N) -> Status
+    ensures meets { NoteMeets (revised_text made sections.now) Done (N.seen notes.old) (N.seen notes.new) result }
+    ensures calm { StaysCalm notes_room (N.seen notes.old) (N.seen notes.new) }
+    ensures blameless { NotesBlameless (change (N.seen notes.old) (N.seen notes.new)) result }
 {
-    let mut number = Buffer::new();
-    write_pieces(notes, &[b"made ", number.format(made).as_bytes(), b"\n"])
+    let written = write_revised(notes, made, sections);
+    noted(written, Status::Done, notes)
 }

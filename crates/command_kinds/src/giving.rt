@@ -18,7 +18,7 @@ ghost use Rattle.command_kinds.specs.declared.status.Status.{Status as AnyStatus
 
 use crate::Status;
 use crate::counts::Note;
-use crate::edit::note_made;
+use crate::edit::{note_made, note_revised};
 use crate::home_file::{load_file, save};
 use crate::kept::Kept;
 use crate::printing::note as note_counts;
@@ -145,12 +145,12 @@ fn to_save<'a>(note: &Note, before: usize, replica: &'a Replica, kept: &'a Kept)
 {
     match note {
         Note::Counted(_) => kept.ops(),
-        Note::Made(_) => behind(replica.accepted(), before),
+        Note::Made(_) | Note::Revised(_, _) => behind(replica.accepted(), before),
     }
 }
 
 /// The operations behind so many.
-fn behind(ops: &[Op], before: usize) -> &[Op]
+pub fn behind(ops: &[Op], before: usize) -> &[Op]
     ensures { result.now ≡ drop before ops.now }
 {
     if before <= ops.len() {
@@ -168,5 +168,6 @@ fn note_down<N: Sink>(note: &Note, notes: &mut N) -> Status
     match note {
         Note::Counted(counts) => note_counts(counts, notes),
         Note::Made(made) => note_made(*made, notes),
+        Note::Revised(made, sections) => note_revised(*made, sections, notes),
     }
 }

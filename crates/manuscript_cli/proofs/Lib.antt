@@ -13,3 +13,4 @@ pub mod ListingLemmas
 pub mod PlainFileLemmas
 pub mod RevisionTakenLemmas
 pub mod RevisingLemmas
+pub mod SectionCountLemmas

@@ -1,6 +1,6 @@
 -- What a draft gives to a replica, by how far it was read.
 use Rattle.std.proofs.Common.{◌≡◌, ◌≢◌, ◌⊎◌, ◌↔◌, inl, inr, ℕ, suc, zero, List, [], ◌∷◌, ◌++◌, ◌+◌, ◌<◌, ◌≤◌, length, take, Option, Some, None, refl, sym, ap, subst, ◌∙◌, arith, drop, drop_at, length-append, min, nat_eq, nat_lt, true, false, Bool, ◌&&◌}
-use Rattle.std.specs.Prelude.{IfSome, MatchResult, Result, Ok, Err, if◌then◌else◌, cond, option_map}
+use Rattle.std.specs.Prelude.{IfErr, IfOk, IfSome, MatchResult, Result, Ok, Err, if◌then◌else◌, cond, option_map}
 use Rattle.std.specs.Option.{option_or}
 use Rattle.std.specs.List.{common_prefix_len, position_or_len}
 use Rattle.std.specs.Str.{bytes_eq}
@@ -28,20 +28,23 @@ use Rattle.draft_plan.specs.Changes.{all_made}
 use Rattle.draft_plan.specs.Readings.{seen_part}
 use Rattle.draft_plan.proofs.ChangeLemmas.{changed_none}
 use Rattle.draft_plan.specs.Differences.{first_difference, unless_whole}
-use Rattle.draft_plan.specs.Drafts.{Part, parts}
-use Rattle.draft_plan.specs.Revision.{IsRevision, StopsAtLimit}
+use Rattle.draft_plan.specs.Drafts.{Part, form, parts}
+use Rattle.draft_plan.specs.Limits.{Costs, IsOutOfMemory, LacksRoom, revision_cost}
+use Rattle.draft_plan.specs.Plain.{ArrangedReads, arranged_parts}
+use Rattle.draft_plan.specs.Revision.{IsRevision, MakesNothing, StopsAtLimit}
 use Rattle.draft_plan.specs.declared.draft.DraftFault.{DraftFault}
 use Rattle.draft_plan.specs.declared.draft.DraftFault.TheVariants as draft_fault
 use Rattle.draft_plan.specs.declared.fault.ReviseFault.{ReviseFault}
 use Rattle.draft_plan.specs.declared.fault.ReviseFault.TheVariants as fault
 use Rattle.replica_file.specs.Looks.{LooksOnly}
 use Rattle.manuscript_cli.specs.Check.{HasNoInputText, IsTextLonger, IsTextRead}
-use Rattle.command_kinds.specs.Counts.{made_line}
+use Rattle.command_kinds.specs.Counts.{revised_text}
 use Rattle.command_kinds.specs.Crashes.{IsFinished}
 use Rattle.command_kinds.specs.Edit.{IsLeft, made_outcome}
 use Rattle.command_kinds.specs.Findings.{Finding, Refuses, Does}
 use Rattle.command_kinds.specs.Giving.{GivesTo}
-use Rattle.manuscript_cli.specs.Revising.{BaseStops, DraftGives, HasBytes, IsHandedBack, IsRevisedTo, LooksAtBase, MeetsLimit, RevisionGives, Revises, TextStops, base_refusal, draft_refusal, empties, parts_fault_refusal, parts_refusal, revise_refusal, revision, text_refusal}
+use Rattle.manuscript_cli.specs.Revising.{BaseStops, DraftGives, HasBytes, IsHandedBack, IsRevisedTo, LooksAtBase, MeetsLimit, RevisionGives, Revises, TextStops, base_refusal, draft_refusal, empties, parts_fault_refusal, parts_refusal, revise_refusal, revised_outcome, revision, text_refusal}
+use Rattle.manuscript_cli.specs.SectionCounts.{section_counts}
 use Rattle.command_kinds.specs.Saving.{Giver, GivesOnce, Outcome, ReadsInput}
 use Rattle.command_kinds.specs.Changes.{Change}
 use Rattle.manuscript_cli.specs.declared.check.TheConstants.{LONGEST_TEXT}
@@ -82,7 +85,7 @@ module _ (guest : DiskView) (input : SourceView) (replica : Replica) (base : Lis
   allows draft good e = ap (λ o. option_or o (text_refusal replica.held.history draft)) good ∙ e
 
   -- or a limit is met
-  pub gives_limit : (draft : List ℕ) (why : Refusal) → IsLeft input draft → base_refusal replica.held.history base ≡ None → text_refusal replica.held.history draft ≡ None → MeetsLimit replica why → RevisionGives guest input (Refuses why) replica (Refuses why)
+  pub gives_limit : (draft : List ℕ) (why : Refusal) → IsLeft input draft → base_refusal replica.held.history base ≡ None → text_refusal replica.held.history draft ≡ None → MeetsLimit replica draft why → RevisionGives guest input (Refuses why) replica (Refuses why)
   gives_limit draft why left good e meets = (base, has, draft, left, inr (allows draft good e, refl, meets))
 
   -- or the draft comes
@@ -154,7 +157,7 @@ base_read a b =
     ∙ ap (λ t. if t then None else Some n) (ends_with n (length a) (length b) (length (take (length a + 1) b)) (length-take (length a + 1) b))
 
 -- a revised replica is an outcome
-pub outcome_of : (replica last : Replica) (draft : List ℕ) (ps : List Part) (n : ℕ) → draft ≢ arranged_text replica.held.history → parts draft ≡ Ok ps → (r : IsRevisedTo replica last ps n) → Revises replica draft (made_outcome last (all_made replica r.revised.makes.changes))
+pub outcome_of : (replica last : Replica) (draft : List ℕ) (ps : List Part) (n : ℕ) → draft ≢ arranged_text replica.held.history → parts draft ≡ Ok ps → (r : IsRevisedTo replica last ps n) → Revises replica draft (revised_outcome last (all_made replica r.revised.makes.changes))
 outcome_of replica last draft ps n other e r =
     let made : List Op = all_made replica r.revised.makes.changes in
     record {
@@ -167,6 +170,7 @@ outcome_of replica last draft ps n other e r =
       revised = subst (IsRevision replica last ps) r.revised.makes.count r.revised;
       prints = r.prints;
       unchanged = λ same. nothing made (sym r.revised.makes.count ∙ (r.same same).0);
+      costs = subst (λ m. Costs replica last (revision_cost replica.held.history ps) (Ok m)) r.revised.makes.count r.costs;
       outcome_is = refl;
     }
   where
@@ -177,18 +181,21 @@ outcome_of replica last draft ps n other e r =
 -- a draft that came gives what was made
 pub draft_gives : (guest : Change DiskView) (input : Change SourceView) (replica last : Replica) (base draft : List ℕ) (ps : List Part) (n : ℕ) (kept : Option (List Op)) → HasBytes guest.old base
     → IsLeft input.old draft → base_refusal replica.held.history base ≡ None → length draft ≤ LONGEST_TEXT → draft ≢ arranged_text replica.held.history → parts draft ≡ Ok ps → empties replica.held.history ps ≡ false → IsSettled replica.held → IsRevisedTo replica last ps n
-    → (course : Finding Outcome) × GivesTo (revision guest input course) replica last kept (Ok (note.Made n))
+    → (course : Finding Outcome) × GivesTo (revision guest input course) replica last kept (Ok (note.Revised n (section_counts last.held.history (drop (length (accepted replica.held.history)) (accepted last.held.history)))))
 draft_gives guest input replica last base draft ps n kept has left good short other e some settled r =
     let makes = r.revised.makes in
     let made : List Op = all_made replica makes.changes in
-    let outcome : Outcome = made_outcome last made in (
+    let outcome : Outcome = revised_outcome last made in
+    let enough = changed_suffice replica last makes.changes settled r.stands makes.changed in
+    let behind : drop (length (accepted replica.held.history)) (accepted last.held.history) ≡ made =
+    ap (drop (length (accepted replica.held.history))) makes.changed.gained.accepted_are ∙ drop_at (accepted replica.held.history) made (length (accepted replica.held.history)) refl in (
       Does outcome,
       record {
         outcome = outcome;
         gives = gives_draft guest.old input.old replica base has draft outcome left good (text_reads replica.held.history draft ps short other e some) (inr (outcome_of replica last draft ps n other e r));
-        suffices = changed_suffice replica last makes.changes settled r.stands makes.changed;
-        saved = ap (drop (length (accepted replica.held.history))) makes.changed.gained.accepted_are ∙ drop_at (accepted replica.held.history) made (length (accepted replica.held.history)) refl;
-        noted = record { line = ap made_line (sym makes.count); status = refl };
+        suffices = record { same_state = enough.same_state; place = enough.place };
+        saved = behind;
+        noted = record { line = (λ i. revised_text (sym makes.count i) (section_counts last.held.history (sym behind i))); status = refl };
       },
     )
 
@@ -305,14 +312,36 @@ pub draft_stops : {T : Type 0} (result : Result T DraftFault) (why : Refusal) (r
 draft_stops (Ok x) why replica draft is bad = cc is
 draft_stops (Err fault) why replica draft is bad = subst (λ (w : Refusal). TextStops w replica draft) (sym is) (parts_stop fault (Err fault) replica draft refl bad)
 
-pub limit_stops : (fault : ReviseFault) (replica last : Replica) (draft : List ℕ) (ps : List Part) → parts draft ≡ Ok ps → empties replica.held.history ps ≡ false → StopsAtLimit replica last fault → TextStops (revise_refusal fault) replica draft
-limit_stops (fault.Edit edit.NoSection) replica last draft ps e some stops = tt
-limit_stops (fault.Edit edit.OutOfRange) replica last draft ps e some stops = tt
-limit_stops (fault.Edit edit.NoMemory) replica last draft ps e some stops = tt
-limit_stops (fault.Move moving.NoSection) replica last draft ps e some stops = tt
-limit_stops (fault.Move moving.NoPlace) replica last draft ps e some stops = tt
-limit_stops (fault.Move moving.NoMemory) replica last draft ps e some stops = tt
-limit_stops why replica last draft ps e some stops = (ps, e, some, record { fault = why; why_is = refl; no_want = λ is. cc is; last = last; stops = stops })
+pub limit_stops : (fault : ReviseFault) (replica last : Replica) (draft : List ℕ) (ps : List Part) → parts draft ≡ Ok ps → empties replica.held.history ps ≡ false → StopsAtLimit replica last fault
+    → LacksRoom replica (revision_cost replica.held.history ps) fault → (arranged_parts replica.held.history ≡ ps → IsOutOfMemory fault) → TextStops (revise_refusal fault) replica draft
+limit_stops (fault.Edit edit.NoSection) replica last draft ps e some stops lacks spared = tt
+limit_stops (fault.Edit edit.OutOfRange) replica last draft ps e some stops lacks spared = tt
+limit_stops (fault.Edit edit.NoMemory) replica last draft ps e some stops lacks spared = tt
+limit_stops (fault.Move moving.NoSection) replica last draft ps e some stops lacks spared = tt
+limit_stops (fault.Move moving.NoPlace) replica last draft ps e some stops lacks spared = tt
+limit_stops (fault.Move moving.NoMemory) replica last draft ps e some stops lacks spared = tt
+limit_stops why replica last draft ps e some stops lacks spared =
+    (ps, e, some, record { fault = why; why_is = refl; no_want = λ is. cc is; last = last; stops = stops; ps = ps; reads = e; lacks = lacks; changes = λ same. spared same })
+
+-- a revision that stopped
+pub revise_stops : (result : Result ℕ ReviseFault) (why : Refusal) (replica last : Replica) (draft : List ℕ) (ps : List Part) → MatchResult result (λ (n : ℕ). Err why ≡ Ok n) (λ fault. why ≡ revise_refusal fault)
+    → parts draft ≡ Ok ps → empties replica.held.history ps ≡ false → IfErr result (λ f. StopsAtLimit replica last f) → Costs replica last (revision_cost replica.held.history ps) result
+    → (arranged_parts replica.held.history ≡ ps → IfErr result (λ f. IsOutOfMemory f)) → TextStops why replica draft
+revise_stops (Ok n) why replica last draft ps is e some stops costs spared = cc is
+revise_stops (Err f) why replica last draft ps is e some stops costs spared =
+    subst (λ (w : Refusal). TextStops w replica draft) (sym is) (limit_stops f replica last draft ps e some stops costs spared)
+
+-- or that came to an end
+revised_of : (n : ℕ) (replica last : Replica) (ps : List Part) → ArrangedReads → IsRevision replica last ps n → MakesNothing replica last ps n → Costs replica last (revision_cost replica.held.history ps) (Ok n)
+    → Stands last → IsSettled last.held → IsRevisedTo replica last ps n
+revised_of n replica last ps law r same costs st settled =
+    record { revised = r; prints = (law last.held.history).form_is ∙ ap form r.reads; same = same; costs = costs; stands = st; settled = settled }
+
+pub revised_to : (result : Result ℕ ReviseFault) (n : ℕ) (replica last : Replica) (ps : List Part) → result ≡ Ok n → ArrangedReads → IfOk result (λ m. IsRevision replica last ps m) → IfOk result (λ m. MakesNothing replica last ps m)
+    → Costs replica last (revision_cost replica.held.history ps) result → Stands last → IsSettled last.held → IsRevisedTo replica last ps n
+revised_to result n replica last ps is law r same costs st settled =
+    revised_of n replica last ps law (subst (λ t. IfOk t (λ m. IsRevision replica last ps m)) is r) (subst (λ t. IfOk t (λ m. MakesNothing replica last ps m)) is same)
+    (subst (Costs replica last (revision_cost replica.held.history ps)) is costs) st settled
 
 -- a place of a byte that was read is one in the base
 pub base_is : (past : Option History) (a bytes : List ℕ) (most : ℕ) → most ≡ length a + 1 → IfSome past (λ h. bytes ≡ take most h.last.seen)

@@ -6,6 +6,7 @@ pub mod Why
 pub mod Check
 pub mod PlainFile
 pub mod Revising
+pub mod SectionCounts
 pub mod Savers
 pub mod Relay
 pub mod Arrange

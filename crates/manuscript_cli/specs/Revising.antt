@@ -14,12 +14,14 @@ use Rattle.catalogue_notes.specs.Arranged.{arranged, arranged_text}
 use Rattle.catalogue_notes.specs.declared.moving.MoveFault.TheVariants as move_fault
 use Rattle.draft_plan.specs.Differences.{first_difference}
 use Rattle.draft_plan.specs.Drafts.{Part, form, parts}
+use Rattle.draft_plan.specs.Limits.{Costs, LacksRoom, revision_cost}
 use Rattle.draft_plan.specs.Plain.{arranged_parts}
 use Rattle.draft_plan.specs.Revision.{IsRevision, MakesNothing, StopsAtLimit}
 use Rattle.draft_plan.specs.declared.draft.DraftFault.{DraftFault}
 use Rattle.draft_plan.specs.declared.draft.DraftFault.TheVariants as draft_fault
 use Rattle.draft_plan.specs.declared.fault.ReviseFault.{ReviseFault}
 use Rattle.draft_plan.specs.declared.fault.ReviseFault.TheVariants as revise_fault
+use Rattle.command_kinds.specs.Counts.{revised_text}
 use Rattle.command_kinds.specs.Edit.{IsLeft, made_outcome}
 use Rattle.command_kinds.specs.Findings.{Finding, Refuses, Does}
 use Rattle.command_kinds.specs.Saving.{Giver, Outcome}
@@ -28,6 +30,8 @@ use Rattle.manuscript_cli.specs.declared.check.TheConstants.{LONGEST_TEXT}
 use Rattle.command_kinds.specs.declared.refusal.Refusal.{Refusal}
 use Rattle.command_kinds.specs.declared.refusal.Refusal.TheVariants as refusal
 use Rattle.command_kinds.specs.declared.status.Status.{Status}
+use Rattle.command_kinds.specs.declared.status.Status.TheVariants as status
+use Rattle.manuscript_cli.specs.SectionCounts.{section_counts}
 
 -- why no draft can be written from the base: it is not what is shown
 abbrev pub base_refusal : List Op → (base : List ℕ) → Option Refusal
@@ -70,6 +74,7 @@ pub record IsRevisedTo (replica last : Replica) (ps : List Part) (n : ℕ) : Typ
   pub revised : IsRevision replica last ps n
   pub prints : arranged_text last.held.history ≡ form ps
   pub same : MakesNothing replica last ps n
+  pub costs : Costs replica last (revision_cost replica.held.history ps) (Ok n)
   pub stands : Stands last
   pub settled : IsSettled last.held
 
@@ -77,6 +82,15 @@ pub record IsRevisedTo (replica last : Replica) (ps : List Part) (n : ℕ) : Typ
 pub record IsHandedBack (replica : Replica) (draft : List ℕ) (outcome : Outcome) : Type 0 where
   pub same : draft ≡ arranged_text replica.held.history
   pub outcome_is : outcome ≡ made_outcome replica []
+
+-- the notes say how many operations that were, and how many of them were made on sections
+abbrev pub revised_outcome : Replica → List Op → Outcome
+revised_outcome last made = record {
+  saved = made;
+  held = last.held;
+  line = revised_text (length made) (section_counts last.held.history made);
+  status = status.Done;
+}
 
 -- the outcome of another draft: these operations were made one after another, and what is shown behind them is the form of the draft's parts
 pub record Revises (replica : Replica) (draft : List ℕ) (outcome : Outcome) : Type 0 where
@@ -89,21 +103,26 @@ pub record Revises (replica : Replica) (draft : List ℕ) (outcome : Outcome) : 
   pub revised : IsRevision replica last ps (length made)
   pub prints : arranged_text last.held.history ≡ form ps
   pub unchanged : arranged_parts replica.held.history ≡ ps → made ≡ []
-  pub outcome_is : outcome ≡ made_outcome last made
+  pub costs : Costs replica last (revision_cost replica.held.history ps) (Ok (length made))
+  pub outcome_is : outcome ≡ revised_outcome last made
 
--- a limit is met on the way to the draft
-pub record MeetsLimit (replica : Replica) (why : Refusal) : Type 0 where
+-- a limit is met on the way to the draft: less room is left than the draft may cost, and it is not what is shown
+pub record MeetsLimit (replica : Replica) (draft : List ℕ) (why : Refusal) : Type 0 where
   pub fault : ReviseFault
   pub why_is : why ≡ revise_refusal fault
   pub no_want : why ≢ refusal.NoMemory
   pub last : Replica
   pub stops : StopsAtLimit replica last fault
+  pub ps : List Part
+  pub reads : parts draft ≡ Ok ps
+  pub lacks : LacksRoom replica (revision_cost replica.held.history ps) fault
+  pub changes : arranged_parts replica.held.history ≢ ps
 
 -- What a draft gives. There are many ways from what is shown to the draft: this one came to that course.
 abbrev pub DraftGives : (base draft : List ℕ) → (course : Finding Outcome) → Replica → Finding Outcome → Type 0
 DraftGives base draft course replica (Refuses why) =
     (draft_refusal replica.held.history base draft ≡ Some why)
-    ⊎ ((draft_refusal replica.held.history base draft ≡ None) × (course ≡ Refuses why) × MeetsLimit replica why)
+    ⊎ ((draft_refusal replica.held.history base draft ≡ None) × (course ≡ Refuses why) × MeetsLimit replica draft why)
 DraftGives base draft course replica (Does outcome) =
     (draft_refusal replica.held.history base draft ≡ None) × (course ≡ Does outcome) × (IsHandedBack replica draft outcome ⊎ Revises replica draft outcome)
 
@@ -141,4 +160,4 @@ abbrev pub TextStops : Refusal → Replica → (draft : List ℕ) → Type 0
 TextStops refusal.NoMemory replica draft = Unit {0}
 TextStops (refusal.BadDraft line) replica draft = parts draft ≡ Err line
 TextStops refusal.EmptyDraft replica draft = (ps : List Part) × (parts draft ≡ Ok ps) × (empties replica.held.history ps ≡ true)
-TextStops why replica draft = (ps : List Part) × (parts draft ≡ Ok ps) × (empties replica.held.history ps ≡ false) × MeetsLimit replica why
+TextStops why replica draft = (ps : List Part) × (parts draft ≡ Ok ps) × (empties replica.held.history ps ≡ false) × MeetsLimit replica draft why

@@ -7,13 +7,17 @@ ghost use Rattle.origin_model.specs.declared.files.TheConstants.{LONGEST_BATCH};
 ghost use Rattle.edit_script.specs.declared.script.TheConstants.{LONGEST_SCRIPT};
 ghost use Rattle.relay_core.specs.declared.relay.TheConstants.{MOST_LOGGED};
 ghost use Rattle.bulk_world.specs.declared.making.TheConstants.{MOST_TURNS};
+ghost use Rattle.catalogue_notes.specs.declared.limits.TheConstants.{MOVE_CODE, RETITLE_CODE};
+ghost use Rattle.margin_notes.specs.declared.limits.TheConstants.{COMMENT_CODE};
+ghost use Rattle.op_frame.specs.declared.encoding.TheConstants.{LONGEST_RUN};
+ghost use Rattle.version_views.specs.declared.limits.TheConstants.{LONGEST_NAME, VERSION_CODE};
 ghost use Rattle.manuscript_cli.specs.Runs.{EachFinishedIsIn};
 ghost use Rattle.manuscript_cli.specs.declared.check.TheConstants.{LONGEST_TEXT};
 ghost use Rattle.manuscript_cli.specs.declared.words.TheConstants.{GREATEST_CURSOR, GREATEST_PLACE, GREATEST_PORT};
 ghost use Rattle.manuscript_cli.specs.declared.words.TheConstants.{GREATEST_REPLICA, GREATEST_SEED};
 ghost use Rattle.manuscript_cli.specs.declared.words.TheConstants.{MOST_SESSIONS, USUAL_HOLD};
 
-/// Each limit, in numbers. The contracts name them, so that each stands once.
+/// Each limit, and the code of each kind of note, in numbers. The contracts name them, so that each stands once.
 pub fn limits_in_numbers()
     ensures operations { MOST_OPERATIONS ≡ 4194304 }
     ensures greatest_hold { GREATEST_HOLD ≡ 1048576 }
@@ -21,6 +25,12 @@ pub fn limits_in_numbers()
     ensures title { LONGEST_TITLE ≡ 480 }
     ensures names { MOST_NAMES ≡ 3 }
     ensures body { LONGEST_BODY ≡ 1024 }
+    ensures run { LONGEST_RUN ≡ 1024 }
+    ensures name { LONGEST_NAME ≡ 120 }
+    ensures move_code { MOVE_CODE ≡ 1 }
+    ensures retitle_code { RETITLE_CODE ≡ 2 }
+    ensures comment_code { COMMENT_CODE ≡ 3 }
+    ensures version_code { VERSION_CODE ≡ 4 }
     ensures stream { STREAM_LIMIT ≡ 2147483648 }
     ensures script { LONGEST_SCRIPT ≡ 1048576 }
     ensures text { LONGEST_TEXT ≡ 268435456 }

@@ -14,6 +14,7 @@ mod number;
 mod plain_file;
 mod relay;
 mod revise;
+mod section_counts;
 mod top;
 mod versions;
 mod why;

@@ -16,6 +16,7 @@ ghost use Rattle.command_kinds.specs.declared.refusal.Refusal.TheVariants.{Outsi
 
 use crate::check::read_text;
 use crate::plain_file::read_start;
+use crate::section_counts::section_counts;
 use catalogue_notes::{MoveFault, write_arranged};
 use command_kinds::{Gives, Kept, Note, Refusal, Status, save_given};
 use draft_plan::{Draft, DraftFault, ReviseFault, arranged_reads, first_difference, revise};
@@ -60,8 +61,10 @@ impl<'a, G: Disk, S: Source> Gives<DraftSources<'a, G, S>> for Revision {
         if is_same(shown.written(), draft) {
             return Ok(Note::Made(0));
         }
+        let before = replica.accepted().len();
         let made = revise_to(alloc, replica, draft)?;
-        Ok(Note::Made(made))
+        let sections = section_counts(replica, before);
+        Ok(Note::Revised(made, sections))
     }
 
     fn laws(&self) {}

@@ -1,4 +1,6 @@
-use Rattle.std.proofs.Common.{ap, refl, subst, sym, ◌∙◌, ◌≡◌, ◌≢◌}
+use Rattle.std.proofs.Common.{ap, drop, length, refl, subst, sym, ◌∙◌, ◌≡◌, ◌≢◌}
+use Rattle.origin_model.specs.operations.History.{accepted}
+use Rattle.manuscript_cli.specs.SectionCounts.{section_counts}
 use Rattle.std.specs.Prelude.{Err}
 use Rattle.std.proofs.lemmas.Bool.{false≢true}
 use Rattle.std.proofs.lemmas.Result.{err_from_is_err_and}
@@ -61,9 +63,13 @@ pub returns-clause-gives : goal.returns-clause-gives
 returns-clause-gives g c home last holds =
     let ok = c.in_ok-shown.ensures.ok in
     let made = c.in_ok-made.ensures.made in
+    let now = c.revise_to.new.replica in
     let input = change (g.S.Source.seen c.args.from.now.draft.now) (g.S.Source.seen c.read_text.new.source) in
     let other : c.as_slice-draft.result.now ≢ arranged_text c.args.replica.now.held.history = λ e.
     false≢true (sym c.if-is_same.false ∙ c.is_same.ensures.1 (e ∙ sym (c.written.ensures ∙ c.in_ok-shown.ensures.shown))) in
     let read = subst (IsTextRead input) (sym c.as_slice-draft.ensures.value) c.in_ok-text.ensures.text in
-    draft_gives (change (g.G.Disk.seen c.args.from.now.base.now) (g.G.Disk.seen c.check_base.new.base)) input
-    c.args.replica.now c.revise_to.new.replica ok.0 c.as_slice-draft.result.now made.0 _ c.args._kept.now ok.1 (text_left input _ read) ok.2 read.short other made.1 made.2 c.requires.ready.settled made.3
+    let counted : c.section_counts-sections.result ≡ section_counts now.held.history (drop (length (accepted c.args.replica.now.held.history)) (accepted now.held.history)) =
+    c.section_counts-sections.ensures ∙ ap (λ l. section_counts now.held.history (drop (length l) (accepted now.held.history))) c.accepted-before.ensures.accepted in
+    rw counted
+    (draft_gives (change (g.G.Disk.seen c.args.from.now.base.now) (g.G.Disk.seen c.check_base.new.base)) input
+    c.args.replica.now now ok.0 c.as_slice-draft.result.now made.0 _ c.args._kept.now ok.1 (text_left input _ read) ok.2 read.short other made.1 made.2 c.requires.ready.settled made.3)
