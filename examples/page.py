@@ -10,7 +10,8 @@ text, and the versions of FILE. It needs no script. Formats are read by reader.p
 
 import html
 import sys
-from dataclasses import dataclass
+from itertools import groupby
+from typing import NamedTuple
 
 import reader
 
@@ -45,8 +46,7 @@ a { color: inherit; }
 """
 
 
-@dataclass(frozen=True)
-class Letter:
+class Letter(NamedTuple):
     """A scalar of a section: who wrote it, whether it was deleted, and the comments on it, by their numbers."""
 
     text: str
@@ -72,21 +72,15 @@ def letters_of(replica, section, comments):
     place = replica.places.get(section, reader.Place())
     order = place.order()
     ranges = [(number, order[note.named[0]], order[note.named[1]]) for number, note in comments]
-    for at, op in enumerate(place.walk()):
-        on_it = tuple(number for number, first, last in ranges if first <= at <= last)
-        yield Letter(op.text, op.id[0], op.id in replica.hidden, on_it)
+    for identifier, at in order.items():
+        on_it = tuple(number for number, first, last in ranges if first <= at <= last) if ranges else ()
+        yield Letter(place.nodes[identifier].text, identifier[0], identifier in replica.hidden, on_it)
 
 
 def runs_of(letters):
     """Letters one after another that look the same, joined."""
-    run = []
-    for letter in letters:
-        if run and (run[0].author, run[0].is_deleted, run[0].comments) != (letter.author, letter.is_deleted, letter.comments):
-            yield run
-            run = []
-        run.append(letter)
-    if run:
-        yield run
+    for _, run in groupby(letters, key=lambda letter: letter[1:]):
+        yield list(run)
 
 
 def references(numbers, view):

@@ -15,13 +15,19 @@
     reader.py send FILE      what `manuscript send` writes and notes
     reader.py check FRAMES   whether the text on standard input is that of a valid certificate, as docs/WHY.md says
 
-It keeps the rules and not the limits: it counts no operations but the waiting ones, and no bytes.
+It keeps the rules and not the limits: it counts no operations but the waiting ones, and no bytes. It needs Python 3.10 or
+newer.
 """
 
+import os
 import re
 import sys
 import unicodedata
+from bisect import bisect_left, bisect_right
 from dataclasses import dataclass, field
+
+if sys.version_info < (3, 10):
+    sys.exit("this needs Python 3.10 or newer")
 
 USUAL_HOLD = 65_536
 LONGEST_BATCH = 268_435_456
@@ -41,7 +47,7 @@ MOVE, RETITLE, COMMENT, VERSION = 1, 2, 3, 4
 CATALOGUE = "catalogue"
 
 
-@dataclass(frozen=True)
+@dataclass(slots=True)
 class Op:
     """An operation. Identifiers are pairs of numbers; an origin of None is the start or the end."""
 
@@ -177,10 +183,24 @@ class Cursor:
         section, left, right = self.identifier(), self.origin(), self.origin()
         count = self.number(2, lambda so_far, left: so_far <= most >> 8 if left else 2 <= so_far <= most)
         texts = []
-        for behind in range(count):
-            texts.append(Op("Text", (replica, counter + behind), section, left, right, self.scalar()))
+        for behind, scalar in enumerate(self.scalars(count)):
+            texts.append(Op("Text", (replica, counter + behind), section, left, right, scalar))
             left = texts[-1].id
         return texts
+
+    def scalars(self, count):
+        """So many scalars: all at once where they are whole and each is one, and else up to the byte that is wrong."""
+        taken = self.data[self.at : self.at + 3 * count]
+        wide = bytearray(4 * count)
+        if len(taken) == 3 * count:
+            wide[1::4], wide[2::4], wide[3::4] = taken[0::3], taken[1::3], taken[2::3]
+            try:
+                text = wide.decode("utf-32-be")
+            except UnicodeDecodeError:
+                return [self.scalar() for _ in range(count)]
+            self.at += len(taken)
+            return text
+        return [self.scalar() for _ in range(count)]
 
 
 def utf8_size(first):
@@ -324,16 +344,21 @@ class Place:
         return self.walked
 
     def walk(self):
-        """Left children, the node, right children."""
-        todo = [(op, False) for op in reversed(self.rights.get(None, []))]
+        """Left children, the node, right children. What is still to do ends with what comes next: a node, or a pair of None
+        and a node whose left children are done."""
+        lefts, rights = self.lefts, self.rights
+        todo = rights.get(None, [])[::-1]
         while todo:
-            op, is_open = todo.pop()
-            if is_open:
-                yield op
-            else:
-                todo += [(child, False) for child in reversed(self.rights.get(op.id, []))]
-                todo += [(op, True)]
-                todo += [(child, False) for child in reversed(self.lefts.get(op.id, []))]
+            op = todo.pop()
+            if isinstance(op, tuple):
+                op = op[1]
+            elif op.id in lefts:
+                todo.append((None, op))
+                todo += lefts[op.id][::-1]
+                continue
+            yield op
+            if op.id in rights:
+                todo += rights[op.id][::-1]
 
 
 class Replica:
@@ -342,32 +367,39 @@ class Replica:
     def __init__(self, hold):
         self.hold = hold
         self.accepted = []
-        self.seen = set()
+        self.notes = []
         self.holders = {}
         self.hidden = set()
         self.places = {CATALOGUE: Place()}
         self.waiting = []
         self.counts = dict.fromkeys(["accepted", "repeated", "waiting", "conflict", "stray", "full"], 0)
 
-    def fits(self, name, place):
-        holder = self.holders[name]
+    def fits(self, holder, place):
         return place is None or holder.kind != "Note" and holder.place() == place
 
-    def is_stray(self, op):
-        return any(name in self.holders and not self.fits(name, place) for name, place in op.names())
+    def verdict(self, op):
+        """Whether what the operation names is held ("ready"), is of the wrong kind ("stray"), or is missing."""
+        verdict = "ready"
+        for name, place in op.names():
+            holder = self.holders.get(name)
+            if holder is None:
+                verdict = "missing"
+            elif not self.fits(holder, place):
+                return "stray"
+        return verdict
 
-    def is_ready(self, op):
-        return all(name in self.holders and self.fits(name, place) for name, place in op.names())
+    def is_accepted(self, op):
+        return op.target in self.hidden if op.kind == "Delete" else self.holders.get(op.id) == op
 
     def take(self, op):
-        waits_with = [other for other in self.waiting if op.id and other.id == op.id]
-        if op in self.seen or op in self.waiting:
+        verdict = self.verdict(op)
+        if self.is_accepted(op) or op in self.waiting:
             self.counts["repeated"] += 1
-        elif op.id in self.holders or waits_with:
+        elif op.id in self.holders or any(op.id and other.id == op.id for other in self.waiting):
             self.counts["conflict"] += 1
-        elif self.is_stray(op):
+        elif verdict == "stray":
             self.counts["stray"] += 1
-        elif self.is_ready(op):
+        elif verdict == "ready":
             self.accept(op)
         elif len(self.waiting) == self.hold:
             self.counts["full"] += 1
@@ -378,18 +410,19 @@ class Replica:
     def accept(self, op):
         self.counts["accepted"] += 1
         self.accepted.append(op)
-        self.seen.add(op)
         if op.kind == "Delete":
             self.hidden.add(op.target)
         else:
             self.holders[op.id] = op
-            if op.kind != "Note":
+            if op.kind == "Note":
+                self.notes.append(op)
+            else:
                 self.places.setdefault(op.place(), Place()).insert(op)
 
     def settle(self):
-        while leaving := next((op for op in self.waiting if self.is_ready(op) or self.is_stray(op)), None):
+        while leaving := next((op for op in self.waiting if self.verdict(op) != "missing"), None):
             self.waiting.remove(leaving)
-            if self.is_stray(leaving):
+            if self.verdict(leaving) == "stray":
                 self.counts["stray"] += 1
             else:
                 self.accept(leaving)
@@ -660,8 +693,8 @@ def comments_of(replica, order):
     return sorted(
         (
             op
-            for op in replica.accepted
-            if op.kind == "Note" and op.code == COMMENT and len(op.named) == 2 and op.id not in replica.hidden
+            for op in replica.notes
+            if op.code == COMMENT and len(op.named) == 2 and op.id not in replica.hidden
             if all(name in order for name in op.named) and order[op.named[0]] <= order[op.named[1]]
             if read_one_line(op.body, LONGEST_BODY)
         ),
@@ -673,10 +706,10 @@ def comments_file(data):
     replica = taken_in(*read_file(data))
     for number, section in enumerate(replica.shown(CATALOGUE), 1):
         order = replica.places.get(section.id, Place()).order()
-        shown = [order[text.id] for text in replica.shown(section.id)]
+        shown = [at for identifier, at in order.items() if identifier not in replica.hidden]
         for comment in comments_of(replica, order):
             first, last = (order[name] for name in comment.named)
-            begin, end = sum(at < first for at in shown), sum(at <= last for at in shown)
+            begin, end = bisect_left(shown, first), bisect_right(shown, last)
             print(number, begin, end, comment.body.decode("utf-8"))
     return 0
 
@@ -872,13 +905,22 @@ def main(words):
         print(__doc__, file=sys.stderr)
         return 1
     sys.stdout.reconfigure(encoding="utf-8", newline="")
-    with open(words[1], "rb") as file:
-        data = file.read()
     try:
-        return COMMANDS[words[0]](data, *words[2:])
+        with open(words[1], "rb") as file:
+            data = file.read()
+        status = COMMANDS[words[0]](data, *words[2:])
+        sys.stdout.flush()
+        return status
     except Refused as refused:
         print(refused, file=sys.stderr)
         return refused.status
+    except BrokenPipeError:
+        # Nobody reads the output any more. What Python still holds of it goes nowhere.
+        os.dup2(os.open(os.devnull, os.O_WRONLY), sys.stdout.fileno())
+        return 4
+    except OSError as why:
+        print(f"reader.py: {why.filename}: {why.strerror}", file=sys.stderr)
+        return 4
 
 
 if __name__ == "__main__":
