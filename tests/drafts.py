@@ -5,7 +5,8 @@
 
 Each file has deleted text, moved and retitled sections, comments, the operations of another author and some that wait.
 After a draft that is taken, `arrange` has to print the form of its parts, `list` what the reader lists, and another
-author who merges the file the same; a draft that says what the file says writes nothing. Where a draft is refused, it has
+author who merges the file the same; the numbers that it tells have to be those of the operations that the reader finds
+behind the others. A draft that says what the file says writes nothing. Where a draft is refused, it has
 to be by the note that the reader names, and the file stays as it was.
 """
 
@@ -162,15 +163,33 @@ class Trial:
             assert (ran.returncode, ran.stderr) == refusal, f"{ran.returncode}, {ran.stderr!r} and not {refusal}"
             assert self.file.read_bytes() == before, "a refused draft was saved"
             return "refused"
-        assert ran.returncode == 0 and ran.stderr.startswith(b"made "), f"{ran.returncode}, {ran.stderr!r}"
+        told = self.told_since(before)
+        assert (ran.returncode, ran.stderr.decode()) == (0, told), f"{ran.returncode}, {ran.stderr!r} and not {told!r}"
         form = printed if parts is None else reader.form(parts)
         assert self.must("arrange", self.file) == form, "it is not what arrange prints"
         if form == printed:
-            assert ran.stderr == b"made 0\n" and self.file.read_bytes() == before, "something was written for no change"
+            assert self.file.read_bytes() == before, "something was written for no change"
         self.compare_list()
         self.must("merge", self.other, self.file)
         assert self.must("arrange", self.other) == form, "another author reads something else"
         return "taken"
+
+    def told_since(self, before):
+        """What is told of the operations that the file has since then."""
+        _, old = reader.read_file(before)
+        _, ops = reader.read_file(self.file.read_bytes())
+        made = ops[len(old) :]
+        sections = {op.id for op in ops if op.kind == "Section"}
+        counts = [
+            sum(op.kind == "Section" for op in made),
+            sum(op.kind == "Delete" and op.target in sections for op in made),
+            sum(op.kind == "Note" and op.code == reader.MOVE for op in made),
+            sum(op.kind == "Note" and op.code == reader.RETITLE for op in made),
+        ]
+        told = f"made {len(made)}\n"
+        if any(counts):
+            told += "sections: {} added, {} dropped, {} moved, {} retitled\n".format(*counts)
+        return told
 
     def compare_list(self):
         told = subprocess.run(
