@@ -52,9 +52,9 @@ module _ (port cursor : ℕ) (old new : WireView) (before after : OpsTaking) (do
       let took = still_said old s.asked new (request_for cursor before.replica.held) s.asks.said s.hears.hears.said s.hears.hears.room in
       record {
         front = whole_front (out_of old) (out_of new) (request_for cursor before.replica.held) took;
-        no_other = inl (s.hears.hears.port ∙ s.asks.dialled);
+        no_other = inl (s.hears.hears.dials ∙ s.asks.dialled);
         whole = λ d. took;
-        dialled = λ d. s.hears.hears.port ∙ s.asks.dialled;
+        dialled = λ d. s.hears.hears.dials ∙ s.asks.dialled;
         heard = λ d. record { found = s.hears.found; are_frames = s.hears.are_frames; count = count; last = s.hears.last; ends = s.hears.ends; heard = sym s.asks.left ∙ s.hears.hears.heard };
         calm = calm;
       }
@@ -65,7 +65,7 @@ module _ (port cursor : ℕ) (old new : WireView) (before after : OpsTaking) (do
   speaks_front fault (inr hear) not_done = record {
     front = whole_front (out_of old) (out_of new) (request_for cursor before.replica.held)
         (still_said old hear.asked new (request_for cursor before.replica.held) hear.asks.said hear.hears.hears.said hear.hears.hears.room);
-    no_other = inl (hear.hears.hears.port ∙ hear.asks.dialled);
+    no_other = inl (hear.hears.hears.dials ∙ hear.asks.dialled);
     whole = λ d. absurd (not_done d);
     dialled = λ d. absurd (not_done d);
     heard = λ d. absurd (not_done d);

@@ -1,11 +1,11 @@
 -- The command `sync`: a file's replica tells a relay all that it holds, takes in what the relay answers, and saves what was kept.
-use Rattle.std.specs.Prelude.{◌≡◌, ◌⊎◌, ℕ, List, length, Some, IfSome, option_map}
+use Rattle.std.specs.Prelude.{◌≡◌, ◌⊎◌, ℕ, List, length, Some, IfSome}
 use Rattle.fugue_ids.specs.Causes.{Rose}
 use Rattle.fugue_ids.specs.Outs.{Took, TookFront}
 use Rattle.fugue_ids.specs.declared.op.Op.{Op}
 use Rattle.origin_model.specs.taking.Taking.{Held}
 use Rattle.outer_ports.specs.disk.Disks.{DiskView}
-use Rattle.outer_ports.specs.wire.Wires.{WireView, out_of}
+use Rattle.outer_ports.specs.wire.Wires.{DialsOnce, WireView, out_of}
 use Rattle.relay_sync.specs.Outcomes.{Bad, Cut, Ended, Refused, ReplyComes, ReplyEnd, TooLong, TooMany}
 use Rattle.relay_sync.specs.Saying.{SaysToNoOther, request_for}
 use Rattle.relay_sync.specs.Syncing.{Fits, HearsNoFurther}
@@ -48,12 +48,14 @@ reply cursor home wire = record {
   Sure = (replica : Replica) (end : End) → FileHolds home replica end → Fits (length (request_for cursor replica.held)) wire.old;
 }
 
--- A front of what is held was said, to nobody but the port; all of it, to the port, where all was done, and then the reply was heard and nothing behind it. A sure wire that has room for it counts no fault.
+-- A front of what is held was said, to nobody but the port, which was dialled once and before the first byte was said; all
+-- of it, on that connection, where all was done, and then the reply was heard there and nothing behind it. A sure wire that
+-- has room for it counts no fault.
 pub record Speaks (port cursor : ℕ) (held : Held) (wire : Change WireView) (done : Type 0) : Type 0 where
   pub front : TookFront (out_of wire.old) (out_of wire.new) (request_for cursor held)
   pub no_other : SaysToNoOther wire.old wire.new port
   pub whole : done → Took (out_of wire.old) (out_of wire.new) (request_for cursor held)
-  pub dialled : done → wire.new.port ≡ option_map (λ before. Some port) wire.old.port
+  pub dialled : done → DialsOnce wire.old wire.new port
   pub heard : done → HearsNoFurther wire.old.left wire.new.left
   pub calm : Fits (length (request_for cursor held)) wire.old → wire.new.faults ≡ wire.old.faults
 

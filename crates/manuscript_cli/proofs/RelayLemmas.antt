@@ -5,7 +5,10 @@ use Rattle.std.specs.Io.KnownBytes.{append_known}
 use Rattle.fugue_ids.specs.Causes.{Rose}
 use Rattle.fugue_ids.specs.Outs.{OutView, Took, spent}
 use Rattle.origin_model.specs.relay.Relay.{Relay, new_relay}
-use Rattle.outer_ports.specs.dock.Docks.{DockTells, DockView, out_to}
+use Rattle.outer_ports.specs.Latest.{once_more}
+use Rattle.outer_ports.specs.dock.Docks.{DockTells, DockView, listening_of, out_to}
+use Rattle.outer_ports.specs.declared.dock.Listening.{Listening}
+use Rattle.outer_ports.specs.declared.latest.Latest.{Latest}
 use Rattle.outer_ports.specs.declared.dock.mem_dock.MemStep.{MemStep}
 use Rattle.relay_core.specs.declared.relay.TheConstants.{MOST_LOGGED}
 use Rattle.relay_sync.specs.Sending.{DockRisesFor}
@@ -59,7 +62,7 @@ module _ (first second last : DockView) (idle : IsIdle first second) (later : fi
     ended = serves.ended ∙ ap (option_map (λ ended. ended ++ closed_in turns)) idle.ended;
     ended_at = serves.ended_at ∙ (λ i. ended_in (λ session. idle.nothing_sent.sent session i) (idle.ended_at i) turns);
     ends = serves.ends ∙ ap (ends_behind (closed_in turns)) idle.ends;
-    port = serves.port ∙ idle.port;
+    listens = serves.listens ∙ idle.listens;
     later = omega (arith, later, serves.later);
     calm = λ lasts. serves.calm (lasts_on turns lasts) ∙ still_calm turns lasts;
   }
@@ -72,7 +75,7 @@ module _ (first second last : DockView) (idle : IsIdle first second) (later : fi
     gave = gave_from (steps_of turns ++ partly.more) partly.gave;
     sent = λ session. let front = partly.sent session in record { count = front.count; within = front.within; took = took_from session _ front.took };
     ended = record { count = partly.ended.count; ended = partly.ended.ended ∙ ap (option_map (λ ended. ended ++ _)) idle.ended };
-    port = partly.port ∙ idle.port;
+    listens = partly.listens ∙ idle.listens;
     later = omega (arith, later, partly.later);
     calm = λ lasts. spends_from fault partly.more turns lasts (partly.calm (lasts_on turns lasts));
   }
@@ -101,12 +104,13 @@ module _ (first second last : DockView) (idle : IsIdle first second) (later : fi
   }
 
   stops_from : (sessions steps : ℕ) (fault : ServeFault) (old new : Relay) → ServingStops sessions steps fault old new second last → ServingStops sessions steps fault old new first last
-  unfolding serves_partly_from
+  unfolding serves_partly_from in_turn_from
   stops_from sessions steps fault old new stops = record {
     turns = stops.turns;
     partly = serves_partly_from first second last idle later fault old new stops.turns stops.partly;
     few = stops.few;
     in_turn = in_turn_from fault old new stops.turns stops.in_turn;
+    allowed = stops.allowed;
     none_after = stops.none_after;
     asked = stops.asked;
     not_over = λ lasts is. stops.not_over (lasts_on first second last idle later stops.turns lasts) is;
@@ -187,7 +191,7 @@ module _ (port sessions : ℕ) (output : Change OutView) (dock : Change DockView
 -- a dock that tells does so once it listens
 still_tells : (port : ℕ) (old new : DockView) → IsIdle (listening port old) new → DockTells old → DockTells new
 still_tells port old new idle tells = record {
-  port = subst IsSome (sym idle.port) (some_port old.port tells.port);
+  listens = subst IsSome (sym idle.listens) (some_listens old.listens tells.listens);
   taken = subst IsSome (sym idle.nothing_taken.taken) tells.taken;
   coming = subst IsSome (sym idle.nothing_taken.coming) tells.coming;
   sent = λ session. subst IsSome (sym (idle.nothing_sent.sent session)) (tells.sent session);
@@ -195,9 +199,9 @@ still_tells port old new idle tells = record {
   ended_at = subst IsSome (sym idle.ended_at) tells.ended_at;
 }
   where
-    some_port : (before : Option (Option ℕ)) → IsSome before → IsSome (option_map (λ b. Some port) before)
-    some_port None some = some
-    some_port (Some b) some = some
+    some_listens : (before : Option (Latest Listening)) → IsSome before → IsSome (option_map (once_more (listening_of port old)) before)
+    some_listens None some = some
+    some_listens (Some b) some = some
 
 -- what rose while a port was listened on and served
 module _ (port : ℕ) (output : Change OutView) (dock : Change DockView) (second : DockView) (idle : IsIdle (listening port dock.old) second)

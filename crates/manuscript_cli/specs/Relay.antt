@@ -1,9 +1,10 @@
 -- The command `relay`: it listens on a port, and serves the sessions of others with a relay that is new.
-use Rattle.std.specs.Prelude.{◌≡◌, ◌≢◌, ◌⊎◌, ℕ, ◌<◌, ◌≤◌, List, [], ◌∷◌, ◌++◌, length, Some, Result, Ok, Err, is_some, true, codes, decimal, option_map}
+use Rattle.std.specs.Prelude.{◌≡◌, ◌≢◌, ◌⊎◌, ℕ, ◌<◌, ◌≤◌, List, [], ◌∷◌, ◌++◌, length, Result, Ok, Err, is_some, true, codes, decimal, option_map}
 use Rattle.fugue_ids.specs.Causes.{Rose}
 use Rattle.fugue_ids.specs.Outs.{OutTells, OutView, Took, TookFront}
 use Rattle.origin_model.specs.relay.Relay.{Relay, new_relay}
-use Rattle.outer_ports.specs.dock.Docks.{DockTells, DockView, SendsNothing, TakesNothing}
+use Rattle.outer_ports.specs.Latest.{once_more}
+use Rattle.outer_ports.specs.dock.Docks.{DockTells, DockView, SendsNothing, TakesNothing, listening_of}
 use Rattle.relay_core.specs.declared.relay.TheConstants.{MOST_LOGGED}
 use Rattle.relay_sync.specs.Serving.{NoneAfter, Serves, ServingStops, Suffices, Turn, count_over}
 use Rattle.relay_sync.specs.declared.serving.ServeFault.{ServeFault}
@@ -28,9 +29,9 @@ log_line count = codes "log " ++ decimal count ++ 10 ∷ []
 abbrev pub most_steps : ℕ
 most_steps = 18446744073709551615
 
--- the dock, now listening on the port
+-- the dock, which listened on the port once, where it stands
 abbrev pub listening : (port : ℕ) → DockView → DockView
-listening port dock = record dock { port = option_map (λ before. Some port) dock.port }
+listening port dock = record dock { listens = option_map (once_more (listening_of port dock)) dock.listens }
 
 -- calls on the dock are sure
 abbrev pub CallsAreSure : DockView → Type 0
@@ -38,7 +39,7 @@ CallsAreSure dock = is_some dock.ends ≡ true
 
 -- nothing was taken, sent or ended, and a sure dock counts no fault
 pub record IsIdle (old new : DockView) : Type 0 where
-  pub port : new.port ≡ old.port
+  pub listens : new.listens ≡ old.listens
   pub nothing_taken : TakesNothing old new
   pub nothing_sent : SendsNothing old new
   pub ended : new.ended ≡ old.ended

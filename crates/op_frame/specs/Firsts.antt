@@ -26,6 +26,10 @@ pub record FirstIs (first : First) (bytes : List ℕ) : Type 0 where
   pub partial : (first ≡ Prefix) ↔ IsPartial Version2 bytes
   pub bad : (first ≡ Bad) ↔ IsBad Version2 bytes
 
+-- a frame is a front of the bytes
+abbrev pub HasFirstFrame : List ℕ → Type 0
+HasFirstFrame bytes = (n : ℕ) × (n ≤ length bytes) × IsFrameOf Version2 (take n bytes)
+
 -- what stands there, before anything is read of it
 abbrev pub FrontIs : Front → Grammar → List ℕ → Type 0
 FrontIs (FrameThere len) grammar bytes = (len ≤ length bytes) × IsFrameOf grammar (take len bytes)

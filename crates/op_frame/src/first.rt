@@ -1,7 +1,7 @@
-ghost use Rattle.std.specs.Prelude.{IfOk};
+ghost use Rattle.std.specs.Prelude.{IfOk, OnErr};
 ghost use Rattle.origin_model.specs.frames.Frames.{IsFrame};
 ghost use Rattle.origin_model.specs.declared.grammar.Grammar.TheVariants.{Version2 as WithRuns};
-ghost use Rattle.op_frame.specs.Firsts.{FirstIs};
+ghost use Rattle.op_frame.specs.Firsts.{FirstIs, HasFirstFrame};
 ghost use Rattle.op_frame.specs.FrameFronts.{IsFrameOf};
 
 use crate::frame_ops::FrameOps;
@@ -21,9 +21,10 @@ pub enum First {
     Bad,
 }
 
-/// What stands at the front of the bytes.
+/// What stands at the front of the bytes. Memory is wanted for the operations of a frame alone.
 pub fn first_frame(alloc: Global, bytes: &[u8]) -> Result<First, NoMemory>
-    ensures { IfOk result (λ first. FirstIs first bytes.now) }
+    ensures first { IfOk result (λ first. FirstIs first bytes.now) }
+    ensures memory { OnErr result (HasFirstFrame bytes.now) }
 {
     match front_of(Grammar::Version2, bytes) {
         Front::Frame(len) => Ok(First::Whole(all_ops(alloc, &bytes[..len])?, len)),

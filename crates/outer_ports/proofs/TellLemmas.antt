@@ -48,20 +48,20 @@ sync_tells (Err e) old new s = same_tells s.past
 
 -- a wire
 pub dial_tells : {E T : Type 0} (result : Result T E) (old new : WireView) (port : ℕ) → Dials {E = E} {T = T} old new result port → WireTells old → WireTells new
-dial_tells (Ok x) old new port d tells = (map_tells _ old.port new.port d.dialled tells.0, same_tells d.left tells.1, same_tells d.said tells.2)
+dial_tells (Ok x) old new port d tells = (map_tells _ old.dials new.dials d.dialled tells.0, same_tells d.left tells.1, same_tells d.said tells.2)
 dial_tells (Err e) old new port d tells = (same_tells d.kept tells.0, same_tells d.left tells.1, same_tells d.said tells.2)
 
 pub wire_read_tells : {E : Type 0} (result : Result ℕ E) (old new : WireView) (buf : List ℕ) → WireReads {E = E} old new result buf → WireTells old → WireTells new
-wire_read_tells result old new buf r tells = (same_tells r.port tells.0, r.reads.count.tells tells.1, same_tells r.said tells.2)
+wire_read_tells result old new buf r tells = (same_tells r.dials tells.0, r.reads.count.tells tells.1, same_tells r.said tells.2)
 
 pub wire_write_tells : {E : Type 0} (result : Result ℕ E) (old new : WireView) (piece : List ℕ) → WireWrites {E = E} old new result piece → WireTells old → WireTells new
 wire_write_tells result old new piece w tells =
-    (same_tells w.port tells.0, same_tells w.left tells.1, write_tells result (out_of old) (out_of new) piece w.writes tells.2)
+    (same_tells w.dials tells.0, same_tells w.left tells.1, write_tells result (out_of old) (out_of new) piece w.writes tells.2)
 
 -- a dock
 pub listen_tells : {E T : Type 0} (result : Result T E) (old new : DockView) (port : ℕ) → Listens {E = E} {T = T} old new result port → DockTells old → DockTells new
 listen_tells {E} {T} result old new port l tells = record {
-  port = port_tells result l;
+  listens = listens_tell result l;
   taken = same_tells l.nothing_taken.taken tells.taken;
   coming = same_tells l.nothing_taken.coming tells.coming;
   sent = λ session. same_tells (l.nothing_sent.sent session) (tells.sent session);
@@ -69,9 +69,9 @@ listen_tells {E} {T} result old new port l tells = record {
   ended_at = same_tells l.ended_at tells.ended_at;
 }
   where
-    port_tells : (r : Result T E) → Listens {E = E} {T = T} old new r port → IsSome new.port
-    port_tells (Ok x) l = map_tells _ old.port new.port l.listened tells.port
-    port_tells (Err e) l = same_tells l.kept tells.port
+    listens_tell : (r : Result T E) → Listens {E = E} {T = T} old new r port → IsSome new.listens
+    listens_tell (Ok x) l = map_tells _ old.listens new.listens l.listened tells.listens
+    listens_tell (Err e) l = same_tells l.kept tells.listens
 
 gives_tells : (old new : Option (List MemStep)) (step : MemStep) → GivesSome old new step → IsSome old → IsSome new
 gives_tells None new step gives tells = absurd (cc tells)
@@ -80,7 +80,7 @@ gives_tells (Some old) (Some new) step gives tells = refl
 
 pub take_tells : {E : Type 0} (result : Result DockStep E) (old new : DockView) (buf : List ℕ) → Takes {E = E} old new result buf → DockTells old → DockTells new
 take_tells (Ok step) old new buf t tells = record {
-  port = same_tells t.port tells.port;
+  listens = same_tells t.listens tells.listens;
   taken = map_tells _ old.taken new.taken t.taken tells.taken;
   coming = gives_tells old.coming new.coming _ t.came tells.coming;
   sent = λ session. same_tells (t.nothing_sent.sent session) (tells.sent session);
@@ -88,7 +88,7 @@ take_tells (Ok step) old new buf t tells = record {
   ended_at = same_tells t.ended_at tells.ended_at;
 }
 take_tells (Err e) old new buf t tells = record {
-  port = same_tells t.port tells.port;
+  listens = same_tells t.listens tells.listens;
   taken = same_tells t.kept.taken tells.taken;
   coming = same_tells t.kept.coming tells.coming;
   sent = λ session. same_tells (t.nothing_sent.sent session) (tells.sent session);
@@ -107,7 +107,7 @@ behind_tells (Some counts) new (Some sent) is tells sends = same_tells is refl
 
 pub end_tells : {E T : Type 0} (result : Result T E) (old new : DockView) (session : ℕ) → Ends {E = E} {T = T} old new result session → DockTells old → DockTells new
 end_tells {E} {T} result old new session e tells = record {
-  port = same_tells e.port tells.port;
+  listens = same_tells e.listens tells.listens;
   taken = same_tells e.nothing_taken.taken tells.taken;
   coming = same_tells e.nothing_taken.coming tells.coming;
   sent = λ other. same_tells (e.nothing_sent.sent other) (tells.sent other);
@@ -125,7 +125,7 @@ end_tells {E} {T} result old new session e tells = record {
 
 pub send_tells : {E : Type 0} (result : Result ℕ E) (old new : DockView) (session : ℕ) (piece : List ℕ) → Sends {E = E} old new result session piece → DockTells old → DockTells new
 send_tells result old new session piece s tells = record {
-  port = same_tells s.port tells.port;
+  listens = same_tells s.listens tells.listens;
   taken = same_tells s.nothing_taken.taken tells.taken;
   coming = same_tells s.nothing_taken.coming tells.coming;
   sent = λ other. elim (cases_eq other session) [

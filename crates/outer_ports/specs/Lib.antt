@@ -1,6 +1,7 @@
 pub mod Sources
 pub mod Calls
 pub mod Counts
+pub mod Latest
 pub mod Forms
 pub mod disk
 pub mod dock

@@ -6,6 +6,7 @@ ghost use Rattle.outer_ports.specs.disk.Laws.{SyncBringsNone, SyncsStayHonest, W
 mod file_disk;
 mod kept;
 mod mem_disk;
+mod reaching;
 mod sure_disk;
 
 pub use file_disk::{FileDisk, Opening};
@@ -15,7 +16,8 @@ pub use sure_disk::SureDisk;
 
 /// A file on a disk.
 pub trait Disk {
-    /// The states so far, the count of faults, and the room that is left: each form says what of these it tells.
+    /// The states so far, the count of faults, the room that is left, and what was asked for: each form says what of
+    /// these it tells.
     ghost seen: { Self → DiskView };
 
     /// How long the file is.

@@ -21,9 +21,16 @@ pub enum DockStep {
     Gone(u32),
 }
 
+/// A call of `listen` that went well, and how many steps had been taken by then, where that is told.
+#[derive(Clone, Copy, Debug, PartialEq, Eq)]
+pub struct Listening {
+    pub port: u16,
+    pub taken: Option<usize>,
+}
+
 /// Where others ask, in sessions that bear numbers.
 pub trait Dock {
-    /// The port listened on, the steps taken and to come, what was sent to each session, the sessions ended and what
+    /// When it listened, the steps taken and to come, what was sent to each session, the sessions ended and what
     /// they had been sent by then, the count of faults, and the room that is left: each form says what of these it
     /// tells.
     ghost seen: { Self → DockView };

@@ -8,6 +8,7 @@ mod causes;
 mod disk;
 mod dock;
 mod faults;
+mod latest;
 mod mem_sink;
 mod mem_source;
 mod reserved;
@@ -24,8 +25,9 @@ pub use disk::{
     Disk, FileDisk, MemDisk, Opening, Pick, SureDisk, disks_stay_honest, spans_join,
     sync_brings_none,
 };
-pub use dock::{Dock, DockStep, MemDock, MemStep, SureDock, TcpDock};
+pub use dock::{Dock, DockStep, Listening, MemDock, MemStep, SureDock, TcpDock};
 pub use fugue_ids::Sink;
+pub use latest::Latest;
 pub use mem_sink::MemSink;
 pub use mem_source::MemSource;
 pub use std_sink::StdSink;
@@ -33,4 +35,4 @@ pub use std_source::StdSource;
 pub use streams::Source;
 pub use sure_sink::SureSink;
 pub use sure_source::SureSource;
-pub use wire::{MemWire, SureWire, TcpWire, Wire};
+pub use wire::{Dial, MemWire, SureWire, TcpWire, Wire};

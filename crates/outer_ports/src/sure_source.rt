@@ -1,4 +1,4 @@
-ghost use Rattle.std.specs.Prelude.{◌≡◌, ◌≤◌, Some, true};
+ghost use Rattle.std.specs.Prelude.{◌≡◌, ◌≤◌, Some, true, length};
 ghost use Rattle.outer_ports.specs.Sources.{ReadsSome};
 ghost use Rattle.outer_ports.specs.Forms.{SureReads};
 
@@ -38,6 +38,13 @@ impl SureSource {
             at: 0,
             piece,
         }
+    }
+
+    /// How many bytes are left.
+    pub(crate) fn left(&self) -> usize
+        ensures { result ≡ length self.now.left }
+    {
+        self.bytes.len() - self.at
     }
 }
 

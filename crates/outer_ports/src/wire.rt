@@ -10,9 +10,17 @@ pub use mem_wire::MemWire;
 pub use sure_wire::SureWire;
 pub use tcp_wire::TcpWire;
 
-/// A way to ask somebody and to hear the answer.
+/// A call of `dial` that went well, and how much had been written and was left to read by then, where that is told.
+#[derive(Clone, Copy, Debug, PartialEq, Eq)]
+pub struct Dial {
+    pub port: u16,
+    pub said: Option<usize>,
+    pub left: Option<usize>,
+}
+
+/// A way to ask somebody and to hear the answer. What is said and heard passes on the connection that was dialled last.
 pub trait Wire {
-    /// The port dialled, what is left to read, what was written, the count of faults, and the room that is left: each
+    /// The dials, what is left to read, what was written, the count of faults, and the room that is left: each
     /// form says what of these it tells.
     ghost seen: { Self → WireView };
 

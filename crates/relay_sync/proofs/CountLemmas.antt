@@ -33,7 +33,7 @@ same_tells {X} same tells = subst (λ (o : Option X). IsSome o) (sym same) tells
 
 sends_tell : {E T : Type 0} (result : Result T E) (u v : DockView) (session : ℕ) (text : List ℕ) → SendsText {E = E} {T = T} u v result session text → DockTells u → DockTells v
 sends_tell result u v session text s tells = record {
-  port = same_tells s.port tells.port;
+  listens = same_tells s.listens tells.listens;
   taken = same_tells s.nothing_taken.taken tells.taken;
   coming = same_tells s.nothing_taken.coming tells.coming;
   sent = λ other. elim (cases_eq other session) [

@@ -24,7 +24,7 @@ pub hears-append : (u v w : WireView) (a b : List ℕ) → Hears u v a → Hears
 hears-append u v w a b s t = record {
   heard = s.heard ∙ ap (prepend_known a) t.heard ∙ prepend_twice a b w.left;
   said = t.said ∙ s.said;
-  port = t.port ∙ s.port;
+  dials = t.dials ∙ s.dials;
   room = t.room ∙ s.room;
   later = omega (arith, s.later, t.later);
   calm = λ sure. t.calm (ap (λ (r : Option ℕ). is_some r) s.room ∙ sure) ∙ s.calm sure;
@@ -62,7 +62,7 @@ pub frame_front : (bytes : List ℕ) → IsPartial Version2 bytes → IsMessageF
 frame_front bytes p = record { message = Operations p.framed.ops; whole = p.framed.bytes; is_message = p.is_frame; more = p.more; lacks = p.lacks; front = p.front }
 
 pub hears_none : (wire : WireView) → Hears wire wire []
-hears_none wire = record { heard = sym (prepend_none wire.left); said = refl; port = refl; room = refl; later = omega arith; calm = λ sure. refl }
+hears_none wire = record { heard = sym (prepend_none wire.left); said = refl; dials = refl; room = refl; later = omega arith; calm = λ sure. refl }
 
 -- with which byte a message begins
 abbrev pub IsLead : Message → ℕ → Type 0
@@ -148,7 +148,7 @@ read_fails {E} result e u v buf place before is reads front =
       hears = record {
         heard = sym r.reads.kept ∙ sym (prepend_none v.left);
         said = r.said;
-        port = r.port;
+        dials = r.dials;
         room = r.room;
         later = r.reads.count.later;
         calm = r.reads.count.calm;

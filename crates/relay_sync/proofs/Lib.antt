@@ -9,3 +9,6 @@ pub mod OutcomeLemmas
 pub mod HeardLemmas
 pub mod WholeLemmas
 pub mod TwoEndsLemmas
+pub mod SentLemmas
+pub mod ExchangeLemmas
+mod ExchangeExamples

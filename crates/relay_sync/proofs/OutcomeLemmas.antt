@@ -215,7 +215,7 @@ module _ (size : ℕ) (r s : List ℕ) where
       (behind.0, (λ i. sym one.ops i ++ behind.1 i) ∙ sym (append_assoc g.ops (ops_of fs) behind.0))
 
 -- a reply is read in one way
-reads_once : (bytes : List ℕ) (ops others : List Op) (end other : ReplyEnd) → ReadsReply bytes ops end → ReadsReply bytes others other → (ops ≡ others) × (end ≡ other)
+pub reads_once : (bytes : List ℕ) (ops others : List Op) (end other : ReplyEnd) → ReadsReply bytes ops end → ReadsReply bytes others other → (ops ≡ others) × (end ≡ other)
 reads_once bytes ops others end other p q =
     let size : ℕ = length bytes in
     let same = same_frames size p.rest q.rest p.found q.found (length (bytes_of p.found)) (length (bytes_of q.found)) end other p.are_frames q.are_frames p.ends q.ends (sym p.split ∙ q.split) in

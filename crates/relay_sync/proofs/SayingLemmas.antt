@@ -1,16 +1,16 @@
 -- A text that goes out on a wire, piece by piece, behind the dialling.
 use Rattle.std.proofs.Common.{[], List, arith, drop, length, take, ℕ, ◌+◌, ◌-◌, ◌∙◌, ◌≡◌}
-use Rattle.std.specs.Prelude.{Err, IfSome, None, Ok, OnOk, Option, Result, Some, option_map}
+use Rattle.std.specs.Prelude.{Err, IfSome, None, Ok, OnOk, Option, Result, Some}
 use Rattle.fugue_ids.specs.Outs.{IsSure, WritesBytes}
 use Rattle.fugue_ids.proofs.JoinLemmas.{call_grows, took_none}
-use Rattle.outer_ports.specs.wire.Wires.{Dials, WireView, WireWrites, out_of}
+use Rattle.outer_ports.specs.wire.Wires.{Dials, DialsOnce, WireView, WireWrites, out_of}
 use Rattle.relay_sync.specs.Saying.{SaysText}
 
 -- one call more
 pub says_grow : {E T : Type 0} (x : T) (u v w : WireView) (piece : List ℕ) (at n : ℕ) → SaysText {E = E} {T = T} u v (Ok x) (take at piece)
     → WireWrites {E = E} v w (Ok n) (take (length piece - at) (drop at piece)) → SaysText {E = E} {T = T} u w (Ok x) (take (at + n) piece)
 says_grow {E} {T} x u v w piece at n s t =
-    record { writes = call_grows {E = E} {T = T} x (out_of u) (out_of v) (out_of w) piece at n s.writes t.writes; port = t.port ∙ s.port; left = t.left ∙ s.left }
+    record { writes = call_grows {E = E} {T = T} x (out_of u) (out_of v) (out_of w) piece at n s.writes t.writes; dials = t.dials ∙ s.dials; left = t.left ∙ s.left }
 
 -- dialling says nothing
 sure_dialled : (E T : Type 0) (x : T) (room : Option ℕ) (before now : ℕ) → IfSome room (λ r. now ≡ before) → IfSome room (λ r. IsSure {E = E} {T = T} r 0 before now (Ok x))
@@ -30,7 +30,7 @@ dialled_none {E} {T} x u v port d = record {
   calm_told = d.calm_told;
 }
 
-dialled_stays : {E T : Type 0} (result : Result T E) (u v w : WireView) (port : ℕ) → v.port ≡ option_map (λ before. Some port) u.port → w.port ≡ v.port
-    → OnOk result (w.port ≡ option_map (λ before. Some port) u.port)
+dialled_stays : {E T : Type 0} (result : Result T E) (u v w : WireView) (port : ℕ) → DialsOnce u v port → w.dials ≡ v.dials
+    → OnOk result (DialsOnce u w port)
 dialled_stays (Ok x) u v w port d s = s ∙ d
 dialled_stays (Err e) u v w port d s = tt

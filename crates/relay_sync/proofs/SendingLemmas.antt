@@ -17,7 +17,7 @@ use Rattle.relay_sync.specs.declared.serving.ServeFault.TheVariants.{DockFault, 
 -- a step that was taken
 pub takes_gives : {E : Type 0} (old new : DockView) (step : DockStep) (buf : List ℕ) → Takes {E = E} old new (Ok step) buf → GivesSteps old new (with_bytes step buf ∷ [])
 takes_gives old new step buf h =
-    record { gave = record { taken = h.taken; comes = (new.coming, h.came, refl) }; nothing_sent = h.nothing_sent; ended = h.ended; ended_at = h.ended_at; ends = h.ends; port = h.port; later = h.count.cause.later }
+    record { gave = record { taken = h.taken; comes = (new.coming, h.came, refl) }; nothing_sent = h.nothing_sent; ended = h.ended; ended_at = h.ended_at; ends = h.ends; listens = h.listens; later = h.count.cause.later }
 
 -- one call more
 pub sends_grow : {E T : Type 0} (x : T) (u v w : DockView) (session : ℕ) (piece : List ℕ) (at n : ℕ) → SendsText {E = E} {T = T} u v (Ok x) session (take at piece)
@@ -26,7 +26,7 @@ sends_grow {E} {T} x u v w session piece at n s t = record {
   writes = call_grows {E = E} {T = T} x (out_to session u) (out_to session v) (out_to session w) piece at n s.writes t.writes;
   others = λ other apart. ((t.others other apart).0 ∙ (s.others other apart).0, (t.others other apart).1 ∙ (s.others other apart).1);
   nothing_taken = record { taken = t.nothing_taken.taken ∙ s.nothing_taken.taken; coming = t.nothing_taken.coming ∙ s.nothing_taken.coming };
-  port = t.port ∙ s.port;
+  listens = t.listens ∙ s.listens;
   ended = t.ended ∙ s.ended;
   ended_at = t.ended_at ∙ s.ended_at;
   ends = t.ends ∙ s.ends;
@@ -84,7 +84,7 @@ replied_on {E} {T} x u v reply on s = record {
   ended_at = s.ended_at ∙ ap (λ (b : Bool). if b then ended_behind u.ended_at (v.sent reply.session) else u.ended_at) (sym on);
   ends = rw on (s.ends ∙ ends_none u.ends);
   nothing_taken = s.nothing_taken;
-  port = s.port;
+  listens = s.listens;
   later = s.writes.cause.later;
   calm = λ h. text_calm {E = E} {T = T} x u v reply s h;
 }
@@ -101,7 +101,7 @@ replied_ended {E} {T} {F} {S} x y u v w reply closes s t = record {
       ∙ ap (λ (b : Bool). if b then ended_behind u.ended_at (w.sent reply.session) else u.ended_at) (sym closes);
   ends = rw closes (t.ends ∙ ap (option_map (λ ends. ends - 1)) s.ends);
   nothing_taken = record { taken = t.nothing_taken.taken ∙ s.nothing_taken.taken; coming = t.nothing_taken.coming ∙ s.nothing_taken.coming };
-  port = t.port ∙ s.port;
+  listens = t.listens ∙ s.listens;
   later = omega (arith, s.writes.cause.later, t.count.cause.later);
   calm = λ h. sure_is (λ n. w.faults ≡ v.faults) v.ends h.ends.0 (s.ends ∙ h.ends.1) t.count.calm ∙ text_calm {E = E} {T = T} x u v reply s h;
 }
@@ -113,7 +113,7 @@ replied_front {E} {T} e u v reply s = record {
       (λ other apart. front_none (out_to other u) (out_to other v) (took_none (out_to other u) (out_to other v) (s.others other apart).0 (s.others other apart).1));
   ended = record { count = 0; ended = s.ended ∙ grows_none u.ended };
   nothing_taken = s.nothing_taken;
-  port = s.port;
+  listens = s.listens;
   later = s.writes.cause.later;
   sure = λ h. absurd (text_fits {E = E} {T = T} e u v reply s h);
   calm = λ h. absurd (text_fits {E = E} {T = T} e u v reply s h);
@@ -131,7 +131,7 @@ replied_open {E} {T} {F} {S} x f u v w reply s t closes = record {
       (took_none (out_to other u) (out_to other w) (t.nothing_sent.sent other ∙ (s.others other apart).0) (t.nothing_sent.room other ∙ (s.others other apart).1)));
   ended = record { count = 0; ended = t.kept ∙ s.ended ∙ grows_none u.ended };
   nothing_taken = record { taken = t.nothing_taken.taken ∙ s.nothing_taken.taken; coming = t.nothing_taken.coming ∙ s.nothing_taken.coming };
-  port = t.port ∙ s.port;
+  listens = t.listens ∙ s.listens;
   later = omega (arith, s.writes.cause.later, t.count.cause.later);
   sure = λ h. absurd (never h);
   calm = λ h. absurd (never h);
@@ -149,7 +149,7 @@ replied_partly u v reply r = record {
   sent = λ session. front_whole (out_to session u) (out_to session v) (bytes_to session reply) (r.sent session);
   ended = record { count = length (closed_by reply); ended = rw (take_all (length (closed_by reply)) (closed_by reply) (omega arith)) r.ended };
   nothing_taken = r.nothing_taken;
-  port = r.port;
+  listens = r.listens;
   later = r.later;
   sure = λ h is. cc is;
   calm = r.calm;
@@ -169,7 +169,7 @@ takes_none e old new buf h = (
     ended = h.ended;
     ended_at = h.ended_at;
     ends = h.ends;
-    port = h.port;
+    listens = h.listens;
     later = h.count.cause.later;
   },
   omega arith,

@@ -145,7 +145,7 @@ serves_none relay dock = record {
   ended = grows_none dock.ended;
   ended_at = refl;
   ends = ends_none dock.ends;
-  port = refl;
+  listens = refl;
   later = omega arith;
   calm = λ h. refl;
 }
@@ -159,7 +159,7 @@ serves-append a b c x y z us vs h i = record {
   ended = rw (closed-append us vs) (i.ended ∙ ap (option_map (λ ended. ended ++ closed_in vs)) h.ended ∙ grows_twice x.ended (closed_in us) (closed_in vs));
   ended_at = i.ended_at ∙ (λ j. ended_in (λ session. (h.sent session).written j) (h.ended_at j) vs) ∙ sym (ended-append x.sent x.ended_at us vs);
   ends = rw (closed-append us vs) (i.ends ∙ ap (ends_behind (closed_in vs)) h.ends ∙ ends_twice x.ends (closed_in us) (closed_in vs));
-  port = i.port ∙ h.port;
+  listens = i.listens ∙ h.listens;
   later = omega (arith, h.later, i.later);
   calm = λ lasts. i.calm (lasts_then a b x y us vs h lasts) ∙ h.calm (lasts_first x us vs lasts);
 }
@@ -179,7 +179,7 @@ partly-append fault a b c x y z us vs h i = record {
     ended = rw (closed-append us vs, take-append-add (closed_in us) (closed_in vs) i.ended.count)
         (i.ended.ended ∙ ap (option_map (λ ended. ended ++ take i.ended.count (closed_in vs))) h.ended ∙ grows_twice x.ended (closed_in us) (take i.ended.count (closed_in vs)));
   };
-  port = i.port ∙ h.port;
+  listens = i.listens ∙ h.listens;
   later = omega (arith, h.later, i.later);
   calm = λ lasts. spends_behind fault i.more x y z (h.calm (lasts_first x us vs lasts)) (i.calm (lasts_then a b x y us vs h lasts));
 }
@@ -196,7 +196,7 @@ whole_partly fault a b x y turns other h = record {
   gave = rw (append-nil (steps_of turns)) h.gave;
   sent = λ session. front_all (out_to session x) (out_to session y) (sent_to session turns) (h.sent session);
   ended = record { count = length (closed_in turns); ended = rw (take_all (length (closed_in turns)) (closed_in turns) (omega arith)) h.ended };
-  port = h.port;
+  listens = h.listens;
   later = h.later;
   calm = λ lasts. spends_none fault [] x y other (h.calm lasts);
 }
@@ -211,7 +211,7 @@ unheard_partly fault a b x y steps same h few spent = record {
   gave = h.gave;
   sent = λ session. front_all (out_to session x) (out_to session y) [] (sent_after x y h.nothing_sent session);
   ended = record { count = 0; ended = h.ended ∙ grows_none x.ended };
-  port = h.port;
+  listens = h.listens;
   later = h.later;
   calm = λ lasts. sure_is (λ ends. Spends fault steps x y) x.ends lasts.ends.0 lasts.ends.1 spent;
 }
@@ -228,7 +228,7 @@ turn_serves a b x y z step reply g sure s r = record {
   ended = rw (append-nil (closed_by reply)) (r.ended ∙ ap (option_map (λ ended. ended ++ closed_by reply)) g.ended);
   ended_at = r.ended_at ∙ (λ j. ended_with (λ session. ((r.sent session).written ∙ ap (λ (known : Option (List ℕ)). append_known known (bytes_to session reply)) (g.nothing_sent.sent session)) j) reply (g.ended_at j));
   ends = rw (append-nil (closed_by reply)) (r.ends ∙ ap (ends_behind (closed_by reply)) g.ends);
-  port = r.port ∙ g.port;
+  listens = r.listens ∙ g.listens;
   later = omega (arith, g.later, r.later);
   calm = λ lasts. r.calm (lasts_reply x y step reply g lasts) ∙ sure_is (λ ends. y.faults ≡ x.faults) x.ends lasts.ends.0 lasts.ends.1 sure;
 }
@@ -245,7 +245,7 @@ turn_partly fault a b x y z step reply g sure s r = record {
       rw (append-nil (bytes_to session reply))
       (front_behind (out_to session x) (out_to session y) (out_to session z) [] (bytes_to session reply) (sent_after x y g.nothing_sent session) (r.sent session));
   ended = record { count = r.ended.count; ended = rw (append-nil (closed_by reply)) (r.ended.ended ∙ ap (option_map (λ ended. ended ++ take r.ended.count (closed_by reply))) g.ended) };
-  port = r.port ∙ g.port;
+  listens = r.listens ∙ g.listens;
   later = omega (arith, g.later, r.later);
   calm = λ lasts.
       let for = lasts_reply x y step reply g lasts in
@@ -315,6 +315,7 @@ stops_behind sessions steps fault a b c x y z us h none fewer below i = record {
   partly = partly-append fault a b c x y z us i.turns h i.partly;
   few = let f : length (us ++ i.turns) + length i.partly.more ≤ steps = omega (arith, below, i.few, length-append us i.turns) in f;
   in_turn = record { served = us; between = b; middle = y; serves = h; stops = i; turns_are = refl };
+  allowed = λ other. omega (arith, below);
   none_after = few_after i.turns (omega (arith, i.few));
   asked = λ more.
       let some : 0 < length i.partly.more = more in
@@ -341,6 +342,7 @@ long_stops sessions steps a b x y us h none fewer within = record {
   partly = whole_partly TooLong a b x y us (λ is. cc is) h;
   few = let f : length us + 0 ≤ steps = omega (arith, within) in f;
   in_turn = record { served = us; between = b; middle = y; serves = h; stops = none_stops b y; turns_are = sym (append-nil us) };
+  allowed = λ other. absurd (other refl);
   none_after = none;
   asked = λ more. fewer;
   not_over = λ lasts is. fewer;

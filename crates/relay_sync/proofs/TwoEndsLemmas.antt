@@ -19,6 +19,7 @@ use Rattle.origin_model.specs.frames.Framings.{IsWritten, frames}
 use Rattle.origin_model.specs.operations.History.{accepted}
 use Rattle.origin_model.specs.relay.Session.{Closes, Goes, Taken, TakesAll, at_cursor, closing, is_logged, joined, refusal_message, reply_from, session_goes_on, session_refused, unread}
 use Rattle.origin_model.proofs.SharedLemmas.{all_once, bytes_of, closed_takes, closing_takes, frame_takes, hello, hello_takes, ops_of, origin_short, partly, singles_read, takes-append, written}
+use Rattle.origin_model.specs.taking.Taking.{Held}
 use Rattle.op_frame.proofs.ReadingLemmas.{frames_once}
 use Rattle.relay_core.specs.OpLogs.{IsLogOf}
 use Rattle.relay_core.specs.Texts.{with_ops}
@@ -47,7 +48,7 @@ frames_short (op ∷ ops) have =
     omega (arith, length-append (frame op) (single_frames ops), frame_short op (All-head HasFrame op ops have), frames_short ops (All-tail HasFrame op ops have))
 
 -- a reply from a cursor of the log reads as the operations from there on
-reply_reads : (log : List (List ℕ)) (ops : List Op) (cursor : ℕ) → IsLogOf log ops → length log ≤ MOST_LOGGED → ReadsReply (reply_from log cursor) (drop cursor ops) (Ended (length log))
+pub reply_reads : (log : List (List ℕ)) (ops : List Op) (cursor : ℕ) → IsLogOf log ops → length log ≤ MOST_LOGGED → ReadsReply (reply_from log cursor) (drop cursor ops) (Ended (length log))
 reply_reads log ops cursor is few =
     let own : List (List ℕ) → List ℕ = flat_map (λ f. f) in
     let some : List Op = drop cursor ops in
@@ -191,18 +192,31 @@ module _ (limit cursor : ℕ) (log : List (List ℕ)) (fits : cursor < 2 ^ 32) (
             ]
       ]
 
--- a request of a replica is answered so
-pub requests_are_answered : RequestsAreAnswered
-requests_are_answered limit cursor log held after fits room have takes =
+-- a request as a greeting, frames of all that is sent, and the closing byte
+pub record Asked (cursor : ℕ) (held : Held) : Type 0 where
+  pub found : List Framed
+  pub are_frames : All (IsFrame Version2) found
+  pub ops_are : sent_ops held ≡ ops_of found
+  pub bytes_are : request_for cursor held ≡ (hello cursor ++ bytes_of found) ++ closing
+
+pub asked : (cursor : ℕ) (held : Held) → All HasFrame (sent_ops held) → Asked cursor held
+asked cursor held have =
     let first : IsWritten (accepted held.history) (frames (accepted held.history)) = written (accepted held.history) (all_before HasFrame (accepted held.history) held.waiting have) in
     let second : IsWritten held.waiting (frames held.waiting) = written held.waiting (all_behind HasFrame (accepted held.history) held.waiting have) in
     let found : List Framed = first.found ++ second.found in
-    let are : All (IsFrame Version2) found = All-append (IsFrame Version2) first.found second.found first.are_frames second.are_frames in
     let bytes_are : frames (accepted held.history) ++ frames held.waiting ≡ bytes_of found = (λ i. first.bytes_are i ++ second.bytes_are i) ∙ sym (flat_map-append (λ (f : Framed). f.bytes) first.found second.found) in
-    let ops_are : sent_ops held ≡ ops_of found = (λ i. first.ops_are i ++ second.ops_are i) ∙ sym (flat_map-append (λ (f : Framed). f.ops) first.found second.found) in
+    record {
+      found = found;
+      are_frames = All-append (IsFrame Version2) first.found second.found first.are_frames second.are_frames;
+      ops_are = (λ i. first.ops_are i ++ second.ops_are i) ∙ sym (flat_map-append (λ (f : Framed). f.ops) first.found second.found);
+      bytes_are = ap (λ l. l ++ closing) (append_assoc (hello cursor) (frames (accepted held.history)) (frames held.waiting) ∙ ap (λ l. hello cursor ++ l) bytes_are);
+    }
+
+-- a request of a replica is answered so
+pub requests_are_answered : RequestsAreAnswered
+requests_are_answered limit cursor log held after fits room have takes =
+    let a : Asked cursor held = asked cursor held have in
     let new : Taken = record { log = log; next = Goes unread } in
-    let same : request_for cursor held ≡ (hello cursor ++ bytes_of found) ++ closing =
-    ap (λ l. l ++ closing) (append_assoc (hello cursor) (frames (accepted held.history)) (frames held.waiting) ∙ ap (λ l. hello cursor ++ l) bytes_are) in
-    let comes = request_comes limit cursor log fits room found are in
-    let is : comes.0 ≡ after = all_once frames_once limit (request_for cursor held) new comes.0 after (subst (λ l. TakesAll limit l new comes.0) (sym same) comes.1) takes in
-    subst (λ (ops : List Op). Answered limit cursor log ops after) (sym ops_are) (subst (λ t. Answered limit cursor log (ops_of found) t) is comes.2)
+    let comes = request_comes limit cursor log fits room a.found a.are_frames in
+    let is : comes.0 ≡ after = all_once frames_once limit (request_for cursor held) new comes.0 after (subst (λ l. TakesAll limit l new comes.0) (sym a.bytes_are) comes.1) takes in
+    subst (λ (ops : List Op). Answered limit cursor log ops after) (sym a.ops_are) (subst (λ t. Answered limit cursor log (ops_of a.found) t) is comes.2)

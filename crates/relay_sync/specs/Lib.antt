@@ -7,3 +7,4 @@ pub mod FeedFaults
 pub mod Syncing
 pub mod Outcomes
 pub mod TwoEnds
+pub mod Exchanges

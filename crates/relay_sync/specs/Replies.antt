@@ -62,7 +62,7 @@ IsSure wire = is_some wire.room ≡ true
 pub record Hears (old new : WireView) (bytes : List ℕ) : Type 0 where
   pub heard : old.left ≡ prepend_known bytes new.left
   pub said : new.said ≡ old.said
-  pub port : new.port ≡ old.port
+  pub dials : new.dials ≡ old.dials
   pub room : new.room ≡ old.room
   pub later : old.faults ≤ new.faults
   pub calm : IsSure old → new.faults ≡ old.faults

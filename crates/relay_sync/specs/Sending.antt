@@ -15,14 +15,14 @@ pub record GivesSteps (old new : DockView) (steps : List MemStep) : Type 0 where
   pub ended : new.ended ≡ old.ended
   pub ended_at : new.ended_at ≡ old.ended_at
   pub ends : new.ends ≡ old.ends
-  pub port : new.port ≡ old.port
+  pub listens : new.listens ≡ old.listens
   pub later : old.faults ≤ new.faults
 
 -- a text goes out to one session, whole or up to a fault
 pub record SendsText {E T : Type 0} (old new : DockView) (result : Result T E) (session : ℕ) (text : List ℕ) : Type 0 where
   pub writes : WritesBytes (out_to session old) (out_to session new) result text
   pub others : (other : ℕ) → other ≢ session → (new.sent other ≡ old.sent other) × (new.room other ≡ old.room other)
-  pub port : new.port ≡ old.port
+  pub listens : new.listens ≡ old.listens
   pub nothing_taken : TakesNothing old new
   pub ends : new.ends ≡ old.ends
   pub ended : new.ended ≡ old.ended
@@ -39,7 +39,7 @@ pub record Replied (old new : DockView) (reply : Option Reply) : Type 0 where
   pub ended_at : new.ended_at ≡ ended_with new.sent reply old.ended_at
   pub ends : new.ends ≡ ends_behind (closed_by reply) old.ends
   pub nothing_taken : TakesNothing old new
-  pub port : new.port ≡ old.port
+  pub listens : new.listens ≡ old.listens
   pub later : old.faults ≤ new.faults
   pub calm : LastsFor old reply → new.faults ≡ old.faults
 
@@ -48,7 +48,7 @@ pub record RepliedPartly (fault : ServeFault) (old new : DockView) (reply : Opti
   pub sent : (session : ℕ) → TookFront (out_to session old) (out_to session new) (bytes_to session reply)
   pub ended : EndedFront old new (closed_by reply)
   pub nothing_taken : TakesNothing old new
-  pub port : new.port ≡ old.port
+  pub listens : new.listens ≡ old.listens
   pub later : old.faults ≤ new.faults
   -- a dock that lasts for the reply is not what failed
   pub sure : LastsFor old reply → fault ≢ DockFault

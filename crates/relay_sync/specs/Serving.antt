@@ -12,7 +12,7 @@ use Rattle.outer_ports.specs.declared.dock.mem_dock.MemStep.{MemStep}
 use Rattle.outer_ports.specs.declared.dock.mem_dock.MemStep.TheVariants.{Opened, Bytes, Gone}
 use Rattle.relay_sync.specs.Over.{over_once}
 use Rattle.relay_sync.specs.declared.serving.ServeFault.{ServeFault}
-use Rattle.relay_sync.specs.declared.serving.ServeFault.TheVariants.{DockFault}
+use Rattle.relay_sync.specs.declared.serving.ServeFault.TheVariants.{DockFault, TooLong}
 
 -- a step, as an event of the relay
 abbrev pub event_of : MemStep → Event
@@ -121,7 +121,7 @@ pub record Serves (old_relay new_relay : Relay) (old new : DockView) (turns : Li
   -- nothing is sent to a session once its closing reply was sent and it was ended, and it is not ended before
   pub ended_at : new.ended_at ≡ ended_in old.sent old.ended_at turns
   pub ends : new.ends ≡ ends_behind (closed_in turns) old.ends
-  pub port : new.port ≡ old.port
+  pub listens : new.listens ≡ old.listens
   pub later : old.faults ≤ new.faults
   -- no call fails on a dock that lasts
   pub calm : Lasts old turns → new.faults ≡ old.faults
@@ -140,7 +140,7 @@ pub record ServesPartly (fault : ServeFault) (old_relay new_relay : Relay) (old 
   pub gave : GaveSteps old new (steps_of turns ++ more)
   pub sent : (session : ℕ) → TookFront (out_to session old) (out_to session new) (sent_to session turns)
   pub ended : EndedFront old new (closed_in turns)
-  pub port : new.port ≡ old.port
+  pub listens : new.listens ≡ old.listens
   pub later : old.faults ≤ new.faults
   -- a dock that lasts for the replies fails only where no step is left
   pub calm : Lasts old turns → Spends fault more old new
@@ -171,6 +171,9 @@ pub record ServingStops (sessions steps : ℕ) (fault : ServeFault) (old_relay n
   pub partly : ServesPartly fault old_relay new_relay old new turns
   pub few : length turns + length partly.more ≤ steps
   pub in_turn : StopsInTurn fault old_relay new_relay old new turns
+  -- another fault than TooLong comes before all steps that are allowed were taken and served; the last of them may be the one
+  -- at which memory is wanting
+  pub allowed : fault ≢ TooLong → length in_turn.served < steps
   pub none_after : NoneAfter sessions turns
   -- nor was the step asked for that the relay was not given
   pub asked : 0 < length partly.more → count_over turns < sessions

@@ -1,5 +1,5 @@
 -- An exchange with a relay: a replica says what it holds, hears the reply, and takes in its operations as they come.
-use Rattle.std.specs.Prelude.{◌≡◌, ◌≢◌, ◌⊎◌, ◌+◌, ◌*◌, ◌≤◌, ℕ, All, List, [], ◌∷◌, ◌++◌, flat_map, length, Option, Some, None, Result, Err, option_map}
+use Rattle.std.specs.Prelude.{◌≡◌, ◌≢◌, ◌⊎◌, ◌+◌, ◌*◌, ◌≤◌, ℕ, All, List, [], ◌∷◌, ◌++◌, flat_map, length, Option, Some, None, Result, Err}
 use Rattle.std.specs.Io.KnownBytes.{prepend_known}
 use Rattle.fugue_ids.specs.Causes.{Rose}
 use Rattle.fugue_ids.specs.Outs.{Took, TookFront}
@@ -8,7 +8,7 @@ use Rattle.fugue_ids.specs.declared.op.Op.{Op}
 use Rattle.origin_model.specs.declared.grammar.Grammar.TheVariants.{Version2}
 use Rattle.origin_model.specs.frames.Frames.{Framed, IsFrame}
 use Rattle.origin_model.specs.taking.Taking.{Held, IsSettled, TooMany as AnswersTooMany, answer}
-use Rattle.outer_ports.specs.wire.Wires.{WireView, out_of}
+use Rattle.outer_ports.specs.wire.Wires.{DialsOnce, WireView, out_of}
 use Rattle.replica_core.specs.Keeping.{TakesIn, TakesPartly, OpsTaking}
 use Rattle.replica_core.specs.Told.{total}
 use Rattle.replica_core.specs.declared.keeping.FeedFault.{FeedFault}
@@ -87,9 +87,9 @@ pub record HearsNoFurther (old new : Option (List ℕ)) : Type 0 where
   pub ends : IsMessage (End count) last
   pub heard : old ≡ prepend_known (flat_map (λ framed. framed.bytes) found ++ last) new
 
--- all that the replica holds was said to the port
+-- the port was dialled, once and before all else, and all that the replica holds was said to it
 pub record Asks (old new : WireView) (port cursor : ℕ) (held : Held) : Type 0 where
-  pub dialled : new.port ≡ option_map (λ before. Some port) old.port
+  pub dialled : DialsOnce old new port
   pub said : Took (out_of old) (out_of new) (request_for cursor held)
   pub left : new.left ≡ old.left
   pub later : old.faults ≤ new.faults

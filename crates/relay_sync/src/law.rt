@@ -1,6 +1,9 @@
+ghost use Rattle.relay_sync.specs.Exchanges.{HearersConverge, HearersHaveTheClosure, LogsAreWhatWasSent};
 ghost use Rattle.relay_sync.specs.Outcomes.{RepliesComeOnce};
 ghost use Rattle.relay_sync.specs.Serving.{PartsCountAsJoined};
 ghost use Rattle.relay_sync.specs.TwoEnds.{RepliesAreRead, RequestsAreAnswered};
+
+use origin_model::{closure_of_set, order_by_set};
 
 /// Each reply comes to exactly one end, from any state and within any limits, and what is heard of it is what it comes
 /// to.
@@ -21,3 +24,18 @@ pub fn both_ends_fit()
     ensures replies { RepliesAreRead }
     ensures requests { RequestsAreAnswered }
 {}
+
+/// Replicas come together over a relay. They send what they hold, in sessions of which none was refused, interleaved and
+/// cut into pieces in any way. The log has all that was sent in whole sessions, and nothing but what the replicas of the
+/// sessions held.
+/// Let each session that broke off be made good by a whole one. Who then hears the log from its start, without the answer
+/// Full, has accepted the closure of the union of what it and all senders kept; so all who kept nothing else accept the
+/// same and print the same.
+pub fn exchanges_converge()
+    ensures log { LogsAreWhatWasSent }
+    ensures closure { HearersHaveTheClosure }
+    ensures converge { HearersConverge }
+{
+    closure_of_set();
+    order_by_set();
+}

@@ -8,6 +8,6 @@ mod saying;
 mod serving;
 mod syncing;
 
-pub use law::{both_ends_fit, parts_count_as_joined, replies_come_once};
+pub use law::{both_ends_fit, exchanges_converge, parts_count_as_joined, replies_come_once};
 pub use serving::{ServeFault, serve};
 pub use syncing::{SyncFault, Synced, sync};

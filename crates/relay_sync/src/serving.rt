@@ -31,7 +31,8 @@ pub enum ServeFault {
 /// Gives the dock's steps to the relay and sends its replies, until so many sessions are closed or gone; a number
 /// counts once.
 ///
-/// After a fault the relay stands after a front of the steps.
+/// After a fault the relay stands after a front of the steps. Once all steps that are allowed were taken and served,
+/// and fewer sessions are over, the answer of a dock that lasts is `TooLong`, but for want of memory.
 pub fn serve<B: BuildHasher, D: Dock>(
     alloc: Global,
     relay: &mut Relay<B>,

@@ -69,7 +69,8 @@ pub struct Synced {
     pub cursor: u32,
 }
 
-/// Tells a relay all that the replica holds, and takes in what it answers.
+/// Tells a relay all that the replica holds, and takes in what it answers, on one connection: the port is dialled once,
+/// and before all else.
 ///
 /// The cursor says from where on the relay's log is asked for. Copies of the operations that were kept are appended to
 /// `kept`. After a fault the replica holds what the operations before it brought, those of the same run too.

@@ -4,6 +4,7 @@ pub mod HonestLemmas
 pub mod AppendLemmas
 pub mod LoadingLemmas
 pub mod ReadingLemmas
+pub mod ReachLemmas
 pub mod PieceLemmas
 pub mod PartLemmas
 pub mod SlotLemmas

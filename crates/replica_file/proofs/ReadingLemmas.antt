@@ -16,6 +16,7 @@ pub looks_then : (F : Type 0) (a b c : DiskView) → LooksOnly a b ⊥ → Looks
 looks_then F a b c one two = record {
   past = two.past ∙ one.past;
   room = two.room ∙ one.room;
+  sizes = two.sizes ∙ one.sizes;
   later = omega (arith, one.later, two.later);
   rose = λ failed. let up = two.rose failed in let low = one.later in omega (arith, up, low);
   sure = both a.room b.room (⊥ → ⊥) (F → ⊥) (F → ⊥) one.room (λ p q. q) one.sure two.sure;
@@ -24,10 +25,11 @@ looks_then F a b c one two = record {
 }
 
 -- a call that only looks, and went well
-pub looked : {E T : Type 0} (b c : DiskView) (x : T) → Looks {E = E} b c (Ok x) → LooksOnly b c ⊥
-looked b c x looks = record {
+pub looked : {E T : Type 0} (b c : DiskView) (x : T) → Looks {E = E} b c (Ok x) → c.sizes ≡ b.sizes → LooksOnly b c ⊥
+looked b c x looks sizes = record {
   past = looks.past;
   room = looks.room;
+  sizes = sizes;
   later = looks.count.cause.later;
   rose = λ failed. absurd failed;
   sure = never b.room;
@@ -48,6 +50,7 @@ pub well : (F : Type 0) (b c : DiskView) → (F → ⊥) → LooksOnly b c F →
 well F b c fine one = record {
   past = one.past;
   room = one.room;
+  sizes = one.sizes;
   later = one.later;
   rose = λ failed. absurd failed;
   sure = never b.room;

@@ -1,12 +1,24 @@
 -- What looking at a disk does to it, and what it gives.
-use Rattle.std.specs.Prelude.{◌≡◌, ℕ, ◌+◌, ◌-◌, ◌≤◌, List, ◌++◌, length, take, Result, IfSome}
+use Rattle.std.specs.Prelude.{◌≡◌, ℕ, ◌+◌, ◌-◌, ◌≤◌, max, List, ◌++◌, length, take, Option, Some, None, Result, IfSome}
 use Rattle.fugue_ids.specs.Causes.{Rose}
 use Rattle.outer_ports.specs.disk.Disks.{DiskTells, DiskView, ReadsAt}
 
--- nothing was done but to look: a failure raised the count, nothing else did where the disk tells, and where calls are sure there is none
+-- how far a disk was read grew to this offset at most, where it is told
+abbrev pub ReachesTo : (offset : ℕ) → (old new : Option ℕ) → Type 0
+ReachesTo offset None new = Unit {0}
+ReachesTo offset (Some before) None = ⊥
+ReachesTo offset (Some before) (Some now) = now ≤ max before offset
+
+-- no byte at or behind this offset was asked for
+abbrev pub ReadsNoFurther : (offset : ℕ) → (old new : DiskView) → Type 0
+ReadsNoFurther offset old new = ReachesTo offset old.reach new.reach
+
+-- Nothing was done but to read, and the size was not asked for: a failure raised the count, nothing else did where the disk
+-- tells, and where calls are sure there is none.
 pub record LooksOnly (old new : DiskView) (failed : Type 0) : Type 0 where
   pub past : new.past ≡ old.past
   pub room : new.room ≡ old.room
+  pub sizes : new.sizes ≡ old.sizes
   pub later : old.faults ≤ new.faults
   pub rose : failed → Rose old.faults new.faults
   pub sure : IfSome old.room (λ room. failed → ⊥)

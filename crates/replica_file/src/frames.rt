@@ -1,7 +1,7 @@
 ghost use Rattle.std.specs.Prelude.{◌≡◌, ◌+◌, ◌<◌, ◌≤◌, ◌^◌, min, List, IfSome, IfOk, OnOk};
 ghost use Rattle.fugue_ids.specs.declared.op.Op.{Op};
 ghost use Rattle.replica_file.specs.Loading.{IsReady, IsSameButHeld};
-ghost use Rattle.replica_file.specs.Looks.{LooksOnly};
+ghost use Rattle.replica_file.specs.Looks.{LooksOnly, ReadsNoFurther};
 ghost use Rattle.replica_file.specs.Pieces.{Lacks};
 ghost use Rattle.replica_file.specs.Wanting.{AreWhole, BeginsPiece, part_of};
 ghost use Rattle.replica_file.specs.Slots.{HasNoFrames, TakesFrames, TakesSome};
@@ -14,6 +14,7 @@ use crate::stop::Stop;
 use outer_ports::Disk;
 use std::alloc::Global;
 
+#[tactic(auto, using(crate::proofs::ReachLemmas::reaches_none))]
 /// Takes a part of the file in, which is to be whole frames, a piece at a time. A frame that a piece cuts is read again
 /// with the next one.
 pub(crate) fn take_frames<H: Disk>(
@@ -35,6 +36,7 @@ pub(crate) fn take_frames<H: Disk>(
     ensures ready { OnOk result (IsReady loading.new.replica) }
     ensures same { OnOk result (IsSameButHeld loading.old.replica loading.new.replica) }
     ensures looks { LooksOnly (H.seen disk.old) (H.seen disk.new) (result ≡ Err Stop.Disk) }
+    ensures reach { OnOk result (ReadsNoFurther (at + word.len) (H.seen disk.old) (H.seen disk.new)) }
 {
     let mut taken = 0;
     'pieces: while taken < word.len {
@@ -71,6 +73,7 @@ fn take_some<H: Disk>(
     ensures ready { OnOk result (IsReady loading.new.replica) }
     ensures same { OnOk result (IsSameButHeld loading.old.replica loading.new.replica) }
     ensures looks { LooksOnly (H.seen disk.old) (H.seen disk.new) (result ≡ Err Stop.Disk) }
+    ensures reach { OnOk result (ReadsNoFurther (at + left.len) (H.seen disk.old) (H.seen disk.new)) }
 {
     let size = left.len.min(PIECE as u64) as usize;
     let piece = read_piece(alloc, disk, at, size)?;

@@ -1,7 +1,7 @@
-ghost use Rattle.std.specs.Prelude.{◌≡◌, ◌≢◌, ◌<◌, ◌≤◌, false, IfSome, IfOk, IfErr, ℕ};
+ghost use Rattle.std.specs.Prelude.{◌≡◌, ◌≢◌, ◌<◌, ◌≤◌, false, IfSome, IfOk, IfErr, OnOk, ℕ};
 ghost use Rattle.origin_model.specs.files.Image.{has_header};
 ghost use Rattle.fugue_ids.specs.declared.limits.TheConstants.{GREATEST_HOLD};
-ghost use Rattle.replica_file.specs.Looks.{LooksOnly};
+ghost use Rattle.replica_file.specs.Looks.{LooksOnly, ReadsNoFurther};
 ghost use Rattle.replica_file.specs.Slots.{IsFront, SlotStopsFor};
 
 use crate::LoadFault;
@@ -28,6 +28,7 @@ pub(crate) fn read_front<H: Disk>(disk: &mut H) -> Result<Front, LoadFault>
     ensures stops { IfErr result (λ fault. IfSome (H.seen disk.old).past (λ h.
         (most : ℕ) → SlotStopsFor most h.last.seen fault)) }
     ensures looks { LooksOnly (H.seen disk.old) (H.seen disk.new) (result ≡ Err LoadFault.DiskFault) }
+    ensures reach { OnOk result (ReadsNoFurther 14 (H.seen disk.old) (H.seen disk.new)) }
 {
     match read_both(disk) {
         Ok(front) => Ok(front),
@@ -46,6 +47,7 @@ fn read_both<H: Disk>(disk: &mut H) -> Result<Front, Stop>
     ensures bad { result ≡ Err Stop.Bad → IfSome (H.seen disk.old).past (λ h. has_header h.last.seen ≡ false) }
     ensures no_memory { result ≢ Err Stop.NoMemory }
     ensures looks { LooksOnly (H.seen disk.old) (H.seen disk.new) (result ≡ Err Stop.Disk) }
+    ensures reach { OnOk result (ReadsNoFurther 14 (H.seen disk.old) (H.seen disk.new)) }
 {
     let header = read_header(disk)?;
     let gate = read_gate(disk, HEADER as u64)?;

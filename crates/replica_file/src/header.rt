@@ -1,7 +1,7 @@
-ghost use Rattle.std.specs.Prelude.{◌≡◌, ◌≢◌, ◌⊎◌, ◌↔◌, ◌+◌, ◌<◌, ◌≤◌, false, true, length, IfSome, IsSome, IfOk};
+ghost use Rattle.std.specs.Prelude.{◌≡◌, ◌≢◌, ◌⊎◌, ◌↔◌, ◌+◌, ◌<◌, ◌≤◌, false, true, length, IfSome, IsSome, IfOk, OnOk};
 ghost use Rattle.fugue_ids.specs.declared.limits.TheConstants.{GREATEST_HOLD};
 ghost use Rattle.origin_model.specs.files.Image.{header_of, is_header, new_file as new_file_of, number_at};
-ghost use Rattle.replica_file.specs.Looks.{LooksOnly};
+ghost use Rattle.replica_file.specs.Looks.{LooksOnly, ReadsNoFurther};
 ghost use Rattle.replica_file.specs.Slots.{IsHeader};
 
 use crate::gate::CLOSED;
@@ -44,6 +44,7 @@ pub(crate) fn read_header<H: Disk>(disk: &mut H) -> Result<Header, Stop>
         (length (header_of h.last.seen) < 13) ⊎ (is_header (header_of h.last.seen) ≡ false)) }
     ensures no_memory { result ≢ Err Stop.NoMemory }
     ensures looks { LooksOnly (H.seen disk.old) (H.seen disk.new) (result ≡ Err Stop.Disk) }
+    ensures reach { OnOk result (ReadsNoFurther 13 (H.seen disk.old) (H.seen disk.new)) }
 {
     let mut bytes = [0; HEADER];
     if read_from(disk, 0, &mut bytes)? < HEADER {

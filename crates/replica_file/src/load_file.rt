@@ -7,7 +7,7 @@ ghost use Rattle.outer_ports.specs.disk.States.{durable};
 ghost use Rattle.replica_file.specs.Ends.{EndsAt, IsWithinReach};
 ghost use Rattle.replica_file.specs.Load.{LoadAnswersBy, LacksMemory, LastsToLoad, Loads};
 ghost use Rattle.replica_file.specs.Loading.{IsReady};
-ghost use Rattle.replica_file.specs.Looks.{LooksOnly};
+ghost use Rattle.replica_file.specs.Looks.{LooksOnly, ReadsNoFurther};
 ghost use Rattle.replica_file.specs.Slots.{SlotStopsFor};
 ghost use Rattle.replica_file.specs.Laws.{OneImage};
 
@@ -70,6 +70,10 @@ impl From<NoMemory> for LoadFault {
 
 /// Loads the replica that a file holds, which may have `most` operations, and finds where the file's meaning ends.
 /// Operations that are refused change nothing and are no fault.
+///
+/// The size is not asked for, nor, where it succeeds, a byte behind the gate that ends the meaning. Any gate may be that
+/// one until it is read, so what stands behind a gate is asked for only once the gate was seen open: it is whole then,
+/// though another program may be saving.
 pub fn load<H: Disk>(alloc: Global, disk: &mut H, most: u32) -> Result<(Replica, End), LoadFault>
     requires some { 0 < most }
     requires within { most ≤ MOST_OPERATIONS }
@@ -84,6 +88,9 @@ pub fn load<H: Disk>(alloc: Global, disk: &mut H, most: u32) -> Result<(Replica,
     ensures moments { IfSome (H.seen disk.old).past (λ h. LeavesOnlyTo h (H.seen disk.new).past (MayLeave h)) }
     ensures room { ((H.seen disk.new).room ≡ spent 0 (H.seen disk.old).room)
         ⊎ ((result ≡ Err LoadFault.DiskFault) × ((H.seen disk.new).room ≡ (H.seen disk.old).room)) }
+    ensures no_size { (H.seen disk.new).sizes ≡ (H.seen disk.old).sizes }
+    ensures reach { IfOk result
+        (λ loaded. ReadsNoFurther (loaded.1.at + 1) (H.seen disk.old) (H.seen disk.new)) }
     ensures later { (H.seen disk.old).faults ≤ (H.seen disk.new).faults }
     ensures cause { result ≡ Err LoadFault.DiskFault → Rose (H.seen disk.old).faults (H.seen disk.new).faults }
     ensures sure { IfSome (H.seen disk.old).room (λ room. LastsToLoad room → result ≢ Err LoadFault.DiskFault) }
@@ -106,6 +113,8 @@ fn read_all<H: Disk>(alloc: Global, disk: &mut H, most: u32) -> Result<(Replica,
     ensures ready { IfOk result (λ loaded. IsReady loaded.0) }
     ensures reaches { IfOk result (λ loaded. IsWithinReach loaded.1) }
     ensures looks { LooksOnly (H.seen disk.old) (H.seen disk.new) (result ≡ Err LoadFault.DiskFault) }
+    ensures reach { IfOk result
+        (λ loaded. ReadsNoFurther (loaded.1.at + 1) (H.seen disk.old) (H.seen disk.new)) }
 {
     let front = read_front(disk)?;
     let mut loading = Loading::new(alloc, front.header, most);

@@ -1,5 +1,5 @@
-ghost use Rattle.std.specs.Prelude.{◌≡◌, ◌+◌, ◌<◌, ◌≤◌, ◌^◌, ◌≢◌, length, take, drop, vec_len, IsErr, IfOk, IfSome};
-ghost use Rattle.replica_file.specs.Looks.{LooksOnly, ReadsMore};
+ghost use Rattle.std.specs.Prelude.{◌≡◌, ◌+◌, ◌<◌, ◌≤◌, ◌^◌, ◌≢◌, length, take, drop, vec_len, IsErr, IfOk, OnOk, IfSome};
+ghost use Rattle.replica_file.specs.Looks.{LooksOnly, ReadsMore, ReadsNoFurther};
 
 use crate::stop::Stop;
 use fugue_ids::{Failed, NoMemory};
@@ -18,6 +18,7 @@ pub(crate) fn read_piece<H: Disk>(
         piece.items ≡ take size (drop at h.last.seen))) }
     ensures bound { IfOk result (λ piece. vec_len piece ≤ size) }
     ensures looks { LooksOnly (H.seen disk.old) (H.seen disk.new) (result ≡ Err Stop.Disk) }
+    ensures reach { OnOk result (ReadsNoFurther (at + size) (H.seen disk.old) (H.seen disk.new)) }
     ensures not_bad { result ≢ Err Stop.Bad }
 {
     let mut piece = zeros(alloc, size)?;
@@ -34,6 +35,7 @@ fn zeros(alloc: Global, size: usize) -> Result<Vec<u8>, NoMemory>
     Ok(bytes)
 }
 
+#[tactic(auto, using(crate::proofs::ReachLemmas::reaches_none))]
 /// Fills the buffer with the bytes from an offset on, as far as there are any, and answers how many there were.
 pub(crate) fn read_from<H: Disk>(disk: &mut H, at: u64, buf: &mut [u8]) -> Result<usize, Failed>
     requires { at + length buf.old < 2 ^ 64 }
@@ -41,6 +43,7 @@ pub(crate) fn read_from<H: Disk>(disk: &mut H, at: u64, buf: &mut [u8]) -> Resul
     ensures told { IfOk result (λ n. IfSome (H.seen disk.old).past (λ h.
         take n buf.new ≡ take (length buf.new) (drop at h.last.seen))) }
     ensures looks { LooksOnly (H.seen disk.old) (H.seen disk.new) (IsErr result) }
+    ensures reach { OnOk result (ReadsNoFurther (at + length buf.new) (H.seen disk.old) (H.seen disk.new)) }
 {
     let mut filled = 0;
     'reads: while filled < buf.len() {

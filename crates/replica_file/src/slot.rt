@@ -3,7 +3,7 @@ ghost use Rattle.origin_model.specs.declared.files.TheConstants.{LONGEST_BATCH};
 ghost use Rattle.origin_model.specs.declared.grammar.Grammar.{Grammar as AnyGrammar};
 ghost use Rattle.origin_model.specs.files.Image.{IsNoBatch, tag_of};
 ghost use Rattle.replica_file.specs.Loading.{IsReady, IsSameButHeld};
-ghost use Rattle.replica_file.specs.Looks.{LooksOnly};
+ghost use Rattle.replica_file.specs.Looks.{LooksOnly, ReadsNoFurther};
 ghost use Rattle.replica_file.specs.Slots.{HasNoWord, IsGate, IsWord, LacksInSlot, TakesSlot};
 
 use crate::batch::WORD;
@@ -31,10 +31,12 @@ pub(crate) fn take_slot<H: Disk>(
         (slot : ℕ) → IsNoBatch slot (drop (at + 1) h.last.seen)) }
     ensures memory { result ≡ Err Stop.NoMemory → IfSome (H.seen disk.old).past (λ h.
         LacksInSlot h.last.seen at loading.old.finds_place loading.old.replica) }
-    ensures reach { IfOk result (λ next. next.at ≤ at + 268435461) }
+    ensures reaches { IfOk result (λ next. next.at ≤ at + 268435461) }
     ensures ready { OnOk result (IsReady loading.new.replica) }
     ensures same { OnOk result (IsSameButHeld loading.old.replica loading.new.replica) }
     ensures looks { LooksOnly (H.seen disk.old) (H.seen disk.new) (result ≡ Err Stop.Disk) }
+    ensures onward { IfOk result (λ next. at < next.at) }
+    ensures reach { IfOk result (λ next. ReadsNoFurther (next.at + 1) (H.seen disk.old) (H.seen disk.new)) }
 {
     let word = read_word(disk, at + 1)?;
     take_frames(alloc, disk, at + 5, word, loading)?;
@@ -56,6 +58,7 @@ fn read_word<H: Disk>(disk: &mut H, at: u64) -> Result<Word, Stop>
     ensures bad { result ≡ Err Stop.Bad → IfSome (H.seen disk.old).past (λ h. HasNoWord h.last.seen at) }
     ensures no_memory { result ≢ Err Stop.NoMemory }
     ensures looks { LooksOnly (H.seen disk.old) (H.seen disk.new) (result ≡ Err Stop.Disk) }
+    ensures reach { OnOk result (ReadsNoFurther (at + 4) (H.seen disk.old) (H.seen disk.new)) }
 {
     let mut bytes = [0; WORD];
     if read_from(disk, at, &mut bytes)? < WORD {
@@ -92,6 +95,7 @@ pub(crate) fn read_gate<H: Disk>(disk: &mut H, at: u64) -> Result<Gate, Stop>
     ensures bad { result ≡ Err Stop.Bad → IfSome (H.seen disk.old).past (λ h. length h.last.seen ≤ at) }
     ensures no_memory { result ≢ Err Stop.NoMemory }
     ensures looks { LooksOnly (H.seen disk.old) (H.seen disk.new) (result ≡ Err Stop.Disk) }
+    ensures reach { OnOk result (ReadsNoFurther (at + 1) (H.seen disk.old) (H.seen disk.new)) }
 {
     let mut gate = [CLOSED; 1];
     if read_from(disk, at, &mut gate)? == 0 {

@@ -1,7 +1,7 @@
 ghost use Rattle.std.specs.Prelude.{◌≡◌, ◌+◌, ◌*◌, ◌<◌, ◌≤◌, true, IfSome, IfOk, IfErr, OnOk};
 ghost use Rattle.replica_file.specs.Ends.{IsWithinReach};
 ghost use Rattle.replica_file.specs.Loading.{IsReady, IsSameButHeld};
-ghost use Rattle.replica_file.specs.Looks.{LooksOnly};
+ghost use Rattle.replica_file.specs.Looks.{LooksOnly, ReadsNoFurther};
 ghost use Rattle.replica_file.specs.Slots.{SlotStopsFor, Walked, WalksOut};
 
 use crate::gate::Gate;
@@ -12,6 +12,7 @@ use crate::{End, LoadFault};
 use outer_ports::Disk;
 use std::alloc::Global;
 
+#[tactic(auto, using(crate::proofs::ReachLemmas::reaches_none, crate::proofs::ReachLemmas::reaches_then))]
 /// Takes the slots in from the first gate on, and answers where the file's meaning ends.
 pub(crate) fn take_slots<H: Disk>(
     alloc: Global,
@@ -33,6 +34,8 @@ pub(crate) fn take_slots<H: Disk>(
     ensures ready { OnOk result (IsReady loading.new.replica) }
     ensures same { OnOk result (IsSameButHeld loading.old.replica loading.new.replica) }
     ensures looks { LooksOnly (H.seen disk.old) (H.seen disk.new) (result ≡ Err LoadFault.DiskFault) }
+    ensures behind { IfOk result (λ end. 13 ≤ end.at) }
+    ensures reach { IfOk result (λ end. ReadsNoFurther (end.at + 1) (H.seen disk.old) (H.seen disk.new)) }
 {
     let mut gate = first;
     let mut slots = 0;
@@ -68,6 +71,8 @@ fn next_gate<H: Disk>(
     ensures ready { OnOk result (IsReady loading.new.replica) }
     ensures same { OnOk result (IsSameButHeld loading.old.replica loading.new.replica) }
     ensures looks { LooksOnly (H.seen disk.old) (H.seen disk.new) (result ≡ Err LoadFault.DiskFault) }
+    ensures onward { IfOk result (λ next. gate.at < next.at) }
+    ensures reach { IfOk result (λ next. ReadsNoFurther (next.at + 1) (H.seen disk.old) (H.seen disk.new)) }
 {
     if slots == u32::MAX {
         return Err(LoadFault::BadBatch(slots));

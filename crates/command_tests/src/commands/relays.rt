@@ -73,7 +73,7 @@ fn see(
     let steps = steps(rt, TWO_SESSIONS);
     let mut dock = MemDock::new(rt.alloc(), steps, piece.max(1), list(rt, fails[0]));
     let is_so = runs_so(rt, words, &mut dock, fails, ends);
-    let are_answered = dock.port() == Some(47113)
+    let are_answered = dock.listens().last.map(|listening| listening.port) == Some(47113)
         && (dock.sent(0), dock.sent(1)) == (REPLY, REPLY)
         && dock.ended() == [1, 0].as_slice();
     let is_untouched = dock.next(&mut [0; 5]) == Ok(DockStep::Opened(0));

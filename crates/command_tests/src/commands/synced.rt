@@ -155,7 +155,7 @@ fn speaks_so(rt: &(impl Abort + AllocGlobal), case: &Case, home: &mut SureDisk) 
     let is_so = status == case.status
         && notes.written() == case.line.as_bytes()
         && wire.said() == said.as_slice()
-        && wire.port() == case.port;
+        && wire.dials().last.map(|dial| dial.port) == case.port;
     drop(notes);
     drop(wire);
     drop(said);

@@ -101,7 +101,7 @@ fn a_replica_says_what_it_holds_and_takes_in_the_reply(rt: HostRuntime) {
         let result = exchanged(&rt, &mut replica, &mut wire, exchange.cursor, &mut kept);
         let is_so = result == exchange.result
             && wire.said() == exchange.said
-            && wire.port() == Some(47113)
+            && wire.dials().last.map(|dial| dial.port) == Some(47113)
             && kept.len() == exchange.kept;
         drop(wire);
         holds_at(&rt, &exchange.cursor, is_so);

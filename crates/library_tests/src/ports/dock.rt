@@ -4,7 +4,9 @@ ghost use Rattle.outer_ports.specs.dock.Steps.{HasBytes};
 use super::wire::{self, passes};
 use crate::assertions::{equal, equal_at, holds_at};
 use fugue_ids::{ByteList, Failed};
-use outer_ports::{Dock, DockStep, MemDock, MemStep, SureDock, TcpDock, TcpWire};
+use outer_ports::{
+    Dock, DockStep, Latest, Listening, MemDock, MemStep, SureDock, TcpDock, TcpWire,
+};
 use std::alloc::Global;
 use std::io;
 use std::process::Abort;
@@ -61,6 +63,15 @@ const PIECES: [Call; 8] = [
     Call::End(7),
 ];
 
+/// It listened once, before all steps.
+const ONE: Latest<Listening> = Latest {
+    count: 1,
+    last: Some(Listening {
+        port: 9,
+        taken: Some(0),
+    }),
+};
+
 #[test]
 fn docks_in_memory_serve_and_fail_where_listed(rt: HostRuntime) -> Result<(), Fail> {
     let fail = [9].to_vec(rt.alloc())?;
@@ -75,7 +86,8 @@ fn docks_in_memory_serve_and_fail_where_listed(rt: HostRuntime) -> Result<(), Fa
     serves(&rt, &mut dock, &calls);
     let sent = (dock.sent(7), dock.sent(9));
     equal(&rt, sent, (b"xyz".as_slice(), b"".as_slice()));
-    equal(&rt, (dock.port(), dock.ended()), (Some(9), [7].as_slice()));
+    equal(&rt, (dock.listens(), dock.ended()), (ONE, [7].as_slice()));
+    equal(&rt, dock.port(), Some(9));
     drop(dock);
     let mut dock = SureDock::new(rt.alloc(), steps(rt.alloc())?, 2, 3)?;
     equal(&rt, dock.listen(9), Ok(()));
@@ -86,7 +98,8 @@ fn docks_in_memory_serve_and_fail_where_listed(rt: HostRuntime) -> Result<(), Fa
     ];
     serves(&rt, &mut dock, &calls);
     equal(&rt, dock.sent(7), b"xyz".as_slice());
-    equal(&rt, (dock.port(), dock.ended()), (Some(9), [7].as_slice()));
+    equal(&rt, (dock.listens(), dock.ended()), (ONE, [7].as_slice()));
+    equal(&rt, dock.port(), Some(9));
     drop(dock);
     Ok(())
 }

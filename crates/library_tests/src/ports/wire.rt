@@ -1,6 +1,6 @@
 use crate::assertions::{equal, holds_at};
 use fugue_ids::Failed;
-use outer_ports::{MemWire, SureWire, Wire};
+use outer_ports::{Dial, Latest, MemWire, SureWire, Wire};
 use std::process::Abort;
 use std::test::Fail;
 
@@ -39,24 +39,43 @@ const PIECES: [(Call, Result<usize, Failed>); 3] = [
     (Call::Read("ab"), Ok(2)),
 ];
 
+/// It was dialled before all else, with three bytes left to read.
+const ONE: Latest<Dial> = Latest {
+    count: 1,
+    last: Some(Dial {
+        port: 7,
+        said: Some(0),
+        left: Some(3),
+    }),
+};
+
+/// It was dialled again, behind three bytes that were written, with one left to read.
+const OTHER: Latest<Dial> = Latest {
+    count: 2,
+    last: Some(Dial {
+        port: 8,
+        said: Some(3),
+        left: Some(1),
+    }),
+};
+
 #[test]
 fn wires_in_memory_pass_pieces_and_fail_where_listed(rt: HostRuntime) -> Result<(), Fail> {
     let reply = b"abc".to_vec(rt.alloc())?;
     let mut wire = MemWire::new(rt.alloc(), reply, 2, [3].to_vec(rt.alloc())?);
     passes(&rt, &mut wire, &PIECES);
     passes(&rt, &mut wire, &[(Call::Write("x"), Err(Failed))]);
-    equal(&rt, (wire.port(), wire.said()), (Some(7), b"xy".as_slice()));
+    equal(&rt, (wire.dials(), wire.said()), (ONE, b"xy".as_slice()));
+    equal(&rt, wire.port(), Some(7));
     drop(wire);
     let reply = b"abc".to_vec(rt.alloc())?;
     let mut wire = SureWire::new(rt.alloc(), reply, 2, 3)?;
     passes(&rt, &mut wire, &PIECES);
     let rows = [(Call::Write("zz"), Ok(1)), (Call::Write("z"), Err(Failed))];
     passes(&rt, &mut wire, &rows);
-    equal(
-        &rt,
-        (wire.port(), wire.said()),
-        (Some(7), b"xyz".as_slice()),
-    );
+    equal(&rt, (wire.dials(), wire.said()), (ONE, b"xyz".as_slice()));
+    equal(&rt, wire.dial(8), Ok(()));
+    equal(&rt, (wire.port(), wire.dials()), (Some(8), OTHER));
     drop(wire);
     Ok(())
 }

@@ -15,7 +15,7 @@ module _ {E : Type 0} (dock : DockView) (faults : ℕ) (apart : dock.ends ≡ No
     came = tt;
     kept = record { taken = refl; coming = refl };
     nothing_sent = record { sent = λ s. refl; room = λ s. refl };
-    port = refl;
+    listens = refl;
     ended = refl;
     ended_at = refl;
     ends = refl;
@@ -34,7 +34,7 @@ module _ {E : Type 0} (dock : DockView) (faults : ℕ) (apart : dock.ends ≡ No
     same_ends = refl;
     nothing_sent = record { sent = λ s. refl; room = λ s. refl };
     nothing_taken = record { taken = refl; coming = refl };
-    port = refl;
+    listens = refl;
     count = record { cause = record { later = later; failed = rose }; excused = rw apart tt; calm = rw apart tt };
     calm_told = λ tells. tt;
     within = rw apart tt;
@@ -71,7 +71,7 @@ module _ {E : Type 0} (dock : DockView) (faults : ℕ) (apart : dock.ends ≡ No
     };
     others = λ other differs. (refl, refl);
     nothing_taken = record { taken = refl; coming = refl };
-    port = refl;
+    listens = refl;
     ended = refl;
     ended_at = refl;
     ends = refl;

@@ -1,6 +1,7 @@
 -- A disk, as contracts see it, and what each call does to it.
-use Rattle.std.specs.Prelude.{◌≡◌, ℕ, ◌-◌, ◌<◌, ◌≤◌, List, length, take, drop, Option, Some, None, Result, IfSome, IfOk, IsSome, OnOk, OnErr}
+use Rattle.std.specs.Prelude.{◌≡◌, ℕ, ◌+◌, ◌-◌, ◌^◌, ◌<◌, ◌≤◌, min, max, List, length, take, drop, Option, Some, None, Result, IfSome, IfOk, IsSome, OnOk, OnErr, option_map}
 use Rattle.fugue_ids.specs.Causes.{HasCause}
+use Rattle.outer_ports.specs.Calls.{risen}
 use Rattle.outer_ports.specs.Counts.{FailsOnlyFor}
 use Rattle.outer_ports.specs.disk.States.{IsHonest, wrote, durable}
 use Rattle.outer_ports.specs.disk.Moments.{History, after, MayHaveWritten}
@@ -19,6 +20,10 @@ pub record DiskView : Type 0 where
   pub faults : ℕ
   -- what still fits, where calls are sure
   pub room : Option RoomView
+  -- how often its size was asked for, where the object tells it
+  pub sizes : Option ℕ
+  -- how far it was read: the end of the range that goes furthest of the reads that succeeded, where the object tells it
+  pub reach : Option ℕ
 
 -- it tells its states
 abbrev pub DiskTells : DiskView → Type 0
@@ -29,7 +34,16 @@ abbrev pub spent : ℕ → Option RoomView → Option RoomView
 spent n None = None
 spent n (Some room) = Some (record { bytes = room.bytes - n; calls = room.calls - 1 })
 
--- A call that only looks: it changes nothing but the count, and is sure where calls are. Here and below, where the disk
+-- how far it was read once n bytes were asked for from an offset on, up to the greatest number
+abbrev pub reached : (at n before : ℕ) → ℕ
+reached at n before = max before (min (at + n) (2 ^ 64 - 1))
+
+-- it was not asked for its size, and not read
+pub record IsUnread (old new : DiskView) : Type 0 where
+  pub sizes : new.sizes ≡ old.sizes
+  pub reach : new.reach ≡ old.reach
+
+-- A call that only looks: it changes nothing but the count, and what was asked for, and is sure where calls are. Here and below, where the disk
 -- tells, the count rises only with an error.
 pub record Looks {E T : Type 0} (old new : DiskView) (result : Result T E) : Type 0 where
   pub past : new.past ≡ old.past
@@ -48,6 +62,9 @@ pub record IsSureStep {E T : Type 0} (room : RoomView) (n : ℕ) (old new : Disk
 pub record Sizes {E : Type 0} (old new : DiskView) (result : Result ℕ E) : Type 0 where
   pub told : IfOk result (λ n. IfSome old.past (λ h. n ≡ length h.last.seen))
   pub looks : Looks old new result
+  pub asked : OnOk result (new.sizes ≡ option_map risen old.sizes)
+  pub unasked : OnErr result (new.sizes ≡ old.sizes)
+  pub reach : new.reach ≡ old.reach
 
 -- n bytes of those from an offset on, none only where there is none or no room
 pub record GivesAt (seen : List ℕ) (at n : ℕ) (buf : List ℕ) : Type 0 where
@@ -59,6 +76,9 @@ pub record ReadsAt {E : Type 0} (old new : DiskView) (result : Result ℕ E) (at
   pub bound : IfOk result (λ n. n ≤ length buf)
   pub told : IfOk result (λ n. IfSome old.past (λ h. GivesAt h.last.seen at n buf))
   pub looks : Looks old new result
+  pub asked : OnOk result (new.reach ≡ option_map (reached at (length buf)) old.reach)
+  pub unasked : OnErr result (new.reach ≡ old.reach)
+  pub sizes : new.sizes ≡ old.sizes
 
 -- all bytes are written; where the call failed, their range may hold anything after a crash
 pub record WritesAt {E T : Type 0} (old new : DiskView) (result : Result T E) (at : ℕ) (bytes : List ℕ) : Type 0 where
@@ -66,6 +86,7 @@ pub record WritesAt {E T : Type 0} (old new : DiskView) (result : Result T E) (a
   pub torn : OnErr result (MayHaveWritten at (length bytes) old.past new.past)
   pub room : OnOk result (new.room ≡ spent (length bytes) old.room)
   pub same_room : OnErr result (new.room ≡ old.room)
+  pub unread : IsUnread old new
   pub cause : HasCause old.faults new.faults result
   pub sure : IfSome old.room (λ room. IsSureStep room (length bytes) old new result)
   pub calm_told : DiskTells old → OnOk result (new.faults ≡ old.faults)
@@ -77,6 +98,7 @@ pub record Syncs {E T : Type 0} (old new : DiskView) (result : Result T E) : Typ
   pub past : OnErr result (new.past ≡ old.past)
   pub room : OnOk result (new.room ≡ spent 0 old.room)
   pub same_room : OnErr result (new.room ≡ old.room)
+  pub unread : IsUnread old new
   pub cause : HasCause old.faults new.faults result
   pub sure : IfSome old.room (λ room. IsSureStep room 0 old new result)
   pub calm_told : DiskTells old → OnOk result (new.faults ≡ old.faults)

@@ -12,27 +12,33 @@ pub record MemDiskView : Type 0 where
   pub ready : ℕ
   -- for how many further bytes memory is there
   pub room : ℕ
+  -- how often its size was asked for, and how far it was read
+  pub sizes : ℕ
+  pub reach : ℕ
 
 pub record SureDiskView : Type 0 where
   pub past : History
   pub room : RoomView
   pub faults : ℕ
+  -- how often its size was asked for, and how far it was read
+  pub sizes : ℕ
+  pub reach : ℕ
 
 -- these bytes stand, and nothing has been done since
 abbrev pub untouched : List ℕ → History
 untouched bytes = record { last = at_rest bytes; before = [] }
 
--- a look fails exactly where it is to fail
-pub record MemLooks {E T : Type 0} (old new : MemDiskView) (result : Result T E) : Type 0 where
+-- a look fails exactly where it is to fail; else this is what was asked for then
+pub record MemLooks {E T : Type 0} (asked old new : MemDiskView) (result : Result T E) : Type 0 where
   pub fails : IsErr result ↔ FailsNext old.calls
   pub failed : OnErr result (new ≡ record old { calls = failed old.calls })
-  pub passed : OnOk result (new ≡ record old { calls = passed old.calls })
+  pub passed : OnOk result (new ≡ record asked { calls = passed old.calls })
 
 -- A write or a sync of n bytes that is to fail does. Another fails only where it needs further memory, so that as many
 -- writes as calls are listed can fail behind it, and then nothing is done. One that is taken leaves memory for those.
 pub record MemSteps {E T : Type 0} (n : ℕ) (next : History) (old new : MemDiskView) (result : Result T E) : Type 0 where
   pub fails : FailsNext old.calls → IsErr result
-  pub taken : OnOk result (new ≡ record { past = next; calls = passed old.calls; ready = length old.calls.listed; room = new.room })
+  pub taken : OnOk result (new ≡ record old { past = next; calls = passed old.calls; ready = length old.calls.listed; room = new.room })
   pub counts : OnErr result (new.calls ≡ failed old.calls)
   pub wanting : OnErr result (FailsNext old.calls ⊎ (new ≡ record old { calls = failed old.calls }))
   pub short : OnErr result (FailsNext old.calls ⊎ (old.room < n) ⊎ (old.ready ≤ length old.calls.listed))
@@ -41,7 +47,7 @@ pub record MemSteps {E T : Type 0} (n : ℕ) (next : History) (old new : MemDisk
 pub record MemDiskWrites {E T : Type 0} (old new : MemDiskView) (result : Result T E) (at : ℕ) (bytes : List ℕ) : Type 0 where
   pub steps : MemSteps (length bytes) (stepped (wrote at bytes) old.past) old new result
   pub torn : FailsNext old.calls → 0 < old.ready
-      → new ≡ record { past = stepped (tried at (length bytes)) old.past; calls = failed old.calls; ready = old.ready - 1; room = old.room }
+      → new ≡ record old { past = stepped (tried at (length bytes)) old.past; calls = failed old.calls; ready = old.ready - 1 }
   pub may_tear : FailsNext old.calls → (new.past ≡ old.past) ⊎ (new.past ≡ stepped (tried at (length bytes)) old.past)
 
 -- a sync that fails does nothing
@@ -52,5 +58,5 @@ pub record MemSyncs {E T : Type 0} (old new : MemDiskView) (result : Result T E)
 -- a write or a sync of n bytes fails exactly where the bytes, or the call, have no room
 pub record SureSteps {E T : Type 0} (n : ℕ) (next : History) (old new : SureDiskView) (result : Result T E) : Type 0 where
   pub fits : IsOk result ↔ ((n ≤ old.room.bytes) × (0 < old.room.calls))
-  pub taken : OnOk result (new ≡ record { past = next; room = record { bytes = old.room.bytes - n; calls = old.room.calls - 1 }; faults = old.faults })
+  pub taken : OnOk result (new ≡ record old { past = next; room = record { bytes = old.room.bytes - n; calls = old.room.calls - 1 } })
   pub failed : OnErr result (new ≡ record old { faults = risen old.faults })

@@ -3,14 +3,17 @@ use Rattle.std.specs.Prelude.{◌≡◌, ◌≢◌, ℕ, ◌-◌, ◌<◌, List,
 use Rattle.std.specs.Io.KnownBytes.{append_known}
 use Rattle.fugue_ids.specs.Outs.{OutView, WritesSome}
 use Rattle.outer_ports.specs.Counts.{FailsOnlyFor}
+use Rattle.outer_ports.specs.Latest.{once_more}
 use Rattle.outer_ports.specs.dock.Steps.{Fits, with_bytes, GivesSome}
 use Rattle.outer_ports.specs.declared.dock.DockStep.{DockStep}
+use Rattle.outer_ports.specs.declared.dock.Listening.{Listening}
+use Rattle.outer_ports.specs.declared.latest.Latest.{Latest}
 use Rattle.outer_ports.specs.declared.dock.mem_dock.MemStep.{MemStep}
 
 -- each told only by an object that tells it
 pub record DockView : Type 0 where
-  -- the port last listened on
-  pub port : Option (Option ℕ)
+  -- how often it listened, and the last time
+  pub listens : Option (Latest Listening)
   -- the steps that were taken, in order
   pub taken : Option (List MemStep)
   -- the steps to come, in order
@@ -28,9 +31,9 @@ pub record DockView : Type 0 where
   -- how many further sessions can be ended, where calls are sure
   pub ends : Option ℕ
 
--- it tells the port, the steps, what was sent to each session, and which were ended, and when
+-- it tells when it listened, the steps, what was sent to each session, and which were ended, and when
 pub record DockTells (dock : DockView) : Type 0 where
-  pub port : IsSome dock.port
+  pub listens : IsSome dock.listens
   pub taken : IsSome dock.taken
   pub coming : IsSome dock.coming
   pub sent : (session : ℕ) → IsSome (dock.sent session)
@@ -57,11 +60,19 @@ pub record TakesNothing (old new : DockView) : Type 0 where
   pub taken : new.taken ≡ old.taken
   pub coming : new.coming ≡ old.coming
 
--- The port is the one listened on; nothing at an error. Here and below, where the dock tells, the count rises only with an
+-- the dock listens on the port where it stands
+abbrev pub listening_of : (port : ℕ) → DockView → Listening
+listening_of port dock = record { port = port; taken = option_map length dock.taken }
+
+-- it listened on the port once, behind the steps that were taken at first and before all others
+abbrev pub ListensOnce : (old new : DockView) → (port : ℕ) → Type 0
+ListensOnce old new port = new.listens ≡ option_map (once_more (listening_of port old)) old.listens
+
+-- It listens on the port once; nothing at an error. Here and below, where the dock tells, the count rises only with an
 -- error.
 pub record Listens {E T : Type 0} (old new : DockView) (result : Result T E) (port : ℕ) : Type 0 where
-  pub listened : OnOk result (new.port ≡ option_map (λ before. Some port) old.port)
-  pub kept : OnErr result (new.port ≡ old.port)
+  pub listened : OnOk result (ListensOnce old new port)
+  pub kept : OnErr result (new.listens ≡ old.listens)
   pub nothing_sent : SendsNothing old new
   pub nothing_taken : TakesNothing old new
   pub ended : new.ended ≡ old.ended
@@ -77,7 +88,7 @@ pub record Takes {E : Type 0} (old new : DockView) (result : Result DockStep E) 
   pub came : IfOk result (λ step. GivesSome old.coming new.coming (with_bytes step buf))
   pub kept : OnErr result (TakesNothing old new)
   pub nothing_sent : SendsNothing old new
-  pub port : new.port ≡ old.port
+  pub listens : new.listens ≡ old.listens
   pub ended : new.ended ≡ old.ended
   pub ended_at : new.ended_at ≡ old.ended_at
   pub ends : new.ends ≡ old.ends
@@ -89,7 +100,7 @@ pub record Sends {E : Type 0} (old new : DockView) (result : Result ℕ E) (sess
   pub writes : WritesSome (out_to session old) (out_to session new) result piece
   pub others : (other : ℕ) → other ≢ session → (new.sent other ≡ old.sent other) × (new.room other ≡ old.room other)
   pub nothing_taken : TakesNothing old new
-  pub port : new.port ≡ old.port
+  pub listens : new.listens ≡ old.listens
   pub ended : new.ended ≡ old.ended
   pub ended_at : new.ended_at ≡ old.ended_at
   pub ends : new.ends ≡ old.ends
@@ -105,7 +116,7 @@ pub record Ends {E T : Type 0} (old new : DockView) (result : Result T E) (sessi
   pub same_ends : OnErr result (new.ends ≡ old.ends)
   pub nothing_sent : SendsNothing old new
   pub nothing_taken : TakesNothing old new
-  pub port : new.port ≡ old.port
+  pub listens : new.listens ≡ old.listens
   pub count : FailsOnlyFor old.ends (λ ends. ends ≡ 0) old.faults new.faults result
   pub calm_told : DockTells old → OnOk result (new.faults ≡ old.faults)
   pub within : IfSome old.ends (λ ends. OnOk result (0 < ends))

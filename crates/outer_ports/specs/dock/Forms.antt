@@ -1,14 +1,16 @@
 -- The docks in memory, as contracts see them, and what a call does to each.
-use Rattle.std.specs.Prelude.{◌≡◌, ◌⊎◌, ◌↔◌, ℕ, ◌-◌, ◌<◌, min, if◌then◌else◌, List, [], ◌∷◌, ◌++◌, length, take, Option, Some, Result, IsErr, IfOk, OnOk, OnErr}
+use Rattle.std.specs.Prelude.{◌≡◌, ◌⊎◌, ◌↔◌, ℕ, ◌-◌, ◌<◌, min, if◌then◌else◌, List, [], ◌∷◌, ◌++◌, length, take, Some, Result, IsErr, IfOk, OnOk, OnErr}
 use Rattle.outer_ports.specs.Calls.{CallsView, FailsNext, passed, failed, risen}
+use Rattle.outer_ports.specs.Latest.{once_more}
 use Rattle.outer_ports.specs.dock.Steps.{Gives, with_bytes, opens}
 use Rattle.outer_ports.specs.dock.Transcripts.{TranscriptView, sent_by, room_by}
 use Rattle.outer_ports.specs.declared.dock.DockStep.{DockStep}
+use Rattle.outer_ports.specs.declared.dock.Listening.{Listening}
+use Rattle.outer_ports.specs.declared.latest.Latest.{Latest}
 use Rattle.outer_ports.specs.declared.dock.mem_dock.MemStep.{MemStep}
 
 pub record MemDockView : Type 0 where
-  -- the port last listened on
-  pub port : Option ℕ
+  pub listens : Latest Listening
   pub taken : List MemStep
   pub coming : List MemStep
   -- how many further steps it gives with no further memory
@@ -24,8 +26,7 @@ pub record MemDockView : Type 0 where
   pub calls : CallsView
 
 pub record SureDockView : Type 0 where
-  -- the port last listened on
-  pub port : Option ℕ
+  pub listens : Latest Listening
   pub taken : List MemStep
   pub coming : List MemStep
   pub faults : ℕ
@@ -43,11 +44,15 @@ pub record HasRooms (steps : List MemStep) (room : ℕ) (transcripts : List Tran
   pub sent : (session : ℕ) → sent_by transcripts session ≡ []
   pub fits : (session : ℕ) → room_by transcripts session ≡ if opens steps session then room else 0
 
+-- a dock listens on the port behind the steps that were taken
+abbrev pub listening_at : (port : ℕ) → (taken : List MemStep) → Listening
+listening_at port taken = record { port = port; taken = Some (length taken) }
+
 -- listening fails exactly where it is to fail
 pub record MemListens {E T : Type 0} (old new : MemDockView) (result : Result T E) (port : ℕ) : Type 0 where
   pub fails : IsErr result ↔ FailsNext old.calls
   pub refused : OnErr result (new ≡ record old { calls = failed old.calls })
-  pub listened : OnOk result (new ≡ record old { port = Some port; calls = passed old.calls })
+  pub listened : OnOk result (new ≡ record old { listens = once_more (listening_at port old.taken) old.listens; calls = passed old.calls })
 
 -- A call fails where it is to fail and where no step is left, and else only where the step needs further memory. Otherwise
 -- it gives all of the next step that the piece and the buffer allow.

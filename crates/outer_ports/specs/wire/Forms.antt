@@ -1,11 +1,13 @@
 -- The wires in memory, as contracts see them, and what a call does to each.
-use Rattle.std.specs.Prelude.{◌≡◌, ◌↔◌, ℕ, List, Option, Some, Result, IsErr, OnOk, OnErr}
+use Rattle.std.specs.Prelude.{◌≡◌, ◌↔◌, ℕ, List, length, Some, Result, IsErr, OnOk, OnErr}
 use Rattle.outer_ports.specs.Calls.{CallsView, FailsNext, passed, failed}
+use Rattle.outer_ports.specs.Latest.{once_more}
+use Rattle.outer_ports.specs.declared.latest.Latest.{Latest}
+use Rattle.outer_ports.specs.declared.wire.Dial.{Dial}
 use Rattle.outer_ports.specs.Forms.{MemSourceView, MemSinkView, SureSourceView, SureSinkView, MemReads, MemWrites, SureReads, SureWrites}
 
 pub record MemWireView : Type 0 where
-  -- the port last dialled
-  pub port : Option ℕ
+  pub dials : Latest Dial
   pub left : List ℕ
   pub said : List ℕ
   -- the most bytes that a call gives or takes
@@ -15,8 +17,7 @@ pub record MemWireView : Type 0 where
   pub calls : CallsView
 
 pub record SureWireView : Type 0 where
-  -- the port last dialled
-  pub port : Option ℕ
+  pub dials : Latest Dial
   pub left : List ℕ
   pub said : List ℕ
   -- the most bytes that a call gives or takes
@@ -37,11 +38,15 @@ sure_source_of wire = record { left = wire.left; piece = wire.piece }
 abbrev pub sure_sink_of : SureWireView → SureSinkView
 sure_sink_of wire = record { written = wire.said; piece = wire.piece; room = wire.room; faults = wire.faults }
 
+-- the port is dialled behind what was written, with this left to read
+abbrev pub dial_at : (port : ℕ) → (said left : List ℕ) → Dial
+dial_at port said left = record { port = port; said = Some (length said); left = Some (length left) }
+
 -- dialling fails exactly where it is to fail
 pub record MemDials {E T : Type 0} (old new : MemWireView) (result : Result T E) (port : ℕ) : Type 0 where
   pub fails : IsErr result ↔ FailsNext old.calls
   pub refused : OnErr result (new ≡ record old { calls = failed old.calls })
-  pub dialled : OnOk result (new ≡ record old { port = Some port; calls = passed old.calls })
+  pub dialled : OnOk result (new ≡ record old { dials = once_more (dial_at port old.said old.left) old.dials; calls = passed old.calls })
 
 -- a read, as of a source in memory
 pub record MemWireReads {E : Type 0} (old new : MemWireView) (result : Result ℕ E) (buf : List ℕ) : Type 0 where

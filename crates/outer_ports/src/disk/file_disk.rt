@@ -42,7 +42,7 @@ impl FileDisk {
         opening: Opening,
     ) -> io::Result<FileDisk>
         ensures seen { IfOk result
-            (λ disk. ⟦<FileDisk as Disk>⟧.seen disk ≡ record { past = None; faults = 0; room = None }) }
+            (λ disk. ⟦<FileDisk as Disk>⟧.seen disk ≡ record { past = None; faults = 0; room = None; sizes = None; reach = None }) }
         ensures made { IfOk result (λ disk. IsTrue disk.is_made → opening ≡ Creating) }
         ensures opening { IfOk result (λ disk. disk.opening ≡ opening) }
         ensures written { IfOk result (λ disk. IsFalse disk.has_failed_write) }
@@ -68,7 +68,7 @@ impl FileDisk {
     /// A disk of no file, for whoever has none to open: each call on it fails.
     pub fn closed() -> FileDisk
         ensures file { result.file ≡ None }
-        ensures seen { ⟦<FileDisk as Disk>⟧.seen result ≡ record { past = None; faults = 0; room = None } }
+        ensures seen { ⟦<FileDisk as Disk>⟧.seen result ≡ record { past = None; faults = 0; room = None; sizes = None; reach = None } }
         ensures made { IsFalse result.is_made }
         ensures written { IsFalse result.has_failed_write }
         ensures synced { IsFalse result.has_failed_sync }
@@ -181,7 +181,7 @@ fn open_file<R: Files<File = File>>(files: &R, path: &str, opening: Opening) -> 
 }
 
 impl Disk for FileDisk {
-    ghost seen = { λ d. record { past = None; faults = d.faults; room = None } };
+    ghost seen = { λ d. record { past = None; faults = d.faults; room = None; sizes = None; reach = None } };
 
     fn size(&mut self) -> Result<u64, Failed>
         ensures sizes { Sizes (⟦<FileDisk as Disk>⟧.seen self.old) (⟦<FileDisk as Disk>⟧.seen self.new) result }

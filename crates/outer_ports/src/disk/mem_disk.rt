@@ -1,12 +1,15 @@
 ghost use Rattle.std.specs.Prelude.{◌≡◌, ◌≤◌, ◌-◌, [], length, min, Some, None, IfOk};
 ghost use Rattle.outer_ports.specs.disk.States.{IsHonest, IsCrashImage};
-ghost use Rattle.outer_ports.specs.disk.Disks.{Sizes, ReadsAt, WritesAt, Syncs};
+ghost use Rattle.outer_ports.specs.Calls.{risen};
+ghost use Rattle.outer_ports.specs.disk.Disks.{Sizes, ReadsAt, WritesAt, Syncs, reached};
 ghost use Rattle.outer_ports.specs.disk.Picks.{picked};
 ghost use Rattle.outer_ports.specs.disk.Forms.{untouched, MemLooks, MemDiskWrites, MemSyncs};
 
 use super::kept::Kept;
+use super::reaching::reach_to;
 use crate::Disk;
 use crate::calls::Calls;
+use crate::faults::raise;
 use fugue_ids::{Failed, NoMemory};
 use std::alloc::Global;
 use std::marker::Model;
@@ -30,6 +33,10 @@ pub struct MemDisk {
     calls: Calls,
     /// How many steps are made room for at a time: one more than calls are listed.
     ahead: usize,
+    /// How often the size was asked for.
+    sizes: u64,
+    /// How far it was read.
+    reach: u64,
 }
 
 impl Model for MemDisk {
@@ -38,7 +45,14 @@ impl Model for MemDisk {
 
     ghost Value = { MemDiskView };
 
-    ghost view = { λ d. record { past = d.kept.past; calls = d.calls; ready = d.kept.calls; room = d.kept.room } };
+    ghost view = { λ d. record {
+      past = d.kept.past;
+      calls = d.calls;
+      ready = d.kept.calls;
+      room = d.kept.room;
+      sizes = d.sizes;
+      reach = d.reach;
+    } };
 
     ghost invariant = { λ d. d.ahead ≡ length d.calls.listed + 1 };
 }
@@ -48,7 +62,7 @@ impl MemDisk {
     /// A file of these bytes, all of them settled. The calls listed in `fail`, counted from 0, fail.
     pub fn new(alloc: Global, bytes: Vec<u8>, fail: Vec<u32>) -> MemDisk
         ensures seen { ⟦<MemDisk as Disk>⟧.seen result
-            ≡ record { past = Some (untouched bytes.items); faults = 0; room = None } }
+            ≡ record { past = Some (untouched bytes.items); faults = 0; room = None; sizes = Some 0; reach = Some 0 } }
         ensures honest { IsHonest result.past.last }
         ensures calls { result.calls ≡ record { made = 0; listed = fail.items; faults = 0 } }
     {
@@ -58,6 +72,8 @@ impl MemDisk {
             kept: Kept::new(alloc, bytes),
             calls: Calls::new(fail),
             ahead,
+            sizes: 0,
+            reach: 0,
         }
     }
 
@@ -74,23 +90,32 @@ impl MemDisk {
 }
 
 impl Disk for MemDisk {
-    ghost seen = { λ d. record { past = Some d.past; faults = d.calls.faults; room = None } };
+    ghost seen = { λ d. record {
+      past = Some d.past;
+      faults = d.calls.faults;
+      room = None;
+      sizes = Some d.sizes;
+      reach = Some d.reach;
+    } };
 
     fn size(&mut self) -> Result<u64, Failed>
         ensures sizes { Sizes (⟦<MemDisk as Disk>⟧.seen self.old) (⟦<MemDisk as Disk>⟧.seen self.new) result }
-        ensures form { MemLooks self.old self.new result }
+        ensures form { MemLooks (record self.old { sizes = risen self.old.sizes }) self.old self.new result }
     {
         self.calls.begin()?;
+        raise(&mut self.sizes);
         Ok(self.kept.bytes().len() as u64)
     }
 
     fn read_at(&mut self, at: u64, buf: &mut [u8]) -> Result<usize, Failed>
         ensures reads { ReadsAt (⟦<MemDisk as Disk>⟧.seen self.old) (⟦<MemDisk as Disk>⟧.seen self.new)
             result at buf.new }
-        ensures form { MemLooks self.old self.new result }
+        ensures form { MemLooks (record self.old { reach = reached at (length buf.new) self.old.reach })
+            self.old self.new result }
         ensures count { IfOk result (λ n. n ≡ min (length buf.new) (length self.old.past.last.seen - at)) }
     {
         self.calls.begin()?;
+        reach_to(&mut self.reach, at, buf.len());
         Ok(self.kept.read_at(at, buf))
     }
 

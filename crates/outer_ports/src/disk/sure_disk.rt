@@ -1,12 +1,14 @@
 ghost use Rattle.std.specs.Prelude.{◌≡◌, ◌≤◌, ◌-◌, [], length, min, Ok, Some, IfOk};
 ghost use Rattle.outer_ports.specs.disk.States.{IsHonest, IsCrashImage, wrote, durable};
 ghost use Rattle.outer_ports.specs.disk.Moments.{stepped};
-ghost use Rattle.outer_ports.specs.disk.Disks.{Sizes, ReadsAt, WritesAt, Syncs};
+ghost use Rattle.outer_ports.specs.Calls.{risen};
+ghost use Rattle.outer_ports.specs.disk.Disks.{Sizes, ReadsAt, WritesAt, Syncs, reached};
 ghost use Rattle.outer_ports.specs.disk.Picks.{picked};
 ghost use Rattle.outer_ports.specs.disk.Forms.{untouched, SureSteps};
 
 use super::kept::Kept;
 use super::mem_disk::crashed;
+use super::reaching::reach_to;
 use crate::faults::raise;
 use crate::{Disk, MemDisk, Pick};
 use fugue_ids::{Failed, NoMemory};
@@ -19,6 +21,10 @@ pub struct SureDisk {
     alloc: Global,
     kept: Kept,
     faults: u64,
+    /// How often the size was asked for.
+    sizes: u64,
+    /// How far it was read.
+    reach: u64,
 }
 
 impl Model for SureDisk {
@@ -30,6 +36,8 @@ impl Model for SureDisk {
       past = d.kept.past;
       room = record { bytes = d.kept.room; calls = d.kept.calls };
       faults = d.faults;
+      sizes = d.sizes;
+      reach = d.reach;
     } };
 }
 
@@ -43,6 +51,8 @@ impl SureDisk {
               past = Some (untouched bytes.items);
               faults = 0;
               room = Some (record { bytes = room; calls = room });
+              sizes = Some 0;
+              reach = Some 0;
             }) }
         ensures honest { IfOk result (λ d. IsHonest d.past.last) }
     {
@@ -52,6 +62,8 @@ impl SureDisk {
             alloc,
             kept,
             faults: 0,
+            sizes: 0,
+            reach: 0,
         })
     }
 
@@ -68,22 +80,30 @@ impl SureDisk {
 }
 
 impl Disk for SureDisk {
-    ghost seen = { λ d. record { past = Some d.past; faults = d.faults; room = Some d.room } };
+    ghost seen = { λ d. record {
+      past = Some d.past;
+      faults = d.faults;
+      room = Some d.room;
+      sizes = Some d.sizes;
+      reach = Some d.reach;
+    } };
 
     fn size(&mut self) -> Result<u64, Failed>
         ensures sizes { Sizes (⟦<SureDisk as Disk>⟧.seen self.old) (⟦<SureDisk as Disk>⟧.seen self.new) result }
-        ensures same { self.new ≡ self.old }
+        ensures asked { self.new ≡ record self.old { sizes = risen self.old.sizes } }
         ensures form { result ≡ Ok (length self.old.past.last.seen) }
     {
+        raise(&mut self.sizes);
         Ok(self.kept.bytes().len() as u64)
     }
 
     fn read_at(&mut self, at: u64, buf: &mut [u8]) -> Result<usize, Failed>
         ensures reads { ReadsAt (⟦<SureDisk as Disk>⟧.seen self.old) (⟦<SureDisk as Disk>⟧.seen self.new)
             result at buf.new }
-        ensures same { self.new ≡ self.old }
+        ensures asked { self.new ≡ record self.old { reach = reached at (length buf.new) self.old.reach } }
         ensures form { result ≡ Ok (min (length buf.new) (length self.old.past.last.seen - at)) }
     {
+        reach_to(&mut self.reach, at, buf.len());
         Ok(self.kept.read_at(at, buf))
     }
 

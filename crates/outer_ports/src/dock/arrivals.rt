@@ -69,6 +69,13 @@ impl Arrivals {
         self.at == self.steps.len()
     }
 
+    /// How many steps were taken.
+    pub(super) fn count(&self) -> usize
+        ensures { result ≡ length self.now.taken }
+    {
+        self.parts.len()
+    }
+
     /// Takes memory for so many calls of `take`.
     pub(super) fn prepare(&mut self, calls: usize) -> Result<(), AllocError>
         ensures ok { OnOk result (self.new ≡ record self.old { ready = calls; spare = self.new.spare }) }

@@ -1,4 +1,5 @@
-ghost use Rattle.std.specs.Prelude.{◌≡◌, ◌≤◌, ◌<◌, [], length, All, Some, None};
+ghost use Rattle.std.specs.Prelude.{◌≡◌, ◌≤◌, ◌<◌, [], length, All, Some, None, option_map};
+ghost use Rattle.outer_ports.specs.Latest.{never};
 ghost use Rattle.outer_ports.specs.dock.Steps.{HasBytes};
 ghost use Rattle.outer_ports.specs.dock.Transcripts.{sent_by};
 ghost use Rattle.outer_ports.specs.dock.Docks.{Listens, Takes, Sends, Ends};
@@ -8,7 +9,7 @@ use super::arrivals::Arrivals;
 use super::transcripts::Transcripts;
 use crate::calls::Calls;
 use crate::reserved::{add, reserve_both};
-use crate::{Dock, DockStep};
+use crate::{Dock, DockStep, Latest, Listening};
 use fugue_ids::{ByteList, Failed};
 use std::alloc::Global;
 use std::marker::Model;
@@ -26,7 +27,7 @@ pub enum MemStep {
 #[derive(Drop)]
 pub struct MemDock {
     alloc: Global,
-    port: Option<u16>,
+    listens: Latest<Listening>,
     arrivals: Arrivals,
     transcripts: Transcripts,
     ended: Vec<u32>,
@@ -43,7 +44,7 @@ impl Model for MemDock {
     ghost Value = { MemDockView };
 
     ghost view = { λ d. record {
-      port = d.port;
+      listens = d.listens;
       taken = d.arrivals.taken;
       coming = d.arrivals.coming;
       spare_steps = d.arrivals.spare;
@@ -64,7 +65,7 @@ impl MemDock {
         requires piece { 1 ≤ piece }
         requires steps { All HasBytes steps.items }
         ensures seen { ⟦<MemDock as Dock>⟧.seen result ≡ record {
-          port = Some None;
+          listens = Some never;
           taken = Some [];
           coming = Some steps.items;
           sent = λ s. Some [];
@@ -79,7 +80,7 @@ impl MemDock {
     {
         MemDock {
             alloc,
-            port: None,
+            listens: Latest::none(),
             arrivals: Arrivals::new(alloc, steps),
             transcripts: Transcripts::new(alloc),
             ended: Vec::new(alloc),
@@ -96,11 +97,18 @@ impl MemDock {
         self.transcripts.sent(session)
     }
 
+    /// How often it listened, and the last time.
+    pub fn listens(&self) -> Latest<Listening>
+        ensures { result ≡ self.now.listens }
+    {
+        self.listens
+    }
+
     /// The port last listened on.
     pub fn port(&self) -> Option<u16>
-        ensures { result ≡ self.now.port }
+        ensures { result ≡ option_map (λ l. l.port) self.now.listens.last }
     {
-        self.port
+        self.listens.last.map(|l| l.port)
     }
 
     /// The sessions that were ended, in order.
@@ -113,7 +121,7 @@ impl MemDock {
 
 impl Dock for MemDock {
     ghost seen = { λ d. record {
-      port = Some d.port;
+      listens = Some d.listens;
       taken = Some d.taken;
       coming = Some d.coming;
       sent = λ s. Some (sent_by d.transcripts s);
@@ -129,7 +137,10 @@ impl Dock for MemDock {
         ensures form { MemListens self.old self.new result port }
     {
         self.calls.begin()?;
-        self.port = Some(port);
+        self.listens.add(Listening {
+            port,
+            taken: Some(self.arrivals.count()),
+        });
         Ok(())
     }
 

@@ -1,14 +1,15 @@
-ghost use Rattle.std.specs.Prelude.{ℕ, ◌≡◌, ◌≤◌, ◌<◌, [], length, if◌then◌else◌, All, Ok, Some, None, IfOk};
+ghost use Rattle.std.specs.Prelude.{ℕ, ◌≡◌, ◌≤◌, ◌<◌, [], length, if◌then◌else◌, All, Ok, Some, IfOk, option_map};
+ghost use Rattle.outer_ports.specs.Latest.{never, once_more};
 ghost use Rattle.outer_ports.specs.dock.Steps.{HasBytes, opens};
 ghost use Rattle.outer_ports.specs.dock.Transcripts.{sent_by, room_by};
 ghost use Rattle.outer_ports.specs.dock.Docks.{Listens, Takes, Sends, Ends};
-ghost use Rattle.outer_ports.specs.dock.Forms.{HasRooms, SureTakes, SureSends, SureEnds};
+ghost use Rattle.outer_ports.specs.dock.Forms.{HasRooms, SureTakes, SureSends, SureEnds, listening_at};
 
 use super::arrivals::{Arrivals, most_calls_of};
 use super::transcripts::Transcripts;
 use crate::faults::raise;
 use crate::reserved::add;
-use crate::{Dock, DockStep, MemStep};
+use crate::{Dock, DockStep, Latest, Listening, MemStep};
 use fugue_ids::{Failed, NoMemory};
 use std::alloc::{AllocError, Global};
 use std::marker::Model;
@@ -17,7 +18,7 @@ use std::marker::Model;
 /// A call takes no memory, and fails only where no room and no step is left.
 #[derive(Drop)]
 pub struct SureDock {
-    port: Option<u16>,
+    listens: Latest<Listening>,
     arrivals: Arrivals,
     transcripts: Transcripts,
     ended: Vec<u32>,
@@ -36,7 +37,7 @@ impl Model for SureDock {
     ghost Value = { SureDockView };
 
     ghost view = { λ d. record {
-      port = d.port;
+      listens = d.listens;
       taken = d.arrivals.taken;
       coming = d.arrivals.coming;
       transcripts = d.transcripts;
@@ -65,7 +66,7 @@ impl SureDock {
         requires piece { 1 ≤ piece }
         requires steps { All HasBytes steps.items }
         ensures made { IfOk result (λ d. d ≡ record {
-          port = None;
+          listens = never;
           taken = [];
           coming = steps.items;
           transcripts = d.transcripts;
@@ -89,7 +90,7 @@ impl SureDock {
         let mut arrivals = Arrivals::new(alloc, steps);
         arrivals.prepare(calls)?;
         Ok(SureDock {
-            port: None,
+            listens: Latest::none(),
             arrivals,
             transcripts,
             ended,
@@ -100,11 +101,18 @@ impl SureDock {
         })
     }
 
+    /// How often it listened, and the last time.
+    pub fn listens(&self) -> Latest<Listening>
+        ensures { result ≡ self.now.listens }
+    {
+        self.listens
+    }
+
     /// The port last listened on.
     pub fn port(&self) -> Option<u16>
-        ensures { result ≡ self.now.port }
+        ensures { result ≡ option_map (λ l. l.port) self.now.listens.last }
     {
-        self.port
+        self.listens.last.map(|l| l.port)
     }
 
     /// All that was sent to the session: nothing to one that was sent nothing.
@@ -137,7 +145,7 @@ fn rooms(alloc: Global, steps: &[MemStep], room: usize) -> Result<Transcripts, A
 
 impl Dock for SureDock {
     ghost seen = { λ d. record {
-      port = Some d.port;
+      listens = Some d.listens;
       coming = Some d.coming;
       taken = Some d.taken;
       sent = λ s. Some (sent_by d.transcripts s);
@@ -151,9 +159,13 @@ impl Dock for SureDock {
     fn listen(&mut self, port: u16) -> Result<(), Failed>
         ensures listens { Listens (⟦<SureDock as Dock>⟧.seen self.old)
             (⟦<SureDock as Dock>⟧.seen self.new) result port }
-        ensures form { self.new ≡ record self.old { port = Some port } }
+        ensures form { self.new
+            ≡ record self.old { listens = once_more (listening_at port self.old.taken) self.old.listens } }
     {
-        self.port = Some(port);
+        self.listens.add(Listening {
+            port,
+            taken: Some(self.arrivals.count()),
+        });
         Ok(())
     }
 

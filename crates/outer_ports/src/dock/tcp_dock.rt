@@ -55,7 +55,7 @@ impl<R: Net + Clock + AllocGlobal + Drop, E: Write + Drop> TcpDock<R, E> {
         ensures session { result.session ≡ 0 }
         ensures apart { (result.listener ≡ None) × (result.stream ≡ None) }
         ensures seen { ⟦<TcpDock<R, E> as Dock>⟧.seen result ≡ record {
-          port = None;
+          listens = None;
           taken = None;
           coming = None;
           sent = λ s. None;
@@ -185,7 +185,7 @@ fn limit_by<S: OpenStream>(clock: &impl Clock, watch: Option<Watch>, stream: &S)
 
 impl<R: Net + Clock + AllocGlobal + Drop, E: Write + Drop> Dock for TcpDock<R, E> {
     ghost seen = { λ d. record {
-      port = None;
+      listens = None;
       coming = None;
       taken = None;
       sent = λ s. None;

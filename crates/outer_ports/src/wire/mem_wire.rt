@@ -1,9 +1,11 @@
-ghost use Rattle.std.specs.Prelude.{◌≡◌, ◌≤◌, [], Some, None};
+ghost use Rattle.std.specs.Prelude.{◌≡◌, ◌≤◌, [], Some, None, option_map};
 ghost use Rattle.outer_ports.specs.wire.Wires.{Dials, WireReads, WireWrites};
+ghost use Rattle.outer_ports.specs.Latest.{never};
 ghost use Rattle.outer_ports.specs.wire.Forms.{MemDials, MemWireReads, MemWireWrites};
 
+use super::Dial;
 use crate::calls::Calls;
-use crate::{Source, SureSource, Wire};
+use crate::{Latest, Source, SureSource, Wire};
 use fugue_ids::Failed;
 use std::alloc::Global;
 use std::marker::Model;
@@ -12,7 +14,7 @@ use std::marker::Model;
 /// that it is told to, and where memory is wanting.
 #[derive(Drop)]
 pub struct MemWire {
-    port: Option<u16>,
+    dials: Latest<Dial>,
     reply: SureSource,
     said: Vec<u8>,
     calls: Calls,
@@ -26,7 +28,7 @@ impl Model for MemWire {
     ghost Value = { MemWireView };
 
     ghost view = { λ w. record {
-      port = w.port;
+      dials = w.dials;
       left = w.reply.left;
       said = w.said.items;
       piece = w.piece;
@@ -42,12 +44,12 @@ impl MemWire {
     pub fn new(alloc: Global, reply: Vec<u8>, piece: usize, fail: Vec<u32>) -> MemWire
         requires { 1 ≤ piece }
         ensures seen { ⟦<MemWire as Wire>⟧.seen result
-            ≡ record { port = Some None; left = Some reply.items; said = Some []; faults = 0; room = None } }
+            ≡ record { dials = Some never; left = Some reply.items; said = Some []; faults = 0; room = None } }
         ensures piece { result.piece ≡ piece }
         ensures calls { result.calls ≡ record { made = 0; listed = fail.items; faults = 0 } }
     {
         MemWire {
-            port: None,
+            dials: Latest::none(),
             reply: SureSource::new(reply, piece),
             said: Vec::new(alloc),
             calls: Calls::new(fail),
@@ -62,17 +64,24 @@ impl MemWire {
         &self.said
     }
 
+    /// How often it was dialled, and the last time.
+    pub fn dials(&self) -> Latest<Dial>
+        ensures { result ≡ self.now.dials }
+    {
+        self.dials
+    }
+
     /// The port last dialled.
     pub fn port(&self) -> Option<u16>
-        ensures { result ≡ self.now.port }
+        ensures { result ≡ option_map (λ d. d.port) self.now.dials.last }
     {
-        self.port
+        self.dials.last.map(|d| d.port)
     }
 }
 
 impl Wire for MemWire {
     ghost seen = { λ w. record {
-      port = Some w.port;
+      dials = Some w.dials;
       left = Some w.left;
       said = Some w.said;
       faults = w.calls.faults;
@@ -84,7 +93,11 @@ impl Wire for MemWire {
         ensures form { MemDials self.old self.new result port }
     {
         self.calls.begin()?;
-        self.port = Some(port);
+        self.dials.add(Dial {
+            port,
+            said: Some(self.said.len()),
+            left: Some(self.reply.left()),
+        });
         Ok(())
     }
 

@@ -1,8 +1,10 @@
-ghost use Rattle.std.specs.Prelude.{◌≡◌, ◌≤◌, [], Ok, Some, None, IfOk};
+ghost use Rattle.std.specs.Prelude.{◌≡◌, ◌≤◌, [], Ok, Some, IfOk, option_map};
 ghost use Rattle.outer_ports.specs.wire.Wires.{Dials, WireReads, WireWrites};
-ghost use Rattle.outer_ports.specs.wire.Forms.{SureWireReads, SureWireWrites};
+ghost use Rattle.outer_ports.specs.Latest.{never, once_more};
+ghost use Rattle.outer_ports.specs.wire.Forms.{SureWireReads, SureWireWrites, dial_at};
 
-use crate::{Source, SureSink, SureSource, Wire};
+use super::Dial;
+use crate::{Latest, Source, SureSink, SureSource, Wire};
 use fugue_ids::{Failed, NoMemory, Out};
 use std::alloc::Global;
 use std::marker::Model;
@@ -11,7 +13,7 @@ use std::marker::Model;
 /// reserved. A call takes no memory, and only a write fails, where no room is left.
 #[derive(Drop)]
 pub struct SureWire {
-    port: Option<u16>,
+    dials: Latest<Dial>,
     reply: SureSource,
     said: SureSink,
 }
@@ -23,7 +25,7 @@ impl Model for SureWire {
     ghost Value = { SureWireView };
 
     ghost view = { λ w. record {
-      port = w.port;
+      dials = w.dials;
       left = w.reply.left;
       said = w.said.written;
       piece = w.said.piece;
@@ -44,12 +46,12 @@ impl SureWire {
     ) -> Result<SureWire, NoMemory>
         requires { 1 ≤ piece }
         ensures seen { IfOk result (λ w. ⟦<SureWire as Wire>⟧.seen w
-            ≡ record { port = Some None; left = Some reply.items; said = Some []; faults = 0; room = Some room }) }
+            ≡ record { dials = Some never; left = Some reply.items; said = Some []; faults = 0; room = Some room }) }
         ensures piece { IfOk result (λ w. w.piece ≡ piece) }
     {
         let said = SureSink::new(alloc, piece, room)?;
         Ok(SureWire {
-            port: None,
+            dials: Latest::none(),
             reply: SureSource::new(reply, piece),
             said,
         })
@@ -62,17 +64,24 @@ impl SureWire {
         self.said.written()
     }
 
+    /// How often it was dialled, and the last time.
+    pub fn dials(&self) -> Latest<Dial>
+        ensures { result ≡ self.now.dials }
+    {
+        self.dials
+    }
+
     /// The port last dialled.
     pub fn port(&self) -> Option<u16>
-        ensures { result ≡ self.now.port }
+        ensures { result ≡ option_map (λ d. d.port) self.now.dials.last }
     {
-        self.port
+        self.dials.last.map(|d| d.port)
     }
 }
 
 impl Wire for SureWire {
     ghost seen = { λ w. record {
-      port = Some w.port;
+      dials = Some w.dials;
       left = Some w.left;
       said = Some w.said;
       faults = w.faults;
@@ -81,9 +90,14 @@ impl Wire for SureWire {
 
     fn dial(&mut self, port: u16) -> Result<(), Failed>
         ensures dials { Dials (⟦<SureWire as Wire>⟧.seen self.old) (⟦<SureWire as Wire>⟧.seen self.new) result port }
-        ensures form { self.new ≡ record self.old { port = Some port } }
+        ensures form { self.new
+            ≡ record self.old { dials = once_more (dial_at port self.old.said self.old.left) self.old.dials } }
     {
-        self.port = Some(port);
+        self.dials.add(Dial {
+            port,
+            said: Some(self.said.written().len()),
+            left: Some(self.reply.left()),
+        });
         Ok(())
     }
 

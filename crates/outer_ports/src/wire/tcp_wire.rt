@@ -74,7 +74,7 @@ impl<R: Net + AllocGlobal + Drop, E: Write + Drop> TcpWire<R, E> {
     /// No port is dialled yet: until then reads and writes fail.
     pub fn new(net: R, errors: E) -> TcpWire<R, E>
         ensures seen { ⟦<TcpWire<R, E> as Wire>⟧.seen result
-            ≡ record { port = None; left = None; said = None; faults = 0; room = None } }
+            ≡ record { dials = None; left = None; said = None; faults = 0; room = None } }
         ensures apart { result.stream ≡ None }
     {
         TcpWire {
@@ -87,7 +87,7 @@ impl<R: Net + AllocGlobal + Drop, E: Write + Drop> TcpWire<R, E> {
 }
 
 impl<R: Net + AllocGlobal + Drop, E: Write + Drop> Wire for TcpWire<R, E> {
-    ghost seen = { λ w. record { port = None; left = None; said = None; faults = w.faults; room = None } };
+    ghost seen = { λ w. record { dials = None; left = None; said = None; faults = w.faults; room = None } };
 
     fn dial(&mut self, port: u16) -> Result<(), Failed>
         ensures dials { Dials (⟦<TcpWire<R, E> as Wire>⟧.seen self.old) (⟦<TcpWire<R, E> as Wire>⟧.seen self.new)

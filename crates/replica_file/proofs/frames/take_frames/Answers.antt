@@ -1,7 +1,8 @@
-use Rattle.std.proofs.Common.{arith}
+use Rattle.std.proofs.Common.{arith, ◌+◌, ◌-◌}
 use Rattle.std.proofs.lemmas.Result.{err_from_is_err_and}
 use Rattle.replica_file.proofs.LoadingLemmas.{same_then}
 use Rattle.replica_file.proofs.PartLemmas.{frames_bad, frames_lacks, frames_more, one_piece_more, told_three, told_two}
+use Rattle.replica_file.proofs.ReachLemmas.{reaches_then}
 use Rattle.replica_file.proofs.ReadingLemmas.{looks_then, well}
 use Rattle.replica_file.proofs.frames.take_frames.Goals as goal
 
@@ -34,4 +35,6 @@ pieces-preserved g c =
       same = same_then c.args.loading.now.replica c.pieces.loading.replica c.take_some.new.loading.replica kept.same c.in_ok-taken.ensures.same;
       looks = looks_then ⊥ (g.H.Disk.seen c.args.disk.now) (g.H.Disk.seen c.pieces.disk) (g.H.Disk.seen c.take_some.new.disk) kept.looks
           (well _ (g.H.Disk.seen c.pieces.disk) (g.H.Disk.seen c.take_some.new.disk) (λ e. cc e) c.in_ok-taken.ensures.looks);
+      reach = reaches_then (c.args.at + c.args.word.len) (c.args.at + c.pieces.taken + (c.args.word.len - c.pieces.taken)) (c.args.at + c.args.word.len) (g.H.Disk.seen c.args.disk.now).reach (g.H.Disk.seen c.pieces.disk).reach (g.H.Disk.seen c.take_some.new.disk).reach
+          (omega arith) (omega (arith, kept.within)) kept.reach c.in_ok-taken.ensures.reach;
     }

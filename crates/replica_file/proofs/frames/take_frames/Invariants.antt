@@ -1,7 +1,7 @@
-use Rattle.std.proofs.Common.{◌-◌, ◌≤◌}
+use Rattle.std.proofs.Common.{◌+◌, ◌-◌, ◌≤◌}
 use Rattle.std.specs.Prelude.{IfSome}
 use Rattle.replica_file.specs.Loading.{IsReady, IsSameButHeld}
-use Rattle.replica_file.specs.Looks.{LooksOnly}
+use Rattle.replica_file.specs.Looks.{LooksOnly, ReadsNoFurther}
 use Rattle.replica_file.specs.Slots.{TakesSome}
 use Rattle.replica_file.proofs.PartLemmas.{Pieces}
 use Rattle.replica_file.proofs.frames.take_frames.Given as goal
@@ -14,6 +14,7 @@ invariant-pieces g l = record {
   ready : IsReady l.loading.replica;
   same : IsSameButHeld l.fn.loading.replica l.loading.replica;
   looks : LooksOnly (g.H.Disk.seen l.fn.disk) (g.H.Disk.seen l.disk) ⊥;
+  reach : ReadsNoFurther (l.fn.at + l.word.len) (g.H.Disk.seen l.fn.disk) (g.H.Disk.seen l.disk);
 }
 
 abbrev pub decreases-pieces : goal.decreases-pieces

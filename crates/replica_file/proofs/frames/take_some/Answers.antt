@@ -1,8 +1,9 @@
-use Rattle.std.proofs.Common.{ℕ, arith, refl, subst, inr}
+use Rattle.std.proofs.Common.{ℕ, ◌+◌, arith, refl, subst, inr}
 use Rattle.std.proofs.lemmas.Result.{err_from_is_err_and}
 use Rattle.replica_file.specs.Wanting.{AreWhole}
 use Rattle.replica_file.proofs.PartLemmas.{piece_bad, piece_lacks, piece_none, piece_took, piece_whole, told_all, told_one}
 use Rattle.replica_file.proofs.PieceLemmas.{lacks_none}
+use Rattle.replica_file.proofs.ReachLemmas.{reaches_so}
 use Rattle.replica_file.proofs.frames.take_some.Goals as goal
 
 pub returns-in_err-len-clause-bad : goal.returns-in_err-len-clause-bad
@@ -37,3 +38,7 @@ returns-clause-whole g c =
     let took = c.in_ok-len.ensures.took in
     told_one (g.H.Disk.seen c.args.disk.now).past (λ h told. piece_whole c.args.left.grammar h.last.seen c.args.at c.args.left.len c.min-size.result c.in_ok-piece.piece.items told (omega arith) c.in_ok-len.len took.ops took.whole (omega arith))
     c.in_ok-piece.ensures.told
+
+pub returns-clause-reach : goal.returns-clause-reach
+returns-clause-reach g c =
+    reaches_so (c.args.at + c.min-size.result) (c.args.at + c.args.left.len) (g.H.Disk.seen c.args.disk.now).reach (g.H.Disk.seen c.read_piece.new.disk).reach (omega arith) c.in_ok-piece.ensures.reach

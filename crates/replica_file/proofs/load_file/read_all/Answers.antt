@@ -1,10 +1,11 @@
-use Rattle.std.proofs.Common.{ap, subst, sym, ◌∙◌}
+use Rattle.std.proofs.Common.{ap, arith, subst, sym, ◌+◌, ◌∙◌}
 use Rattle.std.specs.Prelude.{IfSome}
 use Rattle.std.proofs.lemmas.Result.{err_from_is_err_and}
 use Rattle.origin_model.specs.edits.State.{State}
 use Rattle.replica_file.specs.Load.{Loads}
 use Rattle.replica_file.specs.Slots.{Walked, WalksOut}
 use Rattle.replica_file.proofs.PartLemmas.{told_one}
+use Rattle.replica_file.proofs.ReachLemmas.{reaches_then}
 use Rattle.replica_file.proofs.WalkLemmas.{walk_begin, walk_out}
 use Rattle.replica_file.proofs.load_file.read_all.Goals as goal
 
@@ -27,3 +28,8 @@ returns-in-Ok-clause-loads g c =
     told_one (g.H.Disk.seen c.args.disk.now).past
     (λ h out. subst (λ (s : State). Loads c.args.most h.last.seen s c.in-Ok.end) (sym c.into_replica.ensures) (walk_out h.last.seen c.args.most c.in-Ok.end c.take_slots.new.loading.replica limit out))
     (subst (λ o. IfSome o (λ h. WalksOut h.last.seen c.in-Ok.end c.take_slots.new.loading.replica)) c.in_ok-front.ensures.looks.past c.in-Ok.ensures.ends)
+
+pub returns-in-Ok-clause-reach : goal.returns-in-Ok-clause-reach
+returns-in-Ok-clause-reach g c =
+    reaches_then 14 (c.in-Ok.end.at + 1) (c.in-Ok.end.at + 1) (g.H.Disk.seen c.args.disk.now).reach (g.H.Disk.seen c.read_front.new.disk).reach (g.H.Disk.seen c.take_slots.new.disk).reach (omega (arith, c.in-Ok.ensures.behind)) (omega arith)
+    c.in_ok-front.ensures.reach c.in-Ok.ensures.reach

@@ -1,6 +1,7 @@
-use Rattle.std.proofs.Common.{◌∙◌}
+use Rattle.std.proofs.Common.{◌+◌, ◌∙◌, arith}
 use Rattle.std.proofs.lemmas.Result.{err_from_is_err_and}
 use Rattle.replica_file.proofs.PartLemmas.{told_two}
+use Rattle.replica_file.proofs.ReachLemmas.{gate_reaches, reaches_then}
 use Rattle.replica_file.proofs.SlotLemmas.{bad_frames, no_gate, slot_ends, slot_lacks}
 use Rattle.replica_file.proofs.slot.take_slot.Goals as goal
 
@@ -27,3 +28,10 @@ returns-in_err-take_frames-clause-memory g c is =
     let p = err_from_is_err_and c.from_residual-in_err-take_frames.result c.from_residual-in_err-take_frames.ensures.1 in
     told_two (g.H.Disk.seen c.args.disk.now).past (g.H.Disk.seen c.read_word.new.disk).past c.in_ok-word.ensures.looks.past
     (λ h told lacks. slot_lacks h.last.seen c.args.at c.in_ok-word.word told _ _ c.in_ok-word.ensures.short lacks) c.in_ok-word.ensures.told (c.in_err-take_frames.ensures.memory (cc (is, p.1, p.2)))
+
+pub returns-clause-reach : goal.returns-clause-reach
+returns-clause-reach g c =
+    let at = c.args.at + 5 + c.in_ok-word.word.len in
+    gate_reaches c.read_gate.result at (g.H.Disk.seen c.args.disk.now).reach (g.H.Disk.seen c.take_frames.new.disk).reach (g.H.Disk.seen c.read_gate.new.disk).reach c.read_gate.ensures.at c.read_gate.ensures.reach
+    (reaches_then (c.args.at + 1 + 4) at at (g.H.Disk.seen c.args.disk.now).reach (g.H.Disk.seen c.read_word.new.disk).reach (g.H.Disk.seen c.take_frames.new.disk).reach (omega arith) (omega arith) c.in_ok-word.ensures.reach
+    c.in_ok-take_frames.ensures.reach)

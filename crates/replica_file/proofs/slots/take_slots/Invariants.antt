@@ -1,7 +1,7 @@
 use Rattle.std.proofs.Common.{◌≡◌, ◌-◌, ◌+◌, ◌*◌, ◌≤◌}
 use Rattle.std.specs.Prelude.{IfSome, true}
 use Rattle.replica_file.specs.Loading.{IsReady, IsSameButHeld}
-use Rattle.replica_file.specs.Looks.{LooksOnly}
+use Rattle.replica_file.specs.Looks.{LooksOnly, ReadsNoFurther}
 use Rattle.replica_file.specs.Slots.{Walked}
 use Rattle.replica_file.proofs.slots.take_slots.Given as goal
 
@@ -14,6 +14,8 @@ invariant-slots g l = record {
   ready : IsReady l.loading.replica;
   same : IsSameButHeld l.fn.loading.replica l.loading.replica;
   looks : LooksOnly (g.H.Disk.seen l.fn.disk) (g.H.Disk.seen l.disk) ⊥;
+  behind : 13 ≤ l.gate.at;
+  reach : ReadsNoFurther (l.gate.at + 1) (g.H.Disk.seen l.fn.disk) (g.H.Disk.seen l.disk);
 }
 
 abbrev pub decreases-slots : goal.decreases-slots

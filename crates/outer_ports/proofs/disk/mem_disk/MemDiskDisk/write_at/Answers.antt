@@ -15,6 +15,7 @@ returns-in-Err-clause-writes c =
       ];
       room = tt;
       same_room = refl;
+      unread = record { sizes = refl; reach = refl };
       cause = record { later = c.begin.ensures.later; failed = omega (arith, faults) };
       sure = tt;
       calm_told = λ tells. tt;

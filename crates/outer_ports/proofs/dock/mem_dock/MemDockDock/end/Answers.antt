@@ -28,7 +28,7 @@ returns-clause-ends c =
       same_ends = tt;
       nothing_sent = record { sent = λ s. refl; room = λ s. refl };
       nothing_taken = record { taken = refl; coming = refl };
-      port = refl;
+      listens = refl;
       count = record { cause = record { later = c.begin.ensures.later; failed = tt }; excused = tt; calm = tt };
       calm_told = λ tells. faults;
       within = tt;

@@ -25,7 +25,7 @@ returns-in-Some-clause-takes c =
       came = (c.min.result, omega (arith, c.min.ensures, c.self.invariant, c.requires.room), c.in-Some.ensures.gives);
       kept = tt;
       nothing_sent = record { sent = λ s. refl; room = λ s. refl };
-      port = refl;
+      listens = refl;
       ended = refl;
       ended_at = refl;
       ends = refl;
