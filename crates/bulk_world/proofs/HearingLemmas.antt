@@ -1,6 +1,6 @@
 -- What an author hears of.
-use Rattle.std.proofs.Common.{Bool, List, [], ap, arith, false, drop, get_or, inl, inr, length, refl, subst, sym, take, true, ◌++◌, ◌+◌, ◌-◌, ◌<◌, ◌∙◌, ◌∷◌, ◌≡◌, ℕ}
-use Rattle.std.specs.Prelude.{All, Err, Result, ◌↔◌, if◌then◌else◌, nat_eq}
+use Rattle.std.proofs.Common.{List, [], ap, arith, false, drop, get_or, inl, inr, length, refl, subst, sym, take, true, ◌++◌, ◌+◌, ◌-◌, ◌<◌, ◌∙◌, ◌∷◌, ◌≡◌, ℕ}
+use Rattle.std.specs.Prelude.{All, if◌then◌else◌, nat_eq}
 use Rattle.std.proofs.lemmas.Bool.{cases_Bool, or_left}
 use Rattle.std.proofs.lemmas.List.{at_drop_more, take-append-le, take_all}
 use Rattle.std.proofs.lemmas.List.Elements.{All-append, All-cons, All-head, All-nil, All-tail, All-weaker}
@@ -8,13 +8,8 @@ use Rattle.fugue_ids.specs.Ops.{op_eq}
 use Rattle.fugue_ids.specs.declared.op.Op.{Op}
 use Rattle.fugue_ids.proofs.OpLemmas.{op_eq-refl}
 use Rattle.origin_model.specs.operations.History.{has_op}
-use Rattle.origin_model.specs.taking.Taking.{Held, IsSettled, TooMany, answer, held_from, intake, settle, taken}
-use Rattle.origin_model.proofs.SharedLemmas.{settle-settled}
+use Rattle.origin_model.specs.taking.Taking.{Held, held_from, intake}
 use Rattle.origin_model.specs.edits.State.{State}
-use Rattle.replica_core.specs.Told.{Leaves}
-use Rattle.origin_model.specs.declared.taking.Tally.{Tally}
-use Rattle.replica_core.specs.declared.keeping.FeedFault.{FeedFault}
-use Rattle.replica_core.specs.declared.keeping.FeedFault.TheVariants as feed_fault
 use Rattle.list_spec.specs.Worlds.{Deliver, Edit, Event, Noting, World, after_event, after_events, after_making, changed, delivered, effect, made_at, note_effect, pooled}
 use Rattle.list_spec.proofs.PoolLemmas.{pool_keeps}
 use Rattle.list_spec.proofs.WorldLemmas.{events_keep}
@@ -22,23 +17,6 @@ use Rattle.bulk_world.specs.declared.making.TheConstants.{HOLD}
 use Rattle.fugue_ids.specs.declared.limits.TheConstants.{MOST_OPERATIONS}
 use Rattle.bulk_world.specs.Turns.{among, delivers, made_in, made_over}
 use Rattle.bulk_world.proofs.TurnLemmas.{numbered}
-
--- where there are too many, nothing changes
-pub nothing_heard : (hold most : ℕ) (s : Held) (op : Op) → IsSettled s → answer hold most s op ≡ TooMany → intake hold most s op ≡ s
-nothing_heard hold most s op settled e = ap (λ a. settle (taken a s op)) e ∙ settle-settled s settled
-
--- a replica that heard an operation
-abbrev pub heard_one : State → Op → State
-heard_one s op = record s { held = intake s.hold s.most s.held op }
-
--- the same of a call that answers so
-pub too_many_heard : (s new : State) (op copy : Op) (n : ℕ) (fault : FeedFault) (before after : Tally) (result : Result Bool FeedFault) → result ≡ Err fault → fault ≡ feed_fault.TooMany n
-    → Leaves s new copy before after fault → copy ≡ op → IsSettled s.held → ((result ≡ Err (feed_fault.TooMany s.most)) ↔ (answer s.hold s.most s.held copy ≡ TooMany))
-    → new ≡ heard_one s op
-too_many_heard s new op copy n fault before after result is named leaves copied settled exactly =
-    let left : Leaves s new copy before after (feed_fault.TooMany n) = subst (Leaves s new copy before after) named leaves in
-    let full : answer s.hold s.most s.held copy ≡ TooMany = exactly.0 (is ∙ ap Err (named ∙ ap feed_fault.TooMany left.0)) in
-    left.1 ∙ ap (λ h. record s { held = h }) (sym (nothing_heard s.hold s.most s.held op settled (ap (answer s.hold s.most s.held) (sym copied) ∙ full)))
 
 -- hearing operations one after another
 pub hears_next : (hold most : ℕ) (now start : Held) (op : Op) (ops : List Op) (k : ℕ) → k < length ops → op ≡ get_or ops k op

@@ -1,3 +1,4 @@
+mod DeliveryLemmas
 mod TurnLemmas
 mod HearingLemmas
 mod BulkLemmas

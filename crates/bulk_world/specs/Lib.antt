@@ -3,3 +3,4 @@ pub mod Generator
 pub mod Turns
 pub mod Summary
 pub mod Laws
+pub mod Deliveries

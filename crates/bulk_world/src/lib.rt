@@ -6,5 +6,5 @@ mod making;
 mod telling;
 mod turn;
 
-pub use making::{MOST_TURNS, bulk, bulk_comes_together};
+pub use making::{MOST_TURNS, bulk, bulk_comes_together, feeds_are_deliveries};
 pub use telling::{Summary, write_summary};

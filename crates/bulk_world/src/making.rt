@@ -2,6 +2,7 @@ ghost use Rattle.std.specs.Prelude.{◌≡◌, IfOk, ◌≢◌, codes, OnOk};
 ghost use Rattle.bulk_world.specs.Summary.{summary};
 ghost use Rattle.bulk_world.specs.Turns.{author, bulk_world, two_begin};
 ghost use Rattle.origin_model.specs.taking.Taking.{IsSettled, held_from, intake};
+ghost use Rattle.bulk_world.specs.Deliveries.{CallsAreDeliveries};
 ghost use Rattle.bulk_world.specs.Laws.{MeetsNoLimit};
 
 use crate::Summary;
@@ -139,3 +140,10 @@ pub fn bulk_comes_together()
 {
     order_by_set();
 }
+
+/// Each call of `feed` is a delivery of the world, as the calls that edit are edits: also where the operation is refused,
+/// which changes nothing. Where memory was wanting it is none, or what is left of settling leads to the delivery. It does
+/// nothing when it runs.
+pub fn feeds_are_deliveries()
+    ensures { CallsAreDeliveries }
+{}
