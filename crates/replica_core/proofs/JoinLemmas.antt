@@ -1,16 +1,13 @@
 -- What an operation of an edit leaves as it was, and operations that join one after another.
-use Rattle.std.proofs.Common.{◌≡◌, refl, sym, ◌∙◌, ap, subst, ℕ, suc, ◌+◌, ◌++◌, ◌∷◌, ◌<◌, List, [], length, false, arith, append_assoc, drop, get_or, length-append, take}
+use Rattle.std.proofs.Common.{◌≡◌, refl, sym, ◌∙◌, ap, ℕ, suc, ◌+◌, ◌++◌, ◌∷◌, ◌<◌, List, [], length, false, arith, length-append, take}
 use Rattle.std.specs.Prelude.{All}
 use Rattle.std.proofs.lemmas.Bool.{ne_eqb}
-use Rattle.std.proofs.lemmas.List.{append-nil, at_drop_more}
+use Rattle.std.proofs.lemmas.List.{append-nil}
 use Rattle.std.proofs.lemmas.List.Elements.{All-head, All-tail}
-use Rattle.fugue_ids.specs.Identifiers.{Identifier}
 use Rattle.fugue_ids.specs.declared.op.Op.{Op}
-use Rattle.fugue_ids.specs.declared.op.Op.TheVariants.{Delete}
 use Rattle.origin_model.specs.operations.History.{accepted}
 use Rattle.origin_model.specs.taking.Taking.{Accepted, answer, decided_on}
-use Rattle.origin_model.specs.edits.Edits.{deletes_of}
-use Rattle.origin_model.proofs.edits.MadeLemmas.{extended-append, join_at_end}
+use Rattle.origin_model.proofs.edits.MadeLemmas.{join_at_end}
 use Rattle.replica_core.specs.Due.{due_marks}
 use Rattle.origin_model.specs.edits.Effect.{Gains, StopsPartly, with_ops}
 use Rattle.replica_core.specs.Edits.{CanJoin}
@@ -57,18 +54,6 @@ pub first_can : (s : State) (op : Op) (rest : List Op) → CanJoin s (op ∷ res
 first_can s op rest can =
     record { settled = can.settled; in_turn = (can.in_turn.0, can.in_turn.1, can.in_turn.2, tt); room = omega (arith, can.room) }
 
--- one more joined
-pub goes_on : (old now new : State) (ops rest : List Op) (op : Op) → IsJoining old now ops (op ∷ rest) → new ≡ with_ops now (op ∷ []) → Stands new → IsJoining old new ops rest
-goes_on old now new ops rest op j is stands =
-    record {
-      done = j.done ++ op ∷ [];
-      split = j.split ∙ sym (append_assoc j.done (op ∷ []) rest);
-      others = is ∙ ap (λ s. with_ops s (op ∷ [])) j.others
-          ∙ ap (λ h. record old { held = record { history = h; waiting = old.held.waiting } }) (sym (extended-append old.held.history j.done (op ∷ [])));
-      can = subst (λ s. CanJoin s rest) (sym is) (record { settled = j.can.in_turn.2; in_turn = j.can.in_turn.3; room = omega (arith, j.can.room) });
-      stands = stands;
-    }
-
 -- the operations of a state stand behind the accepted ones
 pub gains : (old new : State) (ops : List Op) → new ≡ with_ops old ops → Gains old new ops
 gains old new ops is = record { accepted_are = ap (λ s. accepted s.held.history) is ∙ join_at_end old.held.history ops; others = is }
@@ -95,9 +80,3 @@ stops old now ops rest op j =
 -- none
 pub stops_at_once : (s : State) (ops : List Op) → 0 < length ops → StopsPartly s s ops
 stops_at_once s ops some = record { count = 0; fewer = some; gained = gains s s [] refl }
-
--- the next element makes a Delete
-pub deletes : (old now : State) (xs : List Identifier) (k : ℕ) (x : Identifier) → IsJoining old now (deletes_of xs) (deletes_of (drop k xs)) → k < length xs → x ≡ get_or xs k x
-    → IsJoining old now (deletes_of xs) (Delete x ∷ deletes_of (drop (k + 1) xs))
-deletes old now xs k x j within is =
-    subst (IsJoining old now (deletes_of xs)) (at_drop_more deletes_of xs k x within ∙ ap (λ y. Delete y ∷ deletes_of (drop (k + 1) xs)) (sym is)) j

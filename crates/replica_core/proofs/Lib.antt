@@ -1,5 +1,6 @@
 pub mod CountLemmas
 pub mod DecisionLemmas
+pub mod DeletingLemmas
 pub mod EarliestLemmas
 pub mod EditLemmas
 pub mod FeedLemmas

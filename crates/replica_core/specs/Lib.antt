@@ -6,3 +6,4 @@ pub mod Told
 pub mod Index
 pub mod Keeping
 pub mod Edits
+pub mod Deleting

@@ -9,6 +9,7 @@ ghost use Rattle.origin_model.specs.order.Printed.{manuscript as manuscript_on, 
 ghost use Rattle.origin_model.specs.operations.Verdict.{verdict as verdict_on, Lawful};
 ghost use Rattle.origin_model.specs.declared.operations.Place.TheVariants.{Catalogue as catalogue};
 ghost use Rattle.origin_model.specs.declared.operations.Verdict.TheVariants.{Ready};
+ghost use Rattle.replica_core.specs.Deleting.{AreWithin, deletes_from, ids_from};
 ghost use Rattle.replica_core.specs.Index.{has_key, position_of, sections_and_notes as positions_in};
 ghost use Rattle.section_catalogue.specs.Contents.{place_count};
 ghost use Rattle.section_catalogue.specs.Manuscript.{GrowsBy, IsPlaceOf, IsReadyOn, IsTextOf, StandsFor, Stays};
@@ -19,7 +20,7 @@ use fugue_ids::{ElementId, Failed, MOST_OPERATIONS, NoMemory, Op, OpKey, RunStar
 use origin_model::{Lookup, NoMemoryFor, Role, Verdict, fits_at, verdict_in};
 use outer_ports::Sink;
 use section_catalogue::Manuscript;
-use section_list::SectionList;
+use section_list::{SectionList, StoppedAfter};
 use std::alloc::Global;
 use std::marker::Model;
 
@@ -216,6 +217,34 @@ impl Accepted {
             Err(NoMemory) => {
                 self.history.pop_all(text.len());
                 Err(NoMemory)
+            }
+        }
+    }
+
+    /// Takes in the Deletes of so many elements of a section, from this identifier on, which are Ready in their turn, by
+    /// one call on the places. Want of memory leaves fewer taken in, and tells how many.
+    pub fn accept_deletes(
+        &mut self,
+        section: &ElementId,
+        first: ElementId,
+        count: u32,
+    ) -> Result<(), StoppedAfter>
+        requires some { 0 < count }
+        requires counters { first.counter + count ≤ 2 ^ 32 }
+        requires ready { ReadyInTurn self.old (deletes_from first count) }
+        requires within { AreWithin section.now self.old (ids_from first count) }
+        ensures ok { OnOk result (self.new ≡ extended self.old (deletes_from first count)) }
+        ensures err { IfErr result (λ e. self.new ≡ extended self.old (deletes_from first e.done)) }
+        ensures fewer { IfErr result (λ e. e.done < count) }
+    {
+        let Ok(()) = self.history.push_deletes(first, count) else {
+            return Err(StoppedAfter { done: 0 });
+        };
+        match self.manuscript.hide_run(section, first, count) {
+            Ok(()) => Ok(()),
+            Err(stopped) => {
+                self.history.pop_all((count - stopped.done) as usize);
+                Err(stopped)
             }
         }
     }

@@ -47,7 +47,7 @@ impl Replica {
         ensures stands { Stands self.new }
     {
         let targets = self.targets(section, at, n)?;
-        self.delete_each(&targets)?;
+        self.delete_each(&targets.section, &targets.ids)?;
         Ok(n as u32)
     }
 

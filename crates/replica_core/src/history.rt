@@ -1,11 +1,12 @@
 ghost use Rattle.std.specs.Prelude.{◌≡◌, ◌≢◌, ◌<◌, ◌≤◌, ◌+◌, ◌^◌, ◌∷◌, [], Some, OnErr, OnOk, IfErr, drop, length};
 ghost use Rattle.std.specs.Prelude.{option_copied, slice_get};
-ghost use Rattle.fugue_ids.specs.Runs.{run_from};
+ghost use Rattle.fugue_ids.specs.Runs.{id_behind as id_by, run_from};
 ghost use Rattle.origin_model.specs.edits.Edits.{ReadyInTurn, extended};
 ghost use Rattle.origin_model.specs.operations.History.{accepted};
 ghost use Rattle.origin_model.specs.operations.Counters.{counters, IsGreatest};
 ghost use Rattle.origin_model.specs.operations.Verdict.{verdict, Lawful};
 ghost use Rattle.origin_model.specs.declared.operations.Verdict.TheVariants.{Ready};
+ghost use Rattle.replica_core.specs.Deleting.{deletes_from};
 ghost use Rattle.replica_core.specs.Index.{has_key, position_of, sections_and_notes as positions_in};
 
 use crate::index::Index;
@@ -43,6 +44,17 @@ fn op_at(ops: &[Op], position: usize) -> Option<&Op>
     ensures { option_copied result ≡ slice_get ops.now position }
 {
     ops.get(position)
+}
+
+/// The identifier n behind another one of the same replica.
+fn id_behind(id: ElementId, n: u32) -> ElementId
+    requires { id.counter + n < 2 ^ 32 }
+    ensures { result ≡ id_by id n }
+{
+    ElementId {
+        replica: id.replica,
+        counter: id.counter + n,
+    }
 }
 
 impl Lookup for History {
@@ -135,6 +147,26 @@ impl History {
                 return Err(NoMemory);
             };
             count += 1;
+        }
+        Ok(())
+    }
+
+    /// The Deletes of so many identifiers from this one on, which are Ready in their turn. After want of memory all is as
+    /// before.
+    pub fn push_deletes(&mut self, first: ElementId, count: u32) -> Result<(), NoMemory>
+        requires counters { first.counter + count ≤ 2 ^ 32 }
+        requires ready { ReadyInTurn self.old (deletes_from first count) }
+        ensures ok { OnOk result (self.new ≡ extended self.old (deletes_from first count)) }
+        ensures err { OnErr result (self.new ≡ self.old) }
+    {
+        let mut done = 0;
+        'deleted: while done < count {
+            let target = id_behind(first, done);
+            let Ok(()) = self.push(Op::Delete { target }) else {
+                self.pop_all(done as usize);
+                return Err(NoMemory);
+            };
+            done += 1;
         }
         Ok(())
     }

@@ -11,6 +11,7 @@ ghost use Rattle.origin_model.specs.operations.Counters.{counters, IsGreatest};
 ghost use Rattle.origin_model.specs.edits.State.{all_ops, IsOpen, IsOutside, IsWithin, Stands};
 ghost use Rattle.origin_model.specs.edits.Refusal.{held_count};
 ghost use Rattle.origin_model.specs.edits.Effect.{with_ops};
+ghost use Rattle.replica_core.specs.Deleting.{AreWithin, deletes_from, ids_from};
 ghost use Rattle.replica_core.specs.Edits.{CanJoin};
 ghost use Rattle.replica_core.specs.Decision.{answer_by_decision, decided};
 ghost use Rattle.replica_core.specs.Told.{Answers, JoinsNext, Leaves, Settles, SettlesOrStops, StaysBelow, total};
@@ -25,6 +26,7 @@ use causal_inbox::{Found, Inbox, PushFault};
 use fugue_ids::{ElementId, Failed, GREATEST_HOLD, MOST_OPERATIONS, NoMemory, Op, RunStart};
 use origin_model::{Tally, Verdict};
 use outer_ports::Sink;
+use section_list::StoppedAfter;
 use std::alloc::Global;
 use std::marker::Model;
 use std::mem::replace;
@@ -261,6 +263,27 @@ impl Replica {
             return Err(NoMemory);
         };
         Ok(())
+    }
+
+    /// Accepts the Deletes of so many elements of a section, from this identifier on, that an edit makes, by one call on
+    /// the places. Nothing that waits is decided by them, so the marks stay.
+    pub(crate) fn join_deletes(
+        &mut self,
+        section: &ElementId,
+        first: ElementId,
+        count: u32,
+    ) -> Result<(), StoppedAfter>
+        requires some { 0 < count }
+        requires counters { first.counter + count ≤ 2 ^ 32 }
+        requires can { CanJoin self.old (deletes_from first count) }
+        requires within { AreWithin section.now self.old.held.history (ids_from first count) }
+        ensures ok { OnOk result (self.new ≡ with_ops self.old (deletes_from first count)) }
+        ensures err { IfErr result (λ e. self.new ≡ with_ops self.old (deletes_from first e.done)) }
+        ensures fewer { IfErr result (λ e. e.done < count) }
+        ensures settled { IsSettled self.new.held }
+        ensures stands { Stands self.new }
+    {
+        self.accepted.accept_deletes(section, first, count)
     }
 
     fn decision_on(&self, op: &Op) -> Decision

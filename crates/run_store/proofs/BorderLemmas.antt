@@ -1,6 +1,6 @@
 -- The border between two runs of one passage, at any place of it.
-use Rattle.std.proofs.Common.{◌≡◌, ◌≢◌, ◌⊎◌, ℕ, suc, ◌+◌, ◌-◌, ◌<◌, true, false, List, [], ◌∷◌, ◌++◌, ap, append_assoc, arith, get_or, inl, inr, length, length-drop, refl, subst, sym, take, drop, ◌∙◌}
-use Rattle.std.specs.Prelude.{None, Some, cond, map, slice_index_or}
+use Rattle.std.proofs.Common.{◌≡◌, ◌≢◌, ◌⊎◌, ℕ, suc, ◌+◌, ◌-◌, ◌<◌, ◌≤◌, true, false, List, [], ◌∷◌, ◌++◌, ap, append_assoc, arith, inl, inr, length, length-drop, refl, subst, sym, take, drop, ◌∙◌}
+use Rattle.std.specs.Prelude.{None, Some, cond, slice_index_or}
 use Rattle.std.specs.List.{All}
 use Rattle.std.proofs.lemmas.Bool.{and_parts, eqb-true}
 use Rattle.std.proofs.lemmas.List.{length-map, length-take-le}
@@ -13,18 +13,17 @@ use Rattle.node_rope.specs.Beside.{put_under, rekeyed}
 use Rattle.node_rope.specs.Items.{value_under}
 use Rattle.node_rope.specs.Places.{StandsAt}
 use Rattle.run_store.specs.Borders.{IsBorder, IsHiding, IsMove, IsTakenFirst, IsTakenLast, run_continues, last_shown, shifted, together}
-use Rattle.run_store.specs.Cells.{cell_hiding}
-use Rattle.run_store.specs.Growth.{last_id_of_run}
-use Rattle.run_store.specs.Heads.{head_behind, lettered, typed_cells}
+use Rattle.run_store.specs.Cells.{cells_hiding}
+use Rattle.run_store.specs.Heads.{head_behind, typed_cells}
 use Rattle.run_store.specs.Runs.{AreRuns, IsRun, all_cells, cells_in, first_of, run_from, run_to}
 use Rattle.run_store.specs.declared.cell.Cell.{Cell}
 use Rattle.run_store.specs.declared.run.Run.{Run}
 use Rattle.run_store.specs.declared.run.Runs.{Runs}
 use Rattle.run_store.proofs.ContinueLemmas.{continued-is}
 use Rattle.run_store.proofs.CutLemmas.{back-part, front-part, rest-fresh}
-use Rattle.run_store.proofs.HeadLemmas.{behind-depth, behind-id, behind-marked, behind-other, behind-right, next-behind, typed-append}
-use Rattle.run_store.proofs.HideLemmas.{hides-one, marked-run, marked-sound}
-use Rattle.run_store.proofs.PartLemmas.{part-first, part-more}
+use Rattle.run_store.proofs.HeadLemmas.{behind-behind, behind-depth, behind-id, behind-marked, behind-other, behind-right, typed-append}
+use Rattle.run_store.proofs.HideLemmas.{hides-typed, marked-run, marked-sound}
+use Rattle.run_store.proofs.PartLemmas.{part-parts}
 use Rattle.run_store.proofs.PlaceLemmas.{at-split, drop-there, stands-run}
 use Rattle.run_store.proofs.RopeLemmas.{OtherKeys, put-at, rekeyed-at, value-at}
 use Rattle.run_store.proofs.RunsLemmas.{Item, cells-append, kept-run, keys-apart}
@@ -204,113 +203,115 @@ module _ (r : Runs) (s : AreRuns r) (a b : Run) (border : IsBorder r.rope a b) w
         length-map (rekeyed b.id ((rest n).id, rest n) r.rope) (λ (x : Item). (x.0, cond (id_eq x.0 a.id) (run_to n a) x.1))
         ∙ length-map r.rope (λ (x : Item). cond (id_eq x.0 b.id) ((rest n).id, rest n) x)
 
-  -- the cells with the border before the place m, and behind it: they differ in the mark of one
-  module _ (m : ℕ) (inside : m < a.len + b.len) where
+  -- the cells with the border before k of them, from the place m on, and behind these: they differ in the marks of these
+  module _ (m k : ℕ) (inside : m + k ≤ a.len + b.len) where
     abbrev letters : List ℕ
     letters = slice_index_or r.letters a.stretch []
 
-    abbrev letter : ℕ
-    letter = get_or letters (a.start + m) 0
+    abbrev moved : List ℕ
+    moved = take k (drop (a.start + m) letters)
 
     abbrev front_cells : List Cell
     front_cells = all_cells r.letters border.before ++ typed_cells (first_of a) (take m (drop a.start letters))
 
     abbrev back_letters : List ℕ
-    back_letters = take (whole.len - suc m) (drop (a.start + suc m) letters)
+    back_letters = take (whole.len - (m + k)) (drop (a.start + (m + k)) letters)
 
     abbrev back_cells : List Cell
-    back_cells = typed_cells (head_behind (suc m) (first_of whole)) back_letters ++ all_cells r.letters border.behind
+    back_cells = typed_cells (head_behind (m + k) (first_of whole)) back_letters ++ all_cells r.letters border.behind
 
-    abbrev front_cell : Cell
-    front_cell = lettered (head_behind m (first_of a)) letter
+    moved-count : length moved ≡ k
+    moved-count = length-take-le k (drop (a.start + m) letters) (omega (arith, inside, whole-is.within, length-drop (a.start + m) letters))
 
-    abbrev back_cell : Cell
-    back_cell = lettered (head_behind m (first_of whole)) letter
-
-    there : a.start + m < length letters
-    there = omega (arith, inside, whole-is.within)
-
-    cells-before : all_cells r.letters (items m) ≡ front_cells ++ back_cell ∷ back_cells
+    cells-before : all_cells r.letters (items m) ≡ front_cells ++ (typed_cells (head_behind m (first_of whole)) moved ++ back_cells)
     cells-before =
+        let A = all_cells r.letters border.before in
         let t = typed_cells (first_of a) (take m (drop a.start letters)) in
         let B = all_cells r.letters border.behind in
-        let k : whole.len - m ≡ suc (whole.len - suc m) = omega (arith, inside) in
-        let j : suc (a.start + m) ≡ a.start + suc m = omega arith in
-        let e : take (whole.len - m) (drop (a.start + m) letters) ≡ letter ∷ back_letters =
-        ap (λ n. take n (drop (a.start + m) letters)) k ∙ part-first 0 (a.start + m) (whole.len - suc m) letters there
-        ∙ ap (λ n. letter ∷ take (whole.len - suc m) (drop n letters)) j in
+        let h = head_behind m (first_of whole) in
+        let n : (whole.len - m) - k ≡ whole.len - (m + k) = omega (arith, inside) in
+        let j : (a.start + m) + k ≡ a.start + (m + k) = omega arith in
+        let typed : typed_cells h (take (whole.len - m) (drop (a.start + m) letters)) ≡ typed_cells h moved ++ typed_cells (head_behind (m + k) (first_of whole)) back_letters =
+        ap (typed_cells h) (part-parts (a.start + m) k (whole.len - m) letters (omega (arith, inside)) ∙ (λ i. moved ++ take (n i) (drop (j i) letters)))
+        ∙ typed-append h moved back_letters
+        ∙ ap (λ q. typed_cells h moved ++ typed_cells q back_letters) (ap (λ c. head_behind c h) moved-count ∙ behind-behind m k (first_of whole)) in
         cells-append r.letters border.before ((a.id, run_to m a) ∷ ((rest m).id, rest m) ∷ border.behind)
-        ∙ ap (λ ls. all_cells r.letters border.before ++ (t ++ (typed_cells (head_behind m (first_of whole)) ls ++ B))) e
-        ∙ ap (λ h. all_cells r.letters border.before ++ (t ++ (back_cell ∷ (typed_cells h back_letters ++ B)))) (next-behind m (first_of whole))
-        ∙ sym (append_assoc (all_cells r.letters border.before) t (back_cell ∷ back_cells))
+        ∙ ap (λ cs. A ++ (t ++ (cs ++ B))) typed
+        ∙ ap (λ cs. A ++ (t ++ cs)) (append_assoc (typed_cells h moved) (typed_cells (head_behind (m + k) (first_of whole)) back_letters) B)
+        ∙ sym (append_assoc A t (typed_cells h moved ++ back_cells))
 
-    cells-behind : all_cells r.letters (items (suc m)) ≡ front_cells ++ front_cell ∷ back_cells
+    cells-behind : all_cells r.letters (items (m + k)) ≡ front_cells ++ (typed_cells (head_behind m (first_of a)) moved ++ back_cells)
     cells-behind =
+        let A = all_cells r.letters border.before in
         let ls = take m (drop a.start letters) in
         let t = typed_cells (first_of a) ls in
-        let n : length ls ≡ m = length-take-le m (drop a.start letters) (omega (arith, there, length-drop a.start letters)) in
-        let e : typed_cells (first_of a) (take (suc m) (drop a.start letters)) ≡ t ++ front_cell ∷ [] =
-        ap (typed_cells (first_of a)) (part-more 0 a.start m letters there) ∙ typed-append (first_of a) ls (letter ∷ [])
-        ∙ ap (λ k. t ++ lettered (head_behind k (first_of a)) letter ∷ []) n in
-        cells-append r.letters border.before ((a.id, run_to (suc m) a) ∷ ((rest (suc m)).id, rest (suc m)) ∷ border.behind)
-        ∙ ap (λ cs. all_cells r.letters border.before ++ (cs ++ back_cells)) e
-        ∙ ap (λ cs. all_cells r.letters border.before ++ cs) (append_assoc t (front_cell ∷ []) back_cells)
-        ∙ sym (append_assoc (all_cells r.letters border.before) t (front_cell ∷ back_cells))
+        let n : length ls ≡ m = length-take-le m (drop a.start letters) (omega (arith, inside, whole-is.within, length-drop a.start letters)) in
+        let d : (m + k) - m ≡ k = omega arith in
+        let typed : typed_cells (first_of a) (take (m + k) (drop a.start letters)) ≡ t ++ typed_cells (head_behind m (first_of a)) moved =
+        ap (typed_cells (first_of a)) (part-parts a.start m (m + k) letters (omega arith) ∙ ap (λ q. ls ++ take q (drop (a.start + m) letters)) d)
+        ∙ typed-append (first_of a) ls moved
+        ∙ ap (λ q. t ++ typed_cells (head_behind q (first_of a)) moved) n in
+        cells-append r.letters border.before ((a.id, run_to (m + k) a) ∷ ((rest (m + k)).id, rest (m + k)) ∷ border.behind)
+        ∙ ap (λ cs. A ++ (cs ++ back_cells)) typed
+        ∙ ap (λ cs. A ++ cs) (append_assoc t (typed_cells (head_behind m (first_of a)) moved) back_cells)
+        ∙ sym (append_assoc A t (typed_cells (head_behind m (first_of a)) moved ++ back_cells))
 
-    -- in the first run the cell has its mark, and in the second that of the second
-    marked-front : a.hidden ≡ true → front_cell ≡ record back_cell { hidden = true }
-    marked-front h = ap (λ k. lettered k letter) (behind-marked m (first_of whole) a.hidden) ∙ ap (λ t. record back_cell { hidden = t }) h
+    -- in the first run they have its mark, and in the second that of the second
+    marked-front : a.hidden ≡ true → head_behind m (first_of a) ≡ record (head_behind m (first_of whole)) { hidden = true }
+    marked-front h = behind-marked m (first_of whole) a.hidden ∙ ap (λ t. record (head_behind m (first_of whole)) { hidden = t }) h
 
-    marked-back : b.hidden ≡ true → back_cell ≡ record front_cell { hidden = true }
-    marked-back h = ap (λ k. lettered k letter) (behind-marked m (first_of a) b.hidden) ∙ ap (λ t. record front_cell { hidden = t }) h
+    marked-back : b.hidden ≡ true → head_behind m (first_of whole) ≡ record (head_behind m (first_of a)) { hidden = true }
+    marked-back h = behind-marked m (first_of a) b.hidden ∙ ap (λ t. record (head_behind m (first_of a)) { hidden = t }) h
 
-    pub takes-back : r.rope ≡ items m → a.hidden ≡ true → all_cells r.letters (items (suc m)) ≡ map (cell_hiding back_cell.id) (cells_in r)
+    pub takes-back : r.rope ≡ items m → a.hidden ≡ true → all_cells r.letters (items (m + k)) ≡ cells_hiding (head_behind m (first_of whole)).id k (cells_in r)
     takes-back e h =
-        cells-behind ∙ ap (λ c. front_cells ++ c ∷ back_cells) (marked-front h)
-        ∙ sym (hides-one (cells_in r) s.distinct front_cells back_cell back_cells (ap (all_cells r.letters) e ∙ cells-before))
+        cells-behind ∙ ap (λ q. front_cells ++ (typed_cells q moved ++ back_cells)) (marked-front h)
+        ∙ sym (hides-typed moved (head_behind m (first_of whole)) front_cells back_cells (cells_in r) s.distinct (ap (all_cells r.letters) e ∙ cells-before))
+        ∙ ap (λ q. cells_hiding (head_behind m (first_of whole)).id q (cells_in r)) moved-count
 
-    pub takes-front : r.rope ≡ items (suc m) → b.hidden ≡ true → all_cells r.letters (items m) ≡ map (cell_hiding front_cell.id) (cells_in r)
+    pub takes-front : r.rope ≡ items (m + k) → b.hidden ≡ true → all_cells r.letters (items m) ≡ cells_hiding (head_behind m (first_of a)).id k (cells_in r)
     takes-front e h =
-        cells-before ∙ ap (λ c. front_cells ++ c ∷ back_cells) (marked-back h)
-        ∙ sym (hides-one (cells_in r) s.distinct front_cells front_cell back_cells (ap (all_cells r.letters) e ∙ cells-behind))
+        cells-before ∙ ap (λ q. front_cells ++ (typed_cells q moved ++ back_cells)) (marked-back h)
+        ∙ sym (hides-typed moved (head_behind m (first_of a)) front_cells back_cells (cells_in r) s.distinct (ap (all_cells r.letters) e ∙ cells-behind))
+        ∙ ap (λ q. cells_hiding (head_behind m (first_of a)).id q (cells_in r)) moved-count
 
-  module _ (x : Identifier) (n : ℕ) (move : IsMove a b n) where
-    first-hidden : IsTakenFirst x a b n → all_cells r.letters (items n) ≡ map (cell_hiding x) (cells_in r)
+  module _ (x : Identifier) (k n : ℕ) (move : IsMove a b n) where
+    first-hidden : IsTakenFirst x k a b n → all_cells r.letters (items n) ≡ cells_hiding x k (cells_in r)
     first-hidden t =
-        let i : a.len < a.len + b.len = omega (arith, back-is.some) in
+        let i : a.len + k ≤ a.len + b.len = omega (arith, move.rest, t.at) in
         let e : (head_behind a.len (first_of whole)).id ≡ x = sym (ap (λ (z : Run). z.id) border.passage) ∙ sym t.is in
-        ap (λ k. all_cells r.letters (items k)) t.at ∙ takes-back a.len i items-now t.hidden ∙ ap (λ k. map (cell_hiding k) (cells_in r)) e
+        ap (λ q. all_cells r.letters (items q)) t.at ∙ takes-back a.len k i items-now t.hidden ∙ ap (λ q. cells_hiding q k (cells_in r)) e
 
-    last-hidden : IsTakenLast x a b n → all_cells r.letters (items n) ≡ map (cell_hiding x) (cells_in r)
+    last-hidden : IsTakenLast x k a b n → all_cells r.letters (items n) ≡ cells_hiding x k (cells_in r)
     last-hidden t =
-        let k : a.len - 1 ≡ n = omega (arith, t.at) in
-        let e : (head_behind n (first_of a)).id ≡ x = ap (λ j. (head_behind j (first_of a)).id) (sym k) ∙ sym t.is in
-        takes-front n move.rest (items-now ∙ ap items (sym t.at)) t.hidden ∙ ap (λ k. map (cell_hiding k) (cells_in r)) e
+        let i : n + k ≤ a.len + b.len = omega (arith, t.at) in
+        takes-front n k i (items-now ∙ ap items (sym t.at)) t.hidden ∙ ap (λ q. cells_hiding q k (cells_in r)) (sym t.is)
 
-    pub taken-cells : IsTakenFirst x a b n ⊎ IsTakenLast x a b n → all_cells r.letters (shifted n a b r.rope) ≡ map (cell_hiding x) (cells_in r)
+    pub taken-cells : IsTakenFirst x k a b n ⊎ IsTakenLast x k a b n → all_cells r.letters (shifted n a b r.rope) ≡ cells_hiding x k (cells_in r)
     taken-cells taken = ap (all_cells r.letters) (shifted-is n move) ∙ elim taken [
       | inl t ↦ first-hidden t
       | inr t ↦ last-hidden t
     ]
 
-    pub taken-sound : IsTakenFirst x a b n ⊎ IsTakenLast x a b n → AreRuns (shifted_runs n move)
-    taken-sound taken = marked-sound r s x (shifted_runs n move) refl refl (shifted-each n move) (taken-cells taken)
+    pub taken-sound : IsTakenFirst x k a b n ⊎ IsTakenLast x k a b n → AreRuns (shifted_runs n move)
+    taken-sound taken = marked-sound r s x k (shifted_runs n move) refl refl (shifted-each n move) (taken-cells taken)
 
-  -- where the second run is this one, of two cells or more, and the first one is hidden
-  pub hides-first : (run : Run) (n : ℕ) → value_under run.id r.rope ≡ Some run → 1 < run.len → b.id ≡ run.id → a.hidden ≡ true → n ≡ a.len + 1 → IsHiding r.rope run.id a b n
-  hides-first run n v more same h at =
-      let e : Some b ≡ Some run = sym back-held ∙ ap (λ k. value_under k r.rope) same ∙ v in
+  -- where the second run is this one, which has more than k cells, and the first one is hidden
+  pub hides-first : (run : Run) (k n : ℕ) → value_under run.id r.rope ≡ Some run → 0 < k → k < run.len → b.id ≡ run.id → a.hidden ≡ true → n ≡ a.len + k
+      → IsHiding r.rope run.id k a b n
+  hides-first run k n v some more same h at =
+      let e : Some b ≡ Some run = sym back-held ∙ ap (λ q. value_under q r.rope) same ∙ v in
       let f : b ≡ run = cc in
       let l = ap (λ (z : Run). z.len) f in
       record {
         border = border;
-        move = record { some = omega (arith, at); rest = omega (arith, at, more, l); other = λ o. omega (arith, at, o) };
-        taken = inl (record { hidden = h; at = omega (arith, at); is = sym same });
+        move = record { some = omega (arith, at, some); rest = omega (arith, at, more, l); other = λ o. omega (arith, at, o, some) };
+        taken = inl (record { hidden = h; at = at; is = sym same });
       }
 
-  pub hides-last : (n : ℕ) → 1 < a.len → b.hidden ≡ true → n ≡ a.len - 1 → IsHiding r.rope (last_id_of_run a) a b n
-  hides-last n more h at = record {
+  pub hides-last : (k : ℕ) → 0 < k → k < a.len → b.hidden ≡ true → IsHiding r.rope (head_behind (a.len - k) (first_of a)).id k a b (a.len - k)
+  hides-last k some more h = record {
     border = border;
-    move = record { some = omega (arith, at, more); rest = omega (arith, at, more); other = λ o. omega (arith, at, o, more) };
-    taken = inr (record { hidden = h; at = omega (arith, at, more); is = refl });
+    move = record { some = omega (arith, more); rest = omega (arith, some, more); other = λ o. omega (arith, o, some, more) };
+    taken = inr (record { hidden = h; at = omega (arith, more); is = refl });
   }

@@ -77,10 +77,6 @@ behind-forest (suc n) h l = refl
 pub behind-other : (n : ℕ) (h : Head) → 0 < n → (head_behind n h).id ≢ h.id
 behind-other n h l e = omega (arith, l, ap (λ (x : Identifier). x.counter) (sym (behind-id n h) ∙ e))
 
--- the one behind the cell at a place
-pub next-behind : (n : ℕ) (h : Head) → next_head (head_behind n h) ≡ head_behind (suc n) h
-next-behind n h = let e : n + 1 ≡ suc n = omega arith in behind-next 0 (head_behind n h) ∙ behind-behind n 1 h ∙ ap (λ k. head_behind k h) e
-
 -- the cells of a run have its mark
 pub behind-marked : (n : ℕ) (h : Head) (m : Bool) → head_behind n (record h { hidden = m }) ≡ record (head_behind n h) { hidden = m }
 behind-marked zero h m = refl

@@ -8,6 +8,7 @@ pub mod PartLemmas
 pub mod CutLemmas
 pub mod EitherLemmas
 pub mod HideLemmas
+pub mod HideRunLemmas
 pub mod BorderLemmas
 pub mod GrowLemmas
 pub mod InsertLemmas

@@ -1,8 +1,7 @@
 -- Two runs that stand next to each other and are one passage, but for their marks.
-use Rattle.std.specs.Prelude.{◌≡◌, ◌≢◌, ◌⊎◌, ◌<◌, Bool, true, false, ◌&&◌, nat_eq, ℕ, suc, ◌+◌, ◌-◌, List, ◌∷◌, ◌++◌, Some}
+use Rattle.std.specs.Prelude.{◌≡◌, ◌≢◌, ◌⊎◌, ◌<◌, Bool, true, false, ◌&&◌, nat_eq, ℕ, ◌+◌, ◌-◌, List, ◌∷◌, ◌++◌, Some}
 use Rattle.fugue_ids.specs.Identifiers.{Identifier}
 use Rattle.node_rope.specs.Beside.{put_under, rekeyed}
-use Rattle.run_store.specs.Growth.{last_id_of_run}
 use Rattle.run_store.specs.Heads.{head_behind, lettered}
 use Rattle.run_store.specs.NewCells.{is_continued}
 use Rattle.run_store.specs.Runs.{first_of, run_from, run_to}
@@ -40,20 +39,20 @@ pub record IsMove (a b : Run) (n : ℕ) : Type 0 where
 abbrev pub shifted : ℕ → Run → Run → List (Identifier × Run) → List (Identifier × Run)
 shifted n a b rope = let new = run_from n (together a b) in put_under a.id (run_to n a) (rekeyed b.id (new.id, new) rope)
 
--- the first cell of b comes to the hidden run before it
-pub record IsTakenFirst (x : Identifier) (a b : Run) (n : ℕ) : Type 0 where
+-- the first k cells of b, from that of x on, come to the hidden run before it
+pub record IsTakenFirst (x : Identifier) (k : ℕ) (a b : Run) (n : ℕ) : Type 0 where
   pub hidden : a.hidden ≡ true
-  pub at : n ≡ suc a.len
+  pub at : n ≡ a.len + k
   pub is : x ≡ b.id
 
--- the last cell of a comes to the hidden run behind it
-pub record IsTakenLast (x : Identifier) (a b : Run) (n : ℕ) : Type 0 where
+-- the last k cells of a, from that of x on, come to the hidden run behind it
+pub record IsTakenLast (x : Identifier) (k : ℕ) (a b : Run) (n : ℕ) : Type 0 where
   pub hidden : b.hidden ≡ true
-  pub at : suc n ≡ a.len
-  pub is : x ≡ last_id_of_run a
+  pub at : n + k ≡ a.len
+  pub is : x ≡ (head_behind n (first_of a)).id
 
--- a border that hides the cell of x as it comes to the place n
-pub record IsHiding (rope : List (Identifier × Run)) (x : Identifier) (a b : Run) (n : ℕ) : Type 0 where
+-- a border that hides k cells from that of x on as it comes to the place n
+pub record IsHiding (rope : List (Identifier × Run)) (x : Identifier) (k : ℕ) (a b : Run) (n : ℕ) : Type 0 where
   pub border : IsBorder rope a b
   pub move : IsMove a b n
-  pub taken : IsTakenFirst x a b n ⊎ IsTakenLast x a b n
+  pub taken : IsTakenFirst x k a b n ⊎ IsTakenLast x k a b n

@@ -1,8 +1,9 @@
 -- Cells in a list.
-use Rattle.std.specs.Prelude.{Bool, not, if◌then◌else◌, ◌&&◌, List, [], ◌∷◌, Option, Some, None, option_map, ℕ, map, filter, length, take, true}
+use Rattle.std.specs.Prelude.{Bool, not, if◌then◌else◌, ◌&&◌, List, [], ◌∷◌, Option, Some, None, option_map, ℕ, zero, suc, map, filter, length, take, true}
 use Rattle.std.specs.List.{list_any}
 use Rattle.fugue_ids.specs.Identifiers.{Identifier, id_eq}
 use Rattle.fugue_ids.specs.Keys.{Keyed}
+use Rattle.fugue_ids.specs.Runs.{id_behind}
 use Rattle.fugue_ids.specs.Listed.{index_of}
 use Rattle.run_store.specs.declared.cell.Cell.{Cell}
 
@@ -47,3 +48,8 @@ is_hidden_cell cells x = list_any (λ c. id_eq c.id x && c.hidden) cells
 -- the cell as it is once x is hidden
 abbrev pub cell_hiding : Identifier → Cell → Cell
 cell_hiding x c = if id_eq c.id x then record c { hidden = true } else c
+
+-- the cells as they are once those of the first n identifiers from x on are hidden, one after another
+abbrev pub cells_hiding : Identifier → ℕ → List Cell → List Cell
+cells_hiding x zero cells = cells
+cells_hiding x (suc n) cells = cells_hiding (id_behind x 1) n (map (cell_hiding x) cells)

@@ -1,7 +1,7 @@
 -- What a call makes of the cells.
-use Rattle.std.specs.Prelude.{◌≡◌, List, Result, OnErr, OnOk, length, map}
+use Rattle.std.specs.Prelude.{◌≡◌, ◌<◌, ◌≤◌, ◌+◌, ◌*◌, ℕ, List, Result, IfOk, OnErr, OnOk, length}
 use Rattle.fugue_ids.specs.Identifiers.{Identifier}
-use Rattle.run_store.specs.Cells.{cell_hiding}
+use Rattle.run_store.specs.Cells.{cells_hiding}
 use Rattle.run_store.specs.Runs.{AreRuns, cells_in}
 use Rattle.run_store.specs.Stored.{IsRaised}
 use Rattle.run_store.specs.declared.cell.Cell.{Cell}
@@ -15,9 +15,25 @@ pub record MakesCells {T E : Type 0} (result : Result T E) (old new : Runs) (cel
   pub raised : OnOk result (IsRaised 2 (length old.rope) (length new.rope))
   pub refused : OnErr result (IsRaised 1 (length old.rope) (length new.rope))
 
--- the cell of x comes to be hidden, for which a run may have been parted, or nothing is changed for want of memory
-pub record HidesOne {T E : Type 0} (result : Result T E) (old new : Runs) (x : Identifier) : Type 0 where
+-- the cells of n identifiers from x on come to be hidden, for which a run may have been parted, or nothing is changed for want of memory
+pub record HidesPart {T E : Type 0} (result : Result T E) (old new : Runs) (x : Identifier) (n : ℕ) : Type 0 where
   pub sound : AreRuns new
-  pub ok : OnOk result (cells_in new ≡ map (cell_hiding x) (cells_in old))
+  pub ok : OnOk result (cells_in new ≡ cells_hiding x n (cells_in old))
   pub raised : IsRaised 1 (length old.rope) (length new.rope)
   pub err : OnErr result (new ≡ old)
+
+-- the cells of as many identifiers from x on as the answer says come to be hidden, or they stay as they are for want of memory
+pub record HidesSome {E : Type 0} (result : Result ℕ E) (old new : Runs) (x : Identifier) (most : ℕ) : Type 0 where
+  pub sound : AreRuns new
+  pub some : IfOk result (λ n. 0 < n)
+  pub bound : IfOk result (λ n. n ≤ most)
+  pub ok : IfOk result (λ n. cells_in new ≡ cells_hiding x n (cells_in old))
+  pub err : OnErr result (cells_in new ≡ cells_in old)
+  pub raised : OnOk result (IsRaised 2 (length old.rope) (length new.rope))
+  pub refused : OnErr result (IsRaised 1 (length old.rope) (length new.rope))
+
+-- the cells of the first n identifiers from x on have come to be hidden, for each of which a run may have been parted twice
+pub record IsHiddenTo (old : Runs) (x : Identifier) (n more : ℕ) (new : Runs) : Type 0 where
+  pub sound : AreRuns new
+  pub cells : cells_in new ≡ cells_hiding x n (cells_in old)
+  pub raised : IsRaised (2 * n + more) (length old.rope) (length new.rope)

@@ -10,3 +10,4 @@ pub mod Stored
 pub mod Changes
 pub mod Shown
 pub mod Standings
+pub mod Hiding

@@ -1,9 +1,8 @@
-// The border between a hidden run and its neighbour moves over a cell, which is so hidden without a run of its own.
-ghost use Rattle.std.specs.Prelude.{◌≡◌, ◌<◌, ◌≤◌, ◌+◌, ◌^◌, IfSome, Some, OnErr, OnOk};
+// The border between a hidden run and its neighbour moves over cells, which are so hidden without a run of their own.
+ghost use Rattle.std.specs.Prelude.{◌≡◌, ◌<◌, ◌≤◌, ◌+◌, ◌-◌, ◌^◌, IfSome, Some, OnErr, OnOk};
 ghost use Rattle.node_rope.specs.Items.{value_under};
 ghost use Rattle.run_store.specs.Borders.{IsBorder, IsHiding, IsMove, run_continues as continues, shifted};
 ghost use Rattle.run_store.specs.Borders.{together as both};
-ghost use Rattle.run_store.specs.Growth.{last_id_of_run};
 ghost use Rattle.run_store.specs.Heads.{head_behind};
 ghost use Rattle.run_store.specs.Runs.{AreRuns, first_of};
 
@@ -77,12 +76,13 @@ impl Runs {
         }
     }
 
-    /// The border to a hidden run before this one.
-    fn border_before(&self, run: &Run) -> Option<Border>
+    /// The border over which the first n cells of a run come to a hidden one before it.
+    fn border_before(&self, run: &Run, n: u32) -> Option<Border>
         requires sound { AreRuns self.now }
         requires held { value_under run.now.id self.now.rope ≡ Some run.now }
-        requires more { 1 < run.now.len }
-        ensures { IfSome result (λ b. IsHiding self.now.rope run.now.id b.front b.back b.at) }
+        requires some { 0 < n }
+        requires more { n < run.now.len }
+        ensures { IfSome result (λ b. IsHiding self.now.rope run.now.id n b.front b.back b.at) }
     {
         let left = run.left.id()?;
         let spot = self.find(left)?;
@@ -95,19 +95,21 @@ impl Runs {
             Some(Border {
                 front,
                 back,
-                at: front.len + 1,
+                at: front.len + n,
             })
         } else {
             None
         }
     }
 
-    /// The border to a hidden run behind this one.
-    fn border_behind(&self, run: &Run) -> Option<Border>
+    /// The border over which the last n cells of a run come to a hidden one behind it.
+    fn border_behind(&self, run: &Run, n: u32) -> Option<Border>
         requires sound { AreRuns self.now }
         requires held { value_under run.now.id self.now.rope ≡ Some run.now }
-        requires more { 1 < run.now.len }
-        ensures { IfSome result (λ b. IsHiding self.now.rope (last_id_of_run run.now) b.front b.back b.at) }
+        requires some { 0 < n }
+        requires more { n < run.now.len }
+        ensures { IfSome result (λ b. IsHiding self.now.rope (head_behind (run.now.len - n) (first_of run.now)).id n
+            b.front b.back b.at) }
     {
         let back = self.continuation(run)?;
         if !back.hidden {
@@ -116,27 +118,28 @@ impl Runs {
         Some(Border {
             front: *run,
             back,
-            at: run.len - 1,
+            at: run.len - n,
         })
     }
 
-    /// The border over which the cell at the spot comes to a hidden run: it stands at an end of its own run, and not
-    /// alone.
-    pub(crate) fn border(&self, spot: &Spot) -> Option<Border>
+    /// The border over which n cells from the spot on come to a hidden run: they stand at an end of their own run, which
+    /// has others.
+    pub(crate) fn border(&self, spot: &Spot, n: u32) -> Option<Border>
         requires sound { AreRuns self.now }
         requires held { value_under spot.now.run.id self.now.rope ≡ Some spot.now.run }
-        requires inside { spot.now.offset < spot.now.run.len }
+        requires some { 0 < n }
+        requires inside { spot.now.offset + n ≤ spot.now.run.len }
         ensures { IfSome result (λ b. IsHiding self.now.rope
-            (head_behind spot.now.offset (first_of spot.now.run)).id b.front b.back b.at) }
+            (head_behind spot.now.offset (first_of spot.now.run)).id n b.front b.back b.at) }
     {
-        if spot.run.len == 1 {
+        if n == spot.run.len {
             return None;
         }
         if spot.offset == 0 {
-            return self.border_before(&spot.run);
+            return self.border_before(&spot.run, n);
         }
-        if spot.offset == spot.run.len - 1 {
-            return self.border_behind(&spot.run);
+        if spot.offset == spot.run.len - n {
+            return self.border_behind(&spot.run, n);
         }
         None
     }

@@ -1,15 +1,17 @@
-// A cell is hidden.
-ghost use Rattle.std.specs.Prelude.{◌≡◌, ◌<◌, suc, Some, Contains, IsNone, length, map, true, OnErr, OnOk, ◌≤◌};
+// Cells are hidden.
+ghost use Rattle.std.specs.Prelude.{◌≡◌, ◌<◌, ◌+◌, ◌-◌, ◌^◌, Some, Contains, IsNone, length, true, IfErr, OnErr, OnOk, ◌≤◌};
 ghost use Rattle.node_rope.specs.Items.{value_under};
-ghost use Rattle.run_store.specs.Changes.{HidesOne, MakesCells};
-ghost use Rattle.run_store.specs.Cells.{cell_hiding, cell_ids, is_hidden_cell as hidden_in};
+ghost use Rattle.run_store.specs.Changes.{HidesPart, HidesSome, IsHiddenTo, MakesCells};
+ghost use Rattle.run_store.specs.Cells.{cell_ids, cells_hiding, is_hidden_cell as hidden_in};
+ghost use Rattle.run_store.specs.Hiding.{AreHeld, AreHidden};
 ghost use Rattle.run_store.specs.Heads.{head_behind};
 ghost use Rattle.run_store.specs.Runs.{AreRuns, cells_in, first_of, run_to as front_by, parted, parted_as};
 ghost use Rattle.run_store.specs.Stored.{IsRaised};
 
 use crate::find::Spot;
-use crate::parts::{key_of, run_from, run_to};
+use crate::parts::{id_behind, key_of, run_from, run_to};
 use crate::run::{Run, Runs};
+use crate::store::StoppedAfter;
 use fugue_ids::{ElementId, MOST_OPERATIONS, NoMemory};
 
 /// The same cells, hidden.
@@ -22,23 +24,37 @@ fn hidden(run: &Run) -> Run
     }
 }
 
+/// How many cells of its run stand from the spot on, but at most so many.
+fn part_len(spot: &Spot, most: u32) -> u32
+    requires inside { spot.now.offset < spot.now.run.len }
+    requires some { 0 < most }
+    ensures some { 0 < result }
+    ensures within { spot.now.offset + result ≤ spot.now.run.len }
+    ensures bound { result ≤ most }
+{
+    let rest = spot.run.len - spot.offset;
+    if most < rest { most } else { rest }
+}
+
 impl Runs {
-    /// Hides the first cell of a run that has more. Parting it off and hiding it is one step.
-    fn hide_first(&mut self, run: &Run) -> Result<(), NoMemory>
+    /// Hides the first n cells of a run that has more. Parting them off and hiding them is one step.
+    fn hide_front(&mut self, run: &Run, n: u32) -> Result<(), NoMemory>
         requires sound { AreRuns self.old }
         requires held { value_under run.now.id self.old.rope ≡ Some run.now }
-        requires more { 1 < run.now.len }
-        ensures { HidesOne result self.old self.new run.now.id }
+        requires some { 0 < n }
+        requires more { n < run.now.len }
+        ensures { HidesPart result self.old self.new run.now.id n }
     {
-        self.part(run, hidden(&run_to(run, 1)), run_from(run, 1))
+        self.part(run, hidden(&run_to(run, n)), run_from(run, n))
     }
 
-    /// Hides the last cell of a run, which stands behind `offset` others.
-    fn hide_last(&mut self, run: &Run, offset: u32) -> Result<(), NoMemory>
+    /// Hides the cells of a run that stand behind `offset` others.
+    fn hide_rest(&mut self, run: &Run, offset: u32) -> Result<(), NoMemory>
         requires sound { AreRuns self.old }
         requires held { value_under run.now.id self.old.rope ≡ Some run.now }
-        requires last { suc offset ≡ run.now.len }
-        ensures { HidesOne result self.old self.new (head_behind offset (first_of run.now)).id }
+        requires inside { offset < run.now.len }
+        ensures { HidesPart result self.old self.new (head_behind offset (first_of run.now)).id
+            (run.now.len - offset) }
     {
         if offset > 0 {
             return self.part(run, run_to(run, offset), hidden(&run_from(run, offset)));
@@ -47,51 +63,78 @@ impl Runs {
         Ok(())
     }
 
-    /// Hides the cell at the spot in a run of its own.
-    fn hide_alone(&mut self, spot: &Spot) -> Result<(), NoMemory>
+    /// Hides n cells, from the one at the spot on, in a run of their own.
+    fn hide_alone(&mut self, spot: &Spot, n: u32) -> Result<(), NoMemory>
         requires sound { AreRuns self.old }
         requires held { value_under spot.now.run.id self.old.rope ≡ Some spot.now.run }
-        requires inside { spot.now.offset < spot.now.run.len }
+        requires some { 0 < n }
+        requires inside { spot.now.offset + n ≤ spot.now.run.len }
         ensures { MakesCells result self.old self.new
-            (map (cell_hiding (head_behind spot.now.offset (first_of spot.now.run)).id) (cells_in self.old)) }
+            (cells_hiding (head_behind spot.now.offset (first_of spot.now.run)).id n (cells_in self.old)) }
     {
-        if spot.offset == 0 && spot.run.len > 1 {
-            return self.hide_first(&spot.run);
+        if spot.offset == 0 && n < spot.run.len {
+            return self.hide_front(&spot.run, n);
         }
-        let end = spot.offset + 1;
+        let end = spot.offset + n;
         self.cut_behind(&spot.run, end)?;
-        self.hide_last(&run_to(&spot.run, end), spot.offset)
+        self.hide_rest(&run_to(&spot.run, end), spot.offset)
     }
 
-    /// Hides the cell at the spot: in the hidden run beside its own, or in one that is parted off.
-    fn hide_at(&mut self, spot: &Spot) -> Result<(), NoMemory>
+    /// Hides n cells, from the one at the spot on: in the hidden run beside their own, or in one that is parted off.
+    fn hide_at(&mut self, spot: &Spot, n: u32) -> Result<(), NoMemory>
         requires sound { AreRuns self.old }
         requires held { value_under spot.now.run.id self.old.rope ≡ Some spot.now.run }
-        requires inside { spot.now.offset < spot.now.run.len }
+        requires some { 0 < n }
+        requires inside { spot.now.offset + n ≤ spot.now.run.len }
         ensures { MakesCells result self.old self.new
-            (map (cell_hiding (head_behind spot.now.offset (first_of spot.now.run)).id) (cells_in self.old)) }
+            (cells_hiding (head_behind spot.now.offset (first_of spot.now.run)).id n (cells_in self.old)) }
     {
-        match self.border(spot) {
+        match self.border(spot, n) {
             Some(border) => self.shift(&border),
-            None => self.hide_alone(spot),
+            None => self.hide_alone(spot, n),
         }
     }
 
-    /// Hides a cell. One that is hidden stays as it is.
-    pub(crate) fn hide(&mut self, id: ElementId) -> Result<(), NoMemory>
+    /// Hides a cell and those behind it in its run, but at most so many. The answer is how many. Those that are hidden
+    /// stay as they are.
+    fn hide_part(&mut self, id: ElementId, most: u32) -> Result<u32, NoMemory>
         requires sound { AreRuns self.old }
         requires held { Contains (cell_ids (cells_in self.old)) id }
-        ensures makes { MakesCells result self.old self.new (map (cell_hiding id) (cells_in self.old)) }
+        requires some { 0 < most }
+        ensures part { HidesSome result self.old self.new id most }
         ensures again { hidden_in (cells_in self.old) id ≡ true → self.new ≡ self.old }
     {
         let spot = match self.reach(id) {
             Some(spot) => spot,
             None => unreachable!(),
         };
+        let n = part_len(&spot, most);
         if spot.run.hidden {
-            return Ok(());
+            return Ok(n);
         }
-        self.hide_at(&spot)
+        self.hide_at(&spot, n)?;
+        Ok(n)
+    }
+
+    /// Hides the cells of so many identifiers from this one on, those of a run at once. Those that are hidden stay as they
+    /// are.
+    pub(crate) fn hide_run(&mut self, first: ElementId, count: u32) -> Result<(), StoppedAfter>
+        requires sound { AreRuns self.old }
+        requires counters { first.counter + count ≤ 2 ^ 32 }
+        requires held { AreHeld (cells_in self.old) first count }
+        ensures ok { OnOk result (IsHiddenTo self.old first count 0 self.new) }
+        ensures err { IfErr result (λ e. IsHiddenTo self.old first e.done 1 self.new) }
+        ensures fewer { IfErr result (λ e. e.done < count) }
+        ensures again { AreHidden (cells_in self.old) first count → self.new ≡ self.old }
+    {
+        let mut done = 0;
+        'parts: while done < count {
+            match self.hide_part(id_behind(first, done), count - done) {
+                Ok(n) => done += n,
+                Err(NoMemory) => return Err(StoppedAfter { done }),
+            }
+        }
+        Ok(())
     }
 }
 

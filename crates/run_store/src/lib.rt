@@ -22,4 +22,4 @@ mod walk;
 
 pub use cell::Cell;
 pub use shown::Shown;
-pub use store::RunStore;
+pub use store::{RunStore, StoppedAfter};

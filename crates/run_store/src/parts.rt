@@ -9,7 +9,7 @@ use crate::run::{Origin, Run};
 use fugue_ids::{ElementId, Key};
 
 /// The identifier n behind another one of the same replica.
-fn id_behind(id: ElementId, n: u32) -> ElementId
+pub(crate) fn id_behind(id: ElementId, n: u32) -> ElementId
     requires { id.counter + n < 2 ^ 32 }
     ensures { result ≡ id_by id n }
 {

@@ -1,4 +1,4 @@
-ghost use Rattle.std.specs.Prelude.{◌≡◌, ◌≢◌, ◌↔◌, ◌<◌, ◌≤◌, ◌+◌, ◌^◌, [], AllPairs, Contains, IsTrue, length, map, true, OnErr};
+ghost use Rattle.std.specs.Prelude.{◌≡◌, ◌≢◌, ◌↔◌, ◌<◌, ◌≤◌, ◌+◌, ◌^◌, ◌*◌, [], AllPairs, Contains, IsTrue, length, map, true, IfErr, OnErr};
 ghost use Rattle.std.specs.Prelude.{OnOk, slice_get};
 ghost use Rattle.std.specs.List.{insert};
 ghost use Rattle.std.specs.Str.{encode_utf8_all};
@@ -7,8 +7,9 @@ ghost use Rattle.fugue_ids.specs.Outs.{WritesBytes};
 ghost use Rattle.origin_model.specs.sides.Slot.{IsBeside};
 ghost use Rattle.origin_model.specs.sides.KeyedGap.{gap_index};
 ghost use Rattle.origin_model.specs.edits.Landing.{following};
-ghost use Rattle.run_store.specs.Cells.{cell_hiding, cell_ids, is_hidden_cell as hidden_in, keyed_cells, origins_of};
+ghost use Rattle.run_store.specs.Cells.{cell_hiding, cells_hiding, cell_ids, is_hidden_cell as hidden_in, keyed_cells, origins_of};
 ghost use Rattle.run_store.specs.Cells.{cell_text, cells_shown};
+ghost use Rattle.run_store.specs.Hiding.{AreHeld, AreHidden};
 ghost use Rattle.run_store.specs.Growth.{AreFresh, inserted_at};
 ghost use Rattle.run_store.specs.NewCells.{continues, new_cell, new_cells};
 ghost use Rattle.run_store.specs.Stored.{IsAloneWhereEmpty, IsRaised};
@@ -23,6 +24,12 @@ use fugue_ids::{
 use node_rope::Rope;
 use std::alloc::Global;
 use std::marker::Model;
+
+/// Want of memory in the midst of several: so many of them were done, from the first on.
+#[derive(Clone, Copy, Debug)]
+pub struct StoppedAfter {
+    pub done: u32,
+}
 
 /// The cells of a place in order, kept in runs.
 #[derive(Drop)]
@@ -133,7 +140,27 @@ impl RunStore {
         ensures refused { OnErr result (IsRaised 1 self.old.runs self.new.runs) }
         ensures again { hidden_in self.old.cells id ≡ true → self.new ≡ self.old }
     {
-        self.runs.hide(id)
+        let counter = id.counter;
+        prove!(counter <= u32::MAX);
+        match self.hide_run(id, 1) {
+            Ok(()) => Ok(()),
+            Err(_) => Err(NoMemory),
+        }
+    }
+
+    /// Hides the cells of so many identifiers from this one on, those of a run at once. Hidden cells stay as they are.
+    /// Want of memory leaves fewer hidden, and tells how many.
+    pub fn hide_run(&mut self, first: ElementId, count: u32) -> Result<(), StoppedAfter>
+        requires counters { first.counter + count ≤ 2 ^ 32 }
+        requires held { AreHeld self.old.cells first count }
+        ensures ok { OnOk result (self.new.cells ≡ cells_hiding first count self.old.cells) }
+        ensures err { IfErr result (λ e. self.new.cells ≡ cells_hiding first e.done self.old.cells) }
+        ensures fewer { IfErr result (λ e. e.done < count) }
+        ensures raised { OnOk result (IsRaised (2 * count) self.old.runs self.new.runs) }
+        ensures refused { IfErr result (λ e. IsRaised (2 * e.done + 1) self.old.runs self.new.runs) }
+        ensures again { AreHidden self.old.cells first count → self.new ≡ self.old }
+    {
+        self.runs.hide_run(first, count)
     }
 }
 

@@ -2,6 +2,7 @@ pub mod BoundLemmas
 pub mod ConditionLemmas
 pub mod GrowthLemmas
 pub mod HidingLemmas
+pub mod HidingRunLemmas
 pub mod HolderLemmas
 pub mod HomeLemmas
 pub mod ListingLemmas

@@ -62,10 +62,10 @@ emptied old mid new first k value none before put gone y =
 
 -- entries with one more in front
 module _ {X : Type 0} (k : Identifier) (v : X) (es : List (Identifier × X)) where
-  entry-own : entry_at ((k, v) ∷ es) k ≡ Some v
+  pub entry-own : entry_at ((k, v) ∷ es) k ≡ Some v
   entry-own = ap (λ b. cond b (Some v) (entry_at es k)) (id_at-same k)
 
-  entry-other : (y : Identifier) → y ≢ k → entry_at ((k, v) ∷ es) y ≡ entry_at es y
+  pub entry-other : (y : Identifier) → y ≢ k → entry_at ((k, v) ∷ es) y ≡ entry_at es y
   entry-other y n = ap (λ b. cond b (Some v) (entry_at es y)) (id_at-other y k (λ e. n (sym e)))
 
 -- the first node of a run

@@ -7,7 +7,7 @@ use Rattle.origin_model.specs.sides.Node.{has_node, has_origin}
 use Rattle.origin_model.specs.declared.operations.node.Node.{Node}
 use Rattle.origin_model.specs.declared.operations.Place.{Place}
 use Rattle.origin_model.specs.declared.operations.Place.TheVariants.{Catalogue as catalogue, Section as within}
-use Rattle.section_list.specs.SectionList.{AreUnheld, empty_listing as no_elements, with_element, with_elements, with_hidden}
+use Rattle.section_list.specs.SectionList.{AreUnheld, empty_listing as no_elements, with_element, with_elements, with_hidden, with_run_hidden}
 use Rattle.section_catalogue.specs.declared.tables.Section.{Section as Titled}
 use Rattle.section_catalogue.specs.Contents.{Contents, section_at, place_at}
 
@@ -30,6 +30,10 @@ with_hidden_text x e = option_map (λ (t : Titled). record t { text = with_hidde
 -- the section with an element for each letter: n, and then each typed behind the one before it
 abbrev pub section_with_run : Node → List ℕ → Option Titled → Option Titled
 section_with_run n text e = option_map (λ (t : Titled). record t { text = with_elements n text t.text }) e
+
+-- the section with the elements of the first k identifiers from x on hidden
+abbrev pub section_with_run_hidden : Identifier → ℕ → Option Titled → Option Titled
+section_with_run_hidden x k e = option_map (λ (t : Titled). record t { text = with_run_hidden x k t.text }) e
 
 -- the first k identifiers from this one on have this answer
 abbrev pub Answer : {X : Type 0} → (Identifier → X) → Identifier → ℕ → X → Type 0
@@ -74,6 +78,12 @@ pub record HidesSection (old new : Contents) (x : Identifier) : Type 0 where
 pub record HidesText (old new : Contents) (s x : Identifier) : Type 0 where
   pub listed : new.catalogue ≡ old.catalogue
   pub sections : IsReplaced (section_at old) (section_at new) s (with_hidden_text x (section_at old s))
+  pub places : AnswersSame (place_at old) (place_at new)
+
+-- the elements of the first k identifiers from x on were hidden in the section s
+pub record HidesRun (old new : Contents) (s x : Identifier) (k : ℕ) : Type 0 where
+  pub listed : new.catalogue ≡ old.catalogue
+  pub sections : IsReplaced (section_at old) (section_at new) s (section_with_run_hidden x k (section_at old s))
   pub places : AnswersSame (place_at old) (place_at new)
 
 -- the section is there, and x is an element of its text

@@ -1,6 +1,7 @@
 -- The histories that a manuscript stands for, and what becomes of them.
-use Rattle.std.specs.Prelude.{◌≡◌, ◌↔◌, List, [], ◌∷◌, Option, option_map, IfSome, IsSome, if◌then◌else◌}
+use Rattle.std.specs.Prelude.{◌≡◌, ◌↔◌, ℕ, zero, suc, List, [], ◌∷◌, Option, option_map, IfSome, IsSome, if◌then◌else◌}
 use Rattle.fugue_ids.specs.Identifiers.{Identifier}
+use Rattle.fugue_ids.specs.Runs.{next_id}
 use Rattle.fugue_ids.specs.declared.op.Op.{Op}
 use Rattle.fugue_ids.specs.declared.op.Op.TheVariants.{Delete}
 use Rattle.origin_model.specs.operations.History.{holder}
@@ -63,6 +64,15 @@ once_hidden x h = if is_hidden h x then h else Delete x ∷ h
 -- a Delete of x came to each history in which x was shown
 abbrev pub Hides : Contents → Contents → Identifier → Type 0
 Hides old new x = (h : List Op) → StandsFor old h → StandsFor new (once_hidden x h)
+
+-- the history with a Delete of each of the first k identifiers from x on, one after another, where none names it yet
+abbrev pub each_hidden : Identifier → ℕ → List Op → List Op
+each_hidden x zero h = h
+each_hidden x (suc k) h = each_hidden (next_id x) k (once_hidden x h)
+
+-- a Delete of each of them came to each history in which it was shown
+abbrev pub HidesAll : Contents → Contents → Identifier → ℕ → Type 0
+HidesAll old new x k = (h : List Op) → StandsFor old h → StandsFor new (each_hidden x k h)
 
 -- it stands for the same histories
 abbrev pub Stays : Contents → Contents → Type 0

@@ -1,8 +1,9 @@
-//! One element more.
-ghost use Rattle.std.specs.Prelude.{◌≡◌, ◌<◌, ◌≤◌, ◌+◌, ◌^◌, None, IfSome, IsSome, OnErr, OnOk, length, Some, true};
+//! Elements more, and hidden ones.
+ghost use Rattle.std.specs.Prelude.{◌≡◌, ◌<◌, ◌≤◌, ◌+◌, ◌^◌, None, IfErr, IfSome, IsSome, OnErr, OnOk, length, Some, true};
 ghost use Rattle.origin_model.specs.sides.Node.{IsNew, has_node};
 ghost use Rattle.section_catalogue.specs.Changes.{AddsRun, AddsSection, Answer, AnswersSame, CanFollow, IsUnchanged};
-ghost use Rattle.section_catalogue.specs.Changes.{section_with_run, with_hidden_text};
+ghost use Rattle.section_catalogue.specs.Changes.{HidesRun, section_with_run, section_with_run_hidden, with_hidden_text};
+ghost use Rattle.section_list.specs.SectionList.{AreHeld};
 ghost use Rattle.section_catalogue.specs.Contents.{contents_of, entry_at, place_at};
 ghost use Rattle.fugue_ids.specs.Keyed.{IsReplaced};
 
@@ -10,7 +11,7 @@ use crate::homes::{forget_home, forget_homes, note_home, note_homes};
 use crate::tables::{Section, Tables};
 use fugue_ids::{ElementId, MOST_OPERATIONS, NoMemory, Title};
 use origin_model::{Node, Place};
-use section_list::SectionList;
+use section_list::{SectionList, StoppedAfter};
 use std::alloc::Global;
 use std::collections::BTreeMap;
 
@@ -143,4 +144,45 @@ pub(crate) fn hide_text(
         Some(entry) => entry.text.hide(id),
         None => Ok(()),
     }
+}
+
+/// Hides so many elements in the text of a section, from this identifier on. Want of memory leaves fewer hidden.
+fn hide_texts(
+    sections: &mut BTreeMap<ElementId, Section>,
+    section: &ElementId,
+    first: ElementId,
+    count: u32,
+) -> Result<(), StoppedAfter>
+    requires counters { first.counter + count ≤ 2 ^ 32 }
+    requires there { IsSome (entry_at sections.old.entries section.now) }
+    requires held { IfSome (entry_at sections.old.entries section.now) (λ e. AreHeld e.text.nodes first count) }
+    ensures ok { OnOk result (IsReplaced (entry_at sections.old.entries) (entry_at sections.new.entries) section.now
+        (section_with_run_hidden first count (entry_at sections.old.entries section.now))) }
+    ensures err { IfErr result (λ f. IsReplaced (entry_at sections.old.entries) (entry_at sections.new.entries) section.now
+        (section_with_run_hidden first f.done (entry_at sections.old.entries section.now))) }
+    ensures fewer { IfErr result (λ f. f.done < count) }
+{
+    match sections.get_mut(section) {
+        Some(entry) => entry.text.hide_run(first, count),
+        None => Ok(()),
+    }
+}
+
+/// Hides elements of a section.
+pub(crate) fn hide_run(
+    tables: &mut Tables,
+    section: &ElementId,
+    first: ElementId,
+    count: u32,
+) -> Result<(), StoppedAfter>
+    requires counters { first.counter + count ≤ 2 ^ 32 }
+    requires there { IsSome (entry_at tables.old.sections.entries section.now) }
+    requires held { IfSome (entry_at tables.old.sections.entries section.now)
+        (λ e. AreHeld e.text.nodes first count) }
+    ensures ok { OnOk result (HidesRun (contents_of tables.old) (contents_of tables.new) section.now first count) }
+    ensures err { IfErr result
+        (λ f. HidesRun (contents_of tables.old) (contents_of tables.new) section.now first f.done) }
+    ensures fewer { IfErr result (λ f. f.done < count) }
+{
+    hide_texts(&mut tables.sections, section, first, count)
 }

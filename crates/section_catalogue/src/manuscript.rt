@@ -1,22 +1,22 @@
-ghost use Rattle.std.specs.Prelude.{◌≡◌, ◌<◌, ◌≤◌, ◌+◌, ◌^◌, [], length, slice_get, option_map, IsSome, OnErr, OnOk};
+ghost use Rattle.std.specs.Prelude.{◌≡◌, ◌<◌, ◌≤◌, ◌+◌, ◌^◌, [], length, slice_get, option_map, Some, IfErr, IsSome, OnErr, OnOk};
 ghost use Rattle.fugue_ids.specs.Outs.{WritesBytes};
 ghost use Rattle.origin_model.specs.operations.History.{place};
 ghost use Rattle.origin_model.specs.order.Printed.{manuscript as manuscript_on, shown};
 ghost use Rattle.origin_model.specs.declared.operations.Place.TheVariants.{Catalogue as catalogue, Section as within};
 ghost use Rattle.fugue_ids.specs.Runs.{run_from};
 ghost use Rattle.section_catalogue.specs.Contents.{place_at, place_count, section_count_at, text_at, contents_of};
-ghost use Rattle.section_catalogue.specs.Manuscript.{AreReadyOn, GrowsBy, GrowsByAll, HasHistory, Hides, IsReadyOn, OnEach};
+ghost use Rattle.section_catalogue.specs.Manuscript.{AreReadyOn, GrowsBy, GrowsByAll, HasHistory, Hides, HidesAll, IsReadyOn, OnEach};
 ghost use Rattle.section_catalogue.specs.Manuscript.{StandsFor, Stays};
 ghost use Rattle.section_catalogue.specs.Manuscript.{empty_contents, LookUpsAreDefinitions};
-ghost use Rattle.section_catalogue.specs.Changes.{HidesAt, HoldsAt, IsUnchanged};
+ghost use Rattle.section_catalogue.specs.Changes.{Answer, HidesAt, HoldsAt, IsUnchanged};
 
-use crate::growth::{add_run, add_section, hide_text};
+use crate::growth::{add_run, add_section, hide_run, hide_text};
 use crate::homes::home_of;
 use crate::printing::put_sections;
 use crate::tables::Tables;
 use fugue_ids::{ElementId, Failed, Gather, MOST_OPERATIONS, NoMemory, Op, RunStart, Sink};
 use origin_model::{Node, Place};
-use section_list::SectionList;
+use section_list::{SectionList, StoppedAfter};
 use std::alloc::Global;
 use std::marker::Model;
 
@@ -165,6 +165,25 @@ impl Manuscript {
             Some(place) => hide_at(&mut self.tables, &place, id),
             None => Ok(()),
         }
+    }
+
+    /// Hides so many elements of a section, from this identifier on, what its text has in one run at once. Hidden ones
+    /// stay as they are. Want of memory leaves fewer hidden, and tells how many.
+    pub fn hide_run(
+        &mut self,
+        section: &ElementId,
+        first: ElementId,
+        count: u32,
+    ) -> Result<(), StoppedAfter>
+        requires some { 0 < count }
+        requires counters { first.counter + count ≤ 2 ^ 32 }
+        requires placed { Answer (place_at self.old) first count (Some (within section.now)) }
+        ensures ok { OnOk result (HidesAll self.old self.new first count) }
+        ensures err { IfErr result (λ e. HidesAll self.old self.new first e.done) }
+        ensures fewer { IfErr result (λ e. e.done < count) }
+        ensures has_history { HasHistory self.new }
+    {
+        hide_run(&mut self.tables, section, first, count)
     }
 
     /// Writes the manuscript: what is shown of each shown section, in the order of the catalogue. It goes out by whole

@@ -1,6 +1,6 @@
 -- A store that has the nodes of a place in order has their keys, gives a new one its key, and has the longer list of nodes once it is put in.
 use Rattle.std.proofs.Common.{Bool, List, [], ap, false, inl, inr, refl, subst, suc, sym, true, ℕ, ◌∙◌, ◌∷◌, ◌≡◌, ◌≢◌, ◌↔◌, zero}
-use Rattle.std.specs.Prelude.{Err, None, Ok, OnErr, OnOk, Option, Result, Some, if◌then◌else◌, is_some, map, option_map}
+use Rattle.std.specs.Prelude.{Err, IfErr, None, Ok, OnErr, OnOk, Option, Result, Some, if◌then◌else◌, is_some, map, option_map}
 use Rattle.std.specs.List.{All, Contains, insert}
 use Rattle.std.proofs.lemmas.Bool.{cases_Bool, false≢true, true≢false}
 use Rattle.std.proofs.lemmas.Bool.Decides.{same_from_decides}
@@ -11,13 +11,14 @@ use Rattle.fugue_ids.specs.declared.op.Op.{Op}
 use Rattle.fugue_ids.proofs.IdentifierLemmas.{cases_id, eq-id_eq, ne-id_eq, origin_eq-true}
 use Rattle.fugue_ids.proofs.ListLemmas.{all_from_contains, all_insert, contains_cases, contains_here, contains_none, contains_there}
 use Rattle.fugue_ids.specs.Keys.{Keyed}
+use Rattle.fugue_ids.specs.Runs.{id_behind}
 use Rattle.origin_model.specs.operations.History.{holder, left_of}
 use Rattle.origin_model.specs.order.Order.{has_left, right_beside}
 use Rattle.origin_model.specs.sides.Keys.{depth_above, forest_above, search_key_of, keyed as keyed_in, keyed_order, new_key}
 use Rattle.origin_model.specs.sides.Node.{IsNew, as_op, as_ops, find_node, has_node, has_origin, node_order}
 use Rattle.origin_model.specs.declared.operations.node.Node.{Node}
 use Rattle.origin_model.proofs.SharedLemmas.{holder-nodes, key-other, never_both, newest_key, nodes-lawful, nodes_listed, op_of}
-use Rattle.run_store.specs.Cells.{cell_of, cell_hiding, cell_ids, keyed_cells, origins_of}
+use Rattle.run_store.specs.Cells.{cell_of, cell_hiding, cell_ids, cells_hiding, keyed_cells, origins_of}
 use Rattle.run_store.specs.NewCells.{cell_depth, depth_under, forest_beside, cell_forest as forest_held, has_right, new_cell, new_cell_key as stored_key, shares_right}
 use Rattle.run_store.specs.declared.cell.Cell.{Cell as StoredCell}
 use Rattle.run_store.proofs.CellLemmas.{cell-none, others-absent}
@@ -216,3 +217,19 @@ on_ok (Err e) f k = k
 pub kept_hidden : {T E : Type 0} (ns : List Node) (cs after : List StoredCell) (x : Identifier) → KeepsNodes ns cs → (r : Result T E) → OnOk r (after ≡ map (cell_hiding x) cs) → OnErr r (after ≡ cs) → KeepsNodes ns after
 kept_hidden ns cs after x k (Ok v) ok err = subst (KeepsNodes ns) (sym ok) (keeps_hidden ns cs k x)
 kept_hidden ns cs after x k (Err e) ok err = subst (KeepsNodes ns) (sym err) k
+
+-- some are hidden, and the store keeps the nodes
+keeps_run_hidden : (n : ℕ) (x : Identifier) (ns : List Node) (cs : List StoredCell) → KeepsNodes ns cs → KeepsNodes ns (cells_hiding x n cs)
+keeps_run_hidden zero x ns cs k = k
+keeps_run_hidden (suc n) x ns cs k = keeps_run_hidden n (id_behind x 1) ns (map (cell_hiding x) cs) (keeps_hidden ns cs k x)
+
+-- however many were hidden, the store keeps the nodes
+pub kept_run_hidden : {T E : Type 0} (ns : List Node) (cs after : List StoredCell) (x : Identifier) (n : ℕ) (done : E → ℕ) → KeepsNodes ns cs → (r : Result T E) → OnOk r (after ≡ cells_hiding x n cs)
+    → IfErr r (λ e. after ≡ cells_hiding x (done e) cs) → KeepsNodes ns after
+kept_run_hidden ns cs after x n done k (Ok v) ok err = subst (KeepsNodes ns) (sym ok) (keeps_run_hidden n x ns cs k)
+kept_run_hidden ns cs after x n done k (Err e) ok err = subst (KeepsNodes ns) (sym err) (keeps_run_hidden (done e) x ns cs k)
+
+-- what follows where there is none
+pub if_err : {T E : Type 0} {A B : E → Type 0} (r : Result T E) → ((e : E) → A e → B e) → IfErr r A → IfErr r B
+if_err (Ok v) f k = k
+if_err (Err e) f k = f e k

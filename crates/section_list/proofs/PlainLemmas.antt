@@ -5,10 +5,13 @@ use Rattle.std.specs.List.{insert}
 use Rattle.std.proofs.lemmas.List.{length-map, take-map}
 use Rattle.fugue_ids.specs.Identifiers.{Identifier, id_eq}
 use Rattle.fugue_ids.specs.Listed.{index_of}
-use Rattle.run_store.specs.Cells.{cell_ids as stored_ids, is_hidden_cell as stored_hidden, cell_hiding as stored_hiding, cell_text as stored_text, cells_shown as stored_visible, shown_before as stored_before}
+use Rattle.fugue_ids.specs.Runs.{id_behind}
+use Rattle.origin_model.specs.declared.operations.node.Node.{Node}
+use Rattle.run_store.specs.Cells.{cell_ids as stored_ids, is_hidden_cell as stored_hidden, cell_hiding as stored_hiding, cells_hiding, cell_text as stored_text, cells_shown as stored_visible, shown_before as stored_before}
 use Rattle.run_store.specs.declared.cell.Cell.{Cell as StoredCell}
 use Rattle.section_list.specs.Cells.{Cell, section_hiding, section_cell_ids, is_hidden_in_section, section_text, section_cells_shown, section_shown_before}
 use Rattle.section_list.specs.Kept.{plain}
+use Rattle.section_list.specs.SectionList.{Listing, with_run_hidden}
 
 -- their identifiers
 pub plain_ids : (cs : List StoredCell) → section_cell_ids (map plain cs) ≡ stored_ids cs
@@ -55,6 +58,13 @@ plain_hides x c = elim (id_eq c.id x) as (λ b. plain (if b then record c { hidd
 pub plain_hiding : (x : Identifier) (cs : List StoredCell) → map plain (map (stored_hiding x) cs) ≡ map (section_hiding x) (map plain cs)
 plain_hiding x [] = refl
 plain_hiding x (c ∷ cs) = λ i. plain_hides x c i ∷ plain_hiding x cs i
+
+-- some hidden
+pub plain_run_hidden : (n : ℕ) (x : Identifier) (ns : List Node) (cs : List StoredCell)
+    → ◌≡◌ {A = Listing} (record { nodes = ns; cells = map plain (cells_hiding x n cs) }) (with_run_hidden x n (record { nodes = ns; cells = map plain cs }))
+plain_run_hidden zero x ns cs = refl
+plain_run_hidden (suc n) x ns cs =
+    plain_run_hidden n (id_behind x 1) ns (map (stored_hiding x) cs) ∙ ap (λ t. with_run_hidden (id_behind x 1) n (record { nodes = ns; cells = t })) (plain_hiding x cs)
 
 -- how many are visible
 pub plain_count : (cs : List StoredCell) → length (section_cells_shown (map plain cs)) ≡ length (stored_visible cs)

@@ -1,5 +1,5 @@
 -- A place as contracts see it.
-use Rattle.std.specs.Prelude.{◌≡◌, ◌<◌, false, List, [], ◌∷◌, ℕ, map}
+use Rattle.std.specs.Prelude.{◌≡◌, ◌<◌, false, true, List, [], ◌∷◌, ℕ, zero, suc, map}
 use Rattle.std.specs.List.{insert}
 use Rattle.fugue_ids.specs.Identifiers.{Identifier}
 use Rattle.fugue_ids.specs.Listed.{index_of}
@@ -38,6 +38,15 @@ with_elements n (ch ∷ text) s = with_elements (next_node n) text (with_element
 abbrev pub AreUnheld : List Node → Identifier → ℕ → Type 0
 AreUnheld ns id k = (j : ℕ) → j < k → has_node ns (id_behind id j) ≡ false
 
+-- the first k identifiers from this one on are nodes'
+abbrev pub AreHeld : List Node → Identifier → ℕ → Type 0
+AreHeld ns id k = (j : ℕ) → j < k → has_node ns (id_behind id j) ≡ true
+
 -- the element x hidden
 abbrev pub with_hidden : Identifier → Listing → Listing
 with_hidden x s = record { nodes = s.nodes; cells = map (section_hiding x) s.cells }
+
+-- the elements of the first k identifiers from x on hidden, one after another
+abbrev pub with_run_hidden : Identifier → ℕ → Listing → Listing
+with_run_hidden x zero s = s
+with_run_hidden x (suc k) s = with_run_hidden (id_behind x 1) k (with_hidden x s)

@@ -4,4 +4,4 @@
 mod place;
 
 pub use place::SectionList;
-pub use run_store::Shown;
+pub use run_store::{Shown, StoppedAfter};

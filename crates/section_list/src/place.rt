@@ -1,5 +1,5 @@
 ghost use Rattle.std.specs.Prelude.{◌≡◌, ◌↔◌, ◌⊎◌, ◌<◌, ◌≤◌, ◌+◌, ◌^◌, ◌∷◌, [], false, true, drop, length, nat_lt, slice_get, IfSome};
-ghost use Rattle.std.specs.Prelude.{IsNone, OnErr, OnOk};
+ghost use Rattle.std.specs.Prelude.{IfErr, IsNone, OnErr, OnOk};
 ghost use Rattle.std.specs.List.{Contains};
 ghost use Rattle.std.specs.Str.{encode_utf8_all};
 ghost use Rattle.fugue_ids.specs.Gathers.{GathersText};
@@ -11,12 +11,12 @@ ghost use Rattle.origin_model.specs.sides.Node.{IsNew, has_node, has_origin, nod
 ghost use Rattle.origin_model.specs.sides.Slot.{IsBeside, at_gap};
 ghost use Rattle.section_list.specs.Cells.{section_cell_ids, is_hidden_in_section as hidden_in, section_text};
 ghost use Rattle.section_list.specs.Cells.{section_cells_shown, section_shown_before};
-ghost use Rattle.section_list.specs.SectionList.{AreUnheld, IsInOrder, empty_listing, with_element, with_elements};
-ghost use Rattle.section_list.specs.SectionList.{with_hidden};
+ghost use Rattle.section_list.specs.SectionList.{AreHeld, AreUnheld, IsInOrder, empty_listing, with_element, with_elements};
+ghost use Rattle.section_list.specs.SectionList.{with_hidden, with_run_hidden};
 
 use fugue_ids::{ElementId, Failed, Gap, Gather, MOST_OPERATIONS, NoMemory, Out, Sink};
 use origin_model::Node;
-use run_store::{RunStore, Shown};
+use run_store::{RunStore, Shown, StoppedAfter};
 use sided_tree::{Ages, NodeLookup, NodeRun, find_gap};
 use std::alloc::Global;
 use std::marker::Model;
@@ -216,6 +216,19 @@ impl SectionList {
         ensures in_order { IsInOrder self.new }
     {
         self.store.hide(id)
+    }
+
+    /// Hides the elements of so many identifiers from this one on, what the store has in one run at once. Hidden ones stay
+    /// as they are. Want of memory leaves fewer hidden, and tells how many.
+    pub fn hide_run(&mut self, first: ElementId, count: u32) -> Result<(), StoppedAfter>
+        requires counters { first.counter + count ≤ 2 ^ 32 }
+        requires held { AreHeld self.old.nodes first count }
+        ensures ok { OnOk result (self.new ≡ with_run_hidden first count self.old) }
+        ensures err { IfErr result (λ e. self.new ≡ with_run_hidden first e.done self.old) }
+        ensures fewer { IfErr result (λ e. e.done < count) }
+        ensures in_order { IsInOrder self.new }
+    {
+        self.store.hide_run(first, count)
     }
 
     /// Writes the text: the scalars of the visible elements, in order. They go out by whole arrays, and it takes no

@@ -1,15 +1,17 @@
-//! Operations of an edit: a text is accepted whole, and Deletes one after another as far as memory lasts.
-ghost use Rattle.std.specs.Prelude.{◌≡◌, ◌<◌, ◌≤◌, ◌+◌, ◌^◌, length, IfOk, OnErr, OnOk};
+//! Operations of an edit: a text is accepted whole, and Deletes in rows, one after another as far as memory lasts.
+ghost use Rattle.std.specs.Prelude.{◌≡◌, ◌<◌, ◌≤◌, ◌+◌, ◌^◌, length, take, IfOk, IsTrue, OnErr, OnOk};
+ghost use Rattle.fugue_ids.specs.Runs.{next_id};
 ghost use Rattle.std.specs.Str.{chars};
 ghost use Rattle.origin_model.specs.edits.Edits.{deletes_of, id_at};
 ghost use Rattle.origin_model.specs.taking.Taking.{IsSettled};
 ghost use Rattle.origin_model.specs.edits.Effect.{Gains, StopsPartly};
+ghost use Rattle.replica_core.specs.Deleting.{AreWithin, ids_from};
 ghost use Rattle.replica_core.specs.Edits.{CanJoin, typed_at};
 ghost use Rattle.origin_model.specs.edits.State.{Stands};
 
 use crate::Replica;
 use crate::edits::planning::TextSpot;
-use fugue_ids::{ElementId, NoMemory, Op, RunStart};
+use fugue_ids::{ElementId, NoMemory, RunStart};
 use std::alloc::Global;
 
 fn scalars_of(alloc: Global, text: &str) -> Result<Vec<char>, NoMemory>
@@ -58,18 +60,56 @@ impl Replica {
         Ok(spot.count)
     }
 
-    /// Deletes the elements.
-    pub(crate) fn delete_each(&mut self, targets: &[ElementId]) -> Result<(), NoMemory>
+    /// Deletes elements of a section, those at once whose identifiers follow one another.
+    pub(crate) fn delete_each(
+        &mut self,
+        section: &ElementId,
+        targets: &[ElementId],
+    ) -> Result<(), NoMemory>
         requires stands { Stands self.old }
         requires can_join { CanJoin self.old (deletes_of targets.now) }
+        requires within { AreWithin section.now self.old.held.history targets.now }
         ensures ok { OnOk result (Gains self.old self.new (deletes_of targets.now)) }
         ensures err { OnErr result (StopsPartly self.old self.new (deletes_of targets.now)) }
         ensures settled { IsSettled self.new.held }
         ensures stands { Stands self.new }
     {
-        'deleted: for target in targets {
-            self.join(Op::Delete { target: *target })?;
+        let mut at = 0;
+        'deleted: while at < targets.len() {
+            let first = targets[at];
+            let count = followers(first, &targets[at + 1..]) + 1;
+            let Ok(()) = self.join_deletes(section, first, count) else {
+                return Err(NoMemory);
+            };
+            at += count as usize;
         }
         Ok(())
     }
+}
+
+/// Whether the identifier is the next one of the same replica.
+fn is_next(last: &ElementId, id: &ElementId) -> bool
+    ensures next { IsTrue result → id.now ≡ next_id last.now }
+    ensures fits { IsTrue result → last.now.counter + 1 < 2 ^ 32 }
+{
+    id.replica == last.replica && last.counter < id.counter && id.counter - last.counter == 1
+}
+
+/// How many identifiers at the front follow this one, each the one before it.
+fn followers(first: ElementId, rest: &[ElementId]) -> u32
+    requires { length rest.now < 2 ^ 32 }
+    ensures row { take result rest.now ≡ ids_from (next_id first) result }
+    ensures within { result ≤ length rest.now }
+    ensures counters { first.counter + result < 2 ^ 32 }
+{
+    let mut last = first;
+    let mut count = 0;
+    'row: for id in rest {
+        if !is_next(&last, id) {
+            return count;
+        }
+        last = *id;
+        count += 1;
+    }
+    count
 }

@@ -5,6 +5,7 @@ ghost use Rattle.std.specs.Str.{chars};
 ghost use Rattle.origin_model.specs.edits.Edits.{Put, Cut, Add, DropSection, deletes_of, in_front};
 ghost use Rattle.origin_model.specs.edits.Noting.{note_by, note_refusal};
 ghost use Rattle.origin_model.specs.edits.Refusal.{made_by, refusal_message};
+ghost use Rattle.replica_core.specs.Deleting.{AreWithin};
 ghost use Rattle.replica_core.specs.Edits.{IsCauseOf, typed_at};
 ghost use Rattle.origin_model.specs.edits.State.{Stands};
 ghost use Rattle.section_list.specs.Cells.{section_cell_ids, section_cells_shown};
@@ -24,6 +25,13 @@ pub(crate) struct TextSpot {
     pub right: Option<ElementId>,
     pub counter: u64,
     pub count: u32,
+}
+
+/// The elements of a section that go.
+#[derive(Drop)]
+pub(crate) struct Targets {
+    pub section: ElementId,
+    pub ids: Vec<ElementId>,
 }
 
 /// How many scalars a text has.
@@ -67,13 +75,10 @@ impl Replica {
     }
 
     /// The elements that go.
-    pub(crate) fn targets(
-        &self,
-        section: usize,
-        at: usize,
-        n: usize,
-    ) -> Result<Vec<ElementId>, EditFault>
-        ensures ok { IfOk result (λ targets. made_by self.now (Cut section at n) ≡ deletes_of targets.items) }
+    pub(crate) fn targets(&self, section: usize, at: usize, n: usize) -> Result<Targets, EditFault>
+        ensures ok { IfOk result (λ targets. made_by self.now (Cut section at n) ≡ deletes_of targets.ids.items) }
+        ensures within { IfOk result
+            (λ targets. AreWithin targets.section self.now.held.history targets.ids.items) }
         ensures may { OnOk result (refusal_message self.now (Cut section at n) ≡ None) }
         ensures err { IfErr result (λ fault. IsCauseOf fault self.now (Cut section at n)) }
         ensures stands { Stands self.now }
@@ -85,7 +90,10 @@ impl Replica {
             return Err(EditFault::OutOfRange);
         }
         self.check_room(n)?;
-        Ok(shown_part(self.alloc, section.text, at, n)?)
+        Ok(Targets {
+            section: section.id,
+            ids: shown_part(self.alloc, section.text, at, n)?,
+        })
     }
 
     /// The new section.

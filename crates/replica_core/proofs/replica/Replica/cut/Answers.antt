@@ -1,6 +1,7 @@
 use Rattle.std.proofs.Common.{ap, subst, sym, ◌∙◌}
 use Rattle.origin_model.specs.edits.Edits.{Cut, deletes_of}
 use Rattle.origin_model.specs.edits.Effect.{with_ops}
+use Rattle.replica_core.specs.Deleting.{AreWithin}
 use Rattle.replica_core.specs.Edits.{CanJoin}
 use Rattle.origin_model.proofs.edits.RefusalLemmas.{edit_lands}
 use Rattle.replica_core.proofs.EditLemmas.{made_can_join}
@@ -11,6 +12,10 @@ delete_each-requires-clause-can_join c =
     rw c.deref.ensures.value
     (subst (CanJoin c.args.self.now) c.in_ok-targets.ensures.ok
     (made_can_join c.args.self.now (Cut c.args.section c.args.at c.args.n) c.in_ok-targets.ensures.stands c.requires c.in_ok-targets.ensures.may))
+
+pub delete_each-requires-clause-within : goal.delete_each-requires-clause-within
+delete_each-requires-clause-within c =
+    subst (AreWithin c.in_ok-targets.targets.section c.args.self.now.held.history) (sym c.deref.ensures.value) c.in_ok-targets.ensures.within
 
 pub returns-clause-lands : goal.returns-clause-lands
 returns-clause-lands c =

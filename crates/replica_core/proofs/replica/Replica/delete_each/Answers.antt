@@ -1,47 +1,52 @@
-use Rattle.std.proofs.Common.{drop, subst, ◌+◌}
-use Rattle.std.proofs.lemmas.List.{at_drop_all}
-use Rattle.std.proofs.lemmas.Result.{err_from_is_err_and}
-use Rattle.fugue_ids.specs.declared.op.Op.TheVariants.{Delete}
-use Rattle.origin_model.specs.edits.Edits.{deletes_of}
-use Rattle.replica_core.proofs.JoinLemmas.{IsJoining, begins, deletes, ends, first_can, goes_on, stops}
+use Rattle.std.proofs.Common.{ap, length, subst, sym, take, ◌+◌, ◌∙◌, ◌≤◌}
+use Rattle.replica_core.proofs.DeletingLemmas.{deleting_each, each_deleted, row_can_join, row_deleted, row_stopped, row_within, tail_is}
 use Rattle.replica_core.proofs.replica.Replica.delete_each.Goals as goal
 
 pub deleted-init : goal.deleted-init
-deleted-init c = begins c.args.self.now (deletes_of c.args.targets.now) c.requires.can_join c.requires.stands
+deleted-init c = deleting_each c.args.section.now c.args.self.now c.args.targets.now c.requires.can_join c.requires.stands c.requires.within
 
-pub join-requires : goal.join-requires
-join-requires c =
+pub join_deletes-requires-clause-can : goal.join_deletes-requires-clause-can
+join_deletes-requires-clause-can c =
     let xs = c.args.targets.now in
-    let k = c.deleted.target-index in
-    let x = c.target-item.result in
-    first_can c.deleted.self (Delete x) (deletes_of (drop (k + 1) xs)) (deletes c.args.self.now c.deleted.self xs k x c.deleted.invariant c.deleted-test.true c.target-item.is).can
+    let at = c.deleted.at in
+    let n = c.followers-count.result in
+    let tail = tail_is xs (at + 1) in
+    let row = ap (take n) (sym tail) ∙ c.followers-count.ensures.row in
+    let few = subst (λ ys. n ≤ length ys) tail c.followers-count.ensures.within in
+    row_can_join c.args.section.now c.args.self.now c.deleted.self xs at c.deleted.invariant c.index-targets-at.result c.deleted-test.true c.index-targets-at.is n row few
 
-pub returns-in_err-join-clause-err : goal.returns-in_err-join-clause-err
-returns-in_err-join-clause-err c =
+pub join_deletes-requires-clause-within : goal.join_deletes-requires-clause-within
+join_deletes-requires-clause-within c =
     let xs = c.args.targets.now in
-    let k = c.deleted.target-index in
-    let x = c.target-item.result in
-    let p = err_from_is_err_and c.from_residual.result c.from_residual.ensures.1 in
-    rw (p.1, c.in_err-join.ensures.err)
-    (stops c.args.self.now c.deleted.self (deletes_of xs) (deletes_of (drop (k + 1) xs)) (Delete x) (deletes c.args.self.now c.deleted.self xs k x c.deleted.invariant c.deleted-test.true c.target-item.is))
+    let at = c.deleted.at in
+    let n = c.followers-count.result in
+    let tail = tail_is xs (at + 1) in
+    let row = ap (take n) (sym tail) ∙ c.followers-count.ensures.row in
+    let few = subst (λ ys. n ≤ length ys) tail c.followers-count.ensures.within in
+    row_within c.args.section.now c.args.self.now c.deleted.self xs at c.deleted.invariant c.index-targets-at.result c.deleted-test.true c.index-targets-at.is n row few
+
+pub returns-in_default-clause-err : goal.returns-in_default-clause-err
+returns-in_default-clause-err c =
+    let xs = c.args.targets.now in
+    let at = c.deleted.at in
+    let n = c.followers-count.result in
+    let tail = tail_is xs (at + 1) in
+    let row = ap (take n) (sym tail) ∙ c.followers-count.ensures.row in
+    let few = subst (λ ys. n ≤ length ys) tail c.followers-count.ensures.within in
+    let stopped = c.in_default.ensures in
+    row_stopped c.args.section.now c.args.self.now c.deleted.self xs at c.deleted.invariant c.index-targets-at.result c.deleted-test.true c.index-targets-at.is n row few
+    c.join_deletes.new.self c.in_default.field-0.done stopped.fewer stopped.err stopped.stands
 
 pub deleted-preserved : goal.deleted-preserved
 deleted-preserved c =
     let xs = c.args.targets.now in
-    let k = c.deleted.target-index in
-    let x = c.target-item.result in
-    let joined = c.in_ok-join.ensures in
-    goes_on c.args.self.now c.deleted.self c.join.new.self (deletes_of xs) (deletes_of (drop (k + 1) xs)) (Delete x)
-    (deletes c.args.self.now c.deleted.self xs k x c.deleted.invariant c.deleted-test.true c.target-item.is) joined.ok joined.stands
+    let at = c.deleted.at in
+    let n = c.followers-count.result in
+    let tail = tail_is xs (at + 1) in
+    let row = ap (take n) (sym tail) ∙ c.followers-count.ensures.row in
+    let few = subst (λ ys. n ≤ length ys) tail c.followers-count.ensures.within in
+    row_deleted c.args.section.now c.args.self.now c.deleted.self xs at c.deleted.invariant c.index-targets-at.result c.deleted-test.true c.index-targets-at.is n row few
+    c.join_deletes.new.self c.in-Ok.ensures.ok c.in-Ok.ensures.stands
 
 pub returns-clause-ok : goal.returns-clause-ok
-returns-clause-ok c =
-    let xs = c.args.targets.now in
-    ends c.args.self.now c.deleted.self (deletes_of xs)
-    (subst (IsJoining c.args.self.now c.deleted.self (deletes_of xs)) (at_drop_all deletes_of xs c.deleted.target-index c.deleted-test.false) c.deleted.invariant)
-
-pub returns-clause-settled : goal.returns-clause-settled
-returns-clause-settled c = c.deleted.invariant.can.settled
-
-pub returns-clause-stands : goal.returns-clause-stands
-returns-clause-stands c = c.deleted.invariant.stands
+returns-clause-ok c = each_deleted c.args.section.now c.args.self.now c.deleted.self c.args.targets.now c.deleted.at c.deleted.invariant c.deleted-test.false

@@ -1,7 +1,9 @@
-use Rattle.std.proofs.Common.{drop}
-use Rattle.origin_model.specs.edits.Edits.{deletes_of}
-use Rattle.replica_core.proofs.JoinLemmas.{IsJoining}
+use Rattle.std.proofs.Common.{length, ◌-◌}
+use Rattle.replica_core.proofs.DeletingLemmas.{IsDeletingEach}
 use Rattle.replica_core.proofs.replica.Replica.delete_each.Given as goal
 
 abbrev pub invariant-deleted : goal.invariant-deleted
-invariant-deleted l = IsJoining l.initial.self l.self (deletes_of l.initial.targets) (deletes_of (drop l.target-index l.targets))
+invariant-deleted l = IsDeletingEach l.section l.initial.self l.self l.targets l.at
+
+abbrev pub decreases-deleted : goal.decreases-deleted
+decreases-deleted l = length l.targets - l.at

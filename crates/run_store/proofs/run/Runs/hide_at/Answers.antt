@@ -1,5 +1,5 @@
-use Rattle.std.proofs.Common.{◌≡◌, length, map, refl, subst, sym}
-use Rattle.run_store.specs.Cells.{cell_hiding}
+use Rattle.std.proofs.Common.{◌≡◌, length, refl, subst, sym}
+use Rattle.run_store.specs.Cells.{cells_hiding}
 use Rattle.run_store.specs.Heads.{head_behind}
 use Rattle.run_store.specs.Runs.{AreRuns, cells_in, first_of}
 use Rattle.run_store.specs.Stored.{IsRaised}
@@ -15,12 +15,13 @@ returns-in-Some c =
     let b = c.in-Some.border in
     let h = c.in-Some.ensures in
     let x = (head_behind c.args.spot.now.offset (first_of c.args.spot.now.run)).id in
+    let k = c.args.n in
     let moved = shifted_runs r s b.front b.back h.border b.at h.move in
     let new = c.shift.new.self in
     let n = length r.rope in
     record {
-      sound = either AreRuns c.shift.result moved r new c.shift.ensures.ok c.shift.ensures.err (taken-sound r s b.front b.back h.border x b.at h.move h.taken) s;
-      ok = where-ok (λ (a : Runs). cells_in a ≡ map (cell_hiding x) (cells_in r)) c.shift.result moved new c.shift.ensures.ok (taken-cells r s b.front b.back h.border x b.at h.move h.taken);
+      sound = either AreRuns c.shift.result moved r new c.shift.ensures.ok c.shift.ensures.err (taken-sound r s b.front b.back h.border x k b.at h.move h.taken) s;
+      ok = where-ok (λ (a : Runs). cells_in a ≡ cells_hiding x k (cells_in r)) c.shift.result moved new c.shift.ensures.ok (taken-cells r s b.front b.back h.border x k b.at h.move h.taken);
       err = where-err (λ (a : Runs). cells_in a ≡ cells_in r) c.shift.result r new c.shift.ensures.err refl;
       raised = where-ok (λ (a : Runs). IsRaised 2 n (length a.rope)) c.shift.result moved new c.shift.ensures.ok
           (subst (IsRaised 2 n) (sym (shifted-length r s b.front b.back h.border b.at h.move)) (kept-raised 2 n));

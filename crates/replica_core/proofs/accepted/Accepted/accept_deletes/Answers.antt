@@ -1,0 +1,47 @@
+use Rattle.std.proofs.Common.{ap, arith, drop, length, refl, subst, sym, ◌-◌, ◌≤◌, ◌∙◌}
+use Rattle.origin_model.specs.edits.Edits.{ReadyInTurn, extended}
+use Rattle.section_catalogue.specs.Manuscript.{StandsFor}
+use Rattle.replica_core.specs.Deleting.{AreWithin, deletes_from, ids_from}
+use Rattle.replica_core.proofs.DeletingLemmas.{length-from, others_taken_back, placed_each, stands_deleted}
+use Rattle.replica_core.proofs.RunLemmas.{length-extended}
+use Rattle.replica_core.proofs.accepted.Accepted.accept_deletes.Goals as goal
+
+pub hide_run-requires-clause-placed : goal.hide_run-requires-clause-placed
+hide_run-requires-clause-placed c =
+    placed_each c.args.count c.args.first c.args.section.now c.self.inside.manuscript c.self.inside.history c.self.invariant
+    (subst (λ h. AreWithin c.args.section.now h (ids_from c.args.first c.args.count)) (sym c.self.view_is) c.requires.within)
+
+pub pop_all-requires : goal.pop_all-requires
+pop_all-requires c =
+    let x = c.args.first in
+    let n = c.args.count in
+    let h = c.self.inside.history in
+    omega (arith, ap length c.in-Ok.ensures.ok, length-extended (deletes_from x n) h, length-from n x)
+
+pub returns-in-Err-clause-err : goal.returns-in-Err-clause-err
+returns-in-Err-clause-err c =
+    let x = c.args.first in
+    let n = c.args.count in
+    let done = c.in-Err.stopped.done in
+    let h = c.self.inside.history in
+    let l : done ≤ n = omega (arith, c.in-Err.ensures.fewer) in
+    c.pop_all.ensures ∙ ap (drop (n - done)) c.in-Ok.ensures.ok ∙ others_taken_back n done (n - done) x h l refl ∙ ap (λ z. extended z (deletes_from x done)) c.self.view_is
+
+pub invariant_of-self-in-Err : goal.invariant_of-self-in-Err
+invariant_of-self-in-Err c =
+    let x = c.args.first in
+    let n = c.args.count in
+    let done = c.in-Err.stopped.done in
+    let h = c.self.inside.history in
+    let l : done ≤ n = omega (arith, c.in-Err.ensures.fewer) in
+    let ready = subst (λ z. ReadyInTurn z (deletes_from x n)) (sym c.self.view_is) c.requires.ready in
+    subst (StandsFor c.hide_run.new.self) (ap (λ z. extended z (deletes_from x done)) c.self.view_is ∙ sym (returns-in-Err-clause-err c))
+    (stands_deleted c.self.inside.manuscript c.hide_run.new.self n done x h l ready c.self.invariant c.in-Err.ensures.err)
+
+pub invariant_of-self-in-Ok-hide_run : goal.invariant_of-self-in-Ok-hide_run
+invariant_of-self-in-Ok-hide_run c =
+    let x = c.args.first in
+    let n = c.args.count in
+    let h = c.self.inside.history in
+    let ready = subst (λ z. ReadyInTurn z (deletes_from x n)) (sym c.self.view_is) c.requires.ready in
+    subst (StandsFor c.hide_run.new.self) (sym c.in-Ok.ensures.ok) (stands_deleted c.self.inside.manuscript c.hide_run.new.self n n x h (omega arith) ready c.self.invariant c.in-Ok-hide_run.ensures.ok)
