@@ -19,3 +19,4 @@ pub mod PrintingLemmas
 pub mod OutliningLemmas
 pub mod NotedLemmas
 mod Examples
+pub mod ArrangerLemmas

@@ -1,11 +1,14 @@
 -- What is known between one move or retitle and the next.
-use Rattle.std.specs.Prelude.{◌≡◌, ℕ, ◌+◌, ◌<◌, ◌^◌, IfSome, List, ◌∷◌, length}
+use Rattle.std.specs.Prelude.{◌≡◌, ℕ, ◌+◌, ◌<◌, ◌≤◌, ◌^◌, IfSome, List, ◌∷◌, length}
+use Rattle.std.specs.List.{Contains}
 use Rattle.fugue_ids.specs.declared.op.Op.{Op}
 use Rattle.fugue_ids.specs.declared.op.Op.TheVariants.{Note}
 use Rattle.fugue_ids.specs.Identifiers.{Identifier}
 use Rattle.origin_model.specs.edits.State.{State}
+use Rattle.origin_model.specs.order.Printed.{is_withdrawn}
 use Rattle.catalogue_notes.specs.Arranged.{arranged}
-use Rattle.catalogue_notes.specs.Lift.{stamp}
+use Rattle.catalogue_notes.specs.Claims.{Move}
+use Rattle.catalogue_notes.specs.Lift.{lift, moves, stamp}
 use Rattle.catalogue_notes.specs.Moving.{IsMoveMade, IsRetitleMade}
 use Rattle.catalogue_notes.specs.Placing.{IsArranged}
 use Rattle.catalogue_notes.specs.declared.arranger.Arranger.{Arranger}
@@ -20,6 +23,16 @@ pub record IsStamped (h : List Op) (found : Stamped) : Type 0 where
 -- what an arranger knows, if anything, is so of the history
 abbrev pub Arranges : List Op → Arranger → Type 0
 Arranges h a = IfSome a.found (IsStamped h)
+
+-- sections are arranged by the same moves as before, under the same stamp, and the same moves are withdrawn: so it is when
+-- texts alone were edited
+pub record MovesStay (old new : List Op) : Type 0 where
+  pub grew : length old ≤ length new
+  pub lifted : lift new ≡ lift old
+  pub moved : moves new ≡ moves old
+  pub stamps : stamp new ≡ stamp old
+  pub arranged_as : arranged new ≡ arranged old
+  pub withdrawn : (m : Move) → Contains (moves old) m → is_withdrawn new m.id ≡ is_withdrawn old m.id
 
 -- a note stands behind what is arranged
 pub record IsBehindNote (h : List Op) (a : Arrangement) : Type 0 where

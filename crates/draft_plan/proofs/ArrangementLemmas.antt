@@ -1,5 +1,5 @@
 -- Texts that are written, and elements of texts that are taken away, leave how sections are arranged and headed.
-use Rattle.std.proofs.Common.{List, [], ap, drop, false, inl, inr, length, max, not, refl, subst, suc, sym, take, true, ℕ, ◌&&◌, ◌||◌, ◌∙◌, ◌∷◌, ◌≡◌, ◌≢◌, ◌≤◌}
+use Rattle.std.proofs.Common.{List, [], ap, arith, drop, false, inl, inr, length, max, not, refl, subst, suc, sym, take, true, ℕ, ◌&&◌, ◌||◌, ◌∙◌, ◌∷◌, ◌≡◌, ◌≢◌, ◌≤◌}
 use Rattle.std.specs.Prelude.{None, Option, Some, filter, flat_map, map, slice_get}
 use Rattle.std.specs.List.{All, Contains}
 use Rattle.std.proofs.lemmas.Bool.{cases_Bool, false≢true}
@@ -21,10 +21,12 @@ use Rattle.origin_model.proofs.SharedLemmas.{holder-other, holder-own, order_tot
 use Rattle.origin_model.proofs.edits.CutLemmas.{cut_takes}
 use Rattle.origin_model.proofs.edits.MadeLemmas.{cut_made, put_made}
 use Rattle.origin_model.proofs.edits.PutLemmas.{put_lands}
-use Rattle.catalogue_notes.specs.Arranged.{best, counts, winner}
+use Rattle.catalogue_notes.specs.Arranged.{arranged, best, counts, winner}
+use Rattle.catalogue_notes.specs.Arranging.{MovesStay}
 use Rattle.catalogue_notes.specs.Claims.{Claim, Move, Retitle, move_in, retitle_in}
-use Rattle.catalogue_notes.specs.Lift.{greatest, is_valid_title, lift, moves, retitles}
+use Rattle.catalogue_notes.specs.Lift.{greatest, is_valid_title, lift, moves, retitles, stamp}
 use Rattle.catalogue_notes.proofs.ArrangedLemmas.{move_found, move_test, position_by}
+use Rattle.catalogue_notes.proofs.ArrangerLemmas.{arranges_still}
 use Rattle.catalogue_notes.proofs.ClaimLemmas.{claim_found, claims-none}
 use Rattle.catalogue_notes.proofs.HolderLemmas.{joins, not_both, same_value}
 use Rattle.catalogue_notes.proofs.LiftLemmas.{lift-none, passing_from}
@@ -106,6 +108,10 @@ same_hidden [] h x k = refl
 same_hidden (op ∷ ops) h x k =
     same_hidden ops (op ∷ h) x (All-tail (λ op. deletes x op ≡ false) op ops k) ∙ ap (λ b. b || is_hidden h x) (All-head (λ op. deletes x op ≡ false) op ops k)
 
+longer : (ops h : List Op) → length h ≤ length (extended h ops)
+longer [] h = omega arith
+longer (op ∷ ops) h = omega (arith, longer ops (op ∷ h))
+
 -- an operation that says something is no element of a text
 no_text-move : (s : Identifier) (f : Op) (m : Move) → move_in f ≡ Some m → element_of (within s) f ≡ None
 no_text-move s (Section id left right title) m k = absurd (not_both None m refl k)
@@ -142,14 +148,31 @@ module _ (s : Identifier) (h ops : List Op) (w : Lawful h) (a : AreOfText s h op
   same_titler : (t : Identifier) → winner (extended h ops) t (retitles (extended h ops)) ≡ winner h t (retitles h)
   same_titler t = ap (winner (extended h ops) t) (same_retitles ops h a.kind) ∙ same_winner (retitles h) t title_stays
 
+  same_stamp : stamp (extended h ops) ≡ stamp h
+  same_stamp i = max (greatest (map (λ (m : Move). m.stamp) (same_moves ops h a.kind i))) (greatest (map (λ (r : Retitle). r.stamp) (same_retitles ops h a.kind i)))
+
+  same_arranged : shown catalogue (extended h ops) ≡ shown catalogue h → arranged (extended h ops) ≡ arranged h
+  same_arranged same i = flat_map (λ x. filter (λ t. id_eq (position_by t (same_mover t i)) x) (same i)) (order catalogue (same_lift ops h a.kind i))
+
+  moves_stay : arranged (extended h ops) ≡ arranged h → MovesStay h (extended h ops)
+  moves_stay same = record {
+    grew = longer ops h;
+    lifted = same_lift ops h a.kind;
+    moved = same_moves ops h a.kind;
+    stamps = same_stamp;
+    arranged_as = same;
+    withdrawn = move_stays;
+  }
+
   keeps : shown catalogue (extended h ops) ≡ shown catalogue h → KeepsArrangement h (extended h ops)
   keeps same = record {
     sections = same;
-    arranged_as = λ i. flat_map (λ x. filter (λ t. id_eq (position_by t (same_mover t i)) x) (same i)) (order catalogue (same_lift ops h a.kind i));
+    arranged_as = same_arranged same;
     headings = λ t i. elim (same_titler t i) [ None ↦ same_titles ops h t a.kind a.ready i | Some r ↦ r.value ];
     retitled = same_retitles ops h a.kind;
-    stamps = λ i. max (greatest (map (λ (m : Move). m.stamp) (same_moves ops h a.kind i))) (greatest (map (λ (r : Retitle). r.stamp) (same_retitles ops h a.kind i)));
+    stamps = same_stamp;
     moved = same_moves ops h a.kind;
+    arranges = arranges_still h (extended h ops) (moves_stay (same_arranged same));
   }
 
 -- texts that are typed

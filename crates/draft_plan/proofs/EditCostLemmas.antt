@@ -29,11 +29,11 @@ use Rattle.catalogue_notes.specs.declared.moving.MoveFault.{MoveFault}
 use Rattle.catalogue_notes.specs.declared.moving.MoveFault.TheVariants as moving
 use Rattle.catalogue_notes.proofs.ArrangedLemmas.{move_test}
 use Rattle.catalogue_notes.proofs.ClaimLemmas.{claims-none}
-use Rattle.draft_plan.specs.Limits.{Cost, Costs, CostsShaping, LacksRoom, TakesUpTo, cost}
+use Rattle.draft_plan.specs.Limits.{Cost, Costs, CostsShaping, LacksRoom, TakesUpTo, cost, plus}
 use Rattle.draft_plan.specs.declared.fault.ReviseFault.{ReviseFault}
 use Rattle.draft_plan.specs.declared.fault.ReviseFault.TheVariants as fault
 use Rattle.draft_plan.proofs.ArrangementLemmas.{cut_keeps, put_keeps}
-use Rattle.draft_plan.proofs.LimitLemmas.{IsUpTo, MakesBelow, costs_join, costs_more, costs_none, costs_stop, deletes_below, in_place, joined_take, lacks_elements, lacks_note, lacks_ops, note_cost, one_below, plus, typed_below}
+use Rattle.draft_plan.proofs.LimitLemmas.{IsUpTo, MakesBelow, costs_join, costs_more, costs_none, costs_stop, deletes_below, in_place, joined_take, lacks_elements, lacks_note, lacks_ops, note_cost, one_below, typed_below}
 
 -- how many operations an edit asks for, and how many counters
 abbrev pub asked : Command → ℕ

@@ -1,11 +1,11 @@
 -- Only what moved is moved.
-use Rattle.std.proofs.Common.{Bool, List, [], ap, arith, drop, eq-eqb, false, get_or, inl, inr, length, map, nat_eq, not, refl, subst, sym, take, true, true≢false, ℕ, ◌&&◌, ◌||◌, ◌+◌, ◌++◌, ◌<◌, ◌≤◌, ◌∙◌, ◌∷◌, ◌≡◌, ◌≢◌}
-use Rattle.std.specs.Prelude.{IsSome, None, Option, Some, filter, insert, slice_get, slice_index_or, ◌↔◌}
+use Rattle.std.proofs.Common.{Bool, List, [], add-one, ap, arith, cond, drop, eq-eqb, false, get_or, inl, inr, length, map, nat_eq, not, refl, subst, suc, sym, take, true, true≢false, zero, ℕ, ◌&&◌, ◌||◌, ◌+◌, ◌++◌, ◌<◌, ◌≤◌, ◌∙◌, ◌∷◌, ◌≡◌, ◌≢◌}
+use Rattle.std.specs.Prelude.{IsSome, None, Option, Some, count_by, filter, insert, slice_get, slice_index_or, ◌↔◌}
 use Rattle.std.specs.List.{Contains}
 use Rattle.std.proofs.lemmas.Bool.{and_from, and_parts, ne_eqb}
-use Rattle.std.proofs.lemmas.List.{length-map, take-append-drop}
+use Rattle.std.proofs.lemmas.List.{length-map, take-append-drop, take_all}
 use Rattle.std.proofs.lemmas.List.Elements.{filter-append}
-use Rattle.std.proofs.lemmas.List.Sums.{count_by-le-length, length-filter}
+use Rattle.std.proofs.lemmas.List.Sums.{count_by-le-length, count_by_more_no, count_by_more_yes, length-filter}
 use Rattle.std.proofs.lemmas.Map.Views.{Contains-from_any}
 use Rattle.std.proofs.lemmas.Option.{same_Some}
 use Rattle.fugue_ids.specs.Identifiers.{Identifier, id_eq}
@@ -30,6 +30,7 @@ use Rattle.section_plan.specs.Rises.{IsChosen, IsRise, chosen_count, value_at}
 use Rattle.section_plan.specs.declared.pairs.Pairs.{Pairs}
 use Rattle.draft_plan.specs.Arranging.{AreStaying, ArrangesFew, IsOrderOf, IsSectionMoved, MovesFewTo, MovesPart}
 use Rattle.draft_plan.specs.Keeping.{MovesFew, has_no_move, is_among, stays_unmoved}
+use Rattle.draft_plan.specs.Plans.{MovesNoMore, PlansMoves, move_count, sum_below}
 use Rattle.draft_plan.specs.Resizing.{AreDistinct}
 use Rattle.draft_plan.specs.Revision.{HasOneMore, moves_of}
 use Rattle.draft_plan.specs.Shaping.{KeepsPlaces}
@@ -145,9 +146,22 @@ module _ (start mid new : List Op) (stays : List Bool) (ts : List Identifier) (p
   few_more (inl e) = few_same e.0 e.1
   few_more (inr r) = few_moved r.0 r.1 r.2 r.3
 
+-- each part in front of one stays, or is moved
+moved_or_stays : (stays : List Bool) (n : ℕ) → n ≤ length stays → sum_below (move_count stays) n + count_by (λ (c : Bool). c) (take n stays) ≡ n
+moved_or_stays stays zero l = refl
+moved_or_stays stays (suc n) l = by (moved_or_stays stays n (omega (arith, l))) (get_or stays n false) refl
+  where
+    by : sum_below (move_count stays) n + count_by (λ (c : Bool). c) (take n stays) ≡ n → (b : Bool) → get_or stays n false ≡ b → sum_below (move_count stays) (suc n) + count_by (λ (c : Bool). c) (take (suc n) stays) ≡ suc n
+    by before true e =
+        let none : move_count stays n ≡ 0 = ap (λ b. cond b 0 1) e in
+        omega (arith, before, none, count_by_more_yes (λ (c : Bool). c) stays n false (omega (arith, l)) e, ap (λ m. count_by (λ (c : Bool). c) (take m stays)) (add-one n))
+    by before false e =
+        let one : move_count stays n ≡ 1 = ap (λ b. cond b 0 1) e in
+        omega (arith, before, one, count_by_more_no (λ (c : Bool). c) stays n false (omega (arith, l)) e, ap (λ m. count_by (λ (c : Bool). c) (take m stays)) (add-one n))
+
 -- the parts that stay stand in a longest series
-module _ (old new : List Op) (pairs : Pairs) (ts : List Identifier) (order : List ℕ) (stays : List Bool) (part : ℕ) (w : Lawful old) (is : IsOrder order) (of : IsOrderOf ts (arranged old) order) (long : length order ≡ length ts)
-    (st : AreStaying order pairs stays) (long_stays : length stays ≡ length order) (few : MovesFewTo old new stays ts part) (all : part ≡ length ts) where
+module _ (old : List Op) (pairs : Pairs) (ts : List Identifier) (order : List ℕ) (stays : List Bool) (w : Lawful old) (is : IsOrder order) (of : IsOrderOf ts (arranged old) order) (long : length order ≡ length ts)
+    (st : AreStaying order pairs stays) (long_stays : length stays ≡ length order) where
   stands : (x a : ℕ) (s : Identifier) → x < length order → get_or order x 0 ≡ a → slice_get ts a ≡ Some s → slice_get (arranged old) x ≡ Some s
   stands x a s l e at =
       let u = get_some (arranged old) x (omega (arith, l, of.long)) in
@@ -170,7 +184,7 @@ module _ (old new : List Op) (pairs : Pairs) (ts : List Identifier) (order : Lis
           one_order chosen ts (arranged old) a b x y f.0 g.0 (arranged_once old w) (sym same) f.2 g.2 f.1 g.1 (stands x a f.0 tx.0 tx.1 f.1) (stands y b g.0 ty.0 ty.1 g.1) l;
     }
 
-    most : length (filter chosen ts) ≤ chosen_count stays
+    pub most : length (filter chosen ts) ≤ chosen_count stays
     most = let l = st.longest.longest (map chosen ts) rise in omega (arith, l, flag_count chosen ts)
 
   matched : (j : ℕ) → IsChosen stays j → IsSome (section_of pairs j)
@@ -180,8 +194,15 @@ module _ (old new : List Op) (pairs : Pairs) (ts : List Identifier) (order : Lis
       by None e some = let f : false ≡ true = subst IsSome e some in cc
       by (Some x) e some = ((st.places_are.each j x).0 e).2
 
-  pub arranges_few : ArrangesFew old new pairs ts
-  arranges_few = record { stays = stays; long = long_stays ∙ long; few = subst (MovesFewTo old new stays ts) all few; matched = matched; most = most }
+  -- so there are no more moves than it takes
+  pub moves_no_more : MovesNoMore old pairs ts (sum_below (move_count stays) (length ts))
+  moves_no_more = λ chosen paired same. omega (arith, most chosen paired same, moved_or_stays stays (length ts) (omega (arith, long, long_stays)), take_whole)
+    where
+      take_whole : count_by (λ (c : Bool). c) (take (length ts) stays) ≡ chosen_count stays
+      take_whole = ap (count_by (λ (c : Bool). c)) (take_all (length ts) stays (omega (arith, long, long_stays)))
+
+  pub arranges_few : (new : List Op) (part : ℕ) → MovesFewTo old new stays ts part → part ≡ length ts → ArrangesFew old new pairs ts
+  arranges_few new part few all = record { stays = stays; long = long_stays ∙ long; few = subst (MovesFewTo old new stays ts) all few; matched = matched; most = most }
 
 -- a section that is one of these is found among them
 among_to : (xs : List Identifier) (s : Identifier) → Contains xs s → is_among xs s ≡ true
@@ -302,3 +323,25 @@ few_none o = record {
       and_from (is_among xs s && is_among xs s) (has_no_move o o s) (and_from (is_among xs s) (is_among xs s) there there) (eq-eqb (length (moves_of o s)) (length (moves_of o s)) refl)) in
       omega (arith, ap length full, length-filter chosen xs, count_by-le-length chosen xs);
 }
+
+-- sections were dropped and added: it takes as few moves as before
+pub plans_moves : (h0 h1 : List Op) (pairs : Pairs) (ts : List Identifier) (moved : ℕ) → Lawful h0 → Lawful h1 → KeepsPlaces h0 h1 → ((s : Identifier) → Contains (shown catalogue h1) s ↔ Contains ts s)
+    → MovesNoMore h1 pairs ts moved → MovesNoMore h0 pairs ts moved
+plans_moves h0 h1 pairs ts moved v w places shown_are few = λ chosen paired same.
+    let to_mid : (s : Identifier) → chosen s ≡ true → Contains (arranged h0) s → Contains (arranged h1) s = λ s c m.
+    shown_arranged h1 s w ((shown_are s).1 (contains_filter_from chosen ts s (subst (λ l. Contains l s) same (contains_filter chosen (arranged h0) s m c))).0) in
+    let to_old : (s : Identifier) → chosen s ≡ true → Contains (arranged h1) s → Contains (arranged h0) s = λ s c m.
+    (contains_filter_from chosen (arranged h0) s (subst (λ l. Contains l s) (sym same) (contains_filter chosen ts s ((shown_are s).0 (arranged_shown h1 s m)) c))).0 in
+    few chosen paired (sym (positions_keep_order h0 h1 chosen v w places.part (λ s c m. (to_mid s c m, places.positions s)) to_old) ∙ same)
+
+-- no more than there are sections
+pub moves_within : (h : List Op) (pairs : Pairs) (parts moved : ℕ) → PlansMoves h pairs parts moved → moved ≤ parts
+moves_within h pairs parts moved (inl none) = omega (arith, none)
+moves_within h pairs parts moved (inr m) =
+    let nobody : (xs : List Identifier) → filter (λ (s : Identifier). false) xs ≡ [] = none_chosen in
+    let l = m.2 (λ s. false) (λ j s at c. absurd (true≢false (sym c))) (nobody (arranged h) ∙ sym (nobody m.0)) in
+    omega (arith, l, m.1.long)
+  where
+    none_chosen : (xs : List Identifier) → filter (λ (s : Identifier). false) xs ≡ []
+    none_chosen [] = refl
+    none_chosen (x ∷ xs) = filter_no (λ (s : Identifier). false) x xs refl ∙ none_chosen xs

@@ -1,11 +1,11 @@
 -- What it costs to revise texts, to give sections the titles and texts of parts, and to revise a whole manuscript.
 use Rattle.std.proofs.Common.{List, [], ap, arith, drop, get_or, inl, inr, length, nat_eq, subst, sym, take, ℕ, ◌+◌, ◌*◌, ◌++◌, ◌-◌, ◌<◌, ◌≤◌, ◌∙◌, ◌∷◌, ◌≡◌, ◌≢◌, ◌⊎◌, false, not}
-use Rattle.std.specs.Prelude.{All, AllPairs, Err, Ok, Result, Some, filter, slice_get, slice_index_or}
+use Rattle.std.specs.Prelude.{All, AllPairs, Err, Ok, Result, filter}
 use Rattle.std.specs.List.{Contains, sum_by}
 use Rattle.std.specs.Str.{chars}
-use Rattle.std.proofs.lemmas.List.{drop_more, length-drop, length-take-le, take-append-drop, take_all}
+use Rattle.std.proofs.lemmas.List.{drop_more, length-drop, length-take-le, take-append-drop}
 use Rattle.std.proofs.lemmas.List.Elements.{All-contains}
-use Rattle.std.proofs.lemmas.List.Sums.{sum_by-append, sum_by-cons, sum_by-take-drop, sum_by_more}
+use Rattle.std.proofs.lemmas.List.Sums.{sum_by-append, sum_by-cons, sum_by-take-drop}
 use Rattle.fugue_ids.specs.Identifiers.{Identifier}
 use Rattle.fugue_ids.specs.declared.op.Op.{Op}
 use Rattle.fugue_ids.proofs.ListLemmas.{all_pairs_head, all_pairs_tail, contains_here, contains_middle_cases, contains_there}
@@ -28,17 +28,18 @@ use Rattle.origin_model.proofs.edits.RefusalLemmas.{cut_count, put_count}
 use Rattle.text_diff.specs.Hunks.{Transforms, TransformsFrom, start_of}
 use Rattle.text_diff.specs.Kept.{KeepsLines}
 use Rattle.text_diff.specs.Seams.{KeepsWords}
+use Rattle.text_diff.specs.Tight.{IsTight}
 use Rattle.text_diff.specs.declared.hunk.Hunk.{Hunk}
 use Rattle.catalogue_notes.specs.Arranged.{arranged}
 use Rattle.catalogue_notes.proofs.ArrangedLemmas.{arranged_once, arranged_shown, shown_arranged}
 use Rattle.draft_plan.specs.Drafts.{Part}
-use Rattle.draft_plan.specs.Limits.{AreChosen, Cost, Costs, CostsText, LacksRoom, SameTexts, by_edit, cost, filling_cost, hunk_cost, hunks_cost, letters, letters_of, part_letters, put_size, revision_cost, section_cost}
+use Rattle.draft_plan.specs.Limits.{AreChosen, Cost, Costs, CostsText, LacksRoom, SameTexts, by_edit, cost, hunk_cost, hunks_cost, letters, letters_of, part_letters, plus, put_size, revision_cost}
 use Rattle.draft_plan.specs.Shaping.{IsReshaped}
 use Rattle.draft_plan.specs.declared.fault.ReviseFault.{ReviseFault}
 use Rattle.draft_plan.specs.declared.fault.ReviseFault.TheVariants as fault
 use Rattle.draft_plan.proofs.EditCostLemmas.{edit_costs, edit_lacks}
 use Rattle.draft_plan.proofs.KeptLemmas.{same_common, size_more, size_within}
-use Rattle.draft_plan.proofs.LimitLemmas.{IsUpTo, costs_join, costs_more, costs_none, costs_stop, lacks_more, note_cost, plus, up}
+use Rattle.draft_plan.proofs.LimitLemmas.{IsUpTo, costs_join, costs_more, costs_none, costs_stop, lacks_more, up}
 use Rattle.draft_plan.proofs.ReviseLemmas.{no_hunk}
 use Rattle.draft_plan.proofs.RevisionLemmas.{stands_at}
 use Rattle.draft_plan.proofs.ShapeLemmas.{got}
@@ -128,7 +129,7 @@ same_costs s x reads e =
     let t : List ℕ = text s.held.history x in
     let kept = (same_common s.held.history t (shown (within x) s.held.history)).0 in
     subst (λ z. CostsText s s x z (Ok 0)) e
-    (kept.hunks, record { transforms = kept.transforms; words = kept.words; unchanged = kept.unchanged; lines = kept.lines }, costs_none s (hunks_cost kept.hunks))
+    (kept.hunks, record { transforms = kept.transforms; words = kept.words; tight = kept.tight; unchanged = kept.unchanged; lines = kept.lines }, costs_none s (hunks_cost kept.hunks))
 
 -- hunks that were made, or not
 pub chosen_costs : (old new : State) (x : Identifier) (reads : List ℕ) (hs : List Hunk) (result : Result ℕ EditFault) → AreChosen (text old.held.history x) reads hs → Costs old new (hunks_cost hs) (by_edit result)
@@ -141,106 +142,21 @@ chosen_costs old new x reads hs (Err (edit.IdsSpent n)) a c = (hs, a, c)
 chosen_costs old new x reads hs (Err (edit.TooMany n)) a c = (hs, a, c)
 
 pub text_chosen : (old new : State) (k : ℕ) (x : Identifier) (bytes reads : List ℕ) (hs : List Hunk) (result : Result ℕ EditFault) → text old.held.history x ≡ chars bytes → Transforms nat_eq (chars bytes) reads hs
-    → All (KeepsWords (chars bytes) reads) hs → (chars bytes ≡ reads → hs ≡ []) → KeepsLines (chars bytes) reads hs → Costs old new (hunks_cost hs) (by_edit result) → CostsText old new x reads result
-text_chosen old new k x bytes reads hs result is transforms words unchanged lines c =
+    → All (KeepsWords (chars bytes) reads) hs → All (IsTight (chars bytes) reads) hs → (chars bytes ≡ reads → hs ≡ []) → KeepsLines (chars bytes) reads hs → Costs old new (hunks_cost hs) (by_edit result) → CostsText old new x reads result
+text_chosen old new k x bytes reads hs result is transforms words tight unchanged lines c =
     chosen_costs old new x reads hs result
-    (subst (λ t. AreChosen t reads hs) (sym is) (record { transforms = transforms; words = words; unchanged = unchanged; lines = λ other. lines })) c
+    (subst (λ t. AreChosen t reads hs) (sym is) (record { transforms = transforms; words = words; tight = tight; unchanged = unchanged; lines = λ other. lines })) c
 
 -- so a text costs no more than its old letters and its new ones
 abbrev pub text_cost : (old new : List ℕ) → Cost
 text_cost old new = cost (length old + length new) (length new) 0
 
-chosen_within : (old new : List ℕ) (hs : List Hunk) → AreChosen old new hs → IsUpTo (hunks_cost hs) (text_cost old new)
+pub chosen_within : (old new : List ℕ) (hs : List Hunk) → AreChosen old new hs → IsUpTo (hunks_cost hs) (text_cost old new)
 chosen_within old new hs a = record { operations = size_within old new hs a.transforms; counters = put_within old new hs a.transforms; stamps = omega arith }
 
-pub text_costs : (old new : State) (x : Identifier) (reads : List ℕ) (result : Result ℕ EditFault) → CostsText old new x reads result → Costs old new (text_cost (text old.held.history x) reads) (by_edit result)
-text_costs old new x reads (Ok n) c =
-    costs_more old new (hunks_cost c.0) (text_cost (text old.held.history x) reads) (Ok n) (chosen_within (text old.held.history x) reads c.0 c.1) c.2
-text_costs old new x reads (Err edit.NoMemory) c = tt
-text_costs old new x reads (Err edit.NoSection) c = tt
-text_costs old new x reads (Err edit.OutOfRange) c = tt
-text_costs old new x reads (Err (edit.IdsSpent n)) c =
-    lacks_more old (hunks_cost c.0) (text_cost (text old.held.history x) reads) (fault.Edit (edit.IdsSpent n)) (chosen_within (text old.held.history x) reads c.0 c.1) c.2
-text_costs old new x reads (Err (edit.TooMany n)) c =
-    lacks_more old (hunks_cost c.0) (text_cost (text old.held.history x) reads) (fault.Edit (edit.TooMany n)) (chosen_within (text old.held.history x) reads c.0 c.1) c.2
-
--- a section gets its title and then its text
-section_more : (old new : List ℕ) → IsUpTo (plus note_cost (text_cost old new)) (section_cost old new)
-section_more old new = record { operations = omega arith; counters = omega arith; stamps = omega arith }
-
-pub section_costs : (old mid new : State) (x : Identifier) (reads : List ℕ) (n m : ℕ) → text mid.held.history x ≡ text old.held.history x → Costs old mid note_cost (Ok n) → CostsText mid new x reads (Ok m)
-    → Costs old new (section_cost (text old.held.history x) reads) (Ok (n + m))
-section_costs old mid new x reads n m same first next =
-    let t : List ℕ = text old.held.history x in
-    costs_join old mid new note_cost (text_cost t reads) (section_cost t reads) n m (section_more t reads) first
-    (subst (λ z. Costs mid new (text_cost z reads) (Ok m)) same (text_costs mid new x reads (Ok m) next))
-
-pub section_lacks : (old mid new : State) (x : Identifier) (reads : List ℕ) (n : ℕ) (why : EditFault) → text mid.held.history x ≡ text old.held.history x → Costs old mid note_cost (Ok n)
-    → CostsText mid new x reads (Err why) → LacksRoom old (section_cost (text old.held.history x) reads) (fault.Edit why)
-section_lacks old mid new x reads n why same first next =
-    let t : List ℕ = text old.held.history x in
-    let lacks : LacksRoom mid (text_cost t reads) (fault.Edit why) = subst (λ z. LacksRoom mid (text_cost z reads) (fault.Edit why)) same (text_costs mid new x reads (Err why) next) in
-    costs_stop old mid note_cost (text_cost t reads) (section_cost t reads) n (fault.Edit why) (section_more t reads) first lacks
-
-pub title_lacks : (s : State) (old new : List ℕ) (why : ReviseFault) → LacksRoom s note_cost why → LacksRoom s (section_cost old new) why
-title_lacks s old new why l = lacks_more s note_cost (section_cost old new) why (record { operations = omega arith; counters = omega arith; stamps = omega arith }) l
-
--- the sections and parts in front of a place, and the next ones
-module _ (h : List Op) (xs : List Identifier) (ps : List Part) (k : ℕ) (s : Identifier) (part : Part) (here : slice_get xs k ≡ Some s) (is : (d : Part) → part ≡ slice_index_or ps k d) (within_ps : k < length ps) where
-  abbrev front : Cost
-  front = filling_cost h (take k xs) (take k ps)
-
-  letters_more : letters_of h (take (k + 1) xs) ≡ letters_of h (take k xs) + length (text h s)
-  letters_more =
-      let g = got xs k s here in
-      sum_by_more (λ s. length (text h s)) xs k s g.0 ∙ ap (λ y. letters_of h (take k xs) + length (text h y)) g.1
-
-  parts_more : part_letters (take (k + 1) ps) ≡ part_letters (take k ps) + length (chars part.text)
-  parts_more =
-      sum_by_more (λ (p : Part). length (chars p.text)) ps k part within_ps
-      ∙ ap (λ (p : Part). part_letters (take k ps) + length (chars p.text)) (sym (is part))
-
-  place_more : IsUpTo (plus front (section_cost (text h s) (chars part.text))) (filling_cost h (take (k + 1) xs) (take (k + 1) ps))
-  place_more =
-      let before = length-take-le k ps (omega (arith, within_ps)) in
-      let behind = length-take-le (k + 1) ps (omega (arith, within_ps)) in
-      record {
-        operations = omega (arith, letters_more, parts_more, before, behind);
-        counters = omega (arith, parts_more, before, behind);
-        stamps = omega (arith, before, behind);
-      }
-
-  all_of : IsUpTo (filling_cost h (take (k + 1) xs) (take (k + 1) ps)) (filling_cost h xs ps)
-  all_of =
-      let some = sum_by-take-drop (λ s. length (text h s)) xs (k + 1) in
-      let some_parts = sum_by-take-drop (λ (p : Part). length (chars p.text)) ps (k + 1) in
-      let behind = length-take-le (k + 1) ps (omega (arith, within_ps)) in
-      record {
-        operations = omega (arith, some, some_parts, behind, within_ps);
-        counters = omega (arith, some_parts, behind, within_ps);
-        stamps = omega (arith, behind, within_ps);
-      }
-
-  -- the section at the place was filled
-  pub filling_more : (start now new : State) (n m : ℕ) → text now.held.history s ≡ text h s → Costs start now front (Ok n) → Costs now new (section_cost (text now.held.history s) (chars part.text)) (Ok m)
-      → Costs start new (filling_cost h (take (k + 1) xs) (take (k + 1) ps)) (Ok (n + m))
-  filling_more start now new n m same first next =
-      costs_join start now new front (section_cost (text h s) (chars part.text)) (filling_cost h (take (k + 1) xs) (take (k + 1) ps)) n m place_more first
-      (subst (λ t. Costs now new (section_cost t (chars part.text)) (Ok m)) same next)
-
-  -- or it was refused
-  pub filling_lacks : (start now : State) (n : ℕ) (why : ReviseFault) → text now.held.history s ≡ text h s → Costs start now front (Ok n) → LacksRoom now (section_cost (text now.held.history s) (chars part.text)) why
-      → LacksRoom start (filling_cost h xs ps) why
-  filling_lacks start now n why same first lacks =
-      lacks_more start (filling_cost h (take (k + 1) xs) (take (k + 1) ps)) (filling_cost h xs ps) why all_of
-      (costs_stop start now front (section_cost (text h s) (chars part.text)) (filling_cost h (take (k + 1) xs) (take (k + 1) ps)) n why place_more first
-      (subst (λ t. LacksRoom now (section_cost t (chars part.text)) why) same lacks))
-
--- all of them were filled
-pub filling_all : (start new : State) (h : List Op) (xs : List Identifier) (ps : List Part) (k n : ℕ) → length xs ≤ k → length ps ≤ k → Costs start new (filling_cost h (take k xs) (take k ps)) (Ok n)
-    → Costs start new (filling_cost h xs ps) (Ok n)
-filling_all start new h xs ps k n l m c =
-    subst (λ ys. Costs start new (filling_cost h ys ps) (Ok n)) (take_all k xs l) (subst (λ qs. Costs start new (filling_cost h (take k xs) qs) (Ok n)) (take_all k ps m) c)
+-- what it costs at most that sections get the titles and texts of parts
+abbrev pub filling_cost : List Op → List Identifier → List Part → Cost
+filling_cost h sections parts = cost (letters_of h sections + part_letters parts + length parts) (part_letters parts + length parts) (length parts)
 
 -- a list without the member at a place
 without_at : (f : Identifier → ℕ) (ys : List Identifier) (k : ℕ) (x : Identifier) → k < length ys → get_or ys k x ≡ x

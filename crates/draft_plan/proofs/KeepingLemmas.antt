@@ -21,7 +21,7 @@ use Rattle.draft_plan.specs.Keeping.{IsAddedBy, IsDropped, KeepsSections, KeepsT
 use Rattle.draft_plan.specs.Matching.{IsMatched}
 use Rattle.draft_plan.specs.Plain.{arranged_part, arranged_parts}
 use Rattle.draft_plan.specs.Readings.{seen_part}
-use Rattle.draft_plan.specs.Shaping.{StandsAs}
+use Rattle.draft_plan.specs.Shaping.{AreSectionsOf}
 use Rattle.draft_plan.proofs.FewMovesLemmas.{few_none}
 use Rattle.draft_plan.proofs.RevisionLemmas.{stands_at}
 use Rattle.draft_plan.proofs.ShapeLemmas.{got}
@@ -54,7 +54,7 @@ keyed : (p : ReadPart) (text : List ℕ) → p.text.now ≡ text → text ≢ []
 keyed p [] e some = absurd (some refl)
 keyed p (b ∷ bs) e some = ap (λ t. not (is_nothing t)) e
 
-module _ (o n : List Op) (parts : List ReadPart) (p : Pairs) (is : IsMatched o parts p) (stand : StandsAs o n p (length parts)) (now : map seen_part parts ≡ arranged_parts n) (w : Lawful o) where
+module _ (o n : List Op) (parts : List ReadPart) (p : Pairs) (is : IsMatched o parts p) (stand : AreSectionsOf o p (length parts) (arranged n)) (now : map seen_part parts ≡ arranged_parts n) (w : Lawful o) where
   -- a section that has a part stands at its place
   paired : (i j : ℕ) (s : Identifier) → section_of p j ≡ Some i → slice_get (arranged o) i ≡ Some s → slice_get (arranged n) j ≡ Some s
   paired i j s e f = stand.kept j i s e f
@@ -120,11 +120,3 @@ module _ (o n : List Op) (parts : List ReadPart) (p : Pairs) (is : IsMatched o p
 
   pub kept_sections : MovesFew o n → KeepsSections o n
   kept_sections few = record { texts = texts; headings = headings; alike = differ; moves = few }
-
--- the sections still stand so
-pub stands_still : (o m n : List Op) (p : Pairs) (parts : ℕ) → arranged n ≡ arranged m → StandsAs o m p parts → StandsAs o n p parts
-stands_still o m n p parts same stand = record {
-  long = ap length same ∙ stand.long;
-  kept = λ j i s e f. ap (λ l. slice_get l j) same ∙ stand.kept j i s e f;
-  fresh = λ j s e f. stand.fresh j s e (ap (λ l. slice_get l j) (sym same) ∙ f);
-}

@@ -25,9 +25,11 @@ pub mod TargetLemmas
 pub mod ArrangingLemmas
 pub mod KeepingLemmas
 pub mod PassageLemmas
+pub mod SpanLemmas
 pub mod ShownLemmas
 pub mod LimitLemmas
 pub mod EditCostLemmas
 pub mod FillCostLemmas
+pub mod PlanLemmas
 pub mod RankLemmas
 pub mod FewMovesLemmas

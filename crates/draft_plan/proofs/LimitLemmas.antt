@@ -28,7 +28,7 @@ use Rattle.catalogue_notes.specs.Moving.{as_move_fault, note_cause}
 use Rattle.catalogue_notes.specs.declared.moving.MoveFault.{MoveFault}
 use Rattle.catalogue_notes.specs.declared.moving.MoveFault.TheVariants as moving
 use Rattle.catalogue_notes.proofs.HolderLemmas.{joins}
-use Rattle.draft_plan.specs.Limits.{Cost, Costs, LacksRoom, TakesUpTo, cost, counters_left, operations_left, stamps_left}
+use Rattle.draft_plan.specs.Limits.{Cost, Costs, IsOutOfMemory, LacksRoom, TakesUpTo, cost, counters_left, operations_left, plus, stamps_left}
 use Rattle.draft_plan.specs.declared.fault.ReviseFault.{ReviseFault}
 use Rattle.draft_plan.specs.declared.fault.ReviseFault.TheVariants as fault
 
@@ -108,9 +108,6 @@ joined_take old new ops k t g ready own stamps =
 pub costs_none : (s : State) (c : Cost) → Costs s s c (Ok 0)
 costs_none s c = (omega arith, record { operations = omega arith; counters = omega arith; stamps = omega arith })
 
-abbrev pub plus : Cost → Cost → Cost
-plus a b = cost (a.operations + b.operations) (a.counters + b.counters) (a.stamps + b.stamps)
-
 pub record IsUpTo (a b : Cost) : Type 0 where
   pub operations : a.operations ≤ b.operations
   pub counters : a.counters ≤ b.counters
@@ -132,6 +129,20 @@ lacks_more s a b (fault.Move moving.StampsSpent) u l = omega (arith, u.stamps, l
 lacks_more s a b (fault.Move (moving.IdsSpent n)) u l = omega (arith, u.counters, l)
 lacks_more s a b (fault.Move (moving.TooMany n)) u l = omega (arith, u.operations, l)
 lacks_more s a b (fault.Move moving.NoMemory) u l = tt
+
+-- where memory was wanting, no room was
+pub wants_room : (s : State) (c : Cost) (why : ReviseFault) → IsOutOfMemory why → LacksRoom s c why
+wants_room s c (fault.Edit edit.NoSection) w = tt
+wants_room s c (fault.Edit edit.OutOfRange) w = tt
+wants_room s c (fault.Edit (edit.IdsSpent n)) w = absurd w
+wants_room s c (fault.Edit (edit.TooMany n)) w = absurd w
+wants_room s c (fault.Edit edit.NoMemory) w = tt
+wants_room s c (fault.Move moving.NoSection) w = tt
+wants_room s c (fault.Move moving.NoPlace) w = tt
+wants_room s c (fault.Move moving.StampsSpent) w = absurd w
+wants_room s c (fault.Move (moving.IdsSpent n)) w = absurd w
+wants_room s c (fault.Move (moving.TooMany n)) w = absurd w
+wants_room s c (fault.Move moving.NoMemory) w = tt
 
 pub costs_more : (old new : State) (a b : Cost) (result : Result ℕ ReviseFault) → IsUpTo a b → Costs old new a result → Costs old new b result
 costs_more old new a b (Ok n) u c = (

@@ -23,7 +23,7 @@ use Rattle.origin_model.proofs.SharedLemmas.{holder-own, not_hidden_before, orde
 use Rattle.catalogue_notes.specs.Arranged.{arranged}
 use Rattle.catalogue_notes.proofs.ArrangedLemmas.{arranged_shown, shown_arranged, shown_is}
 use Rattle.catalogue_notes.proofs.HolderLemmas.{cases_option, holder-kept, is_own-id, joins, not_both}
-use Rattle.draft_plan.specs.Needed.{InRevision, InSections, InTexts, IsElement, IsShown, MakesOnly, NoneIsNeedless}
+use Rattle.draft_plan.specs.Needed.{InRevision, InSections, InTexts, IsElement, MayBeDeleted, MakesOnly, NoneIsNeedless}
 use Rattle.draft_plan.specs.Shaping.{IsReshaped}
 use Rattle.draft_plan.proofs.NeededLemmas.{only_join, only_weaker, section_held, touches_weaker}
 use Rattle.draft_plan.proofs.SectionLemmas.{shown_held}
@@ -72,9 +72,9 @@ hidden_by (op ∷ ops) h x k =
     ]
 
 -- what is shown is held
-shown_there : (h : List Op) (x : Identifier) → Lawful h → IsShown h x → holds h x ≡ true
-shown_there h x w (inl section) = ap is_some (shown_is h x w (arranged_shown h x section)).1
-shown_there h x w (inr element) = ap is_some (shown_held h element.0 x w element.2).1
+shown_there : (h g : List Op) (x : Identifier) → Lawful h → MayBeDeleted h g x → holds h x ≡ true
+shown_there h g x w (inl section) = ap is_some (shown_is h x w (arranged_shown h x section)).1
+shown_there h g x w (inr element) = ap is_some (shown_held h element.0 x w element.3).1
 
 module _ (old new : State) (w : Lawful old.held.history) (v : Lawful new.held.history) (only : MakesOnly (InRevision old.held.history new.held.history) old new) where
   abbrev h : List Op
@@ -103,7 +103,7 @@ module _ (old new : State) (w : Lawful old.held.history) (v : Lawful new.held.hi
       let free : is_hidden g x ≡ false = false_from_ne_true (is_hidden g x) (λ k.
       elim (hidden_by ops h x (ap (λ l. is_hidden l x) (sym is) ∙ k)) [
         | inl before ↦ true≢false (sym before ∙ not_hidden_before h x w (ap is_some found.0))
-        | inr gone ↦ false≢true (sym (ap is_some found.0) ∙ shown_there h x w (each (Delete x) gone))
+        | inr gone ↦ false≢true (sym (ap is_some found.0) ∙ shown_there h g x w (each (Delete x) gone))
       ]) in
       contains_filter (λ y. not (is_hidden g y)) (order p g) x (((order_total p g v).lists x).0 at) (ap not free)
 
@@ -128,18 +128,18 @@ touches_shaped old mid new n w first same only =
     let g : List Op = new.held.history in
     only_join (InRevision h g) old mid new
     (only_weaker (InSections h) (InRevision h g) old mid
-    (touches_weaker (λ s. ⊥) (Contains (shown catalogue h)) (Unit {0}) (Contains (arranged g)) (IsShown h) (Unit {0}) (λ s b. absurd b) (λ x k. inl (shown_arranged h x w k)) (λ u. u)) first.touches)
+    (touches_weaker (λ s. ⊥) (Contains (shown catalogue h)) (Unit {0}) (Contains (arranged g)) (MayBeDeleted h g) (Unit {0}) (λ s b. absurd b) (λ x k. inl (shown_arranged h x w k)) (λ u. u)) first.touches)
     (only_weaker (InTexts m) (InRevision h g) mid new
-    (touches_weaker (Contains (arranged m)) (IsElement m) ⊥ (Contains (arranged g)) (IsShown h) (Unit {0}) (λ s k. subst (λ l. Contains l s) (sym same) k) earlier (λ b. tt)) only)
+    (touches_weaker (Contains (arranged m)) (IsElement m) ⊥ (Contains (arranged g)) (MayBeDeleted h g) (Unit {0}) (λ s k. subst (λ l. Contains l s) (sym same) k) earlier (λ b. tt)) only)
   where
-    -- an element that is shown of a section that is arranged now was so at the start
-    earlier : (x : Identifier) → IsElement mid.held.history x → IsShown old.held.history x
+    -- an element that is shown of a section that is arranged now was so at the start, and the section stays
+    earlier : (x : Identifier) → IsElement mid.held.history x → MayBeDeleted old.held.history new.held.history x
     earlier x e =
         let h : List Op = old.held.history in
         let s : Identifier = e.0 in
         let there : Contains (shown (within s) h) x = subst (λ l. Contains l x) (first.keeps.lists s) e.2 in
         let at : IsIn (within s) h x = ((order_total (within s) h w).lists x).1 (contains_filter_from (λ y. not (is_hidden h y)) (order (within s) h) x there).0 in
         elim (first.keeps.came s (arranged_shown mid.held.history s e.1)) [
-          | inl k ↦ inr (s, shown_arranged h s w k, there)
+          | inl k ↦ inr (s, shown_arranged h s w k, subst (λ l. Contains l s) (sym same) e.1, there)
           | inr k ↦ absurd (true≢false (sym (section_held h s x at.op w at.held at.place) ∙ k))
         ]

@@ -1,9 +1,10 @@
 -- Elements of lines that stay, and passages.
-use Rattle.std.proofs.Common.{List, [], ap, arith, drop, length, length-append, nat_eq, refl, subst, suc, sym, take, zero, ℕ, ◌+◌, ◌++◌, ◌-◌, ◌<◌, ◌≤◌, ◌∙◌, ◌∷◌, ◌≡◌}
+use Rattle.std.proofs.Common.{List, [], ap, arith, drop, length, length-append, nat_eq, refl, subst, suc, sym, take, zero, ℕ, ◌+◌, ◌++◌, ◌-◌, ◌<◌, ◌≤◌, ◌∙◌, ◌∷◌, ◌≡◌, ◌⊎◌, inl, inr}
 use Rattle.std.specs.Prelude.{All, Some, slice_get}
 use Rattle.std.proofs.Math.Seq.{drop-append_seam}
 use Rattle.std.proofs.lemmas.List.{drop-drop, drop-take, length-drop, length-take-le, take-take}
-use Rattle.std.proofs.lemmas.List.Elements.{All-weaker}
+use Rattle.std.proofs.lemmas.List.Elements.{All-head, All-tail, All-weaker}
+use Rattle.std.proofs.lemmas.Option.{slice_get_within}
 use Rattle.fugue_ids.specs.Identifiers.{Identifier}
 use Rattle.fugue_ids.specs.declared.op.Op.{Op}
 use Rattle.origin_model.specs.declared.operations.Place.TheVariants.{Section as within}
@@ -12,11 +13,13 @@ use Rattle.origin_model.specs.operations.Verdict.{Lawful}
 use Rattle.origin_model.specs.order.Printed.{shown, text}
 use Rattle.origin_model.proofs.edits.EditedTextLemmas.{text_length}
 use Rattle.origin_model.proofs.edits.SplitLemmas.{get_in}
-use Rattle.text_diff.specs.Hunks.{TransformsFrom, start_of}
-use Rattle.text_diff.specs.Kept.{Stays}
+use Rattle.text_diff.specs.Hunks.{IsCommon, TransformsFrom, start_of}
+use Rattle.text_diff.specs.Kept.{AreAtSomeEnds, Stays}
+use Rattle.text_diff.specs.Widened.{whole_start}
 use Rattle.text_diff.specs.declared.hunk.Hunk.{Hunk}
+use Rattle.text_diff.proofs.EndsLemmas.{untouched_at_ends}
 use Rattle.text_diff.proofs.HunkLemmas.{transforms_order}
-use Rattle.draft_plan.specs.Passages.{AreIn, AreShown, IsPassage, PassageStays, PassagesStay}
+use Rattle.draft_plan.specs.Passages.{AreIn, AreShown, AreUntouched, IsPassage, PassageStays, PassagesStay}
 use Rattle.draft_plan.specs.Revision.{KeepsSection}
 use Rattle.draft_plan.specs.Texts.{StayBetween}
 use Rattle.draft_plan.proofs.HunkLemmas.{AreOrdered, ordered_from}
@@ -103,6 +106,66 @@ module _ (xs ys : List Identifier) (at to len : ℕ) (same : take len (drop to y
       ap (λ n. take m (drop n xs)) (sym back) ∙ sym (window_part xs at len j m fits) ∙ ap (λ l. take m (drop j l)) (sym same) ∙ window_part ys to len j m fits
       ∙ ap (λ n. take n (drop (to + j) ys)) (sym count)
 
+-- what a range of two texts has in common, a part of it has
+common_part : (old new : List ℕ) (p q r s : Hunk) → IsCommon nat_eq old new (start_of p) (start_of q) → p.old_at ≤ r.old_at → r.old_at ≤ s.old_at → s.old_at ≤ q.old_at
+    → p.old_at + r.new_at ≡ r.old_at + p.new_at → p.old_at + s.new_at ≡ s.old_at + p.new_at → IsCommon nat_eq old new (start_of r) (start_of s)
+common_part old new p q r s c low order high start end = record {
+  order = order;
+  as_many = omega (arith, start, end);
+  old_within = omega (arith, high, c.old_within);
+  new_within = omega (arith, high, end, c.as_many, c.new_within);
+  equal = λ i j d from to e. c.equal i j d (omega (arith, low, from)) (omega (arith, high, to)) (omega (arith, e, start));
+}
+
+-- hunks in front of a range that none of them touches, and behind it
+record AreParted (old new : List ℕ) (least : ℕ) (p : Hunk) (hs : List Hunk) (q : Hunk) (at len : ℕ) : Type 0 where
+  before : List Hunk
+  behind : List Hunk
+  to : ℕ
+  is : hs ≡ before ++ behind
+  front : TransformsFrom nat_eq old new least (start_of p) before (start_of (point at to))
+  rest : TransformsFrom nat_eq old new 0 (start_of (point (at + len) (to + len))) behind (start_of q)
+
+part_hunks : (old new : List ℕ) (least : ℕ) (p : Hunk) (hs : List Hunk) (q : Hunk) (at len : ℕ) → TransformsFrom nat_eq old new least (start_of p) hs (start_of q) → p.old_at ≤ at → at + len ≤ q.old_at
+    → All (λ h. (h.old_at + h.old_len ≤ at) ⊎ (at + len ≤ h.old_at)) hs → AreParted old new least p hs q at len
+part_hunks old new least p [] q at len t low high apart = record {
+  before = [];
+  behind = [];
+  to = p.new_at + (at - p.old_at);
+  is = refl;
+  front = common_part old new p q p (point at (p.new_at + (at - p.old_at))) t (omega arith) low (omega (arith, high)) (omega arith) (omega (arith, low));
+  rest = common_part old new p q (point (at + len) (p.new_at + (at - p.old_at) + len)) q t (omega (arith, low)) high (omega arith) (omega (arith, low))
+      (omega (arith, t.as_many));
+}
+part_hunks old new least p (h ∷ hs) q at len t low high apart =
+    let Apart : Hunk → Type 0 = λ k. (k.old_at + k.old_len ≤ at) ⊎ (at + len ≤ k.old_at) in
+    elim (All-head Apart h hs apart) [
+      | inl ends ↦
+          let further = part_hunks old new 1 (point (h.old_at + h.old_len) (h.new_at + h.new_len)) hs q at len t.3 ends high (All-tail Apart h hs apart) in
+          record {
+            before = h ∷ further.before;
+            behind = further.behind;
+            to = further.to;
+            is = ap (λ (l : List Hunk). h ∷ l) further.is;
+            front = (t.0, t.1, t.2, further.front);
+            rest = further.rest;
+          }
+      | inr begins ↦ record {
+        before = [];
+        behind = h ∷ hs;
+        to = p.new_at + (at - p.old_at);
+        is = refl;
+        front = common_part old new p h p (point at (p.new_at + (at - p.old_at))) t.1 (omega arith) low (omega (arith, begins)) (omega arith) (omega (arith, low));
+        rest = (
+          omega (arith, begins),
+          common_part old new p h (point (at + len) (p.new_at + (at - p.old_at) + len)) h t.1 (omega (arith, low)) begins (omega arith)
+              (omega (arith, low)) (omega (arith, t.1.as_many)),
+          t.2,
+          t.3,
+        );
+      }
+    ]
+
 module _ (old new : State) (section : Identifier) (kept : KeepsSection old new section) (w : Lawful old.held.history) where
   abbrev xs : List Identifier
   xs = shown (within section) old.held.history
@@ -121,6 +184,36 @@ module _ (old new : State) (section : Identifier) (kept : KeepsSection old new s
   stays at to len before behind is front rest =
       line_stays old.held.history old_text new_text xs ys kept.elements.hunks (text_length old.held.history section w) kept.elements.stays at to len before behind is front rest
 
+  module _ (first last : Identifier) (elements : List Identifier) (was : IsPassage old.held.history section first last elements) where
+    -- a passage in a window that stays
+    in_stay : (at to len : ℕ) → take len (drop to ys) ≡ take len (drop at xs) → AreIn at len was.from was.to → IsPassage new.held.history section first last elements
+    in_stay at to len same a = record {
+      from = to + (was.from - at);
+      to = to + (was.to - at);
+      order = omega (arith, was.order, a.0);
+      begins = moves_to xs ys at to len same was.from first a.0 (omega (arith, was.order, a.1)) was.begins;
+      ends = moves_to xs ys at to len same was.to last (omega (arith, was.order, a.0)) a.1 was.ends;
+      all = was.all ∙ moves_part xs ys at to len same was.from was.to a.0 was.order a.1;
+    }
+
+    untouched : AreUntouched kept.elements.hunks was.from was.to → IsPassage new.held.history section first last elements
+    untouched apart =
+        let len : ℕ = was.to + 1 - was.from in
+        let end : was.from + len ≡ was.to + 1 = omega (arith, was.order) in
+        let inside : was.to < length xs = slice_get_within xs was.to last was.ends in
+        let all = All-weaker (λ h. (h.old_at + h.old_len ≤ was.from) ⊎ (was.to < h.old_at)) (λ h. (h.old_at + h.old_len ≤ was.from) ⊎ (was.from + len ≤ h.old_at))
+        (λ h e. elim e [ inl before ↦ inl before | inr behind ↦ inr (omega (arith, behind, end)) ]) kept.elements.hunks apart in
+        let parted = part_hunks old_text new_text 0 (point 0 0) kept.elements.hunks (point (length old_text) (length new_text)) was.from len kept.elements.transforms (omega arith)
+        (omega (arith, end, inside, text_length old.held.history section w)) all in
+        in_stay was.from parted.to len (stays was.from parted.to len parted.before parted.behind parted.is parted.front parted.rest) (omega arith, omega (arith, end))
+
+    at_ends : (other : old_text ≡ new_text → ⊥)
+        → AreAtSomeEnds old_text new_text whole_start whole_start (kept.elements.lines other).lines kept.elements.hunks (kept.elements.lines other).gaps was.from was.to
+        → IsPassage new.held.history section first last elements
+    at_ends other at =
+        untouched
+        (untouched_at_ends old_text new_text whole_start whole_start (kept.elements.lines other).lines kept.elements.hunks (kept.elements.lines other).gaps was.from was.to at)
+
   passage_stays : (first last : Identifier) (elements : List Identifier) (was : IsPassage old.held.history section first last elements) → PassageStays old new section kept first last elements was
   passage_stays first last elements was = record {
     ends = λ other.
@@ -138,15 +231,9 @@ module _ (old new : State) (section : Identifier) (kept : KeepsSection old new s
         let lines = kept.elements.lines other in
         All-weaker (Stays old_text new_text kept.elements.hunks) (λ l. AreIn l.old_at l.len was.from was.to → IsPassage new.held.history section first last elements)
         (λ l sl a.
-        let same = stays l.old_at l.new_at l.len sl.before sl.behind sl.is sl.front sl.rest in
-        record {
-          from = l.new_at + (was.from - l.old_at);
-          to = l.new_at + (was.to - l.old_at);
-          order = omega (arith, was.order, a.0);
-          begins = moves_to xs ys l.old_at l.new_at l.len same was.from first a.0 (omega (arith, was.order, a.1)) was.begins;
-          ends = moves_to xs ys l.old_at l.new_at l.len same was.to last (omega (arith, was.order, a.0)) a.1 was.ends;
-          all = was.all ∙ moves_part xs ys l.old_at l.new_at l.len same was.from was.to a.0 was.order a.1;
-        }) lines.lines lines.stay;
+        in_stay first last elements was l.old_at l.new_at l.len (stays l.old_at l.new_at l.len sl.before sl.behind sl.is sl.front sl.rest) a) lines.lines lines.stay;
+    untouched = untouched first last elements was;
+    at_ends = at_ends first last elements was;
     same_text = λ e.
         let same = kept.same_text e in
         record {

@@ -1,11 +1,12 @@
 -- The sections of a draft's parts, one part after another.
 use Rattle.std.proofs.Common.{List, [], ap, arith, drop, get_or, inl, inr, length, refl, subst, suc, sym, take, ℕ, ◌+◌, ◌++◌, ◌<◌, ◌≤◌, ◌∙◌, ◌∷◌, ◌≡◌, ◌⊎◌, true, false, zero}
-use Rattle.std.specs.Prelude.{IsSome, None, Ok, Option, Some, slice_get, ◌↔◌}
+use Rattle.std.specs.Prelude.{IfSome, IsSome, None, Ok, Option, Some, slice_get, ◌↔◌}
 use Rattle.std.specs.List.{Contains}
 use Rattle.std.specs.Str.{encode_utf8_all}
 use Rattle.std.proofs.lemmas.Bool.{cases_eq, cases_lt, false_from_ne_true, true≢false}
 use Rattle.std.proofs.lemmas.List.{get_or_past, length_push, take-append-drop}
 use Rattle.std.proofs.lemmas.List.Elements.{Contains-append_cases, Contains-append_left, Contains-append_right, Contains-push_cases}
+use Rattle.std.proofs.lemmas.Option.{same_Some}
 use Rattle.fugue_ids.specs.Identifiers.{Identifier}
 use Rattle.fugue_ids.proofs.ListLemmas.{contains_cases, contains_here, contains_none}
 use Rattle.origin_model.specs.declared.operations.Place.TheVariants.{Catalogue as catalogue}
@@ -22,6 +23,7 @@ use Rattle.catalogue_notes.proofs.MovingLemmas.{fresh}
 use Rattle.catalogue_notes.proofs.PartLemmas.{get_some}
 use Rattle.section_plan.specs.Matching.{IsMatching, part_of, section_of}
 use Rattle.section_plan.specs.declared.pairs.Pairs.{Pairs}
+use Rattle.draft_plan.specs.Drafts.{Part}
 use Rattle.draft_plan.specs.Resizing.{AreDistinct, AreLeft, AreTargets, AreTargetsTo, IsAdded, IsPartTaken}
 use Rattle.draft_plan.specs.Shaping.{IsShaped, KeepsPlaces}
 use Rattle.draft_plan.proofs.RevisionLemmas.{shown_holds}
@@ -83,7 +85,7 @@ push_new : (xs : List Identifier) (s : Identifier) → slice_get (xs ++ s ∷ []
 push_new [] s = refl
 push_new (x ∷ xs) s = push_new xs s
 
-pub push_cases : (xs : List Identifier) (s : Identifier) (j : ℕ) (u : Identifier) → slice_get (xs ++ s ∷ []) j ≡ Some u → (slice_get xs j ≡ Some u) ⊎ ((j ≡ length xs) × (u ≡ s))
+pub push_cases : {X : Type 0} (xs : List X) (s : X) (j : ℕ) (u : X) → slice_get (xs ++ s ∷ []) j ≡ Some u → (slice_get xs j ≡ Some u) ⊎ ((j ≡ length xs) × (u ≡ s))
 push_cases [] s zero u e = let same : s ≡ u = cc in inr (refl, sym same)
 push_cases [] s (suc j) u e = cc
 push_cases (x ∷ xs) s zero u e = inl e
@@ -93,8 +95,8 @@ get_or_past_none : (xs : List (Option ℕ)) (i : ℕ) → length xs ≤ i → ge
 get_or_past_none xs i l = get_or_past xs i None l
 
 -- no part has its section yet
-pub targets_start : (start : State) (ys : List Identifier) (p : Pairs) (parts : ℕ) → IsMatching (length ys) parts p → AreLeft ys p (length ys) (shown catalogue start.held.history) → AreTargetsTo start start ys p 0 []
-targets_start start ys p parts m left = record {
+pub targets_start : (start : State) (ys : List Identifier) (p : Pairs) (parts : ℕ) (ps : List Part) → IsMatching (length ys) parts p → AreLeft ys p (length ys) (shown catalogue start.held.history) → AreTargetsTo start start ys p ps 0 []
+targets_start start ys p parts ps m left = record {
   long = refl;
   kept = λ j i s l e f. absurd (omega arith);
   fresh = λ j s e f. cc;
@@ -102,6 +104,7 @@ targets_start start ys p parts m left = record {
   later = λ j i s e f. let pair = (m.inverse i j).0 e in left.kept i s f (inr (subst IsSome (sym pair) refl));
   only = λ s k. let at = left.only s k in inr (which at.0 s at.1 at.2);
   once = λ j k s e f. cc;
+  titled = λ j s q e f g. cc;
 }
   where
     paired : (i : ℕ) (s : Identifier) → slice_get ys i ≡ Some s → (o : Option ℕ) → part_of p i ≡ o → IsSome (part_of p i) → (j : ℕ) × (i' : ℕ) × (0 ≤ j) × (section_of p j ≡ Some i') × (slice_get ys i' ≡ Some s)
@@ -113,10 +116,10 @@ targets_start start ys p parts m left = record {
     which i s e (inr some) = paired i s e (part_of p i) refl some
 
 -- one part more
-module _ (start now new : State) (ys : List Identifier) (p : Pairs) (parts k : ℕ) (title : List ℕ) (ts us : List Identifier) (m : IsMatching (length ys) parts p) (once : AreDistinct ys) (w : Lawful now.held.history)
+module _ (start now new : State) (ys : List Identifier) (p : Pairs) (parts k : ℕ) (ps : List Part) (q : Part) (here : slice_get ps k ≡ Some q) (anchor : Option Identifier) (ts us : List Identifier) (m : IsMatching (length ys) parts p) (once : AreDistinct ys) (w : Lawful now.held.history)
     (held : (j i : ℕ) (s : Identifier) → section_of p j ≡ Some i → slice_get ys i ≡ Some s → holds start.held.history s ≡ true)
     (keeps : (t : Identifier) → holds start.held.history t ≡ true → holds now.held.history t ≡ true)
-    (was : AreTargetsTo start now ys p k ts) (taken : IsPartTaken now new ys (section_of p k) title ts us) where
+    (was : AreTargetsTo start now ys p ps k ts) (taken : IsPartTaken now new ys (section_of p k) anchor q.title ts us) where
   abbrev s : Identifier
   s = taken.section
 
@@ -163,6 +166,17 @@ module _ (start now new : State) (ys : List Identifier) (p : Pairs) (parts k : �
       by None e = ((taken.came e).added.all t).0 c
       by (Some i) e = inl (subst (λ (x : State). Contains (shown catalogue x.held.history) t) (taken.kept i e).1 c)
 
+  -- headings stay, and one that was added has the part's title
+  headed_still : (t : Identifier) → Contains (shown catalogue now.held.history) t → heading new.held.history t ≡ heading now.held.history t
+  headed_still t c = by (section_of p k) refl
+    where
+      by : (o : Option ℕ) → section_of p k ≡ o → heading new.held.history t ≡ heading now.held.history t
+      by None e = ((taken.came e).added.shaped.keeps.same t (shown_holds now.held.history t w c)).headed
+      by (Some i) e = ap (λ (x : State). heading x.held.history t) (taken.kept i e).1
+
+  titled_here : (t : Part) → section_of p k ≡ None → slice_get ps k ≡ Some t → encode_utf8_all (heading new.held.history s) ≡ t.title
+  titled_here t e g = (taken.came e).added.headed ∙ ap (λ (x : Part). x.title) (same_Some q t (sym here ∙ g))
+
   -- no part before it has this section
   other : (j : ℕ) → slice_get ts j ≡ Some s → ⊥
   other j e = by (section_of p k) refl (section_of p j) refl
@@ -181,7 +195,7 @@ module _ (start now new : State) (ys : List Identifier) (p : Pairs) (parts k : �
           let l = before j s e in
           omega arith
 
-  pub targets_more : AreTargetsTo start new ys p (k + 1) us
+  pub targets_more : AreTargetsTo start new ys p ps (k + 1) us
   targets_more = record {
     long = ap length taken.targets_are ∙ (length_push ts s ∙ ap (λ n. n + 1) was.long);
     kept = λ j i u l e f. elim (cases_eq j k) [
@@ -196,6 +210,12 @@ module _ (start now new : State) (ys : List Identifier) (p : Pairs) (parts k : �
       | inl g ↦ elim (cases l u f) [ inl h ↦ was.once j l u g h | inr h ↦ absurd (other j (g ∙ ap Some h.1)) ]
       | inr g ↦ elim (cases l u f) [ inl h ↦ absurd (other l (h ∙ ap Some g.1)) | inr h ↦ g.0 ∙ sym h.0 ]
     ];
+    titled = λ j u t e f g. elim (cases j u f) [
+      | inl h ↦ ap encode_utf8_all (headed_still u (was.there u (get_in ts j u h))) ∙ was.titled j u t e h g
+      | inr h ↦
+          ap (λ x. encode_utf8_all (heading new.held.history x)) h.1
+          ∙ titled_here t (ap (section_of p) (sym h.0) ∙ e) (ap (slice_get ps) (sym h.0) ∙ g)
+    ];
   }
     where
       only_from : (u : Identifier) → Contains ts u ⊎ ((j : ℕ) × (i : ℕ) × (k ≤ j) × (section_of p j ≡ Some i) × (slice_get ys i ≡ Some u))
@@ -207,13 +227,14 @@ module _ (start now new : State) (ys : List Identifier) (p : Pairs) (parts k : �
       ]
 
 -- each part has its section
-pub targets_all : (start now : State) (ys : List Identifier) (p : Pairs) (parts k : ℕ) (ts : List Identifier) → IsMatching (length ys) parts p → k ≡ parts → AreTargetsTo start now ys p k ts → AreTargets start now ys p parts ts
-targets_all start now ys p parts k ts m is was = record {
-  long = was.long ∙ is;
+pub targets_all : (start now : State) (ys : List Identifier) (p : Pairs) (parts k : ℕ) (ps : List Part) (ts : List Identifier) → IsMatching (length ys) parts p → k ≡ parts → length ps ≡ parts → AreTargetsTo start now ys p ps k ts → AreTargets start now ys p ps ts
+targets_all start now ys p parts k ps ts m is long was = record {
+  long = was.long ∙ (is ∙ sym long);
   kept = λ j i s e f. was.kept j i s (below j i e) e f;
   fresh = was.fresh;
   shown_are = λ s. (λ c. elim (was.only s c) [ inl d ↦ d | inr r ↦ let l = below r.0 r.1 r.3 in absurd (omega (arith, r.2)) ], λ c. was.there s c);
   once = was.once;
+  titled = was.titled;
 }
   where
     below : (j i : ℕ) → section_of p j ≡ Some i → j < k
@@ -230,6 +251,16 @@ matched_held start ys parts p w m left j i s e f =
     shown_holds start.held.history s w (left.kept i s f (inr (subst IsSome (sym pair) refl)))
 
 -- and nothing was moved for it
-pub taken_places : (old new : State) (sections : List Identifier) (place : Option ℕ) (title : List ℕ) (before targets : List Identifier) → IsPartTaken old new sections place title before targets → KeepsPlaces old.held.history new.held.history
-taken_places old new sections (Some i) title before targets taken = subst (λ (s : State). KeepsPlaces old.held.history s.held.history) (sym (taken.kept i refl).1) (places_none old.held.history)
-taken_places old new sections None title before targets taken = (taken.came refl).added.places
+pub taken_places : (old new : State) (sections : List Identifier) (place : Option ℕ) (anchor : Option Identifier) (title : List ℕ) (before targets : List Identifier) → IsPartTaken old new sections place anchor title before targets
+    → KeepsPlaces old.held.history new.held.history
+taken_places old new sections (Some i) anchor title before targets taken = subst (λ (s : State). KeepsPlaces old.held.history s.held.history) (sym (taken.kept i refl).1) (places_none old.held.history)
+taken_places old new sections None anchor title before targets taken = (taken.came refl).added.places
+
+-- what sections are added behind is one of those of the parts before
+pub anchored_in : (anchor : Option Identifier) (xs ys : List Identifier) → IfSome anchor (λ t. Contains xs t) → ((t : Identifier) → Contains xs t → Contains ys t) → IfSome anchor (λ t. Contains ys t)
+anchored_in None xs ys none within = none
+anchored_in (Some s) xs ys m within = within s m
+
+pub anchored_more : (old new : Option Identifier) (xs ys : List Identifier) (s : Identifier) → ys ≡ xs ++ s ∷ [] → IfSome old (λ t. Contains xs t) → (new ≡ Some s) ⊎ (new ≡ old) → IfSome new (λ t. Contains ys t)
+anchored_more old new xs ys s is was (inl e) = subst (λ o. IfSome o (λ t. Contains ys t)) (sym e) (subst (λ l. Contains l s) (sym is) (Contains-append_right xs (s ∷ []) s (contains_here s [])))
+anchored_more old new xs ys s is was (inr e) = subst (λ o. IfSome o (λ t. Contains ys t)) (sym e) (anchored_in old xs ys was (λ t m. subst (λ l. Contains l t) (sym is) (Contains-append_left xs (s ∷ []) t m)))

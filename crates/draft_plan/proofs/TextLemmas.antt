@@ -113,6 +113,7 @@ keeps_join a b c first next = record {
   retitled = next.retitled ∙ first.retitled;
   stamps = next.stamps ∙ first.stamps;
   moved = next.moved ∙ first.moved;
+  arranges = λ x k. next.arranges x (first.arranges x k);
 }
 
 pub revised_join : (old mid new : State) (k : ℕ) (x : Identifier) (a b : List ℕ) (n m : ℕ) → IsRevised old mid k x a n → IsRevised mid new k x b m → IsRevised old new k x b (n + m)
@@ -139,7 +140,7 @@ revised_none s k x = record {
   elsewhere = λ t d. refl;
   others = λ t d. refl;
   ordered = λ t d. refl;
-  keeps = record { sections = refl; arranged_as = refl; headings = λ t. refl; retitled = refl; stamps = refl; moved = refl };
+  keeps = record { sections = refl; arranged_as = refl; headings = λ t. refl; retitled = refl; stamps = refl; moved = refl; arranges = λ x k. k };
 }
 
 -- so many operations there are

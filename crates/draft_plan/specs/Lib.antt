@@ -15,3 +15,4 @@ pub mod Arranging
 pub mod Resizing
 pub mod Keeping
 pub mod Limits
+pub mod Plans

@@ -13,6 +13,7 @@ use Rattle.origin_model.specs.order.Printed.{shown, text}
 use Rattle.text_diff.specs.Hunks.{Transforms}
 use Rattle.text_diff.specs.Kept.{KeepsLines}
 use Rattle.text_diff.specs.Seams.{KeepsWords}
+use Rattle.text_diff.specs.Tight.{IsTight}
 use Rattle.text_diff.specs.declared.hunk.Hunk.{Hunk}
 use Rattle.catalogue_notes.specs.Arranged.{arranged}
 use Rattle.catalogue_notes.specs.Lift.{stamp}
@@ -42,6 +43,9 @@ pub record Cost : Type 0 where
 
 abbrev pub cost : (operations counters stamps : ℕ) → Cost
 cost operations counters stamps = record { operations = operations; counters = counters; stamps = stamps }
+
+abbrev pub plus : Cost → Cost → Cost
+plus a b = cost (a.operations + b.operations) (a.counters + b.counters) (a.stamps + b.stamps)
 
 -- no more was taken
 pub record TakesUpTo (old new : State) (c : Cost) : Type 0 where
@@ -84,11 +88,12 @@ put_size hs = sum_by (λ h. h.new_len) hs
 abbrev pub hunks_cost : List Hunk → Cost
 hunks_cost hs = cost (size hs) (put_size hs) 0
 
--- hunks from one text to another, in which whole words go and come, and that leave the lines of a heaviest common order;
--- two texts that are the same have none
+-- hunks from one text to another, in which whole words go and come, that are as short as these allow, and that leave the
+-- lines of a heaviest common order; two texts that are the same have none
 pub record AreChosen (old new : List ℕ) (hunks : List Hunk) : Type 0 where
   pub transforms : Transforms nat_eq old new hunks
   pub words : All (KeepsWords old new) hunks
+  pub tight : All (IsTight old new) hunks
   pub unchanged : old ≡ new → hunks ≡ []
   pub lines : (old ≡ new → ⊥) → KeepsLines old new hunks
 
@@ -102,10 +107,6 @@ CostsText old new section reads (Err edit.NoMemory) = Unit {0}
 CostsText old new section reads result =
     (hunks : List Hunk) × AreChosen (text old.held.history section) reads hunks × Costs old new (hunks_cost hunks) (by_edit result)
 
--- a section's title takes a retitle, and its text each letter that it has and that it gets
-abbrev pub section_cost : (old new : List ℕ) → Cost
-section_cost old new = cost (length old + length new + 1) (length new + 1) 1
-
 -- how many letters sections show
 abbrev pub letters_of : List Op → List Identifier → ℕ
 letters_of h sections = sum_by (λ s. length (text h s)) sections
@@ -116,10 +117,6 @@ letters h = letters_of h (arranged h)
 -- how many letters parts have
 abbrev pub part_letters : List Part → ℕ
 part_letters parts = sum_by (λ (p : Part). length (chars p.text)) parts
-
--- what it costs that sections get the titles and texts of parts
-abbrev pub filling_cost : List Op → List Identifier → List Part → Cost
-filling_cost h sections parts = cost (letters_of h sections + part_letters parts + length parts) (part_letters parts + length parts) (length parts)
 
 -- What a revision costs at most. Each letter that is shown is deleted, and each of the draft is made. Each section is
 -- dropped. Each part is added, moved and retitled.

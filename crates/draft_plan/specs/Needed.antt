@@ -45,16 +45,21 @@ InShape = Touches (λ s. ⊥) (λ x. ⊥) (Unit {0})
 abbrev pub InSections : (history : List Op) → Op → Type 0
 InSections history = Touches (λ s. ⊥) (Contains (shown catalogue history)) (Unit {0})
 
--- a section of the manuscript, or an element of the text of one
-abbrev pub IsShown : (history : List Op) → Identifier → Type 0
-IsShown history x = Contains (arranged history) x ⊎ IsElement history x
+-- an element that the text of a section showed that stays
+abbrev pub IsElementKept : (old new : List Op) → Identifier → Type 0
+IsElementKept old new x = (s : Identifier) × Contains (arranged old) s × Contains (arranged new) s × Contains (shown (within s) old) x
 
--- The operations were made, and each is needed: what a Delete names was shown, and each Section and each Text that was
--- made is shown behind.
+-- A section of the manuscript, or an element of the text of one that stays: so a section that is dropped is deleted, and
+-- none of its letters is.
+abbrev pub MayBeDeleted : (old new : List Op) → Identifier → Type 0
+MayBeDeleted old new x = Contains (arranged old) x ⊎ IsElementKept old new x
+
+-- The operations were made, and each is needed: what a Delete names was shown, and is no letter of a section that is
+-- dropped, and each Section and each Text that was made is shown behind.
 pub record NoneIsNeedless (old new : State) : Type 0 where
   pub made : List Op
   pub gained : Gains old new made
-  pub deletes : (x : Identifier) → Contains made (Delete x) → IsShown old.held.history x
+  pub deletes : (x : Identifier) → Contains made (Delete x) → MayBeDeleted old.held.history new.held.history x
   pub sections : (id : Identifier) (left right : Option Identifier) (title : List ℕ) → Contains made (Section id left right title)
       → Contains (arranged new.held.history) id
   pub texts : (id section : Identifier) (left right : Option Identifier) (ch : ℕ) → Contains made (Text id section left right ch)
@@ -62,4 +67,4 @@ pub record NoneIsNeedless (old new : State) : Type 0 where
 
 -- what a revision may do
 abbrev pub InRevision : (old new : List Op) → Op → Type 0
-InRevision old new = Touches (Contains (arranged new)) (IsShown old) (Unit {0})
+InRevision old new = Touches (Contains (arranged new)) (MayBeDeleted old new) (Unit {0})

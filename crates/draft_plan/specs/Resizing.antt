@@ -1,5 +1,5 @@
 -- Sections dropped and added, until there is one for each part of a draft.
-use Rattle.std.specs.Prelude.{◌≡◌, ◌≢◌, ◌⊎◌, ◌↔◌, ℕ, ◌+◌, ◌-◌, ◌≤◌, ◌<◌, false, Option, Some, None, IsSome, List, [], ◌∷◌, ◌++◌, length, slice_get}
+use Rattle.std.specs.Prelude.{◌≡◌, ◌≢◌, ◌⊎◌, ◌↔◌, ℕ, ◌+◌, ◌≤◌, ◌<◌, false, Option, Some, None, IsSome, List, [], ◌∷◌, ◌++◌, length, slice_get}
 use Rattle.std.specs.List.{Contains}
 use Rattle.std.specs.Str.{encode_utf8_all}
 use Rattle.fugue_ids.specs.Identifiers.{Identifier}
@@ -10,7 +10,8 @@ use Rattle.origin_model.specs.order.Printed.{shown}
 use Rattle.catalogue_notes.specs.Arranged.{heading}
 use Rattle.section_plan.specs.Matching.{part_of, section_of}
 use Rattle.section_plan.specs.declared.pairs.Pairs.{Pairs}
-use Rattle.draft_plan.specs.Shaping.{IsShaped, KeepsPlaces}
+use Rattle.draft_plan.specs.Drafts.{Part}
+use Rattle.draft_plan.specs.Shaping.{AreTitled, IsShaped, KeepsPlaces}
 
 -- no member stands at two places
 abbrev pub AreDistinct : List Identifier → Type 0
@@ -34,21 +35,21 @@ pub record IsAdded (old new : State) (number : ℕ) (title : List ℕ) (section 
   pub headed : encode_utf8_all (heading new.held.history section) ≡ title
   pub all : (t : Identifier) → Contains (shown catalogue new.held.history) t ↔ (Contains (shown catalogue old.held.history) t ⊎ (t ≡ section))
 
--- the number behind that of the last one of these sections, or the first number
-pub record IsBehind (shown_now sections : List Identifier) (number : ℕ) : Type 0 where
+-- the number behind that of a section, or the first number
+pub record IsBehind (shown_now : List Identifier) (section : Option Identifier) (number : ℕ) : Type 0 where
   pub within : number ≤ length shown_now
-  pub first : length sections ≡ 0 → number ≡ 0
-  pub behind : (s : Identifier) → slice_get sections (length sections - 1) ≡ Some s → (n : ℕ) × (slice_get shown_now n ≡ Some s) × (number ≡ n + 1)
+  pub first : section ≡ None → number ≡ 0
+  pub behind : (s : Identifier) → section ≡ Some s → (n : ℕ) × (slice_get shown_now n ≡ Some s) × (number ≡ n + 1)
 
--- a section with this title was added, directly behind the last one of these, or as the first one
-pub record ComesBehind (old new : State) (before : List Identifier) (title : List ℕ) (section : Identifier) : Type 0 where
+-- a section with this title was added, directly behind another one, or as the first one
+pub record ComesBehind (old new : State) (anchor : Option Identifier) (title : List ℕ) (section : Identifier) : Type 0 where
   pub number : ℕ
-  pub behind : IsBehind (shown catalogue old.held.history) before number
+  pub behind : IsBehind (shown catalogue old.held.history) anchor number
   pub added : IsAdded old new number title section
 
 -- the sections of the parts in front of one: a part has the section that it is matched with, or one that was not held at
--- the start. What is shown besides are the sections of later parts
-pub record AreTargetsTo (start now : State) (sections : List Identifier) (pairs : Pairs) (part : ℕ) (targets : List Identifier) : Type 0 where
+-- the start and stands under its title. What is shown besides are the sections of later parts
+pub record AreTargetsTo (start now : State) (sections : List Identifier) (pairs : Pairs) (parts : List Part) (part : ℕ) (targets : List Identifier) : Type 0 where
   pub long : length targets ≡ part
   pub kept : (j i : ℕ) (s : Identifier) → j < part → section_of pairs j ≡ Some i → slice_get sections i ≡ Some s → slice_get targets j ≡ Some s
   pub fresh : (j : ℕ) (s : Identifier) → section_of pairs j ≡ None → slice_get targets j ≡ Some s → holds start.held.history s ≡ false
@@ -57,18 +58,22 @@ pub record AreTargetsTo (start now : State) (sections : List Identifier) (pairs 
   pub only : (s : Identifier) → Contains (shown catalogue now.held.history) s
       → Contains targets s ⊎ ((j : ℕ) × (i : ℕ) × (part ≤ j) × (section_of pairs j ≡ Some i) × (slice_get sections i ≡ Some s))
   pub once : AreDistinct targets
+  pub titled : AreTitled now.held.history pairs parts targets
 
 -- these are the shown sections, each once, and each part has the section that it is matched with, or one that was not held
-pub record AreTargets (start now : State) (sections : List Identifier) (pairs : Pairs) (parts : ℕ) (targets : List Identifier) : Type 0 where
-  pub long : length targets ≡ parts
+-- and stands under its title
+pub record AreTargets (start now : State) (sections : List Identifier) (pairs : Pairs) (parts : List Part) (targets : List Identifier) : Type 0 where
+  pub long : length targets ≡ length parts
   pub kept : (j i : ℕ) (s : Identifier) → section_of pairs j ≡ Some i → slice_get sections i ≡ Some s → slice_get targets j ≡ Some s
   pub fresh : (j : ℕ) (s : Identifier) → section_of pairs j ≡ None → slice_get targets j ≡ Some s → holds start.held.history s ≡ false
   pub shown_are : (s : Identifier) → Contains (shown catalogue now.held.history) s ↔ Contains targets s
   pub once : AreDistinct targets
+  pub titled : AreTitled now.held.history pairs parts targets
 
 -- the section of one part more came to these: that at a place, or, where there is none, one that was added with the title
-pub record IsPartTaken (old new : State) (sections : List Identifier) (place : Option ℕ) (title : List ℕ) (before targets : List Identifier) : Type 0 where
+-- behind a section, or as the first one
+pub record IsPartTaken (old new : State) (sections : List Identifier) (place : Option ℕ) (anchor : Option Identifier) (title : List ℕ) (before targets : List Identifier) : Type 0 where
   pub section : Identifier
   pub targets_are : targets ≡ before ++ section ∷ []
   pub kept : (i : ℕ) → place ≡ Some i → (slice_get sections i ≡ Some section) × (new ≡ old)
-  pub came : place ≡ None → ComesBehind old new before title section
+  pub came : place ≡ None → ComesBehind old new anchor title section

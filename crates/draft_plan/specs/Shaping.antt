@@ -64,12 +64,22 @@ abbrev pub Reshapes : (old new : State) → Result ℕ ReviseFault → Type 0
 Reshapes old new (Ok n) = IsReshaped old new n
 Reshapes old new (Err why) = StopsAtLimit old new why
 
--- so many sections are arranged: at a part's place stands the section that it is matched with, or, where there is none,
--- one that was not held. Sections are counted as they were arranged
-pub record StandsAs (old new : List Op) (pairs : Pairs) (parts : ℕ) : Type 0 where
-  pub long : length (arranged new) ≡ parts
-  pub kept : (j i : ℕ) (s : Identifier) → section_of pairs j ≡ Some i → slice_get (arranged old) i ≡ Some s → slice_get (arranged new) j ≡ Some s
-  pub fresh : (j : ℕ) (s : Identifier) → section_of pairs j ≡ None → slice_get (arranged new) j ≡ Some s → holds old s ≡ false
+-- the sections of so many parts: a part has the section that it is matched with, or, where there is none, one that was not
+-- held. Sections are counted as they were arranged
+pub record AreSectionsOf (old : List Op) (pairs : Pairs) (parts : ℕ) (sections : List Identifier) : Type 0 where
+  pub long : length sections ≡ parts
+  pub kept : (j i : ℕ) (s : Identifier) → section_of pairs j ≡ Some i → slice_get (arranged old) i ≡ Some s → slice_get sections j ≡ Some s
+  pub fresh : (j : ℕ) (s : Identifier) → section_of pairs j ≡ None → slice_get sections j ≡ Some s → holds old s ≡ false
+
+-- the section of a part that was matched with none has the part's title as its heading
+abbrev pub AreTitled : (now : List Op) → Pairs → List Part → (sections : List Identifier) → Type 0
+AreTitled now pairs parts sections =
+    (j : ℕ) (s : Identifier) (p : Part) → section_of pairs j ≡ None → slice_get sections j ≡ Some s → slice_get parts j ≡ Some p → encode_utf8_all (heading now s) ≡ p.title
+
+-- what is arranged are the sections of these parts, and those that were added stand under their titles
+pub record StandsAs (old new : List Op) (pairs : Pairs) (parts : List Part) : Type 0 where
+  pub sections : AreSectionsOf old pairs (length parts) (arranged new)
+  pub titled : AreTitled new pairs parts (arranged new)
 
 -- the same sections are shown and arranged as before, none was moved, and all but this one are as they were
 pub record ChangesOnly (old new : List Op) (s : Identifier) : Type 0 where

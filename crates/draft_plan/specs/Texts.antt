@@ -17,7 +17,9 @@ use Rattle.text_diff.specs.Seams.{KeepsWords}
 use Rattle.text_diff.specs.Tight.{IsTight}
 use Rattle.text_diff.specs.declared.hunk.Hunk.{Hunk}
 use Rattle.catalogue_notes.specs.Arranged.{arranged, heading}
+use Rattle.catalogue_notes.specs.Arranging.{Arranges}
 use Rattle.catalogue_notes.specs.Lift.{moves, retitles, stamp}
+use Rattle.catalogue_notes.specs.declared.arranger.Arranger.{Arranger}
 use Rattle.draft_plan.specs.Changes.{Change, Changed, Edit, Stops, all_made}
 use Rattle.draft_plan.specs.declared.fault.ReviseFault.TheVariants as fault
 
@@ -28,7 +30,7 @@ EditsText k (Edit (Cut j at n)) = j ≡ k
 EditsText k change = ⊥
 
 -- the same sections are shown, arranged so by the same moves, under the same headings by the same retitles, and the next
--- stamp is the same
+-- stamp is the same; what is known of the arrangement stays known
 pub record KeepsArrangement (old new : List Op) : Type 0 where
   pub sections : shown catalogue new ≡ shown catalogue old
   pub arranged_as : arranged new ≡ arranged old
@@ -36,6 +38,7 @@ pub record KeepsArrangement (old new : List Op) : Type 0 where
   pub retitled : retitles new ≡ retitles old
   pub stamps : stamp new ≡ stamp old
   pub moved : moves new ≡ moves old
+  pub arranges : (a : Arranger) → Arranges old a → Arranges new a
 
 -- n operations were made, those of puts and cuts in this section, after which it reads so; the other sections read and
 -- show what they did, their elements, the hidden ones too, stand as they stood, and all are arranged as before

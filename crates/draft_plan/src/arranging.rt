@@ -8,16 +8,18 @@ ghost use Rattle.origin_model.specs.edits.State.{Stands};
 ghost use Rattle.origin_model.specs.order.Printed.{shown};
 ghost use Rattle.origin_model.specs.taking.Taking.{IsSettled};
 ghost use Rattle.catalogue_notes.specs.Arranged.{arranged};
+ghost use Rattle.catalogue_notes.specs.Arranging.{Arranges};
 ghost use Rattle.catalogue_notes.specs.Moving.{IsMoveMade};
 ghost use Rattle.catalogue_notes.specs.Outlining.{entry_sections};
 ghost use Rattle.section_plan.specs.Orders.{ArePlaced, IsOrder};
 ghost use Rattle.draft_plan.specs.Arranging.{ArePlacesTo, AreStaying, ArrangesFew, IsOrderOf, MovesPart, PutsPlace};
 ghost use Rattle.draft_plan.specs.Limits.{CostsShaping, cost};
+ghost use Rattle.draft_plan.specs.Plans.{CostsArranging, move_count};
 ghost use Rattle.draft_plan.specs.Resizing.{AreDistinct};
 ghost use Rattle.draft_plan.specs.Shaping.{Shapes};
 
 use crate::fault::ReviseFault;
-use catalogue_notes::{Entry, move_section, outline};
+use catalogue_notes::{Arranger, Entry, outline};
 use fugue_ids::{ElementId, NoMemory};
 use replica_core::Replica;
 use section_plan::{Pairs, Step, longest_rise, place_next};
@@ -135,53 +137,65 @@ fn stays_of(alloc: Global, pairs: &Pairs, order: &[usize]) -> Result<Vec<bool>, 
 }
 
 /// Moves one section.
-fn move_one(alloc: Global, replica: &mut Replica, step: Step) -> Result<u32, ReviseFault>
+fn move_one(
+    alloc: Global,
+    replica: &mut Replica,
+    arranger: &mut Arranger,
+    step: Step,
+) -> Result<u32, ReviseFault>
     requires settled { IsSettled replica.old.held }
     requires stands { Stands replica.old }
+    requires arranges { Arranges replica.old.held.history arranger.old }
     requires from_within { step.from < length (arranged replica.old.held.history) }
     requires to_within { step.to < length (arranged replica.old.held.history) }
     ensures shapes { Shapes replica.old replica.new result }
     ensures costs { CostsShaping replica.old replica.new (cost 1 1 1) result }
     ensures moved { IfOk result (λ n. IsMoveMade replica.old replica.new step.from step.to n) }
     ensures shown { OnOk result (shown catalogue replica.new.held.history ≡ shown catalogue replica.old.held.history) }
+    ensures arranges { Arranges replica.new.held.history arranger.new }
     ensures settled { IsSettled replica.new.held }
     ensures stands { Stands replica.new }
 {
-    Ok(move_section(alloc, replica, step.from, step.to)?)
+    Ok(arranger.move_section(alloc, replica, step.from, step.to)?)
 }
 
 /// Moves the section of the next part behind that of the part before it, unless it stands there or stays.
 fn move_next(
     alloc: Global,
     replica: &mut Replica,
+    arranger: &mut Arranger,
     order: &mut Vec<usize>,
+    near: &mut usize,
     stays: &[bool],
     part: usize,
     sections: &[ElementId],
 ) -> Result<u32, ReviseFault>
     requires settled { IsSettled replica.old.held }
     requires stands { Stands replica.old }
+    requires arranges { Arranges replica.old.held.history arranger.old }
     requires order { IsOrder order.old.items }
     requires arranged { IsOrderOf sections.now (arranged replica.old.held.history) order.old.items }
     requires placed { ArePlaced order.old.items stays.now part }
     requires within { part < length order.old.items }
     requires long { length stays.now ≡ length order.old.items }
     ensures shapes { Shapes replica.old replica.new result }
-    ensures costs { CostsShaping replica.old replica.new (cost 1 1 1) result }
+    ensures costs { CostsShaping replica.old replica.new
+        (cost (move_count stays.now part) (move_count stays.now part) (move_count stays.now part)) result }
     ensures order { OnOk result (IsOrder order.new.items) }
     ensures placed { OnOk result (ArePlaced order.new.items stays.now (part + 1)) }
     ensures moved { OnOk result (MovesPart replica.old.held.history replica.new.held.history stays.now sections.now part) }
     ensures long { OnOk result (length order.new.items ≡ length order.old.items) }
     ensures arranged { OnOk result (IsOrderOf sections.now (arranged replica.new.held.history) order.new.items) }
     ensures shown { OnOk result (shown catalogue replica.new.held.history ≡ shown catalogue replica.old.held.history) }
+    ensures arranges { Arranges replica.new.held.history arranger.new }
     ensures settled { IsSettled replica.new.held }
     ensures stands { Stands replica.new }
 {
-    let step = place_next(order, stays, part)?;
+    let step = place_next(order, stays, part, near)?;
     let Some(step) = step else {
         return Ok(0);
     };
-    let made = move_one(alloc, replica, step)?;
+    let made = move_one(alloc, replica, arranger, step)?;
     Ok(made)
 }
 
@@ -197,8 +211,7 @@ pub(crate) fn arrange(
     requires shown { (s : Identifier) → Contains (shown catalogue replica.old.held.history) s ↔ Contains sections.now s }
     requires once { AreDistinct sections.now }
     ensures shapes { Shapes replica.old replica.new result }
-    ensures costs { CostsShaping replica.old replica.new
-        (cost (length sections.now) (length sections.now) (length sections.now)) result }
+    ensures costs { CostsArranging replica.old replica.new pairs.now sections.now result }
     ensures arranged { OnOk result (arranged replica.new.held.history ≡ sections.now) }
     ensures few { OnOk result (ArrangesFew replica.old.held.history replica.new.held.history pairs.now sections.now) }
     ensures settled { IsSettled replica.new.held }
@@ -206,9 +219,20 @@ pub(crate) fn arrange(
 {
     let mut order = order_of(alloc, replica, sections)?;
     let stays = stays_of(alloc, pairs, order.as_slice())?;
+    let mut arranger = Arranger::new();
+    let mut near = 0;
     let mut made = 0;
     'parts: for part in 0..sections.len() {
-        made += move_next(alloc, replica, &mut order, stays.as_slice(), part, sections)?;
+        made += move_next(
+            alloc,
+            replica,
+            &mut arranger,
+            &mut order,
+            &mut near,
+            stays.as_slice(),
+            part,
+            sections,
+        )?;
     }
     Ok(made)
 }

@@ -1,6 +1,6 @@
 //! Sections dropped and added, until there is one for each part of a draft.
 
-ghost use Rattle.std.specs.Prelude.{◌≡◌, ◌+◌, ◌<◌, ◌≤◌, ℕ, [], ◌∷◌, ◌++◌, IfErr, IfOk, Ok, OnOk, Some, length, slice_get};
+ghost use Rattle.std.specs.Prelude.{◌≡◌, ◌⊎◌, ◌+◌, ◌<◌, ◌≤◌, ℕ, [], ◌∷◌, ◌++◌, IfErr, IfOk, IfSome, Ok, OnOk, Some, length, map, slice_get};
 ghost use Rattle.std.specs.List.{Contains};
 ghost use Rattle.fugue_ids.specs.Identifiers.{Identifier};
 ghost use Rattle.origin_model.specs.declared.operations.Place.TheVariants.{Catalogue as catalogue};
@@ -11,6 +11,8 @@ ghost use Rattle.catalogue_notes.specs.Arranged.{arranged};
 ghost use Rattle.catalogue_notes.specs.Outlining.{IsOutline, entry_sections};
 ghost use Rattle.section_plan.specs.Matching.{IsMatching, section_of};
 ghost use Rattle.draft_plan.specs.Limits.{CostsShaping, LacksRoom, cost};
+ghost use Rattle.draft_plan.specs.Plans.{added_count, dropped_count, unmatched};
+ghost use Rattle.draft_plan.specs.Readings.{seen_part};
 ghost use Rattle.draft_plan.specs.Resizing.{AreDistinct, AreLeft, AreTargets, IsAdded, IsBehind, IsPartTaken, IsWithout};
 ghost use Rattle.draft_plan.specs.Revision.{StopsAtLimit};
 ghost use Rattle.draft_plan.specs.Shaping.{KeepsPlaces, Reshapes, Shapes};
@@ -20,7 +22,7 @@ use crate::titles::title_of;
 use catalogue_notes::Entry;
 use fugue_ids::{ElementId, NoMemory};
 use replica_core::Replica;
-use section_plan::{Pairs, Part};
+use section_plan::{Pairs, Part, longest_rise};
 use std::alloc::Global;
 
 /// The number of a shown section in the catalogue.
@@ -56,7 +58,7 @@ fn drop_free(replica: &mut Replica, entries: &[Entry], pairs: &Pairs) -> Result<
     requires stands { Stands replica.old }
     requires outline { IsOutline replica.old.held.history entries.now }
     ensures shapes { Reshapes replica.old replica.new result }
-    ensures costs { CostsShaping replica.old replica.new (cost (length entries.now) 0 0) result }
+    ensures costs { CostsShaping replica.old replica.new (cost (dropped_count pairs.now (length entries.now)) 0 0) result }
     ensures places { OnOk result (KeepsPlaces replica.old.held.history replica.new.held.history) }
     ensures left { OnOk result (AreLeft (entry_sections entries.now) pairs.now (length entries.now) (shown catalogue replica.new.held.history)) }
     ensures settled { IsSettled replica.new.held }
@@ -71,15 +73,15 @@ fn drop_free(replica: &mut Replica, entries: &[Entry], pairs: &Pairs) -> Result<
     Ok(made)
 }
 
-/// The number behind that of the last one of these sections, or the first number.
-fn number_behind(replica: &Replica, sections: &[ElementId]) -> usize
-    requires { (s : Identifier) → Contains sections.now s → Contains (shown catalogue replica.now.held.history) s }
-    ensures { IsBehind (shown catalogue replica.now.held.history) sections.now result }
+/// The number behind that of a section, or the first number.
+fn number_behind(replica: &Replica, section: Option<ElementId>) -> usize
+    requires { IfSome section (λ s. Contains (shown catalogue replica.now.held.history) s) }
+    ensures { IsBehind (shown catalogue replica.now.held.history) section result }
 {
-    if sections.is_empty() {
+    let Some(section) = section else {
         return 0;
-    }
-    let number = number_of(replica, sections[sections.len() - 1]);
+    };
+    let number = number_of(replica, section);
     replica.section_count().min(number.wrapping_add(1))
 }
 
@@ -114,34 +116,72 @@ fn keep_section(sections: &mut Vec<ElementId>, section: ElementId) -> Result<(),
     Ok(sections.push(section)?)
 }
 
-/// Adds a section for a part, behind that of the part before it, unless it has one.
+/// The parts whose sections stay where they are: a longest series of those that stand in order.
+fn staying_parts(alloc: Global, pairs: &Pairs, parts: usize) -> Result<Vec<bool>, NoMemory>
+    ensures { IfOk result (λ stays. length stays.items ≡ parts) }
+{
+    let mut places = Vec::new(alloc);
+    'parts: for part in 0..parts {
+        places.push(pairs.section_of(part))?;
+    }
+    let stays = longest_rise(alloc, places.as_slice())?;
+    Ok(stays)
+}
+
+/// What the next section is added behind, once a part has its section: that, if it stays where it is.
+fn next_anchor(
+    stays: &[bool],
+    part: usize,
+    section: ElementId,
+    anchor: Option<ElementId>,
+) -> Option<ElementId>
+    requires { part < length stays.now }
+    ensures { (result ≡ Some section) ⊎ (result ≡ anchor) }
+{
+    if stays[part] {
+        return Some(section);
+    }
+    anchor
+}
+
+/// Adds a section for a part, unless it has one: behind the last section of the parts before it that stays or was added, so
+/// that it stands at its place once the others are moved.
 fn take_part(
     alloc: Global,
     replica: &mut Replica,
     entries: &[Entry],
     pairs: &Pairs,
+    stays: &[bool],
     part: usize,
     title: &str,
     sections: &mut Vec<ElementId>,
+    anchor: &mut Option<ElementId>,
 ) -> Result<u32, ReviseFault>
     requires settled { IsSettled replica.old.held }
     requires stands { Stands replica.old }
     requires there { (s : Identifier) → Contains sections.old.items s → Contains (shown catalogue replica.old.held.history) s }
+    requires anchor { IfSome anchor.old (λ s. Contains sections.old.items s) }
     requires within { (i : ℕ) → section_of pairs.now part ≡ Some i → i < length entries.now }
+    requires staying { part < length stays.now }
     ensures shapes { Shapes replica.old replica.new result }
-    ensures costs { CostsShaping replica.old replica.new (cost 1 1 0) result }
-    ensures taken { OnOk result (IsPartTaken replica.old replica.new (entry_sections entries.now) (section_of pairs.now part) title.now
+    ensures costs { CostsShaping replica.old replica.new
+        (cost (unmatched (section_of pairs.now part)) (unmatched (section_of pairs.now part)) 0) result }
+    ensures taken { OnOk result (IsPartTaken replica.old replica.new (entry_sections entries.now) (section_of pairs.now part) anchor.old title.now
         sections.old.items sections.new.items) }
+    ensures anchor { OnOk result (IfSome anchor.new (λ s. Contains sections.new.items s)) }
     ensures settled { IsSettled replica.new.held }
     ensures stands { Stands replica.new }
 {
     if let Some(place) = pairs.section_of(part) {
-        keep_section(sections, entries[place].section)?;
+        let section = entries[place].section;
+        keep_section(sections, section)?;
+        *anchor = next_anchor(stays, part, section, *anchor);
         return Ok(0);
     }
-    let number = number_behind(replica, sections.as_slice());
+    let number = number_behind(replica, *anchor);
     let section = add_one(alloc, replica, number, title)?;
     keep_section(sections, section)?;
+    *anchor = Some(section);
     Ok(1)
 }
 
@@ -161,15 +201,28 @@ fn add_missing(
     requires once { AreDistinct (entry_sections entries.now) }
     requires none { sections.old.items ≡ [] }
     ensures shapes { Shapes replica.old replica.new result }
-    ensures costs { CostsShaping replica.old replica.new (cost (length parts.now) (length parts.now) 0) result }
+    ensures costs { CostsShaping replica.old replica.new
+        (cost (added_count pairs.now (length parts.now)) (added_count pairs.now (length parts.now)) 0) result }
     ensures places { OnOk result (KeepsPlaces replica.old.held.history replica.new.held.history) }
-    ensures targets { OnOk result (AreTargets replica.old replica.new (entry_sections entries.now) pairs.now (length parts.now) sections.new.items) }
+    ensures targets { OnOk result (AreTargets replica.old replica.new (entry_sections entries.now) pairs.now (map seen_part parts.now) sections.new.items) }
     ensures settled { IsSettled replica.new.held }
     ensures stands { Stands replica.new }
 {
+    let stays = staying_parts(alloc, pairs, parts.len())?;
+    let mut anchor = None;
     let mut made = 0;
     'parts: for (place, part) in parts.iter().enumerate() {
-        made += take_part(alloc, replica, entries, pairs, place, part.title, sections)?;
+        made += take_part(
+            alloc,
+            replica,
+            entries,
+            pairs,
+            stays.as_slice(),
+            place,
+            part.title,
+            sections,
+            &mut anchor,
+        )?;
     }
     Ok(made)
 }
@@ -191,9 +244,10 @@ pub(crate) fn resize(
     requires none { sections.old.items ≡ [] }
     ensures shapes { Reshapes replica.old replica.new result }
     ensures costs { CostsShaping replica.old replica.new
-        (cost (length entries.now + length parts.now) (length parts.now) 0) result }
+        (cost (dropped_count pairs.now (length entries.now) + added_count pairs.now (length parts.now))
+        (added_count pairs.now (length parts.now)) 0) result }
     ensures places { OnOk result (KeepsPlaces replica.old.held.history replica.new.held.history) }
-    ensures targets { OnOk result (AreTargets replica.old replica.new (arranged replica.old.held.history) pairs.now (length parts.now) sections.new.items) }
+    ensures targets { OnOk result (AreTargets replica.old replica.new (arranged replica.old.held.history) pairs.now (map seen_part parts.now) sections.new.items) }
     ensures settled { IsSettled replica.new.held }
     ensures stands { Stands replica.new }
 {

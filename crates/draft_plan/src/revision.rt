@@ -1,21 +1,23 @@
 //! A whole manuscript, revised until it is a draft.
 
-ghost use Rattle.std.specs.Prelude.{◌≡◌, ◌↔◌, IfErr, IfOk, IsTrue, OnOk, Some, length, map, string_bytes};
-ghost use Rattle.std.specs.Str.{chars, encode_utf8_all};
+ghost use Rattle.std.specs.Prelude.{◌≡◌, ◌↔◌, [], IfErr, IfOk, IsTrue, OnOk, Some, length, map, slice_get, string_bytes};
+ghost use Rattle.std.specs.Str.{encode_utf8_all};
 ghost use Rattle.fugue_ids.specs.Identifiers.{Identifier};
 ghost use Rattle.origin_model.specs.edits.Refusal.{section_shown};
 ghost use Rattle.origin_model.specs.edits.State.{Stands};
 ghost use Rattle.origin_model.specs.order.Printed.{text as text_on};
 ghost use Rattle.origin_model.specs.taking.Taking.{IsSettled};
 ghost use Rattle.catalogue_notes.specs.Arranged.{arranged, heading};
+ghost use Rattle.catalogue_notes.specs.Arranging.{Arranges};
 ghost use Rattle.catalogue_notes.specs.Lift.{moves};
 ghost use Rattle.catalogue_notes.specs.Moving.{section_placed};
 ghost use Rattle.catalogue_notes.specs.Outlining.{IsEntry, IsOutline};
 ghost use Rattle.draft_plan.specs.Keeping.{KeepsSections};
-ghost use Rattle.draft_plan.specs.Limits.{Costs, IsOutOfMemory, cost, filling_cost, revision_cost, section_cost};
+ghost use Rattle.draft_plan.specs.Limits.{Costs, IsOutOfMemory, revision_cost};
 ghost use Rattle.draft_plan.specs.Matching.{Matches, shown_part};
 ghost use Rattle.draft_plan.specs.Needed.{InTexts, MakesOnly, NoneIsNeedless};
 ghost use Rattle.draft_plan.specs.Plain.{arranged_part, arranged_parts};
+ghost use Rattle.draft_plan.specs.Plans.{CostsFilling, CostsSection, LacksPlan, filling, retitle_count};
 ghost use Rattle.draft_plan.specs.Readings.{seen_part};
 ghost use Rattle.draft_plan.specs.Revision.{IsRevision, MakesNothing, StopsAtLimit};
 ghost use Rattle.draft_plan.specs.Shaping.{IsFilled, IsHeadedBy};
@@ -25,7 +27,7 @@ use crate::fault::ReviseFault;
 use crate::revising::revise_text;
 use crate::shaping::shape;
 use crate::titles::title_of;
-use catalogue_notes::{Entry, outline, retitle};
+use catalogue_notes::{Arranger, Entry, outline};
 use fugue_ids::NoMemory;
 use replica_core::Replica;
 use section_plan::{Pairs, Part, match_sections};
@@ -43,6 +45,7 @@ pub fn revise(alloc: Global, replica: &mut Replica, draft: &Draft<'_>) -> Result
     ensures same { IfOk result (λ n. MakesNothing replica.old replica.new draft.now n) }
     ensures stops { IfErr result (λ why. StopsAtLimit replica.old replica.new why) }
     ensures costs { Costs replica.old replica.new (revision_cost replica.old.held.history draft.now) result }
+    ensures planned { IfErr result (λ why. LacksPlan replica.old draft.now why) }
     ensures spared { arranged_parts replica.old.held.history ≡ draft.now → IfErr result (λ why. IsOutOfMemory why) }
     ensures settled { IsSettled replica.new.held }
     ensures stands { Stands replica.new }
@@ -168,8 +171,8 @@ fn fill_shaped(alloc: Global, replica: &mut Replica, parts: &[Part<'_>]) -> Resu
     ensures touches { OnOk result (MakesOnly (InTexts replica.old.held.history) replica.old replica.new) }
     ensures moved { OnOk result (moves replica.new.held.history ≡ moves replica.old.held.history) }
     ensures stops { IfErr result (λ why. StopsAtLimit replica.old replica.new why) }
-    ensures costs { Costs replica.old replica.new (filling_cost replica.old.held.history
-        (arranged replica.old.held.history) (map seen_part parts.now)) result }
+    ensures costs { CostsFilling replica.old replica.new (slice_get (arranged replica.old.held.history))
+        (map seen_part parts.now) result }
     ensures settled { IsSettled replica.new.held }
     ensures stands { Stands replica.new }
 {
@@ -194,16 +197,18 @@ fn fill(
     ensures touches { OnOk result (MakesOnly (InTexts replica.old.held.history) replica.old replica.new) }
     ensures moved { OnOk result (moves replica.new.held.history ≡ moves replica.old.held.history) }
     ensures stops { IfErr result (λ why. StopsAtLimit replica.old replica.new why) }
-    ensures costs { Costs replica.old replica.new (filling_cost replica.old.held.history
-        (arranged replica.old.held.history) (map seen_part parts.now)) result }
+    ensures costs { CostsFilling replica.old replica.new (slice_get (arranged replica.old.held.history))
+        (map seen_part parts.now) result }
     ensures settled { IsSettled replica.new.held }
     ensures stands { Stands replica.new }
 {
+    let mut arranger = Arranger::new();
     let mut made = 0;
     'parts: for (place, part) in parts.iter().enumerate() {
         made += fill_section(
             alloc,
             replica,
+            &mut arranger,
             place,
             &entries[place],
             part.title,
@@ -217,6 +222,7 @@ fn fill(
 fn fill_section(
     alloc: Global,
     replica: &mut Replica,
+    arranger: &mut Arranger,
     place: usize,
     entry: &Entry,
     title: &str,
@@ -224,6 +230,7 @@ fn fill_section(
 ) -> Result<u32, ReviseFault>
     requires settled { IsSettled replica.old.held }
     requires stands { Stands replica.old }
+    requires arranges { Arranges replica.old.held.history arranger.old }
     requires placed { section_placed replica.old place ≡ Some entry.now.section }
     requires numbered { section_shown replica.old entry.now.number ≡ Some entry.now.section }
     requires headed { string_bytes entry.now.heading
@@ -231,12 +238,13 @@ fn fill_section(
     ensures filled { IfOk result
         (λ n. IsFilled replica.old replica.new entry.now.section (record { title = title.now; text = text.now }) n) }
     ensures stops { IfErr result (λ why. StopsAtLimit replica.old replica.new why) }
-    ensures costs { Costs replica.old replica.new
-        (section_cost (text_on replica.old.held.history entry.now.section) (chars text.now)) result }
+    ensures costs { CostsSection replica.old replica.new entry.now.section
+        (record { title = title.now; text = text.now }) result }
+    ensures arranges { OnOk result (Arranges replica.new.held.history arranger.new) }
     ensures settled { IsSettled replica.new.held }
     ensures stands { Stands replica.new }
 {
-    let retitled = retitle_other(alloc, replica, place, entry, title)?;
+    let retitled = retitle_other(alloc, replica, arranger, place, entry, title)?;
     let revised = revise_text(alloc, replica, entry.number, text)?;
     Ok(retitled + revised)
 }
@@ -245,18 +253,22 @@ fn fill_section(
 fn retitle_other(
     alloc: Global,
     replica: &mut Replica,
+    arranger: &mut Arranger,
     place: usize,
     entry: &Entry,
     title: &str,
 ) -> Result<u32, ReviseFault>
     requires settled { IsSettled replica.old.held }
     requires stands { Stands replica.old }
+    requires arranges { Arranges replica.old.held.history arranger.old }
     requires placed { section_placed replica.old place ≡ Some entry.now.section }
     requires headed { string_bytes entry.now.heading
         ≡ encode_utf8_all (heading replica.old.held.history entry.now.section) }
     ensures titled { IfOk result (λ n. IsHeadedBy replica.old replica.new entry.now.section title.now n) }
     ensures stops { IfErr result (λ why. StopsAtLimit replica.old replica.new why) }
-    ensures costs { Costs replica.old replica.new (cost 1 1 1) result }
+    ensures costs { Costs replica.old replica.new
+        (filling (retitle_count replica.old.held.history (Some entry.now.section) (Some title.now)) []) result }
+    ensures arranges { Arranges replica.new.held.history arranger.new }
     ensures settled { IsSettled replica.new.held }
     ensures stands { Stands replica.new }
 {
@@ -264,5 +276,5 @@ fn retitle_other(
         return Ok(0);
     }
     let title = title_of(alloc, title)?;
-    Ok(retitle(alloc, replica, place, title)?)
+    Ok(arranger.retitle(alloc, replica, place, title)?)
 }

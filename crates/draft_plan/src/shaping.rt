@@ -1,12 +1,13 @@
 //! The sections of a replica dropped, added and moved, until they stand as the parts of a draft do.
 
-ghost use Rattle.std.specs.Prelude.{◌+◌, ◌*◌, OnOk, length};
+ghost use Rattle.std.specs.Prelude.{OnOk, length, map};
 ghost use Rattle.origin_model.specs.edits.State.{Stands};
 ghost use Rattle.origin_model.specs.taking.Taking.{IsSettled};
 ghost use Rattle.catalogue_notes.specs.Outlining.{IsOutline};
 ghost use Rattle.section_plan.specs.Matching.{IsMatching};
 ghost use Rattle.draft_plan.specs.Keeping.{MovesFew};
-ghost use Rattle.draft_plan.specs.Limits.{CostsShaping, cost};
+ghost use Rattle.draft_plan.specs.Plans.{CostsStanding};
+ghost use Rattle.draft_plan.specs.Readings.{seen_part};
 ghost use Rattle.draft_plan.specs.Shaping.{Reshapes, StandsAs};
 
 use crate::arranging::arrange;
@@ -30,9 +31,8 @@ pub(crate) fn shape(
     requires outline { IsOutline replica.old.held.history entries.now }
     requires matching { IsMatching (length entries.now) (length parts.now) pairs.now }
     ensures shapes { Reshapes replica.old replica.new result }
-    ensures costs { CostsShaping replica.old replica.new
-        (cost (length entries.now + 2 * length parts.now) (2 * length parts.now) (length parts.now)) result }
-    ensures stand_as { OnOk result (StandsAs replica.old.held.history replica.new.held.history pairs.now (length parts.now)) }
+    ensures costs { CostsStanding replica.old replica.new pairs.now (length entries.now) (length parts.now) result }
+    ensures stand_as { OnOk result (StandsAs replica.old.held.history replica.new.held.history pairs.now (map seen_part parts.now)) }
     ensures moves { OnOk result (MovesFew replica.old.held.history replica.new.held.history) }
     ensures settled { IsSettled replica.new.held }
     ensures stands { Stands replica.new }

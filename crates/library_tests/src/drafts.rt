@@ -164,6 +164,29 @@ const ROWS: &[Row] = &[
     (ABCDEF, BADCFE, 3, 3, BADCFE),
     (BADCFE, EBADCF, 1, 1, EBADCF),
     (ABCDEF, FEDCBA, 5, 5, FEDCBA),
+    // Sections are added beside ones that are moved, and are not moved themselves.
+    (
+        AB,
+        "# B\nthree\n# N\nx\n# A\none two\n",
+        3,
+        3,
+        "# B\nthree\n# N\nx\n# A\none two\n",
+    ),
+    (
+        ABCDEF,
+        "# F\n\n# N\n\n# A\n\n# B\n\n# C\n\n# D\n\n# M\n\n# E\n\n",
+        3,
+        3,
+        "# F\n\n# N\n\n# A\n\n# B\n\n# C\n\n# D\n\n# M\n\n# E\n\n",
+    ),
+    // Both titles change, and a word of the first text, and one comes to the second.
+    (
+        AB,
+        "# C\n1 two\n# D\nthree four\n",
+        13,
+        13,
+        "# C\n1 two\n# D\nthree four\n",
+    ),
 ];
 
 /// The first draft is written, and then revised: once more, that takes no operation.

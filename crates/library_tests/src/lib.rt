@@ -43,6 +43,8 @@ mod made;
 #[cfg(test)]
 mod manuscripts;
 #[cfg(test)]
+mod matching;
+#[cfg(test)]
 mod model;
 #[cfg(test)]
 mod op_lines;

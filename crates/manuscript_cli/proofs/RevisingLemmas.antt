@@ -31,6 +31,7 @@ use Rattle.draft_plan.specs.Differences.{first_difference, unless_whole}
 use Rattle.draft_plan.specs.Drafts.{Part, form, parts}
 use Rattle.draft_plan.specs.Limits.{Costs, IsOutOfMemory, LacksRoom, revision_cost}
 use Rattle.draft_plan.specs.Plain.{ArrangedReads, arranged_parts}
+use Rattle.draft_plan.specs.Plans.{LacksPlan}
 use Rattle.draft_plan.specs.Revision.{IsRevision, MakesNothing, StopsAtLimit}
 use Rattle.draft_plan.specs.declared.draft.DraftFault.{DraftFault}
 use Rattle.draft_plan.specs.declared.draft.DraftFault.TheVariants as draft_fault
@@ -313,23 +314,26 @@ draft_stops (Ok x) why replica draft is bad = cc is
 draft_stops (Err fault) why replica draft is bad = subst (λ (w : Refusal). TextStops w replica draft) (sym is) (parts_stop fault (Err fault) replica draft refl bad)
 
 pub limit_stops : (fault : ReviseFault) (replica last : Replica) (draft : List ℕ) (ps : List Part) → parts draft ≡ Ok ps → empties replica.held.history ps ≡ false → StopsAtLimit replica last fault
-    → LacksRoom replica (revision_cost replica.held.history ps) fault → (arranged_parts replica.held.history ≡ ps → IsOutOfMemory fault) → TextStops (revise_refusal fault) replica draft
-limit_stops (fault.Edit edit.NoSection) replica last draft ps e some stops lacks spared = tt
-limit_stops (fault.Edit edit.OutOfRange) replica last draft ps e some stops lacks spared = tt
-limit_stops (fault.Edit edit.NoMemory) replica last draft ps e some stops lacks spared = tt
-limit_stops (fault.Move moving.NoSection) replica last draft ps e some stops lacks spared = tt
-limit_stops (fault.Move moving.NoPlace) replica last draft ps e some stops lacks spared = tt
-limit_stops (fault.Move moving.NoMemory) replica last draft ps e some stops lacks spared = tt
-limit_stops why replica last draft ps e some stops lacks spared =
-    (ps, e, some, record { fault = why; why_is = refl; no_want = λ is. cc is; last = last; stops = stops; ps = ps; reads = e; lacks = lacks; changes = λ same. spared same })
+    → LacksRoom replica (revision_cost replica.held.history ps) fault → LacksPlan replica ps fault → (arranged_parts replica.held.history ≡ ps → IsOutOfMemory fault) → TextStops (revise_refusal fault) replica draft
+limit_stops (fault.Edit edit.NoSection) replica last draft ps e some stops lacks planned spared = tt
+limit_stops (fault.Edit edit.OutOfRange) replica last draft ps e some stops lacks planned spared = tt
+limit_stops (fault.Edit edit.NoMemory) replica last draft ps e some stops lacks planned spared = tt
+limit_stops (fault.Move moving.NoSection) replica last draft ps e some stops lacks planned spared = tt
+limit_stops (fault.Move moving.NoPlace) replica last draft ps e some stops lacks planned spared = tt
+limit_stops (fault.Move moving.NoMemory) replica last draft ps e some stops lacks planned spared = tt
+limit_stops why replica last draft ps e some stops lacks planned spared = elim planned [
+  | inl wants ↦ absurd wants
+  | inr p ↦
+      (ps, e, some, record { fault = why; why_is = refl; no_want = λ is. cc is; last = last; stops = stops; ps = ps; reads = e; plan = p.0; no_room = p.1; lacks = lacks; changes = λ same. spared same })
+]
 
 -- a revision that stopped
 pub revise_stops : (result : Result ℕ ReviseFault) (why : Refusal) (replica last : Replica) (draft : List ℕ) (ps : List Part) → MatchResult result (λ (n : ℕ). Err why ≡ Ok n) (λ fault. why ≡ revise_refusal fault)
     → parts draft ≡ Ok ps → empties replica.held.history ps ≡ false → IfErr result (λ f. StopsAtLimit replica last f) → Costs replica last (revision_cost replica.held.history ps) result
-    → (arranged_parts replica.held.history ≡ ps → IfErr result (λ f. IsOutOfMemory f)) → TextStops why replica draft
-revise_stops (Ok n) why replica last draft ps is e some stops costs spared = cc is
-revise_stops (Err f) why replica last draft ps is e some stops costs spared =
-    subst (λ (w : Refusal). TextStops w replica draft) (sym is) (limit_stops f replica last draft ps e some stops costs spared)
+    → IfErr result (λ f. LacksPlan replica ps f) → (arranged_parts replica.held.history ≡ ps → IfErr result (λ f. IsOutOfMemory f)) → TextStops why replica draft
+revise_stops (Ok n) why replica last draft ps is e some stops costs planned spared = cc is
+revise_stops (Err f) why replica last draft ps is e some stops costs planned spared =
+    subst (λ (w : Refusal). TextStops w replica draft) (sym is) (limit_stops f replica last draft ps e some stops costs planned spared)
 
 -- or that came to an end
 revised_of : (n : ℕ) (replica last : Replica) (ps : List Part) → ArrangedReads → IsRevision replica last ps n → MakesNothing replica last ps n → Costs replica last (revision_cost replica.held.history ps) (Ok n)

@@ -16,6 +16,7 @@ use Rattle.draft_plan.specs.Differences.{first_difference}
 use Rattle.draft_plan.specs.Drafts.{Part, form, parts}
 use Rattle.draft_plan.specs.Limits.{Costs, LacksRoom, revision_cost}
 use Rattle.draft_plan.specs.Plain.{arranged_parts}
+use Rattle.draft_plan.specs.Plans.{Plan, plan_cost}
 use Rattle.draft_plan.specs.Revision.{IsRevision, MakesNothing, StopsAtLimit}
 use Rattle.draft_plan.specs.declared.draft.DraftFault.{DraftFault}
 use Rattle.draft_plan.specs.declared.draft.DraftFault.TheVariants as draft_fault
@@ -106,7 +107,8 @@ pub record Revises (replica : Replica) (draft : List ℕ) (outcome : Outcome) : 
   pub costs : Costs replica last (revision_cost replica.held.history ps) (Ok (length made))
   pub outcome_is : outcome ≡ revised_outcome last made
 
--- a limit is met on the way to the draft: less room is left than the draft may cost, and it is not what is shown
+-- a limit is met on the way to the draft: less room is left than what is planned for it costs, and less than a draft may
+-- cost at most, and it is not what is shown
 pub record MeetsLimit (replica : Replica) (draft : List ℕ) (why : Refusal) : Type 0 where
   pub fault : ReviseFault
   pub why_is : why ≡ revise_refusal fault
@@ -115,6 +117,8 @@ pub record MeetsLimit (replica : Replica) (draft : List ℕ) (why : Refusal) : T
   pub stops : StopsAtLimit replica last fault
   pub ps : List Part
   pub reads : parts draft ≡ Ok ps
+  pub plan : Plan replica.held.history ps
+  pub no_room : LacksRoom replica (plan_cost replica.held.history ps plan.pairs plan.moved plan.hunks) fault
   pub lacks : LacksRoom replica (revision_cost replica.held.history ps) fault
   pub changes : arranged_parts replica.held.history ≢ ps
 

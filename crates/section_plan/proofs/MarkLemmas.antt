@@ -1,17 +1,15 @@
 -- Texts by the marks of their first thirds.
-use Rattle.std.proofs.Common.{List, [], ap, arith, cond, false, get_or, inl, inr, length, nat_eq, nat_lt, refl, reverse, subst, suc, sym, take, true, zero, ℕ, ◌*◌, ◌+◌, ◌++◌, ◌/◌, ◌<◌, ◌≤◌, ◌∙◌, ◌∷◌, ◌≡◌, ◌⊎◌}
-use Rattle.std.specs.Prelude.{IfNone, None, Option, Some, slice_get}
-use Rattle.std.specs.Ordering.{nat_cmp}
-use Rattle.std.specs.BTreeMap.{BTreeMap, Updates, get, is_at}
+use Rattle.std.proofs.Common.{List, [], ap, arith, cond, false, get_or, inl, inr, length, nat_eq, nat_le, nat_lt, refl, reverse, subst, suc, sym, take, true, zero, ℕ, ◌*◌, ◌+◌, ◌-◌, ◌++◌, ◌/◌, ◌<◌, ◌≤◌, ◌∙◌, ◌∷◌, ◌≡◌, ◌⊎◌}
+use Rattle.std.specs.Prelude.{IfNone, IfSome, None, Option, Some, slice_get}
 use Rattle.std.specs.List.{common_prefix_len}
-use Rattle.std.proofs.lemmas.Bool.{and_parts, cases_Bool, cases_eq, eqb-true, leb-true, ltb-false, ltb-true, or_cases}
+use Rattle.std.proofs.Math.Nat.{min-eq_left, min_comm}
+use Rattle.std.proofs.lemmas.Bool.{and_parts, cases_Bool, cases_eq, eqb-true, leb-false, leb-true, ltb-false, ltb-true, or_cases}
 use Rattle.std.proofs.lemmas.List.Sums.{common_prefix_len-le}
-use Rattle.std.proofs.lemmas.Bool.Decides.{nat_tests}
 use Rattle.std.proofs.lemmas.List.{get_or_append_left, get_or_push, length-reverse, length_push, take_more}
 use Rattle.std.proofs.lemmas.Option.{same_Some, slice_get_within}
 use Rattle.section_plan.specs.Alike.{NoneAmong}
 use Rattle.section_plan.specs.Likeness.{alike, longer, shares_third}
-use Rattle.section_plan.specs.Marks.{AreMarked, AreThirds, AreTried, IsIndex, IsLast, IsUpTo, NoneFronted, NoneMarked, mark_from, mark_of, next_mark, third_mark, turns}
+use Rattle.section_plan.specs.Marks.{AreThirds, AreTried, IsFirst, IsFrom, IsIndex, NoneFronted, NoneMarked, earlier, mark_from, mark_of, next_mark, third_mark, turns}
 use Rattle.section_plan.specs.Matching.{part_of}
 use Rattle.section_plan.specs.declared.alike.Scalars.{Scalars}
 use Rattle.section_plan.specs.declared.marks.Marks.{Marks}
@@ -42,52 +40,28 @@ front_same (x ∷ a) (y ∷ b) (suc w) l = elim (cases_Bool (nat_eq x y)) [
   | inr e ↦ let n : common_prefix_len nat_eq (x ∷ a) (y ∷ b) ≡ 0 = ap (λ t. cond t (1 + common_prefix_len nat_eq a b) 0) e in absurd (omega (arith, l, n))
 ]
 
-other_key : (at e : ℕ) → (e ≡ at → ⊥) → is_at (nat_cmp at) e ≡ false
-other_key at e other = grind (arith, nat_tests, other)
-
--- one mark more
-pub marked_more : (marks : List ℕ) (n : ℕ) (old new : BTreeMap ℕ ℕ) (before : List (Option ℕ)) → n < length marks → AreMarked marks n (get nat_cmp old) before → Updates nat_cmp old new (get_or marks n 0) (Some n)
-    → AreMarked marks (n + 1) (get nat_cmp new) (before ++ get nat_cmp old (get_or marks n 0) ∷ [])
-marked_more marks n old new before l was u = record {
-  long = length_push before (get nat_cmp old (get_or marks n 0)) ∙ ap (λ k. k + 1) was.long;
-  ends = λ mark. elim (cases_eq mark (get_or marks n 0)) [
-    | inl e ↦ subst (IsLast marks (n + 1) mark) (sym (ap (get nat_cmp new) e ∙ u.1)) (omega arith, sym e, λ j m same. omega (arith, m))
-    | inr ne ↦ subst (IsLast marks (n + 1) mark) (sym (u.2 mark (other_key (get_or marks n 0) mark ne))) (later mark (get nat_cmp old mark) ne (was.ends mark))
-  ];
-  chains = λ k m. elim (cases_eq k n) [
-    | inl e ↦ subst (λ i. IsLast marks i (get_or marks i 0) (get_or (before ++ get nat_cmp old (get_or marks n 0) ∷ []) i None)) (sym e)
-        (subst (IsLast marks n (get_or marks n 0)) (sym (get_or_push before (get nat_cmp old (get_or marks n 0)) None n was.long)) (was.ends (get_or marks n 0)))
-    | inr ne ↦ subst (IsLast marks k (get_or marks k 0)) (sym (get_or_append_left before (get nat_cmp old (get_or marks n 0) ∷ []) None k (omega (arith, m, ne, was.long)))) (was.chains k (omega (arith, m, ne)))
-  ];
-}
-  where
-    later : (mark : ℕ) (o : Option ℕ) → (mark ≡ get_or marks n 0 → ⊥) → IsLast marks n mark o → IsLast marks (n + 1) mark o
-    later mark None ne none = λ j m same. elim (cases_eq j n) [ inl e ↦ ne (sym same ∙ ap (λ i. get_or marks i 0) e) | inr other ↦ none j (omega (arith, m, other)) same ]
-    later mark (Some k) ne last = (
-      omega (arith, last.0),
-      last.1,
-      λ j m same. elim (cases_eq j n) [ inl e ↦ absurd (ne (sym same ∙ ap (λ i. get_or marks i 0) e)) | inr other ↦ last.2 j (omega (arith, m, other)) same ],
-    )
-
 module _ (p : Pairs) (sections : List Scalars) (marks : List ℕ) (mark : ℕ) (text : List ℕ) (long : length marks ≡ length sections) where
+  marked_within : (k : ℕ) (s : Scalars) → slice_get sections k ≡ Some s → k < length marks
+  marked_within k s at = omega (arith, slice_get_within sections k s at, long)
+
   -- none was tried yet
-  pub tried_none : (o : Option ℕ) → IsLast marks (length sections) mark o → AreTried p sections marks mark text o
-  tried_none None none = record { there = λ k e. cc e; tried = λ k s at same free. absurd (none k (slice_get_within sections k s at) same) }
-  tried_none (Some l) last = record {
-    there = λ k e. let d : l ≡ k = same_Some l k e in (omega (arith, last.0, d, long), ap (λ i. get_or marks i 0) (sym d) ∙ last.1);
-    tried = λ k s at same free. inr (last.2 k (slice_get_within sections k s at) same);
+  pub tried_none : (o : Option ℕ) → IsFirst marks 0 mark o → AreTried p sections marks mark text o
+  tried_none None none = record { there = λ k e. cc e; tried = λ k s at same free. absurd (none k (omega arith) (marked_within k s at) same) }
+  tried_none (Some l) first = record {
+    there = λ k e. let d : l ≡ k = same_Some l k e in (omega (arith, first.1, d), ap (λ i. get_or marks i 0) (sym d) ∙ first.2);
+    tried = λ k s at same free. inr (first.3 k (omega arith) (marked_within k s at) same);
   }
 
   -- one more was
-  pub tried_more : (k : ℕ) (o : Option ℕ) (u : Scalars) → AreTried p sections marks mark text (Some k) → IsLast marks k (get_or marks k 0) o → slice_get sections k ≡ Some u → (part_of p u.place ≡ None → alike u.list.items text ≡ false)
+  pub tried_more : (k : ℕ) (o : Option ℕ) (u : Scalars) → AreTried p sections marks mark text (Some k) → IsFirst marks (k + 1) (get_or marks k 0) o → slice_get sections k ≡ Some u → (part_of p u.place ≡ None → alike u.list.items text ≡ false)
       → AreTried p sections marks mark text o
-  tried_more k o u was last at other = record {
-    there = λ j e. there o last j e;
+  tried_more k o u was first at other = record {
+    there = λ j e. there o first j e;
     tried = λ j s here same free. elim (was.tried j s here same free) [
       | inl out ↦ inl out
       | inr l ↦ elim (cases_eq j k) [
         | inl e ↦ let is : u ≡ s = same_Some u s (sym at ∙ (ap (slice_get sections) (sym e) ∙ here)) in inl (ap (λ (t : Scalars). alike t.list.items text) (sym is) ∙ other (ap (λ (t : Scalars). part_of p t.place) is ∙ free))
-        | inr ne ↦ inr (up_to o last j (omega (arith, l, ne)) same)
+        | inr ne ↦ inr (from_next o first j (omega (arith, l, ne)) (marked_within j s here) same)
       ]
     ];
   }
@@ -95,22 +69,22 @@ module _ (p : Pairs) (sections : List Scalars) (marks : List ℕ) (mark : ℕ) (
       here_mark : get_or marks k 0 ≡ mark
       here_mark = (was.there k refl).1
 
-      there : (o : Option ℕ) → IsLast marks k (get_or marks k 0) o → (j : ℕ) → o ≡ Some j → (j < length marks) × (get_or marks j 0 ≡ mark)
-      there None last j e = cc e
-      there (Some i) last j e = let d : i ≡ j = same_Some i j e in (omega (arith, last.0, d, (was.there k refl).0), ap (λ n. get_or marks n 0) (sym d) ∙ (last.1 ∙ here_mark))
+      there : (o : Option ℕ) → IsFirst marks (k + 1) (get_or marks k 0) o → (j : ℕ) → o ≡ Some j → (j < length marks) × (get_or marks j 0 ≡ mark)
+      there None first j e = cc e
+      there (Some i) first j e = let d : i ≡ j = same_Some i j e in (omega (arith, first.1, d), ap (λ n. get_or marks n 0) (sym d) ∙ (first.2 ∙ here_mark))
 
-      up_to : (o : Option ℕ) → IsLast marks k (get_or marks k 0) o → (j : ℕ) → j < k → get_or marks j 0 ≡ mark → IsUpTo o j
-      up_to None last j l same = last j l (same ∙ sym here_mark)
-      up_to (Some i) last j l same = last.2 j l (same ∙ sym here_mark)
+      from_next : (o : Option ℕ) → IsFirst marks (k + 1) (get_or marks k 0) o → (j : ℕ) → k + 1 ≤ j → j < length marks → get_or marks j 0 ≡ mark → IsFrom o j
+      from_next None first j l within same = first j l within (same ∙ sym here_mark)
+      from_next (Some i) first j l within same = first.3 j l within (same ∙ sym here_mark)
 
   -- all were
   pub tried_all : AreTried p sections marks mark text None → NoneMarked p sections marks mark text
   tried_all was k s at same free = elim (was.tried k s at same free) [ inl out ↦ out | inr none ↦ absurd none ]
 
--- a place before is in front
-pub falls : (marks : List ℕ) (k mark : ℕ) (o : Option ℕ) → IsLast marks k mark o → turns o < k + 1
-falls marks k mark None last = omega arith
-falls marks k mark (Some i) last = omega (arith, last.0)
+-- the next place is behind
+pub falls : (marks : List ℕ) (k mark : ℕ) (o : Option ℕ) → k < length marks → IsFirst marks (k + 1) mark o → turns (length marks) o < length marks - k
+falls marks k mark None l first = omega (arith, l)
+falls marks k mark (Some i) l first = omega (arith, first.0, first.1)
 
 -- one front more
 pub fronted_more : (p : Pairs) (sections : List Scalars) (marks list text : List ℕ) (n mark : ℕ) → NoneFronted p sections marks list n text → mark ≡ mark_of (take n list) → NoneMarked p sections marks mark text
@@ -120,11 +94,21 @@ fronted_more p sections marks list text n mark was is none w l = elim (cases_eq 
   | inr ne ↦ was w (omega (arith, l, ne))
 ]
 
--- the whole list is a front
-pub fronted_all : (p : Pairs) (sections : List Scalars) (marks list text : List ℕ) (n mark : ℕ) (o : Option ℕ) → n ≡ length list → NoneFronted p sections marks list n text → mark ≡ mark_of (take n list)
-    → IfNone o (NoneMarked p sections marks mark text) → IfNone o (NoneFronted p sections marks list (length list + 1) text)
-fronted_all p sections marks list text n mark None all was is none = subst (λ k. NoneFronted p sections marks list (k + 1) text) all (fronted_more p sections marks list text n mark was is none)
-fronted_all p sections marks list text n mark (Some k) all was is none = tt
+pub fronted_next : (p : Pairs) (sections : List Scalars) (marks list text : List ℕ) (n mark : ℕ) (found marked : Option ℕ) → IfNone found (NoneFronted p sections marks list n text) → mark ≡ mark_of (take n list)
+    → IfNone marked (NoneMarked p sections marks mark text) → IfNone (earlier found marked) (NoneFronted p sections marks list (n + 1) text)
+fronted_next p sections marks list text n mark None None was is none = fronted_more p sections marks list text n mark was is none
+fronted_next p sections marks list text n mark None (Some j) was is none = tt
+fronted_next p sections marks list text n mark (Some k) None was is none = tt
+fronted_next p sections marks list text n mark (Some k) (Some j) was is none = tt
+
+-- what holds of two places holds of the earlier one
+pub earlier_is : (P : ℕ → Type 0) (one other : Option ℕ) → IfSome one P → IfSome other P → IfSome (earlier one other) P
+earlier_is P None other f g = g
+earlier_is P (Some k) None f g = f
+earlier_is P (Some k) (Some j) f g = elim (cases_Bool (nat_le k j)) [
+  | inl e ↦ subst P (sym (min-eq_left (leb-true k j e))) f
+  | inr e ↦ let less : j < k = leb-false k j e in subst P (sym (min_comm k j ∙ min-eq_left (omega (arith, less)))) g
+]
 
 -- the longer one of two texts is as long as each of them
 longer_long : (a b : List ℕ) → (length a ≤ length (longer a b)) × (length b ≤ length (longer a b))
@@ -173,10 +157,12 @@ none_among p texts front end text back is reversed fronts ends k s l at free = b
               ends (length s.reversed.items / 3) t.0 k s at (is.by_end.thirds.each k s l at ∙ t.1) free
         ]
 
-pub none_found : (p : Pairs) (texts : List Scalars) (front end : Marks) (text back : List ℕ) (o : Option ℕ) → IsIndex texts front end → back ≡ reverse text → NoneFronted p texts front.marks.items text (length text + 1) text
-    → IfNone o (NoneFronted p texts end.marks.items back (length back + 1) text) → IfNone o (NoneAmong p texts (length texts) text)
-none_found p texts front end text back None is reversed fronts ends = none_among p texts front end text back is reversed fronts ends
-none_found p texts front end text back (Some k) is reversed fronts ends = tt
+pub none_found : (p : Pairs) (texts : List Scalars) (front end : Marks) (text back : List ℕ) (one other : Option ℕ) → IsIndex texts front end → back ≡ reverse text
+    → IfNone one (NoneFronted p texts front.marks.items text (length text + 1) text) → IfNone other (NoneFronted p texts end.marks.items back (length back + 1) text) → IfNone (earlier one other) (NoneAmong p texts (length texts) text)
+none_found p texts front end text back None None is reversed fronts ends = none_among p texts front end text back is reversed fronts ends
+none_found p texts front end text back None (Some j) is reversed fronts ends = tt
+none_found p texts front end text back (Some k) None is reversed fronts ends = tt
+none_found p texts front end text back (Some k) (Some j) is reversed fronts ends = tt
 
 -- one mark more
 pub thirds_more : (list : Scalars → List ℕ) (texts : List Scalars) (n : ℕ) (marks : List ℕ) (s : Scalars) (m : ℕ) → AreThirds list texts n marks → slice_get texts n ≡ Some s → m ≡ third_mark (list s) → AreThirds list texts (n + 1) (marks ++ m ∷ [])

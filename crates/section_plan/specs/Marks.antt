@@ -1,5 +1,5 @@
 -- Texts by a mark of their first third: a number that is the same for the same scalars.
-use Rattle.std.specs.Prelude.{◌≡◌, ◌⊎◌, ℕ, ◌+◌, ◌*◌, ◌<◌, ◌≤◌, ◌/◌, ◌%◌, false, Option, None, Some, List, [], ◌∷◌, length, reverse, slice_get, slice_index, slice_index_or, take}
+use Rattle.std.specs.Prelude.{◌≡◌, ◌⊎◌, ℕ, ◌+◌, ◌-◌, ◌*◌, ◌<◌, ◌≤◌, ◌/◌, ◌%◌, false, Option, None, Some, List, [], ◌∷◌, length, min, reverse, slice_get, slice_index, slice_index_or, take}
 use Rattle.std.specs.BTreeMap.{get}
 use Rattle.std.specs.Ordering.{nat_cmp}
 use Rattle.section_plan.specs.Likeness.{alike}
@@ -21,39 +21,45 @@ mark_from mark (c ∷ cs) = mark_from (next_mark mark c) cs
 abbrev pub mark_of : List ℕ → ℕ
 mark_of text = mark_from 0 text
 
--- of the first of some marks the last one that is this one: None where there is none
-abbrev pub IsLast : (marks : List ℕ) → (first mark : ℕ) → Option ℕ → Type 0
-IsLast marks first mark None = (j : ℕ) → j < first → slice_index marks j ≡ mark → ⊥
-IsLast marks first mark (Some k) = (k < first) × (slice_index marks k ≡ mark) × ((j : ℕ) → j < first → slice_index marks j ≡ mark → j ≤ k)
+-- of the marks from a place on the first one that is this one: None where there is none
+abbrev pub IsFirst : (marks : List ℕ) → (from mark : ℕ) → Option ℕ → Type 0
+IsFirst marks from mark None = (j : ℕ) → from ≤ j → j < length marks → slice_index marks j ≡ mark → ⊥
+IsFirst marks from mark (Some k) = (from ≤ k) × (k < length marks) × (slice_index marks k ≡ mark) × ((j : ℕ) → from ≤ j → j < length marks → slice_index marks j ≡ mark → k ≤ j)
 
--- the last one of each mark, and for each place the one before it with its mark
-pub record AreMarked (marks : List ℕ) (first : ℕ) (last : ℕ → Option ℕ) (before : List (Option ℕ)) : Type 0 where
-  pub long : length before ≡ first
-  pub ends : (mark : ℕ) → IsLast marks first mark (last mark)
-  pub chains : (k : ℕ) → k < first → IsLast marks k (slice_index marks k) (slice_index_or before k None)
+-- from a place on the first one of each mark, and for each place the next one with its mark
+pub record AreMarked (marks : List ℕ) (from : ℕ) (first : ℕ → Option ℕ) (next : List (Option ℕ)) : Type 0 where
+  pub long : length next ≡ length marks
+  pub starts : (mark : ℕ) → IsFirst marks from mark (first mark)
+  pub chains : (k : ℕ) → from ≤ k → k < length marks → IsFirst marks (k + 1) (slice_index marks k) (slice_index_or next k None)
 
 -- no free section whose text has this mark is alike
 abbrev pub NoneMarked : Pairs → List Scalars → (marks : List ℕ) → (mark : ℕ) → (text : List ℕ) → Type 0
 NoneMarked p sections marks mark text = (k : ℕ) (s : Scalars) → slice_get sections k ≡ Some s → slice_index marks k ≡ mark → part_of p s.place ≡ None → alike s.list.items text ≡ false
 
--- the place is not behind the last one
-abbrev pub IsUpTo : Option ℕ → ℕ → Type 0
-IsUpTo None j = ⊥
-IsUpTo (Some k) j = j ≤ k
+-- the place is not in front of the next one
+abbrev pub IsFrom : Option ℕ → ℕ → Type 0
+IsFrom None j = ⊥
+IsFrom (Some k) j = k ≤ j
 
--- a place that is left has this mark, and of those behind it that have it no free section is alike
-pub record AreTried (p : Pairs) (sections : List Scalars) (marks : List ℕ) (mark : ℕ) (text : List ℕ) (left : Option ℕ) : Type 0 where
-  pub there : (k : ℕ) → left ≡ Some k → (k < length marks) × (slice_index marks k ≡ mark)
-  pub tried : (k : ℕ) (s : Scalars) → slice_get sections k ≡ Some s → slice_index marks k ≡ mark → part_of p s.place ≡ None → (alike s.list.items text ≡ false) ⊎ IsUpTo left k
+-- the next place has this mark, and of those in front of it that have it no free section is alike
+pub record AreTried (p : Pairs) (sections : List Scalars) (marks : List ℕ) (mark : ℕ) (text : List ℕ) (next : Option ℕ) : Type 0 where
+  pub there : (k : ℕ) → next ≡ Some k → (k < length marks) × (slice_index marks k ≡ mark)
+  pub tried : (k : ℕ) (s : Scalars) → slice_get sections k ≡ Some s → slice_index marks k ≡ mark → part_of p s.place ≡ None → (alike s.list.items text ≡ false) ⊎ IsFrom next k
+
+-- the first one of two places, where there are any
+abbrev pub earlier : (one other : Option ℕ) → Option ℕ
+earlier None other = other
+earlier (Some k) None = Some k
+earlier (Some k) (Some j) = Some (min k j)
 
 -- none that has the mark of one of the first fronts of a list is alike
 abbrev pub NoneFronted : Pairs → List Scalars → (marks : List ℕ) → (list : List ℕ) → (first : ℕ) → (text : List ℕ) → Type 0
 NoneFronted p sections marks list first text = (w : ℕ) → w < first → NoneMarked p sections marks (mark_of (take w list)) text
 
--- so many turns are left at most
-abbrev pub turns : Option ℕ → ℕ
-turns None = 0
-turns (Some k) = k + 1
+-- of so many places, so many turns are left at most
+abbrev pub turns : (places : ℕ) → Option ℕ → ℕ
+turns places None = 0
+turns places (Some k) = places - k
 
 -- the marks of the first thirds of lists
 abbrev pub third_mark : List ℕ → ℕ
@@ -77,7 +83,7 @@ AreReversed texts = (k : ℕ) (s : Scalars) → slice_get texts k ≡ Some s →
 -- texts by the marks of lists of them
 pub record IsMarkedBy (list : Scalars → List ℕ) (texts : List Scalars) (m : Marks) : Type 0 where
   pub thirds : AreThirds list texts (length texts) m.marks.items
-  pub marked : AreMarked m.marks.items (length texts) (get nat_cmp m.last) m.before.items
+  pub marked : AreMarked m.marks.items 0 (get nat_cmp m.first) m.next.items
 
 -- the texts by their fronts and by their ends
 pub record IsIndex (texts : List Scalars) (front end : Marks) : Type 0 where

@@ -8,7 +8,7 @@ ghost use Rattle.section_plan.specs.Marks.{AreThirds, IsIndex, list_of, reversed
 ghost use Rattle.section_plan.specs.Matching.{AreKept, IsMatching, NoneIsAlike, part_of as part_in};
 
 use crate::likeness::are_alike;
-use crate::marks::{Marks, find_fronted, third_mark};
+use crate::marks::{Marks, earlier, find_fronted, third_mark};
 use crate::pairs::Pairs;
 use crate::part::Part;
 use fugue_ids::NoMemory;
@@ -103,7 +103,7 @@ fn index_of(alloc: Global, pairs: &Pairs, sections: &[Part<'_>]) -> Result<Index
     Ok(Index { texts, front, end })
 }
 
-/// A free section whose text is alike.
+/// The first free section whose text is alike.
 fn find_alike(pairs: &Pairs, index: &Index, text: &[char], reversed: &[char]) -> Option<usize>
     requires index { IsIndex index.now.texts.items index.now.front index.now.end }
     requires within { AreWithin (length pairs.now.of_section.items) index.now.texts.items }
@@ -113,13 +113,12 @@ fn find_alike(pairs: &Pairs, index: &Index, text: &[char], reversed: &[char]) ->
     ensures none { IfNone result (NoneAmong pairs.now index.now.texts.items (length index.now.texts.items) text.now) }
 {
     let texts = index.texts.as_slice();
-    if let Some(place) = find_fronted(pairs, texts, text, &index.front, text) {
-        return Some(place);
-    }
-    find_fronted(pairs, texts, text, &index.end, reversed)
+    let front = find_fronted(pairs, texts, text, &index.front, text);
+    let end = find_fronted(pairs, texts, text, &index.end, reversed);
+    earlier(front, end)
 }
 
-/// Pairs a part that is free with a free section whose text is alike.
+/// Pairs a part that is free with the first free section whose text is alike.
 fn serve_part(
     alloc: Global,
     pairs: &mut Pairs,

@@ -13,8 +13,6 @@ mod pairs;
 mod part;
 mod rises;
 mod sharing;
-#[cfg(test)]
-mod tests;
 
 pub use keys::Key;
 pub use matching::match_sections;

@@ -4,7 +4,7 @@ ghost use Rattle.std.specs.Prelude.{◌≡◌, ◌+◌, ◌*◌, ◌<◌, ◌≤
 ghost use Rattle.std.specs.Ordering.{nat_cmp};
 ghost use Rattle.std.specs.BTreeMap.{get};
 ghost use Rattle.section_plan.specs.Alike.{AreWithin};
-ghost use Rattle.section_plan.specs.Marks.{AreMarked, NoneFronted, NoneMarked, mark_of as mark_in, next_mark as mark_with, third_mark as third_in};
+ghost use Rattle.section_plan.specs.Marks.{AreMarked, NoneFronted, NoneMarked, earlier as earlier_of, mark_of as mark_in, next_mark as mark_with, third_mark as third_in};
 ghost use Rattle.section_plan.specs.Matching.{part_of as part_in};
 
 use crate::alike::{Scalars, is_candidate};
@@ -16,12 +16,12 @@ use std::collections::BTreeMap;
 /// What all marks are less than: a prime.
 pub(crate) const MARKS: u64 = 4_294_967_291;
 
-/// Texts by their marks: of each mark the last text, and of each text the one before it with the same mark.
+/// Texts by their marks: of each mark the first text, and of each text the next one with the same mark.
 #[derive(Drop)]
 pub(crate) struct Marks {
     marks: Vec<u64>,
-    last: BTreeMap<u64, usize>,
-    before: Vec<Option<usize>>,
+    first: BTreeMap<u64, usize>,
+    next: Vec<Option<usize>>,
 }
 
 /// The mark of a text with one scalar more.
@@ -45,18 +45,16 @@ pub(crate) fn third_mark(list: &[char]) -> u64
 impl Marks {
     pub(crate) fn of(alloc: Global, marks: Vec<u64>) -> Result<Marks, NoMemory>
         ensures is { IfOk result (λ made. made.marks ≡ marks) }
-        ensures marked { IfOk result (λ made. AreMarked marks.items (length marks.items) (get nat_cmp made.last) made.before.items) }
+        ensures marked { IfOk result (λ made. AreMarked marks.items 0 (get nat_cmp made.first) made.next.items) }
     {
-        let mut last = BTreeMap::new(alloc);
-        let mut before = Vec::new(alloc);
-        'marks: for (place, mark) in marks.as_slice().iter().enumerate() {
-            before.push(last.insert(*mark, place)?)?;
+        let mut first = BTreeMap::new(alloc);
+        let mut next = vec![in alloc; None; marks.len()]?;
+        let mut place = marks.len();
+        'marks: while place > 0 {
+            place -= 1;
+            next[place] = first.insert(marks[place], place)?;
         }
-        Ok(Marks {
-            marks,
-            last,
-            before,
-        })
+        Ok(Marks { marks, first, next })
     }
 }
 
@@ -67,15 +65,15 @@ fn section_at(sections: &[Scalars], place: usize) -> &Scalars
     &sections[place]
 }
 
-/// The text before one that has the same mark.
-fn before_of(marks: &Marks, place: usize) -> Option<usize>
-    requires { place < length marks.now.before.items }
-    ensures { result ≡ slice_index_or marks.now.before.items place None }
+/// The next text that has the same mark.
+fn next_of(marks: &Marks, place: usize) -> Option<usize>
+    requires { place < length marks.now.next.items }
+    ensures { result ≡ slice_index_or marks.now.next.items place None }
 {
-    marks.before[place]
+    marks.next[place]
 }
 
-/// A free section whose text has this mark and is alike.
+/// The first free section whose text has this mark and is alike.
 fn find_marked(
     pairs: &Pairs,
     sections: &[Scalars],
@@ -83,25 +81,36 @@ fn find_marked(
     marks: &Marks,
     mark: u64,
 ) -> Option<usize>
-    requires marked { AreMarked marks.now.marks.items (length sections.now) (get nat_cmp marks.now.last) marks.now.before.items }
+    requires marked { AreMarked marks.now.marks.items 0 (get nat_cmp marks.now.first) marks.now.next.items }
     requires long { length marks.now.marks.items ≡ length sections.now }
     requires within { AreWithin (length pairs.now.of_section.items) sections.now }
     ensures within { IfSome result (λ place. place < length pairs.now.of_section.items) }
     ensures free { IfSome result (λ place. part_in pairs.now place ≡ None) }
     ensures none { IfNone result (NoneMarked pairs.now sections.now marks.now.marks.items mark text.now) }
 {
-    let mut next = marks.last.get(&mark).copied();
+    let mut next = marks.first.get(&mark).copied();
     'marked: while let Some(place) = next {
         let section = section_at(sections, place);
         if is_candidate(pairs, section, text) {
             return Some(section.place);
         }
-        next = before_of(marks, place);
+        next = next_of(marks, place);
     }
     None
 }
 
-/// A free section that is alike, and whose text has the mark of a front of this list.
+/// The first one of two places, where there are any.
+pub(crate) fn earlier(one: Option<usize>, other: Option<usize>) -> Option<usize>
+    ensures { result ≡ earlier_of one other }
+{
+    match (one, other) {
+        (Some(one), Some(other)) => Some(one.min(other)),
+        (Some(one), None) => Some(one),
+        (None, other) => other,
+    }
+}
+
+/// The first free section that is alike, of those whose texts have the mark of a front of this list.
 pub(crate) fn find_fronted(
     pairs: &Pairs,
     sections: &[Scalars],
@@ -109,7 +118,7 @@ pub(crate) fn find_fronted(
     marks: &Marks,
     list: &[char],
 ) -> Option<usize>
-    requires marked { AreMarked marks.now.marks.items (length sections.now) (get nat_cmp marks.now.last) marks.now.before.items }
+    requires marked { AreMarked marks.now.marks.items 0 (get nat_cmp marks.now.first) marks.now.next.items }
     requires long { length marks.now.marks.items ≡ length sections.now }
     requires within { AreWithin (length pairs.now.of_section.items) sections.now }
     ensures within { IfSome result (λ place. place < length pairs.now.of_section.items) }
@@ -117,11 +126,12 @@ pub(crate) fn find_fronted(
     ensures none { IfNone result (NoneFronted pairs.now sections.now marks.now.marks.items list.now (length list.now + 1) text.now) }
 {
     let mut mark = 0;
+    let mut found = None;
     'scalars: for scalar in list {
-        if let Some(place) = find_marked(pairs, sections, text, marks, mark) {
-            return Some(place);
-        }
+        let marked = find_marked(pairs, sections, text, marks, mark);
+        found = earlier(found, marked);
         mark = next_mark(mark, *scalar);
     }
-    find_marked(pairs, sections, text, marks, mark)
+    let last = find_marked(pairs, sections, text, marks, mark);
+    earlier(found, last)
 }

@@ -1,6 +1,6 @@
 //! The order in which the sections of a draft's parts stand, and the steps that lead to the order of the parts.
 
-ghost use Rattle.std.specs.Prelude.{◌≡◌, ◌+◌, ◌<◌, IfOk, OnOk, length, slice_index};
+ghost use Rattle.std.specs.Prelude.{◌≡◌, ◌+◌, ◌<◌, IfOk, IfSome, OnOk, length, slice_index};
 ghost use Rattle.section_plan.specs.Orders.{ArePlaced, IsOrder, IsStepOf, Places, moved};
 
 use fugue_ids::NoMemory;
@@ -12,13 +12,30 @@ pub struct Step {
     pub to: usize,
 }
 
-/// Where a part stands.
-fn place_of(order: &[usize], part: usize) -> usize
+/// Where a part stands, if it does from a place on.
+fn place_from(order: &[usize], part: usize, near: usize) -> Option<usize>
+    ensures { IfSome result (λ place. (place < length order.now) × (slice_index order.now place ≡ part)) }
+{
+    let mut place = near;
+    'places: while place < order.len() {
+        if order[place] == part {
+            return Some(place);
+        }
+        place += 1;
+    }
+    None
+}
+
+/// Where a part stands: it is looked for from a place on, and then from the front on.
+fn place_of(order: &[usize], part: usize, near: usize) -> usize
     requires order { IsOrder order.now }
     requires within { part < length order.now }
     ensures within { result < length order.now }
     ensures stands { slice_index order.now result ≡ part }
 {
+    if let Some(place) = place_from(order, part, near) {
+        return place;
+    }
     'places: for (place, other) in order.iter().enumerate() {
         if *other == part {
             return place;
@@ -28,16 +45,19 @@ fn place_of(order: &[usize], part: usize) -> usize
 }
 
 /// Where a part stands, and where it would stand behind the part before it, or in front of all.
-fn step_of(order: &[usize], part: usize) -> Step
+fn step_of(order: &[usize], part: usize, near: usize) -> Step
     requires order { IsOrder order.now }
     requires within { part < length order.now }
     ensures { IsStepOf order.now part result.from result.to }
 {
-    let from = place_of(order, part);
     if part == 0 {
-        return Step { from, to: 0 };
+        return Step {
+            from: place_of(order, part, near),
+            to: 0,
+        };
     }
-    let before = place_of(order, part - 1);
+    let before = place_of(order, part - 1, near);
+    let from = place_of(order, part, before);
     if before < from {
         Step {
             from,
@@ -59,10 +79,13 @@ fn reorder(order: &mut Vec<usize>, step: Step, part: usize) -> Result<(), NoMemo
 }
 
 /// Places the section of the next part: behind that of the part before it, unless it stays. Answers the step that it takes.
+/// Sections are looked for from `near` on. It becomes the place of the one that was looked for, so those that stand in order
+/// take no time.
 pub fn place_next(
     order: &mut Vec<usize>,
     stays: &[bool],
     part: usize,
+    near: &mut usize,
 ) -> Result<Option<Step>, NoMemory>
     requires order { IsOrder order.old.items }
     requires placed { ArePlaced order.old.items stays.now part }
@@ -76,7 +99,8 @@ pub fn place_next(
     if stays[part] {
         return Ok(None);
     }
-    let step = step_of(order.as_slice(), part);
+    let step = step_of(order.as_slice(), part, *near);
+    *near = step.to;
     if step.from == step.to {
         return Ok(None);
     }

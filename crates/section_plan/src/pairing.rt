@@ -1,6 +1,6 @@
 //! Pairs of sections and parts that are the same in a key: which of several goes with which.
 
-ghost use Rattle.std.specs.Prelude.{OnOk, length};
+ghost use Rattle.std.specs.Prelude.{◌<◌, OnOk, length};
 ghost use Rattle.section_plan.specs.Matching.{GrowsBy, IsMatching, NoneIsLeft};
 ghost use Rattle.section_plan.specs.declared.keys.Key.TheVariants.{Text as text};
 
@@ -47,8 +47,24 @@ pub(crate) fn pair_by(
 {
     let old = free_sections(alloc, pairs, sections.len())?;
     let new = free_parts(alloc, pairs, parts.len())?;
-    pair_front(pairs, sections, parts, key, old.as_slice(), new.as_slice());
-    pair_end(pairs, sections, parts, key, old.as_slice(), new.as_slice());
+    pair_from(
+        End::First,
+        pairs,
+        sections,
+        parts,
+        key,
+        old.as_slice(),
+        new.as_slice(),
+    );
+    pair_from(
+        End::Last,
+        pairs,
+        sections,
+        parts,
+        key,
+        old.as_slice(),
+        new.as_slice(),
+    );
     let once = propose_once(alloc, pairs, sections, parts, key)?;
     pair_proposed(pairs, sections, parts, key, once.as_slice());
     let others = propose_in_order(alloc, pairs, sections, parts, key)?;
@@ -112,28 +128,26 @@ fn pair_same(
     }
 }
 
-/// Pairs sections and parts from the front on, up to the first ones that differ.
-fn pair_front(
-    pairs: &mut Pairs,
-    sections: &[Part<'_>],
-    parts: &[Part<'_>],
-    key: Key,
-    old: &[usize],
-    new: &[usize],
-)
-    requires { IsMatching (length sections.now) (length parts.now) pairs.old }
-    ensures { GrowsBy key sections.now parts.now pairs.old pairs.new }
+/// An end of a list.
+#[derive(Clone, Copy, Debug)]
+enum End {
+    First,
+    Last,
+}
+
+/// The place that stands so far from an end.
+fn place_from(end: End, places: &[usize], far: usize) -> usize
+    requires { far < length places.now }
 {
-    'front: for k in 0..old.len().min(new.len()) {
-        pair_same(pairs, sections, parts, key, old[k], new[k]);
-        if pairs.section_of(new[k]).is_none() {
-            break;
-        }
+    match end {
+        End::First => places[far],
+        End::Last => places[places.len() - 1 - far],
     }
 }
 
-/// Pairs sections and parts from the end on, up to the first ones that differ.
-fn pair_end(
+/// Pairs sections and parts from an end on, up to the first ones that differ.
+fn pair_from(
+    end: End,
     pairs: &mut Pairs,
     sections: &[Part<'_>],
     parts: &[Part<'_>],
@@ -144,9 +158,9 @@ fn pair_end(
     requires { IsMatching (length sections.now) (length parts.now) pairs.old }
     ensures { GrowsBy key sections.now parts.now pairs.old pairs.new }
 {
-    'end: for k in 0..old.len().min(new.len()) {
-        let part = new[new.len() - 1 - k];
-        pair_same(pairs, sections, parts, key, old[old.len() - 1 - k], part);
+    'places: for far in 0..old.len().min(new.len()) {
+        let part = place_from(end, new, far);
+        pair_same(pairs, sections, parts, key, place_from(end, old, far), part);
         if pairs.section_of(part).is_none() {
             break;
         }

@@ -18,12 +18,11 @@ const WHOLE: u64 = 840 * 840;
 /// A mark of a text, by a hash of its words, and whose text that is.
 type Mark = (u64, usize);
 
-/// A section and a part that share something, the best ones first.
+/// A section and a part that share something, the best ones first, and of these the first ones.
 #[derive(Clone, Copy, Debug, PartialEq, Eq, PartialOrd, Ord)]
 struct Candidate {
     /// How much less than everything they share.
     missing: u64,
-    distance: usize,
     section: usize,
     part: usize,
 }
@@ -80,7 +79,6 @@ fn candidates_of(
             let weight = weight.saturating_mul(if double { 2 } else { 1 });
             candidates.push(Candidate {
                 missing: u64::MAX - weight,
-                distance: section.abs_diff(*part),
                 section: *section,
                 part: *part,
             })?;

@@ -1,7 +1,9 @@
-use Rattle.draft_plan.specs.Limits.{cost}
+use Rattle.draft_plan.specs.Limits.{CostsShaping, LacksRoom, cost}
+use Rattle.draft_plan.specs.Plans.{move_count, sum_below}
+use Rattle.std.specs.Prelude.{Ok}
 use Rattle.draft_plan.proofs.EditCostLemmas.{shaping_join, shaping_more, shaping_none, shaping_stop}
 use Rattle.draft_plan.proofs.LimitLemmas.{up}
-use Rattle.std.proofs.Common.{ap, arith, length, subst, sym, ◌+◌, ◌∙◌, ◌≡◌}
+use Rattle.std.proofs.Common.{ap, arith, inl, inr, length, subst, sym, ◌+◌, ◌∙◌, ◌≡◌}
 use Rattle.std.proofs.lemmas.Result.{err_from_is_err_and}
 use Rattle.catalogue_notes.specs.Arranged.{arranged}
 use Rattle.catalogue_notes.proofs.ArrangedLemmas.{arranged_shown}
@@ -9,7 +11,8 @@ use Rattle.section_plan.specs.Orders.{ArePlaced, IsOrder}
 use Rattle.section_plan.proofs.OrderLemmas.{order_whole}
 use Rattle.draft_plan.specs.Arranging.{AreStaying, MovesPart}
 use Rattle.draft_plan.proofs.ArrangingLemmas.{arranged_order, order_all}
-use Rattle.draft_plan.proofs.FewMovesLemmas.{arranges_few, few_more, few_start}
+use Rattle.draft_plan.proofs.FewMovesLemmas.{arranges_few, few_more, few_start, moves_no_more}
+use Rattle.draft_plan.proofs.PlanLemmas.{sum_below_longer, sum_below_more}
 use Rattle.draft_plan.proofs.MakingLemmas.{makes_few}
 use Rattle.draft_plan.proofs.ShapeLemmas.{shaped_join, shaped_none, stops_shaped, wants_memory}
 use Rattle.draft_plan.proofs.arranging.arrange.Goals as goal
@@ -39,8 +42,9 @@ parts-init c =
     record {
       settled = c.requires.settled;
       stands = c.requires.stands;
+      arranges = c.new-arranger.ensures.arranges s.held.history;
       shaped = shaped_none s;
-      costs = shaping_none s (cost 0 0 0);
+      costs = shaping_none s _;
       order = is.0;
       placed = subst (λ o. ArePlaced o c.in_ok-stays.stays.items 0) c.as_slice.ensures.value c.in_ok-stays.ensures.placed;
       of = c.in_ok-order.ensures.order;
@@ -66,12 +70,18 @@ overflow_add-made c =
 pub parts-preserved : goal.parts-preserved
 parts-preserved c =
     let e = c.in_ok-made.ensures in
+    let n = sum_below (move_count c.in_ok-stays.stays.items) c.parts.part in
+    let one = move_count c.in_ok-stays.stays.items c.parts.part in
+    let more = sum_below (move_count c.in_ok-stays.stays.items) (c.parts.part + 1) in
+    let next = sum_below_more (move_count c.in_ok-stays.stays.items) c.parts.part in
     record {
       settled = e.settled;
       stands = e.stands;
+      arranges = c.move_next.ensures.arranges;
       shaped = shaped_join c.args.replica.now c.parts.replica c.move_next.new.replica c.parts.made c.in_ok-made.field-0 c.parts.invariant.shaped e.shapes;
-      costs = shaping_join c.args.replica.now c.parts.replica c.move_next.new.replica (cost c.parts.part c.parts.part c.parts.part) (cost 1 1 1) (cost (c.parts.part + 1) (c.parts.part + 1) (c.parts.part + 1)) c.parts.made c.in_ok-made.field-0
-          (up (omega arith) (omega arith) (omega arith)) c.parts.invariant.costs e.costs;
+      costs = shaping_join c.args.replica.now c.parts.replica c.move_next.new.replica (cost n n n) (cost one one one) (cost more more more) c.parts.made c.in_ok-made.field-0
+          (up (omega (arith, next)) (omega (arith, next)) (omega (arith, next))) c.parts.invariant.costs
+          (subst (λ v. CostsShaping c.parts.replica c.move_next.new.replica (cost (move_count v c.parts.part) (move_count v c.parts.part) (move_count v c.parts.part)) (Ok c.in_ok-made.field-0)) c.as_slice-in-parts.ensures.value e.costs);
       order = e.order;
       placed = subst (λ v. ArePlaced c.move_next.new.order.items v (c.parts.part + 1)) c.as_slice-in-parts.ensures.value e.placed;
       of = e.arranged;
@@ -96,26 +106,48 @@ move_next-requires-clause-long c =
 pub returns-in_err-order-clause-costs : goal.returns-in_err-order-clause-costs
 returns-in_err-order-clause-costs c =
     let p = err_from_is_err_and c.from_residual.result c.from_residual.ensures.1 in
-    rw (p.1, p.2) tt
+    rw (p.1, p.2) (inl tt)
 
 pub returns-in_err-stays-clause-costs : goal.returns-in_err-stays-clause-costs
 returns-in_err-stays-clause-costs c =
     let p = err_from_is_err_and c.from_residual-in_err-stays.result c.from_residual-in_err-stays.ensures.1 in
-    rw (p.1, p.2) tt
+    rw (p.1, p.2) (inl tt)
 
 pub returns-in_err-made-clause-costs : goal.returns-in_err-made-clause-costs
 returns-in_err-made-clause-costs c =
     let p = err_from_is_err_and c.from_residual-in_err-made.result c.from_residual-in_err-made.ensures.1 in
-    let n = c.parts.part in
-    let all = length c.args.sections.now in
+    let h = c.args.replica.now.held.history in
+    let is = arranged_order h c.args.sections.now c.in_ok-order.order.items c.requires.stands.lawful c.requires.shown c.requires.once c.in_ok-order.ensures.order in
+    let staying = subst (λ o. AreStaying o c.args.pairs.now c.in_ok-stays.stays.items) c.as_slice.ensures.value c.in_ok-stays.ensures.staying in
+    let long = c.in_ok-stays.ensures.long ∙ ap length c.as_slice.ensures.value in
+    let few = moves_no_more h c.args.pairs.now c.args.sections.now c.in_ok-order.order.items c.in_ok-stays.stays.items c.requires.stands.lawful is.0 c.in_ok-order.ensures.order is.1 staying long in
+    let f = move_count c.in_ok-stays.stays.items in
+    let n = sum_below f c.parts.part in
+    let all = sum_below f (length c.args.sections.now) in
+    let one = f c.parts.part in
+    let next = sum_below_more f c.parts.part in
+    let longer = sum_below_longer f (c.parts.part + 1) (length c.args.sections.now) (omega arith) in
+    let why = c.in_err-made.field-0.0 in
     rw (p.1, p.2)
-    (shaping_stop c.args.replica.now c.parts.replica (cost n n n) (cost 1 1 1) (cost all all all) c.parts.made c.in_err-made.field-0.0 (up (omega arith) (omega arith) (omega arith)) c.parts.invariant.costs c.in_err-made.ensures.costs)
+    (inr (
+      all,
+      few,
+      shaping_stop c.args.replica.now c.parts.replica (cost n n n) (cost one one one) (cost all all all) c.parts.made why (up (omega (arith, next, longer)) (omega (arith, next, longer)) (omega (arith, next, longer))) c.parts.invariant.costs
+          (subst (λ v. LacksRoom c.parts.replica (cost (move_count v c.parts.part) (move_count v c.parts.part) (move_count v c.parts.part)) why) c.as_slice-in-parts.ensures.value c.in_err-made.ensures.costs),
+    ))
 
 pub returns-clause-costs : goal.returns-clause-costs
 returns-clause-costs c =
-    let n = c.parts.part in
-    let all = length c.args.sections.now in
-    shaping_more c.args.replica.now c.parts.replica (cost n n n) (cost all all all) c.parts.made (up (omega arith) (omega arith) (omega arith)) c.parts.invariant.costs
+    let h = c.args.replica.now.held.history in
+    let is = arranged_order h c.args.sections.now c.in_ok-order.order.items c.requires.stands.lawful c.requires.shown c.requires.once c.in_ok-order.ensures.order in
+    let staying = subst (λ o. AreStaying o c.args.pairs.now c.in_ok-stays.stays.items) c.as_slice.ensures.value c.in_ok-stays.ensures.staying in
+    let long = c.in_ok-stays.ensures.long ∙ ap length c.as_slice.ensures.value in
+    let few = moves_no_more h c.args.pairs.now c.args.sections.now c.in_ok-order.order.items c.in_ok-stays.stays.items c.requires.stands.lawful is.0 c.in_ok-order.ensures.order is.1 staying long in
+    let f = move_count c.in_ok-stays.stays.items in
+    let n = sum_below f c.parts.part in
+    let all = sum_below f (length c.args.sections.now) in
+    let longer = sum_below_longer f c.parts.part (length c.args.sections.now) (omega arith) in
+    (all, few, shaping_more c.args.replica.now c.parts.replica (cost n n n) (cost all all all) c.parts.made (up (omega (arith, longer)) (omega (arith, longer)) (omega (arith, longer))) c.parts.invariant.costs)
 
 pub returns-clause-few : goal.returns-clause-few
 returns-clause-few c =
@@ -123,5 +155,5 @@ returns-clause-few c =
     let is = arranged_order h c.args.sections.now c.in_ok-order.order.items c.requires.stands.lawful c.requires.shown c.requires.once c.in_ok-order.ensures.order in
     let staying = subst (λ o. AreStaying o c.args.pairs.now c.in_ok-stays.stays.items) c.as_slice.ensures.value c.in_ok-stays.ensures.staying in
     let long = c.in_ok-stays.ensures.long ∙ ap length c.as_slice.ensures.value in
-    arranges_few h c.parts.replica.held.history c.args.pairs.now c.args.sections.now c.in_ok-order.order.items c.in_ok-stays.stays.items c.parts.part c.requires.stands.lawful is.0 c.in_ok-order.ensures.order is.1
-    staying long c.parts.invariant.few (omega arith)
+    arranges_few h c.args.pairs.now c.args.sections.now c.in_ok-order.order.items c.in_ok-stays.stays.items c.requires.stands.lawful is.0 c.in_ok-order.ensures.order is.1
+    staying long c.parts.replica.held.history c.parts.part c.parts.invariant.few (omega arith)

@@ -1,7 +1,8 @@
-use Rattle.draft_plan.specs.Limits.{cost}
+use Rattle.draft_plan.specs.Limits.{CostsShaping, LacksRoom, cost}
+use Rattle.draft_plan.specs.Plans.{move_count}
 use Rattle.draft_plan.proofs.EditCostLemmas.{shaping_none}
-use Rattle.std.proofs.Common.{[], ap, arith, inr, subst, sym, ◌∙◌, ◌∷◌}
-use Rattle.std.specs.Prelude.{slice_get}
+use Rattle.std.proofs.Common.{[], ap, arith, cond, inr, subst, sym, ◌∙◌, ◌∷◌, ◌≡◌}
+use Rattle.std.specs.Prelude.{Ok, slice_get}
 use Rattle.std.proofs.lemmas.Result.{err_from_is_err_and}
 use Rattle.catalogue_notes.specs.Arranged.{arranged}
 use Rattle.catalogue_notes.specs.Laws.{AddsOne}
@@ -33,7 +34,7 @@ returns-in_err-step-clause-costs c =
     rw (p.1, p.2) tt
 
 pub returns-in_default-clause-costs : goal.returns-in_default-clause-costs
-returns-in_default-clause-costs c = shaping_none c.args.replica.now (cost 1 1 1)
+returns-in_default-clause-costs c = shaping_none c.args.replica.now (cost (move_count c.args.stays.now c.args.part) (move_count c.args.stays.now c.args.part) (move_count c.args.stays.now c.args.part))
 
 pub returns-clause-moved : goal.returns-clause-moved
 returns-clause-moved c =
@@ -55,3 +56,16 @@ returns-clause-moved c =
         adds = subst (λ g. AddsOne made.section (moves h) (moves g)) (sym is) made.moved.adds;
       },
     )
+
+pub returns-in_err-made-clause-costs : goal.returns-in_err-made-clause-costs
+returns-in_err-made-clause-costs c =
+    let places = subst (Places c.args.order.now.items c.place_next.new.order.items c.args.stays.now c.args.part) c.in-Some.is c.in_ok-step.ensures.places in
+    let one : move_count c.args.stays.now c.args.part ≡ 1 = ap (λ b. cond b 0 1) places.2 in
+    let p = err_from_is_err_and c.from_residual-in_err-made.result c.from_residual-in_err-made.ensures.1 in
+    rw (p.1, p.2) (subst (λ n. LacksRoom c.args.replica.now (cost n n n) c.in_err-made.field-0.0) (sym one) c.in_err-made.ensures.costs)
+
+pub returns-clause-costs : goal.returns-clause-costs
+returns-clause-costs c =
+    let places = subst (Places c.args.order.now.items c.place_next.new.order.items c.args.stays.now c.args.part) c.in-Some.is c.in_ok-step.ensures.places in
+    let one : move_count c.args.stays.now c.args.part ≡ 1 = ap (λ b. cond b 0 1) places.2 in
+    subst (λ n. CostsShaping c.args.replica.now c.move_one.new.replica (cost n n n) (Ok c.in_ok-made.made)) (sym one) c.in_ok-made.ensures.costs

@@ -1,8 +1,12 @@
 use Rattle.std.proofs.Common.{length}
 use Rattle.draft_plan.specs.Limits.{cost}
+use Rattle.draft_plan.specs.Plans.{dropped_count}
+use Rattle.draft_plan.proofs.PlanLemmas.{dropped_longer, dropped_more, dropped_one}
+use Rattle.section_plan.specs.Matching.{part_of}
+use Rattle.std.specs.Prelude.{None}
 use Rattle.draft_plan.proofs.EditCostLemmas.{shaping_join, shaping_more, shaping_none, shaping_stop}
 use Rattle.draft_plan.proofs.LimitLemmas.{up}
-use Rattle.std.proofs.Common.{arith, inl, ◌+◌}
+use Rattle.std.proofs.Common.{arith, inl, ◌+◌, ◌≡◌}
 use Rattle.std.proofs.lemmas.Result.{err_from_is_err_and}
 use Rattle.std.proofs.lemmas.Grind.{common_steps}
 use Rattle.origin_model.specs.declared.operations.Place.TheVariants.{Catalogue as catalogue}
@@ -56,8 +60,8 @@ entries-preserved c =
             stands = e.stands;
             shaped = reshaped_join c.args.replica.now c.entries.replica w.drop_one.new.replica c.entries.made w.in_ok-made.field-0 was.shaped e.shapes
                 (left_shown c.args.replica.now.held.history c.args.entries.now c.args.pairs.now c.entries.place (shown catalogue c.entries.replica.held.history) c.requires.outline was.left);
-            costs = shaping_join c.args.replica.now c.entries.replica w.drop_one.new.replica (cost c.entries.place 0 0) (cost 1 0 0) (cost (c.entries.place + 1) 0 0) c.entries.made w.in_ok-made.field-0
-                (up (omega arith) (omega arith) (omega arith)) was.costs e.costs;
+            costs = shaping_join c.args.replica.now c.entries.replica w.drop_one.new.replica (cost (dropped_count c.args.pairs.now c.entries.place) 0 0) (cost 1 0 0) (cost (dropped_count c.args.pairs.now (c.entries.place + 1)) 0 0) c.entries.made w.in_ok-made.field-0
+                (up (omega (arith, dropped_one c.args.pairs.now c.entries.place (grind (arith, common_steps)))) (omega arith) (omega arith)) was.costs e.costs;
             places = places_join c.args.replica.now.held.history c.entries.replica.held.history w.drop_one.new.replica.held.history was.places e.places;
             left = left_goes ys c.args.pairs.now c.entries.place (shown catalogue c.entries.replica.held.history) (shown catalogue w.drop_one.new.replica.held.history) c.index-entries-place.result.section
                 (entries_once c.args.replica.now.held.history c.args.entries.now c.requires.stands.lawful c.requires.outline) was.left at (grind (arith, common_steps)) e.gone;
@@ -67,7 +71,7 @@ entries-preserved c =
             settled = was.settled;
             stands = was.stands;
             shaped = was.shaped;
-            costs = shaping_more c.args.replica.now c.entries.replica (cost c.entries.place 0 0) (cost (c.entries.place + 1) 0 0) c.entries.made (up (omega arith) (omega arith) (omega arith)) was.costs;
+            costs = shaping_more c.args.replica.now c.entries.replica (cost (dropped_count c.args.pairs.now c.entries.place) 0 0) (cost (dropped_count c.args.pairs.now (c.entries.place + 1)) 0 0) c.entries.made (up (omega (arith, dropped_more c.args.pairs.now c.entries.place)) (omega arith) (omega arith)) was.costs;
             places = was.places;
             left = left_stays ys c.args.pairs.now c.entries.place (shown catalogue c.entries.replica.held.history) was.left (grind (arith, common_steps));
           })
@@ -76,9 +80,13 @@ entries-preserved c =
 pub returns-in_err-made-clause-costs : goal.returns-in_err-made-clause-costs
 returns-in_err-made-clause-costs c =
     let p = err_from_is_err_and c.from_residual.result c.from_residual.ensures.1 in
+    let none : part_of c.args.pairs.now c.entries.place ≡ None = grind (arith, common_steps) in
+    let one = dropped_one c.args.pairs.now c.entries.place none in
+    let all = dropped_longer c.args.pairs.now (c.entries.place + 1) (length c.args.entries.now) (omega arith) in
     rw (p.1, p.2)
-    (shaping_stop c.args.replica.now c.entries.replica (cost c.entries.place 0 0) (cost 1 0 0) (cost (length c.args.entries.now) 0 0) c.entries.made c.in_err-made.field-0.0 (up (omega arith) (omega arith) (omega arith)) c.entries.invariant.costs c.in_err-made.ensures.costs)
+    (shaping_stop c.args.replica.now c.entries.replica (cost (dropped_count c.args.pairs.now c.entries.place) 0 0) (cost 1 0 0) (cost (dropped_count c.args.pairs.now (length c.args.entries.now)) 0 0) c.entries.made c.in_err-made.field-0.0 (up (omega (arith, one, all)) (omega arith) (omega arith)) c.entries.invariant.costs c.in_err-made.ensures.costs)
 
 pub returns-clause-costs : goal.returns-clause-costs
 returns-clause-costs c =
-    shaping_more c.args.replica.now c.entries.replica (cost c.entries.place 0 0) (cost (length c.args.entries.now) 0 0) c.entries.made (up (omega arith) (omega arith) (omega arith)) c.entries.invariant.costs
+    shaping_more c.args.replica.now c.entries.replica (cost (dropped_count c.args.pairs.now c.entries.place) 0 0) (cost (dropped_count c.args.pairs.now (length c.args.entries.now)) 0 0) c.entries.made
+    (up (omega (arith, dropped_longer c.args.pairs.now c.entries.place (length c.args.entries.now) (omega arith))) (omega arith) (omega arith)) c.entries.invariant.costs

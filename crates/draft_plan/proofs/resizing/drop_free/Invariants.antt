@@ -5,6 +5,7 @@ use Rattle.origin_model.specs.order.Printed.{shown}
 use Rattle.origin_model.specs.taking.Taking.{IsSettled}
 use Rattle.catalogue_notes.specs.Outlining.{entry_sections}
 use Rattle.draft_plan.specs.Limits.{CostsShaping, cost}
+use Rattle.draft_plan.specs.Plans.{dropped_count}
 use Rattle.draft_plan.specs.Resizing.{AreLeft}
 use Rattle.draft_plan.specs.Shaping.{IsReshaped, KeepsPlaces}
 use Rattle.draft_plan.proofs.resizing.drop_free.Given as goal
@@ -16,5 +17,5 @@ invariant-entries l = record {
   shaped : IsReshaped l.fn.replica l.replica l.made;
   places : KeepsPlaces l.fn.replica.held.history l.replica.held.history;
   left : AreLeft (entry_sections l.entries) l.pairs l.place (shown catalogue l.replica.held.history);
-  costs : CostsShaping l.fn.replica l.replica (cost l.place 0 0) (Ok l.made);
+  costs : CostsShaping l.fn.replica l.replica (cost (dropped_count l.pairs l.place) 0 0) (Ok l.made);
 }

@@ -107,6 +107,7 @@ returns-clause-costs c = λ x e.
     text_chosen s c.revise_hunks.new.replica k x bytes (chars c.args.new.now) c.as_slice.result.now c.revise_hunks.result (text_reads s k bytes t x e)
     (rw c.as_slice.ensures.value c.in_ok-hunks.ensures.transforms)
     (rw c.as_slice.ensures.value c.in_ok-hunks.ensures.words)
+    (rw c.as_slice.ensures.value c.in_ok-hunks.ensures.tight)
     (rw c.as_slice.ensures.value c.in_ok-hunks.ensures.unchanged)
     (rw c.as_slice.ensures.value c.in_ok-hunks.ensures.lines) c.revise_hunks.ensures.costs
 

@@ -1,9 +1,7 @@
 use Rattle.std.proofs.Common.{ap, ◌∙◌}
 use Rattle.std.specs.Prelude.{slice_get}
-use Rattle.std.specs.Str.{chars}
-use Rattle.origin_model.specs.order.Printed.{text}
-use Rattle.draft_plan.proofs.FillCostLemmas.{section_costs, section_lacks, title_lacks}
-use Rattle.std.proofs.Common.{arith, ◌+◌}
+use Rattle.draft_plan.proofs.PlanLemmas.{section_costs, section_lacks}
+use Rattle.std.proofs.Common.{arith, inl, ◌+◌}
 use Rattle.std.proofs.lemmas.Result.{err_from_is_err_and}
 use Rattle.draft_plan.proofs.FillLemmas.{section_filled, text_stops}
 use Rattle.draft_plan.proofs.MakingLemmas.{makes_few}
@@ -36,7 +34,7 @@ pub returns-in_err-retitled-clause-costs : goal.returns-in_err-retitled-clause-c
 returns-in_err-retitled-clause-costs c =
     let p = err_from_is_err_and c.from_residual.result c.from_residual.ensures.1 in
     rw (p.1, p.2)
-    (title_lacks c.args.replica.now (text c.args.replica.now.held.history c.args.entry.now.section) (chars c.args.text.now) c.in_err-retitled.field-0.0 c.in_err-retitled.ensures.costs)
+    (inl c.in_err-retitled.ensures.costs)
 
 pub returns-in_err-revised-clause-costs : goal.returns-in_err-revised-clause-costs
 returns-in_err-revised-clause-costs c =
@@ -45,7 +43,7 @@ returns-in_err-revised-clause-costs c =
     let x = c.args.entry.now.section in
     let there = ap (λ xs. slice_get xs c.args.entry.now.number) titled.only.catalogue_is ∙ c.requires.numbered in
     rw (p.1, p.2)
-    (section_lacks c.args.replica.now c.retitle_other.new.replica c.revise_text.new.replica x (chars c.args.text.now) c.in_ok-retitled.retitled c.in_err-revised.field-0.0 titled.reads c.in_ok-retitled.ensures.costs
+    (section_lacks c.args.replica.now c.retitle_other.new.replica c.revise_text.new.replica x (record { title = c.args.title.now; text = c.args.text.now }) c.in_ok-retitled.retitled c.in_err-revised.field-0.0 titled.reads c.in_ok-retitled.ensures.costs
     (c.in_err-revised.ensures.costs x there))
 
 pub returns-clause-costs : goal.returns-clause-costs
@@ -53,5 +51,8 @@ returns-clause-costs c =
     let titled = c.in_ok-retitled.ensures.titled in
     let x = c.args.entry.now.section in
     let there = ap (λ xs. slice_get xs c.args.entry.now.number) titled.only.catalogue_is ∙ c.requires.numbered in
-    section_costs c.args.replica.now c.retitle_other.new.replica c.revise_text.new.replica x (chars c.args.text.now) c.in_ok-retitled.retitled c.in_ok-revised.revised titled.reads c.in_ok-retitled.ensures.costs
+    section_costs c.args.replica.now c.retitle_other.new.replica c.revise_text.new.replica x (record { title = c.args.title.now; text = c.args.text.now }) c.in_ok-retitled.retitled c.in_ok-revised.revised titled.reads c.in_ok-retitled.ensures.costs
     (c.in_ok-revised.ensures.costs x there)
+
+pub returns-clause-arranges : goal.returns-clause-arranges
+returns-clause-arranges c = c.in_ok-revised.ensures.revised.2.keeps.arranges c.retitle_other.new.arranger c.retitle_other.ensures.arranges

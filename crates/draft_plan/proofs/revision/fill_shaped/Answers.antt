@@ -1,6 +1,7 @@
-use Rattle.std.proofs.Common.{ap, length, ◌∙◌}
+use Rattle.std.proofs.Common.{[], ap, length, ◌∙◌}
 use Rattle.std.proofs.lemmas.Result.{err_from_is_err_and}
 use Rattle.draft_plan.proofs.OutlineLemmas.{outline_long}
+use Rattle.draft_plan.proofs.PlanLemmas.{no_hunks}
 use Rattle.draft_plan.proofs.ShapeLemmas.{wants_memory}
 use Rattle.draft_plan.proofs.revision.fill_shaped.Goals as goal
 
@@ -19,4 +20,4 @@ fill-requires-clause-count c =
 pub returns-in_err-outline-clause-costs : goal.returns-in_err-outline-clause-costs
 returns-in_err-outline-clause-costs c =
     let p = err_from_is_err_and c.from_residual.result c.from_residual.ensures.1 in
-    rw (p.1, p.2) tt
+    rw (p.1, p.2) ([], no_hunks _ _ _, tt)

@@ -1,7 +1,10 @@
-use Rattle.draft_plan.specs.Limits.{cost}
+use Rattle.draft_plan.specs.Plans.{filling, retitle_count}
+use Rattle.draft_plan.specs.declared.fault.ReviseFault.TheVariants as fault
+use Rattle.draft_plan.proofs.PlanLemmas.{one_retitle, title_costs, title_lacks}
+use Rattle.std.specs.Prelude.{Some}
 use Rattle.draft_plan.proofs.EditCostLemmas.{retitle_costs, retitle_lacks}
 use Rattle.draft_plan.proofs.LimitLemmas.{costs_none}
-use Rattle.std.proofs.Common.{sym, ◌∙◌}
+use Rattle.std.proofs.Common.{[], sym, ◌∙◌}
 use Rattle.std.proofs.lemmas.Bool.{false≢true}
 use Rattle.std.proofs.lemmas.Result.{err_from_is_err_and}
 use Rattle.draft_plan.proofs.FillLemmas.{headed_already, headed_by, headed_stops}
@@ -31,7 +34,9 @@ returns-clause-titled c =
     e.refused e.made e.shown c.in_ok-title.ensures (λ d. false≢true (sym c.if-has_title.false ∙ c.has_title.ensures.1 (c.requires.headed ∙ d)))
 
 pub returns-then-has_title-clause-costs : goal.returns-then-has_title-clause-costs
-returns-then-has_title-clause-costs c = costs_none c.args.replica.now (cost 1 1 1)
+returns-then-has_title-clause-costs c =
+    let s = c.args.replica.now in
+    costs_none s (filling (retitle_count s.held.history (Some c.args.entry.now.section) (Some c.args.title.now)) [])
 
 pub returns-in_err-title-clause-costs : goal.returns-in_err-title-clause-costs
 returns-in_err-title-clause-costs c =
@@ -41,7 +46,14 @@ returns-in_err-title-clause-costs c =
 pub returns-in_err-retitle-clause-costs : goal.returns-in_err-retitle-clause-costs
 returns-in_err-retitle-clause-costs c =
     let p = err_from_is_err_and c.from_residual-in_err-retitle.result c.from_residual-in_err-retitle.ensures.1 in
-    rw (p.1, p.2) (retitle_lacks c.args.replica.now c.args.place c.in_err-retitle.field-0.0 c.requires.stands c.in_err-retitle.ensures.refused)
+    let s = c.args.replica.now in
+    let r = retitle_count s.held.history (Some c.args.entry.now.section) (Some c.args.title.now) in
+    let one = one_retitle s.held.history c.args.entry.now.section c.args.title.now (λ d. false≢true (sym c.if-has_title.false ∙ c.has_title.ensures.1 (c.requires.headed ∙ d))) in
+    rw (p.1, p.2) (title_lacks s r (fault.Move c.in_err-retitle.field-0.0) one (retitle_lacks s c.args.place c.in_err-retitle.field-0.0 c.requires.stands c.in_err-retitle.ensures.refused))
 
 pub returns-clause-costs : goal.returns-clause-costs
-returns-clause-costs c = retitle_costs c.args.replica.now c.retitle.new.replica c.args.place c.in_ok-retitle.field-0 c.in_ok-title.title c.in_ok-retitle.ensures.made
+returns-clause-costs c =
+    let s = c.args.replica.now in
+    let one = one_retitle s.held.history c.args.entry.now.section c.args.title.now (λ d. false≢true (sym c.if-has_title.false ∙ c.has_title.ensures.1 (c.requires.headed ∙ d))) in
+    title_costs s c.retitle.new.replica (retitle_count s.held.history (Some c.args.entry.now.section) (Some c.args.title.now)) c.in_ok-retitle.field-0 one
+    (retitle_costs s c.retitle.new.replica c.args.place c.in_ok-retitle.field-0 c.in_ok-title.title c.in_ok-retitle.ensures.made)

@@ -19,7 +19,7 @@ returns-in_err-made-clause-err c =
     let some : empties c.args.replica.now.held.history c.in_ok-draft.draft ≡ false = sym c.drops_all.ensures.drops ∙ c.if-drops_all.false in
     rw (p.1, p.2)
     (revise_stops c.revise.result c.in_err-made.field-0.0 c.args.replica.now c.revise.new.replica c.args.text.now c.in_ok-draft.draft c.in_err-made.ensures.cases e some
-    c.revise.ensures.stops c.revise.ensures.costs c.revise.ensures.spared)
+    c.revise.ensures.stops c.revise.ensures.costs c.revise.ensures.planned c.revise.ensures.spared)
 
 pub returns-clause-made : goal.returns-clause-made
 returns-clause-made c =
