@@ -1,74 +1,80 @@
 //! The streams and files of the process, which say in a line beside the notes why they failed and what to do.
 ghost use Rattle.std.specs.Prelude.{◌≡◌};
 
+use crate::lines::Lines;
+use crate::reasons::Reasons;
+use crate::seen::{Role, Seen};
 use fugue_ids::Failed;
-use outer_ports::{Disk, FileDisk, tell_cause, tell_line};
-use std::alloc::Global;
+use outer_ports::{Disk, FileDisk};
 use std::io::{self, ErrorKind, Read, Write};
 
 /// A stream of the system.
 #[derive(Drop)]
-pub(crate) struct ToldStream<S: Drop, E: Write + Drop> {
+pub(crate) struct ToldStream<'a, S: Drop> {
     stream: S,
     name: &'static str,
     /// Whether it was closed when the program began.
     is_closed: bool,
-    alloc: Global,
-    errors: E,
+    lines: &'a Lines<'a>,
+    seen: &'a Seen,
 }
 
-impl<S: Drop, E: Write + Drop> ToldStream<S, E> {
+impl<'a, S: Drop> ToldStream<'a, S> {
     pub(crate) fn new(
         stream: S,
         name: &'static str,
         is_closed: bool,
-        alloc: Global,
-        errors: E,
-    ) -> ToldStream<S, E>
+        lines: &'a Lines<'a>,
+        seen: &'a Seen,
+    ) -> ToldStream<'a, S>
         ensures { result.stream ≡ stream }
     {
         ToldStream {
             stream,
             name,
             is_closed,
-            alloc,
-            errors,
+            lines,
+            seen,
         }
     }
 
     /// Nothing has failed where a signal interrupted the call: it is made again.
-    fn tell(&mut self, given: &io::Result<usize>)
-        ensures { self.new.stream ≡ self.old.stream }
-    {
+    fn tell(&self, given: &io::Result<usize>) {
         let Err(error) = given else {
             return;
         };
         match error.kind() {
             ErrorKind::Interrupted => {}
-            _ if self.is_closed => {
-                tell_line(self.alloc, &mut self.errors, self.name, "closed");
-            }
-            ErrorKind::WouldBlock => {
-                tell_line(self.alloc, &mut self.errors, self.name, NO_WAIT);
-            }
-            _ => tell_cause(self.alloc, &mut self.errors, self.name, error),
+            _ if self.is_closed => self.lines.tell(self.name, "closed"),
+            ErrorKind::WouldBlock => self.lines.tell(self.name, NO_WAIT),
+            _ => self.lines.tell_cause(self.name, error),
         }
     }
 }
 
+/// The names of the streams.
+pub(crate) const INPUT: &str = "standard input";
+
+pub(crate) const OUTPUT: &str = "standard output";
+
 const NO_WAIT: &str = "set not to wait, and not ready; put a pipe or a file in its place";
 
-impl<S: Read + Drop, E: Write + Drop> Read for ToldStream<S, E> {
+impl<'a, S: Read + Drop> Read for ToldStream<'a, S> {
     ghost remaining = { λ s. S.remaining s.stream };
 
     fn read(&mut self, buf: &mut [u8]) -> io::Result<usize> {
         let given = self.stream.read(buf);
         self.tell(&given);
+        if let Ok(count) = given
+            && let Some(bytes) = buf.get(..count)
+        {
+            self.seen.read_input(bytes);
+        }
         given
     }
 }
 
-impl<S: Write + Drop, E: Write + Drop> Write for ToldStream<S, E> {
+impl<'a, S: Write + Drop> Write for ToldStream<'a, S> {
     ghost contents = { λ s. S.contents s.stream };
 
     fn write(&mut self, piece: &[u8]) -> io::Result<usize> {
@@ -82,15 +88,19 @@ impl<S: Write + Drop, E: Write + Drop> Write for ToldStream<S, E> {
     }
 }
 
-/// A file of the system. Where a sync of it failed, it says what to do: what is read from then on may be in memory
-/// alone, and a later sync that goes well proves nothing.
+/// A file of the system, or one that it refused to open: why, is told once the file is asked, since what is asked
+/// earlier may fail first.
 #[derive(Drop)]
-pub(crate) struct ToldFile<'a, E: Write + Drop> {
+pub(crate) struct ToldFile<'a> {
     file: FileDisk,
+    refused: Option<io::Error>,
+    role: Role,
     name: &'a str,
+    /// What to do where a sync of it failed: what is read from then on may be in memory alone, and a later sync that
+    /// goes well proves nothing.
     way_out: &'static str,
-    alloc: Global,
-    errors: E,
+    lines: &'a Lines<'a>,
+    seen: &'a Seen,
 }
 
 /// What to do where a sync of a file failed that holds a manuscript.
@@ -104,22 +114,33 @@ pub(crate) const COPY_IT: &str =
 /// What to do where one failed of a file that is to be made: it is removed again.
 pub(crate) const MAKE_ANOTHER: &str = "the disk reported an error; make the file on another disk";
 
-impl<'a, E: Write + Drop> ToldFile<'a, E> {
+/// What to do where one could not be read.
+const NOT_READ: &str = "it could not be read; is the disk still there, and whole?";
+
+/// What to do where one could not be written.
+const NOT_WRITTEN: &str =
+    "it could not be written; is the disk full? Look at what the file has before you do it again";
+
+impl<'a> ToldFile<'a> {
     pub(crate) fn new(
         file: FileDisk,
+        refused: Option<io::Error>,
+        role: Role,
         name: &'a str,
         way_out: &'static str,
-        alloc: Global,
-        errors: E,
-    ) -> ToldFile<'a, E>
+        lines: &'a Lines<'a>,
+        seen: &'a Seen,
+    ) -> ToldFile<'a>
         ensures { result.file ≡ file }
     {
         ToldFile {
             file,
+            refused,
+            role,
             name,
             way_out,
-            alloc,
-            errors,
+            lines,
+            seen,
         }
     }
 
@@ -129,71 +150,78 @@ impl<'a, E: Write + Drop> ToldFile<'a, E> {
         &self.file
     }
 
-    fn tell(&mut self)
-        ensures { self.new.file ≡ self.old.file }
-    {
-        if self.file.is_open() && self.file.has_failed_sync() {
-            tell_line(self.alloc, &mut self.errors, self.name, self.way_out);
+    /// Tells why a call failed.
+    fn tell(&self, reason: &'static str) {
+        match &self.refused {
+            Some(error) => self.lines.tell_cause(self.name, error),
+            None if !self.file.is_open() => {}
+            None if self.file.has_failed_sync() => self.lines.tell(self.name, self.way_out),
+            None => self.lines.tell(self.name, reason),
         }
     }
 }
 
-impl<'a, E: Write + Drop> Disk for ToldFile<'a, E> {
+impl<'a> Disk for ToldFile<'a> {
     ghost seen = { λ f. ⟦<FileDisk as Disk>⟧.seen f.file };
 
     fn size(&mut self) -> Result<u64, Failed> {
-        self.file.size()
+        self.seen.ask(self.role);
+        let given = self.file.size();
+        if given.is_err() {
+            self.tell(NOT_READ);
+        }
+        given
     }
 
     fn read_at(&mut self, at: u64, buf: &mut [u8]) -> Result<usize, Failed> {
+        self.seen.ask(self.role);
         let given = self.file.read_at(at, buf);
-        if given.is_err() {
-            self.tell();
+        match given {
+            Err(_) => self.tell(NOT_READ),
+            Ok(count) if at == 0 => {
+                if let Some(bytes) = buf.get(..count) {
+                    self.seen.begin_file(bytes);
+                }
+            }
+            Ok(_) => {}
         }
         given
     }
 
     fn write_at(&mut self, at: u64, bytes: &[u8]) -> Result<(), Failed> {
-        self.file.write_at(at, bytes)
+        let given = self.file.write_at(at, bytes);
+        if given.is_err() {
+            self.tell(NOT_WRITTEN);
+        }
+        given
     }
 
     fn sync(&mut self) -> Result<(), Failed> {
+        self.seen.ask(self.role);
         let given = self.file.sync();
         if given.is_err() {
-            self.tell();
+            self.tell(NOT_READ);
         }
         given
     }
 }
 
-/// Standard error, with what to do before the note of a batch that is too long.
+/// Standard error, with a reason before a diagnostic.
 #[derive(Drop)]
 pub(crate) struct ToldNotes<'a, E: Write + Drop> {
     errors: E,
-    name: &'a str,
-    alloc: Global,
+    reasons: Reasons<'a>,
 }
 
-const TOO_LONG: &[u8] = b"batch too long\n";
-
-const IN_PARTS: &str = "one save holds 256 MiB at most; \
-    merge an older copy or take an earlier stream first, and then the rest";
-
 impl<'a, E: Write + Drop> ToldNotes<'a, E> {
-    pub(crate) fn new(errors: E, name: &'a str, alloc: Global) -> ToldNotes<'a, E> {
-        ToldNotes {
-            errors,
-            name,
-            alloc,
-        }
+    pub(crate) fn new(errors: E, reasons: Reasons<'a>) -> ToldNotes<'a, E> {
+        ToldNotes { errors, reasons }
     }
 }
 
 impl<'a, E: Write + Drop> Write for ToldNotes<'a, E> {
     fn write(&mut self, piece: &[u8]) -> io::Result<usize> {
-        if piece == TOO_LONG {
-            tell_line(self.alloc, &mut self.errors, self.name, IN_PARTS);
-        }
+        self.reasons.tell(piece);
         self.errors.write(piece)
     }
 
