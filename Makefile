@@ -2,10 +2,12 @@
 # needs Python 3 too.
 RT ?= rt
 PREFIX ?= $(HOME)/.local
+DESTDIR ?=
+export PREFIX DESTDIR
 
 SOURCES := crates.txt HANDLES $(shell find crates -regex 'crates/[^/]*/out' -prune -o -type f -print)
 
-.PHONY: run test demo bench install dist desk
+.PHONY: run test demo bench install uninstall dist deb desk
 
 # The main job: a chapter that two authors wrote apart, as a stream, and their two files in a folder of their own.
 run: bin/manuscript
@@ -19,7 +21,7 @@ bin/manuscript: $(SOURCES)
 
 # The scripts of tests/ that try the built program. desk.sh tries the page, and says so where `make desk` has made none
 # or there is no Node or no Chromium.
-SCRIPTS := show rows orders lines files drafts kill relay calls slow large samples pasted promises desk
+SCRIPTS := show rows orders lines files reasons drafts exchange kill relay calls slow large samples pasted promises release desk
 
 # All tests: the toolchain's gate, which is every proof, every mutation that must be refused, every test of the crates
 # and every program, and then the scripts. They try the program that the gate builds: an older one is removed first.
@@ -37,28 +39,28 @@ demo: bin/manuscript
 bench: bin/manuscript
 	examples/bench.sh
 
-install: bin/manuscript
-	install -D -m 755 bin/manuscript $(PREFIX)/bin/manuscript
-	install -D -m 755 examples/manuscript-write $(PREFIX)/bin/manuscript-write
-	install -D -m 644 -t $(PREFIX)/share/man/man1 docs/manuscript.1 docs/manuscript-write.1
+COMPLETIONS := bin/completions/manuscript bin/completions/manuscript.fish
 
-# An archive for those who have no toolchain: the program, its manual page, the guide and checksums. The same sources
-# make the same bytes.
+install: bin/manuscript $(COMPLETIONS)
+	release/install.sh "$$DESTDIR$$PREFIX"
+
+uninstall:
+	release/install.sh "$$DESTDIR$$PREFIX" remove
+
+# What shells offer behind the name of the program.
+$(COMPLETIONS): release/completions.sh crates/manuscript/src/usage.rt
+	mkdir -p bin/completions
+	release/completions.sh $(if $(filter %.fish,$@),fish,bash) > $@
+
+# An archive for those who have no toolchain, and a Debian package, where there is dpkg-deb. The same sources make the
+# same bytes.
 VERSION := $(shell sed -n 's/^## \([^ ]*\).*/\1/p' CHANGELOG.md | head -n 1)
-RELEASE := petreltombac-$(VERSION)
 
-dist: bin/manuscript
-	rm -rf dist/$(RELEASE)
-	install -D -m 755 bin/manuscript dist/$(RELEASE)/bin/manuscript
-	install -D -m 755 examples/manuscript-write dist/$(RELEASE)/bin/manuscript-write
-	install -D -m 644 -t dist/$(RELEASE)/share/man/man1 docs/manuscript.1 docs/manuscript-write.1
-	install -D -m 644 -t dist/$(RELEASE)/doc README.md CHANGELOG.md LICENSE docs/GUIDE.md docs/FORMATS.md docs/WHY.md
-	install -D -m 755 -t dist/$(RELEASE)/examples examples/reader.py examples/page.py
-	cd dist/$(RELEASE) && find * -type f | LC_ALL=C sort | xargs sha256sum > ../SHA256SUMS && mv ../SHA256SUMS .
-	cd dist && tar --sort=name --mtime=@0 --owner=0 --group=0 --numeric-owner -c $(RELEASE) | \
-		gzip -n -9 > $(RELEASE).tar.gz
-	rm -r dist/$(RELEASE)
-	cd dist && sha256sum $(RELEASE).tar.gz
+dist: bin/manuscript $(COMPLETIONS)
+	release/archive.sh $(VERSION)
+
+deb: bin/manuscript $(COMPLETIONS)
+	release/deb.sh $(VERSION)
 
 # One HTML file, for those who have a browser and no terminal: a page, and in it the program for WebAssembly. The LLVM
 # module of the program is kept in bin/, so that the page can be changed without proving the program again.

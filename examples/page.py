@@ -5,12 +5,15 @@
 
 FILE is a replica file, and so is each OTHER, whose operations are merged into what the page shows. The page has the
 sections as `manuscript arrange` prints them, a colour for each author, deleted passages on demand, comments beside the
-text, and the versions of FILE. It needs no script. Formats are read by reader.py, which knows docs/FORMATS.md alone.
+text, and the versions of FILE. It has no script. Formats are read by reader.py, which knows docs/FORMATS.md alone.
+
+This needs Python 3.10 or newer.
 """
 
+import gc
 import html
+import os
 import sys
-from itertools import groupby
 from typing import NamedTuple
 
 import reader
@@ -46,13 +49,14 @@ a { color: inherit; }
 """
 
 
-class Letter(NamedTuple):
-    """A scalar of a section: who wrote it, whether it was deleted, and the comments on it, by their numbers."""
+class Run(NamedTuple):
+    """Letters one after another that look the same: who wrote them, whether they were deleted, and the comments on them,
+    by their numbers."""
 
     text: str
     author: int
     is_deleted: bool
-    comments: tuple = ()
+    comments: tuple
 
 
 def escaped(text):
@@ -67,37 +71,38 @@ def colours_of(author, authors):
     return f".by-{author} {{ {both} }} .legend .by-{author} b {{ background: currentColor }}\n"
 
 
-def letters_of(replica, section, comments):
-    """All letters of a section, deleted ones too, in order. Comments are numbered notes on it."""
+def runs_of(replica, section, comments):
+    """All letters of a section, deleted ones too, in order, by runs. Comments are numbered notes on it."""
     place = replica.places.get(section, reader.Place())
     order = place.order()
     ranges = [(number, order[note.named[0]], order[note.named[1]]) for number, note in comments]
+    hidden, nodes = replica.hidden, place.nodes
+    texts, last = [], None
     for identifier, at in order.items():
-        on_it = tuple(number for number, first, last in ranges if first <= at <= last) if ranges else ()
-        yield Letter(place.nodes[identifier].text, identifier[0], identifier in replica.hidden, on_it)
-
-
-def runs_of(letters):
-    """Letters one after another that look the same, joined."""
-    for _, run in groupby(letters, key=lambda letter: letter[1:]):
-        yield list(run)
+        on_it = tuple(number for number, first, last_at in ranges if first <= at <= last_at) if ranges else ()
+        look = (identifier[0], identifier in hidden, on_it)
+        if look != last:
+            if texts:
+                yield Run("".join(texts), *last)
+            texts, last = [], look
+        texts.append(nodes[identifier].text)
+    if texts:
+        yield Run("".join(texts), *last)
 
 
 def references(numbers, view):
     return "".join(f'<sup><a href="#note-{view}-{number}" id="at-{view}-{number}">{number}</a></sup>' for number in numbers)
 
 
-def text_html(letters, view):
+def text_html(runs, view):
     """The text of a section. The number of a comment stands where its passage ends."""
     parts = []
-    runs = list(runs_of(letters))
+    ends = {number: at for at, run in enumerate(runs) for number in run.comments}
     for at, run in enumerate(runs):
-        first = run[0]
-        tag = "del" if first.is_deleted else "span"
-        piece = f'<{tag} class="by-{first.author}">{escaped("".join(letter.text for letter in run))}</{tag}>'
-        parts.append(f"<mark>{piece}</mark>" if first.comments and not first.is_deleted else piece)
-        later = {number for other in runs[at + 1 :] for number in other[0].comments}
-        parts.append(references([number for number in first.comments if number not in later], view))
+        tag = "del" if run.is_deleted else "span"
+        piece = f'<{tag} class="by-{run.author}">{escaped(run.text)}</{tag}>'
+        parts.append(f"<mark>{piece}</mark>" if run.comments and not run.is_deleted else piece)
+        parts.append(references([number for number in run.comments if ends[number] == at], view))
     return "".join(parts)
 
 
@@ -115,7 +120,7 @@ def notes_html(comments, view):
 
 def section_html(replica, section, heading, number, view, comments):
     """A section with its comments, each of which has a number."""
-    text = text_html(letters_of(replica, section, comments), view)
+    text = text_html(list(runs_of(replica, section, comments)), view)
     return (
         f'<section><h2 id="section-{view}-{number}">{escaped(heading)}</h2>'
         f'<div class="text">{text}</div>{notes_html(comments, view)}</section>'
@@ -173,9 +178,11 @@ def page(replica, versions):
 
 
 def main(files):
-    if not files:
-        print(__doc__, file=sys.stderr)
-        return 1
+    # No object here leads back to itself, so that all are freed by their counts.
+    gc.disable()
+    if not files or files[0] in ("-h", "--help"):
+        print(__doc__, file=sys.stderr if not files else sys.stdout)
+        return 0 if files else 1
     contents = []
     for name in files:
         try:
@@ -195,7 +202,14 @@ def main(files):
         print(refused, file=sys.stderr)
         return refused.status
     sys.stdout.reconfigure(encoding="utf-8", newline="")
-    sys.stdout.write(page(replica, versions))
+    try:
+        sys.stdout.write(page(replica, versions))
+        sys.stdout.flush()
+    except OSError as why:
+        # What Python still holds of the page goes nowhere.
+        os.dup2(os.open(os.devnull, os.O_WRONLY), sys.stdout.fileno())
+        print(f"page.py: standard output: {why.strerror}", file=sys.stderr)
+        return 4
     return 0
 
 

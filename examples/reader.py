@@ -13,12 +13,17 @@
     reader.py versions FILE  what `manuscript versions` prints and notes
     reader.py view FILE NAME what `manuscript view` prints and notes
     reader.py send FILE      what `manuscript send` writes and notes
+    reader.py take FILE      what `manuscript take` notes of the stream on standard input
+    reader.py merge FILE OTHER
+                             what `manuscript merge` notes
+    reader.py why FILE K P Q what `manuscript why` prints and notes
     reader.py check FRAMES   whether the text on standard input is that of a valid certificate, as docs/WHY.md says
 
 It keeps the rules and not the limits: it counts no operations but the waiting ones, and no bytes. It needs Python 3.10 or
 newer.
 """
 
+import gc
 import os
 import re
 import sys
@@ -320,7 +325,7 @@ class Place:
             siblings, goes_before = self.lefts.setdefault(op.right, []), self.by_identifier
         else:
             siblings, goes_before = self.rights.setdefault(op.left, []), self.by_right_origin
-        behind = sum(goes_before(sibling, op) for sibling in siblings)
+        behind = sum(goes_before(sibling, op) for sibling in siblings) if siblings else 0
         siblings.insert(behind, op)
         self.nodes[op.id] = op
         self.walked = None
@@ -388,10 +393,21 @@ class Replica:
                 return "stray"
         return verdict
 
+    def is_plain_text(self, op):
+        """Whether it is a Text with a new identifier, and all that it names is held and fits, as of nearly every Text."""
+        if op.kind != "Text" or op.id in self.holders or op.section not in self.places[CATALOGUE].nodes:
+            return False
+        place = self.places.get(op.section)
+        nodes = place.nodes if place else ()
+        return (op.left is None or op.left in nodes) and (op.right is None or op.right in nodes)
+
     def is_accepted(self, op):
         return op.target in self.hidden if op.kind == "Delete" else self.holders.get(op.id) == op
 
     def take(self, op):
+        if not self.waiting and self.is_plain_text(op):
+            self.accept(op)
+            return
         verdict = self.verdict(op)
         if self.is_accepted(op) or op in self.waiting:
             self.counts["repeated"] += 1
@@ -655,6 +671,28 @@ def show(data):
     return 3 if counts["waiting"] or counts["conflict"] or counts["stray"] or counts["full"] else 0
 
 
+def take_in(data, ops):
+    """Notes what becomes of more operations."""
+    replica = taken_in(*read_file(data))
+    replica.counts = dict.fromkeys(replica.counts, 0)
+    for op in ops:
+        replica.take(op)
+    print(replica.tally(), file=sys.stderr)
+    return 3 if any(replica.counts[name] for name in ("waiting", "conflict", "stray", "full")) else 0
+
+
+def take_file(data):
+    read_file(data)
+    return take_in(data, list(read_stream(sys.stdin.buffer.read())))
+
+
+def merge_file(data, other):
+    read_file(data)
+    with open(other, "rb") as file:
+        guest = taken_in(*read_file(file.read()))
+    return take_in(data, [*guest.accepted, *guest.waiting])
+
+
 def print_file(data):
     print(taken_in(*read_file(data)).manuscript(), end="")
     return 0
@@ -875,6 +913,41 @@ class Checker:
         return rests == [*claims, None] and all(map(self.holds, steps))
 
 
+def spelled(word, identifiers=()):
+    return " ".join([word, *(f"{replica}.{counter}" for replica, counter in identifiers)])
+
+
+def why_file(data, *places):
+    """The certificate of two letters that are shown: the steps that Checker checks."""
+    if not all(re.fullmatch("0|[1-9][0-9]*", place) for place in places) or int(places[0]) == 0:
+        raise Refused("words not understood", 1)
+    section, first, second = map(int, places)
+    replica = taken_in(*read_file(data))
+    sections = replica.shown(CATALOGUE)
+    letters = replica.shown(sections[section - 1].id) if section <= len(sections) else []
+    if not first < second < len(letters):
+        raise Refused("no such places", 2)
+    checker = Checker(replica.holders)
+    claim = (letters[first].id, letters[second].id)
+    while claim:
+        claim = print_step(checker, *claim)
+    return 0
+
+
+def print_step(checker, x, y):
+    """Prints why x stands before y, and answers the claim that this rests on."""
+    print(spelled("claim", (x, y)))
+    down_x, down_y = parted(checker.lefts(x), checker.lefts(y))
+    if not down_x:
+        print(spelled("down", (x, *down_y)), "prefix", sep="\n")
+        return None
+    rights = checker.rights(down_x[0]), checker.rights(down_y[0])
+    word, *origins = checker.reason(*rights)
+    print(spelled("down", down_x), spelled("down", down_y), sep="\n")
+    print(*(spelled("right", right) for right in rights), spelled(word, origins), sep="\n")
+    return tuple(origins[::-1])
+
+
 def check(data):
     replica = taken_in(USUAL_HOLD, list(read_stream(data)))
     try:
@@ -896,12 +969,21 @@ COMMANDS = {
     "versions": versions_file,
     "view": view_file,
     "send": send_file,
+    "take": take_file,
+    "merge": merge_file,
+    "why": why_file,
     "check": check,
 }
 
 
+# How many words those commands have that have more than a file.
+WORDS = {"view": 3, "draft": 3, "merge": 3, "why": 5}
+
+
 def main(words):
-    if not words or words[0] not in COMMANDS or len(words) != (3 if words[0] in ("view", "draft") else 2):
+    # No object here leads back to itself, so that all are freed by their counts.
+    gc.disable()
+    if not words or words[0] not in COMMANDS or len(words) != WORDS.get(words[0], 2):
         print(__doc__, file=sys.stderr)
         return 1
     sys.stdout.reconfigure(encoding="utf-8", newline="")

@@ -62,12 +62,12 @@ counts() {
     printf 'accepted %s, repeated %s, waiting %s, conflict %s, stray %s, full %s\\n' "$@"
 }
 
-# Compares what was seen with what is wanted: the status, the output and the notes, both as escapes. The line that may
-# stand in front of the notes, on what the system refused or how a command is asked for, goes to `cause`.
+# Compares what was seen with what is wanted: the status, the output and the notes, both as escapes. The reason that may
+# stand in front of the notes, a line or what is told of all commands, goes to `cause`.
 compare() {
     local name=$1 seen=$2 status=$3
-    sed -n '1{/^manuscript: /p;/^usage: /p;}' "$work/notes" >"$work/cause"
-    [ ! -s "$work/cause" ] || sed -i 1d "$work/notes"
+    sed -n '1{/^manuscript: /p;/^usage: /{/ COMMAND /!p;};}; /^usage: .* COMMAND /,/^The scripts /p' "$work/notes" >"$work/cause"
+    [ ! -s "$work/cause" ] || sed -i "1,$(wc -l <"$work/cause")d" "$work/notes"
     printf "$4" >"$work/wanted_output"
     printf "$5" >"$work/wanted_notes"
     tried=$((tried + 1))

@@ -11,6 +11,7 @@ to be by the note that the reader names, and the file stays as it was.
 """
 
 import random
+import re
 import subprocess
 import sys
 from pathlib import Path
@@ -32,7 +33,10 @@ class Trial:
         self.other = folder / "ben.ms"
 
     def run(self, *words, given=b""):
-        return subprocess.run([self.program, *map(str, words)], input=given, capture_output=True, timeout=60)
+        ran = subprocess.run([self.program, *map(str, words)], input=given, capture_output=True, timeout=60)
+        # The reader tells no reason before a diagnostic.
+        ran.stderr = re.sub(rb"\Amanuscript: .*\n", b"", ran.stderr)
+        return ran
 
     def must(self, *words, given=b""):
         ran = self.run(*words, given=given)

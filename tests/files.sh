@@ -60,7 +60,7 @@ try 'a place that is not there' nothing 2 '' 'no such places\n' why "$f" 1 0 2
 try 'a section that is not there' nothing 2 '' 'no such places\n' why "$f" 2 0 1
 try 'places in the other order' nothing 2 '' 'no such places\n' why "$f" 1 1 0
 try 'the section before the first' nothing 1 '' "$usage" why "$f" 0 0 1
-because 'usage: manuscript why FILE K P Q'
+because "manuscript: why FILE K P Q: K is a number from 1 to 4294967295, without leading zeros, and '0' is none"
 check 'the file stays as it was' cmp -s "$f" "$work/edited"
 
 # Another author takes them in.
@@ -111,9 +111,9 @@ try 'a section that is not there' nothing 2 '' 'no section 4\n' move "$work/move
 try 'a place that is not there' nothing 2 '' 'no place 4\n' move "$work/moved" 1 4
 try 'a section with no title to change' nothing 2 '' 'no section 4\n' retitle "$work/moved" 4 T
 try 'the section before the first is none' nothing 1 '' "$usage" move "$work/moved" 0 1
-because 'usage: manuscript move FILE K J'
+because "manuscript: move FILE K J: K is a number from 1 to 4294967295, without leading zeros, and '0' is none"
 try 'an empty title' nothing 1 '' "$usage" retitle "$work/moved" 1 ''
-because 'usage: manuscript retitle FILE K TITLE'
+because 'manuscript: retitle FILE K TITLE: TITLE is empty'
 try 'a title of two lines' nothing 1 '' "$usage" retitle "$work/moved" 1 $'a\nb'
 try 'a title that is too long' nothing 1 '' "$usage" retitle "$work/moved" 1 "$(printf '%0481d' 0)"
 try 'a title that is not UTF-8' nothing 1 '' "$usage" retitle "$work/moved" 1 $'\xff'
@@ -138,13 +138,13 @@ try 'another one is not there' nothing 2 '' 'no version second draft\n' view "$w
 try 'a name of 120 bytes is none of a version' nothing 2 '' "no version $(printf '%0120d' 0)\n" view "$work/noted" "$(printf '%0120d' 0)"
 try 'a section that is not there' nothing 2 '' 'no section 1\n' comment "$work/noted" 1 0 1 x
 try 'a comment on nothing' nothing 1 '' "$usage" comment "$work/noted" 1 0 0 x
-because 'usage: manuscript comment FILE K P N TEXT'
+because "manuscript: comment FILE K P N TEXT: N is a number from 1 to 4294967295, without leading zeros, and '0' is none"
 try 'a comment that is too long' nothing 1 '' "$usage" comment "$work/noted" 1 0 1 "$(printf '%01025d' 0)"
 try 'a comment of two lines' nothing 1 '' "$usage" comment "$work/noted" 1 0 1 $'a\nb'
 try 'a name that is too long' nothing 1 '' "$usage" version "$work/noted" "$(printf '%0121d' 0)"
-because 'usage: manuscript version FILE NAME'
+because 'manuscript: version FILE NAME: NAME has 121 bytes, and 120 is the most'
 try 'an empty name' nothing 1 '' "$usage" view "$work/noted" ''
-because 'usage: manuscript view FILE NAME'
+because 'manuscript: view FILE NAME: NAME is empty'
 try 'a name that is not UTF-8' nothing 1 '' "$usage" version "$work/noted" $'\xff'
 check 'nothing of these was saved' cmp -s "$work/noted" "$work/as_noted"
 try 'the longest name' nothing 0 '' 'made 1\n' version "$work/noted" "$(printf '%0120d' 0)"
@@ -204,7 +204,7 @@ try 'two files where one is printed' nothing 1 '' "$usage" print "$f" "$f"
 try 'no replica' nothing 1 '' "$usage" new "$work/none" 0 16
 try 'a hold of 0' nothing 1 '' "$usage" new "$work/none" 1 0
 try 'a hold that is too great' nothing 1 '' "$usage" new "$work/none" 1 1048577
-because 'usage: manuscript new FILE NUMBER HOLD'
+because "manuscript: new FILE REPLICA HOLD: HOLD is a number from 1 to 1048576, without leading zeros, and '1048577' is none"
 try 'a replica that is too great' nothing 1 '' "$usage" new "$work/none" 4294967296 16
 check 'words that are no command make no file' [ ! -e "$work/none" ]
 try 'a file that is not there is not made by an edit' chapter 4 '' "$outside" edit "$work/none"
@@ -213,9 +213,9 @@ check 'indeed' [ ! -e "$work/none" ]
 try 'a folder' nothing 4 '' "$outside" print "$work"
 because "manuscript: $work: a directory, and no file"
 try 'the other file is not there' nothing 4 '' "$outside" merge "$f" "$work/none"
-because "manuscript: $work/none: no such file (manuscript new makes one)"
+because "manuscript: $work/none: no such file"
 try 'a folder that is not there' nothing 4 '' "$outside" new "$work/no/file" 1 16
-because "manuscript: $work/no/file: not a directory"
+because "manuscript: $work/no/file: no such folder"
 mkfifo "$work/pipe"
 for command in print send edit take check arrange comments versions; do
     timeout 10 "$program" "$command" "$work/pipe" <"$work/nothing" >"$work/output" 2>"$work/notes"
@@ -404,7 +404,7 @@ check 'none that was done is lost' [ "$(cat "$work/letters_of_both")" = 50a50b ]
 : >"$work/output"
 "$program" print "$f" </dev/null >/dev/full 2>"$work/notes"
 compare 'a full device as output' $? 4 '' "$outside"
-because 'manuscript: standard output: no space is left'
+because 'manuscript: standard output: no space left on the device'
 "$program" send "$f" </dev/null >/dev/full 2>"$work/notes"
 compare 'a full device as output of send' $? 4 '' "$outside"
 "$program" arrange "$f" </dev/null >/dev/full 2>"$work/notes"

@@ -17,7 +17,7 @@ for line in 'add 1 Ti' 'put 1 0 a\n\\b' 'cut 10 2 3' 'drop 10' '# n'; do
     for ((at = 0; at < ${#line}; at++)); do
         for byte in '' ' ' 0 1 9 - + '\' n $'\r' '#' a; do
             odd=${line:0:at}$byte${line:at+1}
-            seen=$(printf '%s' "$odd" | "$program" edit "$work/f" 2>&1)
+            seen=$(printf '%s' "$odd" | "$program" edit "$work/f" 2>&1 | tail -n 1)
             if [[ $odd =~ $form ]]; then
                 [ "$seen" != 'bad line 1' ]
             else

@@ -7,6 +7,7 @@ in this language, which knows docs/FORMATS.md alone, makes of them.
 
 import io
 import random
+import re
 import subprocess
 import sys
 from contextlib import redirect_stderr, redirect_stdout
@@ -142,7 +143,8 @@ def read(command, data):
 
 def run(program, words, data=b""):
     ended = subprocess.run([program, *words], input=data, capture_output=True, check=False)
-    return ended.stdout, ended.stderr, ended.returncode
+    # The reader tells no reason before a diagnostic.
+    return ended.stdout, re.sub(rb"\Amanuscript: .*\n", b"", ended.stderr), ended.returncode
 
 
 def main(program, seed, count):

@@ -61,7 +61,7 @@ for ((length = 0; length < $(wc -c <"$work/chapter"); length++)); do
     for begin in 0 14 36 66 96 134; do
         [ "$begin" -gt "$length" ] || frame=$begin
     done
-    seen=$(head -c "$length" "$work/chapter" | "$program" show 2>&1; echo "${PIPESTATUS[1]}")
+    seen=$({ head -c "$length" "$work/chapter" | "$program" show 2>&1; echo "${PIPESTATUS[1]}"; } | grep -v '^manuscript: ')
     if [ "$frame" = "$length" ]; then
         [[ $seen == *$'\n0' ]]
     else

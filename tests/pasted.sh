@@ -1,7 +1,7 @@
 #!/usr/bin/env bash
 # Runs each line that a reader may paste from the documents, and compares what comes with what stands behind it.
 #
-#     tests/pasted.sh [FILE..]     # README.md, docs/GUIDE.md, docs/FORMATS.md, docs/WHY.md and docs/manuscript.1 where none is given
+#     tests/pasted.sh [FILE..]     # README.md, GUIDE.md, FORMATS.md, WHY.md, manuscript.1 and manuscript-write.1 where none is given
 #
 # A session is an indented block (of the manual: a literal one) that begins with a dollar sign: lines with one are run,
 # in order, in one shell and one folder for each document, and what stands behind a line is what it prints, with what
@@ -47,7 +47,9 @@ run_page() {
     shell_of <"$work/$name.wanted" >"$work/$name.sh"
     mkdir "$work/$name.folder"
     (cd "$work/$name.folder" && PATH=${program%/*}:$here/examples:$PATH timeout 120 bash "$work/$name.sh" >"$work/$name.seen" </dev/null)
-    without_gaps <"$work/$name.seen" >"$work/$name.told"
+    # A page has the reasons in front of all its diagnostics, or leaves them out.
+    if grep -q '^manuscript: ' "$work/$name.wanted"; then cat "$work/$name.seen"; else grep -v '^manuscript: ' "$work/$name.seen"; fi |
+        without_gaps >"$work/$name.told"
     check "$page: $(grep -c '^\$ ' "$work/$name.wanted") lines print what stands behind them" \
         diff "$work/$name.wanted" "$work/$name.told"
     check "$page has lines to paste" [ -s "$work/$name.wanted" ]
@@ -55,7 +57,7 @@ run_page() {
 
 here=$PWD
 port=$((20000 + RANDOM % 20000))
-[ $# -gt 0 ] || set -- README.md docs/GUIDE.md docs/FORMATS.md docs/WHY.md docs/manuscript.1
+[ $# -gt 0 ] || set -- README.md docs/GUIDE.md docs/FORMATS.md docs/WHY.md docs/manuscript.1 docs/manuscript-write.1
 for page; do run_page "$page"; done
 
 ended

@@ -56,7 +56,7 @@ usage='words not understood\n'
 try 'port 0' nothing 1 '' "$usage" relay 0 1
 try 'a port that is too great' nothing 1 '' "$usage" relay 65536 1
 try 'no session' nothing 1 '' "$usage" relay "$port" 0
-because 'usage: manuscript relay PORT SESSIONS'
+because "manuscript: relay PORT SESSIONS: SESSIONS is a number from 1 to 65535, without leading zeros, and '0' is none"
 try 'a cursor that is no number' nothing 1 '' "$usage" sync "$work/a" "$port" x
 
 # Two authors write apart, and meet at a relay of three sessions: the second session of the first author begins at the

@@ -23,7 +23,7 @@ both_show() {
     python3 "$reader" show "$frames" >"$work/read" 2>"$work/read.notes"
     echo $? >"$work/read.status"
     check "the reader shows $name, as the program" cmp -s "$work/shown" "$work/read"
-    check '    and notes the same' cmp -s "$work/shown.notes" "$work/read.notes"
+    check '    and notes the same' cmp -s <(grep -v '^manuscript: ' "$work/shown.notes") "$work/read.notes"
     check '    and ends with the same status' cmp -s "$work/shown.status" "$work/read.status"
 }
 
@@ -85,8 +85,18 @@ END
     printed told manuscript view "$work/noted.ms" 'first draft'
     printed read python3 "$reader" view "$work/noted.ms" 'first draft'
     check '    and view' cmp -s "$work/read" "$work/told"
+    for places in '1 0 1' '1 2 9' '2 5 30' '1 9 2'; do
+        printed told manuscript why "$work/noted.ms" $places
+        printed read python3 "$reader" why "$work/noted.ms" $places
+        check "    and why $places" cmp -s "$work/read" "$work/told"
+    done
+    cp "$work/made/ben.ms" "$work/merged.ms"
+    printed read python3 "$reader" merge "$work/merged.ms" "$work/noted.ms"
+    printed told manuscript merge "$work/merged.ms" "$work/noted.ms"
+    check '    and notes of merge' cmp -s "$work/read.notes" "$work/told.notes"
     printed page.html python3 examples/page.py "$work/noted.ms"
     check '    and the page has the text of arrange' python3 tests/page.py "$work/page.html" "$work/arranged"
+    check '    and page.py tells its form' [ "$(python3 examples/page.py --help | sed -n 3p)" = '    page.py FILE [OTHER..] > page.html' ]
     both_show 'the sample of three authors' "$oosterwick/all.frames"
     both_show 'the sample stream of two authors' "$samples/two_authors.frames"
     put cut "$section" "$b" "$y"

@@ -5,6 +5,7 @@ What is wanted stands in the vectors, and for the long file below in docs/FORMAT
 as it should be.
 """
 
+import re
 import struct
 import subprocess
 import sys
@@ -18,9 +19,9 @@ failed = 0
 
 
 def run(*words, stdin=b""):
-    """The status of a command, its output and its diagnostics."""
+    """The status of a command, its output and its diagnostics, without the line of a reason before them."""
     ran = subprocess.run([sys.argv[1], *map(str, words)], input=stdin, capture_output=True)
-    return ran.returncode, ran.stdout, ran.stderr
+    return ran.returncode, ran.stdout, re.sub(rb"\Amanuscript: .*\n", b"", ran.stderr)
 
 
 def same(name, found, wanted):
@@ -55,15 +56,31 @@ def stray(folder):
     same("stray after waiting", run("show", stdin=frames), (3, printed, diagnostics))
 
 
+def dropped_counter(folder):
+    """An operation with the greatest counter of the replica waits, and is dropped: its counter is free again."""
+    file = folder / "dropped.ms"
+    run("new", file, 1, 100)
+    same("dropped", run("take", file, stdin=(VECTORS / "dropped_counter.frames").read_bytes())[0], 3)
+    same("after it", run("edit", file, stdin=b"add 1 T\n")[0], 0)
+    same("what is sent then", run("send", file)[1], (VECTORS / "dropped_counter.sent").read_bytes())
+
+
 def certificates(folder):
-    """One certificate is valid, and the others are not."""
+    """Some certificates are valid, each at two places of the text, and the others are not. One has one letter more."""
     file = folder / "letters.ms"
     run("new", file, 7, 100)
     same("letters", run("take", file, stdin=(VECTORS / "letters.frames").read_bytes())[0], 0)
-    same("why", run("why", file, 1, 1, 2)[1], (VECTORS / "valid.certificate").read_bytes())
+    valid = {"valid": (1, 2), "prefix": (0, 1), "tie": (0, 3)}
     for vector in sorted(VECTORS.glob("*.certificate")):
-        answer = b"yes\n" if vector.stem == "valid" else b"no\n"
+        answer = b"yes\n" if vector.stem in valid else b"no\n"
         same(vector.name, run("check", file, stdin=vector.read_bytes()), (0, answer, b""))
+    run("take", file, stdin=(VECTORS / "end.frames").read_bytes())
+    # The letter stands behind the first one.
+    places = {stem: [at + (at > 0) for at in ats] for stem, ats in valid.items()} | {"end": [1, 2]}
+    for stem, ats in places.items():
+        vector = (VECTORS / f"{stem}.certificate").read_bytes()
+        same(f"why {stem}", run("why", file, 1, *ats), (0, vector, b""))
+        same(f"check {stem}", run("check", file, stdin=vector), (0, b"yes\n", b""))
 
 
 def record(frames):
@@ -100,6 +117,6 @@ def full_file(folder):
 
 
 with tempfile.TemporaryDirectory() as name:
-    for test in (clusters, stray, certificates, full_file):
+    for test in (clusters, stray, dropped_counter, certificates, full_file):
         test(Path(name))
 sys.exit(1 if failed else 0)
