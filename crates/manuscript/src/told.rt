@@ -121,6 +121,21 @@ const NOT_READ: &str = "it could not be read; is the disk still there, and whole
 const NOT_WRITTEN: &str =
     "it could not be written; is the disk full? Look at what the file has before you do it again";
 
+const NO_SPACE: &str =
+    "no space left on the device; look at what the file has before you do it again";
+
+const NO_QUOTA: &str =
+    "no space left of what you may use; look at what the file has before you do it again";
+
+/// Why a write failed, and what to do.
+fn words_of_write(kind: Option<ErrorKind>) -> &'static str {
+    match kind {
+        Some(ErrorKind::StorageFull) => NO_SPACE,
+        Some(ErrorKind::QuotaExceeded) => NO_QUOTA,
+        _ => NOT_WRITTEN,
+    }
+}
+
 impl<'a> ToldFile<'a> {
     pub(crate) fn new(
         file: FileDisk,
@@ -191,7 +206,7 @@ impl<'a> Disk for ToldFile<'a> {
     fn write_at(&mut self, at: u64, bytes: &[u8]) -> Result<(), Failed> {
         let given = self.file.write_at(at, bytes);
         if given.is_err() {
-            self.tell(NOT_WRITTEN);
+            self.tell(words_of_write(self.file.failed_write()));
         }
         given
     }

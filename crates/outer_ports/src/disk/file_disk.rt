@@ -1,4 +1,4 @@
-ghost use Rattle.std.specs.Prelude.{◌≡◌, ◌≢◌, ◌↔◌, ◌⊎◌, None, IfOk, IsErr, IsFalse, IsSome, IsTrue};
+ghost use Rattle.std.specs.Prelude.{◌≡◌, ◌≢◌, ◌↔◌, ◌⊎◌, None, IfOk, IsErr, IsFalse, IsOk, IsSome, IsTrue};
 ghost use Rattle.outer_ports.specs.Counts.{CountsFaults};
 ghost use Rattle.outer_ports.specs.disk.Disks.{Sizes, ReadsAt, WritesAt, Syncs};
 ghost use Rattle.outer_ports.specs.declared.disk.file_disk.Opening.TheVariants.{Creating, Reading};
@@ -28,7 +28,8 @@ pub struct FileDisk {
     file: Option<File>,
     opening: Opening,
     is_made: bool,
-    has_failed_write: bool,
+    /// Why the write that failed last did.
+    failed_write: Option<ErrorKind>,
     has_failed_sync: bool,
     faults: Faults,
 }
@@ -45,7 +46,7 @@ impl FileDisk {
             (λ disk. ⟦<FileDisk as Disk>⟧.seen disk ≡ record { past = None; faults = 0; room = None; sizes = None; reach = None }) }
         ensures made { IfOk result (λ disk. IsTrue disk.is_made → opening ≡ Creating) }
         ensures opening { IfOk result (λ disk. disk.opening ≡ opening) }
-        ensures written { IfOk result (λ disk. IsFalse disk.has_failed_write) }
+        ensures written { IfOk result (λ disk. disk.failed_write ≡ None) }
         ensures synced { IfOk result (λ disk. IsFalse disk.has_failed_sync) }
     {
         let (file, is_made) = match opening {
@@ -59,7 +60,7 @@ impl FileDisk {
             file: Some(file),
             opening,
             is_made,
-            has_failed_write: false,
+            failed_write: None,
             has_failed_sync: false,
             faults: Faults::none(),
         })
@@ -70,14 +71,14 @@ impl FileDisk {
         ensures file { result.file ≡ None }
         ensures seen { ⟦<FileDisk as Disk>⟧.seen result ≡ record { past = None; faults = 0; room = None; sizes = None; reach = None } }
         ensures made { IsFalse result.is_made }
-        ensures written { IsFalse result.has_failed_write }
+        ensures written { result.failed_write ≡ None }
         ensures synced { IsFalse result.has_failed_sync }
     {
         FileDisk {
             file: None,
             opening: Opening::Reading,
             is_made: false,
-            has_failed_write: false,
+            failed_write: None,
             has_failed_sync: false,
             faults: Faults::none(),
         }
@@ -97,12 +98,19 @@ impl FileDisk {
         self.has_failed_sync
     }
 
+    /// Why the write of the file that failed last did: None where none failed.
+    pub fn failed_write(&self) -> Option<ErrorKind>
+        ensures { result ≡ self.now.failed_write }
+    {
+        self.failed_write
+    }
+
     /// Whether the file was not there before it was opened, and a write or a sync of it failed since.
     pub fn is_unfinished(&self) -> bool
         ensures { IsTrue result
-            ↔ (IsTrue self.now.is_made × (IsTrue self.now.has_failed_write ⊎ IsTrue self.now.has_failed_sync)) }
+            ↔ (IsTrue self.now.is_made × (IsSome self.now.failed_write ⊎ IsTrue self.now.has_failed_sync)) }
     {
-        self.is_made && (self.has_failed_write || self.has_failed_sync)
+        self.is_made && (self.failed_write.is_some() || self.has_failed_sync)
     }
 
     /// Removes the file that the path leads to, where it is this one and is unfinished. It is locked, so that nobody
@@ -221,16 +229,19 @@ impl Disk for FileDisk {
             result at bytes.now }
         ensures faults { CountsFaults self.old.faults self.new.faults result }
         ensures others { self.new
-            ≡ record self.old { faults = self.new.faults; has_failed_write = self.new.has_failed_write } }
-        ensures written { IsTrue self.new.has_failed_write ↔ (IsTrue self.old.has_failed_write ⊎ IsErr result) }
+            ≡ record self.old { faults = self.new.faults; failed_write = self.new.failed_write } }
+        ensures written { IsErr result → IsSome self.new.failed_write }
+        ensures kept { IsOk result → self.new.failed_write ≡ self.old.failed_write }
         ensures missing { self.old.file ≡ None → IsErr result }
     {
-        let given = self.faults.pass(match &self.file {
+        let given = match &self.file {
             Some(file) => file.write_all_at(bytes, at),
             None => Err(not_open()),
-        });
-        self.has_failed_write |= given.is_err();
-        given
+        };
+        if let Err(error) = &given {
+            self.failed_write = Some(error.kind());
+        }
+        self.faults.pass(given)
     }
 
     fn sync(&mut self) -> Result<(), Failed>
