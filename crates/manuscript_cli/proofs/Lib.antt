@@ -3,7 +3,7 @@ pub mod HeadlineLemmas
 pub mod RunLemmas
 pub mod ObeyLemmas
 pub mod RelayLemmas
-pub mod BulkLemmas
+pub mod AloneLemmas
 pub mod RunsLemmas
 pub mod RunBlameLemmas
 pub mod WhyLemmas

@@ -16,7 +16,7 @@ use Rattle.command_kinds.specs.Changes.{Change, DiskBlameless, OutBlameless, Sou
 use Rattle.manuscript_cli.specs.Relay.{DockBlameless}
 use Rattle.manuscript_cli.specs.Touched.{Touched}
 use Rattle.manuscript_cli.specs.declared.command.Command.{Command}
-use Rattle.manuscript_cli.specs.declared.command.Command.TheVariants.{Show, New, Edit, Print, Take, Send, Merge, Relay, Sync, Bulk, Why, Check, Move, Retitle, Arrange, Revise, List as ListCommand, Comment, Comments, Version, Versions, View}
+use Rattle.manuscript_cli.specs.declared.command.Command.TheVariants.{Show, New, Edit, Print, Take, Send, Merge, Relay, Sync, Bulk, Why, Check, Move, Retitle, Arrange, Revise, List as ListCommand, Comment, Comments, Version, Versions, View, About}
 use Rattle.command_kinds.specs.declared.refusal.Refusal.TheVariants.{Words}
 use Rattle.command_kinds.specs.declared.status.Status.{Status}
 use Rattle.command_kinds.proofs.TextLemmas.{told_blameless}
@@ -84,3 +84,4 @@ module _ (words : List (List ℕ)) (old new : Touched) (end : Status) where
   meets_blameless (Some Version) meets = makes_note _ meets
   meets_blameless (Some Versions) meets = reports _ meets
   meets_blameless (Some View) meets = reports _ meets
+  meets_blameless (Some About) meets = all _ meets.others quiet meets.does.writes.output_blameless meets.does.writes.notes_blameless quiet quiet quiet quiet

@@ -8,7 +8,7 @@ use Rattle.outer_ports.specs.declared.disk.file_disk.Opening.TheVariants.{Readin
 use Rattle.bulk_world.specs.declared.making.TheConstants.{MOST_TURNS}
 use Rattle.manuscript_cli.specs.Number.{IsNumber}
 use Rattle.manuscript_cli.specs.declared.command.Command.{Command}
-use Rattle.manuscript_cli.specs.declared.command.Command.TheVariants.{Show, New, Edit, Print, Take, Send, Merge, Relay, Sync, Bulk, Why, Check, Move, Retitle, Arrange, Revise, List as ListCommand, Comment, Comments, Version, Versions, View}
+use Rattle.manuscript_cli.specs.declared.command.Command.TheVariants.{Show, New, Edit, Print, Take, Send, Merge, Relay, Sync, Bulk, Why, Check, Move, Retitle, Arrange, Revise, List as ListCommand, Comment, Comments, Version, Versions, View, About}
 use Rattle.manuscript_cli.specs.declared.words.TheConstants.{GREATEST_CURSOR, GREATEST_PLACE, GREATEST_PORT, GREATEST_REPLICA, GREATEST_SEED, MOST_SESSIONS, USUAL_HOLD}
 
 -- `show HOLD`
@@ -151,6 +151,7 @@ Names words Comments = NamesFile (codes "comments") words
 Names words Version = NamesNamed (codes "version") words
 Names words Versions = NamesFile (codes "versions") words
 Names words View = NamesNamed (codes "view") words
+Names words About = words ≡ codes "about" ∷ []
 
 -- the command that the words ask for: None, where they ask for none
 pub record IsCommand (words : List (List ℕ)) (command : Option Command) : Type 0 where
@@ -162,6 +163,7 @@ abbrev pub home_word : Command → List (List ℕ) → Option (List ℕ)
 home_word (Show hold) words = None
 home_word (Relay port sessions) words = None
 home_word (Bulk seed count) words = None
+home_word About words = None
 home_word _ (name ∷ file ∷ more) = Some file
 home_word _ words = None
 

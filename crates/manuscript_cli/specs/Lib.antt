@@ -13,7 +13,7 @@ pub mod Arrange
 pub mod Listing
 pub mod Margins
 pub mod NamedVersions
-pub mod Bulk
+pub mod Alone
 pub mod Run
 pub mod Runs
 pub use Rattle.bulk_world.specs.Summary

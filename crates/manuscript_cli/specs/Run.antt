@@ -5,7 +5,8 @@ use Rattle.command_kinds.specs.Findings.{Finding}
 use Rattle.manuscript_cli.specs.Listing.{list_tells}
 use Rattle.manuscript_cli.specs.Margins.{comment_on, comments_tells}
 use Rattle.manuscript_cli.specs.NamedVersions.{version_on, versions_tells, view_tells}
-use Rattle.manuscript_cli.specs.Bulk.{Bulks}
+use Rattle.manuscript_cli.specs.Alone.{WritesAlone, about_text}
+use Rattle.bulk_world.specs.Summary.{bulk_text}
 use Rattle.manuscript_cli.specs.Check.{ChecksText}
 use Rattle.manuscript_cli.specs.Command.{last_word}
 use Rattle.command_kinds.specs.New.{Creates}
@@ -20,7 +21,7 @@ use Rattle.command_kinds.specs.Changes.{DiskBlameless, OutBlameless, SourceBlame
 use Rattle.manuscript_cli.specs.Touched.{Touched}
 use Rattle.manuscript_cli.specs.Why.{why_tells}
 use Rattle.manuscript_cli.specs.declared.command.Command.{Command}
-use Rattle.manuscript_cli.specs.declared.command.Command.TheVariants.{Show, New, Edit, Print, Take, Send, Merge, Relay, Sync, Bulk, Why, Check, Move, Retitle, Arrange, Revise, List as ListCommand, Comment, Comments, Version, Versions, View}
+use Rattle.manuscript_cli.specs.declared.command.Command.TheVariants.{Show, New, Edit, Print, Take, Send, Merge, Relay, Sync, Bulk, Why, Check, Move, Retitle, Arrange, Revise, List as ListCommand, Comment, Comments, Version, Versions, View, About}
 use Rattle.command_kinds.specs.declared.refusal.Refusal.TheVariants.{Words}
 use Rattle.command_kinds.specs.declared.status.Status.{Status}
 use Rattle.command_kinds.specs.declared.status.Status.TheVariants.{Usage}
@@ -51,10 +52,10 @@ pub record RunsRelay (port sessions : ℕ) (old new : Touched) (end : Status) : 
   pub others : new ≡ record old { streams = record old.streams { output = new.streams.output; notes = new.streams.notes }; dock = new.dock }
   pub does : Relays port sessions (change old.streams.output new.streams.output) (change old.streams.notes new.streams.notes) (change old.dock new.dock) end
 
--- `bulk` uses the output, and the notes
-pub record RunsBulk (seed count : ℕ) (old new : Touched) (end : Status) : Type 0 where
+-- a command that uses no file uses the output, and the notes
+pub record RunsAlone (text : List ℕ) (old new : Touched) (end : Status) : Type 0 where
   pub others : new ≡ record old { streams = record old.streams { output = new.streams.output; notes = new.streams.notes } }
-  pub does : Bulks seed count (change old.streams.output new.streams.output) (change old.streams.notes new.streams.notes) end
+  pub does : WritesAlone text (change old.streams.output new.streams.output) (change old.streams.notes new.streams.notes) end
 
 -- `check` uses the streams, and the file
 pub record RunsCheck (old new : Touched) (end : Status) : Type 0 where
@@ -71,7 +72,7 @@ pub data Family : Type 1 where
   Choosing : (Finding Outcome → Touched → Touched → Saver) → Family
   Reporting : (tells : Telling) → Family
   Serving : (port sessions : ℕ) → Family
-  Inventing : (seed count : ℕ) → Family
+  Alone : (text : List ℕ) → Family
   Checking : Family
 
 -- by the words too: the last of them is the title of a retitle, the text of a comment or the name of a version; sections count from 1
@@ -86,7 +87,7 @@ family words (Some Send) = Reporting send_tells
 family words (Some Merge) = Saving merge_saver
 family words (Some (Relay port sessions)) = Serving port sessions
 family words (Some (Sync port cursor)) = Saving (sync_saver port cursor)
-family words (Some (Bulk seed count)) = Inventing seed count
+family words (Some (Bulk seed count)) = Alone (bulk_text seed count)
 family words (Some (Why k p q)) = Reporting (why_tells (k - 1) p q)
 family words (Some Check) = Checking
 family words (Some (Move k j)) = Saving (note_saver (move_on k j))
@@ -99,6 +100,7 @@ family words (Some Comments) = Reporting comments_tells
 family words (Some Version) = Saving (note_saver (version_on (last_word words)))
 family words (Some Versions) = Reporting versions_tells
 family words (Some View) = Reporting (view_tells (last_word words))
+family words (Some About) = Alone about_text
 
 -- a command of the family did what it should with the objects that it uses, and left the others as they were
 abbrev pub MeetsAs : Family → Touched → Touched → Status → Type 0
@@ -109,7 +111,7 @@ MeetsAs (Saving saver) old new end = RunsSaving (saver old new) old new end
 MeetsAs (Choosing saver) old new end = (course : Finding Outcome) × RunsSaving (saver course old new) old new end
 MeetsAs (Reporting tells) old new end = RunsReport tells old new end
 MeetsAs (Serving port sessions) old new end = RunsRelay port sessions old new end
-MeetsAs (Inventing seed count) old new end = RunsBulk seed count old new end
+MeetsAs (Alone text) old new end = RunsAlone text old new end
 MeetsAs Checking old new end = RunsCheck old new end
 
 abbrev pub Meets : List (List ℕ) → Option Command → Touched → Touched → Status → Type 0

@@ -1,5 +1,5 @@
 ghost use Rattle.bulk_world.specs.Summary.{bulk_text};
-ghost use Rattle.manuscript_cli.specs.Bulk.{Bulks};
+ghost use Rattle.manuscript_cli.specs.Alone.{WritesAlone};
 ghost use Rattle.command_kinds.specs.TextOut.{GoesOut};
 ghost use Rattle.command_kinds.specs.Changes.{change};
 
@@ -16,7 +16,7 @@ pub(crate) fn bulk<O: Sink, N: Sink>(
     output: &mut O,
     notes: &mut N,
 ) -> Status
-    ensures { Bulks seed count (change (O.seen output.old) (O.seen output.new))
+    ensures { WritesAlone (bulk_text seed count) (change (O.seen output.old) (O.seen output.new))
         (change (N.seen notes.old) (N.seen notes.new)) result }
 {
     ended(made(alloc, seed, count, output), notes)

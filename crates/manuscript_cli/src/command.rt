@@ -53,6 +53,8 @@ pub enum Command {
     Versions,
     /// Print the manuscript of a version.
     View,
+    /// Print the name and the version of the program, what it was proved with, and its licence.
+    About,
 }
 
 impl Command {
@@ -82,7 +84,8 @@ impl Command {
             | Command::List
             | Command::Comments
             | Command::Versions
-            | Command::View => Opening::Reading,
+            | Command::View
+            | Command::About => Opening::Reading,
         }
     }
 
@@ -95,7 +98,9 @@ impl Command {
             (Command::Merge | Command::Revise, [_, file, other, ..]) => {
                 (Some(file.as_str()), Some(other.as_str()))
             }
-            (Command::Show(_) | Command::Relay(_, _) | Command::Bulk(_, _), _) => (None, None),
+            (Command::Show(_) | Command::Relay(_, _) | Command::Bulk(_, _) | Command::About, _) => (
+                None, None,
+            ),
             (_, [_, file, ..]) => (Some(file.as_str()), None),
             _ => (None, None),
         }

@@ -1,6 +1,7 @@
 //! The commands of the program `manuscript`, over whatever takes and gives bytes.
 #![tactic(auto)]
 
+mod about;
 mod arrange;
 mod bulk;
 mod check;

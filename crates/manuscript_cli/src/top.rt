@@ -10,6 +10,7 @@ ghost use Rattle.manuscript_cli.specs.declared.command.Command.{Command as AnyCo
 ghost use Rattle.manuscript_cli.specs.declared.command.Command.TheVariants.{Arrange, Print, Show};
 ghost use Rattle.command_kinds.specs.declared.status.Status.TheVariants.{Usage};
 
+use crate::about::about;
 use crate::arrange::Arrangement;
 use crate::bulk::bulk;
 use crate::check::check_file;
@@ -210,5 +211,6 @@ fn obey<S: Source, O: Sink, N: Sink, H: Disk, G: Disk, W: Wire, D: Dock, B: Buil
             let name = last_of(words);
             write_report(alloc, &View { name }, home, output, notes)
         }
+        Command::About => about(output, notes),
     }
 }

@@ -73,6 +73,7 @@ fn read_alone(name: &str) -> Option<Command>
 {
     match name {
         "show" => Some(Command::Show(USUAL_HOLD)),
+        "about" => Some(Command::About),
         _ => None,
     }
 }

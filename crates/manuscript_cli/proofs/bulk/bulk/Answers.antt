@@ -1,8 +1,8 @@
 use Rattle.bulk_world.specs.Summary.{bulk_text}
 use Rattle.command_kinds.specs.Changes.{change}
-use Rattle.manuscript_cli.proofs.BulkLemmas.{bulk_ended}
+use Rattle.manuscript_cli.proofs.AloneLemmas.{written_alone}
 use Rattle.manuscript_cli.proofs.bulk.bulk.Goals as goal
 
 pub returns : goal.returns
 returns g c =
-    bulk_ended _ _ _ _ _ (c.ended.ensures.out (bulk_text c.args.seed c.args.count) (change (g.O.Out.seen c.args.output.now) (g.O.Out.seen c.made.new.output)) c.made.ensures)
+    written_alone _ _ _ _ (c.ended.ensures.out (bulk_text c.args.seed c.args.count) (change (g.O.Out.seen c.args.output.now) (g.O.Out.seen c.made.new.output)) c.made.ensures)

@@ -5,7 +5,7 @@ use Rattle.manuscript_cli.specs.Touched.{touched}
 use Rattle.manuscript_cli.proofs.ObeyLemmas.{obeyed}
 use Rattle.manuscript_cli.proofs.RunLemmas.{hold_in_range}
 use Rattle.manuscript_cli.proofs.top.obey.Goals as goal
-use Rattle.manuscript_cli.proofs.top.obey.Goals.{in-Show, in-New, in-Edit, in-Print, in-Take, in-Send, in-Merge, in-Relay, in-Sync, in-Bulk, in-Why, in-Check, in-Move, in-Retitle, in-Arrange, in-Revise, in-List, in-Comment, in-Comments, in-Version, in-Versions, in-View}
+use Rattle.manuscript_cli.proofs.top.obey.Goals.{in-Show, in-New, in-Edit, in-Print, in-Take, in-Send, in-Merge, in-Relay, in-Sync, in-Bulk, in-Why, in-Check, in-Move, in-Retitle, in-Arrange, in-Revise, in-List, in-Comment, in-Comments, in-Version, in-Versions, in-View, in-About}
 
 pub show-requires-clause-from : goal.show-requires-clause-from
 show-requires-clause-from g c = (hold_in_range _ _ (subst (Names _) c.in-Show.is c.requires)).0
@@ -49,4 +49,5 @@ returns-clause-meets g c =
       | in-Version w ↦ obeyed words _ _ old _ _ _ _ w.in-Version.is (λ i. touched (g.S.Source.seen (w.input-is i)) (g.O.Out.seen (w.output-is i)) (g.N.Out.seen (w.notes-is i)) (g.H.Disk.seen (w.home-is i)) (g.G.Disk.seen (w.guest-is i)) (g.W.Wire.seen (w.wire-is i)) (g.D.Dock.seen (w.dock-is i))) w.result-is (record { others = refl; does = rw w.last_of-name.ensures at w.save_note-in-Version.ensures.saves; blameless = w.save_note-in-Version.ensures.blameless; leaves = tt; unused = λ told why refuses. refl })
       | in-Versions w ↦ obeyed words _ _ old _ _ _ _ w.in-Versions.is (λ i. touched (g.S.Source.seen (w.input-is i)) (g.O.Out.seen (w.output-is i)) (g.N.Out.seen (w.notes-is i)) (g.H.Disk.seen (w.home-is i)) (g.G.Disk.seen (w.guest-is i)) (g.W.Wire.seen (w.wire-is i)) (g.D.Dock.seen (w.dock-is i))) w.result-is (record { others = refl; does = w.write_report-in-Versions.ensures })
       | in-View w ↦ obeyed words _ _ old _ _ _ _ w.in-View.is (λ i. touched (g.S.Source.seen (w.input-is i)) (g.O.Out.seen (w.output-is i)) (g.N.Out.seen (w.notes-is i)) (g.H.Disk.seen (w.home-is i)) (g.G.Disk.seen (w.guest-is i)) (g.W.Wire.seen (w.wire-is i)) (g.D.Dock.seen (w.dock-is i))) w.result-is (record { others = refl; does = rw w.last_of-name-in-View.ensures at w.write_report-in-View.ensures })
+      | in-About w ↦ obeyed words _ _ old _ _ _ _ w.in-About.is (λ i. touched (g.S.Source.seen (w.input-is i)) (g.O.Out.seen (w.output-is i)) (g.N.Out.seen (w.notes-is i)) (g.H.Disk.seen (w.home-is i)) (g.G.Disk.seen (w.guest-is i)) (g.W.Wire.seen (w.wire-is i)) (g.D.Dock.seen (w.dock-is i))) w.result-is (record { others = refl; does = rw w.last_of-name-in-About.ensures at w.write_report-in-About.ensures })
     ]

@@ -1,9 +1,8 @@
--- What `bulk` does, by what came of its text.
+-- What a command does that uses no file, by what came of its text.
 use Rattle.std.proofs.Common.{ℕ, List, refl, subst, inl, inr}
 use Rattle.fugue_ids.specs.Causes.{Rose}
 use Rattle.fugue_ids.specs.Outs.{OutView}
-use Rattle.bulk_world.specs.Summary.{bulk_text}
-use Rattle.manuscript_cli.specs.Bulk.{Bulks}
+use Rattle.manuscript_cli.specs.Alone.{WritesAlone}
 use Rattle.command_kinds.specs.Findings.{IsDecided}
 use Rattle.command_kinds.specs.TextOut.{TextMeets, WritesOut}
 use Rattle.command_kinds.specs.Changes.{Change}
@@ -16,9 +15,9 @@ decided bytes output notes status.OutsideFault came = inr (inr (refl, came.front
 decided bytes output notes status.NoMemory came = inr (inl refl)
 decided bytes output notes _ came = absurd came
 
-pub bulk_ended : (seed count : ℕ) (output notes : Change OutView) (end : Status) → WritesOut (bulk_text seed count) output notes end → Bulks seed count output notes end
-bulk_ended seed count output notes end writes = record {
+pub written_alone : (text : List ℕ) (output notes : Change OutView) (end : Status) → WritesOut text output notes end → WritesAlone text output notes end
+written_alone text output notes end writes = record {
   writes = writes;
-  never_outside = λ has outside. (subst (TextMeets (bulk_text seed count) output notes) outside writes.meets).front.no_room has;
-  decides = decided (bulk_text seed count) output notes end writes.meets;
+  never_outside = λ has outside. (subst (TextMeets text output notes) outside writes.meets).front.no_room has;
+  decides = decided text output notes end writes.meets;
 }
