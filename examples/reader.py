@@ -6,9 +6,14 @@
     reader.py print FILE     what `manuscript print` prints and notes
     reader.py arrange FILE   what `manuscript arrange` prints and notes
     reader.py list FILE      what `manuscript list` prints and notes
-    reader.py draft FILE BASE
+    reader.py draft FILE BASE [N]
                              what `manuscript arrange` prints behind `manuscript revise FILE BASE` with the draft on
-                             standard input, or why that is refused
+                             standard input, or why that is refused; with N, for a file that has no more than N operations
+    reader.py past FILE N    what `manuscript past` prints and notes
+    reader.py moments FILE   what `manuscript moments` prints and notes
+    reader.py changes FILE N what `manuscript changes` prints and notes
+    reader.py authors FILE   what `manuscript authors` prints and notes
+    reader.py remarks FILE   what `manuscript remarks` prints and notes
     reader.py comments FILE  what `manuscript comments` prints and notes
     reader.py versions FILE  what `manuscript versions` prints and notes
     reader.py view FILE NAME what `manuscript view` prints and notes
@@ -30,6 +35,7 @@ import sys
 import unicodedata
 from bisect import bisect_left, bisect_right
 from dataclasses import dataclass, field
+from itertools import groupby
 
 if sys.version_info < (3, 10):
     sys.exit("this needs Python 3.10 or newer")
@@ -292,22 +298,28 @@ def frame_of(stretch):
 
 def read_file(data):
     """The replica's HOLD and the operations of a file."""
+    hold, batches = read_batches(data)
+    return hold, [op for batch in batches for op in batch]
+
+
+def read_batches(data):
+    """The replica's HOLD and the batches of a file."""
     hold = int.from_bytes(data[9:13], "big")
     is_replica = len(data) >= 14 and data[:4] == b"FGMX" and data[4] in (1, 2) and any(data[5:9])
     if not is_replica or not 1 <= hold <= 1_048_576:
         raise Refused("not a replica", 6)
-    ops, at, slot = [], 13, 0
+    batches, at, slot = [], 13, 0
     while data[at] == 1:
         tag, size = divmod(int.from_bytes(data[at + 1 : at + 5], "big"), TAG_UNIT)
         end = at + 5 + size
         if tag > 1 or size > LONGEST_BATCH or end >= len(data) or slot == LAST_SLOT:
             raise Refused(f"bad batch {slot}", 6)
         try:
-            ops.extend(read_stream(data[at + 5 : end], runs=tag == 1))
+            batches.append(list(read_stream(data[at + 5 : end], runs=tag == 1)))
         except Refused:
             raise Refused(f"bad batch {slot}", 6) from None
         at, slot = end, slot + 1
-    return hold, ops
+    return hold, batches
 
 
 @dataclass
@@ -571,8 +583,13 @@ HANGUL = {"L": ("L", "V", "LV", "LVT"), "LV": ("V", "T"), "V": ("V", "T"), "LVT"
 
 def cluster_count(text):
     """How many extended grapheme clusters a text has."""
-    count, before, regionals, is_joined = 0, None, 0, False
-    for kind in map(cluster_class, text):
+    return sum(1 for _ in cluster_starts(text))
+
+
+def cluster_starts(text):
+    """Where the extended grapheme clusters of a text begin, in scalars."""
+    before, regionals, is_joined = None, 0, False
+    for at, kind in enumerate(map(cluster_class, text)):
         if before is None:
             joins = False
         elif "Control" in (before, kind) or {"CR", "LF"} & {before, kind}:
@@ -584,11 +601,11 @@ def cluster_count(text):
                 or (before == "ZWJ" and kind == "Picture" and is_joined)
                 or (before == kind == "Regional" and regionals % 2 == 1)
             )
-        count += not joins
+        if not joins:
+            yield at
         regionals = regionals + 1 if kind == "Regional" else 0
         is_joined = kind == "Picture" or (is_joined and kind in ("Extend", "ZWJ"))
         before = kind
-    return count
 
 
 def is_title(data):
@@ -717,10 +734,13 @@ def list_file(data):
     return 0
 
 
-def draft_file(data, base):
+def draft_file(data, base, word=None):
+    replica = taken_in(*read_file(data))
+    if word is not None:
+        replica = front(replica, word)
     with open(base, "rb") as file:
         draft = sys.stdin.buffer.read()
-        parts = read_draft(taken_in(*read_file(data)), file.read(), draft)
+        parts = read_draft(replica, file.read(), draft)
     sys.stdout.flush()
     sys.stdout.buffer.write(draft if parts is None else form(parts))
     return 0
@@ -766,6 +786,150 @@ def versions_of(data, replica):
 def versions_file(data):
     for count, name in versions_of(data, taken_in(*read_file(data))):
         print(count, name)
+    return 0
+
+
+def read_moment(replica, word):
+    """How many operations a word tells, of those that are accepted."""
+    if not re.fullmatch("0|[1-9][0-9]*", word) or int(word) > GREATEST_NUMBER:
+        raise Refused("words not understood", 1)
+    if int(word) > len(replica.accepted):
+        raise Refused(f"no moment {word}", 2)
+    return int(word)
+
+
+def front(replica, word):
+    """The replica as it was when it had accepted so many operations, with nothing pending."""
+    return taken_in(replica.hold, replica.accepted[: read_moment(replica, word)])
+
+
+def past_file(data, word):
+    print(Arrangement(front(taken_in(*read_file(data)), word)).text(), end="")
+    return 0
+
+
+def told_kinds(ops):
+    """What a line of moments tells of operations: the Texts of each replica, the Deletes, the Sections and the notes."""
+    kinds = [op.kind for op in ops]
+    texts = sorted(op.id[0] for op in ops if op.kind == "Text")
+    parts = [f"{replica} +{texts.count(replica)}" for replica in dict.fromkeys(texts)]
+    parts += [f"-{kinds.count('Delete')}"] if "Delete" in kinds else []
+    parts += [f"{kinds.count(kind)} {name}" for kind, name in (("Section", "sections"), ("Note", "notes")) if kind in kinds]
+    return ", ".join(parts)
+
+
+def moments_file(data):
+    hold, batches = read_batches(data)
+    replica = Replica(hold)
+    for batch in batches:
+        before = len(replica.accepted)
+        for op in batch:
+            replica.take(op)
+        if len(replica.accepted) > before:
+            print(f"{len(replica.accepted)}: {told_kinds(replica.accepted[before:])}")
+    return 0
+
+
+KEPT, NEW, GONE = "kept", "new", "gone"
+
+
+def changed_runs(old, new, section, is_dropped):
+    """The runs of a section's place: for each its kind, the replica that made it where it is new, and its text."""
+    runs = []
+    for op in new.places.get(section, Place()).walk():
+        was_held = op.id in old.holders
+        was_shown, is_shown = was_held and op.id not in old.hidden, op.id not in new.hidden
+        if was_shown:
+            key = (KEPT, None) if is_shown and not is_dropped else (GONE, None)
+        elif is_shown and not was_held:
+            key = (NEW, op.id[0])
+        else:
+            continue
+        if runs and runs[-1][0] == key:
+            runs[-1][1].append(op.text)
+        else:
+            runs.append((key, [op.text]))
+    return [(*key, "".join(texts)) for key, texts in runs]
+
+
+def added(text, replica):
+    return f"{{++{text}++}}{{>>{replica}<<}}"
+
+
+def removed(text):
+    return f"{{--{text}--}}"
+
+
+def marked(runs):
+    return "".join(
+        text if kind == KEPT else added(text, replica) if kind == NEW else removed(text) for kind, replica, text in runs
+    )
+
+
+def changed_head(old, new, section):
+    """The head of a section of the new arrangement, and whether it has a mark."""
+    heading = new.heading(section)
+    if section.id not in old.replica.holders:
+        return added(heading, section.id[0]), True
+    was, is_moved = old.heading(section), old.position(section.id) != new.position(section.id)
+    head = heading if was == heading else removed(was) + f"{{++{heading}++}}"
+    return head + (" {>>moved<<}" if is_moved else ""), is_moved or was != heading
+
+
+def changes_file(data, word):
+    replica = taken_in(*read_file(data))
+    old, new = Arrangement(front(replica, word)), Arrangement(replica)
+    for section in new.sections():
+        head, has_mark = changed_head(old, new, section)
+        runs = changed_runs(old.replica, replica, section.id, False)
+        if has_mark or any(kind != KEPT for kind, _, _ in runs):
+            print(f"# {head}\n{marked(runs)}")
+    left = {section.id for section in new.sections()}
+    for section in old.sections():
+        if section.id not in left:
+            print(f"# {removed(old.heading(section))}\n{marked(changed_runs(old.replica, replica, section.id, True))}")
+    return 0
+
+
+def authors_file(data):
+    replica = taken_in(*read_file(data))
+    for place, section in enumerate(Arrangement(replica).sections(), 1):
+        print(place, spelled_id(section.id))
+        for author, letters in groupby(replica.shown(section.id), key=lambda op: op.id[0]):
+            print("  " + f"{author} {sum(1 for _ in letters)}")
+    return 0
+
+
+def spelled_id(identifier):
+    return f"{identifier[0]}.{identifier[1]}"
+
+
+def passages_of(replica, section):
+    """The comments on a section, each with where its passage begins and ends, in scalars: by the beginning, and then by
+    identifier."""
+    order = replica.places.get(section.id, Place()).order()
+    shown = [at for identifier, at in order.items() if identifier not in replica.hidden]
+    found = []
+    for comment in comments_of(replica, order):
+        first, last = (order[name] for name in comment.named)
+        found.append((bisect_left(shown, first), bisect_right(shown, last), comment))
+    return sorted(found, key=lambda passage: (passage[0], passage[2].id))
+
+
+def remarks_file(data):
+    replica = taken_in(*read_file(data))
+    number = 0
+    for place, section in enumerate(Arrangement(replica).sections(), 1):
+        text = replica.text(section)
+        borders = [*cluster_starts(text), len(text)]
+        for begin, end, comment in passages_of(replica, section):
+            number += 1
+            first = bisect_right(borders, begin) - 1 if begin < len(text) else len(borders) - 1
+            last = bisect_left(borders, end) if begin < end else first
+            note = comment.body.decode("utf-8")
+            print(f"{number}: {place} {first} {last - first} by {comment.id[0]} {note}")
+            if last > first:
+                print("  " + text[borders[first] : borders[last]].replace("\n", " "))
     return 0
 
 
@@ -968,6 +1132,11 @@ COMMANDS = {
     "comments": comments_file,
     "versions": versions_file,
     "view": view_file,
+    "past": past_file,
+    "moments": moments_file,
+    "changes": changes_file,
+    "authors": authors_file,
+    "remarks": remarks_file,
     "send": send_file,
     "take": take_file,
     "merge": merge_file,
@@ -977,13 +1146,13 @@ COMMANDS = {
 
 
 # How many words those commands have that have more than a file.
-WORDS = {"view": 3, "draft": 3, "merge": 3, "why": 5}
+WORDS = {"view": (3,), "draft": (3, 4), "merge": (3,), "past": (3,), "changes": (3,), "why": (5,)}
 
 
 def main(words):
     # No object here leads back to itself, so that all are freed by their counts.
     gc.disable()
-    if not words or words[0] not in COMMANDS or len(words) != WORDS.get(words[0], 2):
+    if not words or words[0] not in COMMANDS or len(words) not in WORDS.get(words[0], (2,)):
         print(__doc__, file=sys.stderr)
         return 1
     sys.stdout.reconfigure(encoding="utf-8", newline="")
