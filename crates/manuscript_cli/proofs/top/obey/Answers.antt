@@ -49,5 +49,5 @@ returns-clause-meets g c =
       | in-Version w ↦ obeyed words _ _ old _ _ _ _ w.in-Version.is (λ i. touched (g.S.Source.seen (w.input-is i)) (g.O.Out.seen (w.output-is i)) (g.N.Out.seen (w.notes-is i)) (g.H.Disk.seen (w.home-is i)) (g.G.Disk.seen (w.guest-is i)) (g.W.Wire.seen (w.wire-is i)) (g.D.Dock.seen (w.dock-is i))) w.result-is (record { others = refl; does = rw w.last_of-name.ensures at w.save_note-in-Version.ensures.saves; blameless = w.save_note-in-Version.ensures.blameless; leaves = tt; unused = λ told why refuses. refl })
       | in-Versions w ↦ obeyed words _ _ old _ _ _ _ w.in-Versions.is (λ i. touched (g.S.Source.seen (w.input-is i)) (g.O.Out.seen (w.output-is i)) (g.N.Out.seen (w.notes-is i)) (g.H.Disk.seen (w.home-is i)) (g.G.Disk.seen (w.guest-is i)) (g.W.Wire.seen (w.wire-is i)) (g.D.Dock.seen (w.dock-is i))) w.result-is (record { others = refl; does = w.write_report-in-Versions.ensures })
       | in-View w ↦ obeyed words _ _ old _ _ _ _ w.in-View.is (λ i. touched (g.S.Source.seen (w.input-is i)) (g.O.Out.seen (w.output-is i)) (g.N.Out.seen (w.notes-is i)) (g.H.Disk.seen (w.home-is i)) (g.G.Disk.seen (w.guest-is i)) (g.W.Wire.seen (w.wire-is i)) (g.D.Dock.seen (w.dock-is i))) w.result-is (record { others = refl; does = rw w.last_of-name-in-View.ensures at w.write_report-in-View.ensures })
-      | in-About w ↦ obeyed words _ _ old _ _ _ _ w.in-About.is (λ i. touched (g.S.Source.seen (w.input-is i)) (g.O.Out.seen (w.output-is i)) (g.N.Out.seen (w.notes-is i)) (g.H.Disk.seen (w.home-is i)) (g.G.Disk.seen (w.guest-is i)) (g.W.Wire.seen (w.wire-is i)) (g.D.Dock.seen (w.dock-is i))) w.result-is (record { others = refl; does = rw w.last_of-name-in-About.ensures at w.write_report-in-About.ensures })
+      | in-About w ↦ obeyed words _ _ old _ _ _ _ w.in-About.is (λ i. touched (g.S.Source.seen (w.input-is i)) (g.O.Out.seen (w.output-is i)) (g.N.Out.seen (w.notes-is i)) (g.H.Disk.seen (w.home-is i)) (g.G.Disk.seen (w.guest-is i)) (g.W.Wire.seen (w.wire-is i)) (g.D.Dock.seen (w.dock-is i))) w.result-is (record { others = refl; does = w.about.ensures })
     ]
