@@ -56,14 +56,14 @@ mentioned_key i op c =
     the_own None c = absurd (contains_none i c)
     the_own (Some j) c = elim (contains_cases j [] i c) [ inl same ↦ ap (λ k. Some k) same | inr none ↦ absurd (contains_none i none) ]
 
-keys_mentioned : (key : Key) (ops : List Op) → list_any (has_key key) ops ≡ true → Contains (flat_map mentioned ops) key.id
+pub keys_mentioned : (key : Key) (ops : List Op) → list_any (has_key key) ops ≡ true → Contains (flat_map mentioned ops) key.id
 keys_mentioned key [] e = cc
 keys_mentioned key (op ∷ ops) e = elim (or_cases (has_key key op) (list_any (has_key key) ops) e) [
   | inl has ↦ Contains-append_left (mentioned op) (flat_map mentioned ops) key.id (kind_mentioned key.kind key.id op has)
   | inr other ↦ Contains-append_right (mentioned op) (flat_map mentioned ops) key.id (keys_mentioned key ops other)
 ]
 
-mentioned_keys : (i : Identifier) (ops : List Op) → Contains (flat_map mentioned ops) i → (list_any (has_key (own i)) ops ≡ true) ⊎ (list_any (has_key (named i)) ops ≡ true)
+pub mentioned_keys : (i : Identifier) (ops : List Op) → Contains (flat_map mentioned ops) i → (list_any (has_key (own i)) ops ≡ true) ⊎ (list_any (has_key (named i)) ops ≡ true)
 mentioned_keys i [] c = absurd (contains_none i c)
 mentioned_keys i (op ∷ ops) c = elim (Contains-append_cases (mentioned op) (flat_map mentioned ops) i c) [
   | inl here ↦ elim (mentioned_key i op here) [ inl e ↦ inl (or_left _ _ e) | inr e ↦ inr (or_left _ _ e) ]
@@ -71,7 +71,7 @@ mentioned_keys i (op ∷ ops) c = elim (Contains-append_cases (mentioned op) (fl
 ]
 
 -- a key has an entry where an operation has it
-entry_where : (m : BTreeMap Key (List ℕ)) (ops : List Op) (ages : List ℕ) (key : Key) → HasNoEmpty key_cmp m → IsAgeIndex ops ages (ages_under m)
+pub entry_where : (m : BTreeMap Key (List ℕ)) (ops : List Op) (ages : List ℕ) (key : Key) → HasNoEmpty key_cmp m → IsAgeIndex ops ages (ages_under m)
     → is_some (get key_cmp m key) ≡ list_any (has_key key) ops
 entry_where m ops ages key none index =
     by_entry (get key_cmp m key) (none key) ∙ ap (λ l. is_some (slice_get l 0)) (index.listed key) ∙ some_age key ops ages index.one_each

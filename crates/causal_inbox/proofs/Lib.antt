@@ -5,5 +5,6 @@ pub mod IndexLemmas
 pub mod FindingLemmas
 pub mod GreatestLemmas
 pub mod QueueLemmas
+pub mod RangeLemmas
 pub mod GapLemmas
 pub mod InboxLemmas

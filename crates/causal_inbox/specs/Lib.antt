@@ -8,3 +8,4 @@ pub mod Index
 pub mod Lists
 pub mod Keyed
 pub mod Gap
+pub mod Ranges

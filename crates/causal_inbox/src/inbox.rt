@@ -1,18 +1,19 @@
 ghost use Rattle.std.specs.Prelude.{◌≡◌, ◌↔◌, ◌<◌, ◌≤◌, ◌++◌, ◌∷◌, [], true, false, length, position as first_position};
-ghost use Rattle.std.specs.Prelude.{remove as without, slice_get, OnOk, OnErr, IfErr, List};
+ghost use Rattle.std.specs.Prelude.{remove as without, slice_get, OnOk, OnErr, IfErr, List, IsTrue, ◌+◌, ◌^◌};
 ghost use Rattle.fugue_ids.specs.Ops.{id_of};
 ghost use Rattle.origin_model.specs.operations.History.{has_op};
 ghost use Rattle.origin_model.specs.operations.Verdict.{id_held, verdict, verdict as verdict_on};
 ghost use Rattle.origin_model.specs.taking.Taking.{is_decided as decides};
 ghost use Rattle.origin_model.specs.operations.Counters.{counters, IsGreatest};
 ghost use Rattle.causal_inbox.specs.Faults.{refused_op};
+ghost use Rattle.causal_inbox.specs.Naming.{AreConcerned};
 ghost use Rattle.fugue_ids.specs.declared.op.Op.{Op as AnyOp};
 
 mod open_inbox;
 
 use crate::index::Index;
 use crate::{Found, Queue};
-use fugue_ids::Op;
+use fugue_ids::{ElementId, Op};
 pub use open_inbox::OpenInbox;
 use origin_model::{PlainReplica, Verdict};
 use std::alloc::Global;
@@ -141,6 +142,18 @@ impl Inbox {
         ensures { IsGreatest (counters replica self.now.ops) result }
     {
         self.index.greatest(replica)
+    }
+
+    /// Whether something that waits has or names one of so many identifiers, from this one on. Where nothing waits this
+    /// is one comparison.
+    pub fn concerns(&self, first: ElementId, count: u32) -> bool
+        requires { first.counter + count ≤ 2 ^ 32 }
+        ensures { IsTrue result ↔ AreConcerned self.now.ops first count }
+    {
+        if self.ops.len() == 0 || count == 0 {
+            return false;
+        }
+        self.index.concerns(first, count)
     }
 
     pub fn ops(&self) -> &[Op]

@@ -1,6 +1,6 @@
 //! An index of the waiting operations.
 ghost use Rattle.std.specs.Prelude.{◌≡◌, ◌<◌, ◌++◌, ◌∷◌, [], List, Some, length, remove as without, slice_get, All};
-ghost use Rattle.std.specs.Prelude.{AllPairs, nat_eq, IfOk, OnOk, OnErr, ◌^◌, IfSome, option_map};
+ghost use Rattle.std.specs.Prelude.{AllPairs, nat_eq, IfOk, OnOk, OnErr, ◌^◌, IfSome, option_map, IsTrue, ◌+◌, ◌≤◌, ◌↔◌};
 ghost use Rattle.fugue_ids.specs.declared.op.Op.{Op as AnyOp};
 ghost use Rattle.origin_model.specs.operations.History.{has_op};
 ghost use Rattle.origin_model.specs.operations.Verdict.{id_held};
@@ -10,9 +10,11 @@ ghost use Rattle.std.specs.List.{position_or_len};
 ghost use Rattle.causal_inbox.specs.Index.{IsAgeIndex, IsAgeIndexOfSome, is_equal_at, positions_with};
 ghost use Rattle.causal_inbox.specs.Lists.{ages_under, key_cmp};
 ghost use Rattle.causal_inbox.specs.Greatest.{IsGreatestUnder, IsLastKey};
+ghost use Rattle.causal_inbox.specs.Naming.{AreConcerned};
+ghost use Rattle.causal_inbox.specs.Ranges.{HasListFrom};
 
 use crate::Queue;
-use crate::key::{Key, main_key, own_key};
+use crate::key::{Key, main_key, named_key, own_key};
 use crate::keyed_lists::list_under;
 use crate::lists::{Lists, add_age, drop_age, nth_age};
 use fugue_ids::{ElementId, NoMemory, Op};
@@ -96,6 +98,17 @@ impl Index {
         greatest_under(&self.lists, replica)
     }
 
+    /// Whether one of the operations has or names one of so many identifiers, from this one on.
+    pub fn concerns(&self, first: ElementId, count: u32) -> bool
+        requires some { 0 < count }
+        requires counters { first.counter + count ≤ 2 ^ 32 }
+        requires no_empty { HasNoEmpty key_cmp self.now.lists }
+        ensures { (ops : List AnyOp) → IsAgeIndex ops self.now.ages (ages_under self.now.lists)
+            → IsTrue result ↔ AreConcerned ops first count }
+    {
+        has_list_from(&self.lists, first, count)
+    }
+
     /// One operation more, at the end. After want of memory the index is as before.
     pub fn add(&mut self, op: &Op) -> Result<(), NoMemory>
         requires { IsAgeIndexOfSome self.old.ages (ages_under self.old.lists) }
@@ -163,6 +176,22 @@ fn next_age(ages: &[u64]) -> Result<u64, NoMemory>
         return Err(NoMemory);
     }
     Ok(*last + 1)
+}
+
+/// Whether a key of one of so many identifiers, from this one on, has a list.
+pub(crate) fn has_list_from(lists: &Lists, first: ElementId, count: u32) -> bool
+    requires some { 0 < count }
+    requires counters { first.counter + count ≤ 2 ^ 32 }
+    ensures { IsTrue result ↔ HasListFrom lists.now first count }
+{
+    let last = ElementId {
+        replica: first.replica,
+        counter: first.counter + (count - 1),
+    };
+    match lists.range(own_key(first)..=named_key(last)).next_back() {
+        Some(_) => true,
+        None => false,
+    }
 }
 
 /// The greatest counter of the replica among the identifiers of the keys that have a list.
