@@ -25,3 +25,4 @@ pub mod DecodingLemmas
 pub mod HeadLemmas
 pub mod ReaderLemmas
 pub mod LetterLemmas
+pub mod GatherLemmas

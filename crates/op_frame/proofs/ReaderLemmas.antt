@@ -45,7 +45,7 @@ reading_at g limit held window offset last fault =
 stays_put : (old new : FrameReading) → old.todo ≡ [] → new.todo ≡ [] → new.offset ≡ old.offset → new.last ≡ old.last → StandsStill old new
 stays_put old new before after at last = record { none_before = before; none_after = after; offset = at; last = last }
 
-advances_by : (old new : FrameReading) (result : Result (Option Op) FrameFault) → new.grammar ≡ old.grammar → new.limit ≡ old.limit → old.offset + length old.unread ≤ old.limit
+pub advances_by : (old new : FrameReading) (result : Result (Option Op) FrameFault) → new.grammar ≡ old.grammar → new.limit ≡ old.limit → old.offset + length old.unread ≤ old.limit
     → new.offset + length new.unread ≤ new.limit → (IsErrOf result TooLong → new.offset + length new.unread ≡ new.limit) → StillWith result old new → new.fault ≡ fault_after result
     → Advances old new result
 advances_by old new result grammar limit inside within full stays fault =

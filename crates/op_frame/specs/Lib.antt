@@ -10,3 +10,4 @@ pub mod Courses
 pub mod FrameFronts
 pub mod Heads
 pub mod Decoded
+pub mod NextRuns

@@ -1,8 +1,9 @@
-ghost use Rattle.std.specs.Prelude.{IfOk, IsErr, IfSome};
+ghost use Rattle.std.specs.Prelude.{◌≡◌, IfOk, IsErr, IfSome, get_or};
 ghost use Rattle.origin_model.specs.frames.Frames.{IsFrame};
 ghost use Rattle.origin_model.specs.declared.grammar.Grammar.TheVariants.{Version2 as WithRuns};
 ghost use Rattle.op_frame.specs.Decoded.{IsDecoded, GivesFirstOf};
 ghost use Rattle.op_frame.specs.FrameFronts.{AsksMemory, IsFrameOf};
+ghost use Rattle.op_frame.specs.Heads.{HeadIs};
 
 use crate::decoding::decode;
 use crate::head::Head;
@@ -18,6 +19,15 @@ pub(crate) enum Decoded {
     Run(Head),
 }
 
+/// What the whole frame of a run says before its scalars.
+pub(crate) fn run_head(frame: &[u8]) -> Head
+    requires frame { IsFrameOf WithRuns frame.now }
+    requires run { get_or frame.now 0 0 ≡ RUN }
+    ensures { HeadIs result frame.now }
+{
+    Head::read(&frame[1..])
+}
+
 /// What a whole frame stands for. Memory goes to a title or a body alone.
 pub(crate) fn decode_frame(alloc: Global, frame: &[u8]) -> Result<Decoded, NoMemory>
     requires { IsFrameOf WithRuns frame.now }
@@ -25,7 +35,7 @@ pub(crate) fn decode_frame(alloc: Global, frame: &[u8]) -> Result<Decoded, NoMem
     ensures err { IsErr result → AsksMemory frame.now }
 {
     if frame[0] == RUN {
-        return Ok(Decoded::Run(Head::read(&frame[1..])));
+        return Ok(Decoded::Run(run_head(frame)));
     }
     Ok(Decoded::Single(decode(alloc, frame)?))
 }

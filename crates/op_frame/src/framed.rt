@@ -1,8 +1,9 @@
 ghost use Rattle.std.specs.Prelude.{All};
 ghost use Rattle.std.specs.Char.{IsScalar};
 ghost use Rattle.origin_model.specs.frames.Frames.{AreNames, HasFrame, IsBody, IsByte, IsIdentifier, IsOrigin, IsTitle};
+ghost use Rattle.fugue_ids.specs.Runs.{text_by};
 
-use fugue_ids::{Body, ElementId, NoteNames, Op, Title};
+use fugue_ids::{Body, ElementId, NoteNames, Op, RunStart, Title};
 
 /// The operation has a frame: nothing is done.
 pub(crate) fn has_frame(op: &Op)
@@ -46,6 +47,17 @@ pub(crate) fn has_frame(op: &Op)
             bounded(body);
         }
     }
+}
+
+/// A Text that says this has a frame: nothing is done.
+pub(crate) fn has_text_frame(next: &RunStart, ch: char)
+    ensures { HasFrame (text_by next.now ch) }
+{
+    identifier(next.id);
+    identifier(next.section);
+    origin(next.left);
+    origin(next.right);
+    scalar(ch);
 }
 
 fn identifier(_id: ElementId)

@@ -1,11 +1,12 @@
 ghost use Rattle.std.specs.Prelude.{◌≡◌, ◌<◌, ◌≤◌, ◌+◌, ◌^◌, ◌∷◌, drop};
 ghost use Rattle.op_frame.specs.FrameFronts.{IsRunBehind};
 ghost use Rattle.op_frame.specs.Heads.{GivesHeld, HeadIs, IsHeld, IsNextHead};
+ghost use Rattle.op_frame.specs.NextRuns.{start_in};
 
 use crate::fields::{Fields, first_scalar};
 use crate::number::short_number;
 use crate::protocol::RUN;
-use fugue_ids::{ElementId, Op};
+use fugue_ids::{ElementId, Op, RunStart};
 
 /// What the frame of a run says before its scalars, or what stands there for the Texts that are held back.
 #[derive(Clone, Copy)]
@@ -36,6 +37,18 @@ impl Head {
             left,
             right,
             count,
+        }
+    }
+
+    /// What the first Text says but for its scalar.
+    pub(crate) fn start(&self) -> RunStart
+        ensures { result ≡ start_in self.now }
+    {
+        RunStart {
+            id: self.id,
+            section: self.section,
+            left: self.left,
+            right: self.right,
         }
     }
 

@@ -1,14 +1,18 @@
-ghost use Rattle.std.specs.Prelude.{◌≡◌, ◌≢◌, ℕ, List, [], Option, None, IfOk, IfSome, IsErrOf};
+ghost use Rattle.std.specs.Prelude.{◌≡◌, ◌≢◌, ◌<◌, ◌≤◌, ◌+◌, ◌++◌, ◌∷◌, ◌^◌, ℕ, List, [], length, Option, None, IfOk, IfSome, IsErrOf};
+ghost use Rattle.std.specs.Prelude.{vec_len, vec_capacity};
 ghost use Rattle.outer_ports.specs.Sources.{KeepsCount};
 ghost use Rattle.origin_model.specs.declared.grammar.Grammar.TheVariants.{Version1 as Singles, Version2 as WithRuns};
 ghost use Rattle.op_frame.specs.Readers.{Chains, Gave, GivesInOrder, Nexts, fresh_reading, kept_fault};
+ghost use Rattle.op_frame.specs.NextRuns.{Gathers, GathersMore, GathersTexts, NextsRun};
 ghost use Rattle.op_frame.specs.declared.fault.FrameFault.TheVariants.{ReadFault};
 
 use crate::FrameFault;
+use crate::gather::{take_held_texts, take_texts};
 use crate::head::Head;
+use crate::next_ops::NextOps;
 use crate::step::{take_held, take_next};
 use crate::unread::Unread;
-use fugue_ids::{NoMemory, Op};
+use fugue_ids::{NoMemory, Op, RunStart, read_text};
 use origin_model::Grammar;
 use outer_ports::Source;
 use std::alloc::Global;
@@ -115,6 +119,87 @@ impl FrameReader {
         }
     }
 
+    /// The next operations: a run's Texts, whose scalars are then in `text`, or one operation that is no Text. None comes
+    /// at the end of the stream. They are those that as many calls of `next` give.
+    ///
+    /// Texts are given at once as long as each goes on with the one before it, and stands whole in the bytes that were
+    /// taken of the source already. So the source is asked for bytes only where nothing could be given otherwise, and
+    /// what it answers then is never held back. `text` keeps its room. A call that finds no room for a scalar does
+    /// nothing, and one that runs out of memory later gives what it has.
+    pub fn next_run<S: Source>(
+        &mut self,
+        source: &mut S,
+        text: &mut Vec<char>,
+    ) -> Result<Option<NextOps>, FrameFault>
+        ensures nexts { self.old.fault ≡ None
+            → NextsRun self.old self.new (S.seen source.old) (S.seen source.new) result text.new.items }
+        ensures repeats { IfSome self.old.fault
+            (λ fault. (result ≡ Err fault) × (self.new ≡ self.old) × (source.new ≡ source.old)) }
+        ensures held { self.old.fault ≡ None → self.old.todo ≢ [] → source.new ≡ source.old }
+        ensures count { KeepsCount (S.seen source.old) (S.seen source.new)
+            ((self.old.fault ≡ None) × IsErrOf result ReadFault) }
+    {
+        text.clear();
+        if let Some(fault) = self.fault {
+            return Err(fault);
+        }
+        if text.reserve(1).is_err() {
+            return Err(FrameFault::NoMemory);
+        }
+        match self.next(source) {
+            Ok(Some(op)) => Ok(Some(self.gather(op, text))),
+            Ok(None) => Ok(None),
+            Err(fault) => Err(fault),
+        }
+    }
+
+    /// The operation, and what goes on with it.
+    fn gather(&mut self, op: Op, text: &mut Vec<char>) -> NextOps
+        requires fault { self.old.fault ≡ None }
+        requires empty { text.old.items ≡ [] }
+        requires room { vec_len text.old < vec_capacity text.old }
+        ensures { Gathers op result text.new.items self.old self.new }
+    {
+        let Some((start, ch)) = read_text(&op) else {
+            return NextOps::Single(op);
+        };
+        put(text, ch);
+        self.gather_texts(&start, text);
+        NextOps::Run(start)
+    }
+
+    /// Gives the Texts that go on with the run.
+    fn gather_texts(&mut self, start: &RunStart, text: &mut Vec<char>)
+        requires fault { self.old.fault ≡ None }
+        requires counters { start.now.id.counter + length text.old.items ≤ 2 ^ 32 }
+        ensures { GathersTexts start.now text.old.items text.new.items self.old self.new }
+    {
+        'texts: while self.gather_more(start, text) {}
+    }
+
+    /// Gives the Texts that stand next, if these go on with the run.
+    fn gather_more(&mut self, start: &RunStart, text: &mut Vec<char>) -> bool
+        requires { self.old.fault ≡ None }
+        ensures { GathersMore result start.now text.old.items text.new.items self.old self.new }
+    {
+        match self.held {
+            Some(head) => {
+                if !take_held_texts(start, &head, &mut self.unread, text) {
+                    return false;
+                }
+                self.held = None;
+            }
+            None => {
+                let Some(len) = take_texts(self.grammar, start, &mut self.unread, text) else {
+                    return false;
+                };
+                self.last = self.offset;
+                self.offset += len as u64;
+            }
+        }
+        true
+    }
+
     fn advance<S: Source>(&mut self, source: &mut S) -> Result<Option<Op>, FrameFault>
         requires fault { self.old.fault ≡ None }
         requires none_held { self.old.todo ≡ [] }
@@ -142,6 +227,17 @@ impl FrameReader {
                 Err(fault)
             }
         }
+    }
+}
+
+/// Appends a scalar for which there is room.
+fn put(text: &mut Vec<char>, ch: char)
+    requires { vec_len text.old < vec_capacity text.old }
+    ensures { text.new.items ≡ text.old.items ++ ch ∷ [] }
+{
+    match text.push(ch) {
+        Ok(()) => {}
+        Err(_refused) => unreachable!(),
     }
 }
 

@@ -1,0 +1,355 @@
+-- Operations that are given at once, as calls of the reader give them.
+use Rattle.std.proofs.Common.{◌≡◌, ℕ, zero, suc, ◌+◌, ◌-◌, ◌*◌, ◌<◌, ◌≤◌, List, [], ◌∷◌, ◌++◌, length, take, drop, true, refl, ap, sym, subst, ◌∙◌, arith, append_assoc, length-append, length-drop}
+use Rattle.std.specs.Prelude.{◌^◌, Option, Some, None, Ok, flat_map, All}
+use Rattle.std.specs.Char.{IsScalar}
+use Rattle.std.specs.Io.KnownBytes.{prepend_known}
+use Rattle.std.proofs.lemmas.List.{append-nil, drop-drop, length-take-le, take-append-drop, take_all, take_at}
+use Rattle.std.proofs.lemmas.List.Elements.{All-head, All-tail}
+use Rattle.fugue_ids.specs.declared.op.Op.{Op}
+use Rattle.fugue_ids.specs.declared.op.Op.TheVariants.{Delete, Note, Section, Text}
+use Rattle.fugue_ids.specs.declared.run.RunStart.{RunStart}
+use Rattle.fugue_ids.specs.Runs.{id_behind, in_a_row, left_behind, next_id, run_from, start_behind, text_by, text_in}
+use Rattle.fugue_ids.proofs.RunLemmas.{length-typed, none_behind, typed-append}
+use Rattle.outer_ports.specs.Sources.{SourceView}
+use Rattle.origin_model.specs.declared.grammar.Grammar.{Grammar}
+use Rattle.origin_model.specs.frames.Frames.{Framed, IsFrame, Single, Typed, frame, run_ops, scalar_bytes}
+use Rattle.origin_model.proofs.SharedLemmas.{frame_wide, length-scalars}
+use Rattle.op_frame.specs.Firsts.{StartsWith}
+use Rattle.op_frame.specs.FrameFronts.{IsScalarBytes}
+use Rattle.op_frame.specs.Heads.{IsHeld, behind_held, held_ops, run_at, scalars_in}
+use Rattle.op_frame.specs.NextRuns.{Gathers, GathersTexts, GivesOn, IsRunFront, IsTextBehind, TakesHeld, TakesTexts, start_in}
+use Rattle.op_frame.specs.declared.next_ops.NextOps.TheVariants.{Run}
+use Rattle.op_frame.specs.Readers.{AnswersBy, FrameReading, Rises, held as held_back, read}
+use Rattle.op_frame.specs.declared.fault.FrameFault.{FrameFault}
+use Rattle.op_frame.specs.declared.head.Head.{Head}
+use Rattle.op_frame.proofs.AnswerLemmas.{answers_by}
+use Rattle.op_frame.proofs.CodeLemmas.{scalar_code}
+use Rattle.op_frame.proofs.DecodingLemmas.{same_meaning}
+use Rattle.op_frame.proofs.HeadLemmas.{scalars_are, text_there}
+use Rattle.op_frame.proofs.ItemLemmas.{of_each_version}
+use Rattle.op_frame.proofs.ReaderLemmas.{advances_by, reading_at}
+use Rattle.op_frame.proofs.ToldLemmas.{prepend_twice, shows}
+
+-- a reader without a fault that holds these operations back
+abbrev pub standing : Grammar → (limit : ℕ) → List Op → List ℕ → (offset last : ℕ) → FrameReading
+standing g limit todo unread offset last = record { grammar = g; limit = limit; todo = todo; unread = unread; offset = offset; last = last; fault = None }
+
+-- what is held back is given, one operation after another
+pub gives_held_back : (g : Grammar) (limit : ℕ) (ops : List Op) (unread : List ℕ) (offset last : ℕ) (source : SourceView) → offset + length unread ≤ limit
+    → GivesOn (standing g limit ops unread offset last) (standing g limit [] unread offset last) source ops
+gives_held_back g limit [] unread offset last source inside = refl
+gives_held_back g limit (op ∷ ops) unread offset last source inside = (
+  standing g limit ops unread offset last,
+  record {
+    answer = λ none. absurd (cc none);
+    at = tt;
+    gives = held_back refl refl refl refl refl;
+    moves = tt;
+    advances = advances_by _ _ (Ok (Some op)) refl refl inside inside (λ is. cc is) tt refl;
+  },
+  gives_held_back g limit ops unread offset last source inside,
+)
+
+-- the operations of a frame at the front of what the reader has are given
+module _ (g : Grammar) (limit offset last len : ℕ) (window : List ℕ) (source : SourceView) (inside : offset + length window ≤ limit) (within : len ≤ length window) where
+  behind : offset + len + length (drop len window) ≤ limit
+  behind = omega (arith, inside, within, length-drop len window)
+
+  gives_frame : (op : Op) (ops : List Op) → IsFrame g (record { bytes = take len window; ops = op ∷ ops })
+      → GivesOn (standing g limit [] window offset last) (standing g limit [] (drop len window) (offset + len) offset) source (op ∷ ops)
+  gives_frame op ops is =
+      let framed : Framed = record { bytes = take len window; ops = op ∷ ops } in
+      let long : length (take len window) ≡ len = length-take-le len window within in (
+        standing g limit ops (drop len window) (offset + len) offset,
+        record {
+          answer = λ none. shows (AnswersBy g (Ok (Some op)) offset (limit - offset)) window source.left (prepend_known window source.left) refl
+              (λ more told. answers_by g (Ok (Some op)) offset (limit - offset) (window ++ more) (record {
+                framed = framed;
+                is_frame = is;
+                others = ops;
+                first = refl;
+                within = omega (arith, long, within, inside);
+                rest = drop len window ++ more;
+                split = ap (λ (l : List ℕ). l ++ more) (sym (take-append-drop len window)) ∙ append_assoc (take len window) (drop len window) more;
+              }));
+          at = tt;
+          gives = read refl framed is refl
+              (ap (λ (l : List ℕ). prepend_known l source.left) (sym (take-append-drop len window)) ∙ sym (prepend_twice (take len window) (drop len window) source.left))
+              (ap (λ (n : ℕ). offset + n) (sym long)) refl;
+          moves = tt;
+          advances = advances_by _ _ (Ok (Some op)) refl refl inside behind (λ is. cc is) tt refl;
+        },
+        gives_held_back g limit ops (drop len window) (offset + len) offset source behind,
+      )
+
+  pub gives_texts : (start : RunStart) (text : List ℕ) → 0 < length text → IsFrame g (record { bytes = take len window; ops = run_from start text })
+      → GivesOn (standing g limit [] window offset last) (standing g limit [] (drop len window) (offset + len) offset) source (run_from start text)
+  gives_texts start [] some is = absurd (omega (arith, some))
+  gives_texts start (ch ∷ text) some is = gives_frame (text_by start ch) (in_a_row (next_id start.id) start.section (Some start.id) start.right text) is
+
+-- some operations and then others
+pub gives_then : (old mid new : FrameReading) (source : SourceView) (ops more : List Op) → GivesOn old mid source ops → GivesOn mid new source more → GivesOn old new source (ops ++ more)
+gives_then old mid new source [] more same on = subst (λ (r : FrameReading). GivesOn r new source more) same on
+gives_then old mid new source (op ∷ ops) more p on = (p.0, p.1, gives_then p.0 mid new source ops more p.2 on)
+
+-- so many behind the first, and so many more
+pub further : (start : RunStart) (n k : ℕ) → start_behind (start_behind start n) k ≡ start_behind start (n + k)
+further start n k = λ i. record { id = id_is i; section = start.section; left = left_is k i; right = start.right }
+  where
+    id_is : id_behind (id_behind start.id n) k ≡ id_behind start.id (n + k)
+    id_is = let e : start.id.counter + n + k ≡ start.id.counter + (n + k) = omega arith in λ i. record { replica = start.id.replica; counter = e i }
+
+    left_is : (k : ℕ) → left_behind (left_behind start.left start.id n) (id_behind start.id n) k ≡ left_behind start.left start.id (n + k)
+    left_is zero = let e : n ≡ n + 0 = omega arith in ap (left_behind start.left start.id) e
+    left_is (suc k) =
+        let e : suc (n + k) ≡ n + suc k = omega arith in
+        let counter : start.id.counter + n + k ≡ start.id.counter + (n + k) = omega arith in
+        (λ i. Some (record { replica = start.id.replica; counter = counter i })) ∙ ap (left_behind start.left start.id) e
+
+-- a run and what goes on with it
+pub run-append : (start : RunStart) (text more : List ℕ) → run_from start (text ++ more) ≡ run_from start text ++ run_from (start_behind start (length text)) more
+run-append start text more = typed-append start.id start.section start.left start.right text more
+
+-- the first Text and those behind it
+pub run_behind_first : (start : RunStart) (ch : ℕ) (more : List ℕ) → run_from start (ch ∷ more) ≡ text_by start ch ∷ run_from (start_behind start 1) more
+run_behind_first start ch more = λ i. text_by start ch ∷ in_a_row (next_id start.id) start.section (Some (sym (none_behind start.id) i)) start.right more
+
+-- Texts were gathered, and then more
+pub gathers_then : (start : RunStart) (a b c : List ℕ) (old mid new : FrameReading) → GathersTexts start a b old mid → GathersTexts start b c mid new → GathersTexts start a c old new
+gathers_then start a b c old mid new p q = record {
+  more = p.more ++ q.more;
+  text_is = q.text_is ∙ ap (λ (l : List ℕ). l ++ q.more) p.text_is ∙ append_assoc a p.more q.more;
+  gives = λ source. subst (GivesOn old new source) (sym parts) (gives_then old mid new source (run_from (start_behind start (length a)) p.more) (run_from (start_behind start (length b)) q.more) (p.gives source) (q.gives source));
+  counters = q.counters;
+  no_fault = q.no_fault;
+  limit = q.limit ∙ p.limit;
+}
+  where
+    long : length a + length p.more ≡ length b
+    long = sym (length-append a p.more) ∙ ap length (sym p.text_is)
+
+    parts : run_from (start_behind start (length a)) (p.more ++ q.more) ≡ run_from (start_behind start (length a)) p.more ++ run_from (start_behind start (length b)) q.more
+    parts = run-append (start_behind start (length a)) p.more q.more
+        ∙ ap (λ (s : RunStart). run_from (start_behind start (length a)) p.more ++ run_from s q.more) (further start (length a) (length p.more) ∙ ap (start_behind start) long)
+
+-- none yet
+pub gathers_none : (start : RunStart) (text : List ℕ) (reader : FrameReading) → start.id.counter + length text ≤ 2 ^ 32 → reader.fault ≡ None → GathersTexts start text text reader reader
+gathers_none start text reader counters fault =
+    record { more = []; text_is = sym (append-nil text); gives = λ source. refl; counters = counters; no_fault = fault; limit = refl }
+
+-- how many scalars are held back
+scalars_long : (head : Head) (window : List ℕ) → IsHeld window head → length (scalars_in head.count window) ≡ head.count
+scalars_long head window h = (λ i. length (scalars_in (sym h.count i) (h.split i))) ∙ ap length (scalars_are h.text h.rest h.scalars) ∙ h.count
+
+-- what gathering did, with at least one Text
+abbrev pub GathersSome : RunStart → (old_text text : List ℕ) → (old new : FrameReading) → Type 0
+GathersSome start old_text text old new = GathersTexts start old_text text old new × Rises old new × (new.offset ≤ new.limit)
+
+module _ (g : Grammar) (limit offset last : ℕ) (start : RunStart) (old_text text window new : List ℕ) where
+  -- the Texts that were held back
+  pub gathers_held : (head : Head) → IsHeld window head → offset + length (drop (3 * head.count) window) ≤ limit → TakesHeld true start head old_text text window new
+      → GathersSome start old_text text (standing g limit (held_ops (Some head) window) (drop (3 * head.count) window) offset last) (standing g limit [] new offset last)
+  gathers_held head h inside (goes, text_is, rest) =
+      let scalars : List ℕ = scalars_in head.count window in
+      let count : length scalars ≡ head.count = scalars_long head window h in
+      let at : head.id.counter ≡ start.id.counter + length old_text = ap (λ (s : RunStart). s.id.counter) goes in
+      let todo : length (held_ops (Some head) window) ≡ length scalars = length-typed head.id head.section head.left head.right scalars in (
+        record {
+          more = scalars;
+          text_is = text_is;
+          gives = λ source. subst (λ (l : List ℕ). GivesOn (standing g limit (held_ops (Some head) window) (drop (3 * head.count) window) offset last) (standing g limit [] l offset last) source
+              (run_from (start_behind start (length old_text)) scalars)) (sym rest)
+              (subst (λ (s : RunStart). GivesOn (standing g limit (held_ops (Some head) window) (drop (3 * head.count) window) offset last)
+              (standing g limit [] (drop (3 * head.count) window) offset last) source (run_from s scalars)) goes
+              (gives_held_back g limit (held_ops (Some head) window) (drop (3 * head.count) window) offset last source inside));
+          counters = omega (arith, ap length text_is, length-append old_text scalars, count, at, h.counters_fit);
+          no_fault = refl;
+          limit = refl;
+        },
+        omega (arith, todo, count, h.some),
+        omega (arith, inside),
+      )
+
+  -- the Texts of a frame
+  pub gathers_frame : (len : ℕ) → offset + length window ≤ limit → TakesTexts g start old_text text window new len
+      → GathersSome start old_text text (standing g limit [] window offset last) (standing g limit [] new (offset + len) offset)
+  gathers_frame len inside t =
+      let next : RunStart = start_behind start (length old_text) in
+      let size = frame_wide g (record { bytes = take len window; ops = run_from next t.more }) t.is_frame in
+      let ops : length (run_from next t.more) ≡ length t.more = length-typed next.id next.section next.left next.right t.more in (
+        record {
+          more = t.more;
+          text_is = t.text_is;
+          gives = λ source. subst (λ (l : List ℕ). GivesOn (standing g limit [] window offset last) (standing g limit [] l (offset + len) offset) source (run_from next t.more)) (sym t.rest)
+              (gives_texts g limit offset last len window source inside t.within next t.more t.some t.is_frame);
+          counters = t.counters;
+          no_fault = refl;
+          limit = refl;
+        },
+        omega (arith, size, ops, t.some, length-take-le len window t.within),
+        omega (arith, inside, t.within),
+      )
+
+-- a scalar stands at its place in the bytes of all
+pub record ScalarAt (text bytes : List ℕ) (k : ℕ) : Type 0 where
+  pub ch : ℕ
+  pub is : IsScalar ch
+  pub one_more : take (k + 1) text ≡ take k text ++ ch ∷ []
+  pub others : List ℕ
+  pub split : drop (3 * k) bytes ≡ scalar_bytes ch ++ others
+
+scalar_in : (text rest : List ℕ) → All IsScalar text → (k : ℕ) → k < length text → ScalarAt text (flat_map scalar_bytes text ++ rest) k
+scalar_in [] rest all k within = absurd (omega (arith, within))
+scalar_in (c ∷ text) rest all zero within = record {
+  ch = c;
+  is = All-head IsScalar c text all;
+  one_more = refl;
+  others = flat_map scalar_bytes text ++ rest;
+  split = append_assoc (scalar_bytes c) (flat_map scalar_bytes text) rest;
+}
+scalar_in (c ∷ text) rest all (suc k) within =
+    let p = scalar_in text rest (All-tail IsScalar c text all) k (omega (arith, within)) in
+    let place : suc k + 1 ≡ suc (k + 1) = omega arith in
+    let size : 3 * suc k ≡ 3 + 3 * k = omega arith in
+    let bytes : List ℕ = flat_map scalar_bytes (c ∷ text) ++ rest in
+    record {
+      ch = p.ch;
+      is = p.is;
+      one_more = ap (λ (n : ℕ). take n (c ∷ text)) place ∙ ap (λ (l : List ℕ). c ∷ l) p.one_more;
+      others = p.others;
+      split = ap (λ (n : ℕ). drop n bytes) size ∙ sym (drop-drop (3 * k) 3 bytes) ∙ p.split;
+    }
+
+pub scalar_at : (head : Head) (bytes : List ℕ) → IsHeld bytes head → (k : ℕ) → k < head.count → ScalarAt (scalars_in head.count bytes) bytes k
+scalar_at head bytes h k within =
+    let same : scalars_in head.count bytes ≡ h.text = (λ i. scalars_in (sym h.count i) (h.split i)) ∙ scalars_are h.text h.rest h.scalars in
+    subst (λ (t : List ℕ). ScalarAt t bytes k) (sym same)
+    (subst (λ (b : List ℕ). ScalarAt h.text b k) (sym h.split) (scalar_in h.text h.rest h.scalars k (omega (arith, within, h.count))))
+
+-- the scalars are within the bytes
+pub scalars_within : (head : Head) (bytes : List ℕ) → IsHeld bytes head → 3 * head.count ≤ length bytes
+scalars_within head bytes h = omega (arith, ap length h.split, length-append (flat_map scalar_bytes h.text) h.rest, length-scalars h.text, h.count)
+
+-- a scalar at its place, put behind those before it
+module _ (head : Head) (bytes : List ℕ) (h : IsHeld bytes head) (k : ℕ) where
+  abbrev pub from_place : List ℕ
+  from_place = take (length bytes - 3 * k) (drop (3 * k) bytes)
+
+  all_from_place : from_place ≡ drop (3 * k) bytes
+  all_from_place = take_all (length bytes - 3 * k) (drop (3 * k) bytes) (omega (arith, length-drop (3 * k) bytes))
+
+  pub place_within : k < head.count → 3 * k ≤ length bytes
+  place_within more = omega (arith, scalars_within head bytes h)
+
+  pub scalar_first_at : k < head.count → StartsWith IsScalarBytes from_place
+  scalar_first_at more =
+      let p = scalar_at head bytes h k more in
+      (scalar_bytes p.ch, p.others, (p.ch, p.is, refl), tt, all_from_place ∙ p.split)
+
+  pub put_more : k < head.count → (old text new : List ℕ) (ch : ℕ) → text ≡ old ++ take k (scalars_in head.count bytes) → new ≡ text ++ ch ∷ [] → from_place ≡ scalar_bytes ch ++ drop 3 from_place → IsScalar ch
+      → new ≡ old ++ take (k + 1) (scalars_in head.count bytes)
+  put_more more old text new ch before put split is =
+      let p = scalar_at head bytes h k more in
+      let same : p.ch ≡ ch = (scalar_code.once p.ch ch p.others (drop 3 from_place) p.is is (sym p.split ∙ sym all_from_place ∙ split)).0 in
+      put ∙ ap (λ (l : List ℕ). l ++ ch ∷ []) before ∙ append_assoc old (take k (scalars_in head.count bytes)) (ch ∷ [])
+      ∙ ap (λ (c : ℕ). old ++ (take k (scalars_in head.count bytes) ++ c ∷ [])) (sym same) ∙ ap (λ (l : List ℕ). old ++ l) (sym p.one_more)
+
+  pub put_all : head.count ≤ k → (old text : List ℕ) → text ≡ old ++ take k (scalars_in head.count bytes) → text ≡ old ++ scalars_in head.count bytes
+  put_all over old text before = before ∙ ap (λ (l : List ℕ). old ++ l) (take_all k (scalars_in head.count bytes) (omega (arith, over, scalars_long head bytes h)))
+
+-- what stands at the front of bytes
+front_is : (f rest bytes : List ℕ) (len : ℕ) → bytes ≡ f ++ rest → len + length rest ≡ length bytes → (take len bytes ≡ f) × (len ≤ length bytes)
+front_is f rest bytes len split is =
+    let long : length f ≡ len = omega (arith, ap length split, length-append f rest, is) in
+    (ap (take len) split ∙ take_at f rest len long, omega (arith, is))
+
+-- the frame of one Text goes on with the run
+pub takes_text : (g : Grammar) (start : RunStart) (count ch len : ℕ) (bytes old_text text new : List ℕ) → count ≡ length old_text → IsTextBehind start count ch len bytes → text ≡ old_text ++ ch ∷ [] → new ≡ drop len bytes
+    → TakesTexts g start old_text text bytes new len
+takes_text g start count ch len bytes old_text text new counted (fits, there) put rest =
+    let at : RunStart → Op = λ s. text_by s ch in
+    let front = front_is (frame (at (start_behind start count))) there.rest bytes len there.split there.len_is in
+    record {
+      more = ch ∷ [];
+      some = omega arith;
+      within = front.1;
+      is_frame = subst (λ (n : ℕ). IsFrame g (record { bytes = take len bytes; ops = run_from (start_behind start n) (ch ∷ []) })) counted
+          (record { item = Single (at (start_behind start count)); is_item = of_each_version g (at (start_behind start count)) there.has_frame tt; bytes_are = front.0; ops_are = refl });
+      text_is = put;
+      rest = rest;
+      counters = omega (arith, fits, counted, ap length put, length-append old_text (ch ∷ []));
+    }
+
+-- the frame of a run
+module _ (g : Grammar) (head : Head) (len : ℕ) (bytes : List ℕ) (f : IsRunFront g head len bytes) where
+  pub run_within : 3 * head.count ≤ len
+  run_within = (text_there head bytes len f.within f.head_is).within
+
+  abbrev pub scalars_at : List ℕ → List ℕ
+  scalars_at s = take (length s - (len - 3 * head.count)) (drop (len - 3 * head.count) s)
+
+  pub run_held : (s : List ℕ) → s ≡ bytes → IsHeld (scalars_at s) head
+  run_held s same =
+      subst (λ (b : List ℕ). IsHeld b head) (sym (take_all (length s - (len - 3 * head.count)) (drop (len - 3 * head.count) s) (omega (arith, length-drop (len - 3 * head.count) s))))
+      (subst (λ (b : List ℕ). IsHeld (drop (len - 3 * head.count) b) head) (sym same) (text_there head bytes len f.within f.head_is).held)
+
+  -- it goes on with the run
+  pub takes_run_texts : (start : RunStart) (s old_text text new : List ℕ) → s ≡ bytes → start_in head ≡ start_behind start (length old_text) → text ≡ old_text ++ scalars_in head.count (scalars_at s) → new ≡ drop len bytes
+      → TakesTexts g start old_text text bytes new len
+  takes_run_texts start s old_text text new same goes put rest =
+      let t = text_there head bytes len f.within f.head_is in
+      let scalars : List ℕ = scalars_in head.count (scalars_at s) in
+      let long : length scalars ≡ head.count = scalars_long head (scalars_at s) (run_held s same) in
+      let at : head.id.counter ≡ start.id.counter + length old_text = ap (λ (r : RunStart). r.id.counter) goes in
+      let place : scalars_at s ≡ drop (len - 3 * head.count) bytes
+      = take_all (length s - (len - 3 * head.count)) (drop (len - 3 * head.count) s) (omega (arith, length-drop (len - 3 * head.count) s)) ∙ ap (drop (len - 3 * head.count)) same in
+      let ops : run_from (start_behind start (length old_text)) scalars ≡ run_ops (run_at head f.head_is.text)
+      = ap (λ (r : RunStart). run_from r scalars) (sym goes) ∙ ap (λ (b : List ℕ). run_from (start_in head) (scalars_in head.count b)) place ∙ t.ops in
+      record {
+        more = scalars;
+        some = omega (arith, long, t.held.some);
+        within = f.within;
+        is_frame = same_meaning g (take len bytes) (run_from (start_behind start (length old_text)) scalars) f.is_frame
+            (record { item = Typed (run_at head f.head_is.text); is_item = f.head_is.has_frame; bytes_are = f.head_is.bytes_are; ops_are = ops });
+        text_is = put;
+        rest = rest;
+        counters = omega (arith, ap length put, length-append old_text scalars, long, at, t.held.counters_fit);
+      }
+
+-- the same, as the reader's own fields say it
+module _ (g : Grammar) (limit offset last : ℕ) (start : RunStart) (old_text text window new : List ℕ) (held : Option Head) (fault : Option FrameFault) (none : fault ≡ None)
+    (inside : offset + length (behind_held held window) ≤ limit) where
+  pub gathers_held_at : (head : Head) → held ≡ Some head → IsHeld window head → TakesHeld true start head old_text text window new
+      → GathersSome start old_text text (reading_at g limit held window offset last fault) (reading_at g limit None new offset last fault)
+  gathers_held_at head is h took =
+      subst (λ (f : Option FrameFault). GathersSome start old_text text (reading_at g limit held window offset last f) (reading_at g limit None new offset last f)) (sym none)
+      (subst (λ (o : Option Head). GathersSome start old_text text (reading_at g limit o window offset last None) (reading_at g limit None new offset last None)) (sym is)
+      (gathers_held g limit offset last start old_text text window new head h (subst (λ (o : Option Head). offset + length (behind_held o window) ≤ limit) is inside) took))
+
+  pub gathers_frame_at : (len : ℕ) → held ≡ None → TakesTexts g start old_text text window new len
+      → GathersSome start old_text text (reading_at g limit held window offset last fault) (reading_at g limit held new (offset + len) offset fault)
+  gathers_frame_at len is took =
+      subst (λ (f : Option FrameFault). GathersSome start old_text text (reading_at g limit held window offset last f) (reading_at g limit held new (offset + len) offset f)) (sym none)
+      (subst (λ (o : Option Head). GathersSome start old_text text (reading_at g limit o window offset last None) (reading_at g limit o new (offset + len) offset None)) (sym is)
+      (gathers_frame g limit offset last start old_text text window new len (subst (λ (o : Option Head). offset + length (behind_held o window) ≤ limit) is inside) took))
+
+-- a Text is what it says, with its scalar
+pub text_is_by : (op : Op) (start : RunStart) (ch : ℕ) → text_in op ≡ Some (start, ch) → op ≡ text_by start ch
+text_is_by (Section id l r title) start ch is = absurd (cc is)
+text_is_by (Text id s l r c) start ch is =
+    let first : RunStart = record { id = id; section = s; left = l; right = r } in
+    let both : ◌≡◌ {A = RunStart × ℕ} (first, c) (start, ch) = cc is in
+    λ i. text_by (both i).0 (both i).1
+text_is_by (Delete target) start ch is = absurd (cc is)
+text_is_by (Note id n c b) start ch is = absurd (cc is)
+
+-- a Text, and those that go on with it
+pub gathers_run : (op : Op) (start : RunStart) (ch : ℕ) (one text : List ℕ) (old new : FrameReading) → text_in op ≡ Some (start, ch) → one ≡ ch ∷ [] → GathersTexts start one text old new
+    → Gathers op (Run start) text old new
+gathers_run op start ch one text old new is first p = record {
+  others = run_from (start_behind start 1) p.more;
+  ops_are = ap (run_from start) (p.text_is ∙ ap (λ (l : List ℕ). l ++ p.more) first) ∙ run_behind_first start ch p.more
+      ∙ ap (λ (o : Op). o ∷ run_from (start_behind start 1) p.more) (sym (text_is_by op start ch is));
+  gives = λ source. subst (λ (l : List ℕ). GivesOn old new source (run_from (start_behind start (length l)) p.more)) first (p.gives source);
+  sound = p.counters;
+}

@@ -1,0 +1,112 @@
+-- What `next_run` gives: operations that `next` gives too, one call after another.
+use Rattle.std.specs.Prelude.{◌≡◌, ◌⊎◌, ℕ, ◌+◌, ◌<◌, ◌≤◌, ◌^◌, ◌*◌, Bool, true, false, List, [], ◌∷◌, ◌++◌, length, take, drop, Option, Some, None, Result, Ok, Err}
+use Rattle.fugue_ids.specs.Runs.{run_from, start_behind, text_in}
+use Rattle.fugue_ids.specs.declared.op.Op.{Op}
+use Rattle.fugue_ids.specs.declared.op.Op.TheVariants.{Text}
+use Rattle.fugue_ids.specs.declared.run.RunStart.{RunStart}
+use Rattle.outer_ports.specs.Sources.{SourceView}
+use Rattle.origin_model.specs.declared.grammar.Grammar.{Grammar}
+use Rattle.origin_model.specs.frames.Frames.{HasFrame, IsFrame, frame}
+use Rattle.op_frame.specs.FrameFronts.{IsFrameOf}
+use Rattle.op_frame.specs.Heads.{HeadIs, scalars_in}
+use Rattle.op_frame.specs.Readers.{FrameReading, Nexts, Rises}
+use Rattle.op_frame.specs.declared.fault.FrameFault.{FrameFault}
+use Rattle.op_frame.specs.declared.fault.FrameFault.TheVariants.{NoMemory}
+use Rattle.op_frame.specs.declared.head.Head.{Head}
+use Rattle.op_frame.specs.declared.next_ops.NextOps.{NextOps}
+use Rattle.op_frame.specs.declared.next_ops.NextOps.TheVariants.{Run, Single}
+
+-- the operations that are given at once, with the scalars of a run beside them
+abbrev pub ops_given : NextOps → List ℕ → List Op
+ops_given (Run start) text = run_from start text
+ops_given (Single op) text = op ∷ []
+
+-- the last identifier of a run has 32 bits too, and what is given alone is no Text
+abbrev pub IsSound : NextOps → List ℕ → Type 0
+IsSound (Run start) text = start.id.counter + length text ≤ 2 ^ 32
+IsSound (Single op) text = text_in op ≡ None
+
+-- as many calls of `next` give these operations, one after another, of what the reader has: the source is left alone
+abbrev pub GivesOn : (old new : FrameReading) → SourceView → List Op → Type 0
+GivesOn old new source [] = new ≡ old
+GivesOn old new source (op ∷ ops) = (mid : FrameReading) × Nexts old mid source source (Ok (Some op)) × GivesOn mid new source ops
+
+-- as many calls of `next` give these operations, one after another, at least one: the first of them may take bytes of the source
+abbrev pub GivesAll : (old new : FrameReading) → (before after : SourceView) → List Op → Type 0
+GivesAll old new before after [] = ⊥
+GivesAll old new before after (op ∷ ops) = (mid : FrameReading) × Nexts old mid before after (Ok (Some op)) × GivesOn mid new after ops
+
+-- One call of `next_run`, where no fault was kept. Where nothing is given, it is a call of `next`, or there was no room
+-- for a scalar, and then nothing was done.
+abbrev pub NextsRun : (old new : FrameReading) → (before after : SourceView) → Result (Option NextOps) FrameFault → List ℕ → Type 0
+NextsRun old new before after (Ok (Some given)) text = GivesAll old new before after (ops_given given text) × IsSound given text
+NextsRun old new before after (Ok None) text = Nexts old new before after (Ok None)
+NextsRun old new before after (Err e) text = Nexts old new before after (Err e) ⊎ (e ≡ NoMemory) × (new ≡ old) × (after ≡ before)
+
+-- the operation was given, and with it those that were found to go on with it
+pub record Gathers (first : Op) (given : NextOps) (text : List ℕ) (old new : FrameReading) : Type 0 where
+  pub others : List Op
+  pub ops_are : ops_given given text ≡ first ∷ others
+  pub gives : (source : SourceView) → GivesOn old new source others
+  pub sound : IsSound given text
+
+-- so many Texts more of a run were given, and their scalars went behind the text
+pub record GathersTexts (start : RunStart) (old_text text : List ℕ) (old new : FrameReading) : Type 0 where
+  pub more : List ℕ
+  pub text_is : text ≡ old_text ++ more
+  pub gives : (source : SourceView) → GivesOn old new source (run_from (start_behind start (length old_text)) more)
+  pub counters : start.id.counter + length text ≤ 2 ^ 32
+  pub no_fault : new.fault ≡ None
+  pub limit : new.limit ≡ old.limit
+
+-- the same, with at least one, or nothing was done
+abbrev pub GathersMore : Bool → RunStart → (old_text text : List ℕ) → (old new : FrameReading) → Type 0
+GathersMore true start old_text text old new = GathersTexts start old_text text old new × Rises old new × (new.offset ≤ new.limit)
+GathersMore false start old_text text old new = (text ≡ old_text) × (new ≡ old)
+
+-- what a run's frame says before its scalars
+abbrev pub start_in : Head → RunStart
+start_in head = record { id = head.id; section = head.section; left = head.left; right = head.right }
+
+-- the scalars of the Texts that are held back went behind the text, or none of them
+abbrev pub PutsScalars : Bool → Head → (bytes old_text text : List ℕ) → Type 0
+PutsScalars true head bytes old_text text = text ≡ old_text ++ scalars_in head.count bytes
+PutsScalars false head bytes old_text text = text ≡ old_text
+
+-- the scalars of the Texts that are held back went behind the text, since these go on with the run, or nothing was done
+abbrev pub TakesHeld : Bool → RunStart → Head → (old_text text old new : List ℕ) → Type 0
+TakesHeld true start head old_text text old new =
+    (start_in head ≡ start_behind start (length old_text)) × (text ≡ old_text ++ scalars_in head.count old) × (new ≡ drop (3 * head.count) old)
+TakesHeld false start head old_text text old new = (text ≡ old_text) × (new ≡ old)
+
+-- the frame at the front is of a Text that says this, and has this scalar
+pub record IsTextFront (next : RunStart) (ch len : ℕ) (bytes : List ℕ) : Type 0 where
+  pub has_frame : HasFrame (Text next.id next.section next.left next.right ch)
+  pub rest : List ℕ
+  pub split : bytes ≡ frame (Text next.id next.section next.left next.right ch) ++ rest
+  pub len_is : len + length rest ≡ length bytes
+
+-- the frame at the front is of the Text that stands so many behind the first of a run
+abbrev pub IsTextBehind : (start : RunStart) (count ch len : ℕ) (bytes : List ℕ) → Type 0
+IsTextBehind start count ch len bytes = (start.id.counter + count < 2 ^ 32) × IsTextFront (start_behind start count) ch len bytes
+
+-- the frame at the front is that of a run
+pub record IsRunFront (grammar : Grammar) (head : Head) (len : ℕ) (bytes : List ℕ) : Type 0 where
+  pub within : len ≤ length bytes
+  pub is_frame : IsFrameOf grammar (take len bytes)
+  pub head_is : HeadIs head (take len bytes)
+
+-- the frame at the front is of Texts that go on with the run: their scalars went behind the text, and it was taken off
+pub record TakesTexts (grammar : Grammar) (start : RunStart) (old_text text old new : List ℕ) (len : ℕ) : Type 0 where
+  pub more : List ℕ
+  pub some : 0 < length more
+  pub within : len ≤ length old
+  pub is_frame : IsFrame grammar (record { bytes = take len old; ops = run_from (start_behind start (length old_text)) more })
+  pub text_is : text ≡ old_text ++ more
+  pub rest : new ≡ drop len old
+  pub counters : start.id.counter + length text ≤ 2 ^ 32
+
+-- the same, or nothing was done
+abbrev pub TakesFront : Grammar → RunStart → (old_text text old new : List ℕ) → Option ℕ → Type 0
+TakesFront grammar start old_text text old new (Some len) = TakesTexts grammar start old_text text old new len
+TakesFront grammar start old_text text old new None = (text ≡ old_text) × (new ≡ old)

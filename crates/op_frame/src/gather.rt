@@ -1,0 +1,140 @@
+ghost use Rattle.std.specs.Prelude.{◌≡◌, IfSome, IsTrue, length};
+ghost use Rattle.fugue_ids.specs.Runs.{start_behind};
+ghost use Rattle.op_frame.specs.Heads.{IsHeld};
+ghost use Rattle.op_frame.specs.NextRuns.{IsRunFront, IsTextBehind, PutsScalars, TakesFront, TakesHeld, start_in};
+
+use crate::fields::first_scalar;
+use crate::frame_ops::run_head;
+use crate::front::{Front, front_of};
+use crate::head::Head;
+use crate::protocol::RUN;
+use crate::text_front::text_front;
+use crate::unread::Unread;
+use fugue_ids::RunStart;
+use origin_model::Grammar;
+
+/// Takes the scalars of the Texts that are held back, if these go on with the run. After want of memory nothing is done.
+pub(crate) fn take_held_texts(
+    start: &RunStart,
+    head: &Head,
+    unread: &mut Unread,
+    text: &mut Vec<char>,
+) -> bool
+    requires { IsHeld unread.old.bytes head.now }
+    ensures { TakesHeld result start.now head.now text.old.items text.new.items unread.old.bytes unread.new.bytes }
+{
+    if !is_next(start, text, head) {
+        return false;
+    }
+    if !put_scalars(head, unread.as_slice(), text) {
+        return false;
+    }
+    unread.skip(3 * head.count);
+    true
+}
+
+/// Takes the frame at the front off the bytes, if it is whole and its Texts go on with the run, and answers its length.
+/// After want of memory nothing is done.
+pub(crate) fn take_texts(
+    grammar: Grammar,
+    start: &RunStart,
+    unread: &mut Unread,
+    text: &mut Vec<char>,
+) -> Option<usize>
+    ensures { TakesFront grammar start.now text.old.items text.new.items unread.old.bytes unread.new.bytes result }
+{
+    match run_front(grammar, unread.as_slice()) {
+        Some((head, len)) => take_run(grammar, start, &head, len, unread, text),
+        None => take_text(grammar, start, unread, text),
+    }
+}
+
+/// The run whose frame stands at the front of the bytes, and the frame's length.
+fn run_front(grammar: Grammar, bytes: &[u8]) -> Option<(Head, usize)>
+    ensures { IfSome result (λ found. IsRunFront grammar found.0 found.1 bytes.now) }
+{
+    if bytes.is_empty() || bytes[0] != RUN {
+        return None;
+    }
+    match front_of(grammar, bytes) {
+        Front::Frame(len) => Some((run_head(&bytes[..len]), len)),
+        Front::Prefix => None,
+        Front::Bad => None,
+    }
+}
+
+fn take_run(
+    grammar: Grammar,
+    start: &RunStart,
+    head: &Head,
+    len: usize,
+    unread: &mut Unread,
+    text: &mut Vec<char>,
+) -> Option<usize>
+    requires { IsRunFront grammar head.now len unread.old.bytes }
+    ensures { TakesFront grammar start.now text.old.items text.new.items unread.old.bytes unread.new.bytes result }
+{
+    if !is_next(start, text, head) {
+        return None;
+    }
+    if !put_scalars(head, &unread.as_slice()[len - 3 * head.count..], text) {
+        return None;
+    }
+    unread.skip(len);
+    Some(len)
+}
+
+fn take_text(
+    grammar: Grammar,
+    start: &RunStart,
+    unread: &mut Unread,
+    text: &mut Vec<char>,
+) -> Option<usize>
+    ensures { TakesFront grammar start.now text.old.items text.new.items unread.old.bytes unread.new.bytes result }
+{
+    let (ch, len) = text_behind(start, text, unread.as_slice())?;
+    match text.push(ch) {
+        Ok(()) => {
+            unread.skip(len);
+            Some(len)
+        }
+        Err(_refused) => None,
+    }
+}
+
+/// The scalar and the length of the frame at the front of the bytes, where it is whole and that of the Text that goes on
+/// with the run. Behind the last counter there is none.
+fn text_behind(start: &RunStart, text: &Vec<char>, bytes: &[u8]) -> Option<(char, usize)>
+    ensures { IfSome result (λ found. IsTextBehind start.now (length text.now.items) found.0 found.1 bytes.now) }
+{
+    let count = text.as_slice().len();
+    if count > (u32::MAX - start.id.counter) as usize {
+        return None;
+    }
+    text_front(&start.nth(count), bytes)
+}
+
+/// Whether the Texts go on with the run.
+fn is_next(start: &RunStart, text: &Vec<char>, head: &Head) -> bool
+    ensures { IsTrue result → start_in head.now ≡ start_behind start.now (length text.now.items) }
+{
+    start.goes_on(text.as_slice().len(), &head.start())
+}
+
+/// Appends the scalars of the Texts that are held back. After want of memory there are none more.
+fn put_scalars(head: &Head, bytes: &[u8], text: &mut Vec<char>) -> bool
+    requires { IsHeld bytes.now head.now }
+    ensures { PutsScalars result head.now bytes.now text.old.items text.new.items }
+{
+    let len = text.as_slice().len();
+    for place in 0..head.count {
+        match text.push(first_scalar(&bytes[3 * place..])) {
+            Ok(()) => {}
+            Err(_refused) => {
+                text.truncate(len);
+                return false;
+            }
+        }
+    }
+    true
+}

@@ -1,0 +1,72 @@
+ghost use Rattle.std.specs.Prelude.{◌≡◌, ◌++◌, ◌∷◌, IfSome, drop};
+ghost use Rattle.origin_model.specs.frames.Frames.{id_bytes, origin_bytes, scalar_bytes};
+ghost use Rattle.op_frame.specs.NextRuns.{IsTextFront};
+
+use crate::framed::has_text_frame;
+use crate::number::{number, scalar_of};
+use crate::protocol::TEXT;
+use fugue_ids::{ElementId, RunStart};
+
+/// The scalar and the length of the frame at the front of the bytes, where it is whole and that of a Text that says this.
+pub(crate) fn text_front(next: &RunStart, bytes: &[u8]) -> Option<(char, usize)>
+    ensures { IfSome result (λ found. IsTextFront next.now found.0 found.1 bytes.now) }
+{
+    let rest = behind_kind(bytes)?;
+    let rest = behind_identifier(rest, next.id)?;
+    let rest = behind_identifier(rest, next.section)?;
+    let rest = behind_origin(rest, next.left)?;
+    let rest = behind_origin(rest, next.right)?;
+    let ch = scalar_at_front(rest)?;
+    has_text_frame(next, ch);
+    Some((ch, bytes.len() - rest.len() + 3))
+}
+
+/// The bytes behind the first one of a Text's frame.
+fn behind_kind(bytes: &[u8]) -> Option<&[u8]>
+    ensures { IfSome result (λ rest. bytes.now ≡ TEXT ∷ rest.now) }
+{
+    if bytes.is_empty() || bytes[0] != TEXT {
+        return None;
+    }
+    Some(&bytes[1..])
+}
+
+/// The bytes behind this identifier.
+fn behind_identifier(bytes: &[u8], id: ElementId) -> Option<&[u8]>
+    ensures { IfSome result (λ rest. bytes.now ≡ id_bytes id ++ rest.now) }
+{
+    if bytes.len() < 8 || number(bytes) != id.replica || number(&bytes[4..]) != id.counter {
+        return None;
+    }
+    Some(&bytes[8..])
+}
+
+/// The bytes behind this origin.
+fn behind_origin(bytes: &[u8], origin: Option<ElementId>) -> Option<&[u8]>
+    ensures { IfSome result (λ rest. bytes.now ≡ origin_bytes origin ++ rest.now) }
+{
+    if bytes.is_empty() {
+        return None;
+    }
+    let rest = &bytes[1..];
+    match origin {
+        None => { if bytes[0] == 0 { Some(rest) } else { None } }
+        Some(id) => {
+            if bytes[0] == 1 {
+                behind_identifier(rest, id)
+            } else {
+                None
+            }
+        }
+    }
+}
+
+/// The scalar at the front of the bytes.
+fn scalar_at_front(bytes: &[u8]) -> Option<char>
+    ensures { IfSome result (λ ch. bytes.now ≡ scalar_bytes ch ++ drop 3 bytes.now) }
+{
+    if bytes.len() < 3 {
+        return None;
+    }
+    scalar_of(bytes[0], bytes[1], bytes[2])
+}
