@@ -21,7 +21,7 @@ bin/manuscript: $(SOURCES)
 
 # The scripts of tests/ that try the built program. desk.sh tries the page, and says so where `make desk` has made none
 # or there is no Node or no Chromium.
-SCRIPTS := show rows orders lines files reasons drafts exchange kill relay calls slow large samples pasted promises release desk
+SCRIPTS := show rows orders lines files reasons drafts histories exchange kill relay calls slow large samples pasted promises release desk
 
 # All tests: the toolchain's gate, which is every proof, every mutation that must be refused, every test of the crates
 # and every program, and then the scripts. They try the program that the gate builds: an older one is removed first.

@@ -61,7 +61,7 @@ const TEXT: Word = Word::Line("TEXT", LONGEST_BODY);
 
 const NAME: Word = Word::Line("NAME", 120);
 
-const FORMS: [Form; 22] = [
+const FORMS: [Form; 23] = [
     Form {
         name: "new",
         least: 3,
@@ -194,6 +194,12 @@ const FORMS: [Form; 22] = [
         words: &[SEED, COUNT],
         shown: "bulk SEED COUNT",
     },
+    Form {
+        name: "about",
+        least: 0,
+        words: &[],
+        shown: "about",
+    },
 ];
 
 /// What is told where no command is named. It fits a screen.
@@ -213,8 +219,8 @@ exchange
 comments and versions
   comment FILE K P N TEXT, comments FILE
   version FILE NAME, versions FILE, view FILE NAME
-the order, and a trial
-  why FILE K P Q, check FILE < CERTIFICATE, bulk SEED COUNT
+the order, a trial, and what this is
+  why FILE K P Q, check FILE < CERTIFICATE, bulk SEED COUNT, about
 The scripts manuscript-write FILE and manuscript-exchange FILE FOLDER use these.
 ";
 
