@@ -52,8 +52,8 @@ check 'the files of the table are made' [ ! -s "$work/odd" ]
 manuscript help 2>"$work/notes" <"$work/nothing"
 check 'the help fits a screen' [ "$(wc -l <"$work/notes")" -le 24 -a "$(wc -L <"$work/notes")" -le 80 ]
 for command in $(sed -n 's/^ *"\([a-z]*\)".* => .*/\1/p' "$words" | sort -u); do
-    check "the help tells $command" grep -qE "[ ,] *$command [A-Z[]" "$work/notes"
-    check "$command alone tells its form" bash -c "manuscript $command x x x x x x x <'$work/nothing' 2>&1 | grep -q '^usage: manuscript $command '"
+    check "the help tells $command" grep -qE "[ ,] *$command( [A-Z[]|$)" "$work/notes"
+    check "$command alone tells its form" bash -c "manuscript $command x x x x x x x <'$work/nothing' 2>&1 | grep -qE '^usage: manuscript $command( |$)'"
 done
 
 ended
