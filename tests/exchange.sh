@@ -45,7 +45,7 @@ for round in 1 2; do
 manuscript-exchange: 1.ms: accepted 12, repeated 0, waiting 0, conflict 0, stray 0, full 0
 manuscript-exchange: 2.ms: accepted 12, repeated 12, waiting 0, conflict 0, stray 0, full 0
 SAID
-        [ $round$id = 13 ] && check 'and what came is shown' cmp -s <(grep '^[+-]' output | sort) <(printf '%s\n' '+# S1' '+# S2' '+Words of 1.' '+Words of 2.')
+        [ $round$id = 13 ] && check 'and what came is shown' cmp -s <(sort output) <(printf '%s\n' '# {++S1++}{>>1<<}' '# {++S2++}{>>2<<}' '{++Words of 1.++}{>>1<<}' '{++Words of 2.++}{>>2<<}' | sort)
     done
 done
 for id in 2 3; do
@@ -293,7 +293,7 @@ fi
 # A machine that fails: the script is killed before and behind each call of a program. The copy is the old or the new one,
 # the file loses nothing, and the next run ends well.
 mkdir steps
-for tool in cat chmod cksum cmp diff find grep head manuscript mktemp mv rm sed sync tr wc; do
+for tool in cat chmod cksum cmp find grep head manuscript mktemp mv rm sed sync tr wc; do
     [ "$tool" = manuscript ] && path=$program || path=$(command -v "$tool")
     cat >"steps/$tool" <<STEP
 #!/usr/bin/env bash
