@@ -17,9 +17,9 @@ use Rattle.origin_model.proofs.SharedLemmas.{frame_wide, length-scalars}
 use Rattle.op_frame.specs.Firsts.{StartsWith}
 use Rattle.op_frame.specs.FrameFronts.{IsScalarBytes}
 use Rattle.op_frame.specs.Heads.{IsHeld, behind_held, held_ops, run_at, scalars_in}
-use Rattle.op_frame.specs.NextRuns.{Gathers, GathersTexts, GivesOn, IsRunFront, IsTextBehind, TakesHeld, TakesTexts, start_in}
+use Rattle.op_frame.specs.NextRuns.{Gathers, GathersTexts, GaveMore, GivesAll, GivesMany, GivesOn, IsReached, IsRunFront, IsTextBehind, RisesBy, TakesHeld, TakesTexts, start_in}
 use Rattle.op_frame.specs.declared.next_ops.NextOps.TheVariants.{Run}
-use Rattle.op_frame.specs.Readers.{AnswersBy, FrameReading, Rises, held as held_back, read}
+use Rattle.op_frame.specs.Readers.{AnswersBy, FrameReading, Gave, Nexts, Rises, held as held_back, read}
 use Rattle.op_frame.specs.declared.fault.FrameFault.{FrameFault}
 use Rattle.op_frame.specs.declared.head.Head.{Head}
 use Rattle.op_frame.proofs.AnswerLemmas.{answers_by}
@@ -28,6 +28,7 @@ use Rattle.op_frame.proofs.DecodingLemmas.{same_meaning}
 use Rattle.op_frame.proofs.HeadLemmas.{scalars_are, text_there}
 use Rattle.op_frame.proofs.ItemLemmas.{of_each_version}
 use Rattle.op_frame.proofs.ReaderLemmas.{advances_by, reading_at}
+use Rattle.op_frame.proofs.StreamLemmas.{gave_more, rises}
 use Rattle.op_frame.proofs.ToldLemmas.{prepend_twice, shows}
 
 -- a reader without a fault that holds these operations back
@@ -353,3 +354,96 @@ gathers_run op start ch one text old new is first p = record {
   gives = λ source. subst (λ (l : List ℕ). GivesOn old new source (run_from (start_behind start (length l)) p.more)) first (p.gives source);
   sound = p.counters;
 }
+
+-- What giving operations one after another leaves
+
+nothing_more : (r : FrameReading) (source : SourceView) → GaveMore r r source.left source.left []
+nothing_more r source told ops so = subst (λ (l : List Op). Gave told l r source.left) (sym (append-nil ops)) so
+
+one_more : (old new : FrameReading) (before after : SourceView) (op : Op) → Nexts old new before after (Ok (Some op)) → GaveMore old new before.left after.left (op ∷ [])
+one_more old new before after op nexts told ops so = gave_more told ops op old new before.left after.left nexts.advances.grammar so nexts.gives
+
+more_then : (a b c : FrameReading) (x y z : Option (List ℕ)) (front more : List Op) → GaveMore a b x y front → GaveMore b c y z more → GaveMore a c x z (front ++ more)
+more_then a b c x y z front more p q told ops so = subst (λ (l : List Op). Gave told l c z) (append_assoc ops front more) (q told (ops ++ front) (p told ops so))
+
+-- what is left behind some operations that were given without the source
+record LeftOn (old new : FrameReading) (source : SourceView) (ops : List Op) : Type 0 where
+  gave : GaveMore old new source.left source.left ops
+  rises : RisesBy old new (length ops)
+  grammar : new.grammar ≡ old.grammar
+  limit : new.limit ≡ old.limit
+  within : old.offset ≤ old.limit → new.offset ≤ new.limit
+  no_fault : old.fault ≡ None → new.fault ≡ None
+
+left_on : (old new : FrameReading) (source : SourceView) (ops : List Op) → GivesOn old new source ops → LeftOn old new source ops
+left_on old new source [] same = subst (λ (r : FrameReading). LeftOn old r source []) (sym same) (record {
+  gave = nothing_more old source;
+  rises = omega arith;
+  grammar = refl;
+  limit = refl;
+  within = λ inside. inside;
+  no_fault = λ none. none;
+})
+left_on old new source (op ∷ ops) p =
+    let on = left_on p.0 new source ops p.2 in
+    let one = p.1.advances in
+    let up : Rises old p.0 = rises op old p.0 source.left source.left p.1.gives in
+    record {
+      gave = more_then old p.0 new source.left source.left source.left (op ∷ []) ops (one_more old p.0 source source op p.1) on.gave;
+      rises = omega (arith, up, on.rises);
+      grammar = on.grammar ∙ one.grammar;
+      limit = on.limit ∙ one.limit;
+      within = λ inside. on.within (omega (arith, one.within));
+      no_fault = λ none. on.no_fault one.fault;
+    }
+
+-- what is left behind the operations that one call gave
+pub gives_many : (old new : FrameReading) (before after : SourceView) (ops : List Op) → GivesAll old new before after ops → GivesMany old new before after ops
+gives_many old new before after [] none = absurd none
+gives_many old new before after (op ∷ ops) p =
+    let on = left_on p.0 new after ops p.2 in
+    let one = p.1.advances in
+    let up : Rises old p.0 = rises op old p.0 before.left after.left p.1.gives in
+    record {
+      some = omega arith;
+      gave = more_then old p.0 new before.left after.left after.left (op ∷ []) ops (one_more old p.0 before after op p.1) on.gave;
+      rises = omega (arith, up, on.rises);
+      grammar = on.grammar ∙ one.grammar;
+      limit = on.limit ∙ one.limit;
+      within = on.within (omega (arith, one.within));
+      no_fault = on.no_fault one.fault;
+    }
+
+-- an operation that is given, behind those before it
+reached_on : (old new : FrameReading) (source : SourceView) (front : List Op) (op : Op) (more : List Op) → GivesOn old new source (front ++ op ∷ more) → IsReached old source source front op
+reached_on old new source [] op more p = record { at = old; next = p.0; seen = source; gave = nothing_more old source; nexts = p.1; grammar = refl; limit = refl }
+reached_on old new source (first ∷ front) op more p =
+    let on = reached_on p.0 new source front op more p.2 in
+    record {
+      at = on.at;
+      next = on.next;
+      seen = on.seen;
+      gave = more_then old p.0 on.at source.left source.left on.seen.left (first ∷ []) front (one_more old p.0 source source first p.1) on.gave;
+      nexts = on.nexts;
+      grammar = on.grammar ∙ p.1.advances.grammar;
+      limit = on.limit ∙ p.1.advances.limit;
+    }
+
+pub reached : (old new : FrameReading) (before after : SourceView) (front : List Op) (op : Op) (more : List Op) → GivesAll old new before after (front ++ op ∷ more) → IsReached old before after front op
+reached old new before after [] op more p = record { at = old; next = p.0; seen = before; gave = nothing_more old before; nexts = p.1; grammar = refl; limit = refl }
+reached old new before after (first ∷ front) op more p =
+    let on = reached_on p.0 new after front op more p.2 in
+    record {
+      at = on.at;
+      next = on.next;
+      seen = on.seen;
+      gave = more_then old p.0 on.at before.left after.left on.seen.left (first ∷ []) front (one_more old p.0 before after first p.1) on.gave;
+      nexts = on.nexts;
+      grammar = on.grammar ∙ p.1.advances.grammar;
+      limit = on.limit ∙ p.1.advances.limit;
+    }
+
+-- an operation was given, and others with it
+pub gives_with : (old mid new : FrameReading) (before after : SourceView) (op : Op) (ops others : List Op) → ops ≡ op ∷ others → Nexts old mid before after (Ok (Some op)) → GivesOn mid new after others
+    → GivesAll old new before after ops
+gives_with old mid new before after op ops others is nexts on = subst (GivesAll old new before after) (sym is) (mid, nexts, on)

@@ -9,7 +9,7 @@ use Rattle.origin_model.specs.declared.grammar.Grammar.{Grammar}
 use Rattle.origin_model.specs.frames.Frames.{HasFrame, IsFrame, frame}
 use Rattle.op_frame.specs.FrameFronts.{IsFrameOf}
 use Rattle.op_frame.specs.Heads.{HeadIs, scalars_in}
-use Rattle.op_frame.specs.Readers.{FrameReading, Nexts, Rises}
+use Rattle.op_frame.specs.Readers.{FrameReading, Gave, Nexts, Rises}
 use Rattle.op_frame.specs.declared.fault.FrameFault.{FrameFault}
 use Rattle.op_frame.specs.declared.fault.FrameFault.TheVariants.{NoMemory}
 use Rattle.op_frame.specs.declared.head.Head.{Head}
@@ -42,6 +42,40 @@ abbrev pub NextsRun : (old new : FrameReading) → (before after : SourceView) �
 NextsRun old new before after (Ok (Some given)) text = GivesAll old new before after (ops_given given text) × IsSound given text
 NextsRun old new before after (Ok None) text = Nexts old new before after (Ok None)
 NextsRun old new before after (Err e) text = Nexts old new before after (Err e) ⊎ (e ≡ NoMemory) × (new ≡ old) × (after ≡ before)
+
+-- these operations more were given, of whatever the reader gave before
+abbrev pub GaveMore : (old new : FrameReading) → (before after : Option (List ℕ)) → List Op → Type 0
+GaveMore old new before after more = (told : Option (List ℕ)) (ops : List Op) → Gave told ops old before → Gave told (ops ++ more) new after
+
+-- the place, less three for each operation held back, rises by three at least for each of so many
+abbrev pub RisesBy : FrameReading → FrameReading → ℕ → Type 0
+RisesBy old new n = old.offset + 3 * length new.todo + 3 * n ≤ new.offset + 3 * length old.todo
+
+-- what giving these operations leaves of a reader
+pub record GivesMany (old new : FrameReading) (before after : SourceView) (ops : List Op) : Type 0 where
+  pub some : 0 < length ops
+  pub gave : GaveMore old new before.left after.left ops
+  pub rises : RisesBy old new (length ops)
+  pub grammar : new.grammar ≡ old.grammar
+  pub limit : new.limit ≡ old.limit
+  pub within : new.offset ≤ new.limit
+  pub no_fault : new.fault ≡ None
+
+-- the same of one call of `next_run`
+abbrev pub GivesManyBy : (old new : FrameReading) → (before after : SourceView) → Result (Option NextOps) FrameFault → List ℕ → Type 0
+GivesManyBy old new before after (Ok (Some given)) text = GivesMany old new before after (ops_given given text)
+GivesManyBy old new before after result text = Unit {0}
+
+-- Of the operations that are given, one is reached behind those before it: by a call of `next`, from a reader that gave
+-- these.
+pub record IsReached (old : FrameReading) (before after : SourceView) (front : List Op) (op : Op) : Type 0 where
+  pub at : FrameReading
+  pub next : FrameReading
+  pub seen : SourceView
+  pub gave : GaveMore old at before.left seen.left front
+  pub nexts : Nexts at next seen after (Ok (Some op))
+  pub grammar : at.grammar ≡ old.grammar
+  pub limit : at.limit ≡ old.limit
 
 -- the operation was given, and with it those that were found to go on with it
 pub record Gathers (first : Op) (given : NextOps) (text : List ℕ) (old new : FrameReading) : Type 0 where

@@ -3,7 +3,7 @@ ghost use Rattle.std.specs.Prelude.{vec_len, vec_capacity};
 ghost use Rattle.outer_ports.specs.Sources.{KeepsCount};
 ghost use Rattle.origin_model.specs.declared.grammar.Grammar.TheVariants.{Version1 as Singles, Version2 as WithRuns};
 ghost use Rattle.op_frame.specs.Readers.{Chains, Gave, GivesInOrder, Nexts, fresh_reading, kept_fault};
-ghost use Rattle.op_frame.specs.NextRuns.{Gathers, GathersMore, GathersTexts, NextsRun};
+ghost use Rattle.op_frame.specs.NextRuns.{Gathers, GathersMore, GathersTexts, GivesManyBy, NextsRun};
 ghost use Rattle.op_frame.specs.declared.fault.FrameFault.TheVariants.{ReadFault};
 
 use crate::FrameFault;
@@ -133,6 +133,8 @@ impl FrameReader {
     ) -> Result<Option<NextOps>, FrameFault>
         ensures nexts { self.old.fault ≡ None
             → NextsRun self.old self.new (S.seen source.old) (S.seen source.new) result text.new.items }
+        ensures gives_many { self.old.fault ≡ None
+            → GivesManyBy self.old self.new (S.seen source.old) (S.seen source.new) result text.new.items }
         ensures repeats { IfSome self.old.fault
             (λ fault. (result ≡ Err fault) × (self.new ≡ self.old) × (source.new ≡ source.old)) }
         ensures held { self.old.fault ≡ None → self.old.todo ≢ [] → source.new ≡ source.old }
