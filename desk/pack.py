@@ -3,6 +3,8 @@
 
 A page that is opened from a disk cannot import another file. So each part takes the place of its mark in page.html:
 
+- `<!-- policy -->`: a content security policy: the page runs this script and the program, and nothing else, and reaches
+  nothing outside of itself;
 - `<!-- style -->`: desk.css;
 - `<!-- script -->`: the script of the page, one module, made of the files that page/ORDER lists;
 - `<!-- module -->`: two texts that the page reads by their ids. `worker` is the script of the worker, made of the files
@@ -13,6 +15,7 @@ same sources make the same bytes.
 """
 
 import base64
+import hashlib
 import re
 import sys
 import zlib
@@ -56,6 +59,21 @@ def element(name, text, **attributes):
     return f"<{name}{words}>\n{text}\n</{name}>"
 
 
+def policy(text):
+    """What the page may do. The script is known by the digest of what stands in its element. Styles stand in the page, and
+    the colours of authors are one that the script writes."""
+    digest = base64.b64encode(hashlib.sha256(f"\n{text}\n".encode("utf-8")).digest()).decode("ascii")
+    rules = [
+        "default-src 'none'",
+        f"script-src 'sha256-{digest}' 'wasm-unsafe-eval'",
+        "worker-src blob:",
+        "style-src 'unsafe-inline'",
+        "base-uri 'none'",
+        "form-action 'none'",
+    ]
+    return f'<meta http-equiv="Content-Security-Policy" content="{"; ".join(rules)}">'
+
+
 def packed(program):
     """The program as gzip in base64, in lines."""
     squeezer = zlib.compressobj(9, zlib.DEFLATED, GZIP)
@@ -64,10 +82,11 @@ def packed(program):
 
 
 def page(program):
-    html = read("page.html")
+    html, text = read("page.html"), script("page/ORDER")
     parts = {
+        "policy": policy(text),
         "style": element("style", read("desk.css").strip("\n")),
-        "script": element("script", script("page/ORDER"), type="module"),
+        "script": element("script", text, type="module"),
         "module": element("script", '"use strict";\n' + script("page/WORKER"), type="text/plain", id="worker")
         + "\n"
         + element("script", packed(program), type="text/plain", id="module"),
