@@ -18,8 +18,9 @@ use Rattle.origin_model.specs.order.Printed.{deletes, is_hidden}
 use Rattle.origin_model.specs.declared.operations.Verdict.TheVariants.{Ready}
 use Rattle.origin_model.proofs.SharedLemmas.{hidden-has, holder-other, holder-own, holds-other, holds-own, ready_absent, when_ready}
 use Rattle.section_catalogue.proofs.ConditionLemmas.{target_delete}
+use Rattle.replica_core.specs.Feeding.{AreUnheld}
 use Rattle.replica_core.specs.Index.{ArePositions, IsFree, IsIndex, IsUnnoted, as_position, position_of}
-use Rattle.stretch_map.specs.Rules.{IsFollowed, later}
+use Rattle.stretch_map.specs.Rules.{AreFree, IsFollowed, later}
 use Rattle.stretch_map.specs.declared.follows.Position.{Position}
 use Rattle.fugue_ids.proofs.OrderLemmas.{id_cmp_total}
 use Rattle.fugue_ids.specs.Runs.{id_behind}
@@ -250,3 +251,14 @@ position_free m t h x index e = sym (none_from (holder h x) (sym (has_position h
 -- a target is found where a Delete names it
 pub target_held : (m t : FinMap id_cmp Position) (h : List Op) (x : Identifier) → IsIndex m t h → is_some (get t x) ≡ has_op h (Delete x)
 target_held m t h x index = ap is_some (index.targets_are x) ∙ is_some-as (position_of (deletes x) h) ∙ has_target h x
+
+-- an identifier is held where it has a position
+held_by_position : (m t : FinMap id_cmp Position) (h : List Op) (x : Identifier) → IsIndex m t h → is_some (get m x) ≡ holds h x
+held_by_position m t h x index = ap is_some (index.positions_are x) ∙ is_some-as (position_of (is_own x) h) ∙ has_position h x
+
+-- identifiers without positions are not held
+pub free_unheld : (m t : FinMap id_cmp Position) (h : List Op) (first : Identifier) (n : ℕ) → IsIndex m t h → AreFree (get m) first n → AreUnheld h first n
+free_unheld m t h first n index free k less = sym (held_by_position m t h (id_behind first k) index) ∙ ap is_some (free k less)
+
+pub unheld_free : (m t : FinMap id_cmp Position) (h : List Op) (first : Identifier) (n : ℕ) → IsIndex m t h → AreUnheld h first n → AreFree (get m) first n
+unheld_free m t h first n index unheld k less = none_from (get m (id_behind first k)) (held_by_position m t h (id_behind first k) index ∙ unheld k less)

@@ -16,7 +16,7 @@ use Rattle.origin_model.proofs.edits.EditIntakeLemmas.{accepts}
 use Rattle.replica_core.proofs.StandingLemmas.{stands_by_accept}
 
 -- what can join is answered Accepted
-can_be_accepted : (s : State) (op : Op) → CanJoin s (op ∷ []) → answer s.hold s.most s.held op ≡ Accepted
+pub can_be_accepted : (s : State) (op : Op) → CanJoin s (op ∷ []) → answer s.hold s.most s.held op ≡ Accepted
 can_be_accepted s op can =
     accepts s.hold s.most s.held.history s.held.waiting op can.settled can.in_turn.0 can.in_turn.1
     (ne_eqb (length s.held.history + length s.held.waiting) s.most (λ full. absurd (omega (arith, full, can.room))))

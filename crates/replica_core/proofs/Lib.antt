@@ -4,6 +4,7 @@ pub mod DeletingLemmas
 pub mod EarliestLemmas
 pub mod EditLemmas
 pub mod FeedLemmas
+pub mod FeedingLemmas
 pub mod GreatestLemmas
 pub mod IndexLemmas
 pub mod JoinLemmas
@@ -11,6 +12,7 @@ pub mod KeepingLemmas
 pub mod LookUpLemmas
 pub mod ManuscriptLemmas
 pub mod MarkLemmas
+pub mod NotingLemmas
 pub mod PlanLemmas
 pub mod PositionLemmas
 pub mod RunLemmas

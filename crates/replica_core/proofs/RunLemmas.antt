@@ -1,5 +1,5 @@
 -- A run that joins a history, and operations that are taken back.
-use Rattle.std.proofs.Common.{◌≡◌, ◌∙◌, ap, arith, drop, get_or, length, refl, subst, suc, sym, zero, ℕ, ◌+◌, ◌-◌, ◌<◌, ◌≤◌, ◌∷◌, List, []}
+use Rattle.std.proofs.Common.{◌≡◌, ◌∙◌, ◌++◌, ap, append-nil, append_assoc, arith, drop, get_or, length, refl, subst, suc, sym, zero, ℕ, ◌+◌, ◌-◌, ◌<◌, ◌≤◌, ◌∷◌, List, []}
 use Rattle.std.specs.Prelude.{Some}
 use Rattle.std.proofs.lemmas.List.{at_drop_all, at_drop_more}
 use Rattle.fugue_ids.specs.Identifiers.{Identifier}
@@ -70,6 +70,40 @@ run_at start text k ch less is =
     ∙ ap (λ c. run_from (start_behind start k) (c ∷ drop (k + 1) text)) (sym is)
     ∙ (λ i. text_by (start_behind start k) ch ∷ in_a_row (id i) start.section (Some (id_behind start.id k)) start.right (drop (k + 1) text))
     ∙ ap (λ n. text_by (start_behind start k) ch ∷ run_from (start_behind start n) (drop (k + 1) text)) up
+
+-- a run is appended, as far as the letter k, in a list of this length that has this room
+pub record IsAppending (old now : List Op) (start : RunStart) (text : List ℕ) (k count len room : ℕ) : Type 0 where
+  pub leads : now ++ run_from (start_behind start k) (drop k text) ≡ old ++ run_from start text
+  pub counted : count ≡ k
+  pub fits : len + length text ≤ room + k
+
+pub appending : (old : List Op) (start : RunStart) (text : List ℕ) (len room : ℕ) → len + length text ≤ room → IsAppending old old start text 0 0 len room
+appending old start text len room fits = record {
+  leads = λ i. old ++ run_from (behind_nothing start i) text;
+  counted = refl;
+  fits = omega (arith, fits);
+}
+
+-- one letter more
+pub appended_on : (old now new : List Op) (start : RunStart) (text : List ℕ) (k count ch len room len_new room_new : ℕ) → IsAppending old now start text k count len room → k < length text → ch ≡ get_or text k ch
+    → new ≡ now ++ text_by (start_behind start count) ch ∷ [] → len_new ≡ len + 1 → room_new ≡ room → IsAppending old new start text (k + 1) (count + 1) len_new room_new
+appended_on old now new start text k count ch len room len_new room_new a less is next longer same =
+    let rest : List Op = run_from (start_behind start (k + 1)) (drop (k + 1) text) in
+    let counted : count ≡ k = a.counted in
+    let fits : len + length text ≤ room + k = a.fits in
+    record {
+      leads = ap (λ z. z ++ rest) (next ∙ ap (λ n. now ++ text_by (start_behind start n) ch ∷ []) counted)
+          ∙ append_assoc now (text_by (start_behind start k) ch ∷ []) rest
+          ∙ ap (λ z. now ++ z) (sym (run_at start text k ch less is))
+          ∙ a.leads;
+      counted = omega (arith, counted);
+      fits = omega (arith, fits, longer, same);
+    }
+
+-- all letters
+pub appended_all : (old now : List Op) (start : RunStart) (text : List ℕ) (k count len room : ℕ) → IsAppending old now start text k count len room → length text ≤ k → now ≡ old ++ run_from start text
+appended_all old now start text k count len room a done =
+    sym (ap (λ z. now ++ z) (at_drop_all (run_from (start_behind start k)) text k done) ∙ append-nil now) ∙ a.leads
 
 -- it is Ready
 pub letter_ready : (old now : List Op) (start : RunStart) (text : List ℕ) (k count ch : ℕ) → IsPushing old now start text k count → k < length text → ch ≡ get_or text k ch

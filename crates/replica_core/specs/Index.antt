@@ -9,6 +9,7 @@ use Rattle.fugue_ids.specs.declared.op.OpKey.{OpKey}
 use Rattle.fugue_ids.specs.declared.op.OpKey.TheVariants.{Own, Target}
 use Rattle.origin_model.specs.operations.History.{is_own}
 use Rattle.origin_model.specs.order.Printed.{deletes}
+use Rattle.stretch_map.specs.Rules.{later, with_run}
 use Rattle.stretch_map.specs.declared.follows.Position.{Position}
 
 -- the position of the newest operation that passes the test: how many are older
@@ -32,6 +33,10 @@ ArePositions test m history = (x : Identifier) → get m x ≡ option_map as_pos
 pub record IsIndex (positions targets : FinMap id_cmp Position) (history : List Op) : Type 0 where
   pub positions_are : ArePositions is_own positions history
   pub targets_are : ArePositions deletes targets history
+
+-- the map with a position for each of n identifiers that follow one another, the first at the position k
+abbrev pub with_positions : Identifier → (k n : ℕ) → FinMap id_cmp Position → FinMap id_cmp Position
+with_positions first k n m = with_run (λ first p j. later p j) first (as_position k) n m
 
 -- nothing is found by the key
 abbrev pub IsFree : FinMap id_cmp Position → FinMap id_cmp Position → OpKey → Type 0

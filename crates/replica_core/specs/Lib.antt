@@ -5,5 +5,6 @@ pub mod Decision
 pub mod Told
 pub mod Index
 pub mod Keeping
+pub mod Feeding
 pub mod Edits
 pub mod Deleting

@@ -1,4 +1,4 @@
-ghost use Rattle.std.specs.Prelude.{◌≡◌, ◌<◌, ◌≤◌, ◌+◌, ◌^◌, ◌∷◌, [], length, option_map, slice_get, IfErr, IfSome, OnErr, OnOk};
+ghost use Rattle.std.specs.Prelude.{◌≡◌, ◌<◌, ◌≤◌, ◌+◌, ◌^◌, ◌∷◌, [], length, option_map, slice_get, IfErr, IfSome, IsTrue, OnErr, OnOk, ◌↔◌};
 ghost use Rattle.fugue_ids.specs.Outs.{WritesBytes};
 ghost use Rattle.fugue_ids.specs.Runs.{run_from};
 ghost use Rattle.fugue_ids.specs.declared.op.Op.TheVariants.{Delete as DeleteOf};
@@ -10,6 +10,7 @@ ghost use Rattle.origin_model.specs.operations.Verdict.{verdict as verdict_on, L
 ghost use Rattle.origin_model.specs.declared.operations.Place.TheVariants.{Catalogue as catalogue};
 ghost use Rattle.origin_model.specs.declared.operations.Verdict.TheVariants.{Ready};
 ghost use Rattle.replica_core.specs.Deleting.{AreWithin, deletes_from, ids_from};
+ghost use Rattle.replica_core.specs.Feeding.{AreUnheld};
 ghost use Rattle.replica_core.specs.Index.{has_key, position_of, sections_and_notes as positions_in};
 ghost use Rattle.section_catalogue.specs.Contents.{place_count};
 ghost use Rattle.section_catalogue.specs.Manuscript.{GrowsBy, IsPlaceOf, IsReadyOn, IsTextOf, StandsFor, Stays};
@@ -134,6 +135,14 @@ impl Accepted {
         ensures { result ≡ holds_on self.now id }
     {
         self.history.holder(id).is_some()
+    }
+
+    /// Whether none of so many identifiers, from this one on, is held.
+    pub fn is_free(&self, first: ElementId, count: u32) -> bool
+        requires { first.counter + count ≤ 2 ^ 32 }
+        ensures { IsTrue result ↔ AreUnheld self.now first count }
+    {
+        self.history.is_free(first, count)
     }
 
     /// How many operations are older than the one that is looked up by the key.

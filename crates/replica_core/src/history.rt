@@ -1,5 +1,5 @@
 ghost use Rattle.std.specs.Prelude.{◌≡◌, ◌≢◌, ◌<◌, ◌≤◌, ◌+◌, ◌^◌, ◌∷◌, [], Some, OnErr, OnOk, IfErr, drop, length};
-ghost use Rattle.std.specs.Prelude.{option_copied, slice_get};
+ghost use Rattle.std.specs.Prelude.{option_copied, slice_get, IsTrue, ◌↔◌};
 ghost use Rattle.fugue_ids.specs.Runs.{id_behind as id_by, run_from};
 ghost use Rattle.origin_model.specs.edits.Edits.{ReadyInTurn, extended};
 ghost use Rattle.origin_model.specs.operations.History.{accepted};
@@ -7,8 +7,10 @@ ghost use Rattle.origin_model.specs.operations.Counters.{counters, IsGreatest};
 ghost use Rattle.origin_model.specs.operations.Verdict.{verdict, Lawful};
 ghost use Rattle.origin_model.specs.declared.operations.Verdict.TheVariants.{Ready};
 ghost use Rattle.replica_core.specs.Deleting.{deletes_from};
+ghost use Rattle.replica_core.specs.Feeding.{AreUnheld};
 ghost use Rattle.replica_core.specs.Index.{has_key, position_of, sections_and_notes as positions_in};
 
+use crate::feeding::push_letters;
 use crate::index::Index;
 use fugue_ids::{ElementId, NoMemory, Op, OpKey, RunStart};
 use origin_model::{Lookup, NoMemoryFor};
@@ -113,6 +115,14 @@ impl History {
         self.index.sections_and_notes()
     }
 
+    /// Whether none of so many identifiers, from this one on, is held.
+    pub fn is_free(&self, first: ElementId, count: u32) -> bool
+        requires { first.counter + count ≤ 2 ^ 32 }
+        ensures { IsTrue result ↔ AreUnheld self.now first count }
+    {
+        self.index.is_free(first, count)
+    }
+
     /// One operation more, which is Ready.
     pub fn push(&mut self, op: Op) -> Result<(), NoMemoryFor>
         requires { verdict self.old op ≡ Ready }
@@ -133,21 +143,22 @@ impl History {
         }
     }
 
-    /// The Texts of a run, which are Ready in their turn. After want of memory all is as before.
+    /// The Texts of a run, which are Ready in their turn: their positions are noted as one. After want of memory all is
+    /// as before.
     pub fn push_run(&mut self, start: &RunStart, text: &[char]) -> Result<(), NoMemory>
         requires counters { start.now.id.counter + length text.now ≤ 2 ^ 32 }
+        requires few { length text.now < 2 ^ 32 }
         requires ready { ReadyInTurn self.old (run_from start.now text.now) }
         ensures ok { OnOk result (self.new ≡ extended self.old (run_from start.now text.now)) }
         ensures err { OnErr result (self.new ≡ self.old) }
     {
-        let mut count = 0;
-        'pushed: for ch in text {
-            let Ok(()) = self.push(start.nth(count).text(*ch)) else {
-                self.pop_all(count);
-                return Err(NoMemory);
-            };
-            count += 1;
+        if text.is_empty() {
+            return Ok(());
         }
+        self.ops.reserve(text.len())?;
+        self.index
+            .note_run(start.id, text.len() as u32, self.ops.len())?;
+        push_letters(&mut self.ops, start, text);
         Ok(())
     }
 

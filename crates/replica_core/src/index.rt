@@ -1,11 +1,11 @@
-ghost use Rattle.std.specs.Prelude.{◌≡◌, ◌<◌, ◌∷◌, ◌++◌, [], ℕ, List, is_some, length, option_map, OnOk, OnErr};
+ghost use Rattle.std.specs.Prelude.{◌≡◌, ◌<◌, ◌≤◌, ◌+◌, ◌^◌, ◌↔◌, ◌∷◌, ◌++◌, [], ℕ, List, is_some, length, option_map, IsTrue, OnOk, OnErr};
 ghost use Rattle.std.specs.FinMap.{get};
 ghost use Rattle.fugue_ids.specs.declared.op.Op.{Op as AnyOp};
 ghost use Rattle.origin_model.specs.operations.Verdict.{verdict};
 ghost use Rattle.origin_model.specs.declared.operations.Verdict.TheVariants.{Ready};
-ghost use Rattle.replica_core.specs.Index.{has_key, IsIndex, IsUnnoted, is_section_or_note as is_either, position_if, position_of};
+ghost use Rattle.replica_core.specs.Index.{has_key, IsIndex, IsUnnoted, is_section_or_note as is_either, position_if, position_of, with_positions};
 ghost use Rattle.replica_core.specs.Index.{sections_and_notes as positions_in};
-ghost use Rattle.stretch_map.specs.Rules.{IsGreatestIn};
+ghost use Rattle.stretch_map.specs.Rules.{AreFree, IsGreatestIn};
 
 use fugue_ids::{ElementId, NoMemory, Op, OpKey};
 use std::alloc::Global;
@@ -88,6 +88,14 @@ impl Index {
         self.positions.greatest(replica)
     }
 
+    /// Whether none of so many identifiers, from this one on, has a position.
+    pub fn is_free(&self, first: ElementId, count: u32) -> bool
+        requires { first.counter + count ≤ 2 ^ 32 }
+        ensures { IsTrue result ↔ AreFree (get self.now.positions.values) first count }
+    {
+        self.positions.is_free(first, count)
+    }
+
     /// One operation more, at that position. After want of memory all is as before.
     pub fn note(&mut self, op: &Op, position: usize) -> Result<(), NoMemory>
         requires { IsUnnoted self.old.positions.values self.old.targets.values op.now }
@@ -109,6 +117,28 @@ impl Index {
                 Err(NoMemory)
             }
         }
+    }
+
+    /// The positions of operations whose identifiers follow one another, the first at that position: by one entry. None is
+    /// a Delete, a Section or a Note. After want of memory all is as before.
+    pub fn note_run(
+        &mut self,
+        first: ElementId,
+        count: u32,
+        position: usize,
+    ) -> Result<(), NoMemory>
+        requires some { 0 < count }
+        requires counters { first.counter + count ≤ 2 ^ 32 }
+        requires positions { position + count < 2 ^ 64 }
+        requires free { AreFree (get self.old.positions.values) first count }
+        ensures ok { OnOk result (self.new.positions.values
+            ≡ with_positions first position count self.old.positions.values) }
+        ensures targets { self.new.targets ≡ self.old.targets }
+        ensures listed { self.new.sections_and_notes ≡ self.old.sections_and_notes }
+        ensures err { OnErr result (self.new ≡ self.old) }
+    {
+        let position = Position { at: position };
+        self.positions.insert_run(first, count, position)
     }
 
     /// The newest operation less. This wants no memory, since no other one has the position behind it.

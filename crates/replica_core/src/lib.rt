@@ -4,6 +4,7 @@
 mod accepted;
 mod due;
 mod edits;
+mod feeding;
 mod history;
 mod index;
 mod keeping;

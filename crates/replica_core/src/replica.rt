@@ -81,7 +81,7 @@ pub struct Replica {
     hold: u32,
     most: u32,
     pub(crate) accepted: Accepted,
-    inbox: Inbox,
+    pub(crate) inbox: Inbox,
     due: Due,
 }
 

@@ -1,0 +1,212 @@
+//! Taking in a run: its letters go in as one where nothing else is asked of them.
+ghost use Rattle.std.specs.Prelude.{◌≡◌, ◌<◌, ◌≤◌, ◌+◌, ◌^◌, ◌++◌, IfErr, IfOk, IsTrue, OnErr, OnOk, length, take};
+ghost use Rattle.std.specs.Prelude.{vec_len, vec_capacity, ◌↔◌};
+ghost use Rattle.fugue_ids.specs.Runs.{run_from, text_by};
+ghost use Rattle.fugue_ids.specs.declared.limits.TheConstants.{MOST_OPERATIONS};
+ghost use Rattle.origin_model.specs.edits.State.{Stands};
+ghost use Rattle.origin_model.specs.operations.Verdict.{verdict as verdict_on};
+ghost use Rattle.origin_model.specs.declared.operations.Verdict.TheVariants.{Ready};
+ghost use Rattle.origin_model.specs.taking.Taking.{IsSettled, kept_from};
+ghost use Rattle.replica_core.specs.Feeding.{AreUntouched, GoesAtOnce, StopsFeeding, StopsKeeping, TakesInAll};
+ghost use Rattle.replica_core.specs.Told.{total};
+
+use crate::{FeedFault, Replica};
+use fugue_ids::{ElementId, Op, RunStart};
+use origin_model::{Tally, Verdict};
+
+impl Replica {
+    /// Feeds the Texts of a run, one after another: those at once that nothing is asked of, the others each alone.
+    ///
+    /// After a fault the Texts before some one stand, and that one left what `feed` says of its fault. Where memory was
+    /// wanting for Texts that go in at once, that is the first of these.
+    pub fn feed_run(
+        &mut self,
+        start: &RunStart,
+        text: &[char],
+        tally: &mut Tally,
+    ) -> Result<(), FeedFault>
+        requires settled { IsSettled self.old.held }
+        requires counters { start.now.id.counter + length text.now ≤ 2 ^ 32 }
+        requires counts_rise { total tally.old + length self.old.held.waiting + length text.now ≤ 2 ^ 31 }
+        ensures ok { OnOk result (TakesInAll self.old self.new (run_from start.now text.now) tally.old tally.new) }
+        ensures err { IfErr result
+            (λ fault. StopsFeeding (run_from start.now text.now) self.old self.new tally.old tally.new fault) }
+        ensures stands { Stands self.new }
+    {
+        let _ = &self.alloc;
+        let mut next = *start;
+        let mut rest = text;
+        'fronts: while !rest.is_empty() {
+            let count = self.feed_front(&next, rest, tally)?;
+            let (_front, behind, others) = next.split_at(rest, count);
+            next = behind;
+            rest = others;
+        }
+        Ok(())
+    }
+
+    /// The same, and appends copies of those that were accepted or wait to `kept`, in order.
+    pub fn feed_run_keeping(
+        &mut self,
+        start: &RunStart,
+        text: &[char],
+        tally: &mut Tally,
+        kept: &mut Vec<Op>,
+    ) -> Result<(), FeedFault>
+        requires settled { IsSettled self.old.held }
+        requires counters { start.now.id.counter + length text.now ≤ 2 ^ 32 }
+        requires counts_rise { total tally.old + length self.old.held.waiting + length text.now ≤ 2 ^ 31 }
+        ensures ok { OnOk result (TakesInAll self.old self.new (run_from start.now text.now) tally.old tally.new) }
+        ensures kept { OnOk result (kept.new.items ≡ kept.old.items
+            ++ kept_from self.old.hold self.old.most self.old.held (run_from start.now text.now)) }
+        ensures err { IfErr result
+            (λ fault. StopsKeeping (run_from start.now text.now) self.old self.new tally.old tally.new
+            kept.old.items kept.new.items fault) }
+        ensures stands { Stands self.new }
+    {
+        let _ = &self.alloc;
+        let mut next = *start;
+        let mut rest = text;
+        'fronts: while !rest.is_empty() {
+            let count = self.feed_front_keeping(&next, rest, tally, kept)?;
+            let (_front, behind, others) = next.split_at(rest, count);
+            next = behind;
+            rest = others;
+        }
+        Ok(())
+    }
+
+    /// Feeds the Texts at the front of a run that go in at once, or else the first one alone. The answer is how many.
+    fn feed_front(
+        &mut self,
+        start: &RunStart,
+        text: &[char],
+        tally: &mut Tally,
+    ) -> Result<usize, FeedFault>
+        requires settled { IsSettled self.old.held }
+        requires some { 0 < length text.now }
+        requires counters { start.now.id.counter + length text.now ≤ 2 ^ 32 }
+        requires counts_rise { total tally.old + length self.old.held.waiting + length text.now ≤ 2 ^ 31 }
+        ensures some { IfOk result (λ n. 0 < n) }
+        ensures within { IfOk result (λ n. n ≤ length text.now) }
+        ensures ok { IfOk result
+            (λ n. TakesInAll self.old self.new (run_from start.now (take n text.now)) tally.old tally.new) }
+        ensures err { IfErr result
+            (λ fault. StopsFeeding (run_from start.now text.now) self.old self.new tally.old tally.new fault) }
+        ensures stands { Stands self.new }
+    {
+        let count = self.joining(start, text);
+        if count == 0 {
+            self.feed(start.text(text[0]), tally)?;
+            return Ok(1);
+        }
+        self.join_run(start, &text[..count])?;
+        tally.accepted += count as u32;
+        Ok(count)
+    }
+
+    /// The same, with copies of those that were accepted or wait. The memory for the copies is taken first.
+    fn feed_front_keeping(
+        &mut self,
+        start: &RunStart,
+        text: &[char],
+        tally: &mut Tally,
+        kept: &mut Vec<Op>,
+    ) -> Result<usize, FeedFault>
+        requires settled { IsSettled self.old.held }
+        requires some { 0 < length text.now }
+        requires counters { start.now.id.counter + length text.now ≤ 2 ^ 32 }
+        requires counts_rise { total tally.old + length self.old.held.waiting + length text.now ≤ 2 ^ 31 }
+        ensures some { IfOk result (λ n. 0 < n) }
+        ensures within { IfOk result (λ n. n ≤ length text.now) }
+        ensures ok { IfOk result
+            (λ n. TakesInAll self.old self.new (run_from start.now (take n text.now)) tally.old tally.new) }
+        ensures kept { IfOk result (λ n. kept.new.items ≡ kept.old.items
+            ++ kept_from self.old.hold self.old.most self.old.held (run_from start.now (take n text.now))) }
+        ensures err { IfErr result
+            (λ fault. StopsKeeping (run_from start.now text.now) self.old self.new tally.old tally.new
+            kept.old.items kept.new.items fault) }
+        ensures stands { Stands self.new }
+    {
+        let count = self.joining(start, text);
+        if count == 0 {
+            self.feed_keeping(start.text(text[0]), tally, kept)?;
+            return Ok(1);
+        }
+        let Ok(()) = kept.reserve(count) else {
+            return Err(FeedFault::NoMemory);
+        };
+        self.join_run(start, &text[..count])?;
+        tally.accepted += count as u32;
+        push_letters(kept, start, &text[..count]);
+        Ok(count)
+    }
+
+    /// How many Texts at the front of a run go in at once: none of their identifiers is accepted, nothing that waits has
+    /// or names one, the first is Ready, and there is room.
+    fn joining(&self, start: &RunStart, text: &[char]) -> usize
+        requires settled { IsSettled self.now.held }
+        requires counters { start.now.id.counter + length text.now ≤ 2 ^ 32 }
+        ensures within { result ≤ length text.now }
+        ensures at_once { 0 < result → GoesAtOnce self.now (run_from start.now (take result text.now)) }
+        ensures stands { Stands self.now }
+    {
+        // One Text alone goes the way of all operations.
+        let most = text.len().min(self.room());
+        if most < 2 || !self.is_ready(start, text[0]) {
+            return 0;
+        }
+        self.untouched(start.id, most as u32) as usize
+    }
+
+    /// Whether the Text is Ready.
+    fn is_ready(&self, start: &RunStart, ch: char) -> bool
+        ensures ready { IsTrue result ↔ (verdict_on self.now.held.history (text_by start.now ch) ≡ Ready) }
+        ensures stands { Stands self.now }
+    {
+        matches!(self.accepted.verdict(&start.text(ch)), Verdict::Ready)
+    }
+
+    /// How many identifiers are untouched, from this one on: all of so many, or else a power of two of them, so that few
+    /// are looked up.
+    fn untouched(&self, first: ElementId, count: u32) -> u32
+        requires counters { first.counter + count ≤ 2 ^ 32 }
+        requires few { count ≤ MOST_OPERATIONS }
+        ensures within { result ≤ count }
+        ensures untouched { AreUntouched self.now.held first result }
+        ensures stands { Stands self.now }
+    {
+        if self.are_untouched(first, count) {
+            return count;
+        }
+        let mut known = 0;
+        let mut next = 1;
+        'doubled: while next < count && self.are_untouched(first, next) {
+            known = next;
+            next *= 2;
+        }
+        known
+    }
+
+    /// Whether nothing accepted has one of so many identifiers, from this one on, and nothing that waits has or names one.
+    fn are_untouched(&self, first: ElementId, count: u32) -> bool
+        requires { first.counter + count ≤ 2 ^ 32 }
+        ensures untouched { IsTrue result ↔ AreUntouched self.now.held first count }
+        ensures stands { Stands self.now }
+    {
+        self.accepted.is_free(first, count) && !self.inbox.concerns(first, count)
+    }
+}
+
+/// Appends the Texts of a run. It takes no memory.
+pub(crate) fn push_letters(ops: &mut Vec<Op>, start: &RunStart, text: &[char])
+    requires counters { start.now.id.counter + length text.now ≤ 2 ^ 32 }
+    requires room { vec_len ops.old + length text.now ≤ vec_capacity ops.old }
+    ensures { ops.new.items ≡ ops.old.items ++ run_from start.now text.now }
+{
+    let mut count = 0;
+    'letters: for ch in text {
+        ops.push_reserved(start.nth(count).text(*ch));
+        count += 1;
+    }
+}
