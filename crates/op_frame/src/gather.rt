@@ -1,4 +1,4 @@
-ghost use Rattle.std.specs.Prelude.{◌≡◌, IfSome, IsTrue, length};
+ghost use Rattle.std.specs.Prelude.{◌≡◌, ◌≤◌, IfSome, IsTrue, length, vec_capacity};
 ghost use Rattle.fugue_ids.specs.Runs.{start_behind};
 ghost use Rattle.op_frame.specs.Heads.{IsHeld};
 ghost use Rattle.op_frame.specs.NextRuns.{IsRunFront, IsTextBehind, PutsScalars, TakesFront, TakesHeld, start_in};
@@ -21,7 +21,8 @@ pub(crate) fn take_held_texts(
     text: &mut Vec<char>,
 ) -> bool
     requires { IsHeld unread.old.bytes head.now }
-    ensures { TakesHeld result start.now head.now text.old.items text.new.items unread.old.bytes unread.new.bytes }
+    ensures takes { TakesHeld result start.now head.now text.old.items text.new.items unread.old.bytes unread.new.bytes }
+    ensures room { vec_capacity text.old ≤ vec_capacity text.new }
 {
     if !is_next(start, text, head) {
         return false;
@@ -41,7 +42,8 @@ pub(crate) fn take_texts(
     unread: &mut Unread,
     text: &mut Vec<char>,
 ) -> Option<usize>
-    ensures { TakesFront grammar start.now text.old.items text.new.items unread.old.bytes unread.new.bytes result }
+    ensures takes { TakesFront grammar start.now text.old.items text.new.items unread.old.bytes unread.new.bytes result }
+    ensures room { vec_capacity text.old ≤ vec_capacity text.new }
 {
     match run_front(grammar, unread.as_slice()) {
         Some((head, len)) => take_run(grammar, start, &head, len, unread, text),
@@ -72,7 +74,8 @@ fn take_run(
     text: &mut Vec<char>,
 ) -> Option<usize>
     requires { IsRunFront grammar head.now len unread.old.bytes }
-    ensures { TakesFront grammar start.now text.old.items text.new.items unread.old.bytes unread.new.bytes result }
+    ensures takes { TakesFront grammar start.now text.old.items text.new.items unread.old.bytes unread.new.bytes result }
+    ensures room { vec_capacity text.old ≤ vec_capacity text.new }
 {
     if !is_next(start, text, head) {
         return None;
@@ -90,7 +93,8 @@ fn take_text(
     unread: &mut Unread,
     text: &mut Vec<char>,
 ) -> Option<usize>
-    ensures { TakesFront grammar start.now text.old.items text.new.items unread.old.bytes unread.new.bytes result }
+    ensures takes { TakesFront grammar start.now text.old.items text.new.items unread.old.bytes unread.new.bytes result }
+    ensures room { vec_capacity text.old ≤ vec_capacity text.new }
 {
     let (ch, len) = text_behind(start, text, unread.as_slice())?;
     match text.push(ch) {
@@ -124,7 +128,8 @@ fn is_next(start: &RunStart, text: &Vec<char>, head: &Head) -> bool
 /// Appends the scalars of the Texts that are held back. After want of memory there are none more.
 fn put_scalars(head: &Head, bytes: &[u8], text: &mut Vec<char>) -> bool
     requires { IsHeld bytes.now head.now }
-    ensures { PutsScalars result head.now bytes.now text.old.items text.new.items }
+    ensures puts { PutsScalars result head.now bytes.now text.old.items text.new.items }
+    ensures room { vec_capacity text.old ≤ vec_capacity text.new }
 {
     let len = text.as_slice().len();
     for place in 0..head.count {

@@ -1,4 +1,4 @@
-ghost use Rattle.std.specs.Prelude.{◌≡◌, ◌≢◌, ◌<◌, ◌≤◌, ◌+◌, ◌++◌, ◌∷◌, ◌^◌, ℕ, List, [], length, Option, None, IfOk, IfSome, IsErrOf};
+ghost use Rattle.std.specs.Prelude.{◌≡◌, ◌≢◌, ◌<◌, ◌≤◌, ◌+◌, ◌^◌, ℕ, List, [], length, Option, None, IfErr, IfOk, IfSome, IsErrOf};
 ghost use Rattle.std.specs.Prelude.{vec_len, vec_capacity};
 ghost use Rattle.outer_ports.specs.Sources.{KeepsCount};
 ghost use Rattle.origin_model.specs.declared.grammar.Grammar.TheVariants.{Version1 as Singles, Version2 as WithRuns};
@@ -124,8 +124,8 @@ impl FrameReader {
     ///
     /// Texts are given at once as long as each goes on with the one before it, and stands whole in the bytes that were
     /// taken of the source already. So the source is asked for bytes only where nothing could be given otherwise, and
-    /// what it answers then is never held back. `text` keeps its room. A call that finds no room for a scalar does
-    /// nothing, and one that runs out of memory later gives what it has.
+    /// what it answers then is never held back. `text` keeps its room. Where it has none, and
+    /// none is to be had for one scalar, nothing is done; a call that runs out of memory later gives what it has.
     pub fn next_run<S: Source>(
         &mut self,
         source: &mut S,
@@ -135,6 +135,9 @@ impl FrameReader {
             → NextsRun self.old self.new (S.seen source.old) (S.seen source.new) result text.new.items }
         ensures gives_many { self.old.fault ≡ None
             → GivesManyBy self.old self.new (S.seen source.old) (S.seen source.new) result text.new.items }
+        ensures with_room { self.old.fault ≡ None → 0 < vec_capacity text.old
+            → IfErr result (λ fault. Nexts self.old self.new (S.seen source.old) (S.seen source.new) (Err fault)) }
+        ensures room { vec_capacity text.old ≤ vec_capacity text.new }
         ensures repeats { IfSome self.old.fault
             (λ fault. (result ≡ Err fault) × (self.new ≡ self.old) × (source.new ≡ source.old)) }
         ensures held { self.old.fault ≡ None → self.old.todo ≢ [] → source.new ≡ source.old }
@@ -160,12 +163,13 @@ impl FrameReader {
         requires fault { self.old.fault ≡ None }
         requires empty { text.old.items ≡ [] }
         requires room { vec_len text.old < vec_capacity text.old }
-        ensures { Gathers op result text.new.items self.old self.new }
+        ensures gathers { Gathers op result text.new.items self.old self.new }
+        ensures kept_room { vec_capacity text.old ≤ vec_capacity text.new }
     {
         let Some((start, ch)) = read_text(&op) else {
             return NextOps::Single(op);
         };
-        put(text, ch);
+        text.push_reserved(ch);
         self.gather_texts(&start, text);
         NextOps::Run(start)
     }
@@ -174,7 +178,8 @@ impl FrameReader {
     fn gather_texts(&mut self, start: &RunStart, text: &mut Vec<char>)
         requires fault { self.old.fault ≡ None }
         requires counters { start.now.id.counter + length text.old.items ≤ 2 ^ 32 }
-        ensures { GathersTexts start.now text.old.items text.new.items self.old self.new }
+        ensures gathers { GathersTexts start.now text.old.items text.new.items self.old self.new }
+        ensures room { vec_capacity text.old ≤ vec_capacity text.new }
     {
         'texts: while self.gather_more(start, text) {}
     }
@@ -182,7 +187,8 @@ impl FrameReader {
     /// Gives the Texts that stand next, if these go on with the run.
     fn gather_more(&mut self, start: &RunStart, text: &mut Vec<char>) -> bool
         requires { self.old.fault ≡ None }
-        ensures { GathersMore result start.now text.old.items text.new.items self.old self.new }
+        ensures gathers { GathersMore result start.now text.old.items text.new.items self.old self.new }
+        ensures room { vec_capacity text.old ≤ vec_capacity text.new }
     {
         match self.held {
             Some(head) => {
@@ -229,17 +235,6 @@ impl FrameReader {
                 Err(fault)
             }
         }
-    }
-}
-
-/// Appends a scalar for which there is room.
-fn put(text: &mut Vec<char>, ch: char)
-    requires { vec_len text.old < vec_capacity text.old }
-    ensures { text.new.items ≡ text.old.items ++ ch ∷ [] }
-{
-    match text.push(ch) {
-        Ok(()) => {}
-        Err(_refused) => unreachable!(),
     }
 }
 

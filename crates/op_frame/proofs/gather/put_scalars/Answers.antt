@@ -1,3 +1,4 @@
+use Rattle.std.proofs.Common.{arith}
 use Rattle.op_frame.proofs.GatherLemmas.{place_within, put_all, put_more, scalar_first_at}
 use Rattle.op_frame.proofs.gather.put_scalars.Goals as goal
 
@@ -11,9 +12,12 @@ pub first_scalar-requires : goal.first_scalar-requires
 first_scalar-requires c = scalar_first_at c.args.head.now c.args.bytes.now c.requires c.loop-place.place c.loop-place-test.true
 
 pub loop-place-preserved : goal.loop-place-preserved
-loop-place-preserved c =
-    put_more c.args.head.now c.args.bytes.now c.requires c.loop-place.place c.loop-place-test.true c.args.text.now.items c.loop-place.text.items c.push.new.self.items c.first_scalar.result c.loop-place.invariant
-    c.in-Ok.ensures.items c.first_scalar.ensures.split c.first_scalar.ensures.is
+loop-place-preserved c = record {
+  put = put_more c.args.head.now c.args.bytes.now c.requires c.loop-place.place c.loop-place-test.true c.args.text.now.items c.loop-place.text.items c.push.new.self.items c.first_scalar.result c.loop-place.invariant.put
+      c.in-Ok.ensures.items c.first_scalar.ensures.split c.first_scalar.ensures.is;
+  room = omega (arith, c.loop-place.invariant.room, c.in-Ok.ensures.capacity);
+}
 
-pub returns : goal.returns
-returns c = put_all c.args.head.now c.args.bytes.now c.requires c.loop-place.place c.loop-place-test.false c.args.text.now.items c.loop-place.text.items c.loop-place.invariant
+pub returns-clause-puts : goal.returns-clause-puts
+returns-clause-puts c =
+    put_all c.args.head.now c.args.bytes.now c.requires c.loop-place.place c.loop-place-test.false c.args.text.now.items c.loop-place.text.items c.loop-place.invariant.put

@@ -6,7 +6,7 @@ use Rattle.op_frame.proofs.reader.FrameReader.next_run.Goals as goal
 
 pub returns-in-Ok-Some-clause-nexts : goal.returns-in-Ok-Some-clause-nexts
 returns-in-Ok-Some-clause-nexts g c no_fault =
-    let gathers = c.gather.ensures in
+    let gathers = c.gather.ensures.gathers in
     let before = g.S.Source.seen c.args.source.now in
     let after = g.S.Source.seen c.next.new.source in
     let nexts = subst (λ (given : Option Op). Nexts c.args.self.now c.next.new.self before after (Ok given)) c.in-Ok-Some.field-0-is (c.in-Ok-Some.ensures.nexts no_fault) in
@@ -14,7 +14,7 @@ returns-in-Ok-Some-clause-nexts g c no_fault =
 
 pub returns-in-Ok-Some-clause-gives_many : goal.returns-in-Ok-Some-clause-gives_many
 returns-in-Ok-Some-clause-gives_many g c no_fault =
-    let gathers = c.gather.ensures in
+    let gathers = c.gather.ensures.gathers in
     let before = g.S.Source.seen c.args.source.now in
     let after = g.S.Source.seen c.next.new.source in
     let nexts = subst (λ (given : Option Op). Nexts c.args.self.now c.next.new.self before after (Ok given)) c.in-Ok-Some.field-0-is (c.in-Ok-Some.ensures.nexts no_fault) in
