@@ -6,5 +6,6 @@ pub mod GivenLemmas
 pub mod NamingLemmas
 pub mod LineLemmas
 pub mod FrontLemmas
+pub mod FrontMakingLemmas
 pub mod WalkLemmas
 pub mod PartLemmas

@@ -1,4 +1,5 @@
 pub mod Versions
 pub mod Views
+pub mod Fronts
 pub mod Laws
 pub mod Naming

@@ -1,0 +1,99 @@
+//! A replica as it was when it had accepted so many operations.
+ghost use Rattle.std.specs.Prelude.{◌≡◌, ◌↔◌, ◌<◌, ◌≤◌, ◌∷◌, [], IfOk, IfSome, None, Ok, OnOk, length, reverse};
+ghost use Rattle.fugue_ids.specs.declared.limits.TheConstants.{MOST_OPERATIONS as most_operations};
+ghost use Rattle.origin_model.specs.edits.State.{Stands};
+ghost use Rattle.origin_model.specs.operations.Verdict.{Lawful, verdict};
+ghost use Rattle.origin_model.specs.taking.Taking.{IsSettled, nothing_held};
+ghost use Rattle.origin_model.specs.declared.operations.Verdict.TheVariants.{Ready};
+ghost use Rattle.version_views.specs.Fronts.{front_at, front_most as front_most_of, front_of};
+
+use fugue_ids::{MOST_OPERATIONS, NoMemory, Op};
+use replica_core::Replica;
+use std::alloc::Global;
+
+/// How many operations the front of so many may hold.
+fn front_most(replica: &Replica, count: usize) -> u32
+    requires { count ≤ length replica.now.held.history }
+    ensures most { result ≡ front_most_of count replica.now }
+    ensures some { 0 < result }
+    ensures within { result ≤ most_operations }
+    ensures stands { Stands replica.now }
+{
+    let besides = replica.accepted().len() - count + replica.waiting().len();
+    (MOST_OPERATIONS - besides as u32).max(1)
+}
+
+/// What the front of so many was before it accepted anything.
+fn new_front(alloc: Global, replica: &Replica, count: usize) -> Replica
+    requires { count ≤ length replica.now.held.history }
+    ensures new { result ≡ record (front_of count replica.now) { held = nothing_held } }
+    ensures stands { Stands result }
+{
+    let most = front_most(replica, count);
+    match Replica::new(alloc, replica.number(), replica.hold(), most) {
+        Ok(front) => front,
+        Err(_) => unreachable!(),
+    }
+}
+
+/// Accepts a copy of the operation, which is Ready.
+fn accept_next(alloc: Global, front: &mut Replica, op: &Op) -> Result<(), NoMemory>
+    requires quiet { front.old.held.waiting ≡ [] }
+    requires ready { verdict front.old.held.history op.now ≡ Ready }
+    requires room { length front.old.held.history < front.old.most }
+    ensures ok { OnOk result (front.new ≡ record front.old {
+      held = record { history = op.now ∷ front.old.held.history; waiting = [] };
+    }) }
+    ensures stands { OnOk result (Stands front.new) }
+{
+    let copy = op.clone_in(alloc)?;
+    match front.deliver(copy) {
+        Ok(_) => Ok(()),
+        Err(_) => Err(NoMemory),
+    }
+}
+
+/// Accepts copies of the operations in order, by a replica that holds nothing yet.
+fn accept_all(alloc: Global, front: &mut Replica, ops: &[Op]) -> Result<(), NoMemory>
+    requires new { front.old.held ≡ nothing_held }
+    requires lawful { Lawful (reverse ops.now) }
+    requires room { length ops.now ≤ front.old.most }
+    requires stands { Stands front.old }
+    ensures ok { OnOk result (front.new ≡ record front.old {
+      held = record { history = reverse ops.now; waiting = [] };
+    }) }
+    ensures stands { OnOk result (Stands front.new) }
+{
+    'ops: for op in ops {
+        accept_next(alloc, front, op)?;
+    }
+    Ok(())
+}
+
+/// The replica as it was when it had accepted so many operations, with nothing pending. None is the answer where it
+/// did not accept so many.
+///
+/// It has the number and the hold of the whole, and leaves room for what the whole holds besides, so that the whole has
+/// room for what is made on it. Where the whole has no room and `count` is 0, it may hold one operation nevertheless.
+pub fn front(alloc: Global, replica: &Replica, count: usize) -> Result<Option<Replica>, NoMemory>
+    ensures front { IfOk result (λ front. front ≡ front_at count replica.now) }
+    ensures none { result ≡ Ok None → length replica.now.held.history < count }
+    ensures some { IfOk result (λ front. IfSome front (λ f. f ≡ front_of count replica.now)) }
+    ensures within { IfOk result (λ front. IfSome front (λ f. count ≤ length replica.now.held.history)) }
+    ensures settled { IfOk result (λ front. IfSome front (λ f. IsSettled f.held)) }
+    ensures fronts_stand { IfOk result (λ front. IfSome front (λ f. Stands f)) }
+    ensures stands { Stands replica.now }
+{
+    let ops = replica.accepted();
+    if ops.len() < count {
+        return Ok(None);
+    }
+    let mut front = new_front(alloc, replica, count);
+    match accept_all(alloc, &mut front, &ops[..count]) {
+        Ok(()) => Ok(Some(front)),
+        Err(NoMemory) => {
+            front.discard();
+            Err(NoMemory)
+        }
+    }
+}
