@@ -70,7 +70,7 @@ try 'a file that is not there' draft 4 '' 'outside fault\n' revise "$work/none" 
 because "manuscript: $work/none: no such file (manuscript new makes one)"
 try 'a file that is no replica' draft 6 '' 'not a replica\n' revise "$base" "$base"
 try 'words without a base' draft 1 '' "$usage" revise "$f"
-because 'usage: manuscript revise FILE BASE < DRAFT'
+because 'usage: manuscript revise FILE BASE [N] < DRAFT'
 printf 'put 2 0 # no title\\n\n' >"$work/titled"
 begin
 "$program" edit "$f" <"$work/titled" >"$work/output" 2>"$work/notes"

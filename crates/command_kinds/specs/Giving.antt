@@ -1,5 +1,5 @@
 -- What a giver gives to a replica that was loaded, as its note tells it.
-use Rattle.std.specs.Prelude.{◌≡◌, ℕ, List, Option, length, drop, Result, Ok, Err, IsErrOf, IsOk}
+use Rattle.std.specs.Prelude.{◌≡◌, ℕ, ◌-◌, List, Option, length, drop, Result, Ok, Err, IsErrOf, IsOk}
 use Rattle.fugue_ids.specs.declared.op.Op.{Op}
 use Rattle.origin_model.specs.operations.History.{accepted}
 use Rattle.outer_ports.specs.disk.Disks.{DiskView}
@@ -29,11 +29,11 @@ note_status (note.Counted counts) = status_by counts.tally counts.waiting
 note_status (note.Made count) = status.Done
 note_status (note.Revised count sections) = status.Done
 
--- what is to be saved: copies of what was kept, or the operations of a script or a draft, which were accepted behind the rest
+-- what is to be saved: copies of what was kept, or the operations of a script, which were accepted behind the rest, or those of a draft, which are the last so many
 abbrev pub to_save : Note → (before : ℕ) → (after : Replica) → (kept : Option (List Op)) → List Op
 to_save (note.Counted counts) before after kept = ops_in kept
 to_save (note.Made count) before after kept = drop before (accepted after.held.history)
-to_save (note.Revised count sections) before after kept = drop before (accepted after.held.history)
+to_save (note.Revised count sections) before after kept = drop (length (accepted after.held.history) - count) (accepted after.held.history)
 
 -- a note tells of an outcome
 pub record IsNoted (outcome : Outcome) (note : Note) : Type 0 where

@@ -22,7 +22,7 @@ use Rattle.command_kinds.specs.Changes.{HasRoom, StaysCalm, notes_room}
 use Rattle.command_kinds.specs.declared.refusal.Detail.{Detail}
 use Rattle.command_kinds.specs.declared.refusal.Detail.TheVariants.{Nothing, Number, Name}
 use Rattle.command_kinds.specs.declared.refusal.Refusal.{Refusal}
-use Rattle.command_kinds.specs.declared.refusal.Refusal.TheVariants.{Words, BadFrame, CutShort, BadLine, NoSectionAtLine, OutOfRangeAtLine, NotReplica, BadBatch, NotEmpty, TooMany, IdsSpent, TooLong, BatchTooLong, BadReply, RelayRefused, ReplyCutShort, NoSuchPlaces, NoSection, NoPlace, StampsSpent, BaseDiffers, BadDraft, EmptyDraft, OutOfRange, NoVersion, Outside, NoMemory}
+use Rattle.command_kinds.specs.declared.refusal.Refusal.TheVariants.{Words, BadFrame, CutShort, BadLine, NoSectionAtLine, OutOfRangeAtLine, NotReplica, BadBatch, NotEmpty, TooMany, IdsSpent, TooLong, BatchTooLong, BadReply, RelayRefused, ReplyCutShort, NoSuchPlaces, NoSection, NoPlace, StampsSpent, BaseDiffers, BadDraft, EmptyDraft, NoMoment, OwnSince, OutOfRange, NoVersion, Outside, NoMemory}
 use Rattle.command_kinds.specs.declared.status.Status.{Status}
 use Rattle.command_kinds.specs.declared.version_name.VersionName.{VersionName}
 use Rattle.version_views.specs.declared.limits.TheConstants.{LONGEST_NAME}
@@ -69,6 +69,8 @@ row_of StampsSpent = row status.Limit (codes "stamps spent") Nothing
 row_of (BaseDiffers offset) = row status.BadInput (codes "base differs at byte ") (Number offset)
 row_of (BadDraft line) = row status.BadInput (codes "bad draft at line ") (Number line)
 row_of EmptyDraft = row status.BadInput (codes "empty draft") Nothing
+row_of (NoMoment moment) = row status.BadInput (codes "no moment ") (Number moment)
+row_of (OwnSince moment) = row status.BadInput (codes "own operations since ") (Number moment)
 row_of OutOfRange = row status.BadInput (codes "out of range") Nothing
 row_of (NoVersion name) = row status.BadInput (codes "no version ") (Name name)
 row_of Outside = row status.OutsideFault (codes "outside fault") Nothing

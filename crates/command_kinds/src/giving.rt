@@ -1,5 +1,5 @@
 //! The commands that save: something is given to the replica of the home file, and what came of it is saved and noted.
-ghost use Rattle.std.specs.Prelude.{◌≡◌, ◌≢◌, [], drop, Some, IfSome};
+ghost use Rattle.std.specs.Prelude.{◌≡◌, ◌≢◌, ◌-◌, [], drop, length, Some, IfSome};
 ghost use Rattle.outer_ports.specs.disk.Disks.{DiskTells, DiskView};
 ghost use Rattle.replica_file.specs.declared.load_file.End.{End as FileEnd};
 ghost use Rattle.replica_file.specs.Ends.{EndsAt, IsWithinReach};
@@ -145,8 +145,16 @@ fn to_save<'a>(note: &Note, before: usize, replica: &'a Replica, kept: &'a Kept)
 {
     match note {
         Note::Counted(_) => kept.ops(),
-        Note::Made(_) | Note::Revised(_, _) => behind(replica.accepted(), before),
+        Note::Made(_) => behind(replica.accepted(), before),
+        Note::Revised(made, _) => last_of(replica.accepted(), *made),
     }
+}
+
+/// The last operations, so many.
+pub fn last_of(ops: &[Op], count: u32) -> &[Op]
+    ensures { result.now ≡ drop (length ops.now - count) ops.now }
+{
+    behind(ops, ops.len().saturating_sub(count as usize))
 }
 
 /// The operations behind so many.

@@ -64,6 +64,10 @@ pub enum Refusal {
     BadDraft(u64),
     /// The draft has nothing, and sections are shown.
     EmptyDraft,
+    /// Fewer operations were accepted than this.
+    NoMoment(u32),
+    /// The replica made operations behind so many.
+    OwnSince(u32),
     /// The section has fewer characters.
     OutOfRange,
     /// The file has no version of this name.
@@ -143,6 +147,12 @@ impl Refusal {
                 Detail::Number(line),
             ),
             Self::EmptyDraft => Row(Status::BadInput, "empty draft", Detail::Nothing),
+            Self::NoMoment(at) => Row(Status::BadInput, "no moment ", Detail::Number(at.into())),
+            Self::OwnSince(at) => Row(
+                Status::BadInput,
+                "own operations since ",
+                Detail::Number(at.into()),
+            ),
             Self::OutOfRange => Row(Status::BadInput, "out of range", Detail::Nothing),
             Self::NoVersion(name) => Row(Status::BadInput, "no version ", Detail::Name(name)),
             Self::Outside => Row(Status::OutsideFault, "outside fault", Detail::Nothing),

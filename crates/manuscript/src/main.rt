@@ -50,7 +50,7 @@ fn cause_of(error: io::Error, command: Option<Command>, role: Role) -> io::Error
     match (command, role) {
         (Some(Command::New(_, _)), _) => io::Error::from(ErrorKind::NotADirectory),
         (_, Role::Home) => io::Error::other("no such file (manuscript new makes one)"),
-        (Some(Command::Revise), Role::Guest) => {
+        (Some(Command::Revise | Command::ReviseSince(_)), Role::Guest) => {
             io::Error::other("no such file (manuscript arrange FILE > BASE prints one)")
         }
         (_, Role::Guest) => error,
@@ -81,7 +81,7 @@ fn way_out_of_home(command: Option<Command>) -> &'static str {
 /// And of the other one that it reads.
 fn way_out_of_guest(command: Option<Command>) -> &'static str {
     match command {
-        Some(Command::Revise) => COPY_IT,
+        Some(Command::Revise | Command::ReviseSince(_)) => COPY_IT,
         _ => MERGE_IT,
     }
 }

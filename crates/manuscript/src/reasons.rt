@@ -129,6 +129,16 @@ const ROWS: [Row; 21] = [
         "there was no text, and no section was dropped; nothing was saved: look at the name of the draft",
     ),
     (
+        "no moment ",
+        About::Home,
+        "fewer operations were accepted (list tells how many)",
+    ),
+    (
+        "own operations since ",
+        About::Home,
+        "its author made operations after these; nothing was saved: begin the draft anew from what arrange prints",
+    ),
+    (
         "out of range",
         About::Home,
         "the section has fewer characters (list counts them); nothing was saved",
@@ -225,7 +235,7 @@ impl<'a> Reasons<'a> {
                 About::Input,
                 "a certificate has 268435456 bytes at most, and this is none",
             )),
-            Command::Revise => Some((
+            Command::Revise | Command::ReviseSince(_) => Some((
                 About::Input,
                 "a draft has 268435456 bytes at most; nothing was saved: put it in by parts",
             )),

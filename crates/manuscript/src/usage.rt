@@ -55,6 +55,9 @@ const SECOND: Word = Word::Number("Q", 0, u32::MAX);
 
 const LETTERS: Word = Word::Number("N", 1, u32::MAX);
 
+/// How many operations were accepted.
+const MOMENT: Word = Word::Number("N", 0, u32::MAX);
+
 const TITLE: Word = Word::Line("TITLE", LONGEST_TITLE);
 
 const TEXT: Word = Word::Line("TEXT", LONGEST_BODY);
@@ -89,8 +92,14 @@ const FORMS: [Form; 23] = [
     Form {
         name: "revise",
         least: 2,
-        words: &[FILE, BASE],
-        shown: "revise FILE BASE < DRAFT",
+        words: &[FILE, BASE, MOMENT],
+        shown: "revise FILE BASE [N] < DRAFT",
+    },
+    Form {
+        name: "past",
+        least: 2,
+        words: &[FILE, MOMENT],
+        shown: "past FILE N",
     },
     Form {
         name: "edit",
@@ -208,8 +217,10 @@ begin, and look
   new FILE REPLICA HOLD       makes the file of an author: new ann.ms 1 100
   list FILE                   prints what it holds, and numbers its sections
   arrange FILE, print FILE    print the manuscript: as arranged, as it was made
+  past FILE N                 prints it as it was when list told accepted N
 write
   revise FILE BASE < DRAFT    saves a draft of what arrange printed to BASE
+  revise FILE BASE N < DRAFT  the same, where list told accepted N then
   edit FILE < SCRIPT          add P TITLE, put K P TEXT, cut K P N, drop K
   move FILE K J, retitle FILE K TITLE
 exchange

@@ -9,8 +9,10 @@ pub mod RunBlameLemmas
 pub mod WhyLemmas
 pub mod CheckLemmas
 pub mod NamedVersionLemmas
+pub mod PastLemmas
 pub mod ListingLemmas
 pub mod PlainFileLemmas
 pub mod RevisionTakenLemmas
 pub mod RevisingLemmas
+pub mod RevisingSinceLemmas
 pub mod SectionCountLemmas

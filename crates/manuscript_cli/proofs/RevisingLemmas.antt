@@ -1,13 +1,12 @@
 -- What a draft gives to a replica, by how far it was read.
-use Rattle.std.proofs.Common.{◌≡◌, ◌≢◌, ◌⊎◌, ◌↔◌, inl, inr, ℕ, suc, zero, List, [], ◌∷◌, ◌++◌, ◌+◌, ◌<◌, ◌≤◌, length, take, Option, Some, None, refl, sym, ap, subst, ◌∙◌, arith, drop, drop_at, length-append, min, nat_eq, nat_lt, true, false, Bool, ◌&&◌}
-use Rattle.std.specs.Prelude.{IfErr, IfOk, IfSome, MatchResult, Result, Ok, Err, if◌then◌else◌, cond, option_map}
+use Rattle.std.proofs.Common.{◌≡◌, ◌≢◌, ◌⊎◌, ◌↔◌, inl, inr, ℕ, suc, zero, List, [], ◌∷◌, ◌++◌, ◌+◌, ◌-◌, ◌<◌, ◌≤◌, length, take, Option, Some, None, refl, sym, ap, subst, ◌∙◌, arith, drop, drop_at, length-append, min, nat_eq, nat_lt, true, false, ◌&&◌}
+use Rattle.std.specs.Prelude.{IfErr, IfOk, IfSome, MatchResult, Result, Ok, Err, if◌then◌else◌, option_map}
 use Rattle.std.specs.Option.{option_or}
-use Rattle.std.specs.List.{common_prefix_len, position_or_len}
+use Rattle.std.specs.List.{common_prefix_len}
 use Rattle.std.specs.Str.{bytes_eq}
 use Rattle.std.proofs.lemmas.Bool.{cases_eq, cases_lt, false_from_ne_true, ne_eqb}
 use Rattle.std.proofs.lemmas.Slice.Eq.{bytes_eq-Decides}
-use Rattle.std.proofs.lemmas.List.{length-map, length-take}
-use Rattle.fugue_ids.specs.declared.limits.TheConstants.{MOST_OPERATIONS}
+use Rattle.std.proofs.lemmas.List.{length-take}
 use Rattle.fugue_ids.specs.declared.op.Op.{Op}
 use Rattle.origin_model.specs.declared.operations.Place.TheVariants.{Catalogue as catalogue}
 use Rattle.origin_model.specs.edits.State.{State as Replica, Stands}
@@ -17,15 +16,12 @@ use Rattle.origin_model.specs.declared.edit_fault.EditFault.TheVariants as edit
 use Rattle.outer_ports.specs.Sources.{KeepsCount, SourceView}
 use Rattle.outer_ports.specs.disk.Disks.{DiskView, RoomView}
 use Rattle.outer_ports.specs.disk.Moments.{History}
-use Rattle.catalogue_notes.specs.Arranged.{arranged, arranged_text}
+use Rattle.catalogue_notes.specs.Arranged.{arranged_text}
 use Rattle.catalogue_notes.proofs.ArrangedLemmas.{arranged_length}
-use Rattle.margin_notes.proofs.PlaceLemmas.{shown_bounded}
 use Rattle.catalogue_notes.specs.declared.moving.MoveFault.TheVariants as moving
 use Rattle.origin_model.specs.operations.Verdict.{Lawful}
 use Rattle.origin_model.specs.order.Printed.{shown}
-use Rattle.section_plan.specs.declared.part.Part.{Part as ReadPart}
 use Rattle.draft_plan.specs.Changes.{all_made}
-use Rattle.draft_plan.specs.Readings.{seen_part}
 use Rattle.draft_plan.proofs.ChangeLemmas.{changed_none}
 use Rattle.draft_plan.specs.Differences.{first_difference, unless_whole}
 use Rattle.draft_plan.specs.Drafts.{Part, form, parts}
@@ -188,6 +184,8 @@ draft_gives guest input replica last base draft ps n kept has left good short ot
     let made : List Op = all_made replica makes.changes in
     let outcome : Outcome = revised_outcome last made in
     let enough = changed_suffice replica last makes.changes settled r.stands makes.changed in
+    let last_made : length (accepted last.held.history) - n ≡ length (accepted replica.held.history) =
+    omega (arith, ap length makes.changed.gained.accepted_are, length-append (accepted replica.held.history) made, makes.count) in
     let behind : drop (length (accepted replica.held.history)) (accepted last.held.history) ≡ made =
     ap (drop (length (accepted replica.held.history))) makes.changed.gained.accepted_are ∙ drop_at (accepted replica.held.history) made (length (accepted replica.held.history)) refl in (
       Does outcome,
@@ -195,7 +193,7 @@ draft_gives guest input replica last base draft ps n kept has left good short ot
         outcome = outcome;
         gives = gives_draft guest.old input.old replica base has draft outcome left good (text_reads replica.held.history draft ps short other e some) (inr (outcome_of replica last draft ps n other e r));
         suffices = record { same_state = enough.same_state; place = enough.place };
-        saved = behind;
+        saved = ap (drop (length (accepted last.held.history) - n)) makes.changed.gained.accepted_are ∙ drop_at (accepted replica.held.history) made (length (accepted last.held.history) - n) (sym last_made);
         noted = record { line = (λ i. revised_text (sym makes.count i) (section_counts last.held.history (sym behind i))); status = refl };
       },
     )
@@ -203,7 +201,7 @@ draft_gives guest input replica last base draft ps n kept has left good short ot
 -- and what was printed gives nothing
 pub same_gives : (guest : Change DiskView) (input : Change SourceView) (replica : Replica) (base draft : List ℕ) (kept : Option (List Op)) → HasBytes guest.old base → IsLeft input.old draft
     → base_refusal replica.held.history base ≡ None → length draft ≤ LONGEST_TEXT → draft ≡ arranged_text replica.held.history → IsSettled replica.held → Stands replica
-    → (course : Finding Outcome) × GivesTo (revision guest input course) replica replica kept (Ok (note.Made 0))
+    → (course : Finding Outcome) × GivesTo (revision guest input course) replica replica kept (Ok (note.Revised 0 (record { added = 0; dropped = 0; moved = 0; retitled = 0 })))
 same_gives guest input replica base draft kept has left good short same settled stands =
     let none = changed_none replica in
     let outcome : Outcome = made_outcome replica [] in (
@@ -212,7 +210,7 @@ same_gives guest input replica base draft kept has left good short same settled 
         outcome = outcome;
         gives = gives_draft guest.old input.old replica base has draft outcome left good (text_same replica.held.history draft short same) (inl (record { same = same; outcome_is = refl }));
         suffices = changed_suffice replica replica [] settled stands none;
-        saved = ap (drop (length (accepted replica.held.history))) none.gained.accepted_are ∙ drop_at (accepted replica.held.history) [] (length (accepted replica.held.history)) refl;
+        saved = ap (drop (length (accepted replica.held.history) - 0)) none.gained.accepted_are ∙ drop_at (accepted replica.held.history) [] (length (accepted replica.held.history) - 0) (omega arith);
         noted = record { line = refl; status = refl };
       },
     )

@@ -8,8 +8,8 @@ use Rattle.outer_ports.specs.declared.disk.file_disk.Opening.TheVariants.{Readin
 use Rattle.bulk_world.specs.declared.making.TheConstants.{MOST_TURNS}
 use Rattle.manuscript_cli.specs.Number.{IsNumber}
 use Rattle.manuscript_cli.specs.declared.command.Command.{Command}
-use Rattle.manuscript_cli.specs.declared.command.Command.TheVariants.{Show, New, Edit, Print, Take, Send, Merge, Relay, Sync, Bulk, Why, Check, Move, Retitle, Arrange, Revise, List as ListCommand, Comment, Comments, Version, Versions, View, About}
-use Rattle.manuscript_cli.specs.declared.words.TheConstants.{GREATEST_CURSOR, GREATEST_PLACE, GREATEST_PORT, GREATEST_REPLICA, GREATEST_SEED, MOST_SESSIONS, USUAL_HOLD}
+use Rattle.manuscript_cli.specs.declared.command.Command.TheVariants.{Show, New, Edit, Print, Take, Send, Merge, Relay, Sync, Bulk, Why, Check, Move, Retitle, Arrange, Past, Revise, ReviseSince, List as ListCommand, Comment, Comments, Version, Versions, View, About}
+use Rattle.manuscript_cli.specs.declared.words.TheConstants.{GREATEST_CURSOR, GREATEST_MOMENT, GREATEST_PLACE, GREATEST_PORT, GREATEST_REPLICA, GREATEST_SEED, MOST_SESSIONS, USUAL_HOLD}
 
 -- `show HOLD`
 pub record NamesShow (words : List (List ℕ)) (hold : ℕ) : Type 0 where
@@ -127,6 +127,27 @@ pub record NamesNamed (name : List ℕ) (words : List (List ℕ)) : Type 0 where
   pub words_are : words ≡ name ∷ file ∷ version ∷ []
   pub version_is : IsLine LONGEST_NAME version
 
+-- a file, and how many operations it had
+pub record IsMoment (file number : List ℕ) (n : ℕ) : Type 0 where
+  pub some : file ≢ []
+  pub moment_is : IsNumber number 0 GREATEST_MOMENT n
+
+-- a name, FILE and N
+pub record NamesMoment (name : List ℕ) (words : List (List ℕ)) (n : ℕ) : Type 0 where
+  pub file : List ℕ
+  pub number_word : List ℕ
+  pub words_are : words ≡ name ∷ file ∷ number_word ∷ []
+  pub moment : IsMoment file number_word n
+
+-- `revise FILE BASE N`
+pub record NamesRevise (words : List (List ℕ)) (n : ℕ) : Type 0 where
+  pub file : List ℕ
+  pub base : List ℕ
+  pub some_base : base ≢ []
+  pub number_word : List ℕ
+  pub words_are : words ≡ codes "revise" ∷ file ∷ base ∷ number_word ∷ []
+  pub moment : IsMoment file number_word n
+
 -- the words ask for the command
 abbrev pub Names : List (List ℕ) → Command → Type 0
 Names words (Show hold) = ((words ≡ codes "show" ∷ []) × (hold ≡ USUAL_HOLD)) ⊎ NamesShow words hold
@@ -144,7 +165,9 @@ Names words Check = NamesFile (codes "check") words
 Names words (Move k j) = NamesMove words k j
 Names words (Retitle k) = NamesRetitle words k
 Names words Arrange = NamesFile (codes "arrange") words
+Names words (Past n) = NamesMoment (codes "past") words n
 Names words Revise = NamesTwo (codes "revise") words
+Names words (ReviseSince n) = NamesRevise words n
 Names words ListCommand = NamesFile (codes "list") words
 Names words (Comment k p n) = NamesComment words k p n
 Names words Comments = NamesFile (codes "comments") words
@@ -170,6 +193,7 @@ home_word _ words = None
 abbrev pub guest_word : Command → List (List ℕ) → Option (List ℕ)
 guest_word Merge (name ∷ file ∷ other ∷ more) = Some other
 guest_word Revise (name ∷ file ∷ base ∷ more) = Some base
+guest_word (ReviseSince n) (name ∷ file ∷ base ∷ more) = Some base
 guest_word _ words = None
 
 -- the last word: the title, the comment or the name, where the command has one
@@ -183,6 +207,7 @@ opening_for Edit = Writing
 opening_for Take = Writing
 opening_for Merge = Writing
 opening_for Revise = Writing
+opening_for (ReviseSince n) = Writing
 opening_for (Sync port cursor) = Writing
 opening_for (Move k j) = Writing
 opening_for (Retitle k) = Writing

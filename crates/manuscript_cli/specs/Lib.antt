@@ -6,6 +6,7 @@ pub mod Why
 pub mod Check
 pub mod PlainFile
 pub mod Revising
+pub mod RevisingSince
 pub mod SectionCounts
 pub mod Savers
 pub mod Relay
@@ -13,6 +14,7 @@ pub mod Arrange
 pub mod Listing
 pub mod Margins
 pub mod NamedVersions
+pub mod Past
 pub mod Alone
 pub mod Run
 pub mod Runs

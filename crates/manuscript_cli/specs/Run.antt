@@ -10,18 +10,19 @@ use Rattle.bulk_world.specs.Summary.{bulk_text}
 use Rattle.manuscript_cli.specs.Check.{ChecksText}
 use Rattle.manuscript_cli.specs.Command.{last_word}
 use Rattle.command_kinds.specs.New.{Creates}
+use Rattle.manuscript_cli.specs.Past.{past_tells}
 use Rattle.command_kinds.specs.Printing.{NotesBlameless}
 use Rattle.command_kinds.specs.Refusal.{refusal_line, Told}
 use Rattle.manuscript_cli.specs.Relay.{DockBlameless, Relays}
 use Rattle.command_kinds.specs.Report.{Reports, Telling, print_tells, send_tells}
-use Rattle.manuscript_cli.specs.Savers.{RunsSaving, Saver, edit_saver, merge_saver, note_saver, revise_saver, sync_saver, take_saver}
+use Rattle.manuscript_cli.specs.Savers.{RunsSaving, Saver, edit_saver, merge_saver, note_saver, revise_saver, revise_since_saver, sync_saver, take_saver}
 use Rattle.command_kinds.specs.Saving.{Outcome}
 use Rattle.command_kinds.specs.Show.{Shows}
 use Rattle.command_kinds.specs.Changes.{DiskBlameless, OutBlameless, SourceBlameless, WireBlameless, change}
 use Rattle.manuscript_cli.specs.Touched.{Touched}
 use Rattle.manuscript_cli.specs.Why.{why_tells}
 use Rattle.manuscript_cli.specs.declared.command.Command.{Command}
-use Rattle.manuscript_cli.specs.declared.command.Command.TheVariants.{Show, New, Edit, Print, Take, Send, Merge, Relay, Sync, Bulk, Why, Check, Move, Retitle, Arrange, Revise, List as ListCommand, Comment, Comments, Version, Versions, View, About}
+use Rattle.manuscript_cli.specs.declared.command.Command.TheVariants.{Show, New, Edit, Print, Take, Send, Merge, Relay, Sync, Bulk, Why, Check, Move, Retitle, Arrange, Past, Revise, ReviseSince, List as ListCommand, Comment, Comments, Version, Versions, View, About}
 use Rattle.command_kinds.specs.declared.refusal.Refusal.TheVariants.{Words}
 use Rattle.command_kinds.specs.declared.status.Status.{Status}
 use Rattle.command_kinds.specs.declared.status.Status.TheVariants.{Usage}
@@ -93,7 +94,9 @@ family words (Some Check) = Checking
 family words (Some (Move k j)) = Saving (note_saver (move_on k j))
 family words (Some (Retitle k)) = Saving (note_saver (retitle_on k (last_word words)))
 family words (Some Arrange) = Reporting arrange_tells
+family words (Some (Past n)) = Reporting (past_tells n)
 family words (Some Revise) = Choosing revise_saver
+family words (Some (ReviseSince n)) = Choosing (revise_since_saver n)
 family words (Some ListCommand) = Reporting list_tells
 family words (Some (Comment k p n)) = Saving (note_saver (comment_on k p n (last_word words)))
 family words (Some Comments) = Reporting comments_tells

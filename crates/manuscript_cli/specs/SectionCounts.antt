@@ -1,7 +1,7 @@
 -- How many of the operations that a draft took add, drop, move or retitle a section.
 use Rattle.std.specs.Prelude.{ℕ, nat_eq, true, false, Bool, List, filter, length}
 use Rattle.fugue_ids.specs.declared.op.Op.{Op}
-use Rattle.fugue_ids.specs.declared.op.Op.TheVariants.{Section, Text, Delete, Note}
+use Rattle.fugue_ids.specs.declared.op.Op.TheVariants.{Section, Delete, Note}
 use Rattle.catalogue_notes.specs.Lift.{is_section}
 use Rattle.catalogue_notes.specs.declared.limits.TheConstants.{MOVE_CODE, RETITLE_CODE}
 use Rattle.command_kinds.specs.declared.counts.SectionCounts.{SectionCounts}

@@ -1,3 +1,6 @@
+ghost use Rattle.catalogue_notes.specs.Arranged.{arranged_text};
+ghost use Rattle.command_kinds.specs.Changes.{change};
+ghost use Rattle.command_kinds.specs.TextOut.{GoesOut};
 ghost use Rattle.manuscript_cli.specs.Arrange.{arrange_tells};
 
 use catalogue_notes::{ArrangeFault, write_arranged};
@@ -14,12 +17,19 @@ impl Report for Arrangement {
     ghost Tells = { λ what. arrange_tells };
 
     fn write<O: Sink>(&self, alloc: Global, replica: &Replica, output: &mut O) -> Told {
-        match write_arranged(alloc, replica, output) {
-            Ok(()) => gone_out(Ok(())),
-            Err(ArrangeFault::SinkFault) => gone_out(Err(Failed)),
-            Err(ArrangeFault::NoMemory) => Err(Refusal::NoMemory),
-        }
+        put_arrangement(alloc, replica, output)
     }
 
     fn laws(&self) {}
+}
+
+/// Writes the sections as they are arranged, under their headings.
+pub(crate) fn put_arrangement<O: Sink>(alloc: Global, replica: &Replica, output: &mut O) -> Told
+    ensures { GoesOut (arranged_text replica.now.held.history) (change (O.seen output.old) (O.seen output.new)) result }
+{
+    match write_arranged(alloc, replica, output) {
+        Ok(()) => gone_out(Ok(())),
+        Err(ArrangeFault::SinkFault) => gone_out(Err(Failed)),
+        Err(ArrangeFault::NoMemory) => Err(Refusal::NoMemory),
+    }
 }

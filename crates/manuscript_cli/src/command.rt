@@ -38,9 +38,13 @@ pub enum Command {
     Retitle(u32),
     /// Print the sections of a file as they are arranged, under their headings.
     Arrange,
+    /// Print the sections of a file as they were arranged when so many operations were accepted.
+    Past(u32),
     /// Revise what a file's replica shows until it is the draft on the input, which was written from what the other file
     /// has.
     Revise,
+    /// The same, where the draft was written from what was shown when so many operations were accepted.
+    ReviseSince(u32),
     /// Print what a file's replica holds: how many operations, and the sections as they are arranged.
     List,
     /// Comment on characters of a section: the section, counted from 1, the first character, and how many there are.
@@ -68,6 +72,7 @@ impl Command {
             | Command::Take
             | Command::Merge
             | Command::Revise
+            | Command::ReviseSince(_)
             | Command::Sync(_, _)
             | Command::Move(_, _)
             | Command::Retitle(_)
@@ -81,6 +86,7 @@ impl Command {
             | Command::Why(_, _, _)
             | Command::Check
             | Command::Arrange
+            | Command::Past(_)
             | Command::List
             | Command::Comments
             | Command::Versions
@@ -95,7 +101,7 @@ impl Command {
         ensures guest { option_copied result.1 ≡ guest_word self (map string_bytes words.now) }
     {
         match (self, words) {
-            (Command::Merge | Command::Revise, [_, file, other, ..]) => {
+            (Command::Merge | Command::Revise | Command::ReviseSince(_), [_, file, other, ..]) => {
                 (Some(file.as_str()), Some(other.as_str()))
             }
             (Command::Show(_) | Command::Relay(_, _) | Command::Bulk(_, _) | Command::About, _) => (

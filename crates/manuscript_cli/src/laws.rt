@@ -11,9 +11,10 @@ ghost use Rattle.catalogue_notes.specs.declared.limits.TheConstants.{MOVE_CODE, 
 ghost use Rattle.margin_notes.specs.declared.limits.TheConstants.{COMMENT_CODE};
 ghost use Rattle.op_frame.specs.declared.encoding.TheConstants.{LONGEST_RUN};
 ghost use Rattle.version_views.specs.declared.limits.TheConstants.{LONGEST_NAME, VERSION_CODE};
+ghost use Rattle.manuscript_cli.specs.Past.{PastIsArranged, PastStays};
 ghost use Rattle.manuscript_cli.specs.Runs.{EachFinishedIsIn};
 ghost use Rattle.manuscript_cli.specs.declared.check.TheConstants.{LONGEST_TEXT};
-ghost use Rattle.manuscript_cli.specs.declared.words.TheConstants.{GREATEST_CURSOR, GREATEST_PLACE, GREATEST_PORT};
+ghost use Rattle.manuscript_cli.specs.declared.words.TheConstants.{GREATEST_CURSOR, GREATEST_MOMENT, GREATEST_PLACE, GREATEST_PORT};
 ghost use Rattle.manuscript_cli.specs.declared.words.TheConstants.{GREATEST_REPLICA, GREATEST_SEED};
 ghost use Rattle.manuscript_cli.specs.declared.words.TheConstants.{MOST_SESSIONS, USUAL_HOLD};
 
@@ -35,6 +36,7 @@ pub fn limits_in_numbers()
     ensures script { LONGEST_SCRIPT ≡ 1048576 }
     ensures text { LONGEST_TEXT ≡ 268435456 }
     ensures place { GREATEST_PLACE ≡ 4294967295 }
+    ensures moment { GREATEST_MOMENT ≡ 4294967295 }
     ensures batch { LONGEST_BATCH ≡ 268435456 }
     ensures log { MOST_LOGGED ≡ 1048576 }
     ensures sessions { MOST_SESSIONS ≡ 65535 }
@@ -52,4 +54,11 @@ pub fn limits_in_numbers()
 /// inside of each of them and between two.
 pub fn every_finished_command_is_in_the_file()
     ensures { EachFinishedIsIn }
+{}
+
+/// What `past` prints for a number of operations is what `arrange` printed when so many were accepted, and it stays that
+/// whatever the file gains.
+pub fn past_stays()
+    ensures arranged { PastIsArranged }
+    ensures stays { PastStays }
 {}

@@ -1,5 +1,6 @@
 //! The command `revise`: a draft is what the replica comes to show.
-ghost use Rattle.std.specs.Prelude.{◌≡◌, ◌≢◌, ◌↔◌, ℕ, Ok, None, IfErr, IfOk, IsTrue, OnOk, false, List};
+ghost use Rattle.std.specs.Prelude.{◌≡◌, ◌≢◌, ◌↔◌, ℕ, Ok, None, IfErr, IfOk, IsTrue, OnOk, Option, false, List};
+ghost use Rattle.fugue_ids.specs.declared.op.Op.{Op};
 ghost use Rattle.origin_model.specs.edits.State.{Stands};
 ghost use Rattle.catalogue_notes.specs.Arranged.{arranged_text};
 ghost use Rattle.draft_plan.specs.Drafts.{Part, parts};
@@ -7,8 +8,11 @@ ghost use Rattle.replica_file.specs.Loading.{IsReady};
 ghost use Rattle.replica_file.specs.Looks.{LooksOnly};
 ghost use Rattle.manuscript_cli.specs.Revising.{BaseStops, HasBytes, IsRevisedTo, LooksAtBase, TextStops};
 ghost use Rattle.manuscript_cli.specs.Revising.{base_refusal, empties, parts_fault_refusal, revise_refusal, revision};
+ghost use Rattle.manuscript_cli.specs.RevisingSince.{noted_revision};
 ghost use Rattle.command_kinds.specs.Files.{FileRefuses};
 ghost use Rattle.command_kinds.specs.Findings.{Finding};
+ghost use Rattle.command_kinds.specs.Giving.{GivesTo, MayEnd};
+ghost use Rattle.command_kinds.specs.declared.status.Status.{Status as AnyStatus};
 ghost use Rattle.command_kinds.specs.Saving.{Outcome, ReadsInput, SavesGiven, SavingBlameless};
 ghost use Rattle.command_kinds.specs.Changes.{IsTold, change};
 ghost use Rattle.command_kinds.specs.declared.refusal.Refusal.{Refusal as AnyRefusal};
@@ -18,7 +22,7 @@ use crate::check::read_text;
 use crate::plain_file::read_start;
 use crate::section_counts::section_counts;
 use catalogue_notes::{MoveFault, write_arranged};
-use command_kinds::{Gives, Kept, Note, Refusal, Status, save_given};
+use command_kinds::{Gives, Kept, Note, Refusal, SectionCounts, Status, save_given};
 use draft_plan::{Draft, DraftFault, ReviseFault, arranged_reads, first_difference, revise};
 use fugue_ids::{BUFFER, NoMemory};
 use origin_model::EditFault;
@@ -31,9 +35,9 @@ struct Revision;
 
 /// What a draft is taken from: the file with the text that it was written from, and the input.
 #[derive(Drop)]
-struct DraftSources<'a, G, S> {
-    base: &'a mut G,
-    draft: &'a mut S,
+pub(crate) struct DraftSources<'a, G, S> {
+    pub base: &'a mut G,
+    pub draft: &'a mut S,
 }
 
 impl<'a, G: Disk, S: Source> Gives<DraftSources<'a, G, S>> for Revision {
@@ -55,16 +59,8 @@ impl<'a, G: Disk, S: Source> Gives<DraftSources<'a, G, S>> for Revision {
         replica: &mut Replica,
         _kept: &mut Kept,
     ) -> Result<Note, Refusal> {
-        let shown = check_base(alloc, replica, from.base)?;
-        let text = read_text(alloc, from.draft)?;
-        let draft = text.as_slice();
-        if is_same(shown.written(), draft) {
-            return Ok(Note::Made(0));
-        }
-        let before = replica.accepted().len();
-        let made = revise_to(alloc, replica, draft)?;
-        let sections = section_counts(replica, before);
-        Ok(Note::Revised(made, sections))
+        let revised = revise_by(alloc, from.base, from.draft, replica)?;
+        Ok(Note::Revised(revised.made, revised.sections))
     }
 
     fn laws(&self) {}
@@ -91,6 +87,55 @@ pub(crate) fn revise_file<S: Source, N: Sink, H: Disk, G: Disk>(
 {
     let mut sources = DraftSources { base, draft: input };
     save_given(alloc, &Revision, &mut sources, home, notes)
+}
+
+/// How many operations a draft took, and how many of them were made on sections.
+#[derive(Clone, Copy)]
+pub(crate) struct Revised {
+    pub made: u32,
+    pub sections: SectionCounts,
+}
+
+impl Revised {
+    /// Nothing was made.
+    const NOTHING: Revised = Revised {
+        made: 0,
+        sections: SectionCounts {
+            added: 0,
+            dropped: 0,
+            moved: 0,
+            retitled: 0,
+        },
+    };
+}
+
+/// Revises the replica until it shows the draft, where the other file has what it shows.
+pub(crate) fn revise_by<G: Disk, S: Source>(
+    alloc: Global,
+    base: &mut G,
+    draft: &mut S,
+    replica: &mut Replica,
+) -> Result<Revised, Refusal>
+    requires ready { IsReady replica.old }
+    ensures gives { (kept : Option (List Op)) → (course : Finding Outcome)
+        × GivesTo (revision (change (G.seen base.old) (G.seen base.new)) (change (S.seen draft.old) (S.seen draft.new))
+        course) replica.old replica.new kept (noted_revision result) }
+    ensures looks { (end : AnyStatus) → MayEnd (noted_revision result) end
+        → LooksAtBase (change (G.seen base.old) (G.seen base.new)) end }
+    ensures reads { (end : AnyStatus) → MayEnd (noted_revision result) end
+        → ReadsInput (S.seen draft.old) (S.seen draft.new) end }
+    ensures stands { OnOk result (Stands replica.new) }
+{
+    let shown = check_base(alloc, replica, base)?;
+    let text = read_text(alloc, draft)?;
+    let draft = text.as_slice();
+    if is_same(shown.written(), draft) {
+        return Ok(Revised::NOTHING);
+    }
+    let before = replica.accepted().len();
+    let made = revise_to(alloc, replica, draft)?;
+    let sections = section_counts(replica, before);
+    Ok(Revised { made, sections })
 }
 
 /// What the replica shows as it is arranged.

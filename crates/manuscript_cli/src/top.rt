@@ -18,8 +18,10 @@ use crate::comments::{Comments, NewComment};
 use crate::list::Contents;
 use crate::moving::{Move, Retitle};
 use crate::number::index_of;
+use crate::past::Past;
 use crate::relay::relay;
 use crate::revise::revise_file;
+use crate::revise_since::revise_file_since;
 use crate::versions::{NewVersion, Versions, View};
 use crate::why::Why;
 use crate::words::last_of;
@@ -190,7 +192,11 @@ fn obey<S: Source, O: Sink, N: Sink, H: Disk, G: Disk, W: Wire, D: Dock, B: Buil
             save_note(alloc, &Retitle { section, title }, home, notes)
         }
         Command::Arrange => write_report(alloc, &Arrangement, home, output, notes),
+        Command::Past(count) => write_report(alloc, &Past { count }, home, output, notes),
         Command::Revise => revise_file(alloc, input, home, guest, notes),
+        Command::ReviseSince(count) => {
+            revise_file_since(alloc, count, input, home, guest, notes)
+        }
         Command::List => write_report(alloc, &Contents, home, output, notes),
         Command::Comment(section, first, count) => {
             let comment = NewComment {

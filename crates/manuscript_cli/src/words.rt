@@ -1,6 +1,6 @@
 ghost use Rattle.std.specs.Prelude.{◌≡◌, ◌≢◌, ◌↔◌, ◌∷◌, [], ℕ, IfSome, IsTrue, Some, codes, map, string_bytes};
 ghost use Rattle.std.specs.Option.{option_copied};
-ghost use Rattle.manuscript_cli.specs.Command.{HasFiles, IsCommand, IsLine, last_word};
+ghost use Rattle.manuscript_cli.specs.Command.{HasFiles, IsCommand, IsLine, IsMoment, last_word};
 ghost use Rattle.manuscript_cli.specs.Number.{IsNumber};
 ghost use Rattle.manuscript_cli.specs.declared.words.TheConstants.{GREATEST_PORT as greatest_port};
 
@@ -25,6 +25,9 @@ const GREATEST_CURSOR: u32 = u32::MAX;
 
 /// The greatest number of a section, and the greatest place in it.
 const GREATEST_PLACE: u32 = u32::MAX;
+
+/// The greatest number of operations after which a file is looked at.
+const GREATEST_MOMENT: u32 = u32::MAX;
 
 /// How many sessions a relay serves at most.
 const MOST_SESSIONS: u32 = 65_535;
@@ -106,8 +109,20 @@ fn read_two(name: &str, file: &str, other: &str) -> Option<Command>
         "bulk" => read_bulk(file, other),
         "version" if is_named(file, other) => Some(Command::Version),
         "view" if is_named(file, other) => Some(Command::View),
+        "past" => read_moment(file, other).map(Command::Past),
         _ => None,
     }
+}
+
+/// Reads the words of a file and of a number of operations.
+fn read_moment(file: &str, number: &str) -> Option<u32>
+    ensures moment { IfSome result (λ n. IsMoment file.now number.now n) }
+    ensures every { (n : ℕ) → IsMoment file.now number.now n → result ≡ Some n }
+{
+    if file.is_empty() {
+        return None;
+    }
+    read_number(number, 0, GREATEST_MOMENT)
 }
 
 fn read_relay(port: &str, sessions: &str) -> Option<Command>
@@ -143,8 +158,19 @@ fn read_three(name: &str, file: &str, first: &str, second: &str) -> Option<Comma
         "sync" => read_sync(file, first, second),
         "move" => read_move(file, first, second),
         "retitle" => read_retitle(file, first, second),
+        "revise" => read_revise(file, first, second),
         _ => None,
     }
+}
+
+fn read_revise(file: &str, base: &str, number: &str) -> Option<Command>
+    ensures { IsCommand (codes "revise" ∷ file.now ∷ base.now ∷ number.now ∷ []) result }
+{
+    if base.is_empty() {
+        return None;
+    }
+    let count = read_moment(file, number)?;
+    Some(Command::ReviseSince(count))
 }
 
 fn read_move(file: &str, section: &str, place: &str) -> Option<Command>

@@ -74,6 +74,12 @@ const REFUSALS: &[(Refusal, &str, Status)] = &[
         Status::BadInput,
     ),
     (Refusal::EmptyDraft, "empty draft", Status::BadInput),
+    (Refusal::NoMoment(37), "no moment 37", Status::BadInput),
+    (
+        Refusal::OwnSince(13),
+        "own operations since 13",
+        Status::BadInput,
+    ),
     (Refusal::Outside, "outside fault", Status::OutsideFault),
     (Refusal::NoMemory, "no memory", Status::NoMemory),
 ];

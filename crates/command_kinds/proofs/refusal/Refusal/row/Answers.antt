@@ -70,6 +70,12 @@ returns-in-BadDraft c = rw c.in-BadDraft.is (record { status = refl; words = ref
 pub returns-in-EmptyDraft : goal.returns-in-EmptyDraft
 returns-in-EmptyDraft c = rw c.in-EmptyDraft.is (record { status = refl; words = refl; detail = refl })
 
+pub returns-in-NoMoment : goal.returns-in-NoMoment
+returns-in-NoMoment c = rw (c.in-NoMoment.is, c.into-in-NoMoment.ensures) (record { status = refl; words = refl; detail = refl })
+
+pub returns-in-OwnSince : goal.returns-in-OwnSince
+returns-in-OwnSince c = rw (c.in-OwnSince.is, c.into-in-OwnSince.ensures) (record { status = refl; words = refl; detail = refl })
+
 pub returns-in-OutOfRange : goal.returns-in-OutOfRange
 returns-in-OutOfRange c = rw c.in-OutOfRange.is (record { status = refl; words = refl; detail = refl })
 

@@ -1,0 +1,88 @@
+-- `revise` with a number: the draft was written from what was shown when so many operations were accepted. It is planned on the replica as it was then, and what it makes comes behind all that the file has.
+use Rattle.std.specs.Prelude.{◌≡◌, ℕ, nat_eq, nat_lt, not, ◌-◌, Bool, drop, if◌then◌else◌, Option, Some, None, List, length, Result, Ok, Err}
+use Rattle.fugue_ids.specs.declared.op.Op.{Op}
+use Rattle.origin_model.specs.edits.Refusal.{held_count, next_of_own}
+use Rattle.origin_model.specs.edits.State.{State as Replica}
+use Rattle.origin_model.specs.operations.History.{accepted}
+use Rattle.origin_model.specs.taking.Taking.{HasPlace, held_from}
+use Rattle.outer_ports.specs.Sources.{SourceView}
+use Rattle.outer_ports.specs.disk.Disks.{DiskView}
+use Rattle.replica_core.specs.declared.keeping.FeedFault.{FeedFault}
+use Rattle.replica_core.specs.declared.keeping.FeedFault.TheVariants as feed_fault
+use Rattle.version_views.specs.Fronts.{front_of}
+use Rattle.command_kinds.specs.Findings.{Finding, Refuses, Does}
+use Rattle.command_kinds.specs.Saving.{Giver, Outcome}
+use Rattle.command_kinds.specs.Changes.{Change}
+use Rattle.command_kinds.specs.Take.{IsOneTooMany}
+use Rattle.command_kinds.specs.declared.counts.Note.{Note}
+use Rattle.command_kinds.specs.declared.counts.Note.TheVariants as note
+use Rattle.command_kinds.specs.declared.refusal.Refusal.{Refusal}
+use Rattle.command_kinds.specs.declared.refusal.Refusal.TheVariants as refusal
+use Rattle.manuscript_cli.specs.Revising.{RevisionGives, revision}
+use Rattle.manuscript_cli.specs.declared.revise.Revised.{Revised}
+
+-- the counters of the next operations of two replicas are the same
+abbrev pub same_next : Replica → Replica → Bool
+same_next one other = nat_eq (next_of_own one) (next_of_own other)
+
+-- the replica made operations behind the first n: the counter of its next one is another than it was
+abbrev pub made_since : ℕ → Replica → Bool
+made_since n replica = not (same_next replica (front_of n replica))
+
+-- why no draft is taken that was written when n operations were accepted: fewer are, or the replica made some since
+abbrev pub moment_refusal : ℕ → Replica → Option Refusal
+moment_refusal n replica =
+    if nat_lt (length replica.held.history) n then Some (refusal.NoMoment n) else (if made_since n replica then Some (refusal.OwnSince n) else None)
+
+-- a limit tells how many operations the whole holds
+abbrev pub told_of_whole : Replica → Refusal → Refusal
+told_of_whole replica (refusal.TooMany held) = refusal.TooMany (held_count replica)
+told_of_whole replica why = why
+
+-- what comes in the whole of what a draft gives to the replica as it was: what it makes is saved as it is, and taken in behind all that the whole holds, if there is room for it
+abbrev pub ComesInWhole : Replica → (given found : Finding Outcome) → Type 0
+ComesInWhole replica (Refuses why) found = found ≡ Refuses (told_of_whole replica why)
+ComesInWhole replica (Does outcome) (Does whole) =
+    HasPlace replica.hold replica.most replica.held outcome.saved
+    × (whole ≡ record outcome { held = held_from replica.hold replica.most replica.held outcome.saved })
+ComesInWhole replica (Does outcome) (Refuses why) = (why ≡ refusal.TooMany (held_count replica)) × IsOneTooMany replica outcome.saved
+
+abbrev pub GivesSince : (moment : Option Refusal) → ℕ → DiskView → SourceView → (course : Finding Outcome) → Replica → Finding Outcome → Type 0
+GivesSince (Some why) n guest input course replica found = found ≡ Refuses why
+GivesSince None n guest input course replica found =
+    (given : Finding Outcome) × RevisionGives guest input course (front_of n replica) given × ComesInWhole replica given found
+
+-- what such a draft gives: what it gives to the replica as it was, in the whole
+abbrev pub SinceGives : ℕ → DiskView → SourceView → (course : Finding Outcome) → Replica → Finding Outcome → Type 0
+SinceGives n guest input course replica found = GivesSince (moment_refusal n replica) n guest input course replica found
+
+-- it reads the same objects as a draft of what is shown now
+abbrev pub revision_since : ℕ → Change DiskView → Change SourceView → (course : Finding Outcome) → Giver
+revision_since n guest input course = record (revision guest input course) { Gives = SinceGives n guest.old input.old course }
+
+-- what is noted of a revision
+abbrev pub noted_revision : Result Revised Refusal → Result Note Refusal
+noted_revision (Ok revised) = Ok (note.Revised revised.made revised.sections)
+noted_revision (Err why) = Err why
+
+-- what a revision made of the replica as it was: what stands last there
+abbrev pub made_last : Replica → Revised → List Op
+made_last past revised = drop (length (accepted past.held.history) - revised.made) (accepted past.held.history)
+
+-- an operation is one too many, or memory was wanting
+abbrev pub FindsNoPlace : FeedFault → Replica → List Op → Type 0
+FindsNoPlace (feed_fault.TooMany limit) replica ops = IsOneTooMany replica ops
+FindsNoPlace feed_fault.NoMemory replica ops = Unit {0}
+
+-- why what was made has no place in the whole
+abbrev pub FindsNoRoom : Refusal → Replica → List Op → Type 0
+FindsNoRoom (refusal.TooMany held) replica made = (held ≡ held_count replica) × IsOneTooMany replica made
+FindsNoRoom refusal.NoMemory replica made = Unit {0}
+FindsNoRoom _ replica made = ⊥
+
+-- what a revision of the replica as it was comes to in the whole, which the former takes the place of where it comes to its end
+abbrev pub Brings : (old new past : Replica) → (given result : Result Revised Refusal) → Type 0
+Brings old new past (Ok revised) (Ok brought) = (brought ≡ revised) × (new ≡ past) × HasPlace old.hold old.most old.held (made_last past revised)
+Brings old new past (Ok revised) (Err why) = FindsNoRoom why old (made_last past revised)
+Brings old new past (Err why) (Ok brought) = ⊥
+Brings old new past (Err why) (Err told) = told ≡ told_of_whole old why
