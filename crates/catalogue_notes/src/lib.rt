@@ -4,6 +4,7 @@
 mod arrangement;
 mod arranger;
 mod entry;
+mod headings;
 mod laws;
 mod layout;
 mod lifting;
@@ -21,6 +22,7 @@ mod winning;
 
 pub use arranger::Arranger;
 pub use entry::{Entry, Outline};
+pub use headings::Headings;
 pub use laws::{
     arranged_by_set, each_once, lift_is_lawful, lifted_order_stays, move_lands, retitle_lands,
     valid_in_whole, winners,
@@ -28,5 +30,5 @@ pub use laws::{
 pub use limits::{MOVE_CODE, RETITLE_CODE};
 pub use moving::{MoveFault, move_section};
 pub use outlining::outline;
-pub use printing::{ArrangeFault, write_arranged};
+pub use printing::{ArrangeFault, told, write_arranged};
 pub use retitling::retitle;

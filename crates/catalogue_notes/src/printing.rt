@@ -149,7 +149,8 @@ fn write_sections<O: Out>(
     gather.flush(output)
 }
 
-fn told(written: Result<(), Failed>) -> Result<(), ArrangeFault>
+/// What became of a text, as a fault of printing it.
+pub fn told(written: Result<(), Failed>) -> Result<(), ArrangeFault>
     ensures { (old new : OutView) (text : List ℕ) → WritesBytes old new written text → WritesText old new result text }
 {
     match written {

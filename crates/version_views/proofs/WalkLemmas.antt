@@ -68,7 +68,8 @@ module _ (es : List Identifier) (o : Option Identifier) (x : Identifier) (once :
   pub next_in : Contains es x
   next_in = subst (λ (z : Option Identifier). IfSome z (Contains es)) e c
 
-  turn : from_next es o ≡ x ∷ from_next es (following es (Some x))
+  -- it is the first of those to come
+  pub turn : from_next es o ≡ x ∷ from_next es (following es (Some x))
   turn = ap (from_next es) e ∙ from_following es x once next_in
 
   -- the parts to come begin with its part
