@@ -1,0 +1,63 @@
+-- Laws of what changed, and of who wrote what.
+use Rattle.std.specs.Prelude.{◌≡◌, ℕ, Bool, true, false, List, [], filter, flat_map, length, sum_by}
+use Rattle.std.specs.List.{All}
+use Rattle.fugue_ids.specs.Identifiers.{Identifier}
+use Rattle.fugue_ids.specs.declared.op.Op.{Op}
+use Rattle.origin_model.specs.operations.Verdict.{Lawful}
+use Rattle.origin_model.specs.order.Printed.{text}
+use Rattle.catalogue_notes.specs.Arranged.{arranged}
+use Rattle.change_marks.specs.Authors.{passages}
+use Rattle.change_marks.specs.Changes.{IsLater, changes_text, new_head, told}
+use Rattle.change_marks.specs.Marks.{letters, runs}
+use Rattle.change_marks.specs.Stretches.{Stretch}
+use Rattle.change_marks.specs.declared.mark.Mark.{Mark}
+use Rattle.change_marks.specs.declared.mark.Mark.TheVariants.{Kept, New, Gone}
+
+-- the run is of today's text: kept or new
+abbrev pub is_of_now : Mark → Bool
+is_of_now Kept = true
+is_of_now (New replica) = true
+is_of_now Gone = false
+
+-- the run is of the text of the moment: kept or gone
+abbrev pub is_of_then : Mark → Bool
+is_of_then Kept = true
+is_of_then (New replica) = false
+is_of_then Gone = true
+
+-- the run is new
+abbrev pub is_new : Mark → Bool
+is_new Kept = false
+is_new (New replica) = true
+is_new Gone = false
+
+abbrev pub letters_where : (Mark → Bool) → List Op → List (Stretch Mark) → List ℕ
+letters_where test h rs = flat_map (letters h) (filter (λ (run : Stretch Mark). test run.key) rs)
+
+-- the kept and the new runs of a section are its text, and the kept and the gone ones are what it was
+pub record AreFiltered (f h : List Op) (s : Identifier) : Type 0 where
+  pub now : letters_where is_of_now h (runs false f h s) ≡ text h s
+  pub then : letters_where is_of_then h (runs false f h s) ≡ text f s
+
+abbrev pub ChangesByFilter : Type 0
+ChangesByFilter = (f h : List Op) (s : Identifier) → Lawful h → IsLater f h → AreFiltered f h s
+
+-- nothing changed since now
+abbrev pub NothingSinceNow : Type 0
+NothingSinceNow = (h : List Op) → Lawful h → changes_text h h ≡ []
+
+-- what is told of a new section
+abbrev pub section_new : List Op → Identifier → List ℕ
+section_new h s = told h (new_head h s) (runs false [] h s)
+
+-- since the beginning each section is new, and so is each run of it
+pub record IsAllNew (h : List Op) : Type 0 where
+  pub sections : changes_text [] h ≡ flat_map (section_new h) (arranged h)
+  pub each : (s : Identifier) → All (λ (run : Stretch Mark). is_new run.key ≡ true) (runs false [] h s)
+
+abbrev pub AllSinceTheBeginning : Type 0
+AllSinceTheBeginning = (h : List Op) → Lawful h → IsAllNew h
+
+-- the numbers of a section add up to its shown text
+abbrev pub AuthorsTellAll : Type 0
+AuthorsTellAll = (h : List Op) (s : Identifier) → Lawful h → sum_by (λ (p : Stretch ℕ). length p.elements) (passages h s) ≡ length (text h s)

@@ -1,0 +1,82 @@
+-- A list written element by element, where a run is open or none is.
+use Rattle.std.specs.Prelude.{ℕ, ◌+◌, nat_eq, Option, Some, None, Bool, false, not, if◌then◌else◌, List, [], ◌∷◌, ◌++◌}
+use Rattle.std.specs.Str.{encode_utf8_all}
+use Rattle.fugue_ids.specs.Identifiers.{Identifier}
+use Rattle.fugue_ids.specs.declared.op.Op.{Op}
+use Rattle.change_marks.specs.Authors.{passage_line}
+use Rattle.origin_model.specs.order.Printed.{is_hidden}
+use Rattle.change_marks.specs.Changes.{dropped_told}
+use Rattle.change_marks.specs.Marks.{closing, letter, mark_eq, opening}
+use Rattle.change_marks.specs.declared.mark.Mark.{Mark}
+use Rattle.change_marks.specs.declared.mark.Mark.TheVariants.{Kept}
+use Rattle.change_marks.specs.declared.passages.Passage.{Passage}
+
+-- the open run has this mark
+abbrev pub is_open : Option Mark → Mark → Bool
+is_open None mark = false
+is_open (Some begun) mark = mark_eq begun mark
+
+-- what ends the open run
+abbrev pub closing_of : Option Mark → List ℕ
+closing_of None = []
+closing_of (Some begun) = closing begun
+
+-- the end of the open run and the start of the next one, unless they have one mark
+abbrev pub turn : Option Mark → Mark → List ℕ
+turn begun mark = if is_open begun mark then [] else closing_of begun ++ opening mark
+
+-- what an element adds, by its mark
+abbrev pub element_part : List Op → Option Mark → Option Mark → Identifier → List ℕ
+element_part h begun None x = []
+element_part h begun (Some mark) x = turn begun mark ++ encode_utf8_all (letter h x)
+
+-- the run that is open behind it
+abbrev pub open_behind : {K : Type 0} → Option K → Option K → Option K
+open_behind begun None = begun
+open_behind begun (Some mark) = Some mark
+
+-- what elements add, and the end of the last run
+abbrev pub parts_from : List Op → (Identifier → Option Mark) → Option Mark → List Identifier → List ℕ
+parts_from h key begun [] = closing_of begun
+parts_from h key begun (x ∷ xs) = element_part h begun (key x) x ++ parts_from h key (open_behind begun (key x)) xs
+
+-- the line of the open passage, where the next letter is of another replica
+abbrev pub passage_end : Option Passage → List ℕ
+passage_end None = []
+passage_end (Some p) = passage_line p.replica p.count
+
+-- the next letter is of the open passage
+abbrev pub goes_on : Option Passage → Identifier → Bool
+goes_on None x = false
+goes_on (Some p) x = nat_eq p.replica x.replica
+
+-- how many letters it has
+abbrev pub count_in : Option Passage → ℕ
+count_in None = 0
+count_in (Some p) = p.count
+
+-- how many letters of the passage of a letter stand before it
+abbrev pub carried : Option Passage → Identifier → ℕ
+carried begun x = if goes_on begun x then count_in begun else 0
+
+-- the passage that is open behind a letter
+abbrev pub passage_behind : Option Passage → Identifier → Passage
+passage_behind begun x = record { replica = x.replica; count = carried begun x + 1 }
+
+-- the line of a passage that a letter ends
+abbrev pub line_before : Option Passage → Identifier → List ℕ
+line_before begun x = if goes_on begun x then [] else passage_end begun
+
+-- the lines of letters, where a passage is begun
+abbrev pub lines_from : Option Passage → List Identifier → List ℕ
+lines_from begun [] = passage_end begun
+lines_from begun (x ∷ xs) = line_before begun x ++ lines_from (Some (passage_behind begun x)) xs
+
+-- the element is in a run that has marks around it
+abbrev pub is_changed_element : Option Mark → Bool
+is_changed_element None = false
+is_changed_element (Some mark) = not (mark_eq mark Kept)
+
+-- what is told of a section of f where h hides it
+abbrev pub dropped_part : (f h : List Op) → Identifier → List ℕ
+dropped_part f h s = if is_hidden h s then dropped_told f h s else []

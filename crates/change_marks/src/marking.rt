@@ -1,0 +1,100 @@
+//! What begins and ends a run, put where one run ends and the next one begins.
+ghost use Rattle.std.specs.Prelude.{◌≡◌, ◌++◌};
+ghost use Rattle.std.specs.Str.{encode_utf8_all};
+ghost use Rattle.fugue_ids.specs.Gathers.{GathersText};
+ghost use Rattle.change_marks.specs.Marks.{letter, opening};
+ghost use Rattle.change_marks.specs.Steps.{closing_of, is_open as is_open_as, turn};
+
+use crate::Mark;
+use fugue_ids::{ElementId, Failed, Gather, Op, Out};
+use itoa::Buffer;
+use replica_core::Replica;
+
+/// Whether the open run has the mark.
+fn is_open(begun: Option<Mark>, mark: Mark) -> bool
+    ensures { result ≡ is_open_as begun mark }
+{
+    match (begun, mark) {
+        (Some(Mark::Kept), Mark::Kept) | (Some(Mark::Gone), Mark::Gone) => true,
+        (Some(Mark::New(begun)), Mark::New(replica)) => begun == replica,
+        _ => false,
+    }
+}
+
+fn put_opening<O: Out>(gather: &mut Gather, output: &mut O, mark: Mark) -> Result<(), Failed>
+    ensures { GathersText (O.seen output.old) (O.seen output.new) gather.old gather.new result (opening mark) }
+{
+    let bytes: &[u8] = match mark {
+        Mark::Kept => b"",
+        Mark::New(_) => b"{++",
+        Mark::Gone => b"{--",
+    };
+    gather.put(output, bytes)
+}
+
+/// Ends the run that is begun.
+pub(crate) fn put_closing<O: Out>(
+    gather: &mut Gather,
+    output: &mut O,
+    begun: Option<Mark>,
+) -> Result<(), Failed>
+    ensures { GathersText (O.seen output.old) (O.seen output.new) gather.old gather.new result (closing_of begun) }
+{
+    match begun {
+        Some(Mark::New(replica)) => {
+            let mut number = Buffer::new();
+            let digits = number.format(replica);
+            gather.put_pieces(output, &[b"++}{>>", digits.as_bytes(), b"<<}"])
+        }
+        Some(Mark::Gone) => gather.put(output, b"--}"),
+        Some(Mark::Kept) | None => gather.put(output, b""),
+    }
+}
+
+/// Ends the run that is begun and begins the next one, unless they have one mark.
+fn put_turn<O: Out>(
+    gather: &mut Gather,
+    output: &mut O,
+    begun: Option<Mark>,
+    mark: Mark,
+) -> Result<(), Failed>
+    ensures { GathersText (O.seen output.old) (O.seen output.new) gather.old gather.new result (turn begun mark) }
+{
+    if is_open(begun, mark) {
+        return gather.put(output, b"");
+    }
+    put_closing(gather, output, begun)?;
+    put_opening(gather, output, mark)
+}
+
+/// Puts the letter of an element.
+fn put_letter<O: Out>(
+    gather: &mut Gather,
+    output: &mut O,
+    replica: &Replica,
+    id: ElementId,
+) -> Result<(), Failed>
+    ensures { GathersText (O.seen output.old) (O.seen output.new) gather.old gather.new result
+        (encode_utf8_all (letter replica.now.held.history id)) }
+{
+    match replica.holder(id) {
+        Some(Op::Text { ch, .. }) => gather.put_scalar(output, *ch),
+        _ => gather.put(output, b""),
+    }
+}
+
+/// Puts an element with a mark behind a run.
+pub(crate) fn put_marked<O: Out>(
+    gather: &mut Gather,
+    output: &mut O,
+    replica: &Replica,
+    begun: Option<Mark>,
+    mark: Mark,
+    id: ElementId,
+) -> Result<(), Failed>
+    ensures { GathersText (O.seen output.old) (O.seen output.new) gather.old gather.new result
+        (turn begun mark ++ encode_utf8_all (letter replica.now.held.history id)) }
+{
+    put_turn(gather, output, begun, mark)?;
+    put_letter(gather, output, replica, id)
+}
