@@ -93,7 +93,7 @@ no_change false is r e = absurd (false≢true e)
 no_change true false r e = refl
 no_change true true r e = refl
 
-none_changed : (key : Identifier → Option Mark) (xs : List Identifier) → ((x : Identifier) → Contains xs x → is_changed_element (key x) ≡ false) → list_any (λ x. is_changed_element (key x)) xs ≡ false
+pub none_changed : (key : Identifier → Option Mark) (xs : List Identifier) → ((x : Identifier) → Contains xs x → is_changed_element (key x) ≡ false) → list_any (λ x. is_changed_element (key x)) xs ≡ false
 none_changed key [] e = refl
 none_changed key (x ∷ xs) e = ap (λ b. b || list_any (λ y. is_changed_element (key y)) xs) (e x (contains_here x xs)) ∙ none_changed key xs (λ y m. e y (contains_there x xs y m))
 

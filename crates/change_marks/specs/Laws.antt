@@ -1,5 +1,5 @@
 -- Laws of what changed, and of who wrote what.
-use Rattle.std.specs.Prelude.{◌≡◌, ℕ, Bool, true, false, List, [], filter, flat_map, length, sum_by}
+use Rattle.std.specs.Prelude.{◌≡◌, ◌<◌, ℕ, nat_eq, Bool, true, false, Option, Some, List, [], ◌∷◌, filter, flat_map, is_some, length, sum_by}
 use Rattle.std.specs.List.{All}
 use Rattle.fugue_ids.specs.Identifiers.{Identifier}
 use Rattle.fugue_ids.specs.declared.op.Op.{Op}
@@ -8,8 +8,8 @@ use Rattle.origin_model.specs.order.Printed.{text}
 use Rattle.catalogue_notes.specs.Arranged.{arranged}
 use Rattle.change_marks.specs.Authors.{passages}
 use Rattle.change_marks.specs.Changes.{IsLater, changes_text, new_head, told}
-use Rattle.change_marks.specs.Marks.{letters, runs}
-use Rattle.change_marks.specs.Stretches.{Stretch}
+use Rattle.change_marks.specs.Marks.{letters, mark_eq, runs}
+use Rattle.change_marks.specs.Stretches.{Stretch, stretches}
 use Rattle.change_marks.specs.declared.mark.Mark.{Mark}
 use Rattle.change_marks.specs.declared.mark.Mark.TheVariants.{Kept, New, Gone}
 
@@ -61,3 +61,21 @@ AllSinceTheBeginning = (h : List Op) → Lawful h → IsAllNew h
 -- the numbers of a section add up to its shown text
 abbrev pub AuthorsTellAll : Type 0
 AuthorsTellAll = (h : List Op) (s : Identifier) → Lawful h → sum_by (λ (p : Stretch ℕ). length p.elements) (passages h s) ≡ length (text h s)
+
+-- no two stretches that follow one another have one key
+abbrev pub AreApart : {K : Type 0} → (K → K → Bool) → List (Stretch K) → Type 0
+AreApart same [] = Unit {0}
+AreApart same (s ∷ []) = Unit {0}
+AreApart same (s ∷ t ∷ ss) = (same s.key t.key ≡ false) × AreApart same (t ∷ ss)
+
+-- the stretches, joined, are the elements that have a key, each in a stretch of its key; none is empty, and none could be longer
+pub record AreLongest {K : Type 0} (same : K → K → Bool) (key : Identifier → Option K) (xs : List Identifier) (ss : List (Stretch K)) : Type 0 where
+  pub all : flat_map (λ (s : Stretch K). s.elements) ss ≡ filter (λ x. is_some (key x)) xs
+  pub keys : All (λ (s : Stretch K). All (λ x. key x ≡ Some s.key) s.elements) ss
+  pub some : All (λ (s : Stretch K). 0 < length s.elements) ss
+  pub apart : AreApart same ss
+
+-- that holds of the runs of marks and of the runs of replicas
+pub record StretchesAreLongest : Type 0 where
+  pub marks : (key : Identifier → Option Mark) (xs : List Identifier) → AreLongest mark_eq key xs (stretches mark_eq key xs)
+  pub replicas : (key : Identifier → Option ℕ) (xs : List Identifier) → AreLongest nat_eq key xs (stretches nat_eq key xs)

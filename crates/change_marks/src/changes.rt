@@ -23,7 +23,8 @@ fn put_sections<'a, O: Out>(
     then: &'a Headings<'a>,
     now: &'a Headings<'a>,
 ) -> Result<(), Failed>
-    requires { Lawful now.now }
+    requires lawful { Lawful now.now }
+    requires later { IsLater then.now now.now }
     ensures { GathersText (O.seen output.old) (O.seen output.new) gather.old gather.new result
         (flat_map (section_told then.now now.now) (arranged now.now)) }
 {

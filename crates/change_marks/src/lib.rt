@@ -13,5 +13,5 @@ mod told;
 
 pub use authors::write_authors;
 pub use changes::write_changes;
-pub use laws::{authors_tell_all, changes_by_filter, changes_of_all};
+pub use laws::{authors_tell_all, changes_by_filter, changes_of_all, runs_are_longest};
 pub use mark::Mark;

@@ -1,5 +1,5 @@
 //! What is told of each section.
-ghost use Rattle.std.specs.Prelude.{◌≡◌, ◌++◌, ◌∷◌, [], Contains, true};
+ghost use Rattle.std.specs.Prelude.{◌≡◌, ◌++◌, ◌∷◌, [], Contains, length, true};
 ghost use Rattle.fugue_ids.specs.Gathers.{GathersText};
 ghost use Rattle.origin_model.specs.declared.operations.Place.TheVariants.{Catalogue as catalogue, Section as within};
 ghost use Rattle.origin_model.specs.edits.State.{Stands};
@@ -8,7 +8,7 @@ ghost use Rattle.section_list.specs.Cells.{section_cell_ids, section_cells_shown
 ghost use Rattle.origin_model.specs.order.Printed.{shown};
 ghost use Rattle.catalogue_notes.specs.Arranged.{arranged};
 ghost use Rattle.catalogue_notes.specs.Lift.{is_section};
-ghost use Rattle.change_marks.specs.Changes.{dropped_told, is_changed as changed_in, section_told};
+ghost use Rattle.change_marks.specs.Changes.{IsLater, dropped_told, is_changed as changed_in, section_told};
 ghost use Rattle.change_marks.specs.Marks.{marked, runs};
 
 use crate::heads::{head_is_marked, put_dropped_head, put_head};
@@ -30,10 +30,27 @@ pub(crate) fn elements_of(replica: &Replica, section: ElementId) -> &SectionList
     list
 }
 
+/// Whether the section has as many elements, and as many shown ones, as it had: then it is as it was.
+fn has_same_counts(front: &Replica, list: &SectionList, section: ElementId) -> bool
+    ensures all { result ≡ true → length (order (within section) front.now.held.history)
+        ≡ length (section_cell_ids list.now.cells) }
+    ensures some { result ≡ true → length (shown (within section) front.now.held.history)
+        ≡ length (section_cell_ids (section_cells_shown list.now.cells)) }
+{
+    match front.places().section(section) {
+        Some(old) => {
+            let same_len = old.len() == list.len();
+            same_len && old.visible_count() == list.visible_count()
+        }
+        None => false,
+    }
+}
+
 /// Whether something is to be told of a section.
 fn is_changed(then: &Headings, now: &Headings, section: ElementId) -> bool
     requires section { is_section now.now section ≡ true }
     requires listed { Contains (order catalogue now.now) section }
+    requires later { IsLater then.now now.now }
     ensures { result ≡ changed_in then.now now.now section }
 {
     if head_is_marked(then, now, section) {
@@ -41,7 +58,11 @@ fn is_changed(then: &Headings, now: &Headings, section: ElementId) -> bool
     }
     let front = then.replica();
     let replica = now.replica();
-    has_marks(front, replica, elements_of(replica, section))
+    let list = elements_of(replica, section);
+    if has_same_counts(front, list, section) {
+        return false;
+    }
+    has_marks(front, replica, list)
 }
 
 /// Puts the runs of a section and LF.
@@ -74,6 +95,7 @@ pub(crate) fn put_section<'a, O: Out>(
 ) -> Result<(), Failed>
     requires section { is_section now.now section ≡ true }
     requires listed { Contains (order catalogue now.now) section }
+    requires later { IsLater then.now now.now }
     ensures { GathersText (O.seen output.old) (O.seen output.new) gather.old gather.new result
         (section_told then.now now.now section) }
 {

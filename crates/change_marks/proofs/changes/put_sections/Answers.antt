@@ -38,7 +38,7 @@ put_section-requires-clause-section g c =
     let xs : List Identifier = arranged h in
     let below : c.walk.section-index < length xs = omega (arith, c.walk-test.true, ap length c.sections-sections.ensures) in
     let is : c.section-item.result ≡ get_or xs c.walk.section-index c.section-item.result = c.section-item.is ∙ ap (λ ys. get_or ys c.walk.section-index c.section-item.result) c.sections-sections.ensures in
-    arranged_section h c.section-item.result c.requires (arranged_member h c.walk.section-index c.section-item.result below is)
+    arranged_section h c.section-item.result c.requires.lawful (arranged_member h c.walk.section-index c.section-item.result below is)
 
 pub put_section-requires-clause-listed : goal.put_section-requires-clause-listed
 put_section-requires-clause-listed g c =
