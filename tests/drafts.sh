@@ -133,7 +133,7 @@ check 'leaves the file as it was' cmp -s "$f" "$work/before"
 answered 'sed -i s/#/hello/' $'y\n'
 check 'a draft that is refused' [ $? = 2 ]
 check 'is kept' grep -q 'bad draft at line 1$' "$work/notes"
-check 'beside the file' [ "$(left)" = '.f.ms.base .f.ms.draft' -a "$(head -n 1 "$draft")" = 'hello A' ]
+check 'beside the file' [ "$(left)" = '.f.ms.base .f.ms.draft .f.ms.number' -a "$(head -n 1 "$draft")" = 'hello A' ]
 check 'and told' grep -qxF "manuscript-write: not saved. The draft is kept: $draft" "$work/notes"
 check 'to save it as it is is no way on' [ "$(grep -c 'manuscript revise' "$work/notes")" = 0 ]
 check 'it is not saved' cmp -s "$f" "$work/before"
@@ -143,26 +143,59 @@ check 'and where it was mended to what it began with, nothing is left' [ -z "$(l
 answered 'sed -i s/#/hello/' $'y\n'
 answered 'sed -i s/1/one/' $'n\n'
 check 'one that is not gone on with' [ $? = 0 ]
-check 'is kept too' [ "$(left)" = '.f.ms.base.1 .f.ms.draft.1' -a "$(head -n 1 "$draft.1")" = 'hello A' ]
+check 'is kept too' [ "$(left)" = '.f.ms.base.1 .f.ms.draft.1 .f.ms.number.1' -a "$(head -n 1 "$draft.1")" = 'hello A' ]
 try 'and a new one was begun' nothing 0 '# A\none two\n# B\nthree\n' '' arrange "$f"
 forget
 begin
 cat >"$work/slow" <<END
 #!/bin/sh
-# An editor that takes its time: the file is changed meanwhile, the first time.
+# An editor that takes its time: the author changes the file meanwhile, the first time.
 [ -e "$work/meanwhile" ] || { echo 'put 2 5  four' | "$program" edit "$f" 2>"$work/meanwhile"; sed -i s/two/2/ "\$1"; }
 END
 chmod +x "$work/slow"
 write_by "$work/slow"
-check 'a file that was changed meanwhile is merged' [ $? = 0 ]
+check 'a file that its author changed meanwhile is merged' [ $? = 0 ]
 try 'and both changes are saved' nothing 0 '# A\none 2\n# B\nthree four\n' '' arrange "$f"
 check 'nothing is left of that' [ -z "$(left)$(ls "$TMPDIR")" ]
+
 write_by false
 check 'an editor that fails' [ $? = 1 -a -z "$(left)" ]
 write_by "sh -c 'sed -i s/2/two/ \"\$1\"; false' -"
-check 'one that fails behind a change' [ $? = 1 -a "$(left)" = '.f.ms.base .f.ms.draft' ]
+check 'one that fails behind a change' [ $? = 1 -a "$(left)" = '.f.ms.base .f.ms.draft .f.ms.number' ]
 write_by true
 check 'the change is saved at the next start' [ "$(sed -n '$p' "$work/notes")" = 'made 6' -a -z "$(left)" ]
+
+# What another author's file brings meanwhile is kept, and nothing is asked or merged by lines.
+begin
+g=$work/g.ms
+begin_other() {
+    rm -f "$g"
+    "$program" new "$g" 2 16 <"$work/nothing" && "$program" merge "$g" "$f" <"$work/nothing" 2>"$work/notes"
+    echo 'put 1 7  five' | "$program" edit "$g" 2>"$work/notes"
+}
+begin_other
+cat >"$work/brings" <<END
+#!/bin/sh
+"$program" merge "$f" "$g" 2>/dev/null && sed -i s/one/1/ "\$1"
+END
+printf '#!/bin/sh\nexit 9\n' >"$work/git"
+chmod +x "$work/brings" "$work/git"
+PATH=$work:$PATH write_by "$work/brings"
+compare 'what came from another author meanwhile' $? 0 '' 'made 6\n'
+try 'is kept beside what was written' nothing 0 '# A\n1 two five\n# B\nthree\n' '' arrange "$f"
+check 'and nothing is left' [ -z "$(left)$(ls "$TMPDIR")" ]
+rm "$work/git"
+begin
+begin_other
+cp "$base" "$work/.f.ms.base"
+echo 14 >"$work/.f.ms.number"
+sed s/one/1/ "$base" >"$draft"
+"$program" revise "$f" "$base" 14 <"$draft" 2>"$work/notes"
+"$program" merge "$f" "$g" <"$work/nothing" 2>"$work/notes"
+write_by true
+check 'a draft that was saved before a machine failed, and others came' [ $? = 0 ]
+try 'is there once' nothing 0 '# A\n1 two five\n# B\nthree\n' '' arrange "$f"
+check 'and nothing is left of it' [ -z "$(left)" ]
 
 # What a machine that failed left: a draft that was saved, one with nothing changed, and one alone.
 begin
@@ -253,7 +286,7 @@ for cut in 'truncate -s 0' "sed -i '/B/,\$d'" 'truncate -s 10'; do
     check "$cut: no" [ $? = 2 ]
     check "$cut: nothing is saved" cmp -s "$f" "$work/before"
 done
-check 'and the draft is kept' [ "$(left)" = '.f.ms.base .f.ms.draft' ]
+check 'and the draft is kept' [ "$(left)" = '.f.ms.base .f.ms.draft .f.ms.number' ]
 check 'the section that is gone was named' grep -qx '    # B' "$work/named"
 forget
 answered 'truncate -s -1' ''
@@ -377,7 +410,7 @@ if command -v setsid >/dev/null && env --default-signal=INT true 2>/dev/null; th
     VISUAL=$work/ends env --default-signal=INT setsid --wait "$writes" "$f" <"$work/nothing" >"$work/output" 2>"$work/notes"
     check 'one that ends' [ $? = 1 ]
     check 'and its draft is kept' grep -q 'not saved. The draft is kept' "$work/notes"
-    check 'and nothing else' [ "$(left)$(ls "$TMPDIR")" = '.f.ms.base .f.ms.draft' ]
+    check 'and nothing else' [ "$(left)$(ls "$TMPDIR")" = '.f.ms.base .f.ms.draft .f.ms.number' ]
     forget
 else
     echo 'not tried: an editor that is interrupted, since there is no setsid, or no env that puts a signal back'
