@@ -32,7 +32,7 @@ enum About {
 /// How a diagnostic begins, what its reason is about, and the reason.
 type Row = (&'static str, About, &'static str);
 
-const ROWS: [Row; 21] = [
+const ROWS: [Row; 23] = [
     (
         "bad frame at byte ",
         About::Input,

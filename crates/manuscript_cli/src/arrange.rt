@@ -25,7 +25,8 @@ impl Report for Arrangement {
 
 /// Writes the sections as they are arranged, under their headings.
 pub(crate) fn put_arrangement<O: Sink>(alloc: Global, replica: &Replica, output: &mut O) -> Told
-    ensures { GoesOut (arranged_text replica.now.held.history) (change (O.seen output.old) (O.seen output.new)) result }
+    ensures { GoesOut (arranged_text replica.now.held.history)
+        (change (O.seen output.old) (O.seen output.new)) result }
 {
     match write_arranged(alloc, replica, output) {
         Ok(()) => gone_out(Ok(())),

@@ -14,8 +14,8 @@ ghost use Rattle.version_views.specs.declared.limits.TheConstants.{LONGEST_NAME,
 ghost use Rattle.manuscript_cli.specs.Past.{PastIsArranged, PastStays};
 ghost use Rattle.manuscript_cli.specs.Runs.{EachFinishedIsIn};
 ghost use Rattle.manuscript_cli.specs.declared.check.TheConstants.{LONGEST_TEXT};
-ghost use Rattle.manuscript_cli.specs.declared.words.TheConstants.{GREATEST_CURSOR, GREATEST_MOMENT, GREATEST_PLACE, GREATEST_PORT};
-ghost use Rattle.manuscript_cli.specs.declared.words.TheConstants.{GREATEST_REPLICA, GREATEST_SEED};
+ghost use Rattle.manuscript_cli.specs.declared.words.TheConstants.{GREATEST_CURSOR, GREATEST_MOMENT, GREATEST_PLACE};
+ghost use Rattle.manuscript_cli.specs.declared.words.TheConstants.{GREATEST_PORT, GREATEST_REPLICA, GREATEST_SEED};
 ghost use Rattle.manuscript_cli.specs.declared.words.TheConstants.{MOST_SESSIONS, USUAL_HOLD};
 
 /// Each limit, and the code of each kind of note, in numbers. The contracts name them, so that each stands once.
