@@ -2,7 +2,8 @@
 # Compiles the LLVM module of the program for WebAssembly: build.sh MODULE PROGRAM
 #
 # The module was made for x86-64. Here it gets the data layout of wasm64, the toolchain's clang compiles it, and it is
-# linked with heap.c. All else that it needs of a system has to be in imports.txt. No proof covers any of this.
+# linked with heap.c. All else that it needs of a system has to be in imports.txt. Where wasm-opt is there, addresses of 64
+# bits become such of 32, which more browsers have. No proof covers any of this.
 set -euo pipefail
 here=$(cd "$(dirname "$0")" && pwd)
 clang=$(dirname "$(dirname "$(realpath "$(command -v "${RT:-rt}" || echo /)")")")/toolchain/bin/clang
@@ -47,10 +48,21 @@ link() {
         -z stack-size=1048576 --stack-first --allow-undefined-file="$here/imports.txt" \
         --export=main --export=desk_take --export=desk_limit \
         -o "$work/program.wasm" "$work/program.o" "$work/heap.o" || fail 'the program cannot be linked for WebAssembly'
-    install -D -m 644 "$work/program.wasm" "$program"
+}
+
+lower() {
+    if command -v wasm-opt >/dev/null; then
+        wasm-opt --all-features --memory64-lowering "$work/program.wasm" -o "$work/lowered.wasm" ||
+            fail 'wasm-opt cannot make the addresses short'
+        mv "$work/lowered.wasm" "$work/program.wasm"
+    else
+        echo 'desk: there is no wasm-opt (package binaryen), so the page needs a browser with 64-bit memory' >&2
+    fi
 }
 
 [ -x "$clang" ] || fail "the toolchain of ${RT:-rt} has no clang"
 retarget
 compile
 link
+lower
+install -D -m 644 "$work/program.wasm" "$program"

@@ -40,12 +40,18 @@ static u64 rounded(u64 size, u64 unit) {
     return (size + unit - 1) / unit * unit;
 }
 
+// Asks the engine for so many pages, and answers whether it gave them. Memory of 32 bits answers the greatest number of 32
+// bits where it did not, and memory of 64 bits that of 64.
+static int grow_by(u64 pages) {
+    return (u64)__builtin_wasm_memory_grow(0, pages) < 0xfffffffful;
+}
+
 // Takes memory from the engine up to this address, and an eighth more if possible, so that this is done seldom.
 static int grow_to(u64 address) {
     u64 pages = __builtin_wasm_memory_size(0), least = rounded(address, PAGE) / PAGE - pages, more = least + pages / 8;
     if (address > limit) return 0;
-    if ((pages + more) * PAGE > limit || __builtin_wasm_memory_grow(0, more) == ~0ul) {
-        if (__builtin_wasm_memory_grow(0, least) == ~0ul) return 0;
+    if ((pages + more) * PAGE > limit || !grow_by(more)) {
+        if (!grow_by(least)) return 0;
     }
     end = __builtin_wasm_memory_size(0) * PAGE;
     return 1;
