@@ -2,7 +2,7 @@
 use Rattle.std.proofs.Common.{Bool, List, [], ap, append-nil, append_assoc, arith, drop, false, get_or, inl, inr, length, length-append, refl, subst, suc, sym, take, true, zero, ℕ, ◌++◌, ◌+◌, ◌-◌, ◌<◌, ◌^◌, ◌∙◌, ◌∷◌, ◌≡◌, ◌≢◌, ◌≤◌}
 use Rattle.std.specs.Prelude.{◌↔◌, All, Contains, None, Option, Some, flat_map, is_some, map, option_to_list}
 use Rattle.std.proofs.lemmas.Bool.{cases_lt, false_from_ne_true, true≢false}
-use Rattle.std.proofs.lemmas.List.Elements.{All-cons, All-nil, All-weaker}
+use Rattle.std.proofs.lemmas.List.Elements.{All-cons, All-head, All-nil, All-tail, All-weaker}
 use Rattle.fugue_ids.specs.Identifiers.{Identifier, id_eq}
 use Rattle.fugue_ids.specs.Ops.{id_of}
 use Rattle.fugue_ids.specs.Runs.{id_behind, ids_in_a_row, in_a_row, next_id, run_from, start_behind, text_by}
@@ -19,11 +19,11 @@ use Rattle.origin_model.specs.edits.Effect.{with_ops}
 use Rattle.origin_model.specs.edits.RunLaws.{CanGoIn, GoesIn}
 use Rattle.origin_model.specs.edits.State.{State, Stands}
 use Rattle.origin_model.specs.operations.Counters.{mentioned}
-use Rattle.origin_model.specs.operations.History.{holds, is_own}
+use Rattle.origin_model.specs.operations.History.{has_op, holds, is_own}
 use Rattle.origin_model.specs.operations.Verdict.{names, verdict}
 use Rattle.origin_model.specs.declared.operations.Verdict.TheVariants.{Ready}
-use Rattle.origin_model.specs.taking.Taking.{Accepted, Answer, Full, HasPlace, Held, IsSettled, TooMany, answer, answers_from, held_from, intake, intake_counted, is_kept, kept_from, tally_from}
-use Rattle.origin_model.proofs.SharedLemmas.{held-append, holds-other, kept-append, kept_suffice, own_id, places-append, places-none, places-one, tally-append}
+use Rattle.origin_model.specs.taking.Taking.{Accepted, Again, Answer, Full, HasPlace, Held, IsSettled, TooMany, answer, answers_from, held_from, intake, intake_counted, is_kept, kept_from, no_counts, tally_from}
+use Rattle.origin_model.proofs.SharedLemmas.{held-append, holds-other, kept-append, kept-no, kept_suffice, own_id, places-append, places-none, places-one, tally-append}
 use Rattle.origin_model.proofs.edits.EditIntakeLemmas.{comes}
 use Rattle.origin_model.proofs.edits.FreshIdLemmas.{IsUnknown}
 use Rattle.origin_model.proofs.edits.RunLemmas.{runs_go_in_whole}
@@ -33,6 +33,7 @@ use Rattle.replica_core.specs.Keeping.{LeavesUnkept, TakesInKeeping}
 use Rattle.replica_core.specs.Told.{Leaves, total}
 use Rattle.replica_core.specs.declared.keeping.FeedFault.{FeedFault}
 use Rattle.replica_core.specs.declared.keeping.FeedFault.TheVariants.{NoMemory as FedNoMemory, TooMany as FedTooMany}
+use Rattle.replica_core.proofs.FeedLemmas.{fed_quietly}
 use Rattle.replica_core.proofs.JoinLemmas.{can_be_accepted, first_can}
 
 -- One list behind another
@@ -382,3 +383,68 @@ letter_unkept s new start text ch op t u kept kept_new fault settled some is sam
   where
     at : (op : Op) (rest : List Op) → (fault ≡ FedTooMany s.most) ↔ (answer s.hold s.most s.held op ≡ TooMany) → LeavesUnkept s new op t u fault → StopsKeeping (op ∷ rest) s new t u kept kept_new fault
     at op rest many leaves = record { some = stops_some s op rest t fault settled many; leaves = leaves; kept_are = unkept ∙ sym (append-nil kept) }
+
+-- Operations that are accepted already
+
+-- what becomes of them
+record IsRepeated (hold most : ℕ) (s : Held) (ops : List Op) : Type 0 where
+  place : HasPlace hold most s ops
+  held : held_from hold most s ops ≡ s
+  kept : kept_from hold most s ops ≡ []
+  counted : (t : Tally) → tally_from hold most s ops t ≡ record t { repeated = t.repeated + length ops }
+
+repeated_all : (hold most : ℕ) (s : Held) (ops : List Op) → IsSettled s → All (λ op. has_op s.history op ≡ true) ops → IsRepeated hold most s ops
+repeated_all hold most s [] settled there = record {
+  place = places-none hold most s;
+  held = refl;
+  kept = refl;
+  counted = λ t. let e : t.repeated ≡ t.repeated + 0 = omega arith in λ i. record t { repeated = e i };
+}
+repeated_all hold most s (op ∷ ops) settled there =
+    let here : has_op s.history op ≡ true = All-head (λ o. has_op s.history o ≡ true) op ops there in
+    let rest : IsRepeated hold most s ops = repeated_all hold most s ops settled (All-tail (λ o. has_op s.history o ≡ true) op ops there) in
+    let again : answer hold most s op ≡ Again = repeated_one hold most s op here in
+    let same : intake hold most s op ≡ s = sym (fed_quietly hold most s op Again no_counts again settled).held in
+    record {
+      place = All-cons (λ (a : Answer). a ≢ TooMany) (answer hold most s op) (answers_from hold most (intake hold most s op) ops) (λ many. again_or_many (sym again ∙ many))
+          (subst (λ (u : Held). HasPlace hold most u ops) (sym same) rest.place);
+      held = ap (λ (u : Held). held_from hold most u ops) same ∙ rest.held;
+      kept = kept-no hold most s op ops (ap is_kept again) ∙ ap (λ (u : Held). kept_from hold most u ops) same ∙ rest.kept;
+      counted = λ t.
+          let one : intake_counted hold most s op t ≡ record t { repeated = t.repeated + 1 } = sym (fed_quietly hold most s op Again t again settled).counted in
+          let more : t.repeated + 1 + length ops ≡ t.repeated + suc (length ops) = omega arith in
+          (λ i. tally_from hold most (same i) ops (one i)) ∙ rest.counted (record t { repeated = t.repeated + 1 }) ∙ (λ i. record t { repeated = more i });
+    }
+  where
+    again_or_many : Again ≡ TooMany → ⊥
+    again_or_many e = cc e
+
+    repeated_one : (hold most : ℕ) (s : Held) (op : Op) → has_op s.history op ≡ true → answer hold most s op ≡ Again
+    repeated_one hold most s op here = rw (here, answer)
+
+-- they are counted, and nothing else changes
+repeats_all : (s new : State) (ops : List Op) (t u : Tally) (n : ℕ) → IsSettled s.held → All (λ op. has_op s.held.history op ≡ true) ops → new ≡ s → n ≡ length ops
+    → u ≡ record t { repeated = t.repeated + n } → TakesInAll s new ops t u
+repeats_all s new ops t u n settled there is many counted =
+    let r = repeated_all s.hold s.most s.held ops settled there in
+    let more : u ≡ record t { repeated = t.repeated + length ops } = counted ∙ (λ i. record t { repeated = t.repeated + many i }) in
+    let totals : total u ≡ total (record t { repeated = t.repeated + length ops }) = ap total more in
+    let waiting : length new.held.waiting ≡ length s.held.waiting = ap (λ (x : State). length x.held.waiting) is in
+    record {
+      has_place = r.place;
+      replica = is ∙ ap (λ (h : Held). record s { held = h }) (sym r.held);
+      counts = more ∙ sym (r.counted t);
+      settled = subst (λ (x : State). IsSettled x.held) (sym is) settled;
+      once = omega (arith, waiting, totals);
+    }
+
+-- and none of them is kept
+pub repeats_kept : (s : State) (ops : List Op) (kept : List Op) → IsSettled s.held → All (λ op. has_op s.held.history op ≡ true) ops → kept ≡ kept ++ kept_from s.hold s.most s.held ops
+repeats_kept s ops kept settled there = sym (ap (λ (z : List Op). kept ++ z) (repeated_all s.hold s.most s.held ops settled there).kept ∙ append-nil kept)
+
+-- a front of a run that is accepted already
+pub run_repeats : (s : State) (start : RunStart) (text : List ℕ) (n : ℕ) (t : Tally) → n ≤ length text → IsSettled s.held → All (λ op. has_op s.held.history op ≡ true) (run_from start (take n text))
+    → TakesInAll s s (run_from start (take n text)) t (record t { repeated = t.repeated + n })
+run_repeats s start text n t within settled there =
+    let many : length (run_from start (take n text)) ≡ n = length-run start (take n text) ∙ length-front text n within in
+    repeats_all s s (run_from start (take n text)) t (record t { repeated = t.repeated + n }) n settled there refl (sym many) refl

@@ -1,6 +1,10 @@
 -- The positions of a run that joins a history.
-use Rattle.std.proofs.Common.{◌≡◌, ◌∙◌, ap, append-nil, arith, get_or, length, refl, subst, suc, sym, take, true, false, zero, ℕ, ◌+◌, ◌<◌, ◌≤◌, ◌++◌, ◌∷◌, List, []}
-use Rattle.std.specs.Prelude.{Option, Some, reverse}
+use Rattle.std.proofs.Common.{◌≡◌, ◌∙◌, ◌||◌, ap, append-nil, arith, drop, get_or, inl, inr, length, refl, subst, suc, sym, take, true, false, zero, ℕ, ◌+◌, ◌<◌, ◌≤◌, ◌++◌, ◌∷◌, List, []}
+use Rattle.std.specs.Prelude.{All, Option, Some, reverse}
+use Rattle.std.proofs.lemmas.List.Elements.{All-push, All-weaker}
+use Rattle.std.proofs.lemmas.List.{reverse-append}
+use Rattle.std.proofs.lemmas.Bool.{or_cases, or_left, or_right}
+use Rattle.fugue_ids.specs.Ops.{op_eq}
 use Rattle.std.specs.FinMap.{FinMap, get}
 use Rattle.std.proofs.lemmas.Bool.{false_from_ne_true, true≢false}
 use Rattle.std.proofs.lemmas.List.{reverse-reverse}
@@ -11,8 +15,8 @@ use Rattle.fugue_ids.specs.declared.op.Op.TheVariants.{Text}
 use Rattle.fugue_ids.specs.declared.run.RunStart.{RunStart}
 use Rattle.fugue_ids.proofs.RunLemmas.{length-typed, none_behind, one_behind, typed-append}
 use Rattle.origin_model.specs.edits.Edits.{ReadyInTurn, extended}
-use Rattle.origin_model.specs.operations.History.{accepted, holds}
-use Rattle.origin_model.proofs.SharedLemmas.{holds-older}
+use Rattle.origin_model.specs.operations.History.{accepted, has_op, holds}
+use Rattle.origin_model.proofs.SharedLemmas.{has-append, holds-older}
 use Rattle.origin_model.proofs.edits.MadeLemmas.{extended-append, join_at_end}
 use Rattle.stretch_map.specs.Rules.{AreFree}
 use Rattle.stretch_map.specs.declared.follows.Position.{Position}
@@ -89,3 +93,46 @@ pub appended_joins : (ops new run : List Op) → new ≡ ops ++ run → reverse 
 appended_joins ops new run is =
     let h : List Op = reverse ops in
     ap reverse (is ∙ ap (λ z. z ++ run) (sym (reverse-reverse ops)) ∙ sym (join_at_end h run)) ∙ reverse-reverse (extended h run)
+
+-- one letter more of the front of a run
+one_longer : (start : RunStart) (text : List ℕ) (n ch : ℕ) → n < length text → ch ≡ get_or text n ch → run_from start (take (n + 1) text) ≡ run_from start (take n text) ++ text_by (start_behind start n) ch ∷ []
+one_longer start text n ch less is =
+    let front : List ℕ = take n text in
+    let len : length front ≡ n = length-front text n (omega (arith, less)) in
+    let up : n + 1 ≡ suc n = omega arith in
+    ap (λ k. run_from start (take k text)) up
+    ∙ ap (run_from start) (take_one text n ch less is)
+    ∙ typed-append start.id start.section start.left start.right front (ch ∷ [])
+    ∙ (λ i. run_from start front ++ in_a_row (id_behind start.id (len i)) start.section (left_behind start.left start.id (len i)) start.right (ch ∷ []))
+  where
+    take_one : (text : List ℕ) (n ch : ℕ) → n < length text → ch ≡ get_or text n ch → take (suc n) text ≡ take n text ++ ch ∷ []
+    take_one [] n ch less is = absurd (omega (arith, less))
+    take_one (c ∷ text) zero ch less is = ap (λ z. z ∷ []) (sym is)
+    take_one (c ∷ text) (suc n) ch less is = ap (λ z. c ∷ z) (take_one text n ch (omega (arith, less)) is)
+
+-- a member is found
+member_found : (ops : List Op) (k : ℕ) (op other : Op) → k < length ops → op ≡ get_or ops k op → op_eq op other ≡ true → has_op ops other ≡ true
+member_found [] k op other less is same = absurd (omega (arith, less))
+member_found (o ∷ ops) zero op other less is same = or_left _ _ (ap (λ z. op_eq z other) (sym is) ∙ same)
+member_found (o ∷ ops) (suc k) op other less is same = or_right _ _ (member_found ops k op other (omega (arith, less)) is same)
+
+-- letters at the front of a run are in the list, and one more
+pub letter_there : (ops : List Op) (start : RunStart) (text : List ℕ) (n k ch : ℕ) (op other : Op) → All (λ o. has_op ops o ≡ true) (run_from start (take n text)) → n < length text → ch ≡ get_or text n ch
+    → k < length ops → op ≡ get_or ops k op → other ≡ text_by (start_behind start n) ch → op_eq op other ≡ true → All (λ o. has_op ops o ≡ true) (run_from start (take (n + 1) text))
+letter_there ops start text n k ch op other there less is inside at that same =
+    subst (All (λ o. has_op ops o ≡ true)) (sym (one_longer start text n ch less is))
+    (All-push (λ o. has_op ops o ≡ true) (run_from start (take n text)) (text_by (start_behind start n) ch) there
+    (subst (λ o. has_op ops o ≡ true) that (member_found ops k op other inside at same)))
+
+-- what is in a list is in it the other way round
+turned_found : (ops : List Op) (op : Op) → has_op ops op ≡ true → has_op (reverse ops) op ≡ true
+turned_found [] op found = found
+turned_found (o ∷ ops) op found =
+    let longer : has_op (reverse (o ∷ ops)) op ≡ has_op (reverse ops) op || has_op (o ∷ []) op = ap (λ z. has_op z op) (reverse-append (o ∷ []) ops) ∙ has-append (reverse ops) (o ∷ []) op in
+    elim (or_cases (op_eq o op) (has_op ops op) found) [
+      | inl here ↦ longer ∙ or_right _ _ (or_left _ _ here)
+      | inr there ↦ longer ∙ or_left _ _ (turned_found ops op there)
+    ]
+
+pub history_has : (ops more : List Op) → All (λ o. has_op ops o ≡ true) more → All (λ o. has_op (reverse ops) o ≡ true) more
+history_has ops more there = All-weaker (λ o. has_op ops o ≡ true) (λ o. has_op (reverse ops) o ≡ true) (turned_found ops) more there

@@ -39,26 +39,9 @@ popped_on old now new op count (suc left) some p is =
 pub not_empty : (old now : List Op) (count left : ℕ) → 0 < left → IsPopping old now count left → now ≡ [] → ⊥
 not_empty old now count left some p none = let within : left ≤ length now = p.within in omega (arith, some, within, ap length none)
 
--- a run is pushed, as far as the letter k: what is left leads to the whole, and as many can be taken back
-pub record IsPushing (old now : List Op) (start : RunStart) (text : List ℕ) (k count : ℕ) : Type 0 where
-  pub leads : extended now (run_from (start_behind start k) (drop k text)) ≡ extended old (run_from start text)
-  pub ready : ReadyInTurn now (run_from (start_behind start k) (drop k text))
-  pub back : drop k now ≡ old
-  pub enough : k ≤ length now
-  pub counted : count ≡ k
-
 -- nothing is behind the first
 pub behind_nothing : (start : RunStart) → start_behind start 0 ≡ start
 behind_nothing start = λ i. record { id = none_behind start.id i; section = start.section; left = start.left; right = start.right }
-
-pub pushing : (old : List Op) (start : RunStart) (text : List ℕ) → ReadyInTurn old (run_from start text) → IsPushing old old start text 0 0
-pushing old start text ready = record {
-  leads = λ i. extended old (run_from (behind_nothing start i) text);
-  ready = subst (λ s. ReadyInTurn old (run_from s text)) (sym (behind_nothing start)) ready;
-  back = refl;
-  enough = omega arith;
-  counted = refl;
-}
 
 -- the letter k, and the others
 run_at : (start : RunStart) (text : List ℕ) (k ch : ℕ) → k < length text → ch ≡ get_or text k ch
@@ -104,33 +87,6 @@ appended_on old now new start text k count ch len room len_new room_new a less i
 pub appended_all : (old now : List Op) (start : RunStart) (text : List ℕ) (k count len room : ℕ) → IsAppending old now start text k count len room → length text ≤ k → now ≡ old ++ run_from start text
 appended_all old now start text k count len room a done =
     sym (ap (λ z. now ++ z) (at_drop_all (run_from (start_behind start k)) text k done) ∙ append-nil now) ∙ a.leads
-
--- it is Ready
-pub letter_ready : (old now : List Op) (start : RunStart) (text : List ℕ) (k count ch : ℕ) → IsPushing old now start text k count → k < length text → ch ≡ get_or text k ch
-    → verdict now (text_by (start_behind start k) ch) ≡ Ready
-letter_ready old now start text k count ch p less is = (subst (ReadyInTurn now) (run_at start text k ch less is) p.ready).0
-
--- one letter more
-pub pushed_on : (old now new : List Op) (start : RunStart) (text : List ℕ) (k count ch : ℕ) → IsPushing old now start text k count → k < length text → ch ≡ get_or text k ch
-    → new ≡ text_by (start_behind start k) ch ∷ now → IsPushing old new start text (k + 1) (count + 1)
-pushed_on old now new start text k count ch p less is next =
-    let up : suc k ≡ k + 1 = omega arith in
-    let step = run_at start text k ch less is in
-    let counted : count ≡ k = p.counted in
-    let enough : k ≤ length now = p.enough in
-    let rest : List Op = run_from (start_behind start (k + 1)) (drop (k + 1) text) in
-    record {
-      leads = ap (λ h. extended h rest) next ∙ sym (ap (extended now) step) ∙ p.leads;
-      ready = subst (λ h. ReadyInTurn h rest) (sym next) (subst (ReadyInTurn now) step p.ready).1;
-      back = ap (λ n. drop n new) (sym up) ∙ ap (drop (suc k)) next ∙ p.back;
-      enough = omega (arith, enough, ap length next);
-      counted = omega (arith, counted);
-    }
-
--- all letters
-pub pushed_all : (old now : List Op) (start : RunStart) (text : List ℕ) (k count : ℕ) → IsPushing old now start text k count → length text ≤ k → now ≡ extended old (run_from start text)
-pushed_all old now start text k count p done =
-    sym (ap (extended now) (at_drop_all (run_from (start_behind start k)) text k done)) ∙ p.leads
 
 -- as many as came are taken back
 drop_more : (n : ℕ) (xs : List Op) (x : Op) (h : List Op) → drop n xs ≡ x ∷ h → drop (suc n) xs ≡ h

@@ -1,9 +1,9 @@
-ghost use Rattle.std.specs.Prelude.{◌≡◌, ◌<◌, ◌≤◌, ◌+◌, ◌^◌, ◌∷◌, [], length, option_map, slice_get, IfErr, IfSome, IsTrue, OnErr, OnOk, ◌↔◌};
+ghost use Rattle.std.specs.Prelude.{◌≡◌, ◌<◌, ◌≤◌, ◌+◌, ◌^◌, ◌∷◌, [], length, option_map, slice_get, All, IfErr, IfSome, IsTrue, OnErr, OnOk, take, true, ◌↔◌};
 ghost use Rattle.fugue_ids.specs.Outs.{WritesBytes};
 ghost use Rattle.fugue_ids.specs.Runs.{run_from};
 ghost use Rattle.fugue_ids.specs.declared.op.Op.TheVariants.{Delete as DeleteOf};
 ghost use Rattle.origin_model.specs.edits.Edits.{ReadyInTurn, extended};
-ghost use Rattle.origin_model.specs.operations.History.{accepted as accepted_list, holds as holds_on};
+ghost use Rattle.origin_model.specs.operations.History.{accepted as accepted_list, has_op, holds as holds_on};
 ghost use Rattle.origin_model.specs.operations.Counters.{counters, IsGreatest};
 ghost use Rattle.origin_model.specs.order.Printed.{manuscript as manuscript_on, shown};
 ghost use Rattle.origin_model.specs.operations.Verdict.{verdict as verdict_on, Lawful};
@@ -143,6 +143,15 @@ impl Accepted {
         ensures { IsTrue result ↔ AreUnheld self.now first count }
     {
         self.history.is_free(first, count)
+    }
+
+    /// How many Texts at the front of a run are accepted already, one behind the other.
+    pub fn repeats(&self, start: &RunStart, text: &[char]) -> usize
+        requires { start.now.id.counter + length text.now ≤ 2 ^ 32 }
+        ensures within { result ≤ length text.now }
+        ensures there { All (λ op. has_op self.now op ≡ true) (run_from start.now (take result text.now)) }
+    {
+        self.history.repeats(start, text)
     }
 
     /// How many operations are older than the one that is looked up by the key.

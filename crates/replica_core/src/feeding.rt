@@ -1,9 +1,10 @@
 //! Taking in a run: its letters go in as one where nothing else is asked of them.
 ghost use Rattle.std.specs.Prelude.{◌≡◌, ◌<◌, ◌≤◌, ◌+◌, ◌^◌, ◌++◌, IfErr, IfOk, IsTrue, OnErr, OnOk, length, take};
-ghost use Rattle.std.specs.Prelude.{vec_len, vec_capacity, ◌↔◌};
+ghost use Rattle.std.specs.Prelude.{All, vec_len, vec_capacity, true, ◌↔◌};
 ghost use Rattle.fugue_ids.specs.Runs.{run_from, text_by};
 ghost use Rattle.fugue_ids.specs.declared.limits.TheConstants.{MOST_OPERATIONS};
 ghost use Rattle.origin_model.specs.edits.State.{Stands};
+ghost use Rattle.origin_model.specs.operations.History.{has_op};
 ghost use Rattle.origin_model.specs.operations.Verdict.{verdict as verdict_on};
 ghost use Rattle.origin_model.specs.declared.operations.Verdict.TheVariants.{Ready};
 ghost use Rattle.origin_model.specs.taking.Taking.{IsSettled, kept_from};
@@ -95,6 +96,11 @@ impl Replica {
             (λ fault. StopsFeeding (run_from start.now text.now) self.old self.new tally.old tally.new fault) }
         ensures stands { Stands self.new }
     {
+        let repeated = self.repeated(start, text);
+        if repeated > 0 {
+            tally.repeated += repeated as u32;
+            return Ok(repeated);
+        }
         let count = self.joining(start, text);
         if count == 0 {
             self.feed(start.text(text[0]), tally)?;
@@ -128,6 +134,11 @@ impl Replica {
             kept.old.items kept.new.items fault) }
         ensures stands { Stands self.new }
     {
+        let repeated = self.repeated(start, text);
+        if repeated > 0 {
+            tally.repeated += repeated as u32;
+            return Ok(repeated);
+        }
         let count = self.joining(start, text);
         if count == 0 {
             self.feed_keeping(start.text(text[0]), tally, kept)?;
@@ -140,6 +151,16 @@ impl Replica {
         tally.accepted += count as u32;
         push_letters(kept, start, &text[..count]);
         Ok(count)
+    }
+
+    /// How many Texts at the front of a run are accepted already.
+    fn repeated(&self, start: &RunStart, text: &[char]) -> usize
+        requires { start.now.id.counter + length text.now ≤ 2 ^ 32 }
+        ensures within { result ≤ length text.now }
+        ensures there { All (λ op. has_op self.now.held.history op ≡ true) (run_from start.now (take result text.now)) }
+        ensures stands { Stands self.now }
+    {
+        self.accepted.repeats(start, text)
     }
 
     /// How many Texts at the front of a run go in at once: none of their identifiers is accepted, nothing that waits has

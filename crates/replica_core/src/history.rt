@@ -1,8 +1,8 @@
 ghost use Rattle.std.specs.Prelude.{◌≡◌, ◌≢◌, ◌<◌, ◌≤◌, ◌+◌, ◌^◌, ◌∷◌, [], Some, OnErr, OnOk, IfErr, drop, length};
-ghost use Rattle.std.specs.Prelude.{option_copied, slice_get, IsTrue, ◌↔◌};
+ghost use Rattle.std.specs.Prelude.{option_copied, slice_get, All, IsTrue, take, true, ◌↔◌};
 ghost use Rattle.fugue_ids.specs.Runs.{id_behind as id_by, run_from};
 ghost use Rattle.origin_model.specs.edits.Edits.{ReadyInTurn, extended};
-ghost use Rattle.origin_model.specs.operations.History.{accepted};
+ghost use Rattle.origin_model.specs.operations.History.{accepted, has_op};
 ghost use Rattle.origin_model.specs.operations.Counters.{counters, IsGreatest};
 ghost use Rattle.origin_model.specs.operations.Verdict.{verdict, Lawful};
 ghost use Rattle.origin_model.specs.declared.operations.Verdict.TheVariants.{Ready};
@@ -46,6 +46,23 @@ fn op_at(ops: &[Op], position: usize) -> Option<&Op>
     ensures { option_copied result ≡ slice_get ops.now position }
 {
     ops.get(position)
+}
+
+/// How many Texts at the front of a run the list has from the position on.
+fn same_letters(ops: &[Op], position: usize, start: &RunStart, text: &[char]) -> usize
+    requires { start.now.id.counter + length text.now ≤ 2 ^ 32 }
+    ensures within { result ≤ length text.now }
+    ensures there { All (λ op. has_op ops.now op ≡ true) (run_from start.now (take result text.now)) }
+{
+    if position >= ops.len() {
+        return 0;
+    }
+    let most = text.len().min(ops.len() - position);
+    let mut count = 0;
+    'same: while count < most && ops[position + count] == start.nth(count).text(text[count]) {
+        count += 1;
+    }
+    count
 }
 
 /// The identifier n behind another one of the same replica.
@@ -121,6 +138,22 @@ impl History {
         ensures { IsTrue result ↔ AreUnheld self.now first count }
     {
         self.index.is_free(first, count)
+    }
+
+    /// How many Texts at the front of a run are there, one behind the other.
+    pub fn repeats(&self, start: &RunStart, text: &[char]) -> usize
+        requires { start.now.id.counter + length text.now ≤ 2 ^ 32 }
+        ensures within { result ≤ length text.now }
+        ensures there { All (λ op. has_op self.now op ≡ true) (run_from start.now (take result text.now)) }
+    {
+        // One Text alone is found as any other operation is.
+        if text.len() < 2 {
+            return 0;
+        }
+        match self.index.position(start.id) {
+            Some(position) => same_letters(&self.ops, position, start, text),
+            None => 0,
+        }
     }
 
     /// One operation more, which is Ready.

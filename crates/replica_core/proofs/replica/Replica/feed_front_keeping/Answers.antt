@@ -1,7 +1,8 @@
-use Rattle.std.proofs.Common.{arith, ap, refl, ◌<◌}
+use Rattle.std.proofs.Common.{arith, ap, refl, take, ◌<◌}
 use Rattle.std.specs.Prelude.{Err}
 use Rattle.std.proofs.lemmas.Result.{err_from_is_err_and}
-use Rattle.replica_core.proofs.FeedingLemmas.{copies_stop, letter_unkept, run_joins}
+use Rattle.fugue_ids.specs.Runs.{run_from}
+use Rattle.replica_core.proofs.FeedingLemmas.{copies_stop, letter_unkept, repeats_kept, run_joins, run_repeats}
 use Rattle.replica_core.proofs.replica.Replica.feed_front_keeping.Goals as goal
 
 pub returns-in_err-feed_keeping-clause-err : goal.returns-in_err-feed_keeping-clause-err
@@ -30,3 +31,11 @@ returns-clause-ok c =
     let some : 0 < c.joining-count.result = omega (arith, c.if-count-eq0.false) in
     run_joins c.args.self.now c.join_run.new.self c.args.start.now c.args.text.now c.joining-count.result c.args.tally.now c.joining-count.ensures.within (c.joining-count.ensures.at_once some)
     c.in_ok-join_run.ensures.ok
+
+pub returns-then-repeated-gt0-clause-ok : goal.returns-then-repeated-gt0-clause-ok
+returns-then-repeated-gt0-clause-ok c =
+    run_repeats c.args.self.now c.args.start.now c.args.text.now c.repeated-repeated.result c.args.tally.now c.repeated-repeated.ensures.within c.requires.settled c.repeated-repeated.ensures.there
+
+pub returns-then-repeated-gt0-clause-kept : goal.returns-then-repeated-gt0-clause-kept
+returns-then-repeated-gt0-clause-kept c =
+    repeats_kept c.args.self.now (run_from c.args.start.now (take c.repeated-repeated.result c.args.text.now)) c.args.kept.now.items c.requires.settled c.repeated-repeated.ensures.there
