@@ -1,6 +1,6 @@
 -- Operations that are given at once, as calls of the reader give them.
 use Rattle.std.proofs.Common.{◌≡◌, ℕ, zero, suc, ◌+◌, ◌-◌, ◌*◌, ◌<◌, ◌≤◌, List, [], ◌∷◌, ◌++◌, length, take, drop, true, refl, ap, sym, subst, ◌∙◌, arith, append_assoc, length-append, length-drop}
-use Rattle.std.specs.Prelude.{◌^◌, Option, Some, None, Ok, flat_map, All}
+use Rattle.std.specs.Prelude.{IfSome, ◌^◌, Option, Some, None, Ok, flat_map, All}
 use Rattle.std.specs.Char.{IsScalar}
 use Rattle.std.specs.Io.KnownBytes.{prepend_known}
 use Rattle.std.proofs.lemmas.List.{append-nil, drop-drop, length-take-le, take-append-drop, take_all, take_at}
@@ -124,6 +124,7 @@ gathers_then start a b c old mid new p q = record {
   counters = q.counters;
   no_fault = q.no_fault;
   limit = q.limit ∙ p.limit;
+  short = omega (arith, p.short, q.short, length-append p.more q.more);
 }
   where
     long : length a + length p.more ≡ length b
@@ -136,7 +137,7 @@ gathers_then start a b c old mid new p q = record {
 -- none yet
 pub gathers_none : (start : RunStart) (text : List ℕ) (reader : FrameReading) → start.id.counter + length text ≤ 2 ^ 32 → reader.fault ≡ None → GathersTexts start text text reader reader
 gathers_none start text reader counters fault =
-    record { more = []; text_is = sym (append-nil text); gives = λ source. refl; counters = counters; no_fault = fault; limit = refl }
+    record { more = []; text_is = sym (append-nil text); gives = λ source. refl; counters = counters; no_fault = fault; limit = refl; short = omega arith }
 
 -- how many scalars are held back
 scalars_long : (head : Head) (window : List ℕ) → IsHeld window head → length (scalars_in head.count window) ≡ head.count
@@ -166,6 +167,7 @@ module _ (g : Grammar) (limit offset last : ℕ) (start : RunStart) (old_text te
           counters = omega (arith, ap length text_is, length-append old_text scalars, count, at, h.counters_fit);
           no_fault = refl;
           limit = refl;
+          short = omega (arith, todo, ap length rest);
         },
         omega (arith, todo, count, h.some),
         omega (arith, inside),
@@ -186,6 +188,7 @@ module _ (g : Grammar) (limit offset last : ℕ) (start : RunStart) (old_text te
           counters = t.counters;
           no_fault = refl;
           limit = refl;
+          short = omega (arith, size, ops, length-take-le len window t.within, ap length t.rest, length-drop len window);
         },
         omega (arith, size, ops, t.some, length-take-le len window t.within),
         omega (arith, inside, t.within),
@@ -353,6 +356,7 @@ gathers_run op start ch one text old new is first p = record {
       ∙ ap (λ (o : Op). o ∷ run_from (start_behind start 1) p.more) (sym (text_is_by op start ch is));
   gives = λ source. subst (λ (l : List ℕ). GivesOn old new source (run_from (start_behind start (length l)) p.more)) first (p.gives source);
   sound = p.counters;
+  short = omega (arith, p.short, ap length p.text_is, length-append one p.more, ap length first);
 }
 
 -- What giving operations one after another leaves
@@ -447,3 +451,10 @@ reached old new before after (first ∷ front) op more p =
 pub gives_with : (old mid new : FrameReading) (before after : SourceView) (op : Op) (ops others : List Op) → ops ≡ op ∷ others → Nexts old mid before after (Ok (Some op)) → GivesOn mid new after others
     → GivesAll old new before after ops
 gives_with old mid new before after op ops others is nexts on = subst (GivesAll old new before after) (sym is) (mid, nexts, on)
+
+-- what is held back and not yet read is in the window
+pub had_within : (held : Option Head) (window : List ℕ) → IfSome held (IsHeld window) → 3 * length (held_ops held window) + length (behind_held held window) ≤ length window
+had_within None window h = omega arith
+had_within (Some head) window h =
+    let scalars : List ℕ = scalars_in head.count window in
+    omega (arith, length-typed head.id head.section head.left head.right scalars, scalars_long head window h, scalars_within head window h, length-drop (3 * head.count) window)

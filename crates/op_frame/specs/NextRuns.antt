@@ -77,12 +77,18 @@ pub record IsReached (old : FrameReading) (before after : SourceView) (front : L
   pub grammar : at.grammar ≡ old.grammar
   pub limit : at.limit ≡ old.limit
 
+-- how many bytes of the buffer the reader still needs: three for each operation held back, and those not yet read
+abbrev pub bytes_had : FrameReading → ℕ
+bytes_had r = 3 * length r.todo + length r.unread
+
 -- the operation was given, and with it those that were found to go on with it
 pub record Gathers (first : Op) (given : NextOps) (text : List ℕ) (old new : FrameReading) : Type 0 where
   pub others : List Op
   pub ops_are : ops_given given text ≡ first ∷ others
   pub gives : (source : SourceView) → GivesOn old new source others
   pub sound : IsSound given text
+  -- a scalar takes three bytes, and that of the operation itself was taken before
+  pub short : 3 * length text + bytes_had new ≤ bytes_had old + 3
 
 -- so many Texts more of a run were given, and their scalars went behind the text
 pub record GathersTexts (start : RunStart) (old_text text : List ℕ) (old new : FrameReading) : Type 0 where
@@ -92,6 +98,7 @@ pub record GathersTexts (start : RunStart) (old_text text : List ℕ) (old new :
   pub counters : start.id.counter + length text ≤ 2 ^ 32
   pub no_fault : new.fault ≡ None
   pub limit : new.limit ≡ old.limit
+  pub short : 3 * length more + bytes_had new ≤ bytes_had old
 
 -- the same, with at least one, or nothing was done
 abbrev pub GathersMore : Bool → RunStart → (old_text text : List ℕ) → (old new : FrameReading) → Type 0

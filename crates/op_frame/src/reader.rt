@@ -1,9 +1,10 @@
 ghost use Rattle.std.specs.Prelude.{◌≡◌, ◌≢◌, ◌<◌, ◌≤◌, ◌+◌, ◌^◌, ℕ, List, [], length, Option, None, IfErr, IfOk, IfSome, IsErrOf};
 ghost use Rattle.std.specs.Prelude.{vec_len, vec_capacity};
+ghost use Rattle.fugue_ids.specs.declared.limits.TheConstants.{BUFFER};
 ghost use Rattle.outer_ports.specs.Sources.{KeepsCount};
 ghost use Rattle.origin_model.specs.declared.grammar.Grammar.TheVariants.{Version1 as Singles, Version2 as WithRuns};
 ghost use Rattle.op_frame.specs.Readers.{Chains, Gave, GivesInOrder, Nexts, fresh_reading, kept_fault};
-ghost use Rattle.op_frame.specs.NextRuns.{Gathers, GathersMore, GathersTexts, GivesManyBy, NextsRun};
+ghost use Rattle.op_frame.specs.NextRuns.{bytes_had, Gathers, GathersMore, GathersTexts, GivesManyBy, NextsRun};
 ghost use Rattle.op_frame.specs.declared.fault.FrameFault.TheVariants.{ReadFault};
 
 use crate::FrameFault;
@@ -138,6 +139,7 @@ impl FrameReader {
         ensures with_room { self.old.fault ≡ None → 0 < vec_capacity text.old
             → IfErr result (λ fault. Nexts self.old self.new (S.seen source.old) (S.seen source.new) (Err fault)) }
         ensures room { vec_capacity text.old ≤ vec_capacity text.new }
+        ensures short { length text.new.items ≤ BUFFER }
         ensures repeats { IfSome self.old.fault
             (λ fault. (result ≡ Err fault) × (self.new ≡ self.old) × (source.new ≡ source.old)) }
         ensures held { self.old.fault ≡ None → self.old.todo ≢ [] → source.new ≡ source.old }
@@ -152,10 +154,20 @@ impl FrameReader {
             return Err(FrameFault::NoMemory);
         }
         match self.next(source) {
-            Ok(Some(op)) => Ok(Some(self.gather(op, text))),
+            Ok(Some(op)) => {
+                self.fits();
+                Ok(Some(self.gather(op, text)))
+            }
             Ok(None) => Ok(None),
             Err(fault) => Err(fault),
         }
+    }
+
+    /// What it has fits into the buffer: nothing is done.
+    fn fits(&self)
+        ensures { bytes_had self.now ≤ BUFFER }
+    {
+        self.unread.fit();
     }
 
     /// The operation, and what goes on with it.

@@ -48,6 +48,13 @@ impl Unread {
         self.end - self.start
     }
 
+    /// They fit into the buffer: nothing is done.
+    pub(crate) fn fit(&self)
+        ensures { length self.now.bytes ≤ BUFFER }
+    {
+        let _end = self.end;
+    }
+
     pub(crate) fn as_slice(&self) -> &[u8]
         ensures { result.now ≡ self.now.bytes }
     {
