@@ -193,9 +193,9 @@ sed s/one/1/ "$base" >"$draft"
 "$program" revise "$f" "$base" 14 <"$draft" 2>"$work/notes"
 "$program" merge "$f" "$g" <"$work/nothing" 2>"$work/notes"
 write_by true
-check 'a draft that was saved before a machine failed, and others came' [ $? = 0 ]
-try 'is there once' nothing 0 '# A\n1 two five\n# B\nthree\n' '' arrange "$f"
-check 'and nothing is left of it' [ -z "$(left)" ]
+check 'a draft that was saved before a machine failed, and others came, is asked about' [ $? = 2 ]
+try 'and is not saved twice' nothing 0 '# A\n1 two five\n# B\nthree\n' '' arrange "$f"
+forget
 
 # What a machine that failed left: a draft that was saved, one with nothing changed, and one alone.
 begin
