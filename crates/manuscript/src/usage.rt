@@ -64,7 +64,7 @@ const TEXT: Word = Word::Line("TEXT", LONGEST_BODY);
 
 const NAME: Word = Word::Line("NAME", 120);
 
-const FORMS: [Form; 23] = [
+const FORMS: [Form; 25] = [
     Form {
         name: "new",
         least: 3,
@@ -100,6 +100,18 @@ const FORMS: [Form; 23] = [
         least: 2,
         words: &[FILE, MOMENT],
         shown: "past FILE N",
+    },
+    Form {
+        name: "changes",
+        least: 2,
+        words: &[FILE, MOMENT],
+        shown: "changes FILE N",
+    },
+    Form {
+        name: "authors",
+        least: 1,
+        words: &[FILE],
+        shown: "authors FILE",
     },
     Form {
         name: "edit",
@@ -218,6 +230,7 @@ begin, and look
   list FILE                   prints what it holds, and numbers its sections
   arrange FILE, print FILE    print the manuscript: as arranged, as it was made
   past FILE N                 prints it as it was when list told accepted N
+  changes FILE N              prints what changed since then; authors FILE who wrote what
 write
   revise FILE BASE < DRAFT    saves a draft of what arrange printed to BASE
   revise FILE BASE N < DRAFT  the same, where list told accepted N then

@@ -10,6 +10,7 @@ pub mod WhyLemmas
 pub mod CheckLemmas
 pub mod NamedVersionLemmas
 pub mod PastLemmas
+pub mod ChangedLemmas
 pub mod ListingLemmas
 pub mod PlainFileLemmas
 pub mod RevisionTakenLemmas

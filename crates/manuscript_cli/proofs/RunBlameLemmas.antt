@@ -16,7 +16,7 @@ use Rattle.command_kinds.specs.Changes.{Change, DiskBlameless, OutBlameless, Sou
 use Rattle.manuscript_cli.specs.Relay.{DockBlameless}
 use Rattle.manuscript_cli.specs.Touched.{Touched}
 use Rattle.manuscript_cli.specs.declared.command.Command.{Command}
-use Rattle.manuscript_cli.specs.declared.command.Command.TheVariants.{Show, New, Edit, Print, Take, Send, Merge, Relay, Sync, Bulk, Why, Check, Move, Retitle, Arrange, Past, Revise, ReviseSince, List as ListCommand, Comment, Comments, Version, Versions, View, About}
+use Rattle.manuscript_cli.specs.declared.command.Command.TheVariants.{Show, New, Edit, Print, Take, Send, Merge, Relay, Sync, Bulk, Why, Check, Move, Retitle, Arrange, Authors, Changes, Past, Revise, ReviseSince, List as ListCommand, Comment, Comments, Version, Versions, View, About}
 use Rattle.command_kinds.specs.declared.refusal.Refusal.TheVariants.{Words}
 use Rattle.command_kinds.specs.declared.status.Status.{Status}
 use Rattle.command_kinds.proofs.TextLemmas.{told_blameless}
@@ -77,6 +77,8 @@ module _ (words : List (List ℕ)) (old new : Touched) (end : Status) where
   meets_blameless (Some (Move k j)) meets = makes_note _ meets
   meets_blameless (Some (Retitle k)) meets = makes_note _ meets
   meets_blameless (Some Arrange) meets = reports _ meets
+  meets_blameless (Some Authors) meets = reports _ meets
+  meets_blameless (Some (Changes n)) meets = reports _ meets
   meets_blameless (Some (Past n)) meets = reports _ meets
   meets_blameless (Some Revise) (course, meets) = all _ meets.others meets.leaves.1.blameless quiet meets.blameless.notes_blameless meets.blameless.file_blameless meets.leaves.0.blameless quiet quiet
   meets_blameless (Some (ReviseSince n)) (course, meets) = all _ meets.others meets.leaves.1.blameless quiet meets.blameless.notes_blameless meets.blameless.file_blameless meets.leaves.0.blameless quiet quiet

@@ -8,7 +8,7 @@ use Rattle.outer_ports.specs.declared.disk.file_disk.Opening.TheVariants.{Readin
 use Rattle.bulk_world.specs.declared.making.TheConstants.{MOST_TURNS}
 use Rattle.manuscript_cli.specs.Number.{IsNumber}
 use Rattle.manuscript_cli.specs.declared.command.Command.{Command}
-use Rattle.manuscript_cli.specs.declared.command.Command.TheVariants.{Show, New, Edit, Print, Take, Send, Merge, Relay, Sync, Bulk, Why, Check, Move, Retitle, Arrange, Past, Revise, ReviseSince, List as ListCommand, Comment, Comments, Version, Versions, View, About}
+use Rattle.manuscript_cli.specs.declared.command.Command.TheVariants.{Show, New, Edit, Print, Take, Send, Merge, Relay, Sync, Bulk, Why, Check, Move, Retitle, Arrange, Authors, Changes, Past, Revise, ReviseSince, List as ListCommand, Comment, Comments, Version, Versions, View, About}
 use Rattle.manuscript_cli.specs.declared.words.TheConstants.{GREATEST_CURSOR, GREATEST_MOMENT, GREATEST_PLACE, GREATEST_PORT, GREATEST_REPLICA, GREATEST_SEED, MOST_SESSIONS, USUAL_HOLD}
 
 -- `show HOLD`
@@ -165,6 +165,8 @@ Names words Check = NamesFile (codes "check") words
 Names words (Move k j) = NamesMove words k j
 Names words (Retitle k) = NamesRetitle words k
 Names words Arrange = NamesFile (codes "arrange") words
+Names words Authors = NamesFile (codes "authors") words
+Names words (Changes n) = NamesMoment (codes "changes") words n
 Names words (Past n) = NamesMoment (codes "past") words n
 Names words Revise = NamesTwo (codes "revise") words
 Names words (ReviseSince n) = NamesRevise words n

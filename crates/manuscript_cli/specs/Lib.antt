@@ -3,6 +3,7 @@ pub mod Command
 pub mod Touched
 pub mod Headline
 pub mod Why
+pub mod Changed
 pub mod Check
 pub mod PlainFile
 pub mod Revising

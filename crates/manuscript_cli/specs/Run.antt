@@ -7,6 +7,7 @@ use Rattle.manuscript_cli.specs.Margins.{comment_on, comments_tells}
 use Rattle.manuscript_cli.specs.NamedVersions.{version_on, versions_tells, view_tells}
 use Rattle.manuscript_cli.specs.Alone.{WritesAlone, about_text}
 use Rattle.bulk_world.specs.Summary.{bulk_text}
+use Rattle.manuscript_cli.specs.Changed.{authors_tells, changes_tells}
 use Rattle.manuscript_cli.specs.Check.{ChecksText}
 use Rattle.manuscript_cli.specs.Command.{last_word}
 use Rattle.command_kinds.specs.New.{Creates}
@@ -22,7 +23,7 @@ use Rattle.command_kinds.specs.Changes.{DiskBlameless, OutBlameless, SourceBlame
 use Rattle.manuscript_cli.specs.Touched.{Touched}
 use Rattle.manuscript_cli.specs.Why.{why_tells}
 use Rattle.manuscript_cli.specs.declared.command.Command.{Command}
-use Rattle.manuscript_cli.specs.declared.command.Command.TheVariants.{Show, New, Edit, Print, Take, Send, Merge, Relay, Sync, Bulk, Why, Check, Move, Retitle, Arrange, Past, Revise, ReviseSince, List as ListCommand, Comment, Comments, Version, Versions, View, About}
+use Rattle.manuscript_cli.specs.declared.command.Command.TheVariants.{Show, New, Edit, Print, Take, Send, Merge, Relay, Sync, Bulk, Why, Check, Move, Retitle, Arrange, Authors, Changes, Past, Revise, ReviseSince, List as ListCommand, Comment, Comments, Version, Versions, View, About}
 use Rattle.command_kinds.specs.declared.refusal.Refusal.TheVariants.{Words}
 use Rattle.command_kinds.specs.declared.status.Status.{Status}
 use Rattle.command_kinds.specs.declared.status.Status.TheVariants.{Usage}
@@ -94,6 +95,8 @@ family words (Some Check) = Checking
 family words (Some (Move k j)) = Saving (note_saver (move_on k j))
 family words (Some (Retitle k)) = Saving (note_saver (retitle_on k (last_word words)))
 family words (Some Arrange) = Reporting arrange_tells
+family words (Some Authors) = Reporting authors_tells
+family words (Some (Changes n)) = Reporting (changes_tells n)
 family words (Some (Past n)) = Reporting (past_tells n)
 family words (Some Revise) = Choosing revise_saver
 family words (Some (ReviseSince n)) = Choosing (revise_since_saver n)

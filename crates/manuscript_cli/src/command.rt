@@ -38,6 +38,10 @@ pub enum Command {
     Retitle(u32),
     /// Print the sections of a file as they are arranged, under their headings.
     Arrange,
+    /// Print who wrote what is shown: the runs of letters of each section that one replica made.
+    Authors,
+    /// Print what changed since so many operations were accepted.
+    Changes(u32),
     /// Print the sections of a file as they were arranged when so many operations were accepted.
     Past(u32),
     /// Revise what a file's replica shows until it is the draft on the input, which was written from what the other file
@@ -86,6 +90,8 @@ impl Command {
             | Command::Why(_, _, _)
             | Command::Check
             | Command::Arrange
+            | Command::Authors
+            | Command::Changes(_)
             | Command::Past(_)
             | Command::List
             | Command::Comments

@@ -4,6 +4,7 @@
 mod about;
 mod arrange;
 mod bulk;
+mod changed;
 mod check;
 mod command;
 mod comments;

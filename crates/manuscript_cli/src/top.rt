@@ -13,6 +13,7 @@ ghost use Rattle.command_kinds.specs.declared.status.Status.TheVariants.{Usage};
 use crate::about::about;
 use crate::arrange::Arrangement;
 use crate::bulk::bulk;
+use crate::changed::{Authors, Changes};
 use crate::check::check_file;
 use crate::comments::{Comments, NewComment};
 use crate::list::Contents;
@@ -192,6 +193,8 @@ fn obey<S: Source, O: Sink, N: Sink, H: Disk, G: Disk, W: Wire, D: Dock, B: Buil
             save_note(alloc, &Retitle { section, title }, home, notes)
         }
         Command::Arrange => write_report(alloc, &Arrangement, home, output, notes),
+        Command::Authors => write_report(alloc, &Authors, home, output, notes),
+        Command::Changes(count) => write_report(alloc, &Changes { count }, home, output, notes),
         Command::Past(count) => write_report(alloc, &Past { count }, home, output, notes),
         Command::Revise => revise_file(alloc, input, home, guest, notes),
         Command::ReviseSince(count) => {

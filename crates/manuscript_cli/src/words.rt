@@ -92,6 +92,7 @@ fn read_one(name: &str, word: &str) -> Option<Command>
         "send" if !word.is_empty() => Some(Command::Send),
         "check" if !word.is_empty() => Some(Command::Check),
         "arrange" if !word.is_empty() => Some(Command::Arrange),
+        "authors" if !word.is_empty() => Some(Command::Authors),
         "list" if !word.is_empty() => Some(Command::List),
         "comments" if !word.is_empty() => Some(Command::Comments),
         "versions" if !word.is_empty() => Some(Command::Versions),
@@ -110,6 +111,7 @@ fn read_two(name: &str, file: &str, other: &str) -> Option<Command>
         "version" if is_named(file, other) => Some(Command::Version),
         "view" if is_named(file, other) => Some(Command::View),
         "past" => read_moment(file, other).map(Command::Past),
+        "changes" => read_moment(file, other).map(Command::Changes),
         _ => None,
     }
 }

@@ -5,7 +5,7 @@ use Rattle.manuscript_cli.specs.Touched.{touched}
 use Rattle.manuscript_cli.proofs.ObeyLemmas.{obeyed}
 use Rattle.manuscript_cli.proofs.RunLemmas.{hold_in_range}
 use Rattle.manuscript_cli.proofs.top.obey.Goals as goal
-use Rattle.manuscript_cli.proofs.top.obey.Goals.{in-Show, in-New, in-Edit, in-Print, in-Take, in-Send, in-Merge, in-Relay, in-Sync, in-Bulk, in-Why, in-Check, in-Move, in-Retitle, in-Arrange, in-Past, in-Revise, in-ReviseSince, in-List, in-Comment, in-Comments, in-Version, in-Versions, in-View, in-About}
+use Rattle.manuscript_cli.proofs.top.obey.Goals.{in-Show, in-New, in-Edit, in-Print, in-Take, in-Send, in-Merge, in-Relay, in-Sync, in-Bulk, in-Why, in-Check, in-Move, in-Retitle, in-Arrange, in-Authors, in-Changes, in-Past, in-Revise, in-ReviseSince, in-List, in-Comment, in-Comments, in-Version, in-Versions, in-View, in-About}
 
 pub show-requires-clause-from : goal.show-requires-clause-from
 show-requires-clause-from g c = (hold_in_range _ _ (subst (Names _) c.in-Show.is c.requires)).0
@@ -42,6 +42,8 @@ returns-clause-meets g c =
       | in-Move w ↦ obeyed words _ _ old _ _ _ _ w.in-Move.is (λ i. touched (g.S.Source.seen (w.input-is i)) (g.O.Out.seen (w.output-is i)) (g.N.Out.seen (w.notes-is i)) (g.H.Disk.seen (w.home-is i)) (g.G.Disk.seen (w.guest-is i)) (g.W.Wire.seen (w.wire-is i)) (g.D.Dock.seen (w.dock-is i))) w.result-is (record { others = refl; does = w.save_note.ensures.saves; blameless = w.save_note.ensures.blameless; leaves = tt; unused = λ told why refuses. refl })
       | in-Retitle w ↦ obeyed words _ _ old _ _ _ _ w.in-Retitle.is (λ i. touched (g.S.Source.seen (w.input-is i)) (g.O.Out.seen (w.output-is i)) (g.N.Out.seen (w.notes-is i)) (g.H.Disk.seen (w.home-is i)) (g.G.Disk.seen (w.guest-is i)) (g.W.Wire.seen (w.wire-is i)) (g.D.Dock.seen (w.dock-is i))) w.result-is (record { others = refl; does = rw w.last_of-title.ensures at w.save_note-in-Retitle.ensures.saves; blameless = w.save_note-in-Retitle.ensures.blameless; leaves = tt; unused = λ told why refuses. refl })
       | in-Arrange w ↦ obeyed words _ _ old _ _ _ _ w.in-Arrange.is (λ i. touched (g.S.Source.seen (w.input-is i)) (g.O.Out.seen (w.output-is i)) (g.N.Out.seen (w.notes-is i)) (g.H.Disk.seen (w.home-is i)) (g.G.Disk.seen (w.guest-is i)) (g.W.Wire.seen (w.wire-is i)) (g.D.Dock.seen (w.dock-is i))) w.result-is (record { others = refl; does = w.write_report-in-Arrange.ensures })
+      | in-Authors w ↦ obeyed words _ _ old _ _ _ _ w.in-Authors.is (λ i. touched (g.S.Source.seen (w.input-is i)) (g.O.Out.seen (w.output-is i)) (g.N.Out.seen (w.notes-is i)) (g.H.Disk.seen (w.home-is i)) (g.G.Disk.seen (w.guest-is i)) (g.W.Wire.seen (w.wire-is i)) (g.D.Dock.seen (w.dock-is i))) w.result-is (record { others = refl; does = w.write_report-in-Authors.ensures })
+      | in-Changes w ↦ obeyed words _ _ old _ _ _ _ w.in-Changes.is (λ i. touched (g.S.Source.seen (w.input-is i)) (g.O.Out.seen (w.output-is i)) (g.N.Out.seen (w.notes-is i)) (g.H.Disk.seen (w.home-is i)) (g.G.Disk.seen (w.guest-is i)) (g.W.Wire.seen (w.wire-is i)) (g.D.Dock.seen (w.dock-is i))) w.result-is (record { others = refl; does = w.write_report-in-Changes.ensures })
       | in-Past w ↦ obeyed words _ _ old _ _ _ _ w.in-Past.is (λ i. touched (g.S.Source.seen (w.input-is i)) (g.O.Out.seen (w.output-is i)) (g.N.Out.seen (w.notes-is i)) (g.H.Disk.seen (w.home-is i)) (g.G.Disk.seen (w.guest-is i)) (g.W.Wire.seen (w.wire-is i)) (g.D.Dock.seen (w.dock-is i))) w.result-is (record { others = refl; does = w.write_report-in-Past.ensures })
       | in-Revise w ↦ obeyed words _ _ old _ _ _ _ w.in-Revise.is (λ i. touched (g.S.Source.seen (w.input-is i)) (g.O.Out.seen (w.output-is i)) (g.N.Out.seen (w.notes-is i)) (g.H.Disk.seen (w.home-is i)) (g.G.Disk.seen (w.guest-is i)) (g.W.Wire.seen (w.wire-is i)) (g.D.Dock.seen (w.dock-is i))) w.result-is (w.revise_file.ensures.saves.0, record { others = refl; does = w.revise_file.ensures.saves.1; blameless = w.revise_file.ensures.blameless; leaves = (w.revise_file.ensures.looks, w.revise_file.ensures.reads); unused = λ told why refuses. let same = w.revise_file.ensures.unused told why refuses in λ i. record old { streams = record old.streams { input = same.0 i }; guest = same.1 i } })
       | in-ReviseSince w ↦ obeyed words _ _ old _ _ _ _ w.in-ReviseSince.is (λ i. touched (g.S.Source.seen (w.input-is i)) (g.O.Out.seen (w.output-is i)) (g.N.Out.seen (w.notes-is i)) (g.H.Disk.seen (w.home-is i)) (g.G.Disk.seen (w.guest-is i)) (g.W.Wire.seen (w.wire-is i)) (g.D.Dock.seen (w.dock-is i))) w.result-is (w.revise_file_since.ensures.saves.0, record { others = refl; does = w.revise_file_since.ensures.saves.1; blameless = w.revise_file_since.ensures.blameless; leaves = (w.revise_file_since.ensures.looks, w.revise_file_since.ensures.reads); unused = λ told why refuses. let same = w.revise_file_since.ensures.unused told why refuses in λ i. record old { streams = record old.streams { input = same.0 i }; guest = same.1 i } })
