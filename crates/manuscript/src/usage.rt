@@ -230,7 +230,7 @@ begin, and look
   list FILE                   prints what it holds, and numbers its sections
   arrange FILE, print FILE    print the manuscript: as arranged, as it was made
   past FILE N                 prints it as it was when list told accepted N
-  changes FILE N              prints what changed since then; authors FILE who wrote what
+  changes FILE N              prints what came since; authors FILE: who wrote it
 write
   revise FILE BASE < DRAFT    saves a draft of what arrange printed to BASE
   revise FILE BASE N < DRAFT  the same, where list told accepted N then
