@@ -125,11 +125,12 @@ for page in docs/*.1; do
 done
 
 # What the program says of itself.
+cd "$here"
 put nothing
 "$program" about <"$work/nothing" >"$work/output" 2>"$work/notes"
 check 'the program tells what it is' [ $? = 0 -a ! -s "$work/notes" -a "$(wc -l <"$work/output")" = 3 ]
 version=$(sed -n 's/^## \([^ ]*\).*/\1/p' CHANGELOG.md | head -n 1)
 check 'and its version' [ "$(head -n 1 "$work/output")" = "manuscript $version, of Petreltombac" ]
-check 'and what it was proved with' grep -qF "$(sed -n 's/^proved with //p' "$work/output")" README.md
+check 'and what it was proved with' grep -qF "$(sed -n 's/^proved with //p' "$work/output") " README.md
 
 ended
