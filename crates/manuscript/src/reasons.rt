@@ -182,7 +182,10 @@ impl<'a> Reasons<'a> {
                 Some((About::Input, self.no_stream()))
             }
             _ if line.starts_with("bad batch ") => Some((About::File, self.damaged())),
-            _ if line.starts_with("base differs at byte ") => Some((About::File, BASE_DIFFERS)),
+            _ if line.starts_with("base differs at byte ") => Some((
+                About::File,
+                self.base_differs(),
+            )),
             _ if line.starts_with("too many: ") => Some((self.about_many(), TOO_MANY)),
             _ if line.starts_with("accepted ") => self.left_out(line),
             _ => row_of(line),
@@ -259,6 +262,14 @@ impl<'a> Reasons<'a> {
         }
     }
 
+    /// Why the base is refused: the draft was begun now, or at an earlier moment.
+    fn base_differs(&self) -> &'static str {
+        match self.command {
+            Some(Command::ReviseSince(_)) => BASE_DIFFERED,
+            _ => BASE_DIFFERS,
+        }
+    }
+
     /// Why operations were left out.
     fn left_out(&self, counts: &str) -> Option<(About, &'static str)> {
         let about = match self.command {
@@ -285,6 +296,10 @@ const EMPTIED: &str =
 const DAMAGED: &str =
     "damaged; keep it, and merge a backup and the others' files into a new one with an id that \
     nobody had";
+
+const BASE_DIFFERED: &str =
+    "not what the file said then; give the number of operations that it had when this was printed; \
+    nothing was saved";
 
 const BASE_DIFFERS: &str =
     "not what the file says now; print it again, put both changes into one text, and revise \
