@@ -141,7 +141,7 @@ check 'the own file loses nothing' [ "$(shown before.ms)" = "$(shown file1.ms)" 
 if mount -t tmpfs -o size=16k none "$TMPDIR" 2>/dev/null; then
     cp twin.ms "$share/1-LAPTOP.ms"
     cp file1.ms before.ms
-    head -c 12288 /dev/zero >"$TMPDIR/filler" 2>/dev/null
+    head -c 16384 /dev/zero >"$TMPDIR/filler" 2>/dev/null
     exchange file1.ms "$share"
     check 'one that cannot be tried, since there is no room' [ $? = 4 ]
     check 'is refused' grep -q '1-LAPTOP.ms is refused: .* could not be tried on a copy of that' notes
