@@ -1,5 +1,5 @@
 -- Taking in a stream: what a step is by what its calls answered, and what all steps come to.
-use Rattle.std.proofs.Common.{◌≡◌, ◌≢◌, ℕ, List, [], ◌∷◌, ◌++◌, refl, ap, sym, subst, ◌∙◌, append_assoc}
+use Rattle.std.proofs.Common.{◌≡◌, ℕ, List, [], ◌++◌, refl, ap, sym, subst, ◌∙◌, append_assoc}
 use Rattle.std.specs.Prelude.{Option, Some, None, Bool, true, false, Ok, Err, IfSome}
 use Rattle.std.proofs.lemmas.List.{append-nil}
 use Rattle.fugue_ids.specs.declared.op.Op.{Op}
@@ -7,20 +7,21 @@ use Rattle.outer_ports.specs.Sources.{SourceView}
 use Rattle.origin_model.specs.declared.grammar.Grammar.{Grammar}
 use Rattle.origin_model.specs.declared.grammar.Grammar.TheVariants.{Version2}
 use Rattle.origin_model.specs.declared.taking.Tally.{Tally}
-use Rattle.origin_model.specs.taking.Taking.{HasPlace, Held, TooMany as AnswersTooMany, answer, held_from, intake, intake_counted, kept_from, no_counts, tally_from}
-use Rattle.origin_model.proofs.SharedLemmas.{held-append, kept-append, places-append, places-none, places-one, tally-append}
+use Rattle.origin_model.specs.taking.Taking.{HasPlace, Held, TooMany as AnswersTooMany, answer, held_from, kept_from, no_counts, tally_from}
+use Rattle.origin_model.proofs.SharedLemmas.{held-append, kept-append, places-append, places-none, tally-append}
+use Rattle.replica_core.specs.Feeding.{TakesInAll}
 use Rattle.op_frame.specs.Courses.{Comes, IntakeCourse, Whole, CutShort as IsCutShort, BadFrame as HasBadFrame, TooLong as IsTooLong, TooMany as HasTooMany}
 use Rattle.op_frame.specs.Readers.{Gave}
-use Rattle.op_frame.proofs.StreamLemmas.{follows, gave_none}
+use Rattle.op_frame.proofs.StreamLemmas.{gave_none}
 use Rattle.op_frame.proofs.CourseLemmas.{Fed, fed_whole, fed_cut, fed_bad, fed_long, fed_many}
 use Rattle.origin_model.specs.edits.State.{State}
 use Rattle.fugue_ids.specs.declared.limits.TheConstants.{STREAM_LIMIT}
-use Rattle.command_kinds.specs.Intake.{StreamTaking, TakesOne, IntakeSteps, SourceComes, TakesIn, IntakeStopsFor, copied}
+use Rattle.command_kinds.specs.Intake.{FindsNoPlace, StreamTaking, TakesSome, IntakeSteps, SourceComes, TakesIn, IntakeStopsFor, copied}
 use Rattle.command_kinds.specs.declared.refusal.Refusal.{Refusal}
 use Rattle.command_kinds.specs.declared.refusal.Refusal.TheVariants as refusal
 
--- a step that took an operation in, and one that came to the end
-pub step_took : (more : Bool) (old new : StreamTaking) (before after : SourceView) → more ≡ true → IntakeSteps old new before after (Ok more) → TakesOne old new before after
+-- a step that took operations in, and one that came to the end
+pub step_took : (more : Bool) (old new : StreamTaking) (before after : SourceView) → more ≡ true → IntakeSteps old new before after (Ok more) → TakesSome old new before after
 step_took more old new before after is steps = subst (λ b. IntakeSteps old new before after (Ok b)) is steps
 
 abbrev pub Ended : StreamTaking → StreamTaking → SourceView → SourceView → Type 0
@@ -64,27 +65,25 @@ fed_nothing start told now todo none at same counts = record {
 }
 
 module _ (start : State) (kept : Option (List Op)) (told : Option (List ℕ)) (old new : StreamTaking) (before after : SourceView) (fed : FedFrom start kept told old before.left) where
-  reached : Held
+  abbrev reached : Held
   reached = held_from start.hold start.most start.held fed.ops
 
-  -- one operation more was taken in
-  pub fed_one : TakesOne old new before after → FedFrom start kept told new after.left
-  fed_one one =
+  -- operations more were taken in
+  pub fed_some : TakesSome old new before after → FedFrom start kept told new after.left
+  fed_some some =
       let hold : ℕ = start.hold in
       let most : ℕ = start.most in
       let held : Held = held_from hold most start.held fed.ops in
-      let place : answer hold most held one.op ≢ AnswersTooMany = subst (λ (r : State). answer r.hold r.most r.held one.op ≢ AnswersTooMany) fed.replica_is one.has_place in
+      let taken : TakesInAll (record start { held = held }) new.replica some.ops old.counts new.counts = subst (λ (r : State). TakesInAll r new.replica some.ops old.counts new.counts) fed.replica_is some.taken in
       record {
-        ops = fed.ops ++ one.op ∷ [];
-        gave = (follows told fed.ops old.reader new.reader before after fed.gave (Ok (Some one.op)) one.nexts).gave (λ is. cc is);
-        has_place = places-append hold most start.held fed.ops (one.op ∷ []) fed.has_place (places-one hold most held one.op place);
-        replica_is = one.replica ∙ ap (λ (r : State). record r { held = intake r.hold r.most r.held one.op }) fed.replica_is
-            ∙ ap (λ (h : Held). record start { held = h }) (held-append hold most start.held fed.ops (one.op ∷ []));
-        counts_are = one.counts ∙ (λ i. let r : State = fed.replica_is i in intake_counted r.hold r.most r.held one.op (fed.counts_are i))
-            ∙ tally-append hold most start.held fed.ops (one.op ∷ []) no_counts;
-        kept_are = one.kept ∙ (λ i. let r : State = fed.replica_is i in copied (fed.kept_are i) (kept_from r.hold r.most r.held (one.op ∷ [])))
-            ∙ copied-append kept (kept_from hold most start.held fed.ops) (kept_from hold most held (one.op ∷ []))
-            ∙ ap (copied kept) (kept-append hold most start.held fed.ops (one.op ∷ []));
+        ops = fed.ops ++ some.ops;
+        gave = some.gives.gave told fed.ops fed.gave;
+        has_place = places-append hold most start.held fed.ops some.ops fed.has_place taken.has_place;
+        replica_is = taken.replica ∙ ap (λ (h : Held). record start { held = h }) (held-append hold most start.held fed.ops some.ops);
+        counts_are = taken.counts ∙ ap (tally_from hold most held some.ops) fed.counts_are ∙ tally-append hold most start.held fed.ops some.ops no_counts;
+        kept_are = some.kept ∙ (λ i. let r : State = fed.replica_is i in copied (fed.kept_are i) (kept_from r.hold r.most r.held some.ops))
+            ∙ copied-append kept (kept_from hold most start.held fed.ops) (kept_from hold most held some.ops)
+            ∙ ap (copied kept) (kept-append hold most start.held fed.ops some.ops);
       }
 
   -- what the reader gave and the counts of it
@@ -115,6 +114,33 @@ module _ (start : State) (kept : Option (List Op)) (told : Option (List ℕ)) (o
   pub fed_stops : (why : Refusal) (source : SourceView) → source.left ≡ told → old.reader.limit ≡ STREAM_LIMIT → old.reader.grammar ≡ Version2 → IntakeSteps old new before after (Err why) → IntakeStopsFor why start source
   fed_stops why source same limit runs steps = by_cause why steps
     where
+      -- the operations before the one that found no place were read and taken in
+      found_no_place : FindsNoPlace old before after → (ops : List Op) × SourceComes start source ops HasTooMany
+      found_no_place finds =
+          let hold : ℕ = start.hold in
+          let most : ℕ = start.most in
+          let at = finds.reached in
+          let one = finds.one in
+          let place : HasPlace hold most reached one.front = subst (λ (r : State). HasPlace r.hold r.most r.held one.front) fed.replica_is one.has_place in
+          let refused : answer hold most (held_from hold most reached one.front) one.op ≡ AnswersTooMany
+          = subst (λ (r : State). answer r.hold r.most (held_from r.hold r.most r.held one.front) one.op ≡ AnswersTooMany) fed.replica_is one.refused in
+          let ops : List Op = fed.ops ++ one.front in
+          let state : Held = held_from hold most reached one.front in
+          let counts : Tally = tally_from hold most start.held ops no_counts in
+          let fed_front : Fed hold most start.held told at.at at.seen.left state counts = record {
+            ops = ops;
+            gave = at.gave told fed.ops fed.gave;
+            has_place = places-append hold most start.held fed.ops one.front fed.has_place place;
+            state_is = held-append hold most start.held fed.ops one.front;
+            counts_are = refl;
+          } in
+          let many = fed_many hold most start.held told at.at at.next at.seen after state counts fed_front one.op at.nexts refused in (
+            ops,
+            subst (λ o. IfSome o (λ bytes. Comes Version2 hold most start.held STREAM_LIMIT bytes ops HasTooMany)) (sym same)
+                (subst (λ (g : Grammar). IfSome told (λ bytes. Comes g hold most start.held STREAM_LIMIT bytes ops HasTooMany)) (at.grammar ∙ runs)
+                (subst (λ n. IfSome told (λ bytes. Comes at.at.grammar hold most start.held n bytes ops HasTooMany)) (at.limit ∙ limit) many)),
+          )
+
       came : (course : IntakeCourse) → IfSome told (λ bytes. Comes old.reader.grammar start.hold start.most start.held old.reader.limit bytes fed.ops course) → (ops : List Op) × SourceComes start source ops course
       came course is = (fed.ops, subst (λ o. IfSome o (λ bytes. Comes Version2 start.hold start.most start.held STREAM_LIMIT bytes fed.ops course)) (sym same) (at_limit course limit runs is))
 
@@ -126,9 +152,7 @@ module _ (start : State) (kept : Option (List Op)) (told : Option (List ℕ)) (o
       by_cause refusal.TooLong steps =
           came IsTooLong (fed_long start.hold start.most start.held told old.reader new.reader before after old.replica.held old.counts counted steps)
       by_cause (refusal.TooMany count) steps =
-          let refused = subst (λ (r : State). answer r.hold r.most r.held steps.1.op ≡ AnswersTooMany) fed.replica_is steps.1.refused in
-          let many = came HasTooMany (fed_many start.hold start.most start.held told old.reader new.reader before after old.replica.held old.counts counted steps.1.op steps.1.nexts
-          (ap (λ (r : State). answer start.hold start.most r.held steps.1.op) fed.replica_is ∙ refused)) in
+          let many = found_no_place steps.1 in
           (steps.0 ∙ ap (λ (r : State). r.most) fed.replica_is, many.0, many.1)
       by_cause refusal.Outside steps = tt
       by_cause refusal.NoMemory steps = tt

@@ -1,6 +1,7 @@
 pub mod TextLemmas
 pub mod LineLemmas
 pub mod IntakeLemmas
+pub mod KeptLemmas
 pub mod ShowLemmas
 pub mod NewLemmas
 pub mod FoundLemmas

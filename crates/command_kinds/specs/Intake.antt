@@ -1,16 +1,18 @@
 -- Taking in a stream, one operation after another: a step of it, what it comes to, and why it stops.
-use Rattle.std.specs.Prelude.{◌≡◌, ◌≢◌, ◌+◌, ◌*◌, ◌≤◌, List, [], ◌∷◌, ◌++◌, length, Option, Some, None, option_map, Bool, true, false, Result, Ok, Err, IfSome}
+use Rattle.std.specs.Prelude.{◌≡◌, ◌+◌, ◌*◌, ◌≤◌, List, [], ◌∷◌, ◌++◌, length, Option, Some, None, option_map, Bool, true, false, Result, Ok, Err, IfSome}
 use Rattle.fugue_ids.specs.declared.op.Op.{Op}
 use Rattle.outer_ports.specs.Sources.{SourceView}
 use Rattle.origin_model.specs.declared.grammar.Grammar.TheVariants.{Version2}
-use Rattle.origin_model.specs.taking.Taking.{TooMany as AnswersTooMany, IsSettled, answer, intake, intake_counted, held_from, kept_from, tally_from, no_counts}
+use Rattle.origin_model.specs.taking.Taking.{HasPlace, TooMany as AnswersTooMany, IsSettled, answer, held_from, kept_from, tally_from, no_counts}
 use Rattle.origin_model.specs.declared.taking.Tally.{Tally}
 use Rattle.op_frame.specs.Courses.{Comes, IntakeCourse, Whole, CutShort as IsCutShort, BadFrame as HasBadFrame, TooLong as IsTooLong, TooMany as HasTooMany}
-use Rattle.op_frame.specs.Readers.{FrameReading, Nexts, Rises}
+use Rattle.op_frame.specs.Readers.{FrameReading, Nexts}
+use Rattle.op_frame.specs.NextRuns.{GivesMany, IsReached}
 use Rattle.op_frame.specs.declared.fault.FrameFault.TheVariants as frame_fault
 use Rattle.replica_core.specs.declared.keeping.FeedFault.{FeedFault}
 use Rattle.replica_core.specs.declared.keeping.FeedFault.TheVariants as feed_fault
 use Rattle.origin_model.specs.edits.State.{State}
+use Rattle.replica_core.specs.Feeding.{TakesInAll}
 use Rattle.replica_core.specs.Told.{total}
 use Rattle.fugue_ids.specs.declared.limits.TheConstants.{GREATEST_HOLD, STREAM_LIMIT}
 use Rattle.command_kinds.specs.declared.refusal.Refusal.{Refusal}
@@ -29,6 +31,20 @@ abbrev pub FeedsNot : FeedFault → State → Op → Type 0
 FeedsNot (feed_fault.TooMany limit) replica op = (limit ≡ replica.most) × (answer replica.hold replica.most replica.held op ≡ AnswersTooMany)
 FeedsNot feed_fault.NoMemory replica op = Unit {0}
 
+-- of the operations, one found no place behind those before it
+pub record OneTooMany (replica : State) (ops : List Op) : Type 0 where
+  pub front : List Op
+  pub op : Op
+  pub more : List Op
+  pub parts : ops ≡ front ++ op ∷ more
+  pub has_place : HasPlace replica.hold replica.most replica.held front
+  pub refused : answer replica.hold replica.most (held_from replica.hold replica.most replica.held front) op ≡ AnswersTooMany
+
+-- why operations were not all taken in
+abbrev pub FeedsNotAll : FeedFault → State → List Op → Type 0
+FeedsNotAll (feed_fault.TooMany limit) replica ops = (limit ≡ replica.most) × OneTooMany replica ops
+FeedsNotAll feed_fault.NoMemory replica ops = Unit {0}
+
 -- a stream on its way: the reader, the replica, what became of the operations so far, and copies of those that were kept
 pub record StreamTaking : Type 0 where
   pub reader : FrameReading
@@ -45,31 +61,28 @@ pub record IsReady (now : StreamTaking) : Type 0 where
   -- a frame has at least three bytes for each operation
   pub few : 3 * (total now.counts + length now.replica.held.waiting) + 3 * length now.reader.todo ≤ now.reader.offset + 3 * GREATEST_HOLD
 
--- the next operation was read and taken in
-pub record TakesOne (old new : StreamTaking) (before after : SourceView) : Type 0 where
-  pub op : Op
-  pub nexts : Nexts old.reader new.reader before after (Ok (Some op))
-  pub rises : Rises old.reader new.reader
-  pub has_place : answer old.replica.hold old.replica.most old.replica.held op ≢ AnswersTooMany
-  pub replica : new.replica ≡ record old.replica { held = intake old.replica.hold old.replica.most old.replica.held op }
-  pub counts : new.counts ≡ intake_counted old.replica.hold old.replica.most old.replica.held op old.counts
-  pub kept : new.kept ≡ copied old.kept (kept_from old.replica.hold old.replica.most old.replica.held (op ∷ []))
+-- the next operations were read and taken in
+pub record TakesSome (old new : StreamTaking) (before after : SourceView) : Type 0 where
+  pub ops : List Op
+  pub gives : GivesMany old.reader new.reader before after ops
+  pub taken : TakesInAll old.replica new.replica ops old.counts new.counts
+  pub kept : new.kept ≡ copied old.kept (kept_from old.replica.hold old.replica.most old.replica.held ops)
   pub ready : IsReady new
 
--- the next operation was read, and found no place
-pub record FindsNoPlace (old new : StreamTaking) (before after : SourceView) : Type 0 where
-  pub op : Op
-  pub nexts : Nexts old.reader new.reader before after (Ok (Some op))
-  pub refused : answer old.replica.hold old.replica.most old.replica.held op ≡ AnswersTooMany
+-- operations were read, and one of them found no place
+pub record FindsNoPlace (old : StreamTaking) (before after : SourceView) : Type 0 where
+  pub ops : List Op
+  pub one : OneTooMany old.replica ops
+  pub reached : IsReached old.reader before after one.front one.op
 
--- one step, by its answer: whether there was an operation
+-- one step, by its answer: whether there were operations
 abbrev pub IntakeSteps : StreamTaking → StreamTaking → SourceView → SourceView → Result Bool Refusal → Type 0
-IntakeSteps old new before after (Ok true) = TakesOne old new before after
+IntakeSteps old new before after (Ok true) = TakesSome old new before after
 IntakeSteps old new before after (Ok false) = Nexts old.reader new.reader before after (Ok None) × (new.replica ≡ old.replica) × (new.counts ≡ old.counts) × (new.kept ≡ old.kept)
 IntakeSteps old new before after (Err (BadFrame offset)) = Nexts old.reader new.reader before after (Err (frame_fault.BadFrame offset))
 IntakeSteps old new before after (Err (CutShort offset)) = Nexts old.reader new.reader before after (Err (frame_fault.CutShort offset))
 IntakeSteps old new before after (Err TooLong) = Nexts old.reader new.reader before after (Err frame_fault.TooLong)
-IntakeSteps old new before after (Err (TooMany count)) = (count ≡ old.replica.most) × FindsNoPlace old new before after
+IntakeSteps old new before after (Err (TooMany count)) = (count ≡ old.replica.most) × FindsNoPlace old before after
 IntakeSteps old new before after (Err Outside) = Unit {0}
 IntakeSteps old new before after (Err NoMemory) = Unit {0}
 IntakeSteps old new before after (Err _) = ⊥

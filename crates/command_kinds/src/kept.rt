@@ -1,10 +1,14 @@
-ghost use Rattle.std.specs.Prelude.{◌≡◌, ◌≢◌, ◌+◌, ◌∷◌, [], length, Some, None, IfErr, OnOk, option_map};
+ghost use Rattle.std.specs.Prelude.{◌≡◌, ◌≢◌, ◌+◌, ◌^◌, ◌≤◌, ◌∷◌, [], length, Some, None, IfErr, OnOk, option_map};
+ghost use Rattle.fugue_ids.specs.Runs.{run_from};
 ghost use Rattle.origin_model.specs.taking.Taking.{IsSettled, TooMany as AnswersTooMany, answer};
 ghost use Rattle.origin_model.specs.taking.Taking.{intake, intake_counted, kept_from};
+ghost use Rattle.op_frame.specs.NextRuns.{IsSound, ops_given};
+ghost use Rattle.replica_core.specs.Feeding.{TakesInAll};
 ghost use Rattle.replica_core.specs.Told.{StaysBelow, total};
-ghost use Rattle.command_kinds.specs.Intake.{FeedsNot, copied, ops_in};
+ghost use Rattle.command_kinds.specs.Intake.{FeedsNot, FeedsNotAll, copied, ops_in};
 
-use fugue_ids::Op;
+use fugue_ids::{Op, RunStart};
+use op_frame::NextOps;
 use origin_model::Tally;
 use replica_core::{FeedFault, Replica};
 use std::alloc::Global;
@@ -60,13 +64,54 @@ impl Kept {
         self.ops = Some(ops);
     }
 
-    /// Feeds the operation to the replica, and copies it where that keeps it.
-    pub(crate) fn feed(
+    /// Feeds to the replica what was given at once, and copies what that keeps.
+    pub(crate) fn feed_next(
         &mut self,
         replica: &mut Replica,
-        op: Op,
+        next: NextOps,
+        text: &[char],
         tally: &mut Tally,
     ) -> Result<(), FeedFault>
+        requires settled { IsSettled replica.old.held }
+        requires sound { IsSound next text.now }
+        requires counts_rise { total tally.old + length replica.old.held.waiting + length (ops_given next text.now)
+            ≤ 2 ^ 31 }
+        ensures ok { OnOk result
+            (TakesInAll replica.old replica.new (ops_given next text.now) tally.old tally.new) }
+        ensures kept { OnOk result (self.new ≡ copied self.old
+            (kept_from replica.old.hold replica.old.most replica.old.held (ops_given next text.now))) }
+        ensures err { IfErr result (λ fault. FeedsNotAll fault replica.old (ops_given next text.now)) }
+    {
+        match next {
+            NextOps::Run(start) => self.feed_run(replica, &start, text, tally),
+            NextOps::Single(op) => self.feed(replica, op, tally),
+        }
+    }
+
+    fn feed_run(
+        &mut self,
+        replica: &mut Replica,
+        start: &RunStart,
+        text: &[char],
+        tally: &mut Tally,
+    ) -> Result<(), FeedFault>
+        requires settled { IsSettled replica.old.held }
+        requires counters { start.now.id.counter + length text.now ≤ 2 ^ 32 }
+        requires counts_rise { total tally.old + length replica.old.held.waiting + length text.now ≤ 2 ^ 31 }
+        ensures ok { OnOk result
+            (TakesInAll replica.old replica.new (run_from start.now text.now) tally.old tally.new) }
+        ensures kept { OnOk result (self.new ≡ copied self.old
+            (kept_from replica.old.hold replica.old.most replica.old.held (run_from start.now text.now))) }
+        ensures err { IfErr result (λ fault. FeedsNotAll fault replica.old (run_from start.now text.now)) }
+    {
+        match &mut self.ops {
+            Some(ops) => replica.feed_run_keeping(start, text, tally, ops),
+            None => replica.feed_run(start, text, tally),
+        }
+    }
+
+    /// Feeds the operation to the replica, and copies it where that keeps it.
+    fn feed(&mut self, replica: &mut Replica, op: Op, tally: &mut Tally) -> Result<(), FeedFault>
         requires settled { IsSettled replica.old.held }
         requires counts_rise { StaysBelow tally.old }
         ensures has_place { OnOk result

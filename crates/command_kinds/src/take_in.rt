@@ -19,10 +19,12 @@ use std::alloc::Global;
 struct Intake {
     reader: FrameReader,
     tally: Tally,
+    /// The scalars of the Texts that the reader gave at once.
+    text: Vec<char>,
 }
 
 impl Intake {
-    /// Takes in the next operation. The answer is whether there was one.
+    /// Takes in the next operations. The answer is whether there were some.
     fn step<S: Source>(
         &mut self,
         replica: &mut Replica,
@@ -37,10 +39,10 @@ impl Intake {
             (S.seen source.old) (S.seen source.new) result }
         ensures count { KeepsCount (S.seen source.old) (S.seen source.new) (IsErrOf result Outside) }
     {
-        let Some(op) = self.reader.next(source)? else {
+        let Some(next) = self.reader.next_run(source, &mut self.text)? else {
             return Ok(false);
         };
-        kept.feed(replica, op, &mut self.tally)?;
+        kept.feed_next(replica, next, self.text.as_slice(), &mut self.tally)?;
         Ok(true)
     }
 }
@@ -62,6 +64,7 @@ pub(crate) fn take_in<S: Source>(
     let mut intake = Intake {
         reader: FrameReader::new(alloc, STREAM_LIMIT)?,
         tally: Tally::default(),
+        text: Vec::new(alloc),
     };
     'frames: while intake.step(replica, source, kept)? {}
     Ok(intake.tally)

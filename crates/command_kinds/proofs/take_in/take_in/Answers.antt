@@ -1,7 +1,7 @@
 use Rattle.std.proofs.Common.{ap, arith, length, refl, ◌∙◌}
 use Rattle.std.proofs.lemmas.Result.{err_from_is_err_and}
 use Rattle.op_frame.specs.Readers.{FrameReading}
-use Rattle.command_kinds.proofs.IntakeLemmas.{fresh_counts, step_took, step_ended, fed_nothing, fed_one, fed_over, fed_stops}
+use Rattle.command_kinds.proofs.IntakeLemmas.{fresh_counts, step_took, step_ended, fed_nothing, fed_over, fed_some, fed_stops}
 use Rattle.command_kinds.proofs.take_in.take_in.Goals as goal
 
 pub frames-init : goal.frames-init
@@ -23,14 +23,14 @@ pub returns-in_err-step-clause-err : goal.returns-in_err-step-clause-err
 returns-in_err-step-clause-err g c =
     let kept = c.frames.invariant in
     let p = err_from_is_err_and c.from_residual-in_err-step.result c.from_residual-in_err-step.ensures.1 in
-    rw (p.1, p.2) (fed_stops _ _ _ _ _ _ _ kept.fed c.in_err-step.field-0.0 _ refl kept.ready.limit kept.ready.by_grammar c.in_err-step.ensures.steps)
+    rw (p.1, p.2) (fed_stops _ _ _ _ (record { reader = c.step.new.self.reader; replica = c.step.new.replica; counts = c.step.new.self.tally; kept = c.step.new.kept }) _ _ kept.fed c.in_err-step.field-0.0 _ refl kept.ready.limit kept.ready.by_grammar c.in_err-step.ensures.steps)
 
 pub frames-preserved : goal.frames-preserved
 frames-preserved g c =
     let kept = c.frames.invariant in
     let one = step_took _ _ _ _ _ c.if-branch.true c.in_ok-step.ensures.steps in
     record {
-      fed = fed_one _ _ _ _ _ _ _ kept.fed one;
+      fed = fed_some _ _ _ _ _ _ _ kept.fed one;
       ready = one.ready;
       count = record {
         later = omega (arith, kept.count.later, c.in_ok-step.ensures.count.later);
@@ -51,4 +51,4 @@ returns-clause-ok g c =
 pub frames-smaller : goal.frames-smaller
 frames-smaller g c =
     let one = step_took _ _ _ _ _ c.if-branch.true c.in_ok-step.ensures.steps in
-    omega (arith, one.rises, one.nexts.advances.within, one.ready.limit)
+    omega (arith, one.gives.some, one.gives.rises, one.gives.within, one.ready.limit)
