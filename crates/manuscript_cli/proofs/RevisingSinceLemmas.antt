@@ -17,7 +17,10 @@ use Rattle.command_kinds.specs.Giving.{GivesTo, MayEnd}
 use Rattle.command_kinds.specs.declared.counts.Note.{Note}
 use Rattle.command_kinds.specs.declared.counts.Note.TheVariants as note
 use Rattle.command_kinds.specs.declared.status.Status.{Status}
+use Rattle.command_kinds.proofs.FoundLemmas.{holds_once}
 use Rattle.command_kinds.proofs.GivingLemmas.{unfinished}
+use Rattle.command_kinds.specs.Files.{FileHolds}
+use Rattle.replica_file.specs.declared.load_file.End.{End}
 use Rattle.command_kinds.specs.Intake.{FeedsNot}
 use Rattle.command_kinds.specs.Saving.{GivesOnce, Outcome}
 use Rattle.command_kinds.specs.Take.{IsOneTooMany}
@@ -26,7 +29,7 @@ use Rattle.command_kinds.specs.declared.refusal.Refusal.TheVariants as refusal
 use Rattle.outer_ports.specs.Sources.{SourceView}
 use Rattle.outer_ports.specs.disk.Disks.{DiskView}
 use Rattle.manuscript_cli.specs.Revising.{RevisionGives, revision}
-use Rattle.manuscript_cli.specs.RevisingSince.{Brings, ComesInWhole, FindsNoPlace, FindsNoRoom, GivesSince, SinceGives, moment_refusal, noted_revision, revision_since, told_of_whole}
+use Rattle.manuscript_cli.specs.RevisingSince.{Brings, ComesInWhole, HasNoPlaceFor, FindsNoRoom, GivesSince, MomentDecidesAlone, SinceGives, moment_refusal, noted_revision, revision_since, told_of_whole}
 use Rattle.manuscript_cli.specs.declared.revise.Revised.{Revised}
 use Rattle.manuscript_cli.proofs.RevisingLemmas.{revision_once}
 
@@ -76,7 +79,7 @@ module _ (start now : Replica) (ops : List Op) (k : ℕ) (op : Op) (was : AreTak
       append_one [] b = refl
       append_one (o ∷ a) b = ap (λ z. o ∷ z) (append_one a b)
 
-  pub full_finds : (fault : FeedFault) → FeedsNot fault now op → FindsNoPlace fault start ops
+  pub full_finds : (fault : FeedFault) → FeedsNot fault now op → HasNoPlaceFor fault start ops
   full_finds (feed_fault.TooMany limit) many = one_too_many many.1
   full_finds feed_fault.NoMemory many = tt
 
@@ -84,7 +87,7 @@ pub taken_all : (start now : Replica) (ops : List Op) (k : ℕ) → AreTaken sta
 taken_all start now ops k was l = subst (HasPlace start.hold start.most start.held) (take_all k ops l) was.place
 
 -- why what was made has no place
-pub full_room : (fault : FeedFault) (replica : Replica) (ops : List Op) (why : Refusal) → why ≡ refusal.TooMany (held_count replica) → FindsNoPlace fault replica ops → FindsNoRoom (told_fault why fault) replica ops
+pub full_room : (fault : FeedFault) (replica : Replica) (ops : List Op) (why : Refusal) → why ≡ refusal.TooMany (held_count replica) → HasNoPlaceFor fault replica ops → FindsNoRoom (told_fault why fault) replica ops
 full_room (feed_fault.TooMany limit) replica ops why is none = subst (λ (w : Refusal). FindsNoRoom w replica ops) (sym is) (refl, none)
 full_room feed_fault.NoMemory replica ops why is none = tt
 
@@ -159,6 +162,13 @@ may_bring old new past (Err why) (Err told) end brings may =
           let outside : why ≡ refusal.Outside = cc blamed in
           may.blames (ap Err (brings ∙ ap (told_of_whole old) outside));
     }
+
+-- ---- where the moment refuses
+-- a replica that takes a draft of this moment is not in such a file
+pub moment_may : (n : ℕ) (home : DiskView) (replica : Replica) (end : End) (guest : Change DiskView) (input : Change SourceView) → FileHolds home replica end → moment_refusal n replica ≡ None → MomentDecidesAlone n home guest input
+moment_may n home replica end guest input holds may refuses =
+    let same : refuses.replica ≡ replica = ap (λ (l : Replica × End). l.0) (holds_once home refuses.told (refuses.replica, refuses.end) (replica, end) refuses.holds holds) in
+    absurd (cc (sym refuses.refused ∙ ap (moment_refusal n) same ∙ may))
 
 -- ---- what is told gives one thing
 comes_once : (replica : Replica) (given one two : Finding Outcome) → ComesInWhole replica given one → ComesInWhole replica given two → one ≡ two

@@ -9,10 +9,12 @@ use Rattle.outer_ports.specs.Sources.{SourceView}
 use Rattle.outer_ports.specs.disk.Disks.{DiskView}
 use Rattle.replica_core.specs.declared.keeping.FeedFault.{FeedFault}
 use Rattle.replica_core.specs.declared.keeping.FeedFault.TheVariants as feed_fault
+use Rattle.replica_file.specs.declared.load_file.End.{End}
 use Rattle.version_views.specs.Fronts.{front_of}
 use Rattle.command_kinds.specs.Findings.{Finding, Refuses, Does}
 use Rattle.command_kinds.specs.Saving.{Giver, Outcome}
-use Rattle.command_kinds.specs.Changes.{Change}
+use Rattle.command_kinds.specs.Changes.{Change, IsTold}
+use Rattle.command_kinds.specs.Files.{FileHolds}
 use Rattle.command_kinds.specs.Take.{IsOneTooMany}
 use Rattle.command_kinds.specs.declared.counts.Note.{Note}
 use Rattle.command_kinds.specs.declared.counts.Note.TheVariants as note
@@ -38,6 +40,19 @@ moment_refusal n replica =
 abbrev pub told_of_whole : Replica → Refusal → Refusal
 told_of_whole replica (refusal.TooMany held) = refusal.TooMany (held_count replica)
 told_of_whole replica why = why
+
+-- the home file holds a replica that takes no draft of this moment
+pub record RefusesMoment (n : ℕ) (home : DiskView) : Type 0 where
+  pub told : IsTold home
+  pub replica : Replica
+  pub end : End
+  pub holds : FileHolds home replica end
+  pub why : Refusal
+  pub refused : moment_refusal n replica ≡ Some why
+
+-- then neither the base nor the draft is asked for
+abbrev pub MomentDecidesAlone : ℕ → (home : DiskView) → (guest : Change DiskView) → (input : Change SourceView) → Type 0
+MomentDecidesAlone n home guest input = RefusesMoment n home → (input.new ≡ input.old) × (guest.new ≡ guest.old)
 
 -- what comes in the whole of what a draft gives to the replica as it was: what it makes is saved as it is, and taken in behind all that the whole holds, if there is room for it
 abbrev pub ComesInWhole : Replica → (given found : Finding Outcome) → Type 0
@@ -70,9 +85,9 @@ abbrev pub made_last : Replica → Revised → List Op
 made_last past revised = drop (length (accepted past.held.history) - revised.made) (accepted past.held.history)
 
 -- an operation is one too many, or memory was wanting
-abbrev pub FindsNoPlace : FeedFault → Replica → List Op → Type 0
-FindsNoPlace (feed_fault.TooMany limit) replica ops = IsOneTooMany replica ops
-FindsNoPlace feed_fault.NoMemory replica ops = Unit {0}
+abbrev pub HasNoPlaceFor : FeedFault → Replica → List Op → Type 0
+HasNoPlaceFor (feed_fault.TooMany limit) replica ops = IsOneTooMany replica ops
+HasNoPlaceFor feed_fault.NoMemory replica ops = Unit {0}
 
 -- why what was made has no place in the whole
 abbrev pub FindsNoRoom : Refusal → Replica → List Op → Type 0

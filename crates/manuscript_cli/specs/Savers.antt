@@ -6,7 +6,7 @@ use Rattle.command_kinds.specs.Files.{FileRefuses, LeavesFile}
 use Rattle.command_kinds.specs.Findings.{Finding}
 use Rattle.command_kinds.specs.Notes.{NoteOn, note_giver}
 use Rattle.manuscript_cli.specs.Revising.{LooksAtBase, revision}
-use Rattle.manuscript_cli.specs.RevisingSince.{revision_since}
+use Rattle.manuscript_cli.specs.RevisingSince.{MomentDecidesAlone, revision_since}
 use Rattle.command_kinds.specs.Saving.{Giver, Outcome, ReadsInput, SavesGiven, SavingBlameless}
 use Rattle.command_kinds.specs.Sync.{LeavesWire, reply}
 use Rattle.command_kinds.specs.Take.{other_file, stream}
@@ -70,6 +70,10 @@ revise_saver course old new = record {
 abbrev pub revise_since_saver : ℕ → Finding Outcome → Touched → Touched → Saver
 revise_since_saver n course old new = record (revise_saver course old new) {
   giver = revision_since n (change old.guest new.guest) (change old.streams.input new.streams.input) course;
+  Leaves = λ end.
+      LooksAtBase (change old.guest new.guest) end
+      × ReadsInput old.streams.input new.streams.input end
+      × MomentDecidesAlone n old.home (change old.guest new.guest) (change old.streams.input new.streams.input);
 }
 
 -- a command that saves uses its home file, the notes, and the object that gives

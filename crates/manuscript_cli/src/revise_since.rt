@@ -12,7 +12,7 @@ ghost use Rattle.command_kinds.specs.Saving.{Outcome, ReadsInput, SavesGiven, Sa
 ghost use Rattle.command_kinds.specs.declared.refusal.Refusal.{Refusal as AnyRefusal};
 ghost use Rattle.command_kinds.specs.declared.refusal.Refusal.TheVariants.{NoMemory as NoMemoryFound, TooMany as TooManyFound};
 ghost use Rattle.manuscript_cli.specs.Revising.{LooksAtBase};
-ghost use Rattle.manuscript_cli.specs.RevisingSince.{Brings, FindsNoPlace, FindsNoRoom, moment_refusal};
+ghost use Rattle.manuscript_cli.specs.RevisingSince.{Brings, FindsNoRoom, HasNoPlaceFor, MomentDecidesAlone, moment_refusal};
 ghost use Rattle.manuscript_cli.specs.RevisingSince.{revision_since, same_next, told_of_whole as told_of};
 
 use crate::revise::{DraftSources, Revised, revise_by};
@@ -41,7 +41,9 @@ impl<'a, G: Disk, S: Source> Gives<DraftSources<'a, G, S>> for RevisionSince {
         (after.base.ghost_name ≡ before.base.ghost_name)
         × (after.draft.ghost_name ≡ before.draft.ghost_name)
         × LooksAtBase (change (G.seen before.base.now) (G.seen after.base.now)) end
-        × ReadsInput (S.seen before.draft.now) (S.seen after.draft.now) end };
+        × ReadsInput (S.seen before.draft.now) (S.seen after.draft.now) end
+        × MomentDecidesAlone what.count home (change (G.seen before.base.now) (G.seen after.base.now))
+        (change (S.seen before.draft.now) (S.seen after.draft.now)) };
 
     fn give(
         &self,
@@ -80,6 +82,8 @@ pub(crate) fn revise_file_since<S: Source, N: Sink, H: Disk, G: Disk>(
     ensures reads { ReadsInput (S.seen input.old) (S.seen input.new) result }
     ensures unused { IsTold (H.seen home.old) → (why : AnyRefusal) → FileRefuses (H.seen home.old) why
         → (S.seen input.new ≡ S.seen input.old) × (G.seen base.new ≡ G.seen base.old) }
+    ensures moment { MomentDecidesAlone count (H.seen home.old) (change (G.seen base.old) (G.seen base.new))
+        (change (S.seen input.old) (S.seen input.new)) }
 {
     let mut sources = DraftSources { base, draft: input };
     save_given(alloc, &RevisionSince { count }, &mut sources, home, notes)
@@ -187,7 +191,7 @@ fn take_made(alloc: Global, replica: &mut Replica, ops: &[Op]) -> Result<(), Ref
 fn take_all(alloc: Global, replica: &mut Replica, ops: &[Op]) -> Result<(), FeedFault>
     requires settled { IsSettled replica.old.held }
     ensures ok { OnOk result (HasPlace replica.old.hold replica.old.most replica.old.held ops.now) }
-    ensures err { IfErr result (λ fault. FindsNoPlace fault replica.old ops.now) }
+    ensures err { IfErr result (λ fault. HasNoPlaceFor fault replica.old ops.now) }
 {
     'ops: for op in ops {
         take_copy(alloc, replica, op)?;

@@ -46,7 +46,7 @@ returns-clause-meets g c =
       | in-Changes w ↦ obeyed words _ _ old _ _ _ _ w.in-Changes.is (λ i. touched (g.S.Source.seen (w.input-is i)) (g.O.Out.seen (w.output-is i)) (g.N.Out.seen (w.notes-is i)) (g.H.Disk.seen (w.home-is i)) (g.G.Disk.seen (w.guest-is i)) (g.W.Wire.seen (w.wire-is i)) (g.D.Dock.seen (w.dock-is i))) w.result-is (record { others = refl; does = w.write_report-in-Changes.ensures })
       | in-Past w ↦ obeyed words _ _ old _ _ _ _ w.in-Past.is (λ i. touched (g.S.Source.seen (w.input-is i)) (g.O.Out.seen (w.output-is i)) (g.N.Out.seen (w.notes-is i)) (g.H.Disk.seen (w.home-is i)) (g.G.Disk.seen (w.guest-is i)) (g.W.Wire.seen (w.wire-is i)) (g.D.Dock.seen (w.dock-is i))) w.result-is (record { others = refl; does = w.write_report-in-Past.ensures })
       | in-Revise w ↦ obeyed words _ _ old _ _ _ _ w.in-Revise.is (λ i. touched (g.S.Source.seen (w.input-is i)) (g.O.Out.seen (w.output-is i)) (g.N.Out.seen (w.notes-is i)) (g.H.Disk.seen (w.home-is i)) (g.G.Disk.seen (w.guest-is i)) (g.W.Wire.seen (w.wire-is i)) (g.D.Dock.seen (w.dock-is i))) w.result-is (w.revise_file.ensures.saves.0, record { others = refl; does = w.revise_file.ensures.saves.1; blameless = w.revise_file.ensures.blameless; leaves = (w.revise_file.ensures.looks, w.revise_file.ensures.reads); unused = λ told why refuses. let same = w.revise_file.ensures.unused told why refuses in λ i. record old { streams = record old.streams { input = same.0 i }; guest = same.1 i } })
-      | in-ReviseSince w ↦ obeyed words _ _ old _ _ _ _ w.in-ReviseSince.is (λ i. touched (g.S.Source.seen (w.input-is i)) (g.O.Out.seen (w.output-is i)) (g.N.Out.seen (w.notes-is i)) (g.H.Disk.seen (w.home-is i)) (g.G.Disk.seen (w.guest-is i)) (g.W.Wire.seen (w.wire-is i)) (g.D.Dock.seen (w.dock-is i))) w.result-is (w.revise_file_since.ensures.saves.0, record { others = refl; does = w.revise_file_since.ensures.saves.1; blameless = w.revise_file_since.ensures.blameless; leaves = (w.revise_file_since.ensures.looks, w.revise_file_since.ensures.reads); unused = λ told why refuses. let same = w.revise_file_since.ensures.unused told why refuses in λ i. record old { streams = record old.streams { input = same.0 i }; guest = same.1 i } })
+      | in-ReviseSince w ↦ obeyed words _ _ old _ _ _ _ w.in-ReviseSince.is (λ i. touched (g.S.Source.seen (w.input-is i)) (g.O.Out.seen (w.output-is i)) (g.N.Out.seen (w.notes-is i)) (g.H.Disk.seen (w.home-is i)) (g.G.Disk.seen (w.guest-is i)) (g.W.Wire.seen (w.wire-is i)) (g.D.Dock.seen (w.dock-is i))) w.result-is (w.revise_file_since.ensures.saves.0, record { others = refl; does = w.revise_file_since.ensures.saves.1; blameless = w.revise_file_since.ensures.blameless; leaves = (w.revise_file_since.ensures.looks, w.revise_file_since.ensures.reads, w.revise_file_since.ensures.moment); unused = λ told why refuses. let same = w.revise_file_since.ensures.unused told why refuses in λ i. record old { streams = record old.streams { input = same.0 i }; guest = same.1 i } })
       | in-List w ↦ obeyed words _ _ old _ _ _ _ w.in-List.is (λ i. touched (g.S.Source.seen (w.input-is i)) (g.O.Out.seen (w.output-is i)) (g.N.Out.seen (w.notes-is i)) (g.H.Disk.seen (w.home-is i)) (g.G.Disk.seen (w.guest-is i)) (g.W.Wire.seen (w.wire-is i)) (g.D.Dock.seen (w.dock-is i))) w.result-is (record { others = refl; does = w.write_report-in-List.ensures })
       | in-Comment w ↦ obeyed words _ _ old _ _ _ _ w.in-Comment.is (λ i. touched (g.S.Source.seen (w.input-is i)) (g.O.Out.seen (w.output-is i)) (g.N.Out.seen (w.notes-is i)) (g.H.Disk.seen (w.home-is i)) (g.G.Disk.seen (w.guest-is i)) (g.W.Wire.seen (w.wire-is i)) (g.D.Dock.seen (w.dock-is i))) w.result-is (record { others = refl; does = rw w.last_of.ensures at w.save_note-in-Comment.ensures.saves; blameless = w.save_note-in-Comment.ensures.blameless; leaves = tt; unused = λ told why refuses. refl })
       | in-Comments w ↦ obeyed words _ _ old _ _ _ _ w.in-Comments.is (λ i. touched (g.S.Source.seen (w.input-is i)) (g.O.Out.seen (w.output-is i)) (g.N.Out.seen (w.notes-is i)) (g.H.Disk.seen (w.home-is i)) (g.G.Disk.seen (w.guest-is i)) (g.W.Wire.seen (w.wire-is i)) (g.D.Dock.seen (w.dock-is i))) w.result-is (record { others = refl; does = w.write_report-in-Comments.ensures })

@@ -8,7 +8,7 @@ use Rattle.command_kinds.specs.Giving.{GivesTo}
 use Rattle.command_kinds.specs.declared.refusal.Refusal.TheVariants.{NoMemory}
 use Rattle.manuscript_cli.specs.Revising.{revision}
 use Rattle.manuscript_cli.specs.RevisingSince.{noted_revision}
-use Rattle.manuscript_cli.proofs.RevisingSinceLemmas.{brought_gives, may_bring, moment_gives}
+use Rattle.manuscript_cli.proofs.RevisingSinceLemmas.{brought_gives, may_bring, moment_gives, moment_may}
 use Rattle.manuscript_cli.proofs.revise_since.RevisionSinceGivesDraftSources.give.Goals as goal
 
 pub returns-in_err-past-clause-gives : goal.returns-in_err-past-clause-gives
@@ -39,7 +39,9 @@ returns-in_err-revised-clause-leaves g c home last holds end may =
     let p = err_from_is_err_and c.from_residual-in_err-revised.result c.from_residual-in_err-revised.ensures.1 in
     let may_whole = rw (p.1, p.2) at may in
     let may_past = may_bring c.args.replica.now c.bring.new.replica c.revise_by-given.new.replica c.revise_by-given.result (Err c.in_err-revised.field-0.0) end c.in_err-revised.ensures.brings may_whole in
-    (refl, refl, c.revise_by-given.ensures.looks end may_past, c.revise_by-given.ensures.reads end may_past)
+    let base = change (g.G.Disk.seen c.args.from.now.base.now) (g.G.Disk.seen c.revise_by-given.new.base) in
+    let draft = change (g.S.Source.seen c.args.from.now.draft.now) (g.S.Source.seen c.revise_by-given.new.draft) in
+    (refl, refl, c.revise_by-given.ensures.looks end may_past, c.revise_by-given.ensures.reads end may_past, moment_may c.args.self.now.count home c.args.replica.now last base draft holds c.in_ok-past.ensures.may)
 
 pub returns-clause-gives : goal.returns-clause-gives
 returns-clause-gives g c home last holds =
@@ -55,4 +57,6 @@ returns-clause-gives g c home last holds =
 pub returns-clause-leaves : goal.returns-clause-leaves
 returns-clause-leaves g c home last holds end may =
     let may_past = may_bring c.args.replica.now c.bring.new.replica c.revise_by-given.new.replica c.revise_by-given.result (Ok c.in_ok-revised.revised) end c.in_ok-revised.ensures.brings may in
-    (refl, refl, c.revise_by-given.ensures.looks end may_past, c.revise_by-given.ensures.reads end may_past)
+    let base = change (g.G.Disk.seen c.args.from.now.base.now) (g.G.Disk.seen c.revise_by-given.new.base) in
+    let draft = change (g.S.Source.seen c.args.from.now.draft.now) (g.S.Source.seen c.revise_by-given.new.draft) in
+    (refl, refl, c.revise_by-given.ensures.looks end may_past, c.revise_by-given.ensures.reads end may_past, moment_may c.args.self.now.count home c.args.replica.now last base draft holds c.in_ok-past.ensures.may)
