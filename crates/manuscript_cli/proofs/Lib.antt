@@ -15,5 +15,6 @@ pub mod ListingLemmas
 pub mod PlainFileLemmas
 pub mod RevisionTakenLemmas
 pub mod RevisingLemmas
+pub mod WholeLemmas
 pub mod RevisingSinceLemmas
 pub mod SectionCountLemmas

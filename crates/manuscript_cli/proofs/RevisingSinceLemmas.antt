@@ -31,7 +31,9 @@ use Rattle.outer_ports.specs.disk.Disks.{DiskView}
 use Rattle.manuscript_cli.specs.Revising.{RevisionGives, revision}
 use Rattle.manuscript_cli.specs.RevisingSince.{Brings, ComesInWhole, HasNoPlaceFor, FindsNoRoom, GivesSince, MomentDecidesAlone, SinceGives, moment_refusal, noted_revision, revision_since, told_of_whole}
 use Rattle.manuscript_cli.specs.declared.revise.Revised.{Revised}
+use Rattle.replica_file.specs.Loading.{IsReady}
 use Rattle.manuscript_cli.proofs.RevisingLemmas.{revision_once}
+use Rattle.manuscript_cli.proofs.WholeLemmas.{comes_behind}
 
 abbrev told_fault : Refusal → FeedFault → Refusal
 told_fault why (feed_fault.TooMany limit) = why
@@ -114,7 +116,7 @@ module _ (n : ℕ) (guest : Change DiskView) (input : Change SourceView) (replic
       ]
 
   -- ---- what comes of a revision of the replica as it was
-  module _ (course : Finding Outcome) (may : moment_refusal n replica ≡ None) where
+  module _ (course : Finding Outcome) (may : moment_refusal n replica ≡ None) (ready : IsReady replica) where
     gives_since : (given found : Finding Outcome) → RevisionGives guest.old input.old course (front_of n replica) given → ComesInWhole replica given found
         → SinceGives n guest.old input.old course replica found
     gives_since given found gives comes = subst (λ (m : Option Refusal). GivesSince m n guest.old input.old course replica found) (sym may) (given, gives, comes)
@@ -130,12 +132,13 @@ module _ (n : ℕ) (guest : Change DiskView) (input : Change SourceView) (replic
         → Brings replica after past given result → GivesTo (revision_since n guest input course) replica after kept (noted_revision result)
     brought_gives past after kept (Ok revised) (Ok brought) gave brings =
         let place = subst (HasPlace replica.hold replica.most replica.held) gave.saved brings.2 in
+        let behind = comes_behind n replica ready.settled ready.stands may gave.gives.2 gave.outcome gave.suffices gave.gives.4.2 place in
         let outcome : Outcome = record gave.outcome { held = held_from replica.hold replica.most replica.held gave.outcome.saved } in
         subst (λ (r : Revised). GivesTo (revision_since n guest input course) replica after kept (noted_revision (Ok r))) (sym brings.0)
         (subst (λ (s : Replica). GivesTo (revision_since n guest input course) replica s kept (noted_revision (Ok revised))) (sym brings.1)
         (record {
           outcome = outcome;
-          gives = gives_since (Does gave.outcome) (Does outcome) gave.gives (place, refl);
+          gives = gives_since (Does gave.outcome) (Does outcome) gave.gives (place, refl, behind);
           suffices = record { same_state = refl; place = place };
           saved = gave.saved;
           noted = record { line = gave.noted.line; status = gave.noted.status };

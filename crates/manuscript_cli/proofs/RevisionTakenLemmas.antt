@@ -29,7 +29,8 @@ older_lawful : (ops h : List Op) → Lawful (extended h ops) → Lawful h
 older_lawful [] h w = w
 older_lawful (op ∷ ops) h w = (older_lawful ops (op ∷ h) w).1
 
-in_turn : (ops h : List Op) → Lawful (extended h ops) → ReadyInTurn h ops
+-- and each operation was Ready in its turn
+pub in_turn : (ops h : List Op) → Lawful (extended h ops) → ReadyInTurn h ops
 in_turn [] h w = tt
 in_turn (op ∷ ops) h w = ((older_lawful ops (op ∷ h) w).0, in_turn ops (op ∷ h) w)
 

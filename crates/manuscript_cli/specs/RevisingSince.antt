@@ -1,10 +1,12 @@
 -- `revise` with a number: the draft was written from what was shown when so many operations were accepted. It is planned on the replica as it was then, and what it makes comes behind all that the file has.
-use Rattle.std.specs.Prelude.{◌≡◌, ℕ, nat_eq, nat_lt, not, ◌-◌, Bool, drop, if◌then◌else◌, Option, Some, None, List, length, Result, Ok, Err}
+use Rattle.std.specs.Prelude.{All, filter, true, ◌++◌, ◌≡◌, ℕ, nat_eq, nat_lt, not, ◌-◌, Bool, drop, if◌then◌else◌, Option, Some, None, List, length, Result, Ok, Err}
+use Rattle.fugue_ids.specs.Identifiers.{Identifier}
 use Rattle.fugue_ids.specs.declared.op.Op.{Op}
+use Rattle.fugue_ids.specs.declared.op.Op.TheVariants.{Delete}
 use Rattle.origin_model.specs.edits.Refusal.{held_count, next_of_own}
 use Rattle.origin_model.specs.edits.State.{State as Replica}
-use Rattle.origin_model.specs.operations.History.{accepted}
-use Rattle.origin_model.specs.taking.Taking.{HasPlace, held_from}
+use Rattle.origin_model.specs.operations.History.{accepted, has_op}
+use Rattle.origin_model.specs.taking.Taking.{HasPlace, Held, held_from}
 use Rattle.outer_ports.specs.Sources.{SourceView}
 use Rattle.outer_ports.specs.disk.Disks.{DiskView}
 use Rattle.replica_core.specs.declared.keeping.FeedFault.{FeedFault}
@@ -54,12 +56,24 @@ pub record RefusesMoment (n : ℕ) (home : DiskView) : Type 0 where
 abbrev pub MomentDecidesAlone : ℕ → (home : DiskView) → (guest : Change DiskView) → (input : Change SourceView) → Type 0
 MomentDecidesAlone n home guest input = RefusesMoment n home → (input.new ≡ input.old) × (guest.new ≡ guest.old)
 
+-- those of the operations that a history lacks
+abbrev pub lacked : List Op → List Op → List Op
+lacked history ops = filter (λ op. not (has_op history op)) ops
+
+-- what was made is all accepted, behind what was accepted before, which lacked all of it but Deletes that others made too; what waits is what waited
+pub record ComesBehind (old : Held) (made : List Op) (new : Held) : Type 0 where
+  pub behind : accepted new.history ≡ accepted old.history ++ lacked old.history made
+  pub each : All (λ op. has_op new.history op ≡ true) made
+  pub had : All (λ op. has_op old.history op ≡ true → (x : Identifier) × (op ≡ Delete x)) made
+  pub waiting : new.waiting ≡ old.waiting
+
 -- what comes in the whole of what a draft gives to the replica as it was: what it makes is saved as it is, and taken in behind all that the whole holds, if there is room for it
 abbrev pub ComesInWhole : Replica → (given found : Finding Outcome) → Type 0
 ComesInWhole replica (Refuses why) found = found ≡ Refuses (told_of_whole replica why)
 ComesInWhole replica (Does outcome) (Does whole) =
     HasPlace replica.hold replica.most replica.held outcome.saved
     × (whole ≡ record outcome { held = held_from replica.hold replica.most replica.held outcome.saved })
+    × ComesBehind replica.held outcome.saved whole.held
 ComesInWhole replica (Does outcome) (Refuses why) = (why ≡ refusal.TooMany (held_count replica)) × IsOneTooMany replica outcome.saved
 
 abbrev pub GivesSince : (moment : Option Refusal) → ℕ → DiskView → SourceView → (course : Finding Outcome) → Replica → Finding Outcome → Type 0

@@ -30,7 +30,7 @@ returns-in_err-revised-clause-gives g c home last holds =
     let on_front = subst (λ (s : Replica). GivesTo (revision base draft gave.0) s c.revise_by-given.new.replica c.args._kept.now (noted_revision c.revise_by-given.result)) c.in_ok-past.ensures.past gave.1 in
     rw (p.1, p.2) (
       gave.0,
-      brought_gives c.args.self.now.count base draft c.args.replica.now gave.0 c.in_ok-past.ensures.may c.revise_by-given.new.replica c.bring.new.replica c.args._kept.now c.revise_by-given.result (Err c.in_err-revised.field-0.0) on_front
+      brought_gives c.args.self.now.count base draft c.args.replica.now gave.0 c.in_ok-past.ensures.may c.requires.ready c.revise_by-given.new.replica c.bring.new.replica c.args._kept.now c.revise_by-given.result (Err c.in_err-revised.field-0.0) on_front
           c.in_err-revised.ensures.brings,
     )
 
@@ -50,7 +50,7 @@ returns-clause-gives g c home last holds =
     let gave = c.revise_by-given.ensures.gives c.args._kept.now in
     let on_front = subst (λ (s : Replica). GivesTo (revision base draft gave.0) s c.revise_by-given.new.replica c.args._kept.now (noted_revision c.revise_by-given.result)) c.in_ok-past.ensures.past gave.1 in (
       gave.0,
-      brought_gives c.args.self.now.count base draft c.args.replica.now gave.0 c.in_ok-past.ensures.may c.revise_by-given.new.replica c.bring.new.replica c.args._kept.now c.revise_by-given.result (Ok c.in_ok-revised.revised) on_front
+      brought_gives c.args.self.now.count base draft c.args.replica.now gave.0 c.in_ok-past.ensures.may c.requires.ready c.revise_by-given.new.replica c.bring.new.replica c.args._kept.now c.revise_by-given.result (Ok c.in_ok-revised.revised) on_front
           c.in_ok-revised.ensures.brings,
     )
 
