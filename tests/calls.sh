@@ -343,6 +343,8 @@ printf '# U\nD\n# V\n\n' >draft
 cp ben other
 cp ben sections
 printf 'add 2 V\n' | "$program" edit sections 2>/dev/null
+cp sections later
+"$program" merge later ann <"$nothing" 2>/dev/null
 "$program" send ben <"$nothing" >frames
 
 try_command 'edit' - "$nothing" edit
@@ -369,7 +371,12 @@ try_command 'retitle home 1 X' sections "$nothing" retitle home 1 X
 try_command 'version home one' ben "$nothing" version home one
 try_command 'arrange home' sections "$nothing" arrange home
 try_command 'list home' sections "$nothing" list home
+try_command 'past home 4' later "$nothing" past home 4
+try_command 'changes home 4' later "$nothing" changes home 4
+try_command 'authors home' later "$nothing" authors home
+try_command 'about' - "$nothing" about
 try_command 'revise home base < draft' sections draft revise home base
+try_command 'revise home base 4 < draft' later draft revise home base 4
 try_command 'comment home 1 0 1 x' ben "$nothing" comment home 1 0 1 x
 try_command 'view home none' ben "$nothing" view home none
 try_command 'bulk 7 4' - "$nothing" bulk 7 4
