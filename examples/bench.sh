@@ -97,6 +97,9 @@ manuscript new book.ms 1 1000
 book_script 1000000 | manuscript edit book.ms 2>/dev/null
 manuscript arrange book.ms >base
 row 'a book of 1,000,000 letters in 100 sections: `arrange`' 'manuscript arrange book.ms'
+row 'what it said at half of that: `past`' 'manuscript past book.ms 500000'
+row 'what came since then: `changes`' 'manuscript changes book.ms 500000'
+row 'who wrote what: `authors`' 'manuscript authors book.ms'
 change_words >ten
 exchange_sections >exchanged
 change_letters >retyped
