@@ -97,6 +97,11 @@ END
     printed page.html python3 examples/page.py "$work/noted.ms"
     check '    and the page has the text of arrange' python3 tests/page.py "$work/page.html" "$work/arranged"
     check '    and page.py tells its form' [ "$(python3 examples/page.py --help | sed -n 3p)" = '    page.py FILE [OTHER..] > page.html' ]
+    accepted=$(manuscript list "$work/noted.ms" </dev/null | sed -n '1s/.*accepted \([0-9]*\),.*/\1/p')
+    printed since.html python3 examples/page.py --since "$accepted" "$work/noted.ms"
+    check '    and marks nothing since now' [ "$(grep -c '<ins\|class="gone"' "$work/since.html")" = 0 ]
+    printed since.html python3 examples/page.py --since 0 "$work/noted.ms"
+    check '    and all since the beginning' [ "$(grep -o '<h2[^>]*><ins>' "$work/since.html" | wc -l)" = "$(grep -c '^# ' "$work/arranged")" ]
     both_show 'the sample of three authors' "$oosterwick/all.frames"
     both_show 'the sample stream of two authors' "$samples/two_authors.frames"
     put cut "$section" "$b" "$y"
