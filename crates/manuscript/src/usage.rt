@@ -64,7 +64,7 @@ const TEXT: Word = Word::Line("TEXT", LONGEST_BODY);
 
 const NAME: Word = Word::Line("NAME", 120);
 
-const FORMS: [Form; 25] = [
+const FORMS: [Form; 26] = [
     Form {
         name: "new",
         least: 3,
