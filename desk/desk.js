@@ -33,12 +33,28 @@ class Desk {
     });
   }
 
+  // Where no address asks for more, the page starts where one was.
+  async start() {
+    const last = location.hash ? null : await this.store.lastOpened();
+    if (last) history.replaceState(null, "", `#open=${last.id}`);
+    await this.show();
+  }
+
   async show() {
     this.shown?.close();
     this.shown = await this.pageOf(location.hash);
+    this.remember(this.shown.manuscript?.id).catch((why) => console.error(why));
     document.getElementById("desk").replaceChildren(this.shown.element);
     document.title = this.shown.manuscript?.record.name ?? "Manuscripts";
     await this.shown.open();
+  }
+
+  // Remembers where one is. Nothing is lost where this fails.
+  async remember(id) {
+    const { before } = this;
+    this.before = id;
+    if (before && before !== id) await this.store.keepOpened(before, 0);
+    if (id) await this.store.keepOpened(id, Date.now());
   }
 
   async pageOf(hash) {
@@ -53,7 +69,7 @@ async function start() {
   try {
     const desk = new Desk(await Store.open());
     desk.program.does(["show"]).catch((why) => tell("The program can't run here", LACKS_PROGRAM, String(why)));
-    await desk.show();
+    await desk.start();
     return desk;
   } catch (why) {
     const line = "This browser does not let the page store anything, or it is too old. A newer one may work.";

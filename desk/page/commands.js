@@ -140,6 +140,11 @@ export function isFile(bytes) {
   return decoded(bytes.subarray(0, 4)) === "FGMX";
 }
 
+// Whether nothing was ever written in a file: the commit byte behind its header is closed.
+export function isBlankFile(bytes) {
+  return isFile(bytes) && bytes[13] !== 1;
+}
+
 export function authorOfFile(bytes) {
   return bytes.length < 9 ? 0 : new DataView(bytes.buffer, bytes.byteOffset).getUint32(5);
 }

@@ -9,6 +9,7 @@ import { Together, exchange, takeInFiles } from "./exchange.js";
 import { ask, button, download, element, field, grouped, paragraph } from "./dom.js";
 import { comment, showComments } from "./comments.js";
 import { countsInWords, waitingInWords } from "./told.js";
+import { more } from "./naming.js";
 import { showVersions } from "./versions.js";
 
 const STATES = {
@@ -38,16 +39,16 @@ export class Editor {
     this.notices = element("div", { className: "notices", "aria-live": "polite" });
     this.legend = element("div", { className: "legend", hidden: true });
     this.sections = element("div", { className: "sections" });
-    this.first = button("+ First section", () => this.add(null), { className: "add first", hidden: true });
     const tools = element("nav", { className: "row", "aria-label": "Manuscript" },
       button("Exchange", () => exchange(this)),
       button("Versions", () => showVersions(this)),
+      button("More", () => more(this)),
       button("Help", this.help),
     );
-    const title = element("h1", { textContent: name, dir: "auto" });
+    this.title = element("h1", { textContent: name, dir: "auto" });
     const home = element("a", { href: "#", textContent: "Manuscripts" });
-    const bar = element("header", { className: "bar" }, home, title, this.mark, tools);
-    const main = element("main", {}, this.notices, this.legend, this.sections, this.first);
+    const bar = element("header", { className: "bar" }, home, this.title, this.mark, tools);
+    const main = element("main", {}, this.notices, this.legend, this.sections);
     this.element = element("div", { className: "editor" }, bar, main);
     this.watchDrops();
     this.watchKeys();
@@ -83,7 +84,14 @@ export class Editor {
 
   place(sections) {
     this.list.place(sections);
-    this.first.hidden = sections.length > 0;
+    if (!this.isPlaced && sections[0].isFresh) sections[0].focus();
+    this.isPlaced = true;
+  }
+
+  showName() {
+    const { name } = this.manuscript.record;
+    this.title.textContent = name;
+    document.title = name;
   }
 
   state(name, why) {
@@ -268,7 +276,7 @@ export class Editor {
     if (!title) return;
     await this.attempt(async () => {
       await this.manuscript.add(title, behind);
-      this.manuscript.sections[behind ? this.manuscript.placeOf(behind) : 0]?.focus();
+      this.manuscript.sections[this.manuscript.placeOf(behind)]?.focus();
     });
   }
 

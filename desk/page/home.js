@@ -3,16 +3,10 @@
 import { FILES, kindOf } from "./exchange.js";
 import { Refused, countsOf, isFile } from "./commands.js";
 import { ask, bytesOf, button, chosenFiles, download, element, field, grouped, paragraph, tell } from "./dom.js";
+import { drawnNumber, freeName, nameInput, numberInput } from "./naming.js";
 import { freshKey } from "./store.js";
 
 const HOLD = 10000;
-
-const MOST = 4294967295;
-
-// A number that no other author has, but by a chance of one in billions.
-function drawnNumber() {
-  return crypto.getRandomValues(new Uint32Array(1))[0] || 1;
-}
 
 // Makes manuscripts, and removes them.
 export class Shelf {
@@ -20,15 +14,20 @@ export class Shelf {
     Object.assign(this, { store, program });
   }
 
-  // Asks for a name and an author number, and makes a manuscript. What `from` has comes in: a file or a stream.
-  async begin({ name = "", from = null, circle = freshKey() } = {}) {
-    const title = element("input", { value: name, required: true, maxLength: 120, dir: "auto" });
-    const number = element("input", { type: "number", min: 1, max: MOST, required: true, value: drawnNumber() });
+  // Makes a manuscript at once, for an author with a number drawn at random.
+  async fresh() {
+    return this.make({ name: freeName(await this.store.records()), replica: drawnNumber() });
+  }
+
+  // Asks for a name and an author number, and makes a manuscript of what `from` has: a file or a stream.
+  async begin({ name, from, circle = freshKey() }) {
+    const title = nameInput(name);
+    const number = numberInput(drawnNumber());
     const hint = "No other author of this manuscript may have this number. It was chosen at random, so you can leave " +
       "it. On another machine you are another author, with another number.";
     const read = () => ({ name: title.value, replica: Number(number.value) });
     const body = [field("Name", title), field("Your author number", number, hint)];
-    const given = await ask(from ? "New manuscript from this file" : "New manuscript", body, { agree: "Begin", read });
+    const given = await ask("New manuscript from this file", body, { agree: "Begin", read });
     return given && this.make({ ...given, from, circle });
   }
 
@@ -88,7 +87,7 @@ export class Home {
     this.list = element("ul", { className: "shelf" });
     this.first = document.getElementById("first").content.cloneNode(true).firstElementChild;
     const row = element("nav", { className: "row", "aria-label": "Manuscripts" },
-      button("New manuscript", () => this.go(() => shelf.begin()), { className: "main" }),
+      button("New manuscript", () => this.go(() => shelf.fresh()), { className: "main" }),
       button("Open a file …", async () => this.bring(await chosenFiles(FILES))),
       button("Help", help),
     );
@@ -133,7 +132,7 @@ export class Home {
   }
 
   async rename({ id, name }) {
-    const input = element("input", { value: name, required: true, maxLength: 120, dir: "auto" });
+    const input = nameInput(name);
     const given = await ask("Rename", [field("Name", input)], { agree: "Rename", read: () => input.value });
     if (!given) return;
     await this.store.exclusively(id, async () => this.store.keep({ ...(await this.store.record(id)), name: given }));

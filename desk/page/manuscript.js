@@ -3,9 +3,12 @@
 // Each change of the file waits in one queue, and for other tabs that have the file open. What was typed is saved
 // first. So what comes in is a change of a saved text, and it is carried over to what was typed meanwhile.
 
-import { commentsOf, countsOf, decoded, encoded, faultOfTitle, formOf, isFile, listOf, partsOf } from "./commands.js";
+import {
+  commentsOf, countsOf, decoded, encoded, faultOfTitle, formOf, isBlankFile, isFile, listOf, partsOf,
+} from "./commands.js";
 import { changes, clustersOf, movedPlace, placeOfScalar, withoutReturns } from "./difference.js";
 import { ChangedElsewhere, freshKey } from "./store.js";
+import { UNTITLED } from "./naming.js";
 
 const HOME = "manuscript.ms";
 const BASE = "base.txt";
@@ -35,6 +38,21 @@ export class Manuscript {
     return this.record.id;
   }
 
+  // Whether nothing was ever written in the file.
+  get isBlank() {
+    return isBlankFile(this.bytes);
+  }
+
+  // The sections that the file has: all but a fresh one.
+  get known() {
+    return this.sections.filter(({ isFresh }) => !isFresh);
+  }
+
+  // A manuscript without sections has a fresh one to write in. It stays the last one while it is not in the file.
+  addFresh(fresh = this.makes({ title: "", text: "", isFresh: true })) {
+    if (this.sections.length === 0 || fresh.isDirty) this.sections.push(fresh);
+  }
+
   // Opening: the text that was kept with the file is shown at once, and then what the program prints.
   async load() {
     this.endOpen = this.store.showOpen(this.tab);
@@ -51,6 +69,7 @@ export class Manuscript {
     const { bytes, text } = await this.store.file(this.id);
     this.bytes = bytes;
     this.sections = partsOf(text ?? (await this.printed(bytes))).map((part) => this.makes(part));
+    this.addFresh();
     this.view.place(this.sections);
     this.view.state("saved");
   }
@@ -114,6 +133,24 @@ export class Manuscript {
     this.channel?.say({ id: this.id, circle: record.circle });
   }
 
+  // Gives the author of a blank file another number.
+  renumber(replica) {
+    return this.alone(async () => {
+      await this.catchUp();
+      if (!this.isBlank) throw new Error("Something is written in this manuscript, so your author number stays.");
+      const { hold } = listOf((await this.does(["list", HOME])).output);
+      const { files } = await this.program.does(["new", HOME, replica, hold]);
+      const { record } = this;
+      this.record = { ...record, replica };
+      try {
+        await this.keep(files.get(HOME), "");
+      } catch (why) {
+        this.record = record;
+        throw why;
+      }
+    });
+  }
+
   // Keeps the record of the manuscript, which stands beside its file.
   keepRecord(changes) {
     return this.alone(async () => {
@@ -149,8 +186,9 @@ export class Manuscript {
   // Shows the sections of the file. Those that were there stay the same, with what is typed in them.
   adopt({ sections: parts, isReadOnly, hasOthers }) {
     Object.assign(this, { isReadOnly, hasOthers });
-    const before = new Map(this.sections.map((section, at) => [section.key ?? `at ${at}`, section]));
-    const isFirst = this.sections.every(({ key }) => key === undefined);
+    const before = new Map(this.known.map((section, at) => [section.key ?? `at ${at}`, section]));
+    const isFirst = this.known.every(({ key }) => key === undefined);
+    const fresh = this.sections.find((section) => section.isFresh);
     const after = parts.map((part, at) => {
       const name = isFirst ? `at ${at}` : part.key;
       const section = before.get(name);
@@ -161,8 +199,9 @@ export class Manuscript {
     });
     for (const section of before.values()) if (section.isDirty) this.lose(section);
     this.sections = after;
-    for (const section of after) section.freeze(isReadOnly);
-    this.view.place(after);
+    this.addFresh(fresh);
+    for (const section of this.sections) section.freeze(isReadOnly);
+    this.view.place(this.sections);
     this.view.counts(this);
   }
 
@@ -170,7 +209,7 @@ export class Manuscript {
   lose(section) {
     const { live, saved, ...draft } = section.draft();
     const title = faultOfTitle(live.title) ? saved.title : live.title;
-    this.lost.push({ ...draft, saved, live: { title, text: withoutHeadings(live.text) } });
+    this.lost.push({ ...draft, saved, live: madeNew({ ...live, title }) });
     this.saveSoon();
     this.view.lost?.(title);
   }
@@ -209,7 +248,7 @@ export class Manuscript {
         entry.key ? key === entry.key : place === entry.place && saved.title === entry.saved.title,
       );
       if (section) section.putBack(entry);
-      else this.lost.push({ ...entry, live: { ...entry.live, text: withoutHeadings(entry.live.text) } });
+      else this.lost.push({ ...entry, live: madeNew(entry.live) });
     }
     this.view.state("typing");
     await this.keepDraft();
@@ -265,26 +304,39 @@ export class Manuscript {
 
   // The commands that bring what was typed into the file: a title by `retitle`, texts by `revise`.
   async saveDraft() {
-    const { sections, lost } = this;
+    const { lost } = this;
+    const sections = this.sections.filter(({ isFresh, isDirty }) => !isFresh || isDirty);
     const sent = sections.map((section) => (section.isDirty ? section.proposal() : section.clean()));
     const isChanged = ({ saved }, at) => saved.title !== sent[at].title || saved.text !== sent[at].text;
     if (this.isReadOnly || (lost.length === 0 && !sections.some(isChanged))) return;
     this.view.state("saving");
-    let { bytes } = this;
-    for (const [at, { saved }] of sections.entries()) {
-      if (saved.title === sent[at].title) continue;
-      bytes = written(await this.does(["retitle", HOME, at + 1, sent[at].title], { bytes }), bytes);
-    }
-    const base = formOf(sections.map(({ saved }, at) => ({ title: sent[at].title, text: saved.text })));
+    const { bytes: before, base } = await this.retitled(sections, sent);
     const parts = [...sent];
     for (const { place, live } of lost) parts.splice(Math.min(place - 1, parts.length), 0, live);
     const draft = formOf(parts);
-    bytes = await this.revised(bytes, base, draft);
+    const bytes = await this.revised(before, base, draft);
+    const fresh = sections.find(({ isFresh }) => isFresh);
+    const found = lost.length || fresh ? await this.look(bytes) : null;
     await this.keep(bytes, draft);
     for (const [at, section] of sections.entries()) section.setSaved(sent[at]);
     this.lost = this.lost.slice(lost.length);
-    if (lost.length) this.adopt(await this.look(bytes));
+    if (fresh) enter(fresh, found.sections[parts.indexOf(sent.at(-1))]);
+    if (found) this.adopt(found);
     this.keepDraft();
+  }
+
+  // Brings the titles of sections into the file. Gives its bytes, and what it prints then: the base of the texts.
+  async retitled(sections, sent) {
+    let { bytes } = this;
+    const base = [];
+    for (const [at, { saved, isFresh }] of sections.entries()) {
+      const { title } = sent[at];
+      if (isFresh) continue;
+      base.push({ title, text: saved.text });
+      if (saved.title === title) continue;
+      bytes = written(await this.does(["retitle", HOME, at + 1, title], { bytes }), bytes);
+    }
+    return { bytes, base: formOf(base) };
   }
 
   async revised(bytes, base, draft) {
@@ -332,7 +384,7 @@ export class Manuscript {
   // Adds a section after another one, or before all.
   add(title, behind) {
     return this.change(() => {
-      const parts = this.sections.map(({ saved }) => saved);
+      const parts = this.known.map(({ saved }) => saved);
       const base = formOf(parts);
       const draft = formOf(parts.toSpliced(behind ? this.placeOf(behind) : 0, 0, { title, text: "" }));
       return this.does(["revise", HOME, BASE], { files: [[BASE, encoded(base)]], input: encoded(draft) });
@@ -402,6 +454,12 @@ export class Manuscript {
   }
 }
 
+// A fresh section came into the file, as the section of this key.
+function enter(fresh, { key, title }) {
+  fresh.key = key;
+  fresh.enter(title);
+}
+
 // The script that mends the texts of sections, of each of which the count of letters is known.
 function mendingOf(text, arranged) {
   let at = 0;
@@ -415,6 +473,11 @@ function mendingOf(text, arranged) {
     at = text.length - rest.length + body.length + 1;
   }
   return lines.join("");
+}
+
+// A section that is made of what was typed in one that is gone, or that never was in the file.
+function madeNew({ title, text }) {
+  return { title: title || UNTITLED, text: withoutHeadings(text) };
 }
 
 // Puts a space before what would be a title.

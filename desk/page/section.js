@@ -6,14 +6,17 @@
 import { carried, changed, changes, movedPlace, splice, withReturns, withoutReturns } from "./difference.js";
 import { faultOfText, faultOfTitle } from "./commands.js";
 import { button, element } from "./dom.js";
+import { UNTITLED } from "./naming.js";
 
 // A longer text has no mirror, and so no colours: a browser would take twice the time for each key.
 const LONGEST_MIRRORED = 150000;
 
 export class Section {
   // `host` is told of what the writer does: edited(section), and does(name, section).
-  constructor({ key, title, text }, host) {
+  // A section that is `isFresh` is not in the file yet: it comes into it with the first letter.
+  constructor({ key, title, text, isFresh = false }, host) {
     this.key = key;
+    this.isFresh = isFresh;
     this.setSaved({ title, text });
     this.live = this.shown;
     this.host = host;
@@ -25,9 +28,13 @@ export class Section {
 
   build() {
     this.title = element("input", { className: "title", value: this.saved.title, dir: "auto", autocomplete: "off" });
+    this.title.placeholder = UNTITLED;
     this.title.oninput = () => this.host.edited(this);
+    this.title.onfocus = () => this.selectUntitled();
     this.title.onkeydown = (event) => {
-      if (event.key === "Enter" && !event.isComposing) this.focus();
+      if (event.key !== "Enter" || event.isComposing) return;
+      event.preventDefault();
+      this.focus();
     };
     this.mirror = element("div", { className: "mirror", dir: "auto" });
     this.paper = element("div", { className: "paper" }, this.mirror);
@@ -53,6 +60,7 @@ export class Section {
       ["drop", "Delete", "Delete this section"],
     ].map(([name, label, title]) => button(label, does(name), { title, "aria-label": title, className: `do-${name}` }));
     this.group = element("div", { className: "tools", role: "group" }, this.grip, ...this.buttons);
+    this.group.hidden = this.isFresh;
     return this.group;
   }
 
@@ -133,6 +141,20 @@ export class Section {
     this.key = key;
   }
 
+  // A fresh section came into the file, with the title that it has there.
+  enter(title) {
+    this.isFresh = false;
+    this.group.hidden = false;
+    if (this.title.value !== "") return;
+    this.setTitle(title);
+    this.selectUntitled();
+  }
+
+  // What is typed into the title takes the place of “Untitled”.
+  selectUntitled() {
+    if (document.activeElement === this.title && this.title.value === UNTITLED) this.title.select();
+  }
+
   // What the file has, and how a text area shows it.
   setSaved(saved) {
     this.saved = saved;
@@ -165,9 +187,11 @@ export class Section {
   proposal() {
     const title = this.title.value;
     const text = withReturns(this.saved.text, this.live);
-    const faults = [title === this.saved.title ? "" : faultOfTitle(title), faultOfText(text)];
+    const known = this.isFresh ? UNTITLED : this.saved.title;
+    const isKept = title === known || (this.isFresh && title === "");
+    const faults = [isKept ? "" : faultOfTitle(title), faultOfText(text)];
     this.say(faults.filter(Boolean).join(" "));
-    return { title: faults[0] ? this.saved.title : title, text: faults[1] ? this.saved.text : text };
+    return { title: isKept || faults[0] ? known : title, text: faults[1] ? this.saved.text : text };
   }
 
   draft() {

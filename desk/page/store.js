@@ -92,6 +92,20 @@ export class Store {
     return this.#look("records", (store) => store.get(id));
   }
 
+  // Keeps when a manuscript was opened last: 0 says that it was left for the list.
+  keepOpened(id, opened) {
+    return this.exclusively(id, async () => {
+      const record = await this.record(id);
+      if (record) await this.keep({ ...record, opened });
+    });
+  }
+
+  // The manuscript that was open last, if it was not left.
+  async lastOpened() {
+    const records = (await this.records()).filter(({ opened }) => opened);
+    return records.sort((one, other) => other.opened - one.opened)[0];
+  }
+
   // The bytes of a file, and what they say where that was known when they were kept.
   file(id) {
     return this.#look("files", (store) => store.get(id));

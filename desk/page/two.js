@@ -97,6 +97,7 @@ export class Two {
   // Ann begins, and Ben has what she has.
   async begin() {
     this.isReady = false;
+    this.panes.hidden = true;
     this.halves?.forEach(({ manuscript }) => manuscript.close());
     const shelf = new Shelf(this);
     const records = [];
@@ -109,6 +110,7 @@ export class Two {
     ann.manuscript.sections[0].apply([{ start: 0, end: 0, text: "It was calm." }]);
     await ann.manuscript.save();
     this.isReady = true;
+    this.panes.hidden = false;
     this.switch.checked = true;
     await this.turn(true);
     for (const { manuscript } of this.halves) manuscript.sections[0]?.wake();

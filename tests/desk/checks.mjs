@@ -67,21 +67,36 @@ export function arranged(page) {
     .decode((await manuscript.does(["arrange", "manuscript.ms"])).output))`);
 }
 
-// Begins a manuscript with a section, as a writer does, and leaves the caret in its text.
-export async function begin(page, name = "The quiet sea", title = "The sea") {
+export const WRITES = "document.activeElement.matches('textarea')";
+
+// Goes to the list of manuscripts.
+export async function list(page) {
+  await page.until("document.querySelector('.home, .editor')");
+  await page.value("location.hash = ''");
   await page.until("document.querySelector('.home')");
-  await page.pressButton("New manuscript");
-  await page.until("document.querySelector('dialog[open]')");
-  await page.type(name);
-  await page.press("Enter");
-  await page.until("document.querySelector('.editor')");
-  await page.until(SAVED);
-  await add(page, title, "+ First section");
 }
 
-export async function add(page, title, words = "+ Section") {
+// Begins a manuscript with a section, as a writer does, and leaves the caret in its text.
+export async function begin(page, name = "The quiet sea", title = "The sea") {
+  await list(page);
+  await page.pressButton("New manuscript");
+  await page.until(WRITES);
+  await page.pressButton("More");
+  await page.until("document.querySelector('dialog[open]')");
+  await page.value("document.querySelector('dialog input').select()");
+  await page.type(name);
+  await page.press("Enter");
+  await page.until(`document.title === ${JSON.stringify(name)}`);
+  await page.value("document.querySelector('.title').focus()");
+  await page.type(title);
+  await page.press("Enter");
+  await page.until(WRITES);
+  await saved(page);
+}
+
+export async function add(page, title) {
   const before = await page.value("document.querySelectorAll('.section').length");
-  await page.pressButton(words);
+  await page.pressButton("+ Section");
   await page.until("document.querySelector('dialog[open]')");
   await page.type(title);
   await page.press("Enter");

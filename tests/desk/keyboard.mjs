@@ -1,7 +1,7 @@
 // The page by keyboard alone, and the names that a screen reader is given.
 
 import { SHIFT } from "./browser.mjs";
-import { arranged, check, group, pause, picture, same, saved } from "./checks.mjs";
+import { WRITES, arranged, check, group, pause, picture, same, saved } from "./checks.mjs";
 
 const FOCUSED = `(() => {
   const { activeElement: at, body } = document;
@@ -23,17 +23,12 @@ async function byKeys(open) {
   await goTo(page, "New manuscript");
   await picture(page, "focus");
   await page.press("Enter");
-  await page.until("document.querySelector('dialog[open]')");
-  await page.type("The quiet sea");
-  await page.press("Enter");
-  await page.until("document.querySelector('.editor')");
-  await goTo(page, "First section");
-  await page.press("Enter");
-  await page.until("document.querySelector('dialog[open]')");
+  await page.until(WRITES);
+  await page.type("It was calm.");
+  await goTo(page, "Title of section 1", SHIFT);
   await page.type("The sea");
   await page.press("Enter");
-  await page.until("document.activeElement.matches('textarea')");
-  await page.type("It was calm.");
+  await page.until(WRITES);
   await saved(page);
   await goTo(page, "+ Section");
   await page.press("Enter");

@@ -4,10 +4,69 @@ import fs from "node:fs";
 import path from "node:path";
 import { ALT, Browser, CONTROL, SHIFT } from "./browser.mjs";
 import {
-  NOTICES, SAVED, TEXTS, add, address, arranged, begin, check, group, pause, picture, same, saved, select,
+  NOTICES, SAVED, TEXTS, WRITES, add, address, arranged, begin, check, group, list, pause, picture, same, saved, select,
 } from "./checks.mjs";
 
 const TEXT = "It was calm.\n\nThen it blew.";
+
+// One click, and the first letter is written.
+async function firstLetter(open) {
+  const page = await open();
+  await page.until("document.querySelector('.home')");
+  await page.click("button.main");
+  await page.until(WRITES);
+  check("a new manuscript asks nothing", !(await page.value("document.querySelector('dialog')")));
+  await picture(page, "first_minute");
+  await page.type("It was calm.");
+  await saved(page);
+  same("what is typed first is saved, untitled", await arranged(page), "# Untitled\nIt was calm.\n");
+  same("as the title shows", await page.value("document.querySelector('.title').value"), "Untitled");
+  await page.value("document.querySelector('.title').focus()");
+  await page.type("The sea");
+  await page.press("Enter");
+  await saved(page);
+  same("a title takes its place", await arranged(page), "# The sea\nIt was calm.\n");
+  const again = await open();
+  await again.until(`/calm/.test(${TEXTS})`);
+  check("the page starts where one was", true);
+  await list(again);
+  await again.until("desk.then(async ({ store }) => !(await store.lastOpened()))");
+  const third = await open();
+  await third.until("document.querySelector('.shelf li')");
+  check("which may be the list", true);
+}
+
+// The author number is drawn, and stays from the first letter on.
+async function authorNumber(open) {
+  const page = await open();
+  await page.until("document.querySelector('.home')");
+  await page.pressButton("New manuscript");
+  await page.until(WRITES);
+  const number = "document.querySelector('dialog[open] input[type=number]')";
+  const replica = "desk.then(async ({ shown: { manuscript } }) => new DataView(manuscript.bytes.buffer).getUint32(5))";
+  const asks = async () => {
+    await page.pressButton("More");
+    await page.until(number);
+  };
+  await asks();
+  same("“More” shows the author number", await page.value(`Number(${number}.value)`), await page.value(replica));
+  await picture(page, "more");
+  await page.value(`${number}.value = 42`);
+  await page.pressButton("Save");
+  await page.until(`${replica}.then((known) => known === 42)`);
+  check("which can be changed", true);
+  await select(page, 0, 0);
+  await page.type("It was calm.");
+  await asks();
+  check("until something is written", await page.value(`${number}.readOnly`));
+  await page.pressButton("Cancel");
+  same("which has that number", await page.value(`desk.then(async ({ program, shown: { manuscript } }) =>
+    String((await program.read(manuscript.bytes, false)).authors))`), "42");
+  await list(page);
+  await page.pressButton("New manuscript");
+  await page.until(`${WRITES} && document.title === 'Untitled 2'`);
+  check("another one has another name and number", (await page.value(replica)) !== 42);
+}
 
 async function typing(open) {
   const page = await open();
@@ -42,8 +101,6 @@ async function drafts(open, browser) {
   const other = new Browser(browser.profile);
   try {
     const again = await open("", {}, other);
-    await again.until("document.querySelector('.shelf a')");
-    await again.value("document.querySelector('.shelf a').click()");
     await again.until("document.querySelector('.notice.draft')");
     same("the file has what was saved before the crash", await arranged(again), "# The sea\nIt was calm.\n");
     await picture(again, "draft");
@@ -77,8 +134,6 @@ async function kills(open, browser) {
     if (from !== browser) await from.close();
     from = new Browser(profile);
     tab = await open("", {}, from);
-    await tab.until("document.querySelector('.shelf a')");
-    await tab.value("document.querySelector('.shelf a').click()");
     await tab.until("document.querySelector('textarea')");
     await tab.until(SAVED);
     await pause(600);
@@ -341,6 +396,8 @@ async function fullDisk() {
 }
 
 export async function writing() {
+  await group("the first letter", firstLetter);
+  await group("author number", authorNumber);
   await group("typing", typing);
   await group("drafts", drafts);
   await group("kills", kills);
