@@ -1,13 +1,14 @@
 // The page of one manuscript.
 
 import { StoreFull } from "./store.js";
-import { Refused, encoded, formOf } from "./commands.js";
+import { Refused, encoded, faultOfTitle, formOf } from "./commands.js";
 import { Colours, SectionList, marksOfSection } from "./list.js";
 import { Manuscript } from "./manuscript.js";
 import { Section } from "./section.js";
 import { Together, exchange, takeInFiles } from "./exchange.js";
 import { ask, button, download, element, field, grouped, paragraph } from "./dom.js";
 import { comment, showComments } from "./comments.js";
+import { printsBook, ways } from "./book.js";
 import { countsInWords, waitingInWords } from "./told.js";
 import { more } from "./naming.js";
 import { showVersions } from "./versions.js";
@@ -19,6 +20,15 @@ const STATES = {
   working: "Working …",
   held: "Kept as a draft",
   refused: "Not saved",
+};
+
+const PASSING = ["typing", "saving", "working"];
+
+const TITLES = {
+  ".md": "Download the text, with “# ” before each title",
+  ".txt": "Download the text, with plain titles",
+  ".html": "Download the text as a web page",
+  Print: "Print the text as a book",
 };
 
 export class Editor {
@@ -36,21 +46,26 @@ export class Editor {
   build() {
     const { name } = this.manuscript.record;
     this.mark = element("span", { className: "state", textContent: "Opening …" });
-    this.notices = element("div", { className: "notices", "aria-live": "polite" });
+    this.notices = element("div", { className: "notices", tabIndex: -1 });
+    const report = element("div", { className: "report", role: "status", "aria-atomic": "false" }, this.mark,
+      this.notices);
     this.legend = element("div", { className: "legend", hidden: true });
     this.sections = element("div", { className: "sections" });
     const tools = element("nav", { className: "row", "aria-label": "Manuscript" },
       button("Exchange", () => exchange(this)),
       button("Versions", () => showVersions(this)),
+      element("span", { className: "row", role: "group", "aria-label": "Take the text out" },
+        ...ways(this).map(([form, take]) => button(form, take, { title: TITLES[form] }))),
       button("More", () => more(this)),
       button("Help", this.help),
     );
     this.title = element("h1", { textContent: name, dir: "auto" });
     const home = element("a", { href: "#", textContent: "Manuscripts" });
-    const bar = element("header", { className: "bar" }, home, this.title, this.mark, tools);
-    const main = element("main", {}, this.notices, this.legend, this.sections);
-    this.element = element("div", { className: "editor" }, bar, main);
+    const bar = element("header", { className: "bar" }, home, this.title, tools);
+    const main = element("main", {}, this.legend, this.sections);
+    this.element = element("div", { className: "editor" }, element("div", { className: "top" }, bar, report), main);
     this.watchDrops();
+    printsBook(this, this.leave.signal);
     this.watchKeys();
   }
 
@@ -95,10 +110,17 @@ export class Editor {
   }
 
   state(name, why) {
-    if (this.mark.dataset.state !== name) this.mark.textContent = STATES[name];
-    this.mark.dataset.state = name;
+    this.showState(name);
     if (name === "refused") this.refused(why);
     else if (name === "saved") this.saveNotice?.remove();
+  }
+
+  // A state that passes is not announced.
+  showState(name) {
+    if (this.mark.dataset.state === name) return;
+    this.mark.setAttribute("aria-busy", PASSING.includes(name));
+    this.mark.dataset.state = name;
+    this.mark.textContent = STATES[name];
   }
 
   lost(title) {
@@ -203,8 +225,7 @@ export class Editor {
       button("Download the text", () => this.downloadText()),
     ];
     this.saveNotice = this.notice(text, { line: why.line, kind: "grave", actions });
-    this.mark.textContent = STATES.refused;
-    this.mark.dataset.state = "refused";
+    this.showState("refused");
   }
 
   downloadText() {
@@ -271,7 +292,8 @@ export class Editor {
   }
 
   async add(behind) {
-    const input = element("input", { required: true, maxLength: 400, dir: "auto" });
+    const input = element("input", { required: true, dir: "auto" });
+    input.oninput = () => input.setCustomValidity(faultOfTitle(input.value));
     const title = await ask("New section", [field("Title", input)], { agree: "Add", read: () => input.value });
     if (!title) return;
     await this.attempt(async () => {

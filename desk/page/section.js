@@ -29,7 +29,10 @@ export class Section {
   build() {
     this.title = element("input", { className: "title", value: this.saved.title, dir: "auto", autocomplete: "off" });
     this.title.placeholder = UNTITLED;
-    this.title.oninput = () => this.host.edited(this);
+    this.title.oninput = () => {
+      this.judgeTitle();
+      this.host.edited(this);
+    };
     this.title.onfocus = () => this.selectUntitled();
     this.title.onkeydown = (event) => {
       if (event.key !== "Enter" || event.isComposing) return;
@@ -59,9 +62,25 @@ export class Section {
       ["comment", "Comment", "Comment on the passage that is selected"],
       ["drop", "Delete", "Delete this section"],
     ].map(([name, label, title]) => button(label, does(name), { title, "aria-label": title, className: `do-${name}` }));
-    this.group = element("div", { className: "tools", role: "group" }, this.grip, ...this.buttons);
+    this.group = element("div", { className: "tools", role: "toolbar" }, this.grip, ...this.buttons);
     this.group.hidden = this.isFresh;
+    this.group.onkeydown = (event) => this.goAlong(event);
     return this.group;
+  }
+
+  // The tools are one stop of the tabulator; arrows go from one tool to the next.
+  goAlong(event) {
+    const steps = { ArrowRight: 1, ArrowLeft: -1 };
+    const usable = this.buttons.filter(({ disabled }) => !disabled);
+    const next = usable[usable.indexOf(event.target) + steps[event.key]];
+    if (event.altKey || !next) return;
+    event.preventDefault();
+    this.stopAt(next);
+    next.focus();
+  }
+
+  stopAt(tool) {
+    for (const each of this.buttons) each.tabIndex = each === tool ? 0 : -1;
   }
 
   adder() {
@@ -83,6 +102,8 @@ export class Section {
   count(place, most) {
     this.buttons[0].disabled = place === 1;
     this.buttons[1].disabled = place === most;
+    const stop = this.buttons.find(({ disabled, tabIndex }) => !disabled && tabIndex === 0);
+    this.stopAt(stop && this.place === place ? stop : this.buttons.find(({ disabled }) => !disabled));
     this.title.setAttribute("aria-label", `Title of section ${place}`);
     this.group.setAttribute("aria-label", `Section ${place}`);
     this.notes.setAttribute("aria-label", `Comments on section ${place}`);
@@ -163,6 +184,7 @@ export class Section {
 
   setTitle(title) {
     if (this.title.value !== title) this.title.value = title;
+    this.judgeTitle();
   }
 
   // Puts back a draft, as a change of the saved text from which it was made.
@@ -189,9 +211,19 @@ export class Section {
     const text = withReturns(this.saved.text, this.live);
     const known = this.isFresh ? UNTITLED : this.saved.title;
     const isKept = title === known || (this.isFresh && title === "");
-    const faults = [isKept ? "" : faultOfTitle(title), faultOfText(text)];
-    this.say(faults.filter(Boolean).join(" "));
-    return { title: isKept || faults[0] ? known : title, text: faults[1] ? this.saved.text : text };
+    const fault = faultOfText(text);
+    this.say(fault);
+    return { title: isKept || this.judgeTitle() ? known : title, text: fault ? this.saved.text : text };
+  }
+
+  // Marks a title that the program refuses, and gives why. It is shown while the writer is there.
+  judgeTitle() {
+    const { value } = this.title;
+    const fault = this.isFresh && value === "" ? "" : faultOfTitle(value);
+    if (fault === this.title.validationMessage) return fault;
+    this.title.setCustomValidity(fault);
+    if (fault && document.activeElement === this.title) this.title.reportValidity();
+    return fault;
   }
 
   draft() {

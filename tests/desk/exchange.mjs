@@ -159,20 +159,60 @@ async function waiting(open) {
   check("and that something waits when it is opened again", true);
 }
 
+// Gives what reads a file that the browser downloads.
+async function downloads(browser) {
+  const folder = fs.mkdtempSync(path.join(browser.profile, "downloads-"));
+  await browser.send("Browser.setDownloadBehavior", { behavior: "allow", downloadPath: folder });
+  return async (name) => {
+    const file = path.join(folder, name);
+    for (let count = 0; count < 100 && !fs.existsSync(file); count += 1) await pause(50);
+    return fs.readFileSync(file);
+  };
+}
+
+const FORMS = {
+  md: "# The sea\nIt was <calm>.\n\nThen it blew.\n# The land\nHills.\n",
+  txt: "The sea\n\nIt was <calm>.\n\nThen it blew.\n\nThe land\n\nHills.\n",
+  html: '<article class="book"><h1 dir="auto">The quiet sea</h1><section><h2 dir="auto">The sea</h2>' +
+    '<p dir="auto">It was &lt;calm&gt;.</p><p dir="auto">Then it blew.</p></section><section>' +
+    '<h2 dir="auto">The land</h2><p dir="auto">Hills.</p></section></article>',
+};
+
+// The text for other programs, each at one press, and on paper.
+async function takenOut(open, browser) {
+  const page = await open();
+  await begin(page);
+  await page.type("It was <calm>.\n\nThen it blew.");
+  await add(page, "The land");
+  await page.type("Hills.");
+  const read = await downloads(browser);
+  for (const [form, wanted] of Object.entries(FORMS)) {
+    await page.pressButton(`.${form}`);
+    const text = (await read(`The quiet sea.${form}`)).toString();
+    if (form !== "html") same(`the text as .${form}`, text, wanted);
+    else check("the text as .html", text.startsWith("<!doctype html>") && text.includes(wanted), text);
+  }
+  await page.value("dispatchEvent(new Event('beforeprint'))");
+  await page.send("Emulation.setEmulatedMedia", { media: "print" });
+  same("on paper it has the manuscript's name, and no boxes and buttons", await page.value("document.body.innerText"),
+    "The quiet sea\nThe sea\n\nIt was <calm>.\n\nThen it blew.\n\nThe land\n\nHills.");
+  await picture(page, "print");
+  await page.send("Emulation.setEmulatedMedia", { media: "" });
+  await page.value("dispatchEvent(new Event('afterprint'))");
+  check("and on the screen it is gone", !(await page.value("document.querySelector('.book')")));
+}
+
 // What is downloaded is the file, byte by byte, and another author takes it in.
 async function download(open, browser) {
   const page = await open();
   await begin(page);
   await page.type("It was calm.");
   await saved(page);
-  const folder = fs.mkdtempSync(path.join(browser.profile, "downloads-"));
-  await browser.send("Browser.setDownloadBehavior", { behavior: "allow", downloadPath: folder });
+  const read = await downloads(browser);
   await page.pressButton("Exchange");
   await page.until("document.querySelector('dialog[open]')");
   await page.pressButton("Download a backup");
-  const file = path.join(folder, "The quiet sea (backup).ms");
-  for (let count = 0; count < 100 && !fs.existsSync(file); count += 1) await pause(50);
-  const bytes = fs.readFileSync(file);
+  const bytes = await read("The quiet sea (backup).ms");
   const kept = await page.value("desk.then(({ shown: { manuscript } }) => [...manuscript.bytes])");
   same("a file is downloaded with its bytes", [...bytes].join(), kept.join());
   await page.pressButton("Close");
@@ -430,6 +470,7 @@ export async function exchange() {
   await group("samples", samples);
   await group("files", files);
   await group("download", download);
+  await group("text taken out", takenOut);
   await group("what waits", waiting);
   await group("two copies", conflict);
   await group("two tabs", tabs);

@@ -1,7 +1,7 @@
 // The page by keyboard alone, and the names that a screen reader is given.
 
 import { SHIFT } from "./browser.mjs";
-import { WRITES, arranged, check, group, pause, picture, same, saved } from "./checks.mjs";
+import { WRITES, add, arranged, begin, check, group, pause, picture, same, saved } from "./checks.mjs";
 
 const FOCUSED = `(() => {
   const { activeElement: at, body } = document;
@@ -55,6 +55,50 @@ async function byKeys(open) {
   check("and the focus is where it was", (await page.value(FOCUSED)).includes("Help"));
 }
 
+// How many stops of the tabulator a section has, and what the tools show where.
+async function tools(open) {
+  const page = await open();
+  await begin(page);
+  await page.type("It was calm.");
+  await add(page, "The land");
+  await saved(page);
+  await picture(page, "section");
+  const stops = await page.value(`[...document.querySelectorAll(".section")].map((section) =>
+    [...section.querySelectorAll("button")].filter(({ tabIndex, disabled }) => tabIndex === 0 && !disabled).length)`);
+  same("a section has two stops for its tools", stops.join(), "2,2");
+  const shown = await page.value(`[...document.querySelectorAll(".tools")].map((tools) =>
+    getComputedStyle(tools).opacity)`);
+  same("which are shown where one is", shown.join(), "0,1");
+  await goTo(page, "Move up", SHIFT);
+  await page.press("ArrowRight");
+  check("arrows go along them", (await page.value(FOCUSED)).startsWith("Comment"), await page.value(FOCUSED));
+}
+
+// The state and the notices are seen and announced wherever one is.
+async function report(open) {
+  const page = await open();
+  await begin(page);
+  await page.send("Input.insertText", { text: "It was calm.\n".repeat(400) });
+  await saved(page);
+  for (const [width, height] of [[1100, 760], [360, 740]]) {
+    await page.size(width, height);
+    await page.value("window.scrollTo(0, document.body.scrollHeight / 2)");
+    await page.value("desk.then(({ shown }) => void shown.notice('Something came in.'))");
+    await pause(200);
+    const seen = await page.value(`["state", "notice"].map((name) => document.querySelector("." + name))
+      .filter((each) => { const { top, bottom } = each.getBoundingClientRect(); return top >= 0 && bottom <= 400 &&
+        each.closest("[role=status]"); }).length`);
+    same(`the state and what came in are in sight, ${width} wide`, seen, 2);
+    await picture(page, `report_${width}`);
+    const wide = await page.value("document.documentElement.scrollWidth");
+    check("and the page is no wider", wide <= width, wide);
+  }
+  await page.value("document.querySelector('.title').select()");
+  await page.press("Backspace");
+  const fault = await page.value("document.querySelector('.title').validationMessage");
+  same("a title that is refused tells it in its field", fault, "A section needs a title.");
+}
+
 // Each thing that can be used has a name.
 async function names(open) {
   for (const hash of ["", "#two"]) {
@@ -72,5 +116,7 @@ async function names(open) {
 
 export async function keyboard() {
   await group("by keyboard", byKeys);
+  await group("tools", tools);
+  await group("reports", report);
   await group("names", names);
 }
