@@ -36,6 +36,7 @@ async function imported(page) {
   })()`);
   await page.until("document.querySelector('dialog[open]')");
   const read = await page.value("performance.now() - dropped");
+  await page.value("document.querySelector('dialog[open] input[value=own]').click()");
   await page.value("globalThis.dropped = performance.now()");
   await page.pressButton("Go on");
   await page.until("document.querySelector('textarea')?.value.length > 0");
