@@ -129,10 +129,25 @@ export function faultOfTitle(title) {
   return "";
 }
 
+export function hasTitles(text) {
+  return /(^|\n)# /.test(text);
+}
+
 export function faultOfText(text) {
-  if (!/(^|\n)# /.test(text)) return "";
+  if (!hasTitles(text)) return "";
   return "A line here begins with “# ”, which marks the title of a section. This section is saved as soon as you " +
     "change that line: put a space before it, say. Until then it is kept as a draft.";
+}
+
+// What is wrong with the titles in a text.
+export function faultOfTitles(text) {
+  const titles = text.split("\n").filter((line) => line.startsWith("# "));
+  return titles.map((line) => faultOfTitle(line.slice(2))).find(Boolean) ?? "";
+}
+
+// Puts a space before what would be a title.
+export function withoutHeadings(text) {
+  return text.replace(/(^|\n)# /g, "$1 # ");
 }
 
 // Whether the bytes are a file, and not a stream: a file begins with "FGMX".

@@ -11,6 +11,7 @@ import { comment, showComments } from "./comments.js";
 import { printsBook, ways } from "./book.js";
 import { countsInWords, waitingInWords } from "./told.js";
 import { more } from "./naming.js";
+import { putInText } from "./texts.js";
 import { showVersions } from "./versions.js";
 
 const STATES = {
@@ -265,6 +266,10 @@ export class Editor {
     this.manuscript.edited();
   }
 
+  titled(section, text) {
+    return this.attempt(() => putInText(this, section, text));
+  }
+
   does(name, section) {
     const acts = {
       up: () => this.move(section, this.manuscript.placeOf(section) - 1),
@@ -318,7 +323,7 @@ export class Editor {
       document.body.classList.remove("drop");
       if (hasFiles(event)) {
         event.preventDefault();
-        takeInFiles(this, [...event.dataTransfer.files]);
+        takeInFiles(this, [...event.dataTransfer.files], this.sectionAt(event.target));
       } else if (this.dragged) {
         event.preventDefault();
         this.dropSection(event);

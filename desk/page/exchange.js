@@ -4,8 +4,9 @@ import { Refused, authorOfFile, countsOf, decoded, isFile } from "./commands.js"
 import { ask, bytesOf, button, chosenFiles, download, element, grouped, opened, paragraph } from "./dom.js";
 import { freshKey } from "./store.js";
 import { inWords } from "./told.js";
+import { isTextFile, takeInText } from "./texts.js";
 
-export const FILES = ".ms,.frames,application/octet-stream";
+export const FILES = ".ms,.frames,.md,.txt,application/octet-stream";
 
 // Messages between tabs.
 export class Channel {
@@ -26,9 +27,15 @@ export class Channel {
   }
 }
 
-// Takes in files that were dropped or chosen, one after another.
-export async function takeInFiles(editor, files) {
-  for (const file of files) await editor.attempt(async () => takeInAsked(editor, await bytesOf(file), file.name));
+// Takes in files that were dropped or chosen, one after another. Texts come after the section where they are dropped.
+export async function takeInFiles(editor, files, section) {
+  for (const file of files) {
+    await editor.attempt(async () => {
+      const bytes = await bytesOf(file);
+      if (isTextFile(file.name)) await takeInText(editor, bytes, file.name, section);
+      else await takeInAsked(editor, bytes, file.name);
+    });
+  }
 }
 
 async function takeInAsked(editor, bytes, name) {

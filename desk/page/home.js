@@ -1,9 +1,10 @@
 // The manuscripts that the browser keeps.
 
 import { FILES, kindOf } from "./exchange.js";
-import { Refused, countsOf, isFile } from "./commands.js";
+import { Refused, countsOf, decoded, encoded, formOf, isFile } from "./commands.js";
 import { ask, bytesOf, button, chosenFiles, download, element, field, grouped, paragraph, tell } from "./dom.js";
-import { drawnNumber, freeName, nameInput, numberInput } from "./naming.js";
+import { UNTITLED, drawnNumber, freeName, nameInput, numberInput } from "./naming.js";
+import { isTextFile, nameOfText, sectionsOfText } from "./texts.js";
 import { freshKey } from "./store.js";
 
 const HOLD = 10000;
@@ -37,6 +38,17 @@ export class Shelf {
     return this.keep({ name, replica, circle, ...filled });
   }
 
+  // Makes a manuscript at once of a text.
+  async beginText(bytes, file) {
+    const input = encoded(formOf(sectionsOfText(bytes, file)));
+    const replica = drawnNumber();
+    const made = await this.program.does(["new", "new.ms", replica, HOLD]);
+    const files = [["new.ms", made.files.get("new.ms")], ["base.txt", new Uint8Array(0)]];
+    const revised = await this.program.does(["revise", "new.ms", "base.txt"], { files, input });
+    const name = nameOfText(file).slice(0, 120) || UNTITLED;
+    return this.keep({ name, replica, bytes: revised.files.get("new.ms"), text: decoded(input), waiting: 0 });
+  }
+
   async filled(bytes, from) {
     if (!from) return { bytes, text: "", waiting: 0 };
     const files = [["new.ms", bytes]];
@@ -56,6 +68,7 @@ export class Shelf {
   // Takes a file into the list: as one's own, or as what another author wrote, from which one begins.
   async bring(file) {
     const bytes = await bytesOf(file);
+    if (isTextFile(file.name)) return this.beginText(bytes, file.name);
     const kind = await kindOf(this.program, bytes);
     const name = file.name.replace(/( \(backup\))?\.(ms|frames)$/, "");
     if (!kind.isManuscript) return this.begin({ name, from: bytes });

@@ -4,7 +4,7 @@
 // first. So what comes in is a change of a saved text, and it is carried over to what was typed meanwhile.
 
 import {
-  commentsOf, countsOf, decoded, encoded, faultOfTitle, formOf, isBlankFile, isFile, listOf, partsOf,
+  commentsOf, countsOf, decoded, encoded, faultOfTitle, formOf, isBlankFile, isFile, listOf, partsOf, withoutHeadings,
 } from "./commands.js";
 import { changes, clustersOf, movedPlace, placeOfScalar, withoutReturns } from "./difference.js";
 import { ChangedElsewhere, freshKey } from "./store.js";
@@ -297,9 +297,15 @@ export class Manuscript {
       return this.unsaved.length === 0;
     } catch (why) {
       if (why instanceof ChangedElsewhere) this.saveSoon();
-      else this.view.state("refused", why);
+      else this.refuse(why);
       return false;
     }
+  }
+
+  // Titles in a text that could not become sections keep no other section from being saved the next time.
+  refuse(why) {
+    for (const section of this.sections) section.isSplit = false;
+    this.view.state("refused", why);
   }
 
   // The commands that bring what was typed into the file: a title by `retitle`, texts by `revise`.
@@ -311,16 +317,21 @@ export class Manuscript {
     if (this.isReadOnly || (lost.length === 0 && !sections.some(isChanged))) return;
     this.view.state("saving");
     const { bytes: before, base } = await this.retitled(sections, sent);
-    const parts = [...sent];
+    const made = sent.map((part) => part.parts ?? [part]);
+    const parts = made.flat();
     for (const { place, live } of lost) parts.splice(Math.min(place - 1, parts.length), 0, live);
     const draft = formOf(parts);
     const bytes = await this.revised(before, base, draft);
     const fresh = sections.find(({ isFresh }) => isFresh);
-    const found = lost.length || fresh ? await this.look(bytes) : null;
+    const isNew = lost.length || fresh || sent.some((part) => part.parts);
+    const found = isNew ? await this.look(bytes) : null;
     await this.keep(bytes, draft);
-    for (const [at, section] of sections.entries()) section.setSaved(sent[at]);
+    for (const [at, section] of sections.entries()) {
+      section.setSaved(sent[at]);
+      section.isSplit = false;
+    }
     this.lost = this.lost.slice(lost.length);
-    if (fresh) enter(fresh, found.sections[parts.indexOf(sent.at(-1))]);
+    if (fresh) enter(fresh, found.sections[parts.indexOf(made.at(-1)[0])]);
     if (found) this.adopt(found);
     this.keepDraft();
   }
@@ -383,10 +394,14 @@ export class Manuscript {
 
   // Adds a section after another one, or before all.
   add(title, behind) {
+    return this.insert([{ title, text: "" }], behind);
+  }
+
+  insert(added, behind) {
     return this.change(() => {
       const parts = this.known.map(({ saved }) => saved);
       const base = formOf(parts);
-      const draft = formOf(parts.toSpliced(behind ? this.placeOf(behind) : 0, 0, { title, text: "" }));
+      const draft = formOf(parts.toSpliced(behind ? this.placeOf(behind) : 0, 0, ...added));
       return this.does(["revise", HOME, BASE], { files: [[BASE, encoded(base)]], input: encoded(draft) });
     });
   }
@@ -478,11 +493,6 @@ function mendingOf(text, arranged) {
 // A section that is made of what was typed in one that is gone, or that never was in the file.
 function madeNew({ title, text }) {
   return { title: title || UNTITLED, text: withoutHeadings(text) };
-}
-
-// Puts a space before what would be a title.
-function withoutHeadings(text) {
-  return text.replace(/(^|\n)# /g, "$1 # ");
 }
 
 // The bytes of the file after a command: those from before it, where it wrote none.

@@ -1,5 +1,5 @@
-// The names of manuscripts and the numbers of authors: the fields in which they are given, and “More”, which shows those
-// of a manuscript.
+// The names of manuscripts and the numbers of authors: the fields in which they are given, and “More”, which shows
+// those of a manuscript.
 
 import { ask, element, field } from "./dom.js";
 

@@ -4,15 +4,18 @@
 // their height. The text area is made when the section comes into view, so that a long manuscript opens at once.
 
 import { carried, changed, changes, movedPlace, splice, withReturns, withoutReturns } from "./difference.js";
-import { faultOfText, faultOfTitle } from "./commands.js";
+import { faultOfText, faultOfTitle, faultOfTitles, formOf, hasTitles, partsOf, withoutHeadings } from "./commands.js";
 import { button, element } from "./dom.js";
 import { UNTITLED } from "./naming.js";
+
+const FROM_OUTSIDE = ["insertFromPaste", "insertFromPasteAsQuotation", "insertFromDrop", "insertFromYank"];
 
 // A longer text has no mirror, and so no colours: a browser would take twice the time for each key.
 const LONGEST_MIRRORED = 150000;
 
 export class Section {
-  // `host` is told of what the writer does: edited(section), and does(name, section).
+  // `host` is told of what the writer does: edited(section), does(name, section) and titled(section, text), where a
+  // text with titles is pasted.
   // A section that is `isFresh` is not in the file yet: it comes into it with the first letter.
   constructor({ key, title, text, isFresh = false }, host) {
     this.key = key;
@@ -42,6 +45,7 @@ export class Section {
     this.mirror = element("div", { className: "mirror", dir: "auto" });
     this.paper = element("div", { className: "paper" }, this.mirror);
     this.refusal = element("p", { className: "refusal", hidden: true, role: "status" });
+    this.said = "";
     this.notes = element("ul", { className: "notes" });
     const body = element("div", { className: "body" }, this.paper, this.notes);
     const header = element("header", {}, this.title, this.tools());
@@ -119,6 +123,7 @@ export class Section {
     this.freeze(this.host.isReadOnly);
     this.area.placeholder = "Write here";
     this.area.oninput = () => this.typed();
+    this.area.onbeforeinput = (event) => this.pasted(event);
     this.watch(this.area);
     this.mirror.setAttribute("aria-hidden", "true");
     this.paper.append(this.area);
@@ -133,6 +138,33 @@ export class Section {
   focus() {
     this.wake();
     this.area.focus();
+  }
+
+  // A text with titles is not pasted before it is asked about.
+  pasted(event) {
+    const text = event.data ?? event.dataTransfer?.getData("text/plain") ?? "";
+    if (!FROM_OUTSIDE.includes(event.inputType) || !this.host.titled || !hasTitles(withoutReturns(text))) return;
+    event.preventDefault();
+    this.host.titled(this, text);
+  }
+
+  // Puts a text with titles in the place of what is selected. `isSplit`: each title begins a section.
+  put(text, isSplit) {
+    const { selectionStart: start, selectionEnd: end } = this.area;
+    const [before, after] = [this.live.slice(0, start), this.live.slice(end)];
+    const lead = isSplit && text.startsWith("# ") && /[^\n]$/.test(before) ? "\n" : "";
+    const closed = /(^|\n)# [^\n]*$/.test(text) && after && !after.startsWith("\n") ? `${text}\n` : text;
+    const put = lead + (isSplit ? closed : withoutHeadings(text));
+    this.apply([{ start, end, text: after ? put : put.replace(/\n$/, "") }]);
+    const place = this.live.length - after.length;
+    this.area.setSelectionRange(place, place);
+    this.isSplit = isSplit;
+    this.host.edited(this);
+  }
+
+  split() {
+    this.isSplit = true;
+    this.host.edited(this);
   }
 
   typed() {
@@ -178,7 +210,7 @@ export class Section {
 
   // What the file has, and how a text area shows it.
   setSaved(saved) {
-    this.saved = saved;
+    this.saved = { title: saved.title, text: saved.text };
     this.shown = withoutReturns(saved.text);
   }
 
@@ -211,9 +243,18 @@ export class Section {
     const text = withReturns(this.saved.text, this.live);
     const known = this.isFresh ? UNTITLED : this.saved.title;
     const isKept = title === known || (this.isFresh && title === "");
-    const fault = faultOfText(text);
+    const sent = isKept || this.judgeTitle() ? known : title;
+    const fault = this.isSplit ? faultOfTitles(text) : faultOfText(text);
     this.say(fault);
-    return { title: isKept || this.judgeTitle() ? known : title, text: fault ? this.saved.text : text };
+    if (fault) return { title: sent, text: this.saved.text };
+    const parts = hasTitles(text) ? { parts: this.partsOf(sent, text) } : {};
+    return { title: sent, text, ...parts };
+  }
+
+  // The sections that a text with titles makes. A fresh one that is empty before the first title makes none.
+  partsOf(title, text) {
+    const parts = partsOf(formOf([{ title, text }]));
+    return this.isFresh && this.title.value === "" && parts[0].text === "" ? parts.slice(1) : parts;
   }
 
   // Marks a title that the program refuses, and gives why. It is shown while the writer is there.
@@ -232,8 +273,10 @@ export class Section {
   }
 
   say(refusal) {
-    if (this.refusal.textContent === refusal) return;
-    this.refusal.textContent = refusal;
+    if (this.said === refusal) return;
+    this.said = refusal;
+    const begin = refusal && this.host.titled ? [button("Begin a section there", () => this.split())] : [];
+    this.refusal.replaceChildren(refusal, " ", ...begin);
     this.refusal.hidden = !refusal;
   }
 

@@ -191,6 +191,23 @@ export class Page {
     await this.send("Input.dispatchKeyEvent", { type: "keyUp", key, modifiers, code: known.code });
   }
 
+  // Pastes a text where the caret is, by the browser's clipboard.
+  async paste(text) {
+    const command = (key, commands) => this.send("Input.dispatchKeyEvent",
+      { type: "rawKeyDown", key, modifiers: CONTROL, commands });
+    await this.value(`(() => {
+      const source = document.createElement("textarea");
+      source.id = "source";
+      source.at = document.activeElement;
+      source.value = ${JSON.stringify(text)};
+      document.body.append(source);
+      source.select();
+    })()`);
+    await command("c", ["copy"]);
+    await this.value("{ const source = document.getElementById('source'); source.at.focus(); source.remove(); }");
+    await command("v", ["paste"]);
+  }
+
   async click(selector) {
     const box = await this.value(`(() => {
       const found = document.querySelector(${JSON.stringify(selector)});

@@ -118,7 +118,7 @@ async function samples(open) {
   await page.value("location.hash = ''");
   await page.until("document.querySelectorAll('.shelf li').length === 2");
   await picture(page, "shelf");
-  await page.drop({ name: "letter.txt", bytes: Buffer.from("Dear Ben,\n") });
+  await page.drop({ name: "letter.doc", bytes: Buffer.from("Dear Ben,\n") });
   await page.until("document.querySelector('dialog[open]')");
   const told = await page.value("document.querySelector('dialog[open]').innerText");
   check("what is no manuscript is refused", /was not opened/.test(told) && /neither a manuscript/.test(told), told);
@@ -140,7 +140,7 @@ async function files(open) {
   check("beside what was written", await page.value(own));
   await picture(page, "came_in");
   const before = await arranged(page);
-  await page.drop({ name: "letter.txt", bytes: Buffer.from("Dear Ben,\n") });
+  await page.drop({ name: "letter.doc", bytes: Buffer.from("Dear Ben,\n") });
   await page.until(`/neither a manuscript/.test(${NOTICES})`);
   check("no manuscript: refused, with the program's line", /bad frame at byte 0/.test(await page.value(NOTICES)));
   same("and changes nothing", await arranged(page), before);

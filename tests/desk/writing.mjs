@@ -195,6 +195,70 @@ async function headings(open) {
   same("a section without a title keeps its title", await arranged(page), "# The sea\nOne.\n># Two.\n");
 }
 
+// Titles in what is pasted, and in files, become sections where that is agreed to.
+async function titlesThatComeIn(open) {
+  const page = await open();
+  await page.until("document.querySelector('.home')");
+  await page.pressButton("New manuscript");
+  await page.until(WRITES);
+  const count = "document.querySelectorAll('.section').length";
+  const asked = "document.querySelector('dialog[open]')";
+  await page.paste("# The sea\nIt was calm.\n# The land\nHills.\n");
+  await page.until(asked);
+  await picture(page, "titles_asked");
+  await page.pressButton("Put it in");
+  await page.until(`${count} === 2`);
+  await saved(page);
+  same("a text with titles begins a manuscript", await arranged(page), "# The sea\nIt was calm.\n# The land\nHills.\n");
+  await select(page, 0, 6);
+  await page.type("!");
+  await page.paste("# Storm\nIt blew.");
+  await page.until(asked);
+  await pause(1500);
+  const written = "# The sea\nIt was! calm.\n# The land\nHills.\n";
+  same("until it is answered the rest is saved", await arranged(page), written);
+  await page.pressButton("Cancel");
+  await pause(100);
+  same("and cancelled it changes nothing", (await page.value(TEXTS))[0], "It was! calm.");
+  await select(page, 0, 7);
+  await page.paste("# Storm\nIt blew.");
+  await page.until(asked);
+  await page.value(`${asked}.querySelector("input[value=text]").click()`);
+  await page.pressButton("Put it in");
+  await saved(page);
+  const whole = "# The sea\nIt was! # Storm\nIt blew. calm.\n# The land\nHills.\n";
+  same("it may stay text", await arranged(page), whole);
+  await page.paste("\n# \nNothing.");
+  await page.until(asked);
+  check("a title that is refused is told", /needs a title/.test(await page.value(`${asked}.innerText`)));
+  await page.pressButton("Cancel");
+  await select(page, 0, 0);
+  await page.paste("Before.\n# Storm\n");
+  await page.until(asked);
+  await page.pressButton("Put it in");
+  await page.until(`${count} === 3`);
+  await saved(page);
+  const split = "# The sea\nBefore.\n# Storm\nIt was! # Storm\nIt blew. calm.\n# The land\nHills.\n";
+  same("what stands behind it is in the last section", await arranged(page), split);
+  await page.drop({ name: "End.md", bytes: Buffer.from("Late.\r\n# Epilogue\r\nDone.\r\n") });
+  await page.until(asked);
+  await page.pressButton("Take in");
+  await page.until(`${count} === 5`);
+  await saved(page);
+  same("a text file comes in as sections", await arranged(page), `${split}# End\nLate.\n# Epilogue\nDone.\n`);
+  await select(page, 4, -1);
+  await page.type("\n# Notes");
+  await page.until("document.querySelector('.refusal button')");
+  await page.pressButton("Begin a section there");
+  await page.until(`${count} === 6`);
+  await saved(page);
+  check("a title that is typed begins one too", (await arranged(page)).endsWith("# Epilogue\nDone.\n# Notes\n\n"));
+  await list(page);
+  await page.drop({ name: "Tale.txt", bytes: Buffer.from("It was calm.") });
+  await page.until(`/calm/.test(${TEXTS})`);
+  same("a text file begins a manuscript", await arranged(page), "# Tale\nIt was calm.\n");
+}
+
 async function sections(open) {
   const page = await open();
   await begin(page);
@@ -403,6 +467,7 @@ export async function writing() {
   await group("kills", kills);
   await group("input methods", methods);
   await group("headings in a text", headings);
+  await group("titles that come in", titlesThatComeIn);
   await group("sections", sections);
   await group("comments", comments);
   await group("sections that were moved", moved);
