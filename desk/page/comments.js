@@ -50,7 +50,7 @@ function noteOf(section, note, editor) {
   const { start, end, body, author } = note;
   const passage = section.live.slice(start, end);
   const find = () => section.select(start, end);
-  const from = author ? element("b", { className: `author by-${author}`, textContent: editor.nameOf(author) }) : "";
+  const from = author ? element("b", { className: `author by-${author}`, textContent: editor.nameOf(author), dir: "auto" }) : "";
   const quote = passage
     ? button(`“${shortened(passage)}”`, find, { className: "quote", title: "Show the passage", dir: "auto" })
     : element("i", { textContent: "The passage was deleted." });

@@ -18,7 +18,7 @@ export function button(label, press, properties = {}) {
 export function ask(title, children, { agree = "OK", refuse = "Cancel", isGrave = false, read = () => true } = {}) {
   const yes = element("button", { value: "yes", textContent: agree, className: isGrave ? "grave" : "main" });
   const no = element("button", { value: "no", type: "button", textContent: refuse });
-  const form = element("form", { method: "dialog" }, element("h2", { textContent: title }), ...children);
+  const form = element("form", { method: "dialog" }, element("h2", {}, ...withNames(title)), ...children);
   const dialog = element("dialog", { "aria-label": title }, form);
   form.append(element("div", { className: "row end" }, ...(refuse ? [no] : []), yes));
   no.onclick = () => dialog.close("no");
@@ -29,8 +29,13 @@ export function tell(title, ...lines) {
   return ask(title, lines.map(paragraph), { refuse: "" });
 }
 
-export function paragraph(line) {
-  return typeof line === "string" ? element("p", { textContent: line }) : line;
+export function paragraph(line, properties = {}) {
+  return typeof line === "string" ? element("p", properties, ...withNames(line)) : line;
+}
+
+// A sentence whose names and titles, which stand between “ and ”, keep the direction of their own letters.
+export function withNames(line) {
+  return line.split(/(?<=“)(.*?)(?=”)/s).map((piece, at) => (at % 2 ? element("bdi", { textContent: piece }) : piece));
 }
 
 // Shows a dialog until it is closed; it is then gone, and the focus is where it was.

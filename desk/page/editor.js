@@ -50,7 +50,9 @@ export class Editor {
     this.notices = element("div", { className: "notices", tabIndex: -1 });
     const report = element("div", { className: "report", role: "status", "aria-atomic": "false" }, this.mark,
       this.notices);
-    this.legend = element("div", { className: "legend", hidden: true });
+    this.authors = element("ul");
+    this.legend = element("details", { className: "legend", open: true, hidden: true },
+      element("summary", { textContent: "Who wrote what" }), this.authors);
     this.sections = element("div", { className: "sections" });
     const tools = element("nav", { className: "row", "aria-label": "Manuscript" },
       button("Exchange", () => exchange(this)),
@@ -173,9 +175,10 @@ export class Editor {
       this.paint();
     };
     const names = authors.map((author) => button(this.nameOf(author), () => this.nameAuthor(author), {
-      className: `author by-${author}`, title: `Author ${grouped(author)}: give a name`,
+      className: `author by-${author}`, title: `Author ${grouped(author)}: give a name`, dir: "auto",
     }));
-    this.legend.replaceChildren(element("label", {}, isShown, "Show the others' colours"), ...names);
+    const shown = element("label", {}, isShown, "Show the others' colours");
+    this.authors.replaceChildren(...[shown, ...names].map((entry) => element("li", {}, entry)));
   }
 
   nameOf(author) {
@@ -396,6 +399,6 @@ export class Editor {
   }
 
   came(counts, from) {
-    this.notice(`${from}: ${countsInWords(counts)}`, { kind: counts.conflict || counts.stray ? "grave" : "" });
+    this.notice(`“${from}”: ${countsInWords(counts)}`, { kind: counts.conflict || counts.stray ? "grave" : "" });
   }
 }

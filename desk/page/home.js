@@ -80,7 +80,7 @@ export class Shelf {
       "in one of them only. Where both are changed, they can never agree again.";
     const body = [
       paragraph(`“${file.name}” is the file of author ${grouped(kind.author)}.`),
-      ...(warning ? [element("p", { className: "warning", textContent: warning })] : []),
+      ...(warning ? [paragraph(warning, { className: "warning" })] : []),
       element("label", { className: "choice" }, other, "Another author's, or mine on another machine. I begin a " +
         "manuscript of my own from it, with another number."),
       element("label", { className: "choice" }, own, "A backup of my own. From now on I write in it here and nowhere " +

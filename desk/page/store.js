@@ -96,7 +96,7 @@ export class Store {
   keepOpened(id, opened) {
     return this.exclusively(id, async () => {
       const record = await this.record(id);
-      if (record) await this.keep({ ...record, opened });
+      if (record) await this.keep({ ...record, opened }, { after: record.revision });
     });
   }
 

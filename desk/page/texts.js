@@ -34,7 +34,7 @@ export async function takeInText(editor, bytes, name, section) {
   const lines = [paragraph(`Its text comes in as ${count}${where}.`)];
   if (!(await ask(`Take in “${name}”?`, lines, { agree: "Take in" }))) return;
   await editor.manuscript.insert(parts, behind);
-  editor.notice(`${name}: ${count} came in.`);
+  editor.notice(`“${name}”: ${count} came in.`);
 }
 
 function choice(value, label, properties) {
@@ -51,7 +51,7 @@ export async function putInText(editor, section, given) {
   const lines = choice("text", label, { checked: !!fault });
   const body = [
     paragraph("This text has lines that begin with “# ”, as titles do."),
-    ...(fault ? [element("p", { className: "warning", textContent: fault })] : []), sections, lines,
+    ...(fault ? [paragraph(fault, { className: "warning" })] : []), sections, lines,
   ];
   const read = () => (sections.firstChild.checked ? "sections" : "text");
   const asked = () => ask("Put this text in?", body, { agree: "Put it in", read });

@@ -208,6 +208,14 @@ export class Page {
     await command("v", ["paste"]);
   }
 
+  // Drops a text at a place, as from another program.
+  async dropText(place, text) {
+    const data = { items: [{ mimeType: "text/plain", data: text }], dragOperationsMask: 1 };
+    for (const type of ["dragEnter", "dragOver", "drop"]) {
+      await this.send("Input.dispatchDragEvent", { type, ...place, data });
+    }
+  }
+
   async click(selector) {
     const box = await this.value(`(() => {
       const found = document.querySelector(${JSON.stringify(selector)});

@@ -90,6 +90,8 @@ async function samples(open) {
     "# " + section.querySelector(".title").value + "\\n" + section.querySelector(".mirror").textContent).join("")`);
   same("which the page shows", shown, sample("oosterwick/manuscript.txt").toString());
   await picture(page, "oosterwick");
+  await page.click(".legend summary");
+  check("the list of who wrote what can be closed", !(await page.value("document.querySelector('.legend').open")));
   await page.size(360, 740);
   await pause(200);
   await picture(page, "phone");
@@ -135,7 +137,7 @@ async function files(open) {
   await select(page, 0, 3);
   await page.drop({ name: "two_authors.frames", bytes: sample("two_authors.frames") });
   await page.until(`/new changes/.test(${NOTICES})`);
-  check("a stream comes in", /two_authors.frames: [\d,]+ new changes came in/.test(await page.value(NOTICES)));
+  check("a stream comes in", /“two_authors.frames”: [\d,]+ new changes came in/.test(await page.value(NOTICES)));
   const own = "[...document.querySelectorAll('.title')].some(({ value }) => value === 'The sea')";
   check("beside what was written", await page.value(own));
   await picture(page, "came_in");

@@ -99,6 +99,53 @@ async function report(open) {
   same("a title that is refused tells it in its field", fault, "A section needs a title.");
 }
 
+// The ratio of the brightness of two colours, as WCAG 2 defines it.
+const CONTRAST = `(one, other) => {
+  const part = (value) => (value <= 0.03928 ? value / 12.92 : ((value + 0.055) / 1.055) ** 2.4);
+  const bright = (colour) => colour.match(/[\\d.]+/g).slice(0, 3).map((value) => part(value / 255))
+    .reduce((sum, value, at) => sum + value * [0.2126, 0.7152, 0.0722][at], 0.05);
+  const ratio = bright(one) / bright(other);
+  return Math.max(ratio, 1 / ratio);
+}`;
+
+// Texts and edges stand out from what is behind them, by day and by night.
+async function contrast(open) {
+  for (const isDark of [false, true]) {
+    const page = await open("", { isDark });
+    await begin(page);
+    const seen = await page.value(`(() => {
+      const contrast = ${CONTRAST};
+      const style = (name) => getComputedStyle(document.querySelector(name));
+      const [paper, desk] = [style(".section").backgroundColor, style("body").backgroundColor];
+      const dots = Array.from({ length: 36 }, (_, at) => {
+        const dot = document.createElement("b");
+        dot.style.color = "hsl(" + at * 10 + " 65% var(--author))";
+        document.body.append(dot);
+        const { color } = getComputedStyle(dot);
+        dot.remove();
+        return color;
+      });
+      const edges = [style("button").borderTopColor, style(".section").borderTopColor, ...dots];
+      const texts = [style("body").color, style(".state").color, style("a").color];
+      const least = (list) => Math.min(...list.flatMap((each) => [contrast(each, paper), contrast(each, desk)]));
+      return { edges: least(edges), texts: least(texts) };
+    })()`);
+    check(`edges and colours stand out, ${isDark ? "dark" : "light"}`, seen.edges >= 3, seen);
+    check("and texts do", seen.texts >= 4.5, seen);
+    await picture(page, isDark ? "section_dark" : "section_light");
+  }
+}
+
+// Names and titles keep their own direction within a sentence.
+async function directions(open) {
+  const page = await open();
+  await begin(page, "The quiet sea", "הים");
+  await page.value("document.querySelector('.do-drop').click()");
+  await page.until("document.querySelector('dialog[open]')");
+  same("a title in a sentence stands apart", await page.value("document.querySelector('dialog bdi').textContent"), "הים");
+  await page.pressButton("Cancel");
+}
+
 // Each thing that can be used has a name.
 async function names(open) {
   for (const hash of ["", "#two"]) {
@@ -118,5 +165,7 @@ export async function keyboard() {
   await group("by keyboard", byKeys);
   await group("tools", tools);
   await group("reports", report);
+  await group("contrast", contrast);
+  await group("directions", directions);
   await group("names", names);
 }

@@ -259,6 +259,25 @@ async function titlesThatComeIn(open) {
   same("a text file begins a manuscript", await arranged(page), "# Tale\nIt was calm.\n");
 }
 
+// A text with titles that is dropped into another one comes in where it was dropped.
+async function droppedTitles(open) {
+  const page = await open();
+  await begin(page);
+  await page.type("It was calm.\nThen it blew.");
+  await saved(page);
+  const start = await page.value(`(() => {
+    const { x, y } = document.querySelector("textarea").getBoundingClientRect();
+    return { x: x + 1, y: y + 12 };
+  })()`);
+  await page.dropText(start, "# Storm\nIt rained.\n");
+  await page.until("document.querySelector('dialog[open]')");
+  await page.pressButton("Put it in");
+  await page.until("document.querySelectorAll('.section').length === 2");
+  await saved(page);
+  const wanted = "# The sea\n\n# Storm\nIt rained.\nIt was calm.\nThen it blew.\n";
+  same("a text with titles is dropped into another", await arranged(page), wanted);
+}
+
 async function sections(open) {
   const page = await open();
   await begin(page);
@@ -468,6 +487,7 @@ export async function writing() {
   await group("input methods", methods);
   await group("headings in a text", headings);
   await group("titles that come in", titlesThatComeIn);
+  await group("titles that are dropped", droppedTitles);
   await group("sections", sections);
   await group("comments", comments);
   await group("sections that were moved", moved);
