@@ -165,6 +165,18 @@ check 'one that fails behind a change' [ $? = 1 -a "$(left)" = '.f.ms.base .f.ms
 write_by true
 check 'the change is saved at the next start' [ "$(sed -n '$p' "$work/notes")" = 'made 6' -a -z "$(left)" ]
 
+# A comment that the author makes meanwhile leaves the text as it is, and the editor is opened once.
+begin
+cat >"$work/comments" <<END
+#!/bin/sh
+echo >>"$work/opened"
+"$program" comment "$f" 1 0 3 why 2>/dev/null && sed -i s/two/2/ "\$1"
+END
+chmod +x "$work/comments"
+write_by "$work/comments"
+compare 'a comment that was made meanwhile' $? 0 '' 'made 6\n'
+check 'the editor was opened once' [ "$(wc -l <"$work/opened")" = 1 ]
+
 # What another author's file brings meanwhile is kept, and nothing is asked or merged by lines.
 begin
 g=$work/g.ms

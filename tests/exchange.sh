@@ -44,6 +44,7 @@ for round in 1 2; do
         [ $round$id = 13 ] && check 'what each file gave is told, in the order of their names' cmp -s notes - <<'SAID'
 manuscript-exchange: 1.ms: accepted 12, repeated 0, waiting 0, conflict 0, stray 0, full 0
 manuscript-exchange: 2.ms: accepted 12, repeated 12, waiting 0, conflict 0, stray 0, full 0
+manuscript-exchange: to see again what came: manuscript changes 'file3.ms' 12
 SAID
         [ $round$id = 13 ] && check 'and what came is shown' cmp -s <(sort output) <(printf '%s\n' '# {++S1++}{>>1<<}' '# {++S2++}{>>2<<}' '{++Words of 1.++}{>>1<<}' '{++Words of 2.++}{>>2<<}' | sort)
     done
