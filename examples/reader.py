@@ -10,10 +10,8 @@
                              what `manuscript arrange` prints behind `manuscript revise FILE BASE` with the draft on
                              standard input, or why that is refused; with N, for a file that has no more than N operations
     reader.py past FILE N    what `manuscript past` prints and notes
-    reader.py moments FILE   what `manuscript moments` prints and notes
     reader.py changes FILE N what `manuscript changes` prints and notes
     reader.py authors FILE   what `manuscript authors` prints and notes
-    reader.py remarks FILE   what `manuscript remarks` prints and notes
     reader.py comments FILE  what `manuscript comments` prints and notes
     reader.py versions FILE  what `manuscript versions` prints and notes
     reader.py view FILE NAME what `manuscript view` prints and notes
@@ -298,28 +296,22 @@ def frame_of(stretch):
 
 def read_file(data):
     """The replica's HOLD and the operations of a file."""
-    hold, batches = read_batches(data)
-    return hold, [op for batch in batches for op in batch]
-
-
-def read_batches(data):
-    """The replica's HOLD and the batches of a file."""
     hold = int.from_bytes(data[9:13], "big")
     is_replica = len(data) >= 14 and data[:4] == b"FGMX" and data[4] in (1, 2) and any(data[5:9])
     if not is_replica or not 1 <= hold <= 1_048_576:
         raise Refused("not a replica", 6)
-    batches, at, slot = [], 13, 0
+    ops, at, slot = [], 13, 0
     while data[at] == 1:
         tag, size = divmod(int.from_bytes(data[at + 1 : at + 5], "big"), TAG_UNIT)
         end = at + 5 + size
         if tag > 1 or size > LONGEST_BATCH or end >= len(data) or slot == LAST_SLOT:
             raise Refused(f"bad batch {slot}", 6)
         try:
-            batches.append(list(read_stream(data[at + 5 : end], runs=tag == 1)))
+            ops.extend(read_stream(data[at + 5 : end], runs=tag == 1))
         except Refused:
             raise Refused(f"bad batch {slot}", 6) from None
         at, slot = end, slot + 1
-    return hold, batches
+    return hold, ops
 
 
 @dataclass
@@ -583,13 +575,8 @@ HANGUL = {"L": ("L", "V", "LV", "LVT"), "LV": ("V", "T"), "V": ("V", "T"), "LVT"
 
 def cluster_count(text):
     """How many extended grapheme clusters a text has."""
-    return sum(1 for _ in cluster_starts(text))
-
-
-def cluster_starts(text):
-    """Where the extended grapheme clusters of a text begin, in scalars."""
-    before, regionals, is_joined = None, 0, False
-    for at, kind in enumerate(map(cluster_class, text)):
+    count, before, regionals, is_joined = 0, None, 0, False
+    for kind in map(cluster_class, text):
         if before is None:
             joins = False
         elif "Control" in (before, kind) or {"CR", "LF"} & {before, kind}:
@@ -601,11 +588,11 @@ def cluster_starts(text):
                 or (before == "ZWJ" and kind == "Picture" and is_joined)
                 or (before == kind == "Regional" and regionals % 2 == 1)
             )
-        if not joins:
-            yield at
+        count += not joins
         regionals = regionals + 1 if kind == "Regional" else 0
         is_joined = kind == "Picture" or (is_joined and kind in ("Extend", "ZWJ"))
         before = kind
+    return count
 
 
 def is_title(data):
@@ -808,28 +795,6 @@ def past_file(data, word):
     return 0
 
 
-def told_kinds(ops):
-    """What a line of moments tells of operations: the Texts of each replica, the Deletes, the Sections and the notes."""
-    kinds = [op.kind for op in ops]
-    texts = sorted(op.id[0] for op in ops if op.kind == "Text")
-    parts = [f"{replica} +{texts.count(replica)}" for replica in dict.fromkeys(texts)]
-    parts += [f"-{kinds.count('Delete')}"] if "Delete" in kinds else []
-    parts += [f"{kinds.count(kind)} {name}" for kind, name in (("Section", "sections"), ("Note", "notes")) if kind in kinds]
-    return ", ".join(parts)
-
-
-def moments_file(data):
-    hold, batches = read_batches(data)
-    replica = Replica(hold)
-    for batch in batches:
-        before = len(replica.accepted)
-        for op in batch:
-            replica.take(op)
-        if len(replica.accepted) > before:
-            print(f"{len(replica.accepted)}: {told_kinds(replica.accepted[before:])}")
-    return 0
-
-
 KEPT, NEW, GONE = "kept", "new", "gone"
 
 
@@ -902,35 +867,6 @@ def authors_file(data):
 
 def spelled_id(identifier):
     return f"{identifier[0]}.{identifier[1]}"
-
-
-def passages_of(replica, section):
-    """The comments on a section, each with where its passage begins and ends, in scalars: by the beginning, and then by
-    identifier."""
-    order = replica.places.get(section.id, Place()).order()
-    shown = [at for identifier, at in order.items() if identifier not in replica.hidden]
-    found = []
-    for comment in comments_of(replica, order):
-        first, last = (order[name] for name in comment.named)
-        found.append((bisect_left(shown, first), bisect_right(shown, last), comment))
-    return sorted(found, key=lambda passage: (passage[0], passage[2].id))
-
-
-def remarks_file(data):
-    replica = taken_in(*read_file(data))
-    number = 0
-    for place, section in enumerate(Arrangement(replica).sections(), 1):
-        text = replica.text(section)
-        borders = [*cluster_starts(text), len(text)]
-        for begin, end, comment in passages_of(replica, section):
-            number += 1
-            first = bisect_right(borders, begin) - 1 if begin < len(text) else len(borders) - 1
-            last = bisect_left(borders, end) if begin < end else first
-            note = comment.body.decode("utf-8")
-            print(f"{number}: {place} {first} {last - first} by {comment.id[0]} {note}")
-            if last > first:
-                print("  " + text[borders[first] : borders[last]].replace("\n", " "))
-    return 0
 
 
 def view_file(data, name):
@@ -1133,10 +1069,8 @@ COMMANDS = {
     "versions": versions_file,
     "view": view_file,
     "past": past_file,
-    "moments": moments_file,
     "changes": changes_file,
     "authors": authors_file,
-    "remarks": remarks_file,
     "send": send_file,
     "take": take_file,
     "merge": merge_file,

@@ -4,8 +4,8 @@
     tests/histories.py PROGRAM FOLDER SEED COUNT
 
 Each author edits, revises, moves, retitles, drops, comments, and takes in the files of the others. What a file showed at
-each moment is kept. Behind it, `past` prints what was shown then; `changes`, `moments`, `authors` and `remarks` print what
-the second program makes of the file; and a draft that was begun before others' text came leads to what revising then, and
+each moment is kept. Behind it, `past` prints what was shown then; `changes` and `authors` print what the second program
+makes of the file; and a draft that was begun before others' text came leads to what revising then, and
 taking in the rest afterwards, leads to. One line tells what was compared, or what differs.
 """
 
@@ -141,9 +141,7 @@ class World:
             raise Differs(f"{what}:\n{seen.decode(errors='replace')}\nand not\n{wanted.decode(errors='replace')}")
 
     def compare_reports(self, author):
-        for name in ("moments", "authors", "remarks"):
-            command = self.reader.COMMANDS[f"{name}"]
-            self.compare(name, self.out(name, author.path), self.read(command, author))
+        self.compare("authors", self.out("authors", author.path), self.read(self.reader.authors_file, author))
         for count, text, _ in self.dice.sample(author.moments, min(5, len(author.moments))):
             self.compare(f"past {count}", self.out("past", author.path, count), text)
             changes = self.read(self.reader.changes_file, author, str(count))
