@@ -14,6 +14,8 @@ use Rattle.origin_model.proofs.SharedLemmas.{chain-other, chain-own, chain_above
 use Rattle.order_proof.specs.Certificates.{Chain}
 unfoldable use Rattle.order_proof.specs.Chains.{beside_up}
 use Rattle.order_proof.specs.Chains.{chain_eq, is_rights}
+use Rattle.order_proof.specs.Positions.{IsAt, as_of, history_at}
+use Rattle.order_proof.proofs.PositionLemmas.{as_of-other, as_of-own}
 use Rattle.order_proof.proofs.WalkLemmas.{none, reversed-take}
 
 -- the element is the newest, and has this left origin, or another one; or it is older
@@ -122,11 +124,36 @@ nothing_left chain zero d = refl
 nothing_left chain (suc k) d =
     ne_eqb (suc k) 0 (λ e. omega (arith, e)) ∙ sym (ap (chain_eq []) (reversed-take chain (suc k) none (omega arith) d))
 
-pub walk_over : (ops : List Op) (chain : Chain) (i k : ℕ) (left : Option Identifier) (x : Identifier) → i ≤ 0 → k ≤ length chain
-    → nat_eq k 0 ≡ chain_eq (beside_up (reverse (take i ops)) left x) (reverse (take k chain))
-walk_over ops chain i k left x l d =
-    let z : i ≡ 0 = omega (arith, l) in
-    nothing_left chain k d ∙ ap (λ up. chain_eq up (reverse (take k chain))) (sym (beside-none left x)) ∙ ap (λ n. chain_eq (beside_up (reverse (take n ops)) left x) (reverse (take k chain))) (sym z)
+-- the same as of its element
+beside-as_of : (h : List Op) (left : Option Identifier) (x : Identifier) → beside_up h left x ≡ beside_up (as_of h x) left x
+beside-as_of [] left x = refl
+beside-as_of (op ∷ older) left x =
+    elim (cases_Bool (is_own x op)) [
+      | inl k ↦ ap (λ h. beside_up h left x) (sym (as_of-own op older x k))
+      | inr k ↦ beside-other op older left x k ∙ beside-as_of older left x ∙ ap (λ h. beside_up h left x) (sym (as_of-other op older x k))
+    ]
+
+-- an element that is not there has none
+pub beside_missing : (h : List Op) (left : Option Identifier) (x : Identifier) → as_of h x ≡ [] → beside_up h left x ≡ []
+beside_missing h left x e = beside-as_of h left x ∙ ap (λ g. beside_up g left x) e ∙ beside-none left x
+
+pub walk_over : (h : List Op) (chain : Chain) (k : ℕ) (left : Option Identifier) (x : Identifier) → as_of h x ≡ [] → k ≤ length chain
+    → nat_eq k 0 ≡ chain_eq (beside_up h left x) (reverse (take k chain))
+walk_over h chain k left x e d = nothing_left chain k d ∙ ap (λ up. chain_eq up (reverse (take k chain))) (sym (beside_missing h left x e))
+
+-- where its operation e is at the position `at` below n, the walk goes on from there
+module _ (ops : List Op) (n : ℕ) (left : Option Identifier) (x : Identifier) (at : ℕ) (e : Op) (there : IsAt ops n x at e) where
+  at_newest : beside_up (history_at ops n) left x ≡ beside_up (e ∷ history_at ops at) left x
+  at_newest = beside-as_of (history_at ops n) left x ∙ ap (λ h. beside_up h left x) there.newest
+
+  pub climb_parted : origin_eq (left_of e) left ≡ false → beside_up (history_at ops n) left x ≡ []
+  climb_parted f = at_newest ∙ beside-parted e (history_at ops at) left x there.own f
+
+  pub climb_on : origin_eq (left_of e) left ≡ true → (r : Identifier) → right_of e ≡ Some r → beside_up (history_at ops n) left x ≡ x ∷ beside_up (history_at ops at) left r
+  climb_on f r q = at_newest ∙ beside-own e (history_at ops at) left x there.own f ∙ ap (λ o. x ∷ above_it (history_at ops at) left o) q
+
+  pub climb_last : origin_eq (left_of e) left ≡ true → right_of e ≡ None → beside_up (history_at ops n) left x ≡ x ∷ []
+  climb_last f q = at_newest ∙ beside-own e (history_at ops at) left x there.own f ∙ ap (λ o. x ∷ above_it (history_at ops at) left o) q
 
 pub not_true : (a : Bool) → not a ≡ true → a ≡ false
 not_true true e = absurd (false≢true e)
@@ -151,28 +178,28 @@ id_eq-turned a b =
     ]
 
 -- a turn of the walk, at x's own operation e
-module _ (ops : List Op) (chain : Chain) (i k : ℕ) (left : Option Identifier) (x : Identifier) (e : Op) (a : 0 < i) (b : i ≤ length ops) (is : e ≡ get_or ops (i - 1) e) (own : is_own x e ≡ true) (d : k ≤ length chain) where
+module _ (ops : List Op) (chain : Chain) (n k : ℕ) (left : Option Identifier) (x : Identifier) (at : ℕ) (e : Op) (there : IsAt ops n x at e) (d : k ≤ length chain) where
   abbrev Turn : Bool → Type 0
-  Turn t = t ≡ chain_eq (beside_up (reverse (take i ops)) left x) (reverse (take k chain))
+  Turn t = t ≡ chain_eq (beside_up (history_at ops n) left x) (reverse (take k chain))
 
-  with_newest : reverse (take i ops) ≡ e ∷ reverse (take (i - 1) ops)
-  with_newest = reversed-take ops i e a b ∙ ap (λ z. z ∷ reverse (take (i - 1) ops)) (sym is)
+  with_newest : beside_up (history_at ops n) left x ≡ beside_up (e ∷ history_at ops at) left x
+  with_newest = beside-as_of (history_at ops n) left x ∙ ap (λ h. beside_up h left x) there.newest
 
   -- it has another left origin
   pub turn_parted : origin_eq (left_of e) left ≡ false → Turn (nat_eq k 0)
   turn_parted f =
       nothing_left chain k d
-      ∙ ap (λ up. chain_eq up (reverse (take k chain))) (sym (beside-parted e (reverse (take (i - 1) ops)) left x own f))
-      ∙ ap (λ h. chain_eq (beside_up h left x) (reverse (take k chain))) (sym with_newest)
+      ∙ ap (λ up. chain_eq up (reverse (take k chain))) (sym (beside-parted e (history_at ops at) left x there.own f))
+      ∙ ap (λ up. chain_eq up (reverse (take k chain))) (sym with_newest)
 
   -- it has this one, and is compared with the member of the chain that is given
   module _ (f : origin_eq (left_of e) left ≡ true) where
     above : Chain
-    above = above_it (reverse (take (i - 1) ops)) left (right_of e)
+    above = above_it (history_at ops at) left (right_of e)
 
-    with_above : beside_up (reverse (take i ops)) left x ≡ x ∷ above
+    with_above : beside_up (history_at ops n) left x ≡ x ∷ above
     unfolding above
-    with_above = ap (λ h. beside_up h left x) with_newest ∙ beside-own e (reverse (take (i - 1) ops)) left x own f
+    with_above = with_newest ∙ beside-own e (history_at ops at) left x there.own f
 
     pub turn_short : k ≡ 0 → Turn false
     turn_short z = sym ((λ j. chain_eq (with_above j) (reverse (take (z j) chain))))
@@ -187,15 +214,15 @@ module _ (ops : List Op) (chain : Chain) (i k : ℕ) (left : Option Identifier) 
     turn_wrong l m q g = sym (ap (λ up. chain_eq up (reverse (take k chain))) with_above ∙ compared l m q false g)
 
     pub turn_on : 0 < k → (m : Identifier) → m ≡ get_or chain (k - 1) m → id_eq m x ≡ true → (r : Identifier) → right_of e ≡ Some r
-        → Turn (chain_eq (beside_up (reverse (take (i - 1) ops)) left r) (reverse (take (k - 1) chain)))
+        → Turn (chain_eq (beside_up (history_at ops at) left r) (reverse (take (k - 1) chain)))
     unfolding above
     turn_on l m p g r q =
-        ap (λ o. chain_eq (above_it (reverse (take (i - 1) ops)) left o) (reverse (take (k - 1) chain))) (sym q)
+        ap (λ o. chain_eq (above_it (history_at ops at) left o) (reverse (take (k - 1) chain))) (sym q)
         ∙ sym (compared l m p true g) ∙ sym (ap (λ up. chain_eq up (reverse (take k chain))) with_above)
 
     pub turn_last : 0 < k → (m : Identifier) → m ≡ get_or chain (k - 1) m → id_eq m x ≡ true → right_of e ≡ None → Turn (nat_eq (k - 1) 0)
     unfolding above
     turn_last l m p g q =
         nothing_left chain (k - 1) (omega (arith, d))
-        ∙ ap (λ o. chain_eq (above_it (reverse (take (i - 1) ops)) left o) (reverse (take (k - 1) chain))) (sym q)
+        ∙ ap (λ o. chain_eq (above_it (history_at ops at) left o) (reverse (take (k - 1) chain))) (sym q)
         ∙ sym (compared l m p true g) ∙ sym (ap (λ up. chain_eq up (reverse (take k chain))) with_above)

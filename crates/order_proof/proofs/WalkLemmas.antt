@@ -1,7 +1,7 @@
 -- What the walk over the operations tells of a chain of left origins.
 use Rattle.std.proofs.Common.{arith, get_or, length, take, nat_eq, ℕ, ◌<◌, ◌≤◌, ◌+◌, ◌-◌, zero, suc, Bool, List, [], ap, append_assoc, false, inl, inr, refl, reverse, sym, true, ◌++◌, ◌∙◌, ◌∷◌, ◌≡◌, ◌↔◌}
 use Rattle.std.specs.Prelude.{None, Option, Some, if◌then◌else◌}
-use Rattle.std.proofs.lemmas.Bool.{cases_Bool, eq-eqb, false≢true, ne_eqb}
+use Rattle.std.proofs.lemmas.Bool.{cases_Bool, false≢true, ne_eqb}
 use Rattle.std.proofs.lemmas.List.{append-nil, reverse-append, reverse-reverse, take_more, same_from_push}
 use Rattle.fugue_ids.specs.Identifiers.{Identifier, id_eq}
 use Rattle.fugue_ids.specs.declared.op.Op.{Op}
@@ -12,6 +12,8 @@ unfoldable use Rattle.origin_model.specs.order.Order.{chain}
 use Rattle.origin_model.proofs.SharedLemmas.{chain-other, chain-own, chain_above}
 use Rattle.order_proof.specs.Certificates.{Chain}
 use Rattle.order_proof.specs.Chains.{ends_with, is_empty}
+use Rattle.order_proof.specs.Positions.{IsAt, as_of, history_at}
+use Rattle.order_proof.proofs.PositionLemmas.{as_of-other, as_of-own}
 
 reverse-cons : (m : Identifier) (ms : Chain) → reverse (m ∷ ms) ≡ reverse ms ++ m ∷ []
 reverse-cons m ms = reverse-append (m ∷ []) ms
@@ -107,27 +109,59 @@ reversed-take xs n d l k =
 abbrev pub none : Identifier
 none = record { replica = 0; counter = 0 }
 
--- another operation is passed
-pub walk_passes : (ops : List Op) (down : Chain) (i k : ℕ) (x : Identifier) (e : Op) → 0 < i → i ≤ length ops → 0 < k → k ≤ length down → e ≡ get_or ops (i - 1) e → is_own x e ≡ false
-    → ends_with (reverse (take (i - 1) ops)) x (reverse (take k down)) ≡ ends_with (reverse (take i ops)) x (reverse (take k down))
-walk_passes ops down i k x e a b c d is own =
-    let older : List Op = reverse (take (i - 1) ops) in
-    let m : Identifier = get_or down (k - 1) none in
-    let ms : Chain = reverse (take (k - 1) down) in
-    let p : reverse (take i ops) ≡ e ∷ older = reversed-take ops i e a b ∙ ap (λ z. z ∷ older) (sym is) in
-    let q : reverse (take k down) ≡ m ∷ ms = reversed-take down k none c d in
-    ap (ends_with older x) q
-    ∙ sym (ap (λ t. if t then (if id_eq m x then above_test older (left_of e) ms else false) else ends_with older x (m ∷ ms)) own)
-    ∙ (λ j. ends_with (sym p j) x (sym q j))
+-- the walk at its newest member, whose operation e is at the position `at` below n
+ends-as_of : (h : List Op) (x m : Identifier) (ms : Chain) → ends_with h x (m ∷ ms) ≡ ends_with (as_of h x) x (m ∷ ms)
+ends-as_of [] x m ms = refl
+ends-as_of (op ∷ older) x m ms =
+    elim (cases_Bool (is_own x op)) [
+      | inl k ↦ ap (λ h. ends_with h x (m ∷ ms)) (sym (as_of-own op older x k))
+      | inr k ↦
+          ap (λ b. if b then (if id_eq m x then above_test older (left_of op) ms else false) else ends_with older x (m ∷ ms)) k
+          ∙ ends-as_of older x m ms ∙ ap (λ h. ends_with h x (m ∷ ms)) (sym (as_of-other op older x k))
+    ]
+
+module _ (ops : List Op) (down : Chain) (n k : ℕ) (x : Identifier) (some : 0 < k) (within : k ≤ length down) where
+  abbrev Turn : Bool → Type 0
+  Turn t = t ≡ ends_with (history_at ops n) x (reverse (take k down))
+
+  with_last : (m : Identifier) → m ≡ get_or down (k - 1) m → reverse (take k down) ≡ m ∷ reverse (take (k - 1) down)
+  with_last m is = reversed-take down k m some within ∙ ap (λ z. z ∷ reverse (take (k - 1) down)) (sym is)
+
+  -- its operation is not there
+  pub walk_misses : as_of (history_at ops n) x ≡ [] → Turn false
+  walk_misses e =
+      sym (ap (ends_with (history_at ops n) x) (reversed-take down k none some within)
+      ∙ ends-as_of (history_at ops n) x (get_or down (k - 1) none) (reverse (take (k - 1) down))
+      ∙ ap (λ h. ends_with h x (get_or down (k - 1) none ∷ reverse (take (k - 1) down))) e)
+
+  module _ (m : Identifier) (is : m ≡ get_or down (k - 1) m) (at : ℕ) (e : Op) (t : IsAt ops n x at e) where
+    abbrev older : List Op
+    older = history_at ops at
+
+    abbrev ms : Chain
+    ms = reverse (take (k - 1) down)
+
+    walk_turns : (b : Bool) → id_eq m x ≡ b → ends_with (history_at ops n) x (reverse (take k down)) ≡ (if b then above_test older (left_of e) ms else false)
+    walk_turns b f =
+        ap (ends_with (history_at ops n) x) (with_last m is)
+        ∙ ends-as_of (history_at ops n) x m ms
+        ∙ ap (λ h. ends_with h x (m ∷ ms)) t.newest
+        ∙ ap (λ b. if b then (if id_eq m x then above_test older (left_of e) ms else false) else ends_with older x (m ∷ ms)) t.own
+        ∙ ap (λ b. if b then above_test older (left_of e) ms else false) f
+
+    pub walk_wrong : id_eq m x ≡ false → Turn false
+    walk_wrong f = sym (walk_turns false f)
+
+    pub walk_on : id_eq m x ≡ true → (y : Identifier) → left_of e ≡ Some y → Turn (ends_with older y ms)
+    walk_on f y o = sym (walk_turns true f ∙ ap (λ o. above_test older o ms) o)
+
+    pub walk_last : id_eq m x ≡ true → left_of e ≡ None → Turn (nat_eq (k - 1) 0)
+    walk_last f o = empty_test (k - 1) (omega (arith, within)) ∙ sym (walk_turns true f ∙ ap (λ o. above_test older o ms) o)
+      where
+        empty_test : (j : ℕ) → j ≤ length down → nat_eq j 0 ≡ is_empty (reverse (take j down))
+        empty_test zero d = refl
+        empty_test (suc j) d = ne_eqb (suc j) 0 (λ e. omega (arith, e)) ∙ sym (ap is_empty (reversed-take down (suc j) none (omega arith) d))
 
 -- the walk is over
-pub walk_done : (h : List Op) (down : Chain) (k : ℕ) (x : Identifier) → k ≤ 0 → nat_eq k 0 ≡ ends_with h x (reverse (take k down))
-walk_done h down k x l = let z : k ≡ 0 = omega (arith, l) in eq-eqb k 0 z ∙ ap (λ n. ends_with h x (reverse (take n down))) (sym z)
-
-pub walk_ends : (ops : List Op) (down : Chain) (i k : ℕ) (x : Identifier) → i ≤ 0 → k ≤ length down → nat_eq k 0 ≡ ends_with (reverse (take i ops)) x (reverse (take k down))
-walk_ends ops down i zero x l d = walk_done (reverse (take i ops)) down 0 x (omega arith)
-walk_ends ops down i (suc k) x l d =
-    let z : i ≡ 0 = omega (arith, l) in
-    ne_eqb (suc k) 0 (λ e. omega (arith, e))
-    ∙ sym (ap (ends_with [] x) (reversed-take down (suc k) none (omega arith) d))
-    ∙ ap (λ n. ends_with (reverse (take n ops)) x (reverse (take (suc k) down))) (sym z)
+pub walk_done : (h : List Op) (down : Chain) (k : ℕ) (x : Identifier) → k ≤ 0 → true ≡ ends_with h x (reverse (take k down))
+walk_done h down k x l = let z : k ≡ 0 = omega (arith, l) in ap (λ n. ends_with h x (reverse (take n down))) (sym z)

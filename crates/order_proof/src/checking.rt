@@ -1,19 +1,20 @@
-//! Certificates are checked by walks over the operations.
+//! Certificates are checked by look-ups of their elements.
 
 ghost use Rattle.std.specs.Prelude.{◌≡◌, ◌↔◌, reverse, true, IfOk};
-ghost use Rattle.origin_model.specs.operations.Verdict.{Lawful};
 ghost use Rattle.origin_model.specs.order.Order.{right_at as right_origin};
 ghost use Rattle.order_proof.specs.Certificates.{IsValid};
+ghost use Rattle.order_proof.specs.Positions.{history_at};
 ghost use Rattle.order_proof.specs.Readings.{IsValidText};
 ghost use Rattle.order_proof.specs.Checks.{same_place as places_same, origins_decide, chains_decide, siblings_at};
 ghost use Rattle.order_proof.specs.Checks.{sibling_test, goes_on, is_inner as is_inner_reason, ends, prefix_test};
 ghost use Rattle.order_proof.specs.Checks.{reason_test, step_test, rests_test, test};
 
 use crate::chains::{is_down, is_rights};
-use crate::look_ups::{left_at, place_at};
+use crate::look_ups::{left_at, place_at, right_at};
+use crate::positions::Positions;
 use crate::{Proof, Reason, Step};
-use fugue_ids::{ElementId, NoMemory, Op};
-use origin_model::{Place, right_at};
+use fugue_ids::{ElementId, NoMemory};
+use origin_model::Place;
 use std::alloc::Global;
 
 fn same_place(one: Option<Place>, other: Option<Place>) -> bool
@@ -26,12 +27,18 @@ fn same_place(one: Option<Place>, other: Option<Place>) -> bool
 }
 
 /// Whether the right origins of c and d decide so.
-fn by_origins(ops: &[Op], c: ElementId, d: ElementId, reason: Reason) -> bool
+fn by_origins<P: Positions>(
+    held: &P,
+    end: usize,
+    c: ElementId,
+    d: ElementId,
+    reason: Reason,
+) -> bool
     ensures { result
-        ≡ origins_decide (right_origin (reverse ops.now) c) (right_origin (reverse ops.now) d) c d reason }
+        ≡ origins_decide (right_origin (history_at (P.operations held.now) end) c) (right_origin (history_at (P.operations held.now) end) d) c d reason }
 {
-    let one = right_at(ops, c);
-    let other = right_at(ops, d);
+    let one = right_at(held, end, c);
+    let other = right_at(held, end, d);
     match reason {
         Reason::End => one.is_none() && other.is_some(),
         Reason::Later(p, q) => one == Some(p) && other == Some(q) && p != q,
@@ -51,8 +58,14 @@ fn is_inner(reason: Reason) -> bool
 
 /// Whether two chains of right origins decide so.
 #[tactic(auto, using(crate::proofs::CheckLemmas::decide_ends))]
-fn by_chains(ops: &[Op], reason: Reason, xs: &[ElementId], ys: &[ElementId]) -> bool
-    ensures { result ≡ chains_decide (reverse ops.now) reason xs.now ys.now }
+fn by_chains<P: Positions>(
+    held: &P,
+    end: usize,
+    reason: Reason,
+    xs: &[ElementId],
+    ys: &[ElementId],
+) -> bool
+    ensures { result ≡ chains_decide (history_at (P.operations held.now) end) reason xs.now ys.now }
 {
     let mut i = 0;
     'scan: while i < xs.len() {
@@ -60,7 +73,7 @@ fn by_chains(ops: &[Op], reason: Reason, xs: &[ElementId], ys: &[ElementId]) -> 
             return is_inner(reason);
         }
         if xs[i] != ys[i] {
-            return by_origins(ops, xs[i], ys[i], reason);
+            return by_origins(held, end, xs[i], ys[i], reason);
         }
         i += 1;
     }
@@ -68,35 +81,36 @@ fn by_chains(ops: &[Op], reason: Reason, xs: &[ElementId], ys: &[ElementId]) -> 
 }
 
 /// Whether two chains begin with distinct siblings, which have these chains of right origins.
-fn are_siblings(
-    ops: &[Op],
+fn are_siblings<P: Positions>(
+    held: &P,
+    end: usize,
     down_x: &[ElementId],
     down_y: &[ElementId],
     right_x: &[ElementId],
     right_y: &[ElementId],
 ) -> bool
-    ensures { result ≡ siblings_at (reverse ops.now) down_x.now down_y.now right_x.now right_y.now }
+    ensures { result ≡ siblings_at (history_at (P.operations held.now) end) down_x.now down_y.now right_x.now right_y.now }
 {
     match (down_x.first(), down_y.first()) {
         (Some(a), Some(b)) => {
             *a != *b
-                && left_at(ops, *a) == left_at(ops, *b)
-                && is_rights(ops, *a, right_x)
-                && is_rights(ops, *b, right_y)
+                && left_at(held, end, *a) == left_at(held, end, *b)
+                && is_rights(held, end, *a, right_x)
+                && is_rights(held, end, *b, right_y)
         }
         _ => false,
     }
 }
 
-fn holds_at_siblings(ops: &[Op], step: &Step) -> bool
-    ensures { result ≡ sibling_test (reverse ops.now) step.now step.now.reason }
+fn holds_at_siblings<P: Positions>(held: &P, end: usize, step: &Step) -> bool
+    ensures { result ≡ sibling_test (history_at (P.operations held.now) end) step.now step.now.reason }
 {
     let (down_x, down_y) = (step.down_x.as_slice(), step.down_y.as_slice());
     let (right_x, right_y) = (step.right_x.as_slice(), step.right_y.as_slice());
-    are_siblings(ops, down_x, down_y, right_x, right_y)
-        && is_down(ops, step.x, down_x)
-        && is_down(ops, step.y, down_y)
-        && by_chains(ops, step.reason, right_x, right_y)
+    are_siblings(held, end, down_x, down_y, right_x, right_y)
+        && is_down(held, end, step.x, down_x)
+        && is_down(held, end, step.y, down_y)
+        && by_chains(held, end, step.reason, right_x, right_y)
 }
 
 fn begins_with(x: ElementId, chain: &[ElementId]) -> bool
@@ -105,30 +119,30 @@ fn begins_with(x: ElementId, chain: &[ElementId]) -> bool
     chain.len() > 1 && chain[0] == x
 }
 
-fn holds_by_prefix(ops: &[Op], step: &Step) -> bool
-    ensures { result ≡ prefix_test (reverse ops.now) step.now }
+fn holds_by_prefix<P: Positions>(held: &P, end: usize, step: &Step) -> bool
+    ensures { result ≡ prefix_test (history_at (P.operations held.now) end) step.now }
 {
     let down_y = step.down_y.as_slice();
     begins_with(step.x, down_y)
-        && is_down(ops, step.y, down_y)
+        && is_down(held, end, step.y, down_y)
         && step.down_x.as_slice().is_empty()
         && step.right_x.as_slice().is_empty()
         && step.right_y.as_slice().is_empty()
 }
 
-fn holds(ops: &[Op], step: &Step) -> bool
-    ensures { result ≡ reason_test (reverse ops.now) step.now step.now.reason }
+fn holds<P: Positions>(held: &P, end: usize, step: &Step) -> bool
+    ensures { result ≡ reason_test (history_at (P.operations held.now) end) step.now step.now.reason }
 {
     match step.reason {
-        Reason::Prefix => holds_by_prefix(ops, step),
-        _ => holds_at_siblings(ops, step),
+        Reason::Prefix => holds_by_prefix(held, end, step),
+        _ => holds_at_siblings(held, end, step),
     }
 }
 
-fn is_step(ops: &[Op], step: &Step) -> bool
-    ensures { result ≡ step_test (reverse ops.now) step.now }
+fn is_step<P: Positions>(held: &P, end: usize, step: &Step) -> bool
+    ensures { result ≡ step_test (history_at (P.operations held.now) end) step.now }
 {
-    same_place(place_at(ops, step.x), place_at(ops, step.y)) && holds(ops, step)
+    same_place(place_at(held, end, step.x), place_at(held, end, step.y)) && holds(held, end, step)
 }
 
 fn rests_on(step: &Step, next: &Step) -> bool
@@ -151,13 +165,13 @@ fn ends_here(step: &Step) -> bool
 }
 
 #[tactic(auto, using(crate::proofs::CheckLemmas::test_ends))]
-fn passes(ops: &[Op], steps: &[Step]) -> bool
-    ensures { result ≡ test (reverse ops.now) steps.now }
+fn passes<P: Positions>(held: &P, end: usize, steps: &[Step]) -> bool
+    ensures { result ≡ test (history_at (P.operations held.now) end) steps.now }
 {
     let mut i = 0;
     'scan: while i < steps.len() {
         let step = &steps[i];
-        if !is_step(ops, step) {
+        if !is_step(held, end, step) {
             return false;
         }
         i += 1;
@@ -172,20 +186,18 @@ fn passes(ops: &[Op], steps: &[Step]) -> bool
 }
 
 /// Whether the certificate is valid. It takes no memory.
-pub fn check(ops: &[Op], proof: &Proof) -> bool
-    requires lawful { Lawful (reverse ops.now) }
-    ensures valid { (result ≡ true) ↔ IsValid (reverse ops.now) proof.now }
+pub fn check<P: Positions>(held: &P, proof: &Proof) -> bool
+    ensures valid { (result ≡ true) ↔ IsValid (reverse (P.operations held.now)) proof.now }
 {
-    passes(ops, proof.as_slice())
+    passes(held, held.operations().len(), proof.as_slice())
 }
 
 /// Whether the text is that of a valid certificate.
-pub fn check_text(alloc: Global, ops: &[Op], text: &[u8]) -> Result<bool, NoMemory>
-    requires lawful { Lawful (reverse ops.now) }
-    ensures valid { IfOk result (λ valid. (valid ≡ true) ↔ IsValidText (reverse ops.now) text.now) }
+pub fn check_text<P: Positions>(alloc: Global, held: &P, text: &[u8]) -> Result<bool, NoMemory>
+    ensures valid { IfOk result (λ valid. (valid ≡ true) ↔ IsValidText (reverse (P.operations held.now)) text.now) }
 {
     match Proof::read(alloc, text)? {
-        Some(proof) => Ok(check(ops, &proof)),
+        Some(proof) => Ok(check(held, &proof)),
         None => Ok(false),
     }
 }

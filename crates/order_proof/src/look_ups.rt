@@ -1,12 +1,14 @@
-//! Elements looked up among the accepted operations, the newest of which is last.
+//! Elements looked up among the first accepted operations.
 
-ghost use Rattle.std.specs.Prelude.{◌≡◌, reverse};
+ghost use Rattle.std.specs.Prelude.{◌≡◌};
 ghost use Rattle.origin_model.specs.operations.History.{place};
-ghost use Rattle.origin_model.specs.order.Order.{left_at as left_origin};
+ghost use Rattle.origin_model.specs.order.Order.{left_at as left_origin, right_at as right_origin};
 ghost use Rattle.order_proof.specs.Checks.{place_holding as place_in};
+ghost use Rattle.order_proof.specs.Positions.{history_at};
 
+use crate::positions::{Positions, find};
 use fugue_ids::{ElementId, Op};
-use origin_model::{Place, element_of, find_holder, left_of};
+use origin_model::{Place, element_of, left_of, right_of};
 
 fn place_of(op: &Op) -> Option<Place>
     ensures { result ≡ place op.now }
@@ -15,20 +17,29 @@ fn place_of(op: &Op) -> Option<Place>
     Some(place)
 }
 
-pub fn place_at(ops: &[Op], x: ElementId) -> Option<Place>
-    ensures { result ≡ place_in (reverse ops.now) x }
+pub fn place_at<P: Positions>(held: &P, end: usize, x: ElementId) -> Option<Place>
+    ensures { result ≡ place_in (history_at (P.operations held.now) end) x }
 {
-    match find_holder(ops, x) {
-        Some(op) => place_of(op),
+    match find(held, end, x) {
+        Some((_, op)) => place_of(op),
         None => None,
     }
 }
 
-pub fn left_at(ops: &[Op], x: ElementId) -> Option<ElementId>
-    ensures { result ≡ left_origin (reverse ops.now) x }
+pub fn left_at<P: Positions>(held: &P, end: usize, x: ElementId) -> Option<ElementId>
+    ensures { result ≡ left_origin (history_at (P.operations held.now) end) x }
 {
-    match find_holder(ops, x) {
-        Some(op) => left_of(op),
+    match find(held, end, x) {
+        Some((_, op)) => left_of(op),
+        None => None,
+    }
+}
+
+pub fn right_at<P: Positions>(held: &P, end: usize, x: ElementId) -> Option<ElementId>
+    ensures { result ≡ right_origin (history_at (P.operations held.now) end) x }
+{
+    match find(held, end, x) {
+        Some((_, op)) => right_of(op),
         None => None,
     }
 }

@@ -6,12 +6,14 @@ ghost use Rattle.origin_model.specs.order.Order.{rights};
 ghost use Rattle.order_proof.specs.Certificates.{IsValid, Claims, StandsBefore};
 ghost use Rattle.order_proof.specs.Making.{common_count as common_in, reason_of as reason_by};
 ghost use Rattle.order_proof.specs.Making.{reason_at as reason_at_in, reason_between as reason_between_in};
+ghost use Rattle.order_proof.specs.Positions.{history_at};
 ghost use Rattle.order_proof.specs.Making.{certificate_made, certificate_made_at, rests_on, certificate};
 
-use crate::chains::rights_of;
+use crate::chains::{lefts_of, rights_of};
+use crate::look_ups::right_at;
+use crate::positions::Positions;
 use crate::{Chain, Proof, Reason, Step};
-use fugue_ids::{ElementId, NoMemory, Op};
-use origin_model::{lefts_of, right_at};
+use fugue_ids::{ElementId, NoMemory};
 use std::alloc::{AllocError, Global};
 
 /// How many members two chains have in common at their beginning.
@@ -57,20 +59,20 @@ fn later_or_tie(p: ElementId, q: ElementId) -> Reason
     }
 }
 
-fn reason_at(ops: &[Op], xs: &[ElementId], ys: &[ElementId]) -> Reason
-    ensures { result ≡ reason_at_in (reverse ops.now) xs.now ys.now }
+fn reason_at<P: Positions>(held: &P, end: usize, xs: &[ElementId], ys: &[ElementId]) -> Reason
+    ensures { result ≡ reason_at_in (history_at (P.operations held.now) end) xs.now ys.now }
 {
     match (xs.first(), ys.first()) {
-        (Some(c), Some(d)) => reason_of(right_at(ops, *c), right_at(ops, *d)),
+        (Some(c), Some(d)) => reason_of(right_at(held, end, *c), right_at(held, end, *d)),
         _ => Reason::Inner,
     }
 }
 
-fn reason_between(ops: &[Op], xs: &[ElementId], ys: &[ElementId]) -> Reason
-    ensures { result ≡ reason_between_in (reverse ops.now) xs.now ys.now }
+fn reason_between<P: Positions>(held: &P, end: usize, xs: &[ElementId], ys: &[ElementId]) -> Reason
+    ensures { result ≡ reason_between_in (history_at (P.operations held.now) end) xs.now ys.now }
 {
     let count = common_count(xs, ys);
-    reason_at(ops, behind(xs, count), behind(ys, count))
+    reason_at(held, end, behind(xs, count), behind(ys, count))
 }
 
 fn chain_of(alloc: Global, ids: &[ElementId]) -> Result<Chain, AllocError>
@@ -90,9 +92,10 @@ fn headed(alloc: Global, x: ElementId, chain: &[ElementId]) -> Result<Chain, All
 }
 
 /// The step of x and y whose chains of left origins part at the siblings a and b.
-fn sibling_step(
+fn sibling_step<P: Positions>(
     alloc: Global,
-    ops: &[Op],
+    held: &P,
+    end: usize,
     claim: (ElementId, ElementId),
     siblings: (ElementId, ElementId),
     downs: (Chain, Chain),
@@ -103,17 +106,17 @@ fn sibling_step(
           y = claim.1;
           down_x = downs.0;
           down_y = downs.1;
-          right_x = rights (reverse ops.now) siblings.0;
-          right_y = rights (reverse ops.now) siblings.1;
-          reason = reason_between_in (reverse ops.now)
-              (rights (reverse ops.now) siblings.0) (rights (reverse ops.now) siblings.1);
+          right_x = rights (history_at (P.operations held.now) end) siblings.0;
+          right_y = rights (history_at (P.operations held.now) end) siblings.1;
+          reason = reason_between_in (history_at (P.operations held.now) end)
+              (rights (history_at (P.operations held.now) end) siblings.0) (rights (history_at (P.operations held.now) end) siblings.1);
         }) }
 {
     let (x, y) = claim;
     let (down_x, down_y) = downs;
-    let right_x = rights_of(alloc, ops, siblings.0)?;
-    let right_y = rights_of(alloc, ops, siblings.1)?;
-    let reason = reason_between(ops, right_x.as_slice(), right_y.as_slice());
+    let right_x = rights_of(alloc, held, end, siblings.0)?;
+    let right_y = rights_of(alloc, held, end, siblings.1)?;
+    let reason = reason_between(held, end, right_x.as_slice(), right_y.as_slice());
     Ok(Step {
         x,
         y,
@@ -126,34 +129,42 @@ fn sibling_step(
 }
 
 /// The step of x and y whose chains of left origins go on with these from where they part.
-fn step_at(
+fn step_at<P: Positions>(
     alloc: Global,
-    ops: &[Op],
+    held: &P,
+    end: usize,
     x: ElementId,
     y: ElementId,
     down_x: &[ElementId],
     down_y: &[ElementId],
 ) -> Result<Step, AllocError>
-    ensures { IfOk result (λ step. step ≡ certificate_made_at (reverse ops.now) x y down_x.now down_y.now) }
+    ensures { IfOk result (λ step. step ≡ certificate_made_at (history_at (P.operations held.now) end) x y down_x.now down_y.now) }
 {
     match (down_x.first(), down_y.first()) {
         (Some(a), Some(b)) => {
             let downs = (chain_of(alloc, down_x)?, chain_of(alloc, down_y)?);
-            sibling_step(alloc, ops, (x, y), (*a, *b), downs)
+            sibling_step(alloc, held, end, (x, y), (*a, *b), downs)
         }
         _ => Ok(Step::by_prefix(alloc, x, y, headed(alloc, x, down_y)?)),
     }
 }
 
-fn make_step(alloc: Global, ops: &[Op], x: ElementId, y: ElementId) -> Result<Step, AllocError>
-    ensures { IfOk result (λ step. step ≡ certificate_made (reverse ops.now) x y) }
+fn make_step<P: Positions>(
+    alloc: Global,
+    held: &P,
+    end: usize,
+    x: ElementId,
+    y: ElementId,
+) -> Result<Step, AllocError>
+    ensures { IfOk result (λ step. step ≡ certificate_made (history_at (P.operations held.now) end) x y) }
 {
-    let xs = lefts_of(alloc, ops, x)?;
-    let ys = lefts_of(alloc, ops, y)?;
+    let xs = lefts_of(alloc, held, end, x)?;
+    let ys = lefts_of(alloc, held, end, y)?;
     let count = common_count(xs.as_slice(), ys.as_slice());
     step_at(
         alloc,
-        ops,
+        held,
+        end,
         x,
         y,
         behind(xs.as_slice(), count),
@@ -171,17 +182,23 @@ fn claim_below(step: &Step) -> Option<(ElementId, ElementId)>
 }
 
 /// Each step rests on what was so before an operation more.
-fn make(alloc: Global, ops: &[Op], x: ElementId, y: ElementId) -> Result<Vec<Step>, AllocError>
-    ensures { IfOk result (λ steps. steps.items ≡ certificate (reverse ops.now) x y) }
+fn make<P: Positions>(
+    alloc: Global,
+    held: &P,
+    x: ElementId,
+    y: ElementId,
+) -> Result<Vec<Step>, AllocError>
+    ensures lawful { Lawful (reverse (P.operations held.now)) }
+    ensures steps { IfOk result (λ steps. steps.items ≡ certificate (reverse (P.operations held.now)) x y) }
 {
     let mut steps = Vec::new(alloc);
     let mut claim = (x, y);
-    let mut n = ops.len();
-    'steps: while n > 0 {
-        let step = make_step(alloc, &ops[..n], claim.0, claim.1)?;
+    let mut end = held.operations().len();
+    'steps: while end > 0 {
+        let step = make_step(alloc, held, end, claim.0, claim.1)?;
         let below = claim_below(&step);
         steps.push(step)?;
-        n -= 1;
+        end -= 1;
         match below {
             Some(next) => claim = next,
             None => return Ok(steps),
@@ -190,13 +207,17 @@ fn make(alloc: Global, ops: &[Op], x: ElementId, y: ElementId) -> Result<Vec<Ste
     Ok(steps)
 }
 
-/// The certificate that x stands before y.
-pub fn prove(alloc: Global, ops: &[Op], x: ElementId, y: ElementId) -> Result<Proof, NoMemory>
-    requires lawful { Lawful (reverse ops.now) }
-    requires before { StandsBefore (reverse ops.now) x y }
-    ensures valid { IfOk result (λ proof. IsValid (reverse ops.now) proof) }
+/// The certificate that x stands before y. The operations are known to be lawful, so a caller need not show it.
+pub fn prove<P: Positions>(
+    alloc: Global,
+    held: &P,
+    x: ElementId,
+    y: ElementId,
+) -> Result<Proof, NoMemory>
+    requires before { Lawful (reverse (P.operations held.now)) → StandsBefore (reverse (P.operations held.now)) x y }
+    ensures valid { IfOk result (λ proof. IsValid (reverse (P.operations held.now)) proof) }
     ensures claims { IfOk result (λ proof. Claims x y proof) }
 {
-    let steps = make(alloc, ops, x, y)?;
+    let steps = make(alloc, held, x, y)?;
     Ok(Proof::new(steps))
 }

@@ -1,9 +1,11 @@
-use Rattle.std.proofs.Common.{length, reverse, ◌++◌, ◌≡◌}
-unfoldable use Rattle.order_proof.specs.Chains.{beside_up}
+use Rattle.std.proofs.Common.{◌++◌, ◌≡◌}
+use Rattle.order_proof.specs.Chains.{beside_up}
+use Rattle.order_proof.specs.Positions.{history_at}
 use Rattle.order_proof.proofs.chains.climb.Given as goal
 
 abbrev pub invariant-scan : goal.invariant-scan
-invariant-scan l = l.found.items ++ beside_up (reverse l.rest) l.left l.current ≡ beside_up (reverse l.ops) l.left l.fn.x
+invariant-scan g l =
+    l.found.items ++ beside_up (history_at (g.P.Positions.operations l.held) l.below) l.left l.current ≡ beside_up (history_at (g.P.Positions.operations l.held) l.end) l.left l.fn.x
 
 abbrev pub decreases-scan : goal.decreases-scan
-decreases-scan l = length l.rest
+decreases-scan g l = l.below

@@ -1,24 +1,33 @@
-use Rattle.std.proofs.Common.{ap, arith, reverse, sym, take, ◌∙◌}
-use Rattle.std.specs.Prelude.{Some}
-use Rattle.fugue_ids.specs.Identifiers.{origin_eq}
-use Rattle.order_proof.proofs.WalkLemmas.{walk_done, walk_ends, walk_passes}
+use Rattle.std.proofs.Common.{ap, arith, false, refl, sym, ◌∙◌}
+use Rattle.order_proof.specs.Positions.{history_at}
+use Rattle.order_proof.proofs.BesideLemmas.{not_false, not_true}
+use Rattle.order_proof.proofs.WalkLemmas.{walk_last, walk_misses, walk_on, walk_wrong}
 use Rattle.order_proof.proofs.chains.ends_in.Goals as goal
-use Rattle.order_proof.proofs.chains.ends_in.Goals.{then-scan-test+else-k-gt0, else-scan-test}
+
+pub returns-in_default : goal.returns-in_default
+returns-in_default g c =
+    walk_misses (g.P.Positions.operations c.args.held.now) c.args.down.now c.scan.below c.scan.k c.scan.current c.scan-test.true c.scan.invariant.within (c.in_default.ensures.none refl)
+    ∙ c.scan.invariant.rest
+
+pub returns-then-ne : goal.returns-then-ne
+returns-then-ne g c =
+    walk_wrong (g.P.Positions.operations c.args.held.now) c.args.down.now c.scan.below c.scan.k c.scan.current c.scan-test.true c.scan.invariant.within
+    c.index-down-k.result c.index-down-k.is c.in-Some.at c.in-Some.op.now c.in-Some.ensures.some (not_true _ (sym c.ne.ensures ∙ c.if-ne.true))
+    ∙ c.scan.invariant.rest
 
 pub scan-preserved : goal.scan-preserved
-scan-preserved c = record {
+scan-preserved g c = record {
   rest =
-      walk_passes c.args.ops.now c.args.down.now c.scan.i c.scan.k c.scan.current c.index-ops-i.result
-      c.scan-test.true c.scan.invariant.within c.if-k-gt0.true c.scan.invariant.below c.index-ops-i.is
-      (ap (λ o. origin_eq o (Some c.scan.current)) (sym c.id.ensures) ∙ sym c.eq.ensures ∙ c.if-eq.false)
+      walk_on (g.P.Positions.operations c.args.held.now) c.args.down.now c.scan.below c.scan.k c.scan.current c.scan-test.true c.scan.invariant.within
+      c.index-down-k.result c.index-down-k.is c.in-Some.at c.in-Some.op.now c.in-Some.ensures.some (not_false _ (sym c.ne.ensures ∙ c.if-ne.false))
+      c.in-Some-left_of.next (sym c.left_of.ensures ∙ c.in-Some-left_of.is)
       ∙ c.scan.invariant.rest;
   within = omega (arith, c.scan.invariant.within);
-  below = c.scan.invariant.below;
 }
 
-pub returns : goal.returns
-returns c =
-    elim c.scan-test.branch [
-      | then-scan-test+else-k-gt0 w ↦ walk_done (reverse (take c.scan.i c.args.ops.now)) c.args.down.now c.scan.k c.scan.current w.if-k-gt0.false ∙ c.scan.invariant.rest
-      | else-scan-test w ↦ walk_ends c.args.ops.now c.args.down.now c.scan.i c.scan.k c.scan.current w.scan-test.false c.scan.invariant.below ∙ c.scan.invariant.rest
-    ]
+pub returns-in-None : goal.returns-in-None
+returns-in-None g c =
+    walk_last (g.P.Positions.operations c.args.held.now) c.args.down.now c.scan.below c.scan.k c.scan.current c.scan-test.true c.scan.invariant.within
+    c.index-down-k.result c.index-down-k.is c.in-Some.at c.in-Some.op.now c.in-Some.ensures.some (not_false _ (sym c.ne.ensures ∙ c.if-ne.false))
+    (sym c.left_of.ensures ∙ c.in-None.is)
+    ∙ c.scan.invariant.rest

@@ -1,10 +1,14 @@
-use Rattle.std.proofs.Common.{ap, reverse, subst, sym, true, ◌∙◌, ◌≡◌, ◌↔◌}
+use Rattle.std.proofs.Common.{ap, length, reverse, subst, sym, true, ◌∙◌, ◌≡◌, ◌↔◌}
 use Rattle.order_proof.specs.Certificates.{IsValid}
 use Rattle.order_proof.specs.Checks.{test}
+use Rattle.order_proof.specs.Positions.{history_at}
 use Rattle.order_proof.proofs.CheckedLemmas.{tested}
+use Rattle.order_proof.proofs.PositionLemmas.{all_ops}
 use Rattle.order_proof.proofs.checking.check.Goals as goal
 
 pub returns : goal.returns
-returns c =
-    let h = reverse c.args.ops.now in
-    record { valid = subst (λ b. (b ≡ true) ↔ IsValid h c.args.proof.now) (sym (c.passes.ensures ∙ ap (test h) c.as_slice.ensures)) (tested h c.requires.lawful c.args.proof.now) }
+returns g c =
+    let ops = g.P.Positions.operations c.args.held.now in
+    let whole : history_at ops (length c.operations.result.now) ≡ reverse ops = ap (λ l. history_at ops (length l)) c.operations.ensures.accepted ∙ sym (all_ops ops) in
+    let passes : c.passes.result ≡ test (reverse ops) c.args.proof.now = c.passes.ensures ∙ (λ i. test (whole i) (c.as_slice.ensures i)) in
+    record { valid = subst (λ b. (b ≡ true) ↔ IsValid (reverse ops) c.args.proof.now) (sym passes) (tested (reverse ops) c.operations.ensures.lawful c.args.proof.now) }
