@@ -7,7 +7,7 @@ use Rattle.std.specs.Prelude.{encode_utf8_all}
 use Rattle.std.specs.Str.{chars, IsUtf8}
 use Rattle.ucd_breaks.specs.GraphemeClusterBreak.{grapheme_cluster_break}
 use Rattle.ucd_breaks.specs.declared.GraphemeClusterBreak.{GraphemeClusterBreak}
-use Rattle.ucd_breaks.specs.declared.GraphemeClusterBreak.TheVariants.{Control, Extend, Lf, Other, SpacingMark, Zwj}
+use Rattle.ucd_breaks.specs.declared.GraphemeClusterBreak.TheVariants.{Control, Extend, Lf, Lv, Lvt, Other, SpacingMark, T, V, Zwj}
 use Rattle.ucd_breaks.proofs.Computing.{ucd_breaks}
 use Rattle.ucd_derived.specs.IndicConjunctBreak.{indic_conjunct_break}
 use Rattle.ucd_derived.specs.declared.IndicConjunctBreak.{IndicConjunctBreak}
@@ -15,33 +15,50 @@ use Rattle.ucd_derived.specs.declared.IndicConjunctBreak.TheVariants as InCb
 use Rattle.ucd_derived.proofs.Computing.{ucd_derived}
 use Rattle.ucd_emoji.specs.Binary.{is_extended_pictographic}
 use Rattle.ucd_emoji.proofs.Computing.{ucd_emoji}
-use Rattle.unicode_segmentation.specs.Grapheme.{break_by_pair, ends_in_linker, is_extend, is_zwj, is_regional, ends_in_pictograph, ends_in_half_flag, is_grapheme_break}
+use Rattle.unicode_segmentation.specs.Grapheme.{break_by_pair, ends_in_linker, joins_emoji, is_extend, is_zwj, is_regional, ends_in_pictograph, ends_in_half_flag, is_grapheme_break}
 use Rattle.unicode_segmentation.specs.Segments.{Rule, cut, segments}
-use Rattle.cluster_text.specs.Borders.{closes, opens, first_opens, last_closes, is_free, is_linking, is_mark}
+use Rattle.cluster_text.specs.Borders.{closes, opens, first_opens, last_closes, is_free, is_joining, is_linking}
 use Rattle.cluster_text.specs.Clusters.{clusters}
-use Rattle.cluster_text.proofs.CutLemmas.{onto, attach, attach-nil, ReadsNext, StopsAt, cut-after, cut-apart, cut-border, cut-past}
+use Rattle.cluster_text.proofs.CutLemmas.{onto, attach, attach-nil, ReadsNext, StopsAt, StopsBehind, cut-after, cut-apart, cut-border, cut-past}
 
 -- no cluster goes over the border between two texts, and each has the clusters that it has alone
 abbrev pub Apart : (a b : List ℕ) → Type 0
 Apart a b = clusters (a ++ b) ≡ clusters a ++ clusters b
 
--- a character that closes, by the three tables
+-- a character that closes, by the two tables
 record Closing (c : ℕ) : Type 0 where
   pub free : is_free (grapheme_cluster_break c) ≡ true
   pub linking : is_linking (indic_conjunct_break c) ≡ false
-  pub pictograph : is_extended_pictographic c ≡ false
 
 closing : (c : ℕ) → closes c ≡ true → Closing c
 closing c e =
     let parts = and_parts (is_free (grapheme_cluster_break c)) _ e in
-    let others = and_parts (not (is_linking (indic_conjunct_break c))) _ parts.1 in
-    record { free = parts.0; linking = not-true _ others.0; pictograph = not-true _ others.1 }
+    record { free = parts.0; linking = not-true _ parts.1 }
+
+-- one that opens
+record Opening (d : ℕ) : Type 0 where
+  pub joining : is_joining (grapheme_cluster_break d) ≡ false
+  pub linking : is_linking (indic_conjunct_break d) ≡ false
+
+opening : (d : ℕ) → opens d ≡ true → Opening d
+opening d e =
+    let parts = and_parts (not (is_joining (grapheme_cluster_break d))) _ e in
+    record { joining = not-true _ parts.0; linking = not-true _ parts.1 }
 
 free-not_extend : (v : GraphemeClusterBreak) → is_free v ≡ true → (is_extend v ≡ false) × (is_zwj v ≡ false) × (is_regional v ≡ false)
 free-not_extend Other e = (refl, refl, refl)
 free-not_extend Control e = (refl, refl, refl)
 free-not_extend Lf e = (refl, refl, refl)
+free-not_extend Lv e = (refl, refl, refl)
+free-not_extend Lvt e = (refl, refl, refl)
+free-not_extend V e = (refl, refl, refl)
+free-not_extend T e = (refl, refl, refl)
 free-not_extend _ e = cc
+
+opening-not_extend : (v : GraphemeClusterBreak) → is_joining v ≡ false → (is_extend v ≡ false) × (is_zwj v ≡ false)
+opening-not_extend Extend e = cc
+opening-not_extend Zwj e = cc
+opening-not_extend _ e = (refl, refl)
 
 linker-stop : (v : IndicConjunctBreak) (vs : List IndicConjunctBreak) → is_linking v ≡ false → ends_in_linker (v ∷ vs) ≡ false
 unfolding ends_in_linker
@@ -55,30 +72,38 @@ linker-cons InCb.Linker vs ws e = refl
 linker-cons InCb.Extend vs ws e = e
 linker-cons _ vs ws e = refl
 
-module _ (c : ℕ) (stop : Closing c) where
-  linker-past : (xs older : List ℕ) → ends_in_linker (map indic_conjunct_break (xs ++ c ∷ older)) ≡ ends_in_linker (map indic_conjunct_break xs)
+-- no rule looks past a character that opens behind one that closes
+module _ (c d : ℕ) (before : List ℕ) (stop : Closing c) (start : Opening d) where
+  linker-stops : (xs : List ℕ) → ends_in_linker (map indic_conjunct_break (xs ++ d ∷ c ∷ before)) ≡ ends_in_linker (map indic_conjunct_break (xs ++ d ∷ []))
   unfolding ends_in_linker
-  linker-past [] older = linker-stop (indic_conjunct_break c) _ stop.linking
-  linker-past (x ∷ xs) older = linker-cons (indic_conjunct_break x) _ _ (linker-past xs older)
+  linker-stops [] = linker-stop (indic_conjunct_break d) _ start.linking ∙ sym (linker-stop (indic_conjunct_break d) _ start.linking)
+  linker-stops (x ∷ xs) = linker-cons (indic_conjunct_break x) _ _ (linker-stops xs)
 
-  pictograph-past : (xs older : List ℕ) → ends_in_pictograph (xs ++ c ∷ older) ≡ ends_in_pictograph xs
+  pictograph-stops : (xs : List ℕ) → ends_in_pictograph (xs ++ d ∷ c ∷ before) ≡ ends_in_pictograph (xs ++ d ∷ [])
   unfolding ends_in_pictograph
-  pictograph-past [] older = rw (stop.pictograph, (free-not_extend _ stop.free).0) refl
-  pictograph-past (x ∷ xs) older = ap (λ b. is_extended_pictographic x || (is_extend (grapheme_cluster_break x) && b)) (pictograph-past xs older)
+  pictograph-stops [] = rw (opening-not_extend _ start.joining).0 refl
+  pictograph-stops (x ∷ xs) = ap (λ b. is_extended_pictographic x || (is_extend (grapheme_cluster_break x) && b)) (pictograph-stops xs)
 
-  half_flag-past : (xs older : List ℕ) → ends_in_half_flag (xs ++ c ∷ older) ≡ ends_in_half_flag xs
+  half_flag-stops : (xs : List ℕ) → ends_in_half_flag (xs ++ d ∷ c ∷ before) ≡ ends_in_half_flag (xs ++ d ∷ [])
   unfolding ends_in_half_flag
-  half_flag-past [] older = rw (free-not_extend _ stop.free).2 refl
-  half_flag-past (x ∷ xs) older = ap (λ b. is_regional (grapheme_cluster_break x) && not b) (half_flag-past xs older)
+  half_flag-stops [] =
+      let none : ends_in_half_flag (c ∷ before) ≡ false = ap (λ b. b && not (ends_in_half_flag before)) (free-not_extend _ stop.free).2 in
+      ap (λ b. is_regional (grapheme_cluster_break d) && not b) none
+  half_flag-stops (x ∷ xs) = ap (λ b. is_regional (grapheme_cluster_break x) && not b) (half_flag-stops xs)
 
-  -- no rule looks past such a character
-  rule_stops : StopsAt (is_grapheme_break true) c
+  emoji-stops : (xs : List ℕ) (n : ℕ) → joins_emoji (xs ++ d ∷ c ∷ before) n ≡ joins_emoji (xs ++ d ∷ []) n
+  emoji-stops [] n = rw (opening-not_extend _ start.joining).1 refl
+  emoji-stops (x ∷ xs) n = ap (λ b. is_zwj (grapheme_cluster_break x) && b && is_extended_pictographic n) (pictograph-stops xs)
+
+  rule_stops : StopsBehind (is_grapheme_break true) d (c ∷ before)
   unfolding is_grapheme_break
-  rule_stops d xs older [] = refl
-  rule_stops d xs older (n ∷ after) =
-      rw (linker-past (d ∷ xs) older, pictograph-past xs older, half_flag-past (d ∷ xs) older) refl
+  rule_stops [] [] = refl
+  rule_stops (x ∷ xs) [] = refl
+  rule_stops [] (n ∷ after) = rw (linker-stops [], emoji-stops [] n, half_flag-stops []) refl
+  rule_stops (x ∷ xs) (n ∷ after) = rw (linker-stops (x ∷ xs), emoji-stops (x ∷ xs) n, half_flag-stops (x ∷ xs)) refl
 
-  -- behind it the pair of neighbors decides
+-- behind one that closes the pair of neighbors decides
+module _ (c : ℕ) (stop : Closing c) where
   rule_by_pair : (d : ℕ) (before after : List ℕ)
       → is_grapheme_break true (c ∷ before) (d ∷ after) ≡ unwrap_or (break_by_pair true (grapheme_cluster_break c) (grapheme_cluster_break d)) true
   unfolding is_grapheme_break ends_in_half_flag
@@ -91,34 +116,50 @@ unfolding is_grapheme_break
 rule_reads_next [] c xs ys = refl
 rule_reads_next (b ∷ before) c xs ys = refl
 
-pair_breaks : (v w : GraphemeClusterBreak) → is_free v ≡ true → is_mark w ≡ false → unwrap_or (break_by_pair true v w) true ≡ true
+pair_breaks : (v w : GraphemeClusterBreak) → is_free v ≡ true → is_joining w ≡ false → unwrap_or (break_by_pair true v w) true ≡ true
 pair_breaks Other Extend e f = sym f
 pair_breaks Other Zwj e f = sym f
 pair_breaks Other SpacingMark e f = sym f
 pair_breaks Other w e f = refl
+pair_breaks Lv Extend e f = sym f
+pair_breaks Lv Zwj e f = sym f
+pair_breaks Lv SpacingMark e f = sym f
+pair_breaks Lv V e f = sym f
+pair_breaks Lv T e f = sym f
+pair_breaks Lv w e f = refl
+pair_breaks Lvt Extend e f = sym f
+pair_breaks Lvt Zwj e f = sym f
+pair_breaks Lvt SpacingMark e f = sym f
+pair_breaks Lvt T e f = sym f
+pair_breaks Lvt w e f = refl
+pair_breaks V Extend e f = sym f
+pair_breaks V Zwj e f = sym f
+pair_breaks V SpacingMark e f = sym f
+pair_breaks V V e f = sym f
+pair_breaks V T e f = sym f
+pair_breaks V w e f = refl
+pair_breaks T Extend e f = sym f
+pair_breaks T Zwj e f = sym f
+pair_breaks T SpacingMark e f = sym f
+pair_breaks T T e f = sym f
+pair_breaks T w e f = refl
 pair_breaks Control w e f = refl
 pair_breaks Lf w e f = refl
 pair_breaks _ w e f = cc
 
--- a character that closes breaks from one that opens, whatever stands around them
-rule_breaks : (c : ℕ) (before ds : List ℕ) → closes c ≡ true → first_opens ds ≡ true → is_grapheme_break true (c ∷ before) ds ≡ true
-rule_breaks c before [] closed opening = cc
-rule_breaks c before (d ∷ ds) closed opening =
-    let stop = closing c closed in
-    rule_by_pair c stop d before ds ∙ pair_breaks _ _ stop.free (not-true _ opening)
-
 -- where the texts fall apart by characters, they do by bytes
-apart_from_break : (a b front : List ℕ) (c : ℕ) → IsUtf8 a → chars a ≡ front ++ c ∷ [] → Closing c
-    → is_grapheme_break true (c ∷ onto front []) (chars b) ≡ true → Apart a b
+apart_from_break : (a b front ds : List ℕ) (c d : ℕ) → IsUtf8 a → chars a ≡ front ++ c ∷ [] → chars b ≡ d ∷ ds → Closing c → Opening d → Apart a b
 unfolding segments
-apart_from_break a b front c utf8 is stop breaks =
-    let pieces : List ℕ → List (List ℕ) = λ cs. cut (is_grapheme_break true) [] cs [] in
-    let whole : chars (a ++ b) ≡ front ++ c ∷ chars b =
-    chars-append a b utf8 ∙ ap (λ cs. cs ++ chars b) is ∙ append_assoc front (c ∷ []) (chars b) in
+apart_from_break a b front ds c d utf8 is starts stop start =
+    let rule = is_grapheme_break true in
+    let pieces : List ℕ → List (List ℕ) = λ cs. cut rule [] cs [] in
+    let breaks = rule_by_pair c stop d (onto front []) ds ∙ pair_breaks _ _ stop.free start.joining in
+    let whole : chars (a ++ b) ≡ front ++ c ∷ d ∷ ds =
+    chars-append a b utf8 ∙ ap₂ ◌++◌ is starts ∙ append_assoc front (c ∷ []) (d ∷ ds) in
     ap (λ cs. map encode_utf8_all (pieces cs)) whole
-    ∙ ap (map encode_utf8_all) (cut-apart (is_grapheme_break true) c rule_reads_next (rule_stops c stop) front (chars b) breaks)
-    ∙ map-append encode_utf8_all (pieces (front ++ c ∷ [])) (pieces (chars b))
-    ∙ ap (λ cs. map encode_utf8_all (pieces cs) ++ map encode_utf8_all (pieces (chars b))) (sym is)
+    ∙ ap (map encode_utf8_all) (cut-apart rule c d front ds rule_reads_next (rule_stops c d (onto front []) stop start) breaks)
+    ∙ map-append encode_utf8_all (pieces (front ++ c ∷ [])) (pieces (d ∷ ds))
+    ∙ ap₂ (λ cs es. map encode_utf8_all (pieces cs) ++ map encode_utf8_all (pieces es)) (sym is) (sym starts)
 
 pub record LastOf (cs : List ℕ) : Type 0 where
   pub front : List ℕ
@@ -133,11 +174,16 @@ last_of (c ∷ d ∷ cs) e =
     let further = last_of (d ∷ cs) e in
     record { front = c ∷ further.front; last = further.last; is = ap (λ ds. c ∷ ds) further.is; closed = further.closed }
 
+first_of : (cs : List ℕ) → first_opens cs ≡ true → (d : ℕ) × (ds : List ℕ) × (cs ≡ d ∷ ds) × Opening d
+first_of [] e = cc
+first_of (d ∷ ds) e = (d, ds, refl, opening d e)
+
 -- a text that ends in a character that closes stands apart from one that begins with one that opens
 pub apart-closed : (a b : List ℕ) → IsUtf8 a → last_closes (chars a) ≡ true → first_opens (chars b) ≡ true → Apart a b
 apart-closed a b utf8 closed opening =
     let l = last_of (chars a) closed in
-    apart_from_break a b l.front l.last utf8 l.is (closing l.last l.closed) (rule_breaks l.last (onto l.front []) (chars b) l.closed opening)
+    let f = first_of (chars b) opening in
+    apart_from_break a b l.front f.1 l.last f.0 utf8 l.is f.2 (closing l.last l.closed) f.3
 
 -- ---- NUL
 
@@ -146,11 +192,15 @@ unfolding ucd_breaks
 nul_class = refl
 
 pub nul_closes : closes 0 ≡ true
-unfolding ucd_breaks ucd_derived ucd_emoji
+unfolding ucd_breaks ucd_derived
 nul_closes = refl
 
+nul_pictograph : is_extended_pictographic 0 ≡ false
+unfolding ucd_emoji
+nul_pictograph = refl
+
 pub nul_opens : opens 0 ≡ true
-unfolding ucd_breaks
+unfolding ucd_breaks ucd_derived
 nul_opens = refl
 
 -- GB4 and GB5
@@ -195,10 +245,31 @@ cut-nul (c ∷ cs) = by c cs (last-split c cs)
         ∙ ap₂ ◌++◌ (cut-after rule rule_reads_next [] (l.0 ++ l.1 ∷ []) (0 ∷ [])) (attach-nil _ (0 ∷ []))
         ∙ ap (λ ds. cut rule [] ds [] ++ (0 ∷ []) ∷ []) (sym l.2)
 
+-- no rule looks past a NUL
+nul-linker : (xs older : List ℕ) → ends_in_linker (map indic_conjunct_break (xs ++ 0 ∷ older)) ≡ ends_in_linker (map indic_conjunct_break xs)
+unfolding ends_in_linker
+nul-linker [] older = linker-stop (indic_conjunct_break 0) _ (closing 0 nul_closes).linking
+nul-linker (x ∷ xs) older = linker-cons (indic_conjunct_break x) _ _ (nul-linker xs older)
+
+nul-pictograph : (xs older : List ℕ) → ends_in_pictograph (xs ++ 0 ∷ older) ≡ ends_in_pictograph xs
+unfolding ends_in_pictograph
+nul-pictograph [] older = rw (nul_pictograph, (free-not_extend _ (closing 0 nul_closes).free).0) refl
+nul-pictograph (x ∷ xs) older = ap (λ b. is_extended_pictographic x || (is_extend (grapheme_cluster_break x) && b)) (nul-pictograph xs older)
+
+nul-half_flag : (xs older : List ℕ) → ends_in_half_flag (xs ++ 0 ∷ older) ≡ ends_in_half_flag xs
+unfolding ends_in_half_flag
+nul-half_flag [] older = rw (free-not_extend _ (closing 0 nul_closes).free).2 refl
+nul-half_flag (x ∷ xs) older = ap (λ b. is_regional (grapheme_cluster_break x) && not b) (nul-half_flag xs older)
+
+nul_stops : StopsAt (is_grapheme_break true) 0
+unfolding is_grapheme_break
+nul_stops d xs older [] = refl
+nul_stops d xs older (n ∷ after) = rw (nul-linker (d ∷ xs) older, nul-pictograph xs older, nul-half_flag (d ∷ xs) older) refl
+
 -- a NUL on each side is a piece of its own
 pub cut-enclosed : (cs : List ℕ) → cut (is_grapheme_break true) [] (0 ∷ (cs ++ 0 ∷ [])) [] ≡ (0 ∷ []) ∷ (cut (is_grapheme_break true) [] cs [] ++ (0 ∷ []) ∷ [])
 unfolding cut
 cut-enclosed cs =
     let rule = is_grapheme_break true in
     ap (λ b. attach b (0 ∷ []) (cut rule (0 ∷ []) (cs ++ 0 ∷ []) [])) (breaks_behind_nul [] ((cs ++ 0 ∷ []) ++ []))
-    ∙ ap (λ ps. (0 ∷ []) ∷ ps) (cut-past rule 0 (rule_stops 0 (closing 0 nul_closes)) [] [] (cs ++ 0 ∷ []) [] ∙ cut-nul cs)
+    ∙ ap (λ ps. (0 ∷ []) ∷ ps) (cut-past rule 0 nul_stops [] [] (cs ++ 0 ∷ []) [] ∙ cut-nul cs)

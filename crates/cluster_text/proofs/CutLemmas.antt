@@ -71,9 +71,24 @@ cut-past rule c stops older xs [] after = refl
 cut-past rule c stops older xs (d ∷ cs) after =
     ap₂ (λ b ps. attach b (d ∷ []) ps) (stops d xs older (cs ++ after)) (cut-past rule c stops older (d ∷ xs) cs after)
 
--- so a text that is cut behind c falls into two
-pub cut-apart : (rule : Rule) (c : ℕ) → ReadsNext rule → StopsAt rule c → (front ds : List ℕ) → rule (c ∷ onto front []) ds ≡ true
-    → cut rule [] (front ++ c ∷ ds) [] ≡ cut rule [] (front ++ c ∷ []) [] ++ cut rule [] ds []
-cut-apart rule c next stops front ds breaks =
-    cut-border rule [] front c ds [] (ap (rule (c ∷ onto front [])) (append-nil ds) ∙ breaks)
-    ∙ ap₂ ◌++◌ (cut-after rule next [] (front ++ c ∷ []) (ds ++ [])) (cut-past rule c stops (onto front []) [] ds [])
+-- the rule looks no further back than to d, which stands behind `before`
+abbrev pub StopsBehind : Rule → ℕ → List ℕ → Type 0
+StopsBehind rule d before = (xs after : List ℕ) → rule (xs ++ d ∷ before) after ≡ rule (xs ++ d ∷ []) after
+
+-- then the pieces from d on are those of a text that begins there
+cut-on : (rule : Rule) (d : ℕ) (before : List ℕ) → StopsBehind rule d before → (xs cs after : List ℕ) → cut rule (xs ++ d ∷ before) cs after ≡ cut rule (xs ++ d ∷ []) cs after
+unfolding cut
+cut-on rule d before stops xs [] after = refl
+cut-on rule d before stops xs (c ∷ cs) after =
+    ap₂ (λ b ps. attach b (c ∷ []) ps) (stops (c ∷ xs) (cs ++ after)) (cut-on rule d before stops (c ∷ xs) cs after)
+
+pub cut-from : (rule : Rule) (d : ℕ) (before : List ℕ) → StopsBehind rule d before → (cs after : List ℕ) → cut rule before (d ∷ cs) after ≡ cut rule [] (d ∷ cs) after
+unfolding cut
+cut-from rule d before stops cs after = ap₂ (λ b ps. attach b (d ∷ []) ps) (stops [] (cs ++ after)) (cut-on rule d before stops [] cs after)
+
+-- so a text that is cut before d falls into two
+pub cut-apart : (rule : Rule) (c d : ℕ) (front ds : List ℕ) → ReadsNext rule → StopsBehind rule d (c ∷ onto front []) → rule (c ∷ onto front []) (d ∷ ds) ≡ true
+    → cut rule [] (front ++ c ∷ d ∷ ds) [] ≡ cut rule [] (front ++ c ∷ []) [] ++ cut rule [] (d ∷ ds) []
+cut-apart rule c d front ds next stops breaks =
+    cut-border rule [] front c (d ∷ ds) [] (ap (rule (c ∷ onto front [])) (append-nil (d ∷ ds)) ∙ breaks)
+    ∙ ap₂ ◌++◌ (cut-after rule next [] (front ++ c ∷ []) ((d ∷ ds) ++ [])) (cut-from rule d (c ∷ onto front []) stops ds [])

@@ -12,13 +12,10 @@ use Rattle.ucd_breaks.proofs.GraphemeClusterBreakLemmas.{grapheme_cluster_break_
 use Rattle.ucd_derived.specs.IndicConjunctBreak.{indic_conjunct_break}
 use Rattle.ucd_derived.proofs.Computing.{ucd_derived}
 use Rattle.ucd_derived.proofs.IndicConjunctBreakLemmas.{indic_conjunct_break_stepped}
-use Rattle.ucd_emoji.specs.Binary.{is_extended_pictographic}
-use Rattle.ucd_emoji.proofs.Computing.{ucd_emoji}
-use Rattle.ucd_emoji.proofs.BinaryLemmas.{is_extended_pictographic_stepped}
 use Rattle.ucd_table.proofs.Facts.{Stepped-below}
 use Rattle.unicode_segmentation.specs.Grapheme.{is_grapheme_break}
 use Rattle.unicode_segmentation.specs.Segments.{Rule, cut, segments}
-use Rattle.cluster_text.specs.Borders.{closes, opens, first_opens, last_closes, is_free, is_linking, is_mark, is_plain, is_special}
+use Rattle.cluster_text.specs.Borders.{closes, opens, first_opens, last_closes, is_free, is_joining, is_linking, is_plain, is_special}
 use Rattle.cluster_text.specs.Clusters.{clusters, scalars}
 use Rattle.cluster_text.proofs.BorderLemmas.{apart-closed}
 use Rattle.cluster_text.proofs.CutLemmas.{attach, attach-nil}
@@ -76,11 +73,9 @@ either_first : (a b : Bool) → (a || b) ≡ true → b ≡ false → a ≡ true
 either_first true b e f = refl
 either_first false b e f = sym (sym e ∙ f)
 
-all_three : (a b c : Bool) → a ≡ true → b ≡ true → c ≡ true → (a && (b && c)) ≡ true
-all_three true true true e f g = refl
-all_three true true false e f g = g
-all_three true false c e f g = f
-all_three false b c e f g = e
+both : (a b : Bool) → a ≡ true → b ≡ true → (a && b) ≡ true
+both true b e f = f
+both false b e f = e
 
 module _ (c : ℕ) (below : c < 128) where
   free_below : (is_free (grapheme_cluster_break c) || nat_eq c 13) ≡ true
@@ -91,16 +86,15 @@ module _ (c : ℕ) (below : c < 128) where
   unfolding ucd_derived
   linking_below = Stepped-below indic_conjunct_break indic_conjunct_break_stepped (λ x v. not (is_linking v)) 128 refl c below
 
-  pictographic_below : not (is_extended_pictographic c) ≡ true
-  unfolding ucd_emoji
-  pictographic_below = Stepped-below is_extended_pictographic is_extended_pictographic_stepped (λ x v. not v) 128 refl c below
+  joining_below : not (is_joining (grapheme_cluster_break c)) ≡ true
+  unfolding ucd_breaks
+  joining_below = Stepped-below grapheme_cluster_break grapheme_cluster_break_stepped (λ x v. not (is_joining v)) 128 refl c below
 
   pub ascii_opens : opens c ≡ true
-  unfolding ucd_breaks
-  ascii_opens = Stepped-below grapheme_cluster_break grapheme_cluster_break_stepped (λ x v. not (is_mark v)) 128 refl c below
+  ascii_opens = both _ _ joining_below linking_below
 
   pub ascii_closes : nat_eq c 13 ≡ false → closes c ≡ true
-  ascii_closes other = all_three _ _ _ (either_first _ _ free_below other) linking_below pictographic_below
+  ascii_closes other = both _ _ (either_first _ _ free_below other) linking_below
 
 -- a byte that is not special
 ordinary : (b : ℕ) → is_special b ≡ false → (b < 128) × (nat_eq b 13 ≡ false)

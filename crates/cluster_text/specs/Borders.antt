@@ -4,25 +4,30 @@ use Rattle.std.specs.List.{list_any}
 use Rattle.std.specs.Str.{chars}
 use Rattle.ucd_breaks.specs.GraphemeClusterBreak.{grapheme_cluster_break}
 use Rattle.ucd_breaks.specs.declared.GraphemeClusterBreak.{GraphemeClusterBreak}
-use Rattle.ucd_breaks.specs.declared.GraphemeClusterBreak.TheVariants.{Control, Extend, Lf, Other, SpacingMark, Zwj}
+use Rattle.ucd_breaks.specs.declared.GraphemeClusterBreak.TheVariants.{Control, Extend, Lf, Lv, Lvt, Other, SpacingMark, T, V, Zwj}
 use Rattle.ucd_derived.specs.IndicConjunctBreak.{indic_conjunct_break}
 use Rattle.ucd_derived.specs.declared.IndicConjunctBreak.{IndicConjunctBreak}
 use Rattle.ucd_derived.specs.declared.IndicConjunctBreak.TheVariants as InCb
-use Rattle.ucd_emoji.specs.Binary.{is_extended_pictographic}
 
--- a class that joins nothing but marks: letters, controls, LF
+-- a class that joins nothing behind it but marks, and vowels and ends of Hangul syllables: letters, emoji, controls, LF, Hangul
 abbrev pub is_free : GraphemeClusterBreak → Bool
 is_free Other = true
 is_free Control = true
 is_free Lf = true
+is_free Lv = true
+is_free Lvt = true
+is_free V = true
+is_free T = true
 is_free _ = false
 
--- a class that joins what stands before it
-abbrev pub is_mark : GraphemeClusterBreak → Bool
-is_mark Extend = true
-is_mark Zwj = true
-is_mark SpacingMark = true
-is_mark _ = false
+-- a class that joins what stands before it: marks, and vowels and ends of Hangul syllables
+abbrev pub is_joining : GraphemeClusterBreak → Bool
+is_joining Extend = true
+is_joining Zwj = true
+is_joining SpacingMark = true
+is_joining V = true
+is_joining T = true
+is_joining _ = false
 
 -- the rule on conjuncts looks past such a character
 abbrev pub is_linking : IndicConjunctBreak → Bool
@@ -30,13 +35,13 @@ is_linking InCb.Linker = true
 is_linking InCb.Extend = true
 is_linking _ = false
 
--- behind the character a cluster ends, where none but a mark could go on with it, and no rule looks past it
+-- behind the character a cluster ends, where none that joins could go on with it
 abbrev pub closes : ℕ → Bool
-closes c = is_free (grapheme_cluster_break c) && (not (is_linking (indic_conjunct_break c)) && not (is_extended_pictographic c))
+closes c = is_free (grapheme_cluster_break c) && not (is_linking (indic_conjunct_break c))
 
--- the character goes on with no cluster that such a character ends
+-- the character goes on with no cluster that such a character ends, and no rule looks past it
 abbrev pub opens : ℕ → Bool
-opens c = not (is_mark (grapheme_cluster_break c))
+opens c = not (is_joining (grapheme_cluster_break c)) && not (is_linking (indic_conjunct_break c))
 
 -- the first of the characters is one that opens
 abbrev pub first_opens : List ℕ → Bool

@@ -1,26 +1,23 @@
 ghost use Rattle.std.specs.Prelude.{◌≡◌, ◌++◌, List, IfSome, [], ◌∷◌, ℕ};
 ghost use Rattle.cluster_text.specs.Borders.{closes as closes_on, is_free as is_free_class, is_plain as is_plain_text, is_special};
 ghost use Rattle.std.specs.List.{list_any};
-ghost use Rattle.cluster_text.specs.Borders.{is_linking as is_linking_class, is_mark as is_mark_class, opens as opens_on};
+ghost use Rattle.cluster_text.specs.Borders.{is_linking as is_linking_class, is_joining as is_joining_class, opens as opens_on};
 
 use ucd_breaks::GraphemeClusterBreak;
 use ucd_derived::IndicConjunctBreak;
-use ucd_emoji::is_extended_pictographic;
 
-/// Whether a cluster ends behind the character, where none but a mark could go on with it.
+/// Whether a cluster ends behind the character, where none that joins could go on with it.
 pub(crate) fn closes(c: char) -> bool
     ensures { result ≡ closes_on c }
 {
-    is_free(GraphemeClusterBreak::for_char(c))
-        && !is_linking(IndicConjunctBreak::for_char(c))
-        && !is_extended_pictographic(c)
+    is_free(GraphemeClusterBreak::for_char(c)) && !is_linking(IndicConjunctBreak::for_char(c))
 }
 
-/// Whether the character goes on with no cluster that such a character ends.
+/// Whether the character goes on with no cluster that such a character ends, and no rule looks past it.
 pub(crate) fn opens(c: char) -> bool
     ensures { result ≡ opens_on c }
 {
-    !is_mark(GraphemeClusterBreak::for_char(c))
+    !is_joining(GraphemeClusterBreak::for_char(c)) && !is_linking(IndicConjunctBreak::for_char(c))
 }
 
 /// Whether all characters of the text are of ASCII and none is a CR, so that each is a cluster of its own.
@@ -41,16 +38,26 @@ fn is_free(class: GraphemeClusterBreak) -> bool
 {
     matches!(
         class,
-        GraphemeClusterBreak::Other | GraphemeClusterBreak::Control | GraphemeClusterBreak::Lf
+        GraphemeClusterBreak::Other
+            | GraphemeClusterBreak::Control
+            | GraphemeClusterBreak::Lf
+            | GraphemeClusterBreak::Lv
+            | GraphemeClusterBreak::Lvt
+            | GraphemeClusterBreak::V
+            | GraphemeClusterBreak::T
     )
 }
 
-fn is_mark(class: GraphemeClusterBreak) -> bool
-    ensures { result ≡ is_mark_class class }
+fn is_joining(class: GraphemeClusterBreak) -> bool
+    ensures { result ≡ is_joining_class class }
 {
     matches!(
         class,
-        GraphemeClusterBreak::Extend | GraphemeClusterBreak::Zwj | GraphemeClusterBreak::SpacingMark
+        GraphemeClusterBreak::Extend
+            | GraphemeClusterBreak::Zwj
+            | GraphemeClusterBreak::SpacingMark
+            | GraphemeClusterBreak::V
+            | GraphemeClusterBreak::T
     )
 }
 
