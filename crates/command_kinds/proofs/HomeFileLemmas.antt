@@ -92,6 +92,12 @@ not_loaded_so fault why old new is exactly synced moments cause sure calm = subs
     }
     by_fault load_fault.NoMemory exactly synced cause sure = keeps_file (Err load_fault.NoMemory) old new synced moments calm
 
+-- what is never answered with more beside the replica is never answered
+pub sure_alone : (M : Type 0) (room : Option RoomView) (fault : LoadFault)
+    → IfSome room (λ r. LastsToLoad r → ◌≢◌ {A = Result (Replica × End × M) LoadFault} (Err fault) (Err load_fault.DiskFault)) → IfSome room (λ r. LastsToLoad r → failed fault ≢ failed load_fault.DiskFault)
+sure_alone M None fault sure = tt
+sure_alone M (Some r) fault sure = λ lasts is. sure lasts (let same : fault ≡ load_fault.DiskFault = cc is in ap Err same)
+
 abbrev Appended : Type 0
 Appended = Result End AppendFault
 

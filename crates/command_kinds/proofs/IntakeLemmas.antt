@@ -35,11 +35,11 @@ pub fresh_counts : (t : Tally) → (t.accepted ≡ 0) × ((t.repeated ≡ 0) × 
 fresh_counts t (accepted, (repeated, (conflict, (stray, full)))) =
     λ i. record { accepted = accepted i; repeated = repeated i; conflict = conflict i; stray = stray i; full = full i }
 
-copied-nil : (kept : Option (List Op)) → copied kept [] ≡ kept
+pub copied-nil : (kept : Option (List Op)) → copied kept [] ≡ kept
 copied-nil None = refl
 copied-nil (Some ops) = ap Some (append-nil ops)
 
-copied-append : (kept : Option (List Op)) (a b : List Op) → copied (copied kept a) b ≡ copied kept (a ++ b)
+pub copied-append : (kept : Option (List Op)) (a b : List Op) → copied (copied kept a) b ≡ copied kept (a ++ b)
 copied-append None a b = refl
 copied-append (Some ops) a b = ap Some (append_assoc ops a b)
 

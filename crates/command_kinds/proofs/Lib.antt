@@ -13,6 +13,7 @@ pub mod EditLemmas
 pub mod SavedLemmas
 pub mod SavingLemmas
 pub mod TakeLemmas
+pub mod CopyingLemmas
 pub mod MergeLemmas
 pub mod GivenLemmas
 pub mod SavesLemmas

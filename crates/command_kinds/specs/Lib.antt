@@ -13,7 +13,6 @@ pub mod Report
 pub mod New
 pub mod Saving
 pub mod Take
-pub mod Merge
 pub mod Notes
 pub mod Sync
 pub mod Edit

@@ -20,9 +20,9 @@ use Rattle.replica_file.specs.declared.load_file.LoadFault.{LoadFault}
 use Rattle.replica_file.specs.declared.load_file.LoadFault.TheVariants as load_fault
 use Rattle.command_kinds.specs.Changes.{HasRoom, StaysCalm, notes_room}
 use Rattle.command_kinds.specs.declared.refusal.Detail.{Detail}
-use Rattle.command_kinds.specs.declared.refusal.Detail.TheVariants.{Nothing, Number, Name}
+use Rattle.command_kinds.specs.declared.refusal.Detail.TheVariants.{Nothing, Number, Times, Name}
 use Rattle.command_kinds.specs.declared.refusal.Refusal.{Refusal}
-use Rattle.command_kinds.specs.declared.refusal.Refusal.TheVariants.{Words, BadFrame, CutShort, BadLine, NoSectionAtLine, OutOfRangeAtLine, NotReplica, BadBatch, NotEmpty, TooMany, IdsSpent, TooLong, BatchTooLong, BadReply, RelayRefused, ReplyCutShort, NoSuchPlaces, NoSection, NoPlace, StampsSpent, BaseDiffers, BadDraft, EmptyDraft, NoMoment, OwnSince, OutOfRange, NoVersion, Outside, NoMemory}
+use Rattle.command_kinds.specs.declared.refusal.Refusal.TheVariants.{Words, BadFrame, CutShort, BadLine, NoSectionAtLine, OutOfRangeAtLine, NotReplica, BadBatch, NotEmpty, TooMany, IdsSpent, TooLong, BatchTooLong, BadReply, RelayRefused, ReplyCutShort, NoSuchPlaces, NoSection, NoPlace, StampsSpent, BaseDiffers, BadDraft, EmptyDraft, NoMoment, OwnSince, OutOfRange, NoComment, PassageNotFound, FoundOften, NoVersion, Outside, NoMemory}
 use Rattle.command_kinds.specs.declared.status.Status.{Status}
 use Rattle.command_kinds.specs.declared.version_name.VersionName.{VersionName}
 use Rattle.version_views.specs.declared.limits.TheConstants.{LONGEST_NAME}
@@ -72,6 +72,9 @@ row_of EmptyDraft = row status.BadInput (codes "empty draft") Nothing
 row_of (NoMoment moment) = row status.BadInput (codes "no moment ") (Number moment)
 row_of (OwnSince moment) = row status.BadInput (codes "own operations since ") (Number moment)
 row_of OutOfRange = row status.BadInput (codes "out of range") Nothing
+row_of (NoComment number) = row status.BadInput (codes "no comment ") (Number number)
+row_of PassageNotFound = row status.BadInput (codes "passage not found") Nothing
+row_of (FoundOften count) = row status.BadInput (codes "passage found ") (Times count)
 row_of (NoVersion name) = row status.BadInput (codes "no version ") (Name name)
 row_of Outside = row status.OutsideFault (codes "outside fault") Nothing
 row_of NoMemory = row status.NoMemory (codes "no memory") Nothing
@@ -88,9 +91,10 @@ detail_of refusal = (row_of refusal).detail
 abbrev pub detail_text : Detail → List ℕ
 detail_text Nothing = []
 detail_text (Number n) = decimal n
+detail_text (Times n) = decimal n ++ codes " times"
 detail_text (Name name) = name_bytes name
 
--- the words, the number or the name where there is one, LF
+-- the words, the number or the name where there is one, with `times` behind a number of places, LF
 abbrev pub refusal_line : Refusal → List ℕ
 refusal_line refusal = words_of refusal ++ detail_text (detail_of refusal) ++ 10 ∷ []
 

@@ -1,6 +1,7 @@
 //! What commands have in common, the kinds of commands, and the commands that need operations alone.
 #![tactic(auto)]
 
+mod copying;
 mod counts;
 mod creating;
 mod edit;
@@ -26,7 +27,7 @@ pub use counts::{Counts, Note, SectionCounts};
 pub use creating::new_file;
 pub use edit::Script;
 pub use giving::{Gives, behind, last_of, save_given};
-pub use home_file::load_file;
+pub use home_file::{load_file, load_file_moments};
 pub use kept::Kept;
 pub use merge::OtherFile;
 pub use noting::{MakesNote, save_note};

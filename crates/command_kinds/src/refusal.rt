@@ -70,6 +70,12 @@ pub enum Refusal {
     OwnSince(u32),
     /// The section has fewer characters.
     OutOfRange,
+    /// No remark has this number, counted from 1.
+    NoComment(u32),
+    /// A passage stands nowhere in what is shown.
+    PassageNotFound,
+    /// A passage stands at more places than one: how many.
+    FoundOften(u32),
     /// The file has no version of this name.
     NoVersion(VersionName),
     Outside,
@@ -81,6 +87,8 @@ pub enum Refusal {
 enum Detail {
     Nothing,
     Number(u64),
+    /// A number with `times` behind it.
+    Times(u64),
     Name(VersionName),
 }
 
@@ -154,6 +162,13 @@ impl Refusal {
                 Detail::Number(at.into()),
             ),
             Self::OutOfRange => Row(Status::BadInput, "out of range", Detail::Nothing),
+            Self::NoComment(at) => Row(Status::BadInput, "no comment ", Detail::Number(at.into())),
+            Self::PassageNotFound => Row(Status::BadInput, "passage not found", Detail::Nothing),
+            Self::FoundOften(count) => Row(
+                Status::BadInput,
+                "passage found ",
+                Detail::Times(count.into()),
+            ),
             Self::NoVersion(name) => Row(Status::BadInput, "no version ", Detail::Name(name)),
             Self::Outside => Row(Status::OutsideFault, "outside fault", Detail::Nothing),
             Self::NoMemory => Row(Status::NoMemory, "no memory", Detail::Nothing),
@@ -297,6 +312,13 @@ fn write_line<N: Out>(notes: &mut N, refusal: Refusal) -> Result<(), Failed>
         Detail::Number(number) => {
             let mut buffer = Buffer::new();
             write_pieces(notes, &[words, buffer.format(number).as_bytes(), b"\n"])
+        }
+        Detail::Times(number) => {
+            let mut buffer = Buffer::new();
+            write_pieces(
+                notes,
+                &[words, buffer.format(number).as_bytes(), b" times", b"\n"],
+            )
         }
         Detail::Name(name) => write_pieces(notes, &[words, name.as_bytes(), b"\n"]),
     }

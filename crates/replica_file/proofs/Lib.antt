@@ -12,3 +12,4 @@ pub mod WalkLemmas
 pub mod ImageLemmas
 pub mod OnceLemmas
 pub mod LoadLemmas
+pub mod MomentLemmas

@@ -15,7 +15,7 @@ use Rattle.replica_file.specs.Load.{LoadAnswerIs, LoadAnswersBy, LacksMemory, Lo
 use Rattle.replica_file.proofs.OnceLemmas.{answers_exactly}
 
 -- a sync changes nothing of what a read gives
-seen_stays : (P : List ℕ → Type 0) (o p : Option History) → p ≡ after durable o → IfSome p (λ h. P h.last.seen) → IfSome o (λ h. P h.last.seen)
+pub seen_stays : (P : List ℕ → Type 0) (o p : Option History) → p ≡ after durable o → IfSome p (λ h. P h.last.seen) → IfSome o (λ h. P h.last.seen)
 seen_stays P None p is told = tt
 seen_stays P (Some h) p is told = subst (λ q. IfSome q (λ k. P k.last.seen)) is told
 

@@ -1,5 +1,5 @@
 -- Loading comes to one answer.
-use Rattle.std.proofs.Common.{◌≡◌, ◌≢◌, ℕ, ◌+◌, ◌<◌, ◌≤◌, List, [], ◌∷◌, ◌++◌, length, refl, ap, sym, subst, ◌∙◌, arith, append_assoc}
+use Rattle.std.proofs.Common.{◌≡◌, ◌≢◌, ℕ, ◌+◌, ◌≤◌, List, [], ◌∷◌, ◌++◌, length, refl, ap, sym, subst, ◌∙◌, arith, append_assoc}
 use Rattle.std.specs.Prelude.{Option, Some, None, IfSome, IfOk, IfErr, Result, Ok, Err}
 use Rattle.std.specs.List.{AllByRecursion}
 use Rattle.std.proofs.lemmas.Bool.{false≢true}
@@ -17,7 +17,7 @@ use Rattle.replica_file.proofs.AppendLemmas.{read_once, same_content}
 use Rattle.replica_file.proofs.LoadingLemmas.{never_both, still_many}
 
 -- open slots of a file, wherever they stop, are the first ones of all
-first_ones : (k m : ℕ) (bs cs : List Batch) (r q : List ℕ) → AllByRecursion IsBatch bs → AllByRecursion IsBatch cs → open_slots bs ++ r ≡ open_slots cs ++ q → m ≡ k + length cs → k + length bs ≤ last_slot
+pub first_ones : (k m : ℕ) (bs cs : List Batch) (r q : List ℕ) → AllByRecursion IsBatch bs → AllByRecursion IsBatch cs → open_slots bs ++ r ≡ open_slots cs ++ q → m ≡ k + length cs → k + length bs ≤ last_slot
     → r ≢ [] → Ends m q → (more : List Batch) × (cs ≡ bs ++ more)
 first_ones k m [] cs r q a b e mk few f y = (cs, refl)
 first_ones k m (b ∷ bs) [] r q a c e mk few f y =

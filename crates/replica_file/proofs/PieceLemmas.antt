@@ -10,15 +10,15 @@ use Rattle.outer_ports.specs.Sources.{SourceView}
 use Rattle.origin_model.specs.declared.grammar.Grammar.{Grammar}
 use Rattle.origin_model.specs.frames.Frames.{IsFrame, IsPartial, Reads, Whole}
 use Rattle.origin_model.proofs.SharedLemmas.{bytes_of, ops_of}
-use Rattle.origin_model.specs.taking.Taking.{answer, is_kept}
+use Rattle.op_frame.specs.NextRuns.{GivesMany}
 use Rattle.op_frame.specs.Readers.{AnswersBy, Chains, FrameReading, Gave, Nexts, to_give}
 use Rattle.op_frame.specs.declared.fault.FrameFault.TheVariants as frame_fault
 use Rattle.origin_model.specs.edits.State.{State}
-use Rattle.replica_file.specs.Loading.{Feeds, IsSameButHeld}
-use Rattle.replica_file.specs.Pieces.{AreBad, IsReading, Lacks, PieceSteps, TakesPiece}
+use Rattle.replica_file.specs.Loading.{Feeds, IsSameButHeld, WantsMemory}
+use Rattle.replica_file.specs.Pieces.{AreBad, IsReading, Lacks, LacksBehind, PieceSteps, TakesPiece}
 use Rattle.replica_file.specs.Wanting.{AreWhole, ForContent, ForOperation, ForPiece, IsWanting}
 use Rattle.replica_file.proofs.PartLemmas.{starts_none}
-use Rattle.replica_file.proofs.LoadingLemmas.{feeds_none}
+use Rattle.replica_file.proofs.LoadingLemmas.{feeds_none, feeds_then, same_then}
 use Rattle.replica_file.specs.declared.stop.Stop.{Stop}
 use Rattle.replica_file.specs.declared.stop.Stop.TheVariants as stop_is
 
@@ -75,23 +75,25 @@ module _ (bytes : List ℕ) (ops : List Op) (old new : FrameReading) (before aft
       let longer : old.limit < length bytes = follows.ends.0 in
       absurd (omega (arith, longer, reading.fits))
 
-  -- an operation more was given
-  pub gave_one : (op : Op) → Chains old new before after (Ok (Some op)) → new.fault ≡ None → new.limit ≡ old.limit → after.sure ≡ before.sure → IsReading bytes (ops ++ op ∷ []) new after
-  gave_one op chains no_fault limit sure =
-      let follows = chains (Some bytes) ops reading.gave in
-      record {
-        gave = follows.gave (λ is. cc is);
-        no_fault = no_fault;
-        fits = reading.fits ∙ sym limit;
-        sure = sure ∙ reading.sure;
-      }
-
-  abbrev wants : State → Bool → Type 0
-  wants r was = IsWanting old.grammar (λ rest. rest ≡ bytes) bytes ops r.hold r.most r.held (was ≡ true)
+  -- some operations more were given
+  pub gave_more : (more : List Op) → GivesMany old new before after more → after.sure ≡ before.sure → IsReading bytes (ops ++ more) new after
+  gave_more more gives sure = record {
+    gave = gives.gave (Some bytes) ops reading.gave;
+    no_fault = gives.no_fault;
+    fits = reading.fits ∙ sym gives.limit;
+    sure = sure ∙ reading.sure;
+  }
 
   -- memory was wanting for the title of the next frame
-  pub title : (r : State) (was : Bool) → Nexts old new before after (Err frame_fault.NoMemory) → wants r was
-  title r was nexts = by (to_give old before.left) reading.gave.split (nexts.answer none)
+  pub title : (r : State) (was : Bool) → Nexts old new before after (Err frame_fault.NoMemory) → LacksBehind old.grammar bytes ops was r
+  title r was nexts = record {
+    more = [];
+    now = was;
+    new = r;
+    feeds = feeds_none was r;
+    same = refl;
+    wants = subst (λ (l : List Op). wants r was l) (sym (append-nil ops)) (by (to_give old before.left) reading.gave.split (nexts.answer none));
+  }
     where
       none : old.todo ≡ []
       none = nexts.advances.stays.none_before
@@ -99,27 +101,44 @@ module _ (bytes : List ℕ) (ops : List Op) (old new : FrameReading) (before aft
       ops_are : ops ≡ ops_of reading.gave.found
       ops_are = sym (append-nil ops) ∙ ap (λ (l : List Op). ops ++ l) (sym none) ∙ reading.gave.ops_are
 
+      wants : State → Bool → List Op → Type 0
+      wants r was given = IsWanting old.grammar (λ rest. rest ≡ bytes) bytes given r.hold r.most r.held (was ≡ true)
+
       by : (left : Option (List ℕ)) → Some bytes ≡ prepend_known (bytes_of reading.gave.found) left
-          → IfSome left (AnswersBy old.grammar (Err frame_fault.NoMemory) old.offset (old.limit - old.offset)) → wants r was
+          → IfSome left (AnswersBy old.grammar (Err frame_fault.NoMemory) old.offset (old.limit - old.offset)) → wants r was ops
       by None told answer = absurd (let no : Some bytes ≡ None = told in cc no)
       by (Some rest) told answer =
           ForContent rest (record { found = reading.gave.found; are_frames = reading.gave.are_frames; ops_are = ops_are; split = same_Some _ _ told }) (answer.memory refl)
 
-  -- memory was wanting for the operation that was given
-  pub operation : (r : State) (was : Bool) (op : Op) → Chains old new before after (Ok (Some op)) → new.grammar ≡ old.grammar → (was ≡ true) × (is_kept (answer r.hold r.most r.held op) ≡ true) → wants r was
-  operation r was op chains same kept = by (to_give new after.left) gave.split
+  -- memory was wanting for one of the operations that were given
+  pub operation : (r : State) (was : Bool) (more : List Op) → GivesMany old new before after more → WantsMemory was r more → LacksBehind old.grammar bytes ops was r
+  operation r was more gives lacks = record {
+    more = lacks.front;
+    now = true;
+    new = lacks.reached;
+    feeds = lacks.feeds;
+    same = lacks.same;
+    wants = by (to_give new after.left) gave.split;
+  }
     where
-      gave : Gave (Some bytes) (ops ++ op ∷ []) new after.left
-      gave = (chains (Some bytes) ops reading.gave).gave (λ is. cc is)
+      gave : Gave (Some bytes) (ops ++ more) new after.left
+      gave = gives.gave (Some bytes) ops reading.gave
 
-      by : (left : Option (List ℕ)) → Some bytes ≡ prepend_known (bytes_of gave.found) left → wants r was
+      -- those before the one, that one, and those behind it
+      parts : (ops ++ more) ++ new.todo ≡ (ops ++ lacks.front) ++ lacks.op ∷ (lacks.more ++ new.todo)
+      parts = ap (λ (l : List Op). (ops ++ l) ++ new.todo) lacks.parts ∙ append_assoc ops (lacks.front ++ lacks.op ∷ lacks.more) new.todo
+          ∙ ap (λ (l : List Op). ops ++ l) (append_assoc lacks.front (lacks.op ∷ lacks.more) new.todo)
+          ∙ sym (append_assoc ops lacks.front (lacks.op ∷ (lacks.more ++ new.todo)))
+
+      by : (left : Option (List ℕ)) → Some bytes ≡ prepend_known (bytes_of gave.found) left
+          → IsWanting old.grammar (λ rest. rest ≡ bytes) bytes (ops ++ lacks.front) lacks.reached.hold lacks.reached.most lacks.reached.held (true ≡ true)
       by None told = absurd (let no : Some bytes ≡ None = told in cc no)
-      by (Some rest) told = ForOperation op new.todo rest (record {
+      by (Some rest) told = ForOperation lacks.op (lacks.more ++ new.todo) rest (record {
         found = gave.found;
-        are_frames = subst (λ (g : Grammar). All (IsFrame g) gave.found) same gave.are_frames;
-        ops_are = sym (append_assoc ops (op ∷ []) new.todo) ∙ gave.ops_are;
+        are_frames = subst (λ (g : Grammar). All (IsFrame g) gave.found) gives.grammar gave.are_frames;
+        ops_are = sym parts ∙ gave.ops_are;
         split = same_Some _ _ told;
-      }) kept.0 kept.1
+      }) refl lacks.kept
 
 -- memory was wanting for a piece, of which nothing was taken in yet
 pub lacks_none : (grammar : Grammar) (Begins : List ℕ → Type 0) (bytes : List ℕ) (was : Bool) (old : State) → Begins bytes → Lacks grammar Begins bytes was old
@@ -135,7 +154,7 @@ lacks_none grammar Begins bytes was old begins = record {
 module _ (grammar : Grammar) (bytes : List ℕ) (ops : List Op) (was now : Bool) (old new : State) (reader : FrameReading) (source : SourceView) where
   -- a step that answers so
   pub steps_wanting : (result : Result (Option ℕ) Stop) (stop : Stop) → result ≡ Err stop → stop ≡ stop_is.NoMemory
-      → IsWanting grammar (λ rest. rest ≡ bytes) bytes ops old.hold old.most old.held (was ≡ true) → PieceSteps grammar bytes ops was old now new reader source result
+      → LacksBehind grammar bytes ops was old → PieceSteps grammar bytes ops was old now new reader source result
   steps_wanting result stop is same wanting = subst (PieceSteps grammar bytes ops was old now new reader source) (sym (is ∙ ap (λ (s : Stop). Err s) same)) wanting
 
   -- the same step by a grammar that is the same
@@ -147,7 +166,15 @@ module _ (grammar : Grammar) (bytes : List ℕ) (ops : List Op) (was now : Bool)
   pub steps_lacks : (first : Bool) (begin : State) (stop : Stop) → Feeds first begin was old ops → IsSameButHeld begin old → PieceSteps grammar bytes ops was old now new reader source (Err stop)
       → stop ≡ stop_is.NoMemory → Lacks grammar (λ rest. rest ≡ bytes) bytes first begin
   steps_lacks first begin stop feeds same steps is =
-      record { ops = ops; now = was; new = old; feeds = feeds; same = same; wants = subst (λ s. PieceSteps grammar bytes ops was old now new reader source (Err s)) is steps }
+      let lacks : LacksBehind grammar bytes ops was old = subst (λ s. PieceSteps grammar bytes ops was old now new reader source (Err s)) is steps in
+      record {
+        ops = ops ++ lacks.more;
+        now = lacks.now;
+        new = lacks.new;
+        feeds = feeds_then first was lacks.now begin old lacks.new ops lacks.more feeds lacks.feeds;
+        same = same_then begin old lacks.new same lacks.same;
+        wants = lacks.wants;
+      }
 
   -- a step that comes to bad bytes
   pub steps_bad : (stop : Stop) → PieceSteps grammar bytes ops was old now new reader source (Err stop) → stop ≡ stop_is.Bad → AreBad grammar bytes

@@ -1,5 +1,5 @@
 -- One open slot of a file, and what is wrong with one.
-use Rattle.std.proofs.Common.{◌≡◌, inl, inr, ℕ, ◌+◌, ◌<◌, ◌≤◌, List, ◌++◌, length, take, drop, ap, sym, subst, ◌∙◌, arith, length-drop, append_assoc}
+use Rattle.std.proofs.Common.{◌≡◌, inl, inr, ℕ, ◌+◌, ◌≤◌, List, [], ◌++◌, length, take, drop, ap, refl, sym, subst, ◌∙◌, arith, length-drop, append_assoc}
 use Rattle.std.specs.Prelude.{Bool, Option, Some, None, IfSome, IfOk, Result, Ok, Err}
 use Rattle.outer_ports.specs.disk.Moments.{History}
 use Rattle.replica_file.specs.declared.stop.Stop.{Stop}
@@ -10,10 +10,11 @@ use Rattle.origin_model.specs.frames.Frames.{Reads, Whole}
 use Rattle.origin_model.specs.edits.State.{State}
 use Rattle.replica_file.specs.Pieces.{Lacks}
 use Rattle.replica_file.specs.Slots.{HasNoFrames, HasNoWord, IsGate, IsWord, LacksInSlot, TakesFrames, TakesSlot}
-use Rattle.replica_file.specs.Wanting.{BeginsPiece, part_of}
+use Rattle.replica_file.specs.Wanting.{BeginsPiece, ForPiece, part_of}
 use Rattle.replica_file.specs.declared.gate.Gate.{Gate}
 use Rattle.replica_file.specs.declared.slot.Word.{Word}
-use Rattle.replica_file.proofs.PartLemmas.{never_whole}
+use Rattle.replica_file.proofs.PartLemmas.{never_whole, starts_none}
+use Rattle.replica_file.proofs.LoadingLemmas.{feeds_none}
 use Rattle.replica_file.proofs.ReadingLemmas.{drop_twice}
 
 module _ (bytes : List ℕ) (at : ℕ) where
@@ -46,6 +47,17 @@ module _ (bytes : List ℕ) (at : ℕ) where
       short = omega (arith, is.len_is, short);
       lacks = subst (λ (n : ℕ). Lacks word.grammar (BeginsPiece word.grammar bytes (at + 5) n) (part_of bytes (at + 5) n) was old) is.len_is lacks;
     }
+
+    -- memory was wanting before the first of them was read
+    pub slot_begins : (was : Bool) (old : State) → word.len ≤ LONGEST_BATCH → LacksInSlot bytes at was old
+    slot_begins was old short = slot_lacks was old short (record {
+      ops = [];
+      now = was;
+      new = old;
+      feeds = feeds_none was old;
+      same = refl;
+      wants = ForPiece (part_of bytes (at + 5) word.len) (starts_none word.grammar (part_of bytes (at + 5) word.len)) (record { taken = 0; pieces = []; are_pieces = refl; rest_is = refl });
+    })
 
     -- no byte is there behind them
     pub bad_gate : length (part_of bytes (at + 5) word.len) ≡ word.len → length bytes ≤ at + 5 + word.len → (slot : ℕ) → IsNoBatch slot behind

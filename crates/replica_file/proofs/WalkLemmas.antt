@@ -1,5 +1,5 @@
 -- The slots of a file one after another, and what loading comes to at each end of the walk.
-use Rattle.std.proofs.Common.{◌≡◌, ◌≢◌, ◌⊎◌, ℕ, ◌+◌, ◌<◌, List, [], ◌∷◌, ◌++◌, length, drop, refl, ap, sym, subst, ◌∙◌, arith, append_assoc, length-append, drop-cons, add-one}
+use Rattle.std.proofs.Common.{◌≡◌, ◌≢◌, ℕ, ◌+◌, ◌<◌, List, [], ◌∷◌, ◌++◌, length, drop, refl, ap, sym, subst, ◌∙◌, arith, append_assoc, length-append, drop-cons, add-one}
 use Rattle.std.specs.Prelude.{Bool, true, false, Some, slice_get}
 use Rattle.std.proofs.lemmas.Grind.{flat_map-append}
 use Rattle.std.proofs.lemmas.List.{append-nil}
@@ -18,7 +18,7 @@ use Rattle.replica_file.specs.Slots.{IsGate, LacksInSlot, TakesSlot, Walked, Wal
 use Rattle.replica_file.specs.Wanting.{BeginsPiece, ForContent, ForOperation, ForPiece, IsWanting, part_of}
 
 -- a gate, and what stands behind it
-gate_behind : (bytes : List ℕ) (at byte : ℕ) → slice_get bytes at ≡ Some byte → drop at bytes ≡ byte ∷ drop (at + 1) bytes
+pub gate_behind : (bytes : List ℕ) (at byte : ℕ) → slice_get bytes at ≡ Some byte → drop at bytes ≡ byte ∷ drop (at + 1) bytes
 gate_behind bytes at byte is =
     drop-cons bytes at 0 (slice_get_within bytes at byte is) ∙ (λ i. get_or_from_slice_get bytes at byte 0 is i ∷ drop (sym (add-one at) i) bytes)
 
@@ -130,6 +130,10 @@ module _ (bytes : List ℕ) (slots : ℕ) (gate : Gate) (r : State) (w : Walked 
         replica_is = ap (λ (t : State). t.number) same ∙ w.replica_is;
         hold_is = ap (λ (t : State). t.hold) same ∙ w.hold_is;
       }
+
+      pub walk_on_adds : (found : now ≡ true) → (walk_on found).batches ≡ all
+      unfolding walk_on
+      walk_on_adds found = refl
 
       -- an operation of the slot is one too many
       pub walk_many : (most : ℕ) → r.most ≡ most → now ≡ false → FindsTooMany most bytes

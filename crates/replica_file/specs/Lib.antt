@@ -8,4 +8,5 @@ pub mod Looks
 pub mod Loading
 pub mod Pieces
 pub mod Slots
+pub mod Moments
 pub mod Laws

@@ -1,8 +1,8 @@
 -- A replica on its way, that takes in a file's operations.
-use Rattle.std.specs.Prelude.{◌≡◌, Bool, true, false, List, ◌++◌}
+use Rattle.std.specs.Prelude.{◌≡◌, Bool, true, false, List, ◌++◌, ◌∷◌}
 use Rattle.fugue_ids.specs.declared.op.Op.{Op}
 use Rattle.fugue_ids.specs.declared.limits.TheConstants.{MOST_OPERATIONS}
-use Rattle.origin_model.specs.taking.Taking.{IsSettled, held}
+use Rattle.origin_model.specs.taking.Taking.{IsSettled, answer, held, is_kept}
 use Rattle.origin_model.specs.edits.State.{State, Stands}
 use Rattle.replica_file.specs.Load.{AreTooMany, FindPlace}
 
@@ -30,3 +30,15 @@ pub record Feeds (was : Bool) (old : State) (now : Bool) (new : State) (ops : Li
 -- the replica differs in what it holds alone
 abbrev pub IsSameButHeld : State → State → Type 0
 IsSameButHeld old new = new ≡ record old { held = new.held }
+
+-- The first of the operations were taken in, and memory was wanting for the next one, which would be kept: all before
+-- it found their place.
+pub record WantsMemory (was : Bool) (old : State) (ops : List Op) : Type 0 where
+  pub front : List Op
+  pub op : Op
+  pub more : List Op
+  pub parts : ops ≡ front ++ op ∷ more
+  pub reached : State
+  pub feeds : Feeds was old true reached front
+  pub same : IsSameButHeld old reached
+  pub kept : is_kept (answer reached.hold reached.most reached.held op) ≡ true

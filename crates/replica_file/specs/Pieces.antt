@@ -1,5 +1,5 @@
 -- The frames of a piece of a file.
-use Rattle.std.specs.Prelude.{◌≡◌, ℕ, ◌≤◌, List, [], ◌∷◌, ◌++◌, length, Option, Some, None, Bool, true, Result, Ok, Err}
+use Rattle.std.specs.Prelude.{◌≡◌, ℕ, List, ◌++◌, length, Option, Some, None, Bool, true, Result, Ok, Err}
 use Rattle.fugue_ids.specs.declared.op.Op.{Op}
 use Rattle.outer_ports.specs.Sources.{SourceView}
 use Rattle.origin_model.specs.declared.grammar.Grammar.{Grammar}
@@ -25,13 +25,22 @@ pub record AreBad (grammar : Grammar) (bytes : List ℕ) : Type 0 where
   pub starts : Starts grammar bytes ops rest
   pub bad : IsBad grammar rest
 
--- one step over a piece: an operation more was taken in, or the whole frames are over, or what follows is bad, or memory was wanting for it
+-- more operations were taken in behind these, and memory was wanting for what stands behind them
+pub record LacksBehind (grammar : Grammar) (bytes : List ℕ) (ops : List Op) (was : Bool) (old : State) : Type 0 where
+  pub more : List Op
+  pub now : Bool
+  pub new : State
+  pub feeds : Feeds was old now new more
+  pub same : IsSameButHeld old new
+  pub wants : IsWanting grammar (λ rest. rest ≡ bytes) bytes (ops ++ more) new.hold new.most new.held (now ≡ true)
+
+-- one step over a piece: some operations more were taken in, or the whole frames are over, or what follows is bad, or memory was wanting
 abbrev pub PieceSteps : Grammar → List ℕ → List Op → (was : Bool) (old : State) (now : Bool) (new : State) → FrameReading → SourceView → Result (Option ℕ) Stop → Type 0
-PieceSteps grammar bytes ops was old now new reader source (Ok None) = (op : Op) × IsReading bytes (ops ++ op ∷ []) reader source × Feeds was old now new (op ∷ [])
+PieceSteps grammar bytes ops was old now new reader source (Ok None) = (more : List Op) × IsReading bytes (ops ++ more) reader source × Feeds was old now new more
 PieceSteps grammar bytes ops was old now new reader source (Ok (Some len)) = AreWhole grammar bytes len ops × (now ≡ was) × (new ≡ old)
 PieceSteps grammar bytes ops was old now new reader source (Err Bad) = AreBad grammar bytes
 PieceSteps grammar bytes ops was old now new reader source (Err Disk) = ⊥
-PieceSteps grammar bytes ops was old now new reader source (Err NoMemory) = IsWanting grammar (λ rest. rest ≡ bytes) bytes ops old.hold old.most old.held (was ≡ true)
+PieceSteps grammar bytes ops was old now new reader source (Err NoMemory) = LacksBehind grammar bytes ops was old
 
 -- the whole frames at the front of a piece were taken in
 pub record TakesPiece (grammar : Grammar) (bytes : List ℕ) (len : ℕ) (was : Bool) (old : State) (now : Bool) (new : State) : Type 0 where

@@ -10,6 +10,7 @@ mod gate;
 mod header;
 mod load_file;
 mod loading;
+mod moments;
 mod piece;
 mod reading;
 mod slot;
@@ -18,4 +19,4 @@ mod stop;
 
 pub use appending::{AppendFault, append};
 pub use creating::{CreateFault, create};
-pub use load_file::{End, LoadFault, load, one_image};
+pub use load_file::{End, LoadFault, load, load_moments, moments_once, one_image};

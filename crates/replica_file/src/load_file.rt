@@ -8,6 +8,7 @@ ghost use Rattle.replica_file.specs.Ends.{EndsAt, IsWithinReach};
 ghost use Rattle.replica_file.specs.Load.{LoadAnswersBy, LacksMemory, LastsToLoad, Loads};
 ghost use Rattle.replica_file.specs.Loading.{IsReady};
 ghost use Rattle.replica_file.specs.Looks.{LooksOnly, ReadsNoFurther};
+ghost use Rattle.replica_file.specs.Moments.{HasMoments, OneListOfMoments, loaded_of};
 ghost use Rattle.replica_file.specs.Slots.{SlotStopsFor};
 ghost use Rattle.replica_file.specs.Laws.{OneImage};
 
@@ -99,16 +100,61 @@ pub fn load<H: Disk>(alloc: Global, disk: &mut H, most: u32) -> Result<(Replica,
     ensures calm_told { DiskTells (H.seen disk.old) → result ≢ Err LoadFault.DiskFault
         → (H.seen disk.new).faults ≡ (H.seen disk.old).faults }
 {
+    match load_moments(alloc, disk, most) {
+        Ok((replica, end, _moments)) => Ok((replica, end)),
+        Err(fault) => Err(fault),
+    }
+}
+
+/// The same, with the moments of the file: of each batch with which more operations were accepted, how many were accepted
+/// then.
+pub fn load_moments<H: Disk>(
+    alloc: Global,
+    disk: &mut H,
+    most: u32,
+) -> Result<(Replica, End, Vec<u32>), LoadFault>
+    requires some { 0 < most }
+    requires within { most ≤ MOST_OPERATIONS }
+    ensures exactly { IfSome (H.seen disk.old).past (λ h. LoadAnswersBy (loaded_of result) most h.last.seen) }
+    ensures memory { result ≡ Err LoadFault.NoMemory
+        → IfSome (H.seen disk.old).past (λ h. LacksMemory most h.last.seen) }
+    ensures ready { IfOk result (λ loaded. IsReady loaded.0) }
+    ensures ends { IfOk result (λ loaded. IfSome (H.seen disk.new).past (λ h. EndsAt h.last loaded.1)) }
+    ensures reaches { IfOk result (λ loaded. IsWithinReach loaded.1) }
+    ensures synced { ((H.seen disk.new).past ≡ after durable (H.seen disk.old).past)
+        ⊎ ((result ≡ Err LoadFault.DiskFault) × ((H.seen disk.new).past ≡ (H.seen disk.old).past)) }
+    ensures moments_are { IfOk result (λ loaded. IfSome (H.seen disk.old).past (λ h.
+        HasMoments h.last.seen loaded.2.items)) }
+    ensures moments { IfSome (H.seen disk.old).past (λ h. LeavesOnlyTo h (H.seen disk.new).past (MayLeave h)) }
+    ensures room { ((H.seen disk.new).room ≡ spent 0 (H.seen disk.old).room)
+        ⊎ ((result ≡ Err LoadFault.DiskFault) × ((H.seen disk.new).room ≡ (H.seen disk.old).room)) }
+    ensures no_size { (H.seen disk.new).sizes ≡ (H.seen disk.old).sizes }
+    ensures reach { IfOk result
+        (λ loaded. ReadsNoFurther (loaded.1.at + 1) (H.seen disk.old) (H.seen disk.new)) }
+    ensures later { (H.seen disk.old).faults ≤ (H.seen disk.new).faults }
+    ensures cause { result ≡ Err LoadFault.DiskFault → Rose (H.seen disk.old).faults (H.seen disk.new).faults }
+    ensures sure { IfSome (H.seen disk.old).room (λ room. LastsToLoad room → result ≢ Err LoadFault.DiskFault) }
+    ensures calm { IfSome (H.seen disk.old).room (λ room.
+        LastsToLoad room → (H.seen disk.new).faults ≡ (H.seen disk.old).faults) }
+    ensures calm_told { DiskTells (H.seen disk.old) → result ≢ Err LoadFault.DiskFault
+        → (H.seen disk.new).faults ≡ (H.seen disk.old).faults }
+{
     disk.sync()?;
     read_all(alloc, disk, most)
 }
 
 /// Loads what a read gives.
-fn read_all<H: Disk>(alloc: Global, disk: &mut H, most: u32) -> Result<(Replica, End), LoadFault>
+fn read_all<H: Disk>(
+    alloc: Global,
+    disk: &mut H,
+    most: u32,
+) -> Result<(Replica, End, Vec<u32>), LoadFault>
     requires some { 0 < most }
     requires within { most ≤ MOST_OPERATIONS }
     ensures loads { IfOk result
         (λ loaded. IfSome (H.seen disk.old).past (λ h. Loads most h.last.seen loaded.0 loaded.1)) }
+    ensures moments_are { IfOk result
+        (λ loaded. IfSome (H.seen disk.old).past (λ h. HasMoments h.last.seen loaded.2.items)) }
     ensures stops { IfErr result (λ fault. IfSome (H.seen disk.old).past (λ h. SlotStopsFor most h.last.seen fault)) }
     ensures ready { IfOk result (λ loaded. IsReady loaded.0) }
     ensures reaches { IfOk result (λ loaded. IsWithinReach loaded.1) }
@@ -118,8 +164,9 @@ fn read_all<H: Disk>(alloc: Global, disk: &mut H, most: u32) -> Result<(Replica,
 {
     let front = read_front(disk)?;
     let mut loading = Loading::new(alloc, front.header, most);
-    match take_slots(alloc, disk, front.gate, most, &mut loading) {
-        Ok(end) => Ok((loading.into_replica(), end)),
+    let mut moments = Vec::new(alloc);
+    match take_slots(alloc, disk, front.gate, most, &mut loading, &mut moments) {
+        Ok(end) => Ok((loading.into_replica(), end, moments)),
         Err(fault) => {
             loading.into_replica().discard();
             Err(fault)
@@ -130,4 +177,9 @@ fn read_all<H: Disk>(alloc: Global, disk: &mut H, most: u32) -> Result<(Replica,
 /// All bytes mean exactly one thing as a replica's file.
 pub fn one_image()
     ensures { OneImage }
+{}
+
+/// A replica's file has one list of moments.
+pub fn moments_once()
+    ensures { OneListOfMoments }
 {}

@@ -1,11 +1,14 @@
-ghost use Rattle.std.specs.Prelude.{◌≡◌, ◌<◌, ◌≤◌, ◌∷◌, [], true, OnOk, OnErr};
-ghost use Rattle.fugue_ids.specs.declared.limits.TheConstants.{GREATEST_HOLD, MOST_OPERATIONS};
-ghost use Rattle.origin_model.specs.taking.Taking.{answer, is_kept, nothing_held};
+ghost use Rattle.std.specs.Prelude.{◌≡◌, ◌<◌, ◌≤◌, ◌+◌, ◌^◌, ◌∷◌, [], true, length, OnOk, OnErr};
+ghost use Rattle.fugue_ids.specs.Runs.{run_from};
+ghost use Rattle.fugue_ids.specs.declared.limits.TheConstants.{BUFFER, GREATEST_HOLD, MOST_OPERATIONS};
+ghost use Rattle.op_frame.specs.NextRuns.{IsSound, ops_given};
+ghost use Rattle.origin_model.specs.taking.Taking.{nothing_held};
 ghost use Rattle.origin_model.specs.edits.State.{Stands};
-ghost use Rattle.replica_file.specs.Loading.{Feeds, IsReady, IsSameButHeld};
+ghost use Rattle.replica_file.specs.Loading.{Feeds, IsReady, IsSameButHeld, WantsMemory};
 
 use crate::header::Header;
-use fugue_ids::{NoMemory, Op};
+use fugue_ids::{NoMemory, Op, RunStart};
+use op_frame::NextOps;
 use origin_model::Tally;
 use replica_core::{FeedFault, Replica};
 use std::alloc::Global;
@@ -43,13 +46,55 @@ impl Loading {
         self.replica
     }
 
-    /// Takes in the next operation. Refusals change nothing and are no faults, but one too many is noted.
-    pub(crate) fn take(&mut self, op: Op) -> Result<(), NoMemory>
+    /// Takes in the next operations: a run's Texts, or one alone. Refusals change nothing and are no faults, but one too
+    /// many is noted.
+    pub(crate) fn take(&mut self, next: NextOps, text: &[char]) -> Result<(), NoMemory>
+        requires ready { IsReady self.old.replica }
+        requires sound { IsSound next text.now }
+        requires short { length text.now ≤ BUFFER }
+        ensures feeds { OnOk result (Feeds self.old.finds_place self.old.replica
+            self.new.finds_place self.new.replica (ops_given next text.now)) }
+        ensures memory { OnErr result
+            (WantsMemory self.old.finds_place self.old.replica (ops_given next text.now)) }
+        ensures ready { OnOk result (IsReady self.new.replica) }
+        ensures same { OnOk result (IsSameButHeld self.old.replica self.new.replica) }
+    {
+        match next {
+            NextOps::Run(start) => self.take_run(&start, text),
+            NextOps::Single(op) => self.take_one(op),
+        }
+    }
+
+    fn take_run(&mut self, start: &RunStart, text: &[char]) -> Result<(), NoMemory>
+        requires ready { IsReady self.old.replica }
+        requires counters { start.now.id.counter + length text.now ≤ 2 ^ 32 }
+        requires short { length text.now ≤ BUFFER }
+        ensures feeds { OnOk result (Feeds self.old.finds_place self.old.replica
+            self.new.finds_place self.new.replica (run_from start.now text.now)) }
+        ensures memory { OnErr result
+            (WantsMemory self.old.finds_place self.old.replica (run_from start.now text.now)) }
+        ensures ready { OnOk result (IsReady self.new.replica) }
+        ensures same { OnOk result (IsSameButHeld self.old.replica self.new.replica) }
+    {
+        if !self.finds_place {
+            return Ok(());
+        }
+        let mut tally = Tally::default();
+        match self.replica.feed_run(start, text, &mut tally) {
+            Ok(()) => Ok(()),
+            Err(FeedFault::TooMany(_most)) => {
+                self.finds_place = false;
+                Ok(())
+            }
+            Err(FeedFault::NoMemory) => Err(NoMemory),
+        }
+    }
+
+    fn take_one(&mut self, op: Op) -> Result<(), NoMemory>
         requires { IsReady self.old.replica }
         ensures feeds { OnOk result (Feeds self.old.finds_place self.old.replica
             self.new.finds_place self.new.replica (op ∷ [])) }
-        ensures memory { OnErr result ((self.old.finds_place ≡ true)
-            × (is_kept (answer self.old.replica.hold self.old.replica.most self.old.replica.held op) ≡ true)) }
+        ensures memory { OnErr result (WantsMemory self.old.finds_place self.old.replica (op ∷ [])) }
         ensures ready { OnOk result (IsReady self.new.replica) }
         ensures same { OnOk result (IsSameButHeld self.old.replica self.new.replica) }
     {

@@ -1,4 +1,4 @@
-ghost use Rattle.std.specs.Prelude.{◌≡◌, ◌≢◌, ◌<◌, ◌≤◌, ◌+◌, ◌*◌, [], None, length, List, ℕ, IfOk, OnOk};
+ghost use Rattle.std.specs.Prelude.{◌≡◌, ◌≢◌, ◌<◌, ◌≤◌, ◌+◌, ◌*◌, [], None, length, List, ℕ, IfOk, OnOk, vec_capacity};
 ghost use Rattle.fugue_ids.specs.declared.op.Op.{Op};
 ghost use Rattle.replica_file.specs.Loading.{IsReady, IsSameButHeld};
 ghost use Rattle.replica_file.specs.Pieces.{AreBad, IsReading, Lacks, PieceSteps, TakesPiece};
@@ -20,6 +20,9 @@ struct Piece {
     reader: FrameReader,
     source: SureSource,
     len: u64,
+    /// The scalars of the Texts that the reader gave at once. It has room for one from the start, so that reading on
+    /// wants no memory for it.
+    text: Vec<char>,
 }
 
 impl Piece {
@@ -28,8 +31,11 @@ impl Piece {
             IsReading bytes.items [] piece.reader (⟦<SureSource as Source>⟧.seen piece.source)) }
         ensures grammar { IfOk result (λ piece. piece.reader.grammar ≡ grammar) }
         ensures len { IfOk result (λ piece. piece.len ≡ length bytes.items) }
+        ensures room { IfOk result (λ piece. 0 < vec_capacity piece.text) }
     {
         let len = bytes.len() as u64;
+        let mut text = Vec::new(alloc);
+        text.reserve(1)?;
         let reader = match grammar {
             Grammar::Version1 => FrameReader::old(alloc, len)?,
             Grammar::Version2 => FrameReader::new(alloc, len)?,
@@ -38,13 +44,15 @@ impl Piece {
             reader,
             source: SureSource::new(bytes, PIECE),
             len,
+            text,
         })
     }
 
-    /// Takes in the operation of the next frame. Where no whole frame is left, the answer is how many bytes the frames
-    /// until there have.
+    /// Takes in the next operations. Where no whole frame is left, the answer is how many bytes the frames until there
+    /// have.
     fn take_next(&mut self, loading: &mut Loading) -> Result<Option<u64>, Stop>
         requires no_fault { self.old.reader.fault ≡ None }
+        requires room { 0 < vec_capacity self.old.text }
         requires ready { IsReady loading.old.replica }
         ensures steps { (bytes : List ℕ) (ops : List Op)
             → IsReading bytes ops self.old.reader (⟦<SureSource as Source>⟧.seen self.old.source)
@@ -59,13 +67,14 @@ impl Piece {
         ensures limit { self.new.reader.limit ≡ self.old.reader.limit }
         ensures grammar { self.new.reader.grammar ≡ self.old.reader.grammar }
         ensures len { self.new.len ≡ self.old.len }
+        ensures room { 0 < vec_capacity self.new.text }
         ensures ready { OnOk result (IsReady loading.new.replica) }
         ensures same { OnOk result (IsSameButHeld loading.old.replica loading.new.replica) }
         ensures not_disk { result ≢ Err Stop.Disk }
     {
-        match self.reader.next(&mut self.source) {
-            Ok(Some(op)) => {
-                loading.take(op)?;
+        match self.reader.next_run(&mut self.source, &mut self.text) {
+            Ok(Some(next)) => {
+                loading.take(next, self.text.as_slice())?;
                 Ok(None)
             }
             Ok(None) => Ok(Some(self.len)),

@@ -1,4 +1,4 @@
-ghost use Rattle.std.specs.Prelude.{◌≡◌, ◌≢◌, ◌⊎◌, ◌↔◌, ◌+◌, ◌<◌, ◌≤◌, ◌^◌, ℕ, length, drop, IfSome, IfOk, OnOk, None};
+ghost use Rattle.std.specs.Prelude.{◌≡◌, ◌≢◌, ◌⊎◌, ◌↔◌, ◌+◌, ◌<◌, ◌≤◌, ◌^◌, ℕ, length, drop, vec_len, vec_capacity, IfSome, IfOk, OnOk, None};
 ghost use Rattle.origin_model.specs.declared.files.TheConstants.{LONGEST_BATCH};
 ghost use Rattle.origin_model.specs.declared.grammar.Grammar.{Grammar as AnyGrammar};
 ghost use Rattle.origin_model.specs.files.Image.{IsNoBatch, tag_of};
@@ -10,18 +10,21 @@ use crate::batch::WORD;
 use crate::frames::take_frames;
 use crate::gate::{CLOSED, Gate, OPEN};
 use crate::loading::Loading;
+use crate::moments::make_room;
 use crate::reading::read_from;
 use crate::stop::Stop;
 use origin_model::{Grammar, LONGEST_BATCH, TAG_UNIT};
 use outer_ports::Disk;
 use std::alloc::Global;
 
-/// Takes the open slot in whose gate stands at this offset, and finds the next gate.
+/// Takes the open slot in whose gate stands at this offset, and finds the next gate. There is room for a moment more
+/// then.
 pub(crate) fn take_slot<H: Disk>(
     alloc: Global,
     disk: &mut H,
     at: u64,
     loading: &mut Loading,
+    moments: &mut Vec<u32>,
 ) -> Result<Gate, Stop>
     requires small { at + 268435470 < 2 ^ 64 }
     requires ready { IsReady loading.old.replica }
@@ -37,8 +40,12 @@ pub(crate) fn take_slot<H: Disk>(
     ensures looks { LooksOnly (H.seen disk.old) (H.seen disk.new) (result ≡ Err Stop.Disk) }
     ensures onward { IfOk result (λ next. at < next.at) }
     ensures reach { IfOk result (λ next. ReadsNoFurther (next.at + 1) (H.seen disk.old) (H.seen disk.new)) }
+    ensures room { OnOk result (vec_len moments.new < vec_capacity moments.new) }
+    ensures moments { OnOk result (moments.new.items ≡ moments.old.items) }
 {
     let word = read_word(disk, at + 1)?;
+    // A moment is noted where operations are accepted. There is room for it before the first one is read.
+    make_room(moments)?;
     take_frames(alloc, disk, at + 5, word, loading)?;
     read_gate(disk, at + 5 + word.len)
 }

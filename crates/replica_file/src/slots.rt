@@ -2,10 +2,12 @@ ghost use Rattle.std.specs.Prelude.{◌≡◌, ◌+◌, ◌*◌, ◌<◌, ◌≤
 ghost use Rattle.replica_file.specs.Ends.{IsWithinReach};
 ghost use Rattle.replica_file.specs.Loading.{IsReady, IsSameButHeld};
 ghost use Rattle.replica_file.specs.Looks.{LooksOnly, ReadsNoFurther};
-ghost use Rattle.replica_file.specs.Slots.{SlotStopsFor, Walked, WalksOut};
+ghost use Rattle.replica_file.specs.Moments.{WalkedWith, WalksOutWith};
+ghost use Rattle.replica_file.specs.Slots.{SlotStopsFor};
 
 use crate::gate::Gate;
 use crate::loading::Loading;
+use crate::moments::{accepted_count, note_moment};
 use crate::slot::take_slot;
 use crate::stop::Stop;
 use crate::{End, LoadFault};
@@ -13,21 +15,24 @@ use outer_ports::Disk;
 use std::alloc::Global;
 
 #[tactic(auto, using(crate::proofs::ReachLemmas::reaches_none, crate::proofs::ReachLemmas::reaches_then))]
-/// Takes the slots in from the first gate on, and answers where the file's meaning ends.
+/// Takes the slots in from the first gate on, notes their moments, and answers where the file's meaning ends.
 pub(crate) fn take_slots<H: Disk>(
     alloc: Global,
     disk: &mut H,
     first: Gate,
     most: u32,
     loading: &mut Loading,
+    moments: &mut Vec<u32>,
 ) -> Result<End, LoadFault>
-    requires walked { IfSome (H.seen disk.old).past (λ h. Walked h.last.seen 0 first loading.old.replica) }
+    requires walked { IfSome (H.seen disk.old).past (λ h.
+        WalkedWith h.last.seen 0 first loading.old.replica moments.old.items) }
     requires at { first.at ≡ 13 }
     requires ready { IsReady loading.old.replica }
     requires finds_place { loading.old.finds_place ≡ true }
     requires most { loading.old.replica.most ≡ most }
     ensures ends { IfOk result
-        (λ end. IfSome (H.seen disk.old).past (λ h. WalksOut h.last.seen end loading.new.replica)) }
+        (λ end. IfSome (H.seen disk.old).past (λ h.
+        WalksOutWith h.last.seen end loading.new.replica moments.new.items)) }
     ensures stops { IfErr result (λ fault. IfSome (H.seen disk.old).past (λ h.
         SlotStopsFor most h.last.seen fault)) }
     ensures reaches { IfOk result IsWithinReach }
@@ -40,13 +45,13 @@ pub(crate) fn take_slots<H: Disk>(
     let mut gate = first;
     let mut slots = 0;
     'slots: while gate.open {
-        gate = next_gate(alloc, disk, gate, slots, most, loading)?;
+        gate = next_gate(alloc, disk, gate, slots, most, loading, moments)?;
         slots += 1;
     }
     Ok(End { at: gate.at, slots })
 }
 
-/// Takes the open slot of this number in, whose gate this is, and answers the next gate.
+/// Takes the open slot of this number in, whose gate this is, notes its moment, and answers the next gate.
 fn next_gate<H: Disk>(
     alloc: Global,
     disk: &mut H,
@@ -54,15 +59,17 @@ fn next_gate<H: Disk>(
     slots: u32,
     most: u32,
     loading: &mut Loading,
+    moments: &mut Vec<u32>,
 ) -> Result<Gate, LoadFault>
-    requires walked { IfSome (H.seen disk.old).past (λ h. Walked h.last.seen slots gate loading.old.replica) }
+    requires walked { IfSome (H.seen disk.old).past (λ h.
+        WalkedWith h.last.seen slots gate loading.old.replica moments.old.items) }
     requires open { gate.open ≡ true }
     requires reaches { gate.at ≤ 13 + 268435461 * slots }
     requires ready { IsReady loading.old.replica }
     requires finds_place { loading.old.finds_place ≡ true }
     requires most { loading.old.replica.most ≡ most }
     ensures walked { IfOk result (λ next. IfSome (H.seen disk.old).past (λ h.
-        Walked h.last.seen (slots + 1) next loading.new.replica)) }
+        WalkedWith h.last.seen (slots + 1) next loading.new.replica moments.new.items)) }
     ensures stops { IfErr result (λ fault. IfSome (H.seen disk.old).past (λ h.
         SlotStopsFor most h.last.seen fault)) }
     ensures more { OnOk result (slots < 4294967295) }
@@ -77,11 +84,13 @@ fn next_gate<H: Disk>(
     if slots == u32::MAX {
         return Err(LoadFault::BadBatch(slots));
     }
-    match take_slot(alloc, disk, gate.at, loading) {
+    let before = accepted_count(&loading.replica);
+    match take_slot(alloc, disk, gate.at, loading, moments) {
         Ok(next) => {
             if !loading.finds_place {
                 return Err(LoadFault::TooMany(most));
             }
+            note_moment(moments, before, accepted_count(&loading.replica));
             Ok(next)
         }
         Err(Stop::Bad) => Err(LoadFault::BadBatch(slots)),

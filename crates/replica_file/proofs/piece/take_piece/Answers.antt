@@ -1,4 +1,4 @@
-use Rattle.std.proofs.Common.{◌++◌, ◌∷◌, [], refl, ◌∙◌}
+use Rattle.std.proofs.Common.{◌++◌, refl, ◌∙◌}
 use Rattle.std.specs.Prelude.{Err, Some, true}
 use Rattle.replica_file.proofs.LoadingLemmas.{feeds_then, same_then}
 use Rattle.replica_file.proofs.PieceLemmas.{lacks_none, steps_bad, steps_by, steps_lacks, takes_piece}
@@ -9,11 +9,12 @@ frames-preserved c =
     let kept = c.frames.invariant in
     let step = rw c.in-Ok-None.field-0-is at (c.in-Ok-None.ensures.steps c.args.bytes.items kept.ops kept.reading kept.len) in
     record {
-      ops = kept.ops ++ step.0 ∷ [];
+      ops = kept.ops ++ step.0;
       reading = step.1;
-      feeds = feeds_then _ _ _ _ _ _ kept.ops (step.0 ∷ []) kept.feeds step.2;
+      feeds = feeds_then _ _ _ _ _ _ kept.ops step.0 kept.feeds step.2;
       ready = c.in-Ok-None.ensures.ready;
       same = same_then c.args.loading.now.replica c.frames.loading.replica c.take_next.new.loading.replica kept.same c.in-Ok-None.ensures.same;
+      room = c.in-Ok-None.ensures.room;
       by_grammar = c.in-Ok-None.ensures.grammar ∙ kept.by_grammar;
       len = c.in-Ok-None.ensures.len ∙ kept.len;
     }

@@ -1,5 +1,5 @@
-use Rattle.std.proofs.Common.{◌≡◌, ◌+◌, ◌-◌, ◌*◌, List, length}
-use Rattle.std.specs.Prelude.{Some, true}
+use Rattle.std.proofs.Common.{◌≡◌, ◌<◌, ◌+◌, ◌-◌, ◌*◌, List, length}
+use Rattle.std.specs.Prelude.{Some, true, vec_capacity}
 use Rattle.fugue_ids.specs.declared.op.Op.{Op}
 use Rattle.replica_file.specs.Loading.{Feeds, IsReady, IsSameButHeld}
 use Rattle.replica_file.specs.Pieces.{IsReading}
@@ -12,6 +12,7 @@ invariant-frames l = record {
   feeds : Feeds l.fn.loading.finds_place l.fn.loading.replica l.loading.finds_place l.loading.replica ops;
   ready : IsReady l.loading.replica;
   same : IsSameButHeld l.fn.loading.replica l.loading.replica;
+  room : 0 < vec_capacity l.piece.text;
   by_grammar : l.piece.reader.grammar ≡ l.fn.grammar;
   len : l.piece.len ≡ length l.fn.bytes.items;
 }

@@ -1,8 +1,8 @@
 use Rattle.std.proofs.Common.{◌+◌, ◌∙◌, arith}
 use Rattle.std.proofs.lemmas.Result.{err_from_is_err_and}
-use Rattle.replica_file.proofs.PartLemmas.{told_two}
+use Rattle.replica_file.proofs.PartLemmas.{told_one, told_two}
 use Rattle.replica_file.proofs.ReachLemmas.{gate_reaches, reaches_then}
-use Rattle.replica_file.proofs.SlotLemmas.{bad_frames, no_gate, slot_ends, slot_lacks}
+use Rattle.replica_file.proofs.SlotLemmas.{bad_frames, no_gate, slot_begins, slot_ends, slot_lacks}
 use Rattle.replica_file.proofs.slot.take_slot.Goals as goal
 
 pub returns-in_err-take_frames-clause-bad : goal.returns-in_err-take_frames-clause-bad
@@ -35,3 +35,8 @@ returns-clause-reach g c =
     gate_reaches c.read_gate.result at (g.H.Disk.seen c.args.disk.now).reach (g.H.Disk.seen c.take_frames.new.disk).reach (g.H.Disk.seen c.read_gate.new.disk).reach c.read_gate.ensures.at c.read_gate.ensures.reach
     (reaches_then (c.args.at + 1 + 4) at at (g.H.Disk.seen c.args.disk.now).reach (g.H.Disk.seen c.read_word.new.disk).reach (g.H.Disk.seen c.take_frames.new.disk).reach (omega arith) (omega arith) c.in_ok-word.ensures.reach
     c.in_ok-take_frames.ensures.reach)
+
+pub returns-in_err-make_room-clause-memory : goal.returns-in_err-make_room-clause-memory
+returns-in_err-make_room-clause-memory g c is =
+    told_one (g.H.Disk.seen c.args.disk.now).past
+    (λ h told. slot_begins h.last.seen c.args.at c.in_ok-word.word told c.args.loading.now.finds_place c.args.loading.now.replica c.in_ok-word.ensures.short) c.in_ok-word.ensures.told

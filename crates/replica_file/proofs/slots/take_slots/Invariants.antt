@@ -2,12 +2,12 @@ use Rattle.std.proofs.Common.{◌≡◌, ◌-◌, ◌+◌, ◌*◌, ◌≤◌}
 use Rattle.std.specs.Prelude.{IfSome, true}
 use Rattle.replica_file.specs.Loading.{IsReady, IsSameButHeld}
 use Rattle.replica_file.specs.Looks.{LooksOnly, ReadsNoFurther}
-use Rattle.replica_file.specs.Slots.{Walked}
+use Rattle.replica_file.specs.Moments.{WalkedWith}
 use Rattle.replica_file.proofs.slots.take_slots.Given as goal
 
 abbrev pub invariant-slots : goal.invariant-slots
 invariant-slots g l = record {
-  walked : IfSome (g.H.Disk.seen l.fn.disk).past (λ h. Walked h.last.seen l.slots l.gate l.loading.replica);
+  walked : IfSome (g.H.Disk.seen l.fn.disk).past (λ h. WalkedWith h.last.seen l.slots l.gate l.loading.replica l.moments.items);
   reaches : l.gate.at ≤ 13 + 268435461 * l.slots;
   few : l.slots ≤ 4294967295;
   finds_place : l.loading.finds_place ≡ true;

@@ -7,7 +7,7 @@ use Rattle.command_kinds.proofs.merge.OtherFileGives.give.Goals as goal
 
 pub returns-clause-gives : goal.returns-clause-gives
 returns-clause-gives g c home last holds =
-    (Refuses NoMemory, holder_gives (change (g.G.Disk.seen c.args.from.now) (g.G.Disk.seen c.load_file.new.file)) _ _ _ c.in_ok-other.ensures.meets.holds _ _ _ c.give_all.ensures.gives)
+    (Refuses NoMemory, holder_gives (change (g.G.Disk.seen c.args.from.now) (g.G.Disk.seen c.load_file.new.file)) _ _ _ c.in_ok-other.ensures.meets.holds _ _ _ c.give_all-given.ensures.gives)
 
 pub returns-in_err-other-clause-gives : goal.returns-in_err-other-clause-gives
 returns-in_err-other-clause-gives g c home last holds =

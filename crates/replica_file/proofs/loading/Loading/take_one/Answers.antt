@@ -1,12 +1,13 @@
-use Rattle.replica_file.proofs.LoadingLemmas.{feeds_dropped, feeds_refused, feeds_taken, refused_many, wanted_kept}
-use Rattle.replica_file.proofs.loading.Loading.take.Goals as goal
+use Rattle.std.proofs.Common.{[], ◌∷◌}
+use Rattle.replica_file.proofs.LoadingLemmas.{feeds_dropped, feeds_one, feeds_refused, refused_many, wants_one}
+use Rattle.replica_file.proofs.loading.Loading.take_one.Goals as goal
 
 pub returns-then-not-self-clause-feeds : goal.returns-then-not-self-clause-feeds
-returns-then-not-self-clause-feeds c = feeds_dropped _ _ c.args.op c.if-not-self.true
+returns-then-not-self-clause-feeds c = feeds_dropped _ _ (c.args.op ∷ []) c.if-not-self.true
 
 pub returns-in-Ok-clause-feeds : goal.returns-in-Ok-clause-feeds
 returns-in-Ok-clause-feeds c =
-    feeds_taken _ _ _ c.args.op c.if-not-self.false c.requires.stands (λ many. let no = c.in-Ok.ensures.too_many.1 many in cc no) c.in-Ok.ensures.held
+    feeds_one _ _ _ c.args.op c.if-not-self.false c.requires.stands (λ many. let no = c.in-Ok.ensures.too_many.1 many in cc no) c.in-Ok.ensures.held
 
 pub returns-in-Err-TooMany-clause-feeds : goal.returns-in-Err-TooMany-clause-feeds
 returns-in-Err-TooMany-clause-feeds c =
@@ -15,4 +16,4 @@ returns-in-Err-TooMany-clause-feeds c =
 
 pub returns-in-Err-NoMemory-clause-memory : goal.returns-in-Err-NoMemory-clause-memory
 returns-in-Err-NoMemory-clause-memory c =
-    (c.if-not-self.false, wanted_kept _ _ _ _ _ _ c.in-Err-NoMemory.field-0-is c.in-Err-NoMemory.ensures.err)
+    wants_one _ _ _ c.args.op _ _ _ c.if-not-self.false c.in-Err-NoMemory.field-0-is c.in-Err-NoMemory.ensures.err

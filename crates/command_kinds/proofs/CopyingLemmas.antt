@@ -1,0 +1,113 @@
+-- Taking in a list of operations, a run at a time: the runs that are copied, and why it stops.
+use Rattle.std.proofs.Common.{List, [], ap, append_assoc, arith, drop, get_or, length, length-append, refl, subst, sym, ℕ, ◌+◌, ◌++◌, ◌<◌, ◌≤◌, ◌∙◌, ◌∷◌, ◌≡◌}
+use Rattle.std.specs.Prelude.{Option, Some}
+use Rattle.std.proofs.lemmas.List.{append-nil, drop_more}
+use Rattle.fugue_ids.specs.Runs.{run_from, start_behind, text_by, text_in}
+use Rattle.fugue_ids.specs.declared.op.Op.{Op}
+use Rattle.fugue_ids.specs.declared.run.RunStart.{RunStart}
+use Rattle.origin_model.specs.declared.taking.Tally.{Tally}
+use Rattle.origin_model.specs.taking.Taking.{HasPlace, Held, IsSettled, TooMany, answer, held_from, kept_from}
+use Rattle.origin_model.specs.edits.State.{State}
+use Rattle.origin_model.proofs.SharedLemmas.{held-append, kept-append, places-append}
+use Rattle.op_frame.proofs.GatherLemmas.{run-append, text_is_by}
+use Rattle.replica_core.specs.Feeding.{TakesInAll}
+use Rattle.replica_core.specs.Told.{total}
+use Rattle.replica_core.specs.declared.keeping.FeedFault.{FeedFault}
+use Rattle.replica_core.specs.declared.keeping.FeedFault.TheVariants as feed_fault
+use Rattle.replica_core.proofs.FeedingLemmas.{takes_none_in, takes_on}
+use Rattle.command_kinds.specs.Intake.{FeedsNotAll, OneTooMany, copied}
+use Rattle.command_kinds.proofs.IntakeLemmas.{copied-append, copied-nil}
+
+-- the first operation, where it is a Text
+pub first_copied : (ops : List Op) (op : Op) (start : RunStart) (ch : ℕ) → 0 < length ops → op ≡ get_or ops 0 op → text_in op ≡ Some (start, ch) → ops ≡ run_from start (ch ∷ []) ++ drop 1 ops
+first_copied ops op start ch some is text =
+    drop_more ops 0 op some ∙ ap (λ (o : Op). o ∷ drop 1 ops) (sym is ∙ text_is_by op start ch text)
+
+-- and the next one, where it goes on with the run
+pub next_copied : (ops : List Op) (start : RunStart) (text : List ℕ) (count ch : ℕ) (op : Op) → ops ≡ run_from start text ++ drop count ops → count ≡ length text → count < length ops → op ≡ get_or ops count op
+    → op ≡ text_by (start_behind start count) ch → ops ≡ run_from start (text ++ ch ∷ []) ++ drop (count + 1) ops
+next_copied ops start text count ch op split long below is goes_on =
+    let op_is : op ≡ text_by (start_behind start (length text)) ch = goes_on ∙ (λ i. text_by (start_behind start (long i)) ch) in
+    let rest : drop count ops ≡ op ∷ drop (count + 1) ops = drop_more ops count op below ∙ ap (λ (o : Op). o ∷ drop (count + 1) ops) (sym is) in
+    split ∙ ap (λ (l : List Op). run_from start text ++ l) rest ∙ ap (λ (o : Op). run_from start text ++ o ∷ drop (count + 1) ops) op_is
+    ∙ sym (append_assoc (run_from start text) (text_by (start_behind start (length text)) ch ∷ []) (drop (count + 1) ops))
+    ∙ ap (λ (l : List Op). l ++ drop (count + 1) ops) (sym (run-append start text (ch ∷ [])))
+
+-- a Text that says the next and has this scalar
+pub text_behind : (op : Op) (start next : RunStart) (count ch : ℕ) → text_in op ≡ Some (next, ch) → next ≡ start_behind start count → op ≡ text_by (start_behind start count) ch
+text_behind op start next count ch text goes_on = text_is_by op next ch text ∙ (λ i. text_by (goes_on i) ch)
+
+-- what was kept of two lists, one behind the other
+pub both_kept : (start mid : State) (a b : List Op) (kept one two : Option (List Op)) → mid ≡ record start { held = held_from start.hold start.most start.held a } → one ≡ copied kept (kept_from start.hold start.most start.held a)
+    → two ≡ copied one (kept_from mid.hold mid.most mid.held b) → two ≡ copied kept (kept_from start.hold start.most start.held (a ++ b))
+both_kept start mid a b kept one two mid_is one_is two_is =
+    two_is ∙ (λ i. let r : State = mid_is i in copied (one_is i) (kept_from r.hold r.most r.held b))
+    ∙ copied-append kept (kept_from start.hold start.most start.held a) (kept_from start.hold start.most (held_from start.hold start.most start.held a) b)
+    ∙ ap (copied kept) (kept-append start.hold start.most start.held a b)
+
+-- one that finds no place is behind others that found theirs
+pub one_further : (replica now : State) (done ops : List Op) (before after : Tally) → TakesInAll replica now done before after → OneTooMany now ops → OneTooMany replica (done ++ ops)
+one_further replica now done ops before after taken one =
+    let reached : Held = held_from replica.hold replica.most replica.held done in
+    let place : HasPlace replica.hold replica.most reached one.front = subst (λ (r : State). HasPlace r.hold r.most r.held one.front) taken.replica one.has_place in
+    let refused : answer replica.hold replica.most (held_from replica.hold replica.most reached one.front) one.op ≡ TooMany
+    = subst (λ (r : State). answer r.hold r.most (held_from r.hold r.most r.held one.front) one.op ≡ TooMany) taken.replica one.refused in
+    record {
+      front = done ++ one.front;
+      op = one.op;
+      more = one.more;
+      parts = ap (λ (l : List Op). done ++ l) one.parts ∙ sym (append_assoc done one.front (one.op ∷ one.more));
+      has_place = places-append replica.hold replica.most replica.held done one.front taken.has_place place;
+      refused = ap (λ (s : Held). answer replica.hold replica.most s one.op) (sym (held-append replica.hold replica.most replica.held done one.front)) ∙ refused;
+    }
+
+-- the same of a fault
+pub fault_further : (fault : FeedFault) (replica now : State) (done ops : List Op) (before after : Tally) → TakesInAll replica now done before after → FeedsNotAll fault now ops → FeedsNotAll fault replica (done ++ ops)
+fault_further (feed_fault.TooMany limit) replica now done ops before after taken (most, one) =
+    (most ∙ ap (λ (r : State). r.most) taken.replica, one_further replica now done ops before after taken one)
+fault_further feed_fault.NoMemory replica now done ops before after taken fed = tt
+
+pub fault_whole : (fault : FeedFault) (replica : State) (ops more : List Op) → FeedsNotAll fault replica ops → FeedsNotAll fault replica (ops ++ more)
+fault_whole (feed_fault.TooMany limit) replica ops more (most, one) =
+    (most, record { front = one.front; op = one.op; more = one.more ++ more; parts = ap (λ (l : List Op). l ++ more) one.parts ∙ append_assoc one.front (one.op ∷ one.more) more; has_place = one.has_place; refused = one.refused })
+fault_whole feed_fault.NoMemory replica ops more fed = tt
+
+-- A list that is taken in a run at a time: the first ones were, and these are left.
+module _ (start : State) (counts : Tally) (kept : Option (List Op)) (ops : List Op) where
+  pub record IsCopying (now : State) (counts_now : Tally) (kept_now : Option (List Op)) (rest : List Op) : Type 0 where
+    pub done : List Op
+    pub parts : ops ≡ done ++ rest
+    pub taken : TakesInAll start now done counts counts_now
+    pub kept_are : kept_now ≡ copied kept (kept_from start.hold start.most start.held done)
+
+  pub copying_begun : IsSettled start.held → IsCopying start counts kept ops
+  copying_begun settled = record { done = []; parts = refl; taken = takes_none_in start counts settled; kept_are = sym (copied-nil kept) }
+
+  module _ (now : State) (counts_now : Tally) (kept_now : Option (List Op)) (rest : List Op) (copying : IsCopying now counts_now kept_now rest) where
+    -- there is room to count all that is left
+    pub counts_rise : (n : ℕ) → total counts + length start.held.waiting + length ops ≤ n → total counts_now + length now.held.waiting + length rest ≤ n
+    counts_rise n few = omega (arith, few, copying.taken.once, ap length copying.parts, length-append copying.done rest)
+
+    module _ (front others : List Op) (split : rest ≡ front ++ others) where
+      pub copying_on : (next : State) (counts_next : Tally) → TakesInAll now next front counts_now counts_next → (kept_next : Option (List Op))
+          → kept_next ≡ copied kept_now (kept_from now.hold now.most now.held front) → IsCopying next counts_next kept_next others
+      copying_on next counts_next taken kept_next is = record {
+        done = copying.done ++ front;
+        parts = copying.parts ∙ ap (λ (l : List Op). copying.done ++ l) split ∙ sym (append_assoc copying.done front others);
+        taken = takes_on start now next copying.done front counts counts_now counts_next copying.taken taken;
+        kept_are = both_kept start now copying.done front kept kept_now kept_next copying.taken.replica copying.kept_are is;
+      }
+
+      -- one of the next ones found no place
+      pub copying_stops : (fault : FeedFault) → FeedsNotAll fault now front → FeedsNotAll fault start ops
+      copying_stops fault stops =
+          subst (FeedsNotAll fault start) (sym (copying.parts ∙ ap (λ (l : List Op). copying.done ++ l) split))
+          (fault_further fault start now copying.done (front ++ others) counts counts_now copying.taken (fault_whole fault now front others stops))
+
+    -- none is left
+    pub copying_over : length rest ≡ 0 → copying.done ≡ ops
+    copying_over none = sym (copying.parts ∙ ap (λ (l : List Op). copying.done ++ l) (none_left rest none) ∙ append-nil copying.done)
+      where
+        none_left : (l : List Op) → length l ≡ 0 → l ≡ []
+        none_left [] is = refl
+        none_left (op ∷ l) is = absurd (omega (arith, is))
