@@ -1,0 +1,101 @@
+//! How many operations of each kind there are.
+ghost use Rattle.std.specs.Prelude.{◌≡◌, ◌++◌, ◌∷◌, [], nat_eq, if◌then◌else◌, List, OnOk, IfOk};
+ghost use Rattle.fugue_ids.specs.declared.op.Op.{Op as AnyOp};
+ghost use Rattle.batch_moments.specs.Counts.{parts as parts_told, text_parts as text_parts_of};
+ghost use Rattle.batch_moments.specs.Steps.{AreOf, HasTextMore, HaveRoom};
+
+use crate::Part;
+use fugue_ids::{NoMemory, Op};
+use std::alloc::Global;
+use std::collections::BTreeMap;
+
+/// Counts of operations, the Texts by the replicas that made them.
+#[derive(Drop)]
+pub(crate) struct Counts {
+    texts: BTreeMap<u32, usize>,
+    deletes: usize,
+    sections: usize,
+    notes: usize,
+}
+
+impl Counts {
+    fn new(alloc: Global) -> Counts
+        ensures { AreOf [] result }
+    {
+        Counts {
+            texts: BTreeMap::new(alloc),
+            deletes: 0,
+            sections: 0,
+            notes: 0,
+        }
+    }
+
+    /// Counts a Text of the replica.
+    fn add_text(&mut self, replica: u32) -> Result<(), NoMemory>
+        requires { HaveRoom self.old }
+        ensures { OnOk result (HasTextMore replica self.old self.new) }
+    {
+        let count = self.texts.get(&replica).copied().unwrap_or(0);
+        self.texts.insert(replica, count + 1)?;
+        Ok(())
+    }
+
+    /// Counts the operation.
+    fn add(&mut self, op: &Op) -> Result<(), NoMemory>
+        requires { HaveRoom self.old }
+        ensures { OnOk result ((before : List AnyOp) → AreOf before self.old → AreOf (before ++ op.now ∷ []) self.new) }
+    {
+        match op {
+            Op::Text { id, .. } => self.add_text(id.replica)?,
+            Op::Delete { .. } => self.deletes += 1,
+            Op::Section { .. } => self.sections += 1,
+            Op::Note { .. } => self.notes += 1,
+        }
+        Ok(())
+    }
+
+    /// The counts of the operations.
+    fn of(alloc: Global, ops: &[Op]) -> Result<Counts, NoMemory>
+        ensures { IfOk result (AreOf ops.now) }
+    {
+        let _count = ops.len();
+        let mut counts = Counts::new(alloc);
+        'ops: for op in ops {
+            counts.add(op)?;
+        }
+        Ok(counts)
+    }
+}
+
+/// Appends what is told of so many, where there are some.
+fn tell(parts: &mut Vec<Part>, count: usize, part: Part) -> Result<(), NoMemory>
+    ensures { OnOk result (parts.new.items ≡ parts.old.items ++ (if nat_eq count 0 then [] else part ∷ [])) }
+{
+    if count > 0 {
+        parts.push(part)?;
+    }
+    Ok(())
+}
+
+/// What is told of the Texts.
+fn text_parts(alloc: Global, counts: &Counts) -> Result<Vec<Part>, NoMemory>
+    ensures { IfOk result (λ parts. (ops : List AnyOp) → AreOf ops counts.now → parts.items ≡ text_parts_of ops) }
+{
+    let mut parts = Vec::new(alloc);
+    'texts: for (replica, count) in counts.texts.iter() {
+        parts.push(Part::Texts(*replica, *count))?;
+    }
+    Ok(parts)
+}
+
+/// What is told of the operations.
+pub(crate) fn parts_of(alloc: Global, ops: &[Op]) -> Result<Vec<Part>, NoMemory>
+    ensures { IfOk result (λ parts. parts.items ≡ parts_told ops.now) }
+{
+    let counts = Counts::of(alloc, ops)?;
+    let mut parts = text_parts(alloc, &counts)?;
+    tell(&mut parts, counts.deletes, Part::Deletes(counts.deletes))?;
+    tell(&mut parts, counts.sections, Part::Sections(counts.sections))?;
+    tell(&mut parts, counts.notes, Part::Notes(counts.notes))?;
+    Ok(parts)
+}
