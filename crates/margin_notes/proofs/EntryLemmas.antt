@@ -1,10 +1,12 @@
--- The entry of an operation stands for its line, and where there is none, there is no line.
-use Rattle.margin_notes.proofs.Words.{Bool, Identifier, IsIn, List, None, Op, Option, Some, [], ap, before, false, holder, id_eq, if◌then◌else◌, not, option_map, refl, slice_get, subst, sym, true, within, ℕ, ◌&&◌, ◌++◌, ◌||◌, ◌∙◌, ◌∷◌, ◌≡◌}
-use Rattle.std.specs.Prelude.{decimal}
+-- The place of an operation that is a comment, and its line by that place.
+use Rattle.margin_notes.proofs.Words.{Bool, Delete, Note, Section, Text, cases_Bool, id_of, inl, inr, true≢false, Identifier, IsIn, List, None, Op, Option, Some, [], ap, before, false, holder, id_eq, if◌then◌else◌, not, option_map, refl, slice_get, subst, sym, true, within, ℕ, ◌&&◌, ◌++◌, ◌||◌, ◌∙◌, ◌∷◌, ◌≡◌}
+use Rattle.std.specs.Prelude.{decimal, option_and_then}
 use Rattle.origin_model.specs.order.Printed.{is_withdrawn}
+use Rattle.replica_core.specs.Index.{is_section_or_note}
 use Rattle.margin_notes.specs.Comments.{Comment, comment_in, is_text_of}
-use Rattle.margin_notes.specs.Listing.{Line, anchors_of, body_of, entry_line, line_for, line_in, line_of, section_number, section_of, text_section}
+use Rattle.margin_notes.specs.Listing.{Line, anchors_of, body_of, line_for, line_in, line_of, section_number, section_of, text_section}
 use Rattle.margin_notes.specs.Margins.{span}
+use Rattle.margin_notes.specs.Placing.{PlacedComment, comment_placed, placed, placed_at, placed_in}
 use Rattle.margin_notes.specs.declared.reading.Anchors.{Anchors}
 use Rattle.margin_notes.proofs.MemberLemmas.{comment_says, has_section, section_is, text_at, text_of}
 use Rattle.margin_notes.proofs.PassageLemmas.{both_parts, text_in}
@@ -49,10 +51,10 @@ comment_from op a e = by (comment_in op) refl e
     by None k e = cc
     by (Some c) k e = let d : a ≡ anchors_of c = cc in (c, k, d)
 
-pub no_comment : (h : List Op) (op : Op) → None ≡ option_map anchors_of (comment_in op) → None ≡ line_in h op
+pub no_comment : (h : List Op) (op : Op) → None ≡ option_map anchors_of (comment_in op) → None ≡ placed_in h op
 no_comment h op e = by (comment_in op) e
   where
-    by : (o : Option Comment) → None ≡ option_map anchors_of o → ◌≡◌ {A = Option Line} None (elim o [ None ↦ None | Some c ↦ if is_withdrawn h c.id then None else line_for h c ])
+    by : (o : Option Comment) → None ≡ option_map anchors_of o → ◌≡◌ {A = Option PlacedComment} None (elim o [ None ↦ None | Some c ↦ if is_withdrawn h c.id then None else placed h c ])
     by None e = refl
     by (Some c) e = cc
 
@@ -64,29 +66,22 @@ module _ (h : List Op) (op : Op) (a : Anchors) (read : Some a ≡ option_map anc
   same_id : a.id ≡ found.0.id
   same_id = ap (λ (b : Anchors). b.id) found.2
 
-  by_comment : line_in h op ≡ (if is_withdrawn h found.0.id then None else line_for h found.0)
-  by_comment = ap (λ o. elim o [ None ↦ None | Some c ↦ if is_withdrawn h c.id then None else line_for h c ]) found.1
+  by_comment : placed_in h op ≡ (if is_withdrawn h found.0.id then None else placed h found.0)
+  by_comment = ap (λ o. elim o [ None ↦ None | Some c ↦ if is_withdrawn h c.id then None else placed h c ]) found.1
 
-  pub withdrawn_none : is_withdrawn h a.id ≡ true → None ≡ line_in h op
-  withdrawn_none k = sym (by_comment ∙ ap (λ b. if b then None else line_for h found.0) (ap (is_withdrawn h) (sym same_id) ∙ k))
+  pub withdrawn_none : is_withdrawn h a.id ≡ true → None ≡ placed_in h op
+  withdrawn_none k = sym (by_comment ∙ ap (λ b. if b then None else placed h found.0) (ap (is_withdrawn h) (sym same_id) ∙ k))
 
   -- it is not withdrawn
   module _ (stands : is_withdrawn h a.id ≡ false) where
-    by_section : line_in h op ≡ line_for h found.0
-    by_section = by_comment ∙ ap (λ b. if b then None else line_for h found.0) (ap (is_withdrawn h) (sym same_id) ∙ stands)
+    by_section : placed_in h op ≡ placed h found.0
+    by_section = by_comment ∙ ap (λ b. if b then None else placed h found.0) (ap (is_withdrawn h) (sym same_id) ∙ stands)
 
-    pub section_missing : ((c : Comment) → a ≡ anchors_of c → None ≡ section_of h c) → None ≡ line_in h op
-    section_missing f =
-        sym (by_section ∙ ap (λ o. elim o [ None ↦ None | Some s ↦ option_map (λ k. line_of h k s found.0) (section_number h s) ]) (sym (f found.0 found.2)))
+    pub section_missing : ((c : Comment) → a ≡ anchors_of c → None ≡ section_of h c) → None ≡ placed_in h op
+    section_missing f = sym (by_section ∙ ap (option_map (placed_at h found.0)) (sym (f found.0 found.2)))
 
     -- and a section has it
     module _ (s : Identifier) (at_section : (c : Comment) → a ≡ anchors_of c → Some s ≡ section_of h c) where
-      by_number : line_in h op ≡ option_map (λ k. line_of h k s found.0) (section_number h s)
-      by_number = by_section ∙ ap (λ o. elim o [ None ↦ None | Some t ↦ option_map (λ k. line_of h k t found.0) (section_number h t) ]) (sym (at_section found.0 found.2))
-
-      pub number_missing : None ≡ section_number h s → None ≡ line_in h op
-      number_missing e = sym (by_number ∙ ap (option_map (λ k. line_of h k s found.0)) (sym e))
-
       pub anchors_are_in : AnchorsIn h s a.first a.last
       anchors_are_in = subst (λ (b : Anchors). AnchorsIn h s b.first b.last) (sym found.2) (section_says h found.0 s (sym (at_section found.0 found.2)))
 
@@ -96,16 +91,64 @@ module _ (h : List Op) (op : Op) (a : Anchors) (read : Some a ≡ option_map anc
       pub last_is_in : IsIn (within s) h a.last
       last_is_in = text_in s h a.last (text_at (holder h a.last) s anchors_are_in.last_in)
 
-      pub entry_listed : (ops : List Op) (k from to at : ℕ) → slice_get ops at ≡ Some op → Some k ≡ section_number h s → from ≡ (span h s a.first a.last).from → to ≡ (span h s a.first a.last).to
-          → Some (entry_line ops (record { number = k; id = a.id; from = from; to = to; at = at })) ≡ line_in h op
-      entry_listed ops k from to at here number begins ends =
+      pub place_found : (ops : List Op) (from to at : ℕ) → slice_get ops at ≡ Some op → from ≡ (span h s a.first a.last).from → to ≡ (span h s a.first a.last).to
+          → Some (comment_placed ops (record { section = s; id = a.id; from = from; to = to; at = at })) ≡ placed_in h op
+      place_found ops from to at here begins ends =
           let c : Comment = found.0 in
           let body : body_of (slice_get ops at) ≡ c.text = ap body_of here ∙ (comment_says op c found.1).body in
           let from_is : from ≡ (span h s c.first c.last).from = begins ∙ ap (λ (b : Anchors). (span h s b.first b.last).from) found.2 in
           let to_is : to ≡ (span h s c.first c.last).to = ends ∙ ap (λ (b : Anchors). (span h s b.first b.last).to) found.2 in
-          let line : entry_line ops (record { number = k; id = a.id; from = from; to = to; at = at }) ≡ line_of h k s c = λ i. record {
-            number = k;
+          let one : comment_placed ops (record { section = s; id = a.id; from = from; to = to; at = at }) ≡ placed_at h c s = λ i. record {
+            section = s;
             id = same_id i;
-            bytes = decimal k ++ 32 ∷ decimal (from_is i) ++ 32 ∷ decimal (to_is i) ++ 32 ∷ body i ++ 10 ∷ [];
+            from = from_is i;
+            to = to_is i;
+            text = body i;
           } in
-          ap Some line ∙ sym (by_number ∙ ap (option_map (λ n. line_of h n s c)) (sym number))
+          ap Some one ∙ sym (by_section ∙ ap (option_map (placed_at h c)) (sym (at_section c found.2)))
+
+-- the line of a comment that stands in the section with the number k
+abbrev pub placed_line : ℕ → PlacedComment → Line
+placed_line k p = record { number = k; id = p.id; bytes = decimal k ++ 32 ∷ decimal p.from ++ 32 ∷ decimal p.to ++ 32 ∷ p.text ++ 10 ∷ [] }
+
+abbrev pub line_placed : List Op → PlacedComment → Option Line
+line_placed h p = option_map (λ k. placed_line k p) (section_number h p.section)
+
+-- the line of an operation is that of its place
+pub line_by_place : (h : List Op) (op : Op) → line_in h op ≡ option_and_then (line_placed h) (placed_in h op)
+line_by_place h op = by (comment_in op)
+  where
+    at : (c : Comment) (o : Option Identifier) → (elim o [ None ↦ None | Some s ↦ option_map (λ k. line_of h k s c) (section_number h s) ]) ≡ option_and_then (line_placed h) (option_map (placed_at h c) o)
+    at c None = refl
+    at c (Some s) = refl
+
+    by : (o : Option Comment) → (elim o [ None ↦ None | Some c ↦ if is_withdrawn h c.id then None else line_for h c ])
+        ≡ option_and_then (line_placed h) (elim o [ None ↦ None | Some c ↦ if is_withdrawn h c.id then None else placed h c ])
+    by None = refl
+    by (Some c) = elim (is_withdrawn h c.id) as (λ (b : Bool). (if b then None else line_for h c) ≡ option_and_then (line_placed h) (if b then None else placed h c)) [ true ↦ refl | false ↦ at c (section_of h c) ]
+
+-- what is neither a Section nor a Note is no comment
+pub no_place : (h : List Op) (op : Op) → is_section_or_note op ≡ false → placed_in h op ≡ None
+no_place h (Section i l r t) e = absurd (true≢false e)
+no_place h (Text i s l r c) e = refl
+no_place h (Delete i) e = refl
+no_place h (Note i ns c b) e = absurd (true≢false e)
+
+pub no_line : (h : List Op) (op : Op) → is_section_or_note op ≡ false → line_in h op ≡ None
+no_line h op e = line_by_place h op ∙ ap (option_and_then (line_placed h)) (no_place h op e)
+
+-- what an operation places has its identifier
+pub placed_own : (h : List Op) (op : Op) (p : PlacedComment) → placed_in h op ≡ Some p → id_of op ≡ Some p.id
+placed_own h op p e = by (comment_in op) refl e
+  where
+    at : (c : Comment) (o : Option Identifier) → option_map (placed_at h c) o ≡ Some p → c.id ≡ p.id
+    at c None k = cc
+    at c (Some s) k = let d : placed_at h c s ≡ p = cc in ap (λ (x : PlacedComment). x.id) d
+
+    by : (o : Option Comment) → comment_in op ≡ o → (elim o [ None ↦ None | Some c ↦ if is_withdrawn h c.id then None else placed h c ]) ≡ Some p → id_of op ≡ Some p.id
+    by None says k = cc
+    by (Some c) says k =
+        elim (cases_Bool (is_withdrawn h c.id)) [
+          | inl t ↦ let no : None ≡ Some p = sym (ap (λ b. if b then None else placed h c) t) ∙ k in cc
+          | inr t ↦ (comment_says op c says).own ∙ ap Some (at c (section_of h c) (sym (ap (λ b. if b then None else placed h c) t) ∙ k))
+        ]

@@ -6,7 +6,7 @@ use Rattle.std.proofs.lemmas.List.Concat.{flat_map-append}
 use Rattle.fugue_ids.proofs.ListLemmas.{all_pairs_nil, contains_cases, contains_here, contains_none, contains_there}
 
 module _ {X Y : Type 0} (f : X → Option Y) where
-  abbrev said : List X → List Y
+  abbrev pub said : List X → List Y
   said xs = flat_map (λ x. option_to_list (f x)) xs
 
   -- what is said is said by a member

@@ -13,3 +13,4 @@ pub mod RefusalLemmas
 pub mod SortLemmas
 pub mod SortedLemmas
 pub mod SpanLemmas
+pub mod WalkedLemmas

@@ -1,5 +1,5 @@
 -- Entries that are sorted are the lines of the sections.
-use Rattle.margin_notes.proofs.Words.{AllPairs, Identifier, Lawful, List, Op, [], all_pairs_head, all_pairs_tail, ap, arith, catalogue, cases_Bool, false, flat_map, id_eq, inl, inr, map, refl, reverse, shown, subst, sym, true, true≢false, ◌++◌, ◌<◌, ◌∙◌, ◌∷◌, ◌≡◌}
+use Rattle.margin_notes.proofs.Words.{AllPairs, Some, Identifier, Lawful, List, Op, [], all_pairs_head, all_pairs_tail, ap, arith, catalogue, cases_Bool, false, flat_map, id_eq, inl, inr, map, refl, reverse, shown, subst, sym, true, true≢false, ◌++◌, ◌<◌, ◌∙◌, ◌∷◌, ◌≡◌}
 use Rattle.std.specs.Prelude.{IsPermutation, IsSorted, ◌≢◌}
 use Rattle.std.proofs.Common.{get_or}
 use Rattle.std.specs.Cmp.{IsTotalOrder}
@@ -22,6 +22,9 @@ use Rattle.margin_notes.specs.contracts.listing.EntryOrd.TheImpl as entry_ord
 use Rattle.margin_notes.specs.declared.listing.Entry.{Entry}
 use Rattle.margin_notes.specs.Listing.{Line, entry_bytes, entry_line, lines_in, listed}
 use Rattle.margin_notes.specs.Margins.{margins}
+use Rattle.margin_notes.specs.Placing.{PlacedComment, placed_comments, placed_in}
+use Rattle.margin_notes.proofs.EntryLemmas.{placed_own}
+use Rattle.margin_notes.proofs.KeptLemmas.{said_pairs}
 use Rattle.margin_notes.proofs.ListedLemmas.{Below, below_irrefl, below_trans, lines_apart, lines_are, listed_ordered, same_lines}
 use Rattle.margin_notes.proofs.SortLemmas.{id_other, same_ordered}
 
@@ -76,7 +79,7 @@ module _ {X : Type 0} (id : X → Identifier) where
       (IsDistinct-from_AllPairs (λ a b. (id_eq-true a b, eq-id_eq a b)) (map id xs) (all_pairs_map id (λ a b. a ≢ b) xs o))))
 
 -- a relation both ways is one of the list from its end
-pairs_reversed : {X : Type 0} (R : X → X → Type 0) → ((a b : X) → R a b → R b a) → (xs : List X) → AllPairs R xs → AllPairs R (reverse xs)
+pub pairs_reversed : {X : Type 0} (R : X → X → Type 0) → ((a b : X) → R a b → R b a) → (xs : List X) → AllPairs R xs → AllPairs R (reverse xs)
 pairs_reversed R flips [] o = all_pairs_nil R
 pairs_reversed R flips (x ∷ xs) o =
     subst (AllPairs R) (sym (reverse-append (x ∷ []) xs))
@@ -116,3 +119,9 @@ bytes_are ops (e ∷ es) = ap (λ t. entry_bytes ops e ++ t) (bytes_are ops es)
 
 pub entries_write : (h : List Op) (es : List Entry) → map (entry_line (reverse h)) es ≡ listed h → flat_map (entry_bytes (reverse h)) es ≡ margins h
 entries_write h es are = bytes_are (reverse h) es ∙ ap (flat_map (λ (l : Line). l.bytes)) are ∙ lines_are h 1 (shown catalogue h)
+
+-- no two comments that stand in sections have one identifier
+pub placed_apart : (h : List Op) → Lawful h → AllPairs (λ (a b : PlacedComment). a.id ≢ b.id) (placed_comments h)
+placed_apart h w =
+    said_pairs (placed_in h) HaveOtherIds (λ (a b : PlacedComment). a.id ≢ b.id) (λ a b u v other e f d. other u.id (placed_own h a u e) (placed_own h b v f ∙ ap Some (sym d))) (reverse h)
+    (pairs_reversed HaveOtherIds (λ a b other i e f. other i f e) h (lawful_own h w))

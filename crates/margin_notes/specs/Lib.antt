@@ -3,3 +3,4 @@ pub mod Margins
 pub mod Laws
 pub mod Commenting
 pub mod Listing
+pub mod Placing

@@ -62,8 +62,8 @@ fn body_in(op: &Op) -> &[u8]
     }
 }
 
-/// The body of the note at the position.
-pub(crate) fn body_at(ops: &[Op], at: usize) -> &[u8]
+/// The body of the note at the position: nothing where no note stands there.
+pub fn body_at(ops: &[Op], at: usize) -> &[u8]
     ensures { result.now ≡ body_of (slice_get ops.now at) }
 {
     match ops.get(at) {

@@ -1,34 +1,31 @@
 use Rattle.std.proofs.Common.{List, ap, reverse, sym, ◌∙◌}
-use Rattle.std.specs.Prelude.{option_map}
+use Rattle.std.specs.Prelude.{option_and_then, option_map}
 use Rattle.fugue_ids.specs.declared.op.Op.{Op}
 use Rattle.margin_notes.specs.Listing.{entry_line}
-use Rattle.margin_notes.proofs.EntryLemmas.{entry_listed, first_is_in, last_is_in, number_missing, section_missing}
+use Rattle.margin_notes.proofs.EntryLemmas.{line_by_place, line_placed, placed_line}
+use Rattle.margin_notes.specs.Placing.{comment_placed}
 use Rattle.margin_notes.proofs.listing.entry_of.Goals as goal
 
-pub returns-in_err-section : goal.returns-in_err-section
-returns-in_err-section c =
+pub returns-in_err-place : goal.returns-in_err-place
+returns-in_err-place c =
     let h : List Op = c.args.replica.now.held.history in
-    let stands = sym c.is_withdrawn.ensures.withdrawn ∙ c.if-is_withdrawn.false in
-    ap (option_map (entry_line (reverse h))) c.from_residual-in_err-section.ensures
-    ∙ section_missing h c.args.op.now c.in_ok-anchors.anchors c.in_ok-anchors.ensures stands (c.in_err-section.ensures h c.places-places.ensures.places)
+    ap (option_map (entry_line (reverse h))) c.from_residual.ensures
+    ∙ ap (option_and_then (line_placed h)) c.in_err-place.ensures
+    ∙ sym (line_by_place h c.args.op.now)
 
 pub returns-in_err-number : goal.returns-in_err-number
 returns-in_err-number c =
     let h : List Op = c.args.replica.now.held.history in
-    let stands = sym c.is_withdrawn.ensures.withdrawn ∙ c.if-is_withdrawn.false in
+    let p = comment_placed (reverse h) c.in_ok-place.place in
     ap (option_map (entry_line (reverse h))) c.from_residual-in_err-number.ensures
-    ∙ number_missing h c.args.op.now c.in_ok-anchors.anchors c.in_ok-anchors.ensures stands c.in_ok-section.section (c.in_ok-section.ensures h c.places-places.ensures.places)
-    (c.in_err-number.ensures h c.places-places.ensures.places)
+    ∙ ap (option_map (λ k. placed_line k p)) (c.in_err-number.ensures h c.places.ensures.places)
+    ∙ ap (option_and_then (line_placed h)) c.in_ok-place.ensures
+    ∙ sym (line_by_place h c.args.op.now)
 
 pub returns : goal.returns
 returns c =
     let h : List Op = c.args.replica.now.held.history in
-    let st = c.places-places.ensures.places in
-    let a = c.in_ok-anchors.anchors in
-    let stands = sym c.is_withdrawn.ensures.withdrawn ∙ c.if-is_withdrawn.false in
-    let at_section = c.in_ok-section.ensures h st in
-    let s = c.in_ok-section.section in
-    entry_listed h c.args.op.now a c.in_ok-anchors.ensures stands s at_section (reverse h) c.in_ok-number.number c.start_of.result c.end_of.result c.args.at c.requires
-    (c.in_ok-number.ensures h st)
-    (c.start_of.ensures h st (first_is_in h c.args.op.now a c.in_ok-anchors.ensures stands s at_section))
-    (c.end_of.ensures h st (last_is_in h c.args.op.now a c.in_ok-anchors.ensures stands s at_section))
+    let p = comment_placed (reverse h) c.in_ok-place.place in
+    ap (option_map (λ k. placed_line k p)) (c.in_ok-number.ensures h c.places.ensures.places)
+    ∙ ap (option_and_then (line_placed h)) c.in_ok-place.ensures
+    ∙ sym (line_by_place h c.args.op.now)

@@ -1,0 +1,10 @@
+pub mod BorderLemmas
+pub mod OrderLemmas
+pub mod PlaceLemmas
+pub mod RemarkLemmas
+pub mod LawLemmas
+pub mod WithdrawLemmas
+pub mod WritingLemmas
+pub mod SortedLemmas
+pub mod FindingLemmas
+pub mod SpellingLemmas

@@ -1,0 +1,9 @@
+pub mod Clusters
+pub mod Remarks
+pub mod Withdrawing
+pub mod Finding
+pub mod Remarking
+pub mod Spelling
+pub mod Laws
+pub mod Borders
+pub mod Listing

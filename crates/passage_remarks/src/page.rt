@@ -1,0 +1,147 @@
+//! The text of a section with the borders of its clusters.
+ghost use Rattle.std.specs.Prelude.{◌≡◌, ◌≤◌, ◌+◌, ◌-◌, ◌<◌, ◌^◌, ℕ, List, IfOk, count_by, drop, length, nat_le, nat_lt, string_bytes, take};
+ghost use Rattle.std.specs.List.{concat};
+ghost use Rattle.std.specs.List.Sorted.{IsNonDecreasingBy};
+ghost use Rattle.std.specs.Str.{IsUtf8, chars};
+ghost use Rattle.unicode_segmentation.specs.Iter.{graphemes_left};
+ghost use Rattle.cluster_text.specs.Clusters.{clusters};
+ghost use Rattle.passage_remarks.specs.Borders.{kept_borders};
+ghost use Rattle.passage_remarks.specs.declared.page.Border.{Border as AnyBorder};
+ghost use Rattle.passage_remarks.specs.Clusters.{cluster_count as count_in, cluster_text, first_cluster as first_in};
+
+use fugue_ids::NoMemory;
+use std::alloc::Global;
+use std::marker::Model;
+use unicode_segmentation::UnicodeSegmentation;
+
+/// A border of clusters: how many scalars and how many bytes of the text stand before it.
+#[derive(Clone, Copy)]
+pub(crate) struct Border {
+    pub scalars: usize,
+    pub bytes: usize,
+}
+
+/// The text of a section, in which clusters are found by scalars. It is seen as the text.
+#[derive(Drop)]
+pub(crate) struct Page {
+    text: String,
+    borders: Vec<Border>,
+}
+
+impl Model for Page {
+    ghost use Rattle.std.specs.Prelude.{◌≡◌, List, ℕ, string_bytes};
+    ghost use Rattle.cluster_text.specs.Clusters.{clusters};
+    ghost use Rattle.passage_remarks.specs.Borders.{kept_borders};
+
+    ghost Value = { List ℕ };
+
+    ghost view = { λ page. string_bytes page.text };
+
+    ghost invariant = { λ page. page.borders.items ≡ kept_borders 0 0 (clusters (string_bytes page.text)) };
+}
+
+/// How many scalars a cluster has.
+fn scalar_count(cluster: &str) -> usize
+    ensures count { result ≡ length (chars cluster.now) }
+    ensures text { IsUtf8 cluster.now }
+{
+    cluster.chars().count()
+}
+
+/// The borders of the clusters of a text.
+fn borders_of(alloc: Global, text: &str) -> Result<Vec<Border>, NoMemory>
+    ensures { IfOk result (λ borders. borders.items ≡ kept_borders 0 0 (clusters text.now)) }
+{
+    let mut borders = Vec::new(alloc);
+    let [mut scalars, mut bytes] = [0, 0];
+    let mut graphemes = text.graphemes(true);
+    'clusters: while let Some(cluster) = graphemes.next() {
+        borders.push(Border { scalars, bytes })?;
+        scalars += scalar_count(cluster);
+        bytes += cluster.len();
+    }
+    borders.push(Border { scalars, bytes })?;
+    Ok(borders)
+}
+
+/// How many of the borders stand at the scalar or before it.
+fn count_up_to(borders: &[Border], at: usize) -> usize
+    requires { IsNonDecreasingBy (λ (b : AnyBorder). b.scalars) borders.now }
+    ensures { result ≡ count_by (λ (b : AnyBorder). nat_le b.scalars at) borders.now }
+{
+    borders.partition_point(|border| border.scalars <= at)
+}
+
+/// How many of the borders stand before the scalar.
+fn count_before(borders: &[Border], at: usize) -> usize
+    requires { IsNonDecreasingBy (λ (b : AnyBorder). b.scalars) borders.now }
+    ensures { result ≡ count_by (λ (b : AnyBorder). nat_lt b.scalars at) borders.now }
+{
+    borders.partition_point(|border| border.scalars < at)
+}
+
+/// The borders behind the first one.
+fn behind_first(borders: &[Border]) -> &[Border]
+    ensures { result.now ≡ drop 1 borders.now }
+{
+    match borders {
+        [_, behind @ ..] => behind,
+        [] => &[],
+    }
+}
+
+/// The bytes from `start` to `end`.
+fn part(bytes: &[u8], start: usize, end: usize) -> &[u8]
+    requires order { start ≤ end }
+    requires within { end ≤ length bytes.now }
+    ensures { result.now ≡ take (end - start) (drop start bytes.now) }
+{
+    &bytes[start..end]
+}
+
+impl Page {
+    pub(crate) fn new(alloc: Global, text: String) -> Result<Page, NoMemory>
+        ensures { IfOk result (λ page. page ≡ string_bytes text) }
+    {
+        let borders = borders_of(alloc, text.as_str())?;
+        Ok(Page { text, borders })
+    }
+
+    /// How many clusters end at the scalar or before it.
+    pub(crate) fn first_cluster(&self, from: usize) -> usize
+        ensures { result ≡ first_in (clusters self.now) from }
+    {
+        count_up_to(behind_first(self.borders.as_slice()), from)
+    }
+
+    /// How many clusters have scalars of the passage.
+    pub(crate) fn cluster_count(&self, from: usize, to: usize) -> usize
+        ensures { result ≡ count_in (clusters self.now) from to }
+    {
+        if from >= to {
+            return 0;
+        }
+        let count = self.borders.len() - 1;
+        let behind = count_before(&self.borders[..count], to);
+        behind.saturating_sub(self.first_cluster(from))
+    }
+
+    /// How many bytes the first so many clusters have.
+    fn bytes_before(&self, count: usize) -> usize
+        requires { count ≤ length (clusters self.now) }
+        ensures bytes { result ≡ length (concat (take count (clusters self.now))) }
+        ensures few { length (clusters self.now) < 2 ^ 63 }
+    {
+        self.borders[count].bytes
+    }
+
+    /// The text of so many clusters, from the cluster `first` on.
+    pub(crate) fn cluster_text(&self, first: usize, count: usize) -> &[u8]
+        requires { first + count ≤ length (clusters self.now) }
+        ensures { result.now ≡ cluster_text (clusters self.now) first count }
+    {
+        let start = self.bytes_before(first);
+        let end = self.bytes_before(first + count);
+        part(self.text.as_str().as_bytes(), start, end)
+    }
+}
