@@ -20,7 +20,7 @@ bin/manuscript: $(SOURCES)
 	RT="$(RT)" .ci/build
 
 # The scripts of tests/ that try the built program. desk.sh tries the page, and says so where `make desk` has made none
-# or there is no Node or no Chromium.
+# or there is no Node or no browser.
 SCRIPTS := show rows orders lines files reasons drafts histories exchange kill relay calls slow large samples pasted promises release desk
 
 # All tests: the toolchain's gate, which is every proof, every mutation that must be refused, every test of the crates

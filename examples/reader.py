@@ -10,9 +10,14 @@
                              what `manuscript arrange` prints behind `manuscript revise FILE BASE` with the draft on
                              standard input, or why that is refused; with N, for a file that has no more than N operations
     reader.py past FILE N    what `manuscript past` prints and notes
+    reader.py moments FILE   what `manuscript moments` prints and notes
     reader.py changes FILE N what `manuscript changes` prints and notes
     reader.py authors FILE   what `manuscript authors` prints and notes
     reader.py comments FILE  what `manuscript comments` prints and notes
+    reader.py remarks FILE   what `manuscript remarks` prints and notes
+    reader.py remark FILE PASSAGE
+                             on what `manuscript remark` comments: the place of the section, the first cluster and how
+                             many there are; or why it makes no comment
     reader.py versions FILE  what `manuscript versions` prints and notes
     reader.py view FILE NAME what `manuscript view` prints and notes
     reader.py send FILE      what `manuscript send` writes and notes
@@ -296,22 +301,28 @@ def frame_of(stretch):
 
 def read_file(data):
     """The replica's HOLD and the operations of a file."""
+    hold, batches = read_batches(data)
+    return hold, [op for batch in batches for op in batch]
+
+
+def read_batches(data):
+    """The replica's HOLD and the batches of a file."""
     hold = int.from_bytes(data[9:13], "big")
     is_replica = len(data) >= 14 and data[:4] == b"FGMX" and data[4] in (1, 2) and any(data[5:9])
     if not is_replica or not 1 <= hold <= 1_048_576:
         raise Refused("not a replica", 6)
-    ops, at, slot = [], 13, 0
+    batches, at, slot = [], 13, 0
     while data[at] == 1:
         tag, size = divmod(int.from_bytes(data[at + 1 : at + 5], "big"), TAG_UNIT)
         end = at + 5 + size
         if tag > 1 or size > LONGEST_BATCH or end >= len(data) or slot == LAST_SLOT:
             raise Refused(f"bad batch {slot}", 6)
         try:
-            ops.extend(read_stream(data[at + 5 : end], runs=tag == 1))
+            batches.append(list(read_stream(data[at + 5 : end], runs=tag == 1)))
         except Refused:
             raise Refused(f"bad batch {slot}", 6) from None
         at, slot = end, slot + 1
-    return hold, ops
+    return hold, batches
 
 
 @dataclass
@@ -575,8 +586,13 @@ HANGUL = {"L": ("L", "V", "LV", "LVT"), "LV": ("V", "T"), "V": ("V", "T"), "LVT"
 
 def cluster_count(text):
     """How many extended grapheme clusters a text has."""
-    count, before, regionals, is_joined = 0, None, 0, False
-    for kind in map(cluster_class, text):
+    return sum(1 for _ in cluster_starts(text))
+
+
+def cluster_starts(text):
+    """Where the extended grapheme clusters of a text begin, in scalars."""
+    before, regionals, is_joined = None, 0, False
+    for at, kind in enumerate(map(cluster_class, text)):
         if before is None:
             joins = False
         elif "Control" in (before, kind) or {"CR", "LF"} & {before, kind}:
@@ -588,11 +604,11 @@ def cluster_count(text):
                 or (before == "ZWJ" and kind == "Picture" and is_joined)
                 or (before == kind == "Regional" and regionals % 2 == 1)
             )
-        count += not joins
+        if not joins:
+            yield at
         regionals = regionals + 1 if kind == "Regional" else 0
         is_joined = kind == "Picture" or (is_joined and kind in ("Extend", "ZWJ"))
         before = kind
-    return count
 
 
 def is_title(data):
@@ -795,6 +811,28 @@ def past_file(data, word):
     return 0
 
 
+def told_kinds(ops):
+    """What a line of moments tells of operations: the Texts of each replica, the Deletes, the Sections and the notes."""
+    kinds = [op.kind for op in ops]
+    texts = sorted(op.id[0] for op in ops if op.kind == "Text")
+    parts = [f"{replica} +{len(list(own))}" for replica, own in groupby(texts)]
+    parts += [f"-{kinds.count('Delete')}"] if "Delete" in kinds else []
+    parts += [f"{kinds.count(kind)} {name}" for kind, name in (("Section", "sections"), ("Note", "notes")) if kind in kinds]
+    return ", ".join(parts)
+
+
+def moments_file(data):
+    hold, batches = read_batches(data)
+    replica = Replica(hold)
+    for batch in batches:
+        before = len(replica.accepted)
+        for op in batch:
+            replica.take(op)
+        if len(replica.accepted) > before:
+            print(f"{len(replica.accepted)}: {told_kinds(replica.accepted[before:])}")
+    return 0
+
+
 KEPT, NEW, GONE = "kept", "new", "gone"
 
 
@@ -867,6 +905,68 @@ def authors_file(data):
 
 def spelled_id(identifier):
     return f"{identifier[0]}.{identifier[1]}"
+
+
+def passages_of(replica, section):
+    """The comments on a section, each with where its passage begins and ends, in scalars: by the beginning, and then by
+    identifier."""
+    order = replica.places.get(section.id, Place()).order()
+    shown = [at for identifier, at in order.items() if identifier not in replica.hidden]
+    found = []
+    for comment in comments_of(replica, order):
+        first, last = (order[name] for name in comment.named)
+        found.append((bisect_left(shown, first), bisect_right(shown, last), comment))
+    return sorted(found, key=lambda passage: (passage[0], passage[2].id))
+
+
+def remarks_file(data):
+    replica = taken_in(*read_file(data))
+    number = 0
+    for place, section in enumerate(Arrangement(replica).sections(), 1):
+        text = replica.text(section)
+        borders = [*cluster_starts(text), len(text)]
+        for begin, end, comment in passages_of(replica, section):
+            number += 1
+            first = bisect_right(borders, begin) - 1 if begin < len(text) else len(borders) - 1
+            last = bisect_left(borders, end) if begin < end else first
+            note = comment.body.decode("utf-8")
+            print(f"{number}: {place} {first} {last - first} by {comment.id[0]} {note}")
+            if last > first:
+                print("  " + text[borders[first] : borders[last]].replace("\n", " "))
+    return 0
+
+
+def passage_places(replica, passage):
+    """Where the bytes of a passage stand in the arranged sections: the place of the section, the section and the byte."""
+    found = []
+    for place, section in enumerate(Arrangement(replica).sections(), 1):
+        text = replica.text(section).encode()
+        at = text.find(passage)
+        while at >= 0:
+            found.append((place, section, at))
+            at = text.find(passage, at + 1)
+    return found
+
+
+def passage_of(word):
+    """The passage that a word spells: LF and backslashes are written as in scripts."""
+    if not re.fullmatch(r"([^\\\n]|\\[n\\])+", word):
+        raise Refused("words not understood", 1)
+    return re.sub(r"\\(.)", lambda pair: "\n" if pair[1] == "n" else pair[1], word).encode()
+
+
+def remark_file(data, word):
+    passage = passage_of(word)
+    replica = taken_in(*read_file(data))
+    found = passage_places(replica, passage)
+    if len(found) != 1:
+        raise Refused(f"passage found {len(found)} times" if found else "passage not found", 2)
+    place, section, at = found[0]
+    text = replica.text(section)
+    borders = [len(text[:start].encode()) for start in [*cluster_starts(text), len(text)]]
+    first = bisect_right(borders, at) - 1
+    print(place, first, bisect_left(borders, at + len(passage)) - first)
+    return 0
 
 
 def view_file(data, name):
@@ -1066,9 +1166,12 @@ COMMANDS = {
     "list": list_file,
     "draft": draft_file,
     "comments": comments_file,
+    "remarks": remarks_file,
+    "remark": remark_file,
     "versions": versions_file,
     "view": view_file,
     "past": past_file,
+    "moments": moments_file,
     "changes": changes_file,
     "authors": authors_file,
     "send": send_file,
@@ -1080,7 +1183,7 @@ COMMANDS = {
 
 
 # How many words those commands have that have more than a file.
-WORDS = {"view": (3,), "draft": (3, 4), "merge": (3,), "past": (3,), "changes": (3,), "why": (5,)}
+WORDS = {"view": (3,), "remark": (3,), "draft": (3, 4), "merge": (3,), "past": (3,), "changes": (3,), "why": (5,)}
 
 
 def main(words):

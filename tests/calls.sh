@@ -342,6 +342,8 @@ printf '# U\nD\n# V\n\n' >draft
 "$program" edit ben <second 2>/dev/null
 cp ben other
 cp ben sections
+cp ben remarked
+"$program" comment remarked 1 0 1 x <"$nothing" 2>/dev/null
 printf 'add 2 V\n' | "$program" edit sections 2>/dev/null
 cp sections later
 "$program" merge later ann <"$nothing" 2>/dev/null
@@ -372,12 +374,16 @@ try_command 'version home one' ben "$nothing" version home one
 try_command 'arrange home' sections "$nothing" arrange home
 try_command 'list home' sections "$nothing" list home
 try_command 'past home 4' later "$nothing" past home 4
+try_command 'moments home' later "$nothing" moments home
 try_command 'changes home 4' later "$nothing" changes home 4
 try_command 'authors home' later "$nothing" authors home
 try_command 'about' - "$nothing" about
 try_command 'revise home base < draft' sections draft revise home base
 try_command 'revise home base 4 < draft' later draft revise home base 4
 try_command 'comment home 1 0 1 x' ben "$nothing" comment home 1 0 1 x
+try_command 'remark home C x' ben "$nothing" remark home C x
+try_command 'remarks home' remarked "$nothing" remarks home
+try_command 'withdraw home 1' remarked "$nothing" withdraw home 1
 try_command 'view home none' ben "$nothing" view home none
 try_command 'bulk 7 4' - "$nothing" bulk 7 4
 try_command 'relay PORT 2' - "$nothing" relay "$port" 2

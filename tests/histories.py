@@ -4,9 +4,10 @@
     tests/histories.py PROGRAM FOLDER SEED COUNT
 
 Each author edits, revises, moves, retitles, drops, comments, and takes in the files of the others. What a file showed at
-each moment is kept. Behind it, `past` prints what was shown then; `changes` and `authors` print what the second program
-makes of the file; and a draft that was begun before others' text came leads to what revising then, and
-taking in the rest afterwards, leads to. One line tells what was compared, or what differs.
+each moment is kept. Behind it, `past` prints what was shown then; `changes`, `moments`, `authors` and `remarks` print what
+the second program makes of the file, and `remark` comments where it finds a passage; and a draft that was begun before
+others' text came leads to what revising then, and taking in the rest afterwards, leads to. One line tells what was
+compared, or what differs.
 """
 
 import contextlib
@@ -141,15 +142,44 @@ class World:
             raise Differs(f"{what}:\n{seen.decode(errors='replace')}\nand not\n{wanted.decode(errors='replace')}")
 
     def compare_reports(self, author):
+        for number in range(6):
+            self.compare_remark(author, f"remark {author.number}.{number}")
         self.compare("authors", self.out("authors", author.path), self.read(self.reader.authors_file, author))
+        self.compare("remarks", self.out("remarks", author.path), self.read(self.reader.remarks_file, author))
         for count, text, _ in self.dice.sample(author.moments, min(5, len(author.moments))):
             self.compare(f"past {count}", self.out("past", author.path, count), text)
             changes = self.read(self.reader.changes_file, author, str(count))
             self.compare(f"changes {count}", self.out("changes", author.path, count), changes)
+        self.compare("moments", self.out("moments", author.path), self.read(self.reader.moments_file, author))
         now = author.accepted()
         self.compare("changes since now", self.out("changes", author.path, now), b"")
         refused = self.run("changes", author.path, now + 1)
         self.compare("a moment to come", refused.stderr.splitlines()[-1], b"no moment %d" % (now + 1))
+
+    def passage(self, author):
+        """Some letters of a text, or none that stands there."""
+        arrangement = self.reader.Arrangement(self.reader.taken_in(*self.reader.read_file(author.path.read_bytes())))
+        texts = [text for section in arrangement.sections() if (text := arrangement.replica.text(section))]
+        if not texts or self.dice.random() < 0.1:
+            return self.phrase()
+        text = self.dice.choice(texts)
+        at = self.dice.randrange(len(text))
+        return text[at : at + self.dice.randint(1, 12)]
+
+    def compare_remark(self, author, note):
+        """A comment on a passage stands where the second program says, or is refused as it says."""
+        word = self.passage(author).replace("\\", "\\\\").replace("\n", "\\n")
+        try:
+            wanted = self.read(self.reader.remark_file, author, word).decode().split()
+        except self.reader.Refused as refused:
+            done = self.run("remark", author.path, word, note)
+            self.compare(f"remark {word}", done.stderr.splitlines()[-1], str(refused).encode())
+            return
+        self.compare(f"remark {word}", self.run("remark", author.path, word, note).stderr, b"made 1\n")
+        line = " ".join([*wanted, "by", str(author.number), note]).encode()
+        lines = [told.split(b": ", 1)[-1] for told in self.out("remarks", author.path).splitlines()]
+        made = [told for told in lines if told.endswith(b" " + note.encode())]
+        self.compare(f"where {word} stands", b"\n".join(made), line)
 
     def compare_joined(self, author):
         """What is kept or new of a section is what it shows, and what is kept or gone is what it showed."""

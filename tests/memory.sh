@@ -130,12 +130,16 @@ wants take && refuse_each take "$work/ben" "$work/odd" take "$work/home"
 wants why && refuse_each why "$work/ben" "$work/nothing" why "$work/home" 1 0 5
 wants check && refuse_each check "$work/ben" "$work/reason" check "$work/home"
 wants arrange && refuse_each arrange "$work/arranged" "$work/nothing" arrange "$work/home"
+wants moments && refuse_each moments "$work/ann" "$work/nothing" moments "$work/home"
 wants move && refuse_each move "$work/arranged" "$work/nothing" move "$work/home" 2 1
 wants comment && refuse_each comment "$work/arranged" "$work/nothing" comment "$work/home" 2 0 4 'Calm?'
 "$program" comment "$work/arranged" 2 0 4 'Calm?' </dev/null 2>/dev/null
 "$program" version "$work/arranged" first </dev/null 2>/dev/null
 printf 'put 2 5  So far.\n' | "$program" edit "$work/arranged" 2>/dev/null
 wants comments && refuse_each comments "$work/arranged" "$work/nothing" comments "$work/home"
+wants remarks && refuse_each remarks "$work/arranged" "$work/nothing" remarks "$work/home"
+wants withdraw && refuse_each withdraw "$work/arranged" "$work/nothing" withdraw "$work/home" 1
+wants remark && refuse_each remark "$work/arranged" "$work/nothing" remark "$work/home" 'So far' 'Calm?'
 wants version && refuse_each version "$work/arranged" "$work/nothing" version "$work/home" second
 wants versions && refuse_each versions "$work/arranged" "$work/nothing" versions "$work/home"
 wants view && refuse_each view "$work/arranged" "$work/nothing" view "$work/home" first

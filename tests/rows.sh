@@ -5,7 +5,7 @@
 set -f
 
 mkdir "$work/rows"
-for table in arranged bulk certificates changed comments drafts edits exchanges files scripts show taken versions; do
+for table in arranged bulk certificates changed comments drafts edits exchanges files moments remarks scripts show taken versions; do
     declare -A named=()
     run_rows names <tests/rows/names.txt
     run_rows "$table" <"tests/rows/$table.txt"

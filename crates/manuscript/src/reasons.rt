@@ -32,7 +32,7 @@ enum About {
 /// How a diagnostic begins, what its reason is about, and the reason.
 type Row = (&'static str, About, &'static str);
 
-const ROWS: [Row; 23] = [
+const ROWS: [Row; 26] = [
     (
         "bad frame at byte ",
         About::Input,
@@ -142,6 +142,21 @@ const ROWS: [Row; 23] = [
         "out of range",
         About::Home,
         "the section has fewer characters (list counts them); nothing was saved",
+    ),
+    (
+        "no comment ",
+        About::Home,
+        "it has fewer comments than that (remarks numbers them); nothing was saved",
+    ),
+    (
+        "passage not found",
+        About::Home,
+        "PASSAGE stands in no section as arrange prints them; nothing was saved",
+    ),
+    (
+        "passage found ",
+        About::Home,
+        "PASSAGE stands there more than once; nothing was saved: give more of what stands before or behind it",
     ),
     (
         "no version ",

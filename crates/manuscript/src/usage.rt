@@ -2,6 +2,7 @@
 
 use crate::lines::Lines;
 use fugue_ids::{GREATEST_HOLD, LONGEST_BODY, LONGEST_TITLE, has_line_end};
+use passage_remarks::is_spelled;
 
 /// What a word of a command may be.
 #[derive(Clone, Copy)]
@@ -12,6 +13,8 @@ enum Word {
     Number(&'static str, u32, u32),
     /// One line of so many bytes at most.
     Line(&'static str, usize),
+    /// A passage, in which `\n` stands for LF and `\\` for a backslash.
+    Passage(&'static str),
 }
 
 /// How a command is asked for: its name, how many words it needs behind that, what they may be, and how all is shown.
@@ -55,6 +58,9 @@ const SECOND: Word = Word::Number("Q", 0, u32::MAX);
 
 const LETTERS: Word = Word::Number("N", 1, u32::MAX);
 
+/// A remark, counted from 1.
+const REMARK: Word = Word::Number("C", 1, u32::MAX);
+
 /// How many operations were accepted.
 const MOMENT: Word = Word::Number("N", 0, u32::MAX);
 
@@ -62,9 +68,11 @@ const TITLE: Word = Word::Line("TITLE", LONGEST_TITLE);
 
 const TEXT: Word = Word::Line("TEXT", LONGEST_BODY);
 
+const PASSAGE: Word = Word::Passage("PASSAGE");
+
 const NAME: Word = Word::Line("NAME", 120);
 
-const FORMS: [Form; 26] = [
+const FORMS: [Form; 30] = [
     Form {
         name: "new",
         least: 3,
@@ -100,6 +108,12 @@ const FORMS: [Form; 26] = [
         least: 2,
         words: &[FILE, MOMENT],
         shown: "past FILE N",
+    },
+    Form {
+        name: "moments",
+        least: 1,
+        words: &[FILE],
+        shown: "moments FILE",
     },
     Form {
         name: "changes",
@@ -180,6 +194,24 @@ const FORMS: [Form; 26] = [
         shown: "comments FILE",
     },
     Form {
+        name: "remarks",
+        least: 1,
+        words: &[FILE],
+        shown: "remarks FILE",
+    },
+    Form {
+        name: "withdraw",
+        least: 2,
+        words: &[FILE, REMARK],
+        shown: "withdraw FILE C",
+    },
+    Form {
+        name: "remark",
+        least: 3,
+        words: &[FILE, PASSAGE, TEXT],
+        shown: "remark FILE PASSAGE TEXT",
+    },
+    Form {
         name: "version",
         least: 2,
         words: &[FILE, NAME],
@@ -229,11 +261,11 @@ begin, and look
   new FILE REPLICA HOLD       makes the file of an author: new ann.ms 1 100
   list FILE                   prints what it holds, and numbers its sections
   arrange FILE, print FILE    print the manuscript: as arranged, as it was made
-  past FILE N                 prints it as it was when list told accepted N
+  past FILE N, moments FILE   prints it as it was at N; each save, with its N
   changes FILE N              prints what came since; authors FILE: who wrote it
 write
   revise FILE BASE < DRAFT    saves a draft of what arrange printed to BASE
-  revise FILE BASE N < DRAFT  the same, where list told accepted N then
+  revise FILE BASE N < DRAFT  the same, where list printed accepted N then
   edit FILE < SCRIPT          add P TITLE, put K P TEXT, cut K P N, drop K
   move FILE K J, retitle FILE K TITLE
 exchange
@@ -241,6 +273,7 @@ exchange
   send FILE > FRAMES, take FILE < FRAMES, show [HOLD] < FRAMES
   relay PORT SESSIONS, sync FILE PORT CURSOR
 comments and versions
+  remark FILE PASSAGE TEXT, remarks FILE, withdraw FILE C
   comment FILE K P N TEXT, comments FILE
   version FILE NAME, versions FILE, view FILE NAME
 the order, a trial, and what this is
@@ -303,6 +336,7 @@ impl Word {
         match self {
             Word::File(_) => !given.is_empty(),
             Word::Number(_, low, high) => is_number(given, low, high),
+            Word::Passage(_) => is_spelled(given.as_bytes()),
             Word::Line(_, most) => {
                 !given.is_empty() && given.len() <= most && !has_line_end(given.as_bytes())
             }
@@ -318,12 +352,17 @@ impl Word {
                     "{name} is a number from {low} to {high}, without leading zeros, and '{given}' is none"
                 )
             }
-            Word::File(name) | Word::Line(name, _) if given.is_empty() => {
+            Word::File(name) | Word::Line(name, _) | Word::Passage(name) if given.is_empty() => {
                 format!(in alloc; "{name} is empty")
             }
             Word::Line(name, most) if given.len() > most => {
                 let length = given.len();
                 format!(in alloc; "{name} has {length} bytes, and {most} is the most")
+            }
+            Word::Passage(name) => {
+                format!(in alloc;
+                    "{name} has \\n for a line end and \\\\ for a backslash, and no other of either"
+                )
             }
             Word::File(name) | Word::Line(name, _) => {
                 format!(in alloc; "{name} has a line end, and is to be one line")

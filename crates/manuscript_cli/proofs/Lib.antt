@@ -1,8 +1,12 @@
 pub mod BySetLemmas
 pub mod HeadlineLemmas
+pub mod HeldLemmas
 pub mod RunLemmas
 pub mod ObeyLemmas
 pub mod RelayLemmas
+pub mod WordLemmas
+pub mod RemarkLemmas
+pub mod PassageLemmas
 pub mod AloneLemmas
 pub mod RunsLemmas
 pub mod RunBlameLemmas
@@ -18,3 +22,4 @@ pub mod RevisingLemmas
 pub mod WholeLemmas
 pub mod RevisingSinceLemmas
 pub mod SectionCountLemmas
+pub mod MomentsLemmas

@@ -10,6 +10,8 @@ use Rattle.replica_core.specs.declared.keeping.FeedFault.TheVariants as feed_fau
 use Rattle.origin_model.specs.taking.Taking.{HasPlace, Held, TooMany as AnswersTooMany, answer, held_from, intake}
 use Rattle.origin_model.proofs.SharedLemmas.{held-append, no_place_left, places-append, places-none, places-one}
 use Rattle.origin_model.specs.taking.Taking.{IsSettled}
+use Rattle.origin_model.specs.declared.taking.Tally.{Tally}
+use Rattle.replica_core.specs.Told.{Leaves}
 use Rattle.version_views.specs.Fronts.{front_of}
 use Rattle.command_kinds.specs.Changes.{Change}
 use Rattle.command_kinds.specs.Findings.{Finding, Refuses, Does}
@@ -38,6 +40,16 @@ use Rattle.manuscript_cli.proofs.WholeLemmas.{comes_behind}
 abbrev told_fault : Refusal → FeedFault → Refusal
 told_fault why (feed_fault.TooMany limit) = why
 told_fault why feed_fault.NoMemory = refusal.NoMemory
+
+-- an operation that was not fed: one that is too many, or memory was wanting
+abbrev fed_fault : FeedFault → Result Bool FeedFault
+fed_fault fault = Err fault
+
+pub fed_not : (fault : FeedFault) (old new : Replica) (op : Op) (before after : Tally)
+    → (fed_fault fault ≡ fed_fault (feed_fault.TooMany old.most) → answer old.hold old.most old.held op ≡ AnswersTooMany)
+    → Leaves old new op before after fault → FeedsNot fault old op
+fed_not (feed_fault.TooMany limit) old new op before after many left = (left.0, many (ap (λ (n : ℕ). fed_fault (feed_fault.TooMany n)) left.0))
+fed_not feed_fault.NoMemory old new op before after many left = tt
 
 -- ---- operations that are taken in one after another
 -- the first k found their place

@@ -16,7 +16,7 @@ use Rattle.command_kinds.specs.Changes.{Change, DiskBlameless, OutBlameless, Sou
 use Rattle.manuscript_cli.specs.Relay.{DockBlameless}
 use Rattle.manuscript_cli.specs.Touched.{Touched}
 use Rattle.manuscript_cli.specs.declared.command.Command.{Command}
-use Rattle.manuscript_cli.specs.declared.command.Command.TheVariants.{Show, New, Edit, Print, Take, Send, Merge, Relay, Sync, Bulk, Why, Check, Move, Retitle, Arrange, Authors, Changes, Past, Revise, ReviseSince, List as ListCommand, Comment, Comments, Version, Versions, View, About}
+use Rattle.manuscript_cli.specs.declared.command.Command.TheVariants.{Show, New, Edit, Print, Take, Send, Merge, Relay, Sync, Bulk, Why, Check, Move, Retitle, Arrange, Authors, Changes, Past, Moments, Revise, ReviseSince, List as ListCommand, Comment, Comments, Remarks, Withdraw, Remark, Version, Versions, View, About}
 use Rattle.command_kinds.specs.declared.refusal.Refusal.TheVariants.{Words}
 use Rattle.command_kinds.specs.declared.status.Status.{Status}
 use Rattle.command_kinds.proofs.TextLemmas.{told_blameless}
@@ -80,11 +80,15 @@ module _ (words : List (List ℕ)) (old new : Touched) (end : Status) where
   meets_blameless (Some Authors) meets = reports _ meets
   meets_blameless (Some (Changes n)) meets = reports _ meets
   meets_blameless (Some (Past n)) meets = reports _ meets
+  meets_blameless (Some Moments) meets = all _ meets.others quiet meets.does.reports.output_blameless meets.does.reports.notes_blameless meets.does.reports.file_blameless quiet quiet quiet
   meets_blameless (Some Revise) (course, meets) = all _ meets.others meets.leaves.1.blameless quiet meets.blameless.notes_blameless meets.blameless.file_blameless meets.leaves.0.blameless quiet quiet
   meets_blameless (Some (ReviseSince n)) (course, meets) = all _ meets.others meets.leaves.1.blameless quiet meets.blameless.notes_blameless meets.blameless.file_blameless meets.leaves.0.blameless quiet quiet
   meets_blameless (Some ListCommand) meets = reports _ meets
   meets_blameless (Some (Comment k p n)) meets = makes_note _ meets
   meets_blameless (Some Comments) meets = reports _ meets
+  meets_blameless (Some Remarks) meets = reports _ meets
+  meets_blameless (Some (Withdraw n)) meets = makes_note _ meets
+  meets_blameless (Some Remark) meets = makes_note _ meets
   meets_blameless (Some Version) meets = makes_note _ meets
   meets_blameless (Some Versions) meets = reports _ meets
   meets_blameless (Some View) meets = reports _ meets

@@ -14,7 +14,7 @@ use Rattle.replica_file.proofs.AppendLemmas.{same_content}
 use Rattle.command_kinds.proofs.CrashLemmas.{has_one, safe_at_rest}
 use Rattle.command_kinds.specs.Crashes.{IsFinished, IsSafe, NeverTorn, StaysSafe}
 use Rattle.command_kinds.specs.Files.{HasOps, HasOpsOr, Header}
-use Rattle.manuscript_cli.specs.Run.{Alone, Checking, Choosing, Family, Making, MeetsAs, NoCommand, Reporting, Saving, Serving, Showing, family}
+use Rattle.manuscript_cli.specs.Run.{Alone, Checking, Choosing, Family, Making, MeetsAs, NoCommand, Reporting, Saving, Serving, Showing, TellingMoments, family}
 use Rattle.manuscript_cli.specs.Runs.{AllBrought, Brought, CommandRun, DidAll, EachFinishedIsIn, FollowEachOther, GaveAs, GaveBy, IsMeanwhile, LeadsFrom, StandsBehind}
 use Rattle.manuscript_cli.specs.Touched.{Touched}
 use Rattle.command_kinds.specs.declared.status.Status.{Status}
@@ -129,6 +129,7 @@ module _ (old new : Touched) (end : Status) (began stood : History) (began_is : 
   goes (Reporting tells) meets = used (λ gave. gave ≡ []) meets.does.crash
   goes (Serving port sessions) meets = unused (ap (λ (t : Touched). t.home) meets.others)
   goes (Alone text) meets = unused (ap (λ (t : Touched). t.home) meets.others)
+  goes TellingMoments meets = used (λ gave. gave ≡ []) meets.does.reports.crash
   goes Checking meets =
       elim meets.does [
         | inl k ↦ used (λ gave. gave ≡ []) k.reports.crash

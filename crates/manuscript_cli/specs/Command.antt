@@ -2,14 +2,15 @@
 use Rattle.std.specs.Prelude.{◌≡◌, ◌≢◌, ◌⊎◌, ℕ, ◌≤◌, ◌-◌, false, List, [], ◌∷◌, codes, length, slice_get, Option, Some, None, IfSome}
 use Rattle.fugue_ids.specs.Titles.{has_line_end}
 use Rattle.fugue_ids.specs.declared.limits.TheConstants.{GREATEST_HOLD, LONGEST_BODY, LONGEST_TITLE}
+use Rattle.passage_remarks.specs.Spelling.{IsSpelled}
 use Rattle.version_views.specs.declared.limits.TheConstants.{LONGEST_NAME}
 use Rattle.outer_ports.specs.declared.disk.file_disk.Opening.{Opening}
 use Rattle.outer_ports.specs.declared.disk.file_disk.Opening.TheVariants.{Reading, Writing, Creating}
 use Rattle.bulk_world.specs.declared.making.TheConstants.{MOST_TURNS}
 use Rattle.manuscript_cli.specs.Number.{IsNumber}
 use Rattle.manuscript_cli.specs.declared.command.Command.{Command}
-use Rattle.manuscript_cli.specs.declared.command.Command.TheVariants.{Show, New, Edit, Print, Take, Send, Merge, Relay, Sync, Bulk, Why, Check, Move, Retitle, Arrange, Authors, Changes, Past, Revise, ReviseSince, List as ListCommand, Comment, Comments, Version, Versions, View, About}
-use Rattle.manuscript_cli.specs.declared.words.TheConstants.{GREATEST_CURSOR, GREATEST_MOMENT, GREATEST_PLACE, GREATEST_PORT, GREATEST_REPLICA, GREATEST_SEED, MOST_SESSIONS, USUAL_HOLD}
+use Rattle.manuscript_cli.specs.declared.command.Command.TheVariants.{Show, New, Edit, Print, Take, Send, Merge, Relay, Sync, Bulk, Why, Check, Move, Retitle, Arrange, Authors, Changes, Past, Moments, Revise, ReviseSince, List as ListCommand, Comment, Comments, Remarks, Withdraw, Remark, Version, Versions, View, About}
+use Rattle.manuscript_cli.specs.declared.words.TheConstants.{GREATEST_CURSOR, GREATEST_MOMENT, GREATEST_PLACE, GREATEST_PORT, GREATEST_REMARK, GREATEST_REPLICA, GREATEST_SEED, MOST_SESSIONS, USUAL_HOLD}
 
 -- `show HOLD`
 pub record NamesShow (words : List (List ℕ)) (hold : ℕ) : Type 0 where
@@ -119,6 +120,24 @@ pub record NamesComment (words : List (List ℕ)) (k p n : ℕ) : Type 0 where
   pub count_is : IsNumber count_word 1 GREATEST_PLACE n
   pub text_is : IsLine LONGEST_BODY text
 
+-- `withdraw FILE C`
+pub record NamesWithdraw (words : List (List ℕ)) (n : ℕ) : Type 0 where
+  pub file : List ℕ
+  pub some : file ≢ []
+  pub number_word : List ℕ
+  pub words_are : words ≡ codes "withdraw" ∷ file ∷ number_word ∷ []
+  pub number_is : IsNumber number_word 1 GREATEST_REMARK n
+
+-- `remark FILE PASSAGE TEXT`
+pub record NamesRemark (words : List (List ℕ)) : Type 0 where
+  pub file : List ℕ
+  pub some : file ≢ []
+  pub passage : List ℕ
+  pub text : List ℕ
+  pub words_are : words ≡ codes "remark" ∷ file ∷ passage ∷ text ∷ []
+  pub passage_is : IsSpelled passage
+  pub text_is : IsLine LONGEST_BODY text
+
 -- a name, FILE and the name of a version
 pub record NamesNamed (name : List ℕ) (words : List (List ℕ)) : Type 0 where
   pub file : List ℕ
@@ -168,11 +187,15 @@ Names words Arrange = NamesFile (codes "arrange") words
 Names words Authors = NamesFile (codes "authors") words
 Names words (Changes n) = NamesMoment (codes "changes") words n
 Names words (Past n) = NamesMoment (codes "past") words n
+Names words Moments = NamesFile (codes "moments") words
 Names words Revise = NamesTwo (codes "revise") words
 Names words (ReviseSince n) = NamesRevise words n
 Names words ListCommand = NamesFile (codes "list") words
 Names words (Comment k p n) = NamesComment words k p n
 Names words Comments = NamesFile (codes "comments") words
+Names words Remarks = NamesFile (codes "remarks") words
+Names words (Withdraw n) = NamesWithdraw words n
+Names words Remark = NamesRemark words
 Names words Version = NamesNamed (codes "version") words
 Names words Versions = NamesFile (codes "versions") words
 Names words View = NamesNamed (codes "view") words
@@ -202,6 +225,10 @@ guest_word _ words = None
 abbrev pub last_word : List (List ℕ) → List ℕ
 last_word words = elim (slice_get words (length words - 1)) [ None ↦ [] | Some word ↦ word ]
 
+-- the third word: the passage, where the command has one
+abbrev pub third_word : List (List ℕ) → List ℕ
+third_word words = elim (slice_get words 2) [ None ↦ [] | Some word ↦ word ]
+
 -- what the file that a command is about is opened for: to be made, to be read and written, or to be read alone
 abbrev pub opening_for : Command → Opening
 opening_for (New replica hold) = Creating
@@ -214,6 +241,8 @@ opening_for (Sync port cursor) = Writing
 opening_for (Move k j) = Writing
 opening_for (Retitle k) = Writing
 opening_for (Comment k p n) = Writing
+opening_for (Withdraw n) = Writing
+opening_for Remark = Writing
 opening_for Version = Writing
 opening_for _ = Reading
 

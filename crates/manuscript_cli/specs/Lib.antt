@@ -14,8 +14,11 @@ pub mod Relay
 pub mod Arrange
 pub mod Listing
 pub mod Margins
+pub mod Remarks
+pub mod Remark
 pub mod NamedVersions
 pub mod Past
+pub mod Moments
 pub mod Alone
 pub mod Run
 pub mod Runs

@@ -9,8 +9,9 @@ use Rattle.manuscript_cli.specs.Alone.{WritesAlone, about_text}
 use Rattle.bulk_world.specs.Summary.{bulk_text}
 use Rattle.manuscript_cli.specs.Changed.{authors_tells, changes_tells}
 use Rattle.manuscript_cli.specs.Check.{ChecksText}
-use Rattle.manuscript_cli.specs.Command.{last_word}
+use Rattle.manuscript_cli.specs.Command.{last_word, third_word}
 use Rattle.command_kinds.specs.New.{Creates}
+use Rattle.manuscript_cli.specs.Moments.{TellsMoments}
 use Rattle.manuscript_cli.specs.Past.{past_tells}
 use Rattle.command_kinds.specs.Printing.{NotesBlameless}
 use Rattle.command_kinds.specs.Refusal.{refusal_line, Told}
@@ -20,10 +21,13 @@ use Rattle.manuscript_cli.specs.Savers.{RunsSaving, Saver, edit_saver, merge_sav
 use Rattle.command_kinds.specs.Saving.{Outcome}
 use Rattle.command_kinds.specs.Show.{Shows}
 use Rattle.command_kinds.specs.Changes.{DiskBlameless, OutBlameless, SourceBlameless, WireBlameless, change}
+use Rattle.manuscript_cli.specs.Remark.{remark_on}
+use Rattle.manuscript_cli.specs.Remarks.{remarks_tells, withdraw_on}
 use Rattle.manuscript_cli.specs.Touched.{Touched}
+use Rattle.passage_remarks.specs.Spelling.{passage_of}
 use Rattle.manuscript_cli.specs.Why.{why_tells}
 use Rattle.manuscript_cli.specs.declared.command.Command.{Command}
-use Rattle.manuscript_cli.specs.declared.command.Command.TheVariants.{Show, New, Edit, Print, Take, Send, Merge, Relay, Sync, Bulk, Why, Check, Move, Retitle, Arrange, Authors, Changes, Past, Revise, ReviseSince, List as ListCommand, Comment, Comments, Version, Versions, View, About}
+use Rattle.manuscript_cli.specs.declared.command.Command.TheVariants.{Show, New, Edit, Print, Take, Send, Merge, Relay, Sync, Bulk, Why, Check, Move, Retitle, Arrange, Authors, Changes, Past, Moments, Revise, ReviseSince, List as ListCommand, Comment, Comments, Remarks, Withdraw, Remark, Version, Versions, View, About}
 use Rattle.command_kinds.specs.declared.refusal.Refusal.TheVariants.{Words}
 use Rattle.command_kinds.specs.declared.status.Status.{Status}
 use Rattle.command_kinds.specs.declared.status.Status.TheVariants.{Usage}
@@ -64,6 +68,11 @@ pub record RunsCheck (old new : Touched) (end : Status) : Type 0 where
   pub others : new ≡ record old { streams = new.streams; home = new.home }
   pub does : ChecksText (change old.streams.input new.streams.input) (change old.home new.home) (change old.streams.output new.streams.output) (change old.streams.notes new.streams.notes) end
 
+-- `moments` uses the file, the output, and the notes
+pub record RunsMoments (old new : Touched) (end : Status) : Type 0 where
+  pub others : new ≡ record old { streams = record old.streams { output = new.streams.output; notes = new.streams.notes }; home = new.home }
+  pub does : TellsMoments (change old.home new.home) (change old.streams.output new.streams.output) (change old.streams.notes new.streams.notes) end
+
 -- the commands, by what they promise
 pub data Family : Type 1 where
   NoCommand : Family
@@ -76,8 +85,9 @@ pub data Family : Type 1 where
   Serving : (port sessions : ℕ) → Family
   Alone : (text : List ℕ) → Family
   Checking : Family
+  TellingMoments : Family
 
--- by the words too: the last of them is the title of a retitle, the text of a comment or the name of a version; sections count from 1
+-- by the words too: the last of them is the title of a retitle, the text of a comment or the name of a version, and the third spells a passage; sections count from 1
 abbrev pub family : List (List ℕ) → Option Command → Family
 family words None = NoCommand
 family words (Some (Show hold)) = Showing hold
@@ -98,11 +108,15 @@ family words (Some Arrange) = Reporting arrange_tells
 family words (Some Authors) = Reporting authors_tells
 family words (Some (Changes n)) = Reporting (changes_tells n)
 family words (Some (Past n)) = Reporting (past_tells n)
+family words (Some Moments) = TellingMoments
 family words (Some Revise) = Choosing revise_saver
 family words (Some (ReviseSince n)) = Choosing (revise_since_saver n)
 family words (Some ListCommand) = Reporting list_tells
 family words (Some (Comment k p n)) = Saving (note_saver (comment_on k p n (last_word words)))
 family words (Some Comments) = Reporting comments_tells
+family words (Some Remarks) = Reporting remarks_tells
+family words (Some (Withdraw n)) = Saving (note_saver (withdraw_on n))
+family words (Some Remark) = Saving (note_saver (remark_on (passage_of (third_word words)) (last_word words)))
 family words (Some Version) = Saving (note_saver (version_on (last_word words)))
 family words (Some Versions) = Reporting versions_tells
 family words (Some View) = Reporting (view_tells (last_word words))
@@ -119,6 +133,7 @@ MeetsAs (Reporting tells) old new end = RunsReport tells old new end
 MeetsAs (Serving port sessions) old new end = RunsRelay port sessions old new end
 MeetsAs (Alone text) old new end = RunsAlone text old new end
 MeetsAs Checking old new end = RunsCheck old new end
+MeetsAs TellingMoments old new end = RunsMoments old new end
 
 abbrev pub Meets : List (List ℕ) → Option Command → Touched → Touched → Status → Type 0
 Meets words command = MeetsAs (family words command)

@@ -7,6 +7,7 @@ ghost use Rattle.manuscript_cli.specs.Check.{ChecksHeld, ChecksText, GetsPiece, 
 ghost use Rattle.command_kinds.specs.Changes.{change};
 ghost use Rattle.command_kinds.specs.declared.refusal.Refusal.TheVariants.{Outside, NoMemory as NoMemoryFound};
 
+use crate::held::Held;
 use command_kinds::{Refusal, Report, Status, Told, gone_out, load_file, tell, write_held};
 use fugue_ids::{BUFFER, NoMemory, write_whole};
 use order_proof::check_text;
@@ -81,7 +82,7 @@ impl Report for Verdict {
 fn is_valid(alloc: Global, replica: &Replica, text: &[u8]) -> Result<bool, NoMemory>
     ensures { IfOk result (λ valid. (valid ≡ true) ↔ IsValidText replica.now.held.history text.now) }
 {
-    check_text(alloc, replica.accepted(), text)
+    check_text(alloc, &Held { replica }, text)
 }
 
 fn answer(valid: bool) -> &'static [u8]

@@ -44,6 +44,8 @@ pub enum Command {
     Changes(u32),
     /// Print the sections of a file as they were arranged when so many operations were accepted.
     Past(u32),
+    /// Print how many operations of each kind came with each batch of a file, and how many were accepted then.
+    Moments,
     /// Revise what a file's replica shows until it is the draft on the input, which was written from what the other file
     /// has.
     Revise,
@@ -55,6 +57,12 @@ pub enum Command {
     Comment(u32, u32, u32),
     /// Print where the comments of a file stand, and what they say.
     Comments,
+    /// Print the comments of a file as remarks, in the order of the arrangement, with the passages that they are about.
+    Remarks,
+    /// Withdraw the comment of the remark of this number, counted from 1.
+    Withdraw(u32),
+    /// Comment on the one place where a passage stands in the arranged sections.
+    Remark,
     /// Name what a file's replica has accepted so far.
     Version,
     /// Print the versions of a file.
@@ -81,6 +89,8 @@ impl Command {
             | Command::Move(_, _)
             | Command::Retitle(_)
             | Command::Comment(_, _, _)
+            | Command::Withdraw(_)
+            | Command::Remark
             | Command::Version => Opening::Writing,
             Command::Show(_)
             | Command::Print
@@ -93,8 +103,10 @@ impl Command {
             | Command::Authors
             | Command::Changes(_)
             | Command::Past(_)
+            | Command::Moments
             | Command::List
             | Command::Comments
+            | Command::Remarks
             | Command::Versions
             | Command::View
             | Command::About => Opening::Reading,

@@ -45,7 +45,7 @@ impl<'a> MakesNote for NewComment<'a> {
 }
 
 /// The text as a note's body.
-fn text_body(alloc: Global, text: &str) -> Option<Body>
+pub(crate) fn text_body(alloc: Global, text: &str) -> Option<Body>
     ensures { IfSome result (λ body. (body ≡ text.now) × (is_text_of text.now ≡ true)) }
 {
     if !is_text(text.as_bytes()) {

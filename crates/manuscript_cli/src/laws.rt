@@ -11,11 +11,13 @@ ghost use Rattle.catalogue_notes.specs.declared.limits.TheConstants.{MOVE_CODE, 
 ghost use Rattle.margin_notes.specs.declared.limits.TheConstants.{COMMENT_CODE};
 ghost use Rattle.op_frame.specs.declared.encoding.TheConstants.{LONGEST_RUN};
 ghost use Rattle.version_views.specs.declared.limits.TheConstants.{LONGEST_NAME, VERSION_CODE};
+ghost use Rattle.manuscript_cli.specs.Moments.{MomentsTellFile};
 ghost use Rattle.manuscript_cli.specs.Past.{PastIsArranged, PastStays};
 ghost use Rattle.manuscript_cli.specs.Runs.{EachFinishedIsIn};
 ghost use Rattle.manuscript_cli.specs.declared.check.TheConstants.{LONGEST_TEXT};
 ghost use Rattle.manuscript_cli.specs.declared.words.TheConstants.{GREATEST_CURSOR, GREATEST_MOMENT, GREATEST_PLACE};
-ghost use Rattle.manuscript_cli.specs.declared.words.TheConstants.{GREATEST_PORT, GREATEST_REPLICA, GREATEST_SEED};
+ghost use Rattle.manuscript_cli.specs.declared.words.TheConstants.{GREATEST_PORT, GREATEST_REMARK, GREATEST_REPLICA};
+ghost use Rattle.manuscript_cli.specs.declared.words.TheConstants.{GREATEST_SEED};
 ghost use Rattle.manuscript_cli.specs.declared.words.TheConstants.{MOST_SESSIONS, USUAL_HOLD};
 
 /// Each limit, and the code of each kind of note, in numbers. The contracts name them, so that each stands once.
@@ -42,6 +44,7 @@ pub fn limits_in_numbers()
     ensures sessions { MOST_SESSIONS ≡ 65535 }
     ensures port { GREATEST_PORT ≡ 65535 }
     ensures replica { GREATEST_REPLICA ≡ 4294967295 }
+    ensures remark { GREATEST_REMARK ≡ 4294967295 }
     ensures cursor { GREATEST_CURSOR ≡ 4294967295 }
     ensures seed { GREATEST_SEED ≡ 4294967295 }
     ensures turns { MOST_TURNS ≡ 1000000 }
@@ -61,4 +64,10 @@ pub fn every_finished_command_is_in_the_file()
 pub fn past_stays()
     ensures arranged { PastIsArranged }
     ensures stays { PastStays }
+{}
+
+/// What `moments` prints of a file, added up, is what the file has: the last moment is the number of operations that are
+/// accepted, and each of these is told of once.
+pub fn moments_tell_file()
+    ensures { MomentsTellFile }
 {}

@@ -9,13 +9,17 @@ mod check;
 mod command;
 mod comments;
 mod counting;
+mod held;
 mod laws;
 mod list;
+mod moments;
 mod moving;
 mod number;
 mod past;
 mod plain_file;
 mod relay;
+mod remark;
+mod remarks;
 mod revise;
 mod revise_since;
 mod section_counts;
@@ -26,6 +30,8 @@ mod words;
 
 pub use command::Command;
 pub use command_kinds::{Refusal, Status, VersionName, tell};
-pub use laws::{every_finished_command_is_in_the_file, limits_in_numbers, past_stays};
+pub use laws::{
+    every_finished_command_is_in_the_file, limits_in_numbers, moments_tell_file, past_stays,
+};
 pub use top::run;
 pub use words::{files_of, read_words};

@@ -17,15 +17,18 @@ use crate::changed::{Authors, Changes};
 use crate::check::check_file;
 use crate::comments::{Comments, NewComment};
 use crate::list::Contents;
+use crate::moments::write_moments;
 use crate::moving::{Move, Retitle};
 use crate::number::index_of;
 use crate::past::Past;
 use crate::relay::relay;
+use crate::remark::Remark;
+use crate::remarks::{Remarks, withdraw_remark};
 use crate::revise::revise_file;
 use crate::revise_since::revise_file_since;
 use crate::versions::{NewVersion, Versions, View};
 use crate::why::Why;
-use crate::words::last_of;
+use crate::words::{last_of, third_of};
 use crate::{Command, read_words};
 use catalogue_notes::arranged_by_set;
 use command_kinds::{
@@ -196,6 +199,7 @@ fn obey<S: Source, O: Sink, N: Sink, H: Disk, G: Disk, W: Wire, D: Dock, B: Buil
         Command::Authors => write_report(alloc, &Authors, home, output, notes),
         Command::Changes(count) => write_report(alloc, &Changes { count }, home, output, notes),
         Command::Past(count) => write_report(alloc, &Past { count }, home, output, notes),
+        Command::Moments => write_moments(alloc, home, output, notes),
         Command::Revise => revise_file(alloc, input, home, guest, notes),
         Command::ReviseSince(count) => {
             revise_file_since(alloc, count, input, home, guest, notes)
@@ -211,6 +215,15 @@ fn obey<S: Source, O: Sink, N: Sink, H: Disk, G: Disk, W: Wire, D: Dock, B: Buil
             save_note(alloc, &comment, home, notes)
         }
         Command::Comments => write_report(alloc, &Comments, home, output, notes),
+        Command::Remarks => write_report(alloc, &Remarks, home, output, notes),
+        Command::Withdraw(number) => withdraw_remark(alloc, number, home, notes),
+        Command::Remark => {
+            let remark = Remark {
+                passage: third_of(words),
+                text: last_of(words),
+            };
+            save_note(alloc, &remark, home, notes)
+        }
         Command::Version => {
             let name = last_of(words);
             save_note(alloc, &NewVersion { name }, home, notes)

@@ -4,6 +4,7 @@ ghost use Rattle.fugue_ids.specs.Identifiers.{Identifier};
 ghost use Rattle.order_proof.specs.Certificates.{Claims, IsValid};
 ghost use Rattle.manuscript_cli.specs.Why.{HasPlaces, why_tells};
 
+use crate::held::Held;
 use command_kinds::{Refusal, Report, Told, gone_out};
 use fugue_ids::{ElementId, NoMemory};
 use order_proof::{Proof, prove, write_proof};
@@ -47,7 +48,7 @@ impl Why {
         ensures valid { IfOk result (λ proof. IsValid replica.now.held.history proof) }
         ensures claims { IfOk result (λ proof. Claims x y proof) }
     {
-        prove(alloc, replica.accepted(), x, y)
+        prove(alloc, &Held { replica }, x, y)
     }
 }
 

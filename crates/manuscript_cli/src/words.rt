@@ -1,6 +1,8 @@
 ghost use Rattle.std.specs.Prelude.{◌≡◌, ◌≢◌, ◌↔◌, ◌∷◌, [], ℕ, IfSome, IsTrue, Some, codes, map, string_bytes};
 ghost use Rattle.std.specs.Option.{option_copied};
-ghost use Rattle.manuscript_cli.specs.Command.{HasFiles, IsCommand, IsLine, IsMoment, last_word};
+ghost use Rattle.fugue_ids.specs.declared.limits.TheConstants.{LONGEST_BODY as longest_body};
+ghost use Rattle.passage_remarks.specs.Spelling.{IsSpelled};
+ghost use Rattle.manuscript_cli.specs.Command.{HasFiles, IsCommand, IsLine, IsMoment, last_word, third_word};
 ghost use Rattle.manuscript_cli.specs.Number.{IsNumber};
 ghost use Rattle.manuscript_cli.specs.declared.words.TheConstants.{GREATEST_PORT as greatest_port};
 
@@ -8,6 +10,7 @@ use crate::Command;
 use crate::number::read_number;
 use bulk_world::MOST_TURNS;
 use fugue_ids::{GREATEST_HOLD, LONGEST_BODY, LONGEST_TITLE, has_line_end};
+use passage_remarks::is_spelled;
 use version_views::LONGEST_NAME;
 
 /// How many operations may wait where `show` stands alone.
@@ -28,6 +31,9 @@ const GREATEST_PLACE: u32 = u32::MAX;
 
 /// The greatest number of operations after which a file is looked at.
 const GREATEST_MOMENT: u32 = u32::MAX;
+
+/// The greatest number of a remark.
+const GREATEST_REMARK: u32 = u32::MAX;
 
 /// How many sessions a relay serves at most.
 const MOST_SESSIONS: u32 = 65_535;
@@ -93,8 +99,10 @@ fn read_one(name: &str, word: &str) -> Option<Command>
         "check" if !word.is_empty() => Some(Command::Check),
         "arrange" if !word.is_empty() => Some(Command::Arrange),
         "authors" if !word.is_empty() => Some(Command::Authors),
+        "moments" if !word.is_empty() => Some(Command::Moments),
         "list" if !word.is_empty() => Some(Command::List),
         "comments" if !word.is_empty() => Some(Command::Comments),
+        "remarks" if !word.is_empty() => Some(Command::Remarks),
         "versions" if !word.is_empty() => Some(Command::Versions),
         _ => None,
     }
@@ -110,10 +118,21 @@ fn read_two(name: &str, file: &str, other: &str) -> Option<Command>
         "bulk" => read_bulk(file, other),
         "version" if is_named(file, other) => Some(Command::Version),
         "view" if is_named(file, other) => Some(Command::View),
+        "withdraw" => read_withdraw(file, other),
         "past" => read_moment(file, other).map(Command::Past),
         "changes" => read_moment(file, other).map(Command::Changes),
         _ => None,
     }
+}
+
+fn read_withdraw(file: &str, number: &str) -> Option<Command>
+    ensures { IsCommand (codes "withdraw" ∷ file.now ∷ number.now ∷ []) result }
+{
+    if file.is_empty() {
+        return None;
+    }
+    let number = read_number(number, 1, GREATEST_REMARK)?;
+    Some(Command::Withdraw(number))
 }
 
 /// Reads the words of a file and of a number of operations.
@@ -161,6 +180,7 @@ fn read_three(name: &str, file: &str, first: &str, second: &str) -> Option<Comma
         "move" => read_move(file, first, second),
         "retitle" => read_retitle(file, first, second),
         "revise" => read_revise(file, first, second),
+        "remark" if is_remark(file, first, second) => Some(Command::Remark),
         _ => None,
     }
 }
@@ -173,6 +193,13 @@ fn read_revise(file: &str, base: &str, number: &str) -> Option<Command>
     }
     let count = read_moment(file, number)?;
     Some(Command::ReviseSince(count))
+}
+
+/// Whether the words are a file, a passage and a comment's text.
+fn is_remark(file: &str, passage: &str, text: &str) -> bool
+    ensures { IsTrue result ↔ ((file.now ≢ []) × IsSpelled passage.now × IsLine longest_body text.now) }
+{
+    !file.is_empty() && is_spelled(passage.as_bytes()) && is_line(text, LONGEST_BODY)
 }
 
 fn read_move(file: &str, section: &str, place: &str) -> Option<Command>
@@ -280,6 +307,16 @@ fn read_comment(file: &str, section: &str, first: &str, count: &str, text: &str)
     let first = read_number(first, 0, GREATEST_PLACE)?;
     let count = read_number(count, 1, GREATEST_PLACE)?;
     Some(Command::Comment(section, first, count))
+}
+
+/// The third of the words: the passage, where a command takes one.
+pub(crate) fn third_of(words: &[String]) -> &str
+    ensures { result.now ≡ third_word (map string_bytes words.now) }
+{
+    match words.get(2) {
+        Some(word) => word.as_str(),
+        None => "",
+    }
 }
 
 /// The last of the words: the title, the comment or the name, where a command takes one.

@@ -1,7 +1,7 @@
 use Rattle.std.proofs.Common.{subst}
 use Rattle.std.proofs.lemmas.Result.{err_from_is_err_and}
 use Rattle.command_kinds.specs.Intake.{FeedsNot}
-use Rattle.command_kinds.proofs.MergeLemmas.{fed_not}
+use Rattle.manuscript_cli.proofs.RevisingSinceLemmas.{fed_not}
 use Rattle.manuscript_cli.proofs.revise_since.take_copy.Goals as goal
 
 pub returns-in_err-feed-clause-err : goal.returns-in_err-feed-clause-err

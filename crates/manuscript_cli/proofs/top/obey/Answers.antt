@@ -5,7 +5,7 @@ use Rattle.manuscript_cli.specs.Touched.{touched}
 use Rattle.manuscript_cli.proofs.ObeyLemmas.{obeyed}
 use Rattle.manuscript_cli.proofs.RunLemmas.{hold_in_range}
 use Rattle.manuscript_cli.proofs.top.obey.Goals as goal
-use Rattle.manuscript_cli.proofs.top.obey.Goals.{in-Show, in-New, in-Edit, in-Print, in-Take, in-Send, in-Merge, in-Relay, in-Sync, in-Bulk, in-Why, in-Check, in-Move, in-Retitle, in-Arrange, in-Authors, in-Changes, in-Past, in-Revise, in-ReviseSince, in-List, in-Comment, in-Comments, in-Version, in-Versions, in-View, in-About}
+use Rattle.manuscript_cli.proofs.top.obey.Goals.{in-Show, in-New, in-Edit, in-Print, in-Take, in-Send, in-Merge, in-Relay, in-Sync, in-Bulk, in-Why, in-Check, in-Move, in-Retitle, in-Arrange, in-Authors, in-Changes, in-Past, in-Moments, in-Revise, in-ReviseSince, in-List, in-Comment, in-Comments, in-Remarks, in-Withdraw, in-Remark, in-Version, in-Versions, in-View, in-About}
 
 pub show-requires-clause-from : goal.show-requires-clause-from
 show-requires-clause-from g c = (hold_in_range _ _ (subst (Names _) c.in-Show.is c.requires)).0
@@ -45,11 +45,15 @@ returns-clause-meets g c =
       | in-Authors w ↦ obeyed words _ _ old _ _ _ _ w.in-Authors.is (λ i. touched (g.S.Source.seen (w.input-is i)) (g.O.Out.seen (w.output-is i)) (g.N.Out.seen (w.notes-is i)) (g.H.Disk.seen (w.home-is i)) (g.G.Disk.seen (w.guest-is i)) (g.W.Wire.seen (w.wire-is i)) (g.D.Dock.seen (w.dock-is i))) w.result-is (record { others = refl; does = w.write_report-in-Authors.ensures })
       | in-Changes w ↦ obeyed words _ _ old _ _ _ _ w.in-Changes.is (λ i. touched (g.S.Source.seen (w.input-is i)) (g.O.Out.seen (w.output-is i)) (g.N.Out.seen (w.notes-is i)) (g.H.Disk.seen (w.home-is i)) (g.G.Disk.seen (w.guest-is i)) (g.W.Wire.seen (w.wire-is i)) (g.D.Dock.seen (w.dock-is i))) w.result-is (record { others = refl; does = w.write_report-in-Changes.ensures })
       | in-Past w ↦ obeyed words _ _ old _ _ _ _ w.in-Past.is (λ i. touched (g.S.Source.seen (w.input-is i)) (g.O.Out.seen (w.output-is i)) (g.N.Out.seen (w.notes-is i)) (g.H.Disk.seen (w.home-is i)) (g.G.Disk.seen (w.guest-is i)) (g.W.Wire.seen (w.wire-is i)) (g.D.Dock.seen (w.dock-is i))) w.result-is (record { others = refl; does = w.write_report-in-Past.ensures })
+      | in-Moments w ↦ obeyed words _ _ old _ _ _ _ w.in-Moments.is (λ i. touched (g.S.Source.seen (w.input-is i)) (g.O.Out.seen (w.output-is i)) (g.N.Out.seen (w.notes-is i)) (g.H.Disk.seen (w.home-is i)) (g.G.Disk.seen (w.guest-is i)) (g.W.Wire.seen (w.wire-is i)) (g.D.Dock.seen (w.dock-is i))) w.result-is (record { others = refl; does = w.write_moments.ensures })
       | in-Revise w ↦ obeyed words _ _ old _ _ _ _ w.in-Revise.is (λ i. touched (g.S.Source.seen (w.input-is i)) (g.O.Out.seen (w.output-is i)) (g.N.Out.seen (w.notes-is i)) (g.H.Disk.seen (w.home-is i)) (g.G.Disk.seen (w.guest-is i)) (g.W.Wire.seen (w.wire-is i)) (g.D.Dock.seen (w.dock-is i))) w.result-is (w.revise_file.ensures.saves.0, record { others = refl; does = w.revise_file.ensures.saves.1; blameless = w.revise_file.ensures.blameless; leaves = (w.revise_file.ensures.looks, w.revise_file.ensures.reads); unused = λ told why refuses. let same = w.revise_file.ensures.unused told why refuses in λ i. record old { streams = record old.streams { input = same.0 i }; guest = same.1 i } })
       | in-ReviseSince w ↦ obeyed words _ _ old _ _ _ _ w.in-ReviseSince.is (λ i. touched (g.S.Source.seen (w.input-is i)) (g.O.Out.seen (w.output-is i)) (g.N.Out.seen (w.notes-is i)) (g.H.Disk.seen (w.home-is i)) (g.G.Disk.seen (w.guest-is i)) (g.W.Wire.seen (w.wire-is i)) (g.D.Dock.seen (w.dock-is i))) w.result-is (w.revise_file_since.ensures.saves.0, record { others = refl; does = w.revise_file_since.ensures.saves.1; blameless = w.revise_file_since.ensures.blameless; leaves = (w.revise_file_since.ensures.looks, w.revise_file_since.ensures.reads, w.revise_file_since.ensures.moment); unused = λ told why refuses. let same = w.revise_file_since.ensures.unused told why refuses in λ i. record old { streams = record old.streams { input = same.0 i }; guest = same.1 i } })
       | in-List w ↦ obeyed words _ _ old _ _ _ _ w.in-List.is (λ i. touched (g.S.Source.seen (w.input-is i)) (g.O.Out.seen (w.output-is i)) (g.N.Out.seen (w.notes-is i)) (g.H.Disk.seen (w.home-is i)) (g.G.Disk.seen (w.guest-is i)) (g.W.Wire.seen (w.wire-is i)) (g.D.Dock.seen (w.dock-is i))) w.result-is (record { others = refl; does = w.write_report-in-List.ensures })
       | in-Comment w ↦ obeyed words _ _ old _ _ _ _ w.in-Comment.is (λ i. touched (g.S.Source.seen (w.input-is i)) (g.O.Out.seen (w.output-is i)) (g.N.Out.seen (w.notes-is i)) (g.H.Disk.seen (w.home-is i)) (g.G.Disk.seen (w.guest-is i)) (g.W.Wire.seen (w.wire-is i)) (g.D.Dock.seen (w.dock-is i))) w.result-is (record { others = refl; does = rw w.last_of.ensures at w.save_note-in-Comment.ensures.saves; blameless = w.save_note-in-Comment.ensures.blameless; leaves = tt; unused = λ told why refuses. refl })
       | in-Comments w ↦ obeyed words _ _ old _ _ _ _ w.in-Comments.is (λ i. touched (g.S.Source.seen (w.input-is i)) (g.O.Out.seen (w.output-is i)) (g.N.Out.seen (w.notes-is i)) (g.H.Disk.seen (w.home-is i)) (g.G.Disk.seen (w.guest-is i)) (g.W.Wire.seen (w.wire-is i)) (g.D.Dock.seen (w.dock-is i))) w.result-is (record { others = refl; does = w.write_report-in-Comments.ensures })
+      | in-Remarks w ↦ obeyed words _ _ old _ _ _ _ w.in-Remarks.is (λ i. touched (g.S.Source.seen (w.input-is i)) (g.O.Out.seen (w.output-is i)) (g.N.Out.seen (w.notes-is i)) (g.H.Disk.seen (w.home-is i)) (g.G.Disk.seen (w.guest-is i)) (g.W.Wire.seen (w.wire-is i)) (g.D.Dock.seen (w.dock-is i))) w.result-is (record { others = refl; does = w.write_report-in-Remarks.ensures })
+      | in-Withdraw w ↦ obeyed words _ _ old _ _ _ _ w.in-Withdraw.is (λ i. touched (g.S.Source.seen (w.input-is i)) (g.O.Out.seen (w.output-is i)) (g.N.Out.seen (w.notes-is i)) (g.H.Disk.seen (w.home-is i)) (g.G.Disk.seen (w.guest-is i)) (g.W.Wire.seen (w.wire-is i)) (g.D.Dock.seen (w.dock-is i))) w.result-is (record { others = refl; does = w.withdraw_remark.ensures.saves; blameless = w.withdraw_remark.ensures.blameless; leaves = tt; unused = λ told why refuses. refl })
+      | in-Remark w ↦ obeyed words _ _ old _ _ _ _ w.in-Remark.is (λ i. touched (g.S.Source.seen (w.input-is i)) (g.O.Out.seen (w.output-is i)) (g.N.Out.seen (w.notes-is i)) (g.H.Disk.seen (w.home-is i)) (g.G.Disk.seen (w.guest-is i)) (g.W.Wire.seen (w.wire-is i)) (g.D.Dock.seen (w.dock-is i))) w.result-is (record { others = refl; does = rw (w.third_of.ensures, w.last_of-in-Remark.ensures) at w.save_note-in-Remark.ensures.saves; blameless = w.save_note-in-Remark.ensures.blameless; leaves = tt; unused = λ told why refuses. refl })
       | in-Version w ↦ obeyed words _ _ old _ _ _ _ w.in-Version.is (λ i. touched (g.S.Source.seen (w.input-is i)) (g.O.Out.seen (w.output-is i)) (g.N.Out.seen (w.notes-is i)) (g.H.Disk.seen (w.home-is i)) (g.G.Disk.seen (w.guest-is i)) (g.W.Wire.seen (w.wire-is i)) (g.D.Dock.seen (w.dock-is i))) w.result-is (record { others = refl; does = rw w.last_of-name.ensures at w.save_note-in-Version.ensures.saves; blameless = w.save_note-in-Version.ensures.blameless; leaves = tt; unused = λ told why refuses. refl })
       | in-Versions w ↦ obeyed words _ _ old _ _ _ _ w.in-Versions.is (λ i. touched (g.S.Source.seen (w.input-is i)) (g.O.Out.seen (w.output-is i)) (g.N.Out.seen (w.notes-is i)) (g.H.Disk.seen (w.home-is i)) (g.G.Disk.seen (w.guest-is i)) (g.W.Wire.seen (w.wire-is i)) (g.D.Dock.seen (w.dock-is i))) w.result-is (record { others = refl; does = w.write_report-in-Versions.ensures })
       | in-View w ↦ obeyed words _ _ old _ _ _ _ w.in-View.is (λ i. touched (g.S.Source.seen (w.input-is i)) (g.O.Out.seen (w.output-is i)) (g.N.Out.seen (w.notes-is i)) (g.H.Disk.seen (w.home-is i)) (g.G.Disk.seen (w.guest-is i)) (g.W.Wire.seen (w.wire-is i)) (g.D.Dock.seen (w.dock-is i))) w.result-is (record { others = refl; does = rw w.last_of-name-in-View.ensures at w.write_report-in-View.ensures })

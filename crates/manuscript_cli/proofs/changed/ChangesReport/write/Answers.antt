@@ -1,4 +1,4 @@
-use Rattle.std.proofs.Common.{ap, inl, inr, length, subst, sym, ◌∙◌, ◌≡◌, ◌≤◌}
+use Rattle.std.proofs.Common.{ap, inl, length, subst, sym, ◌∙◌, ◌≡◌, ◌≤◌}
 use Rattle.std.specs.Prelude.{IfSome}
 use Rattle.origin_model.specs.edits.State.{State}
 use Rattle.version_views.specs.Fronts.{front_of}
