@@ -1,7 +1,8 @@
 #!/usr/bin/env bash
 # Large manuscripts, each within a minute: the summary of a million turns, whose numbers another program computed, a
-# text of 300,000 letters that one author puts at once and another takes in, scripts of many lines in one section, texts
-# of 100,000 letters that come in six orders, and batches of each power of two up to the longest.
+# text of 300,000 letters that one author puts at once and another takes in, scripts of many lines in one section, emoji
+# and Hangul without a space between them, a certificate of many steps, texts of 100,000 letters that come in six
+# orders, and batches of each power of two up to the longest.
 . "$(dirname "$0")/common.sh"
 
 # Whether what a command printed is what was wanted.
@@ -51,6 +52,44 @@ look 'puts in front of a long text' 'made 320001' "$(timeout 60 "$program" edit 
     for ((line = 0; line < 20000; line++)); do printf 'put 1 0 nineteen letters ok\ncut 1 0 19\n'; done
 } >"$work/script"
 look 'words that were cut again' 'made 760001' "$(timeout 60 "$program" edit "$work/4" <"$work/script" 2>&1)"
+
+# So many scalars of several bytes, a line of a script each, with no space between them.
+for scalar in 😀 한; do
+    rm -f "$work/5"
+    "$program" new "$work/5" 5 16 </dev/null
+    LC_ALL=C awk -v scalar="$scalar" 'BEGIN {
+        print "add 1 T"
+        for (line = 0; line < 40000; line++) print "put 1 " line " " scalar
+    }' >"$work/script"
+    look "lines of $scalar" 'made 40001' "$( (ulimit -t 10 && "$program" edit "$work/5") <"$work/script" 2>&1)"
+done
+
+# A certificate of 32,500 steps. Each step compares two letters by their right origins, which are those that the next one
+# compares. The left origins take turns, so that the chains are short.
+crossed() {
+    LC_ALL=C awk -v pairs="$1" '
+        function bytes(number) { printf "%c%c%c%c", number / 16777216, number / 65536 % 256, number / 256 % 256, number % 256 }
+        function origin(replica, at) { if (replica) { printf "\1"; bytes(replica); bytes(at) } else printf "%c", 0 }
+        function scalar(replica, at, left, right, name) {
+            printf "\2"; bytes(replica); bytes(at); bytes(9); bytes(0); origin(left, 0); origin(right, at - 1)
+            printf "%c%c%s", 0, 0, name
+        }
+        BEGIN {
+            scalar(7, 0, 0, 0, "z")
+            for (at = 0; at < pairs; at++) {
+                left = at % 2 ? 0 : 7
+                scalar(1, at, left, at ? 2 : 0, at == pairs - 1 ? "x" : "a")
+                scalar(2, at, left, at ? 1 : 0, at == pairs - 1 ? "y" : "a")
+            }
+        }'
+}
+{ printf "$section"; crossed 32500; } >"$work/frames"
+"$program" new "$work/6" 6 16 </dev/null
+"$program" take "$work/6" <"$work/frames" 2>/dev/null
+places=$("$program" print "$work/6" </dev/null | LC_ALL=C awk 'NR == 2 { print index($0, "x") - 1, index($0, "y") - 1 }')
+(ulimit -t 5 && "$program" why "$work/6" 1 $places) </dev/null >"$work/certificate" 2>"$work/notes"
+look 'the steps of a long certificate' 32500 "$(grep -c claim "$work/certificate")"
+look 'and it is valid' yes "$( (ulimit -t 5 && "$program" check "$work/6") <"$work/certificate" 2>&1)"
 
 # The frames of 100,000 letters, each directly behind the start or one that came before it, and the text that they make.
 # Two authors take turns: so no letter joins the run of another, but for a few at random, and each is a node of the tree.
