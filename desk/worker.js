@@ -1,10 +1,8 @@
 // Runs commands of the program apart from the page, so that typing does not wait for them. The first message is the
 // module. Asked with { number, words, files, input } it runs a command, and answers { number, status, output, notes,
-// files }, with the files that the command wrote. Asked with { number, bytes, hasLetters } it reads a file, and answers
-// { number, found }.
+// files }, with the files that the command wrote.
 
 import { File, run } from "./system.js";
-import { reading } from "./page/reader.js";
 
 // A file that knows whether it was written.
 class Watched extends File {
@@ -32,7 +30,7 @@ function ran(module, { words, files, input }) {
 
 function answer(module, asked) {
   try {
-    return asked.words ? ran(module, asked) : { found: reading(asked.bytes, asked.hasLetters) };
+    return ran(module, asked);
   } catch (why) {
     return { failure: String(why) };
   }

@@ -1,9 +1,10 @@
 #!/usr/bin/env bash
-# Tries the page, dist/desk.html, in a headless Chromium, as a writer uses it: desk.sh [GROUP..]
-# Before that it tries what the page asks before it takes a file, under Node alone. Where there is no page, no Node or no
-# Chromium, it says so and ends with status 0. The environment may have:
+# Tries the page, dist/desk.html, in a headless Chromium and in a headless Firefox, as a writer uses it: desk.sh
+# [GROUP..] Before that it tries, under Node alone, what the page asks before it takes a file, and undo beside others.
+# Where there is no page, no Node or neither browser, it says so and ends with status 0. The environment may have:
 #
 #     DESK         another page
+#     BROWSER      chromium or firefox: that one alone
 #     ONLY         a word: only the tests whose names have it are run
 #     SHOTS        a folder: pictures are left there
 #     SEED         another seed for the random actions
@@ -18,8 +19,37 @@ not_tried() {
     exit 0
 }
 
-command -v node >/dev/null || not_tried 'node'
+is_there() {
+    command -v "$@" >/dev/null
+}
+
+# Tries the page in a browser, if it is wanted. Node 20 knows WebSocket, by which Firefox is driven, by a flag alone.
+try_in() {
+    local browser=$1 flags=(--no-warnings)
+    shift
+    [ "${BROWSER:-$browser}" = "$browser" ] || return 0
+    node -e 'process.exit(globalThis.WebSocket ? 0 : 1)' || flags+=(--experimental-websocket)
+    echo "in $browser"
+    BROWSER=$browser DESK=$(realpath "$page") node "${flags[@]}" tests/desk/desk.mjs "$@" || status=1
+}
+
+is_there node || not_tried 'node'
 node --no-warnings tests/desk/asked.mjs || exit 1
+node --no-warnings tests/desk/undone.mjs || exit 1
 [ -f "$page" ] || not_tried "$page"
-command -v chromium chromium-browser google-chrome >/dev/null || not_tried 'Chromium'
-DESK=$(realpath "$page") exec node tests/desk/desk.mjs "$@"
+status=0
+has_browser=
+if is_there chromium || is_there chromium-browser || is_there google-chrome; then
+    has_browser=yes
+    try_in chromium "$@"
+else
+    echo 'not tried in Chromium, since there is none'
+fi
+if is_there firefox || is_there firefox-esr; then
+    has_browser=yes
+    try_in firefox "$@"
+else
+    echo 'not tried in Firefox, since there is none'
+fi
+[ -n "$has_browser" ] || not_tried 'browser'
+exit "$status"

@@ -1,5 +1,6 @@
 // What the page asks of the program, and how it reads the answers.
 
+import { placeOfScalar } from "./difference.js";
 import { inWords } from "./told.js";
 
 const ENCODER = new TextEncoder();
@@ -23,30 +24,66 @@ export class Refused extends Error {
   }
 }
 
-// The program, in a worker of its own.
+// After how long it is told that a command takes long.
+const LATE = 4000;
+
+const MOST_WORKERS = 2;
+
+// The program, in workers of its own, so that two commands can be at work at once. `onLate` is called where a command
+// takes long, and `onEnd` when it has ended.
 export class Program {
-  #worker;
+  #workers = [];
   #asked = new Map();
   #last = 0;
 
   constructor(worker, module) {
-    this.#worker = new Worker(URL.createObjectURL(new Blob([worker], { type: "text/javascript" })));
-    this.#worker.onmessage = ({ data }) => this.#answered(data);
-    this.#worker.postMessage(module);
+    this.module = module;
+    this.address = URL.createObjectURL(new Blob([worker], { type: "text/javascript" }));
+    this.#start();
+  }
+
+  #start() {
+    const worker = new Worker(this.address);
+    worker.onmessage = ({ data }) => this.#answered(data);
+    worker.postMessage(this.module);
+    this.#workers.push(worker);
+    return worker;
+  }
+
+  // The worker that has the least to do. The second one is begun when it is needed first.
+  #least() {
+    const asked = [...this.#asked.values()];
+    const loads = this.#workers.map((worker) => asked.filter((each) => each.worker === worker).length);
+    const least = Math.min(...loads);
+    if (least > 0 && this.#workers.length < MOST_WORKERS) return this.#start();
+    return this.#workers[loads.indexOf(least)];
+  }
+
+  // Ends the commands that are at work. What they would have written is not kept.
+  stop() {
+    const asked = [...this.#asked.keys()];
+    for (const worker of this.#workers) worker.terminate();
+    this.#workers = [];
+    this.#start();
+    for (const number of asked) this.#answered({ number, failure: "it was stopped." });
   }
 
   #answered({ number, failure, ...answer }) {
-    const { done, failed } = this.#asked.get(number);
+    const { done, failed, late } = this.#asked.get(number);
     this.#asked.delete(number);
+    clearTimeout(late);
+    if (this.#asked.size === 0) this.onEnd?.();
     if (failure === undefined) done(answer);
     else failed(new Error(`The program stopped: ${failure}`));
   }
 
   #ask(asked) {
     const number = (this.#last += 1);
+    const worker = this.#least();
     return new Promise((done, failed) => {
-      this.#asked.set(number, { done, failed });
-      this.#worker.postMessage({ number, ...asked });
+      const late = setTimeout(() => this.onLate?.(), LATE);
+      this.#asked.set(number, { worker, done, failed, late });
+      worker.postMessage({ number, ...asked });
     });
   }
 
@@ -61,11 +98,6 @@ export class Program {
     const answer = await this.run(words, given);
     if (answer.status !== 0 && answer.status !== 3) throw new Refused(words, answer);
     return answer;
-  }
-
-  // Reads a file apart from the program: see reader.js.
-  async read(bytes, hasLetters) {
-    return (await this.#ask({ bytes, hasLetters })).found;
   }
 }
 
@@ -86,6 +118,31 @@ export function formOf(parts) {
   return parts.map(({ title, text }) => `# ${title}\n${text}\n`).join("");
 }
 
+// What `authors` prints: of each section as it is arranged its key, which tells it apart, and who wrote its letters, as
+// pairs of an author and how many letters.
+export function authorsOf(output) {
+  const sections = [];
+  for (const line of linesOf(output)) {
+    const [, first, second] = /^ {0,2}(\d+) ([\d.]+)$/.exec(line);
+    if (line.startsWith(" ")) sections.at(-1).runs.push([Number(first), Number(second)]);
+    else sections.push({ key: second, runs: [] });
+  }
+  return sections;
+}
+
+// The sections of what `arrange` prints, where a text has a line like a title, by how many letters each has.
+export function partsByLength(text, authored) {
+  let at = 0;
+  return authored.map(({ key, runs }) => {
+    const line = text.indexOf("\n", at);
+    const count = runs.reduce((sum, [, letters]) => sum + letters, 0);
+    const end = line + 1 + placeOfScalar(text.slice(line + 1, line + 1 + 2 * count), count);
+    const part = { key, title: text.slice(at + 2, line), text: text.slice(line + 1, end) };
+    at = end + 1;
+    return part;
+  });
+}
+
 // What `list` prints: the counts, and for each section its number in the section list.
 export function listOf(output) {
   const [first, ...lines] = decoded(output).split("\n");
@@ -97,10 +154,21 @@ export function listOf(output) {
   return { replica, hold, accepted, waiting, numbers };
 }
 
-export function commentsOf(output) {
+// What `remarks` prints: of each comment its number, the place of its section, its passage in characters, and its text.
+// The line of its passage follows, where there is one.
+export function remarksOf(output) {
+  const lines = linesOf(output).map((line) => /^(\d+): (\d+) (\d+) (\d+) by (\d+) (.*)$/.exec(line));
+  return lines.filter(Boolean).map(([, ...words]) => {
+    const [number, place, first, count, author] = words.slice(0, 5).map(Number);
+    return { number, place, first, count, author, body: words[5] };
+  });
+}
+
+// What `moments` prints: how many operations the file had accepted at each, and what each brought.
+export function momentsOf(output) {
   return linesOf(output).map((line) => {
-    const [, section, start, end, body] = /^(\d+) (\d+) (\d+) (.*)$/.exec(line);
-    return { section: Number(section), start: Number(start), end: Number(end), body };
+    const [, count, about] = /^(\d+): (.*)$/.exec(line);
+    return { count: Number(count), about };
   });
 }
 

@@ -43,20 +43,25 @@ function shortened(text) {
 }
 
 export function showComments(section, editor) {
-  section.notes.replaceChildren(...(section.comments ?? []).map((note) => noteOf(section, note, editor)));
+  section.notes.replaceChildren(...section.comments.map((note) => noteOf(section, note, editor)));
 }
 
 function noteOf(section, note, editor) {
   const { start, end, body, author } = note;
   const passage = section.live.slice(start, end);
-  const find = () => section.select(start, end);
-  const from = author ? element("b", { className: `author by-${author}`, textContent: editor.nameOf(author), dir: "auto" }) : "";
+  const find = () => section.select(note.start, note.end);
+  const from = author ? signatureOf(author, editor) : "";
   const quote = passage
     ? button(`“${shortened(passage)}”`, find, { className: "quote", title: "Show the passage", dir: "auto" })
     : element("i", { textContent: "The passage was deleted." });
   const made = element("li", {}, quote, element("p", { textContent: body, dir: "auto" }), from);
-  if (note.counter !== undefined) made.append(button("Withdraw", () => withdraw(editor, note)));
+  if (author) made.append(button("Withdraw", () => withdraw(editor, note)));
   return made;
+}
+
+function signatureOf(author, editor) {
+  const textContent = editor.nameOf(author);
+  return element("b", { className: `author by-${author}`, textContent, dir: "auto" });
 }
 
 async function withdraw(editor, note) {

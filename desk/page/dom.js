@@ -38,13 +38,29 @@ export function withNames(line) {
   return line.split(/(?<=“)(.*?)(?=”)/s).map((piece, at) => (at % 2 ? element("bdi", { textContent: piece }) : piece));
 }
 
+// Gives a field the focus that it has. Where a dialog was closed with the mouse, Chromium gives the focus back, and
+// not the caret: what is typed then reaches no field.
+function regainCaret(field) {
+  if (!field?.matches("textarea, input")) return;
+  field.blur();
+  field.focus({ preventScroll: true });
+}
+
 // Shows a dialog until it is closed; it is then gone, and the focus is where it was.
 export function opened(dialog) {
   document.body.append(dialog);
   dialog.showModal();
+  // The caret is there again before the next key.
+  dialog.addEventListener("submit", (event) => {
+    if (event.defaultPrevented || event.target.method !== "dialog") return;
+    event.preventDefault();
+    dialog.close(event.submitter?.value ?? "");
+    regainCaret(document.activeElement);
+  });
   return new Promise((done) => {
     dialog.addEventListener("close", () => {
       dialog.remove();
+      regainCaret(document.activeElement);
       done(dialog.returnValue);
     });
   });

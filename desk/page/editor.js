@@ -1,7 +1,8 @@
 // The page of one manuscript.
 
 import { StoreFull } from "./store.js";
-import { Refused, encoded, faultOfTitle, formOf } from "./commands.js";
+import { Folder } from "./folder.js";
+import { Refused, encoded, formOf } from "./commands.js";
 import { Colours, SectionList, marksOfSection } from "./list.js";
 import { Manuscript } from "./manuscript.js";
 import { Section } from "./section.js";
@@ -10,9 +11,12 @@ import { ask, button, download, element, field, grouped, paragraph } from "./dom
 import { comment, showComments } from "./comments.js";
 import { printsBook, ways } from "./book.js";
 import { countsInWords, waitingInWords } from "./told.js";
+import { Finder } from "./find.js";
+import { Outline } from "./outline.js";
+import { Undo } from "./undo.js";
 import { more } from "./naming.js";
 import { putInText } from "./texts.js";
-import { showVersions } from "./versions.js";
+import { showChanges, showHistory } from "./history.js";
 
 const STATES = {
   saved: "Saved",
@@ -39,9 +43,13 @@ export class Editor {
       store, program, channel, record, view: this, makes: (part) => new Section(part, this),
     });
     this.help = help;
+    this.undo = new Undo(this.manuscript, this);
+    this.folder = new Folder(this);
+    this.finder = new Finder(this);
     this.build();
     this.list = new SectionList(this.sections);
     this.together = new Together(this, channel);
+    this.turned();
   }
 
   build() {
@@ -49,27 +57,62 @@ export class Editor {
     this.mark = element("span", { className: "state", textContent: "Opening …" });
     this.notices = element("div", { className: "notices", tabIndex: -1 });
     const report = element("div", { className: "report", role: "status", "aria-atomic": "false" }, this.mark,
-      this.notices);
-    this.authors = element("ul");
+      this.folder.mark, this.notices);
+    this.showsColours = element("input", { type: "checkbox", checked: true });
+    this.showsColours.onchange = () => {
+      this.paint();
+      if (!this.hidesColours) this.attempt(() => this.manuscript.decorate());
+    };
+    const shown = element("label", {}, this.showsColours, "Show the others' colours");
+    this.authors = element("ul", {}, element("li", {}, shown));
     this.legend = element("details", { className: "legend", open: true, hidden: true },
       element("summary", { textContent: "Who wrote what" }), this.authors);
     this.sections = element("div", { className: "sections" });
+    this.turns = [
+      button("Undo", () => this.turn("undo"), { title: "Take back what you did last (Ctrl Z)" }),
+      button("Redo", () => this.turn("redo"), { title: "Do again what was taken back (Ctrl Shift Z)" }),
+    ];
     const tools = element("nav", { className: "row", "aria-label": "Manuscript" },
+      ...this.turns,
+      button("Find", () => this.finder.show(), { title: "Find and replace in all sections (Ctrl F)" }),
       button("Exchange", () => exchange(this)),
-      button("Versions", () => showVersions(this)),
+      button("Versions", () => showHistory(this)),
       element("span", { className: "row", role: "group", "aria-label": "Take the text out" },
         ...ways(this).map(([form, take]) => button(form, take, { title: TITLES[form] }))),
       button("More", () => more(this)),
       button("Help", this.help),
     );
-    this.title = element("h1", { textContent: name, dir: "auto" });
+    // What is pressed with the mouse leaves the caret in the text.
+    tools.onmousedown = (event) => event.preventDefault();
+    this.title = element("h1", { textContent: name, dir: "auto", title: "Give it a name", onclick: () => more(this) });
     const home = element("a", { href: "#", textContent: "Manuscripts" });
     const bar = element("header", { className: "bar" }, home, this.title, tools);
+    this.outline = new Outline();
     const main = element("main", {}, this.legend, this.sections);
-    this.element = element("div", { className: "editor" }, element("div", { className: "top" }, bar, report), main);
+    const top = element("div", { className: "top" }, bar, this.finder.element, report);
+    const room = element("div", { className: "room" }, this.outline.element, main);
+    this.element = element("div", { className: "editor" }, top, room);
+    new ResizeObserver(() => room.style.setProperty("--top", `${top.offsetHeight}px`)).observe(top);
+    this.sections.addEventListener("focusin", ({ target }) => {
+      if (target.matches("input, textarea")) this.last = target;
+      this.outline.show(this.sectionAt(target));
+    });
     this.watchDrops();
     printsBook(this, this.leave.signal);
     this.watchKeys();
+    this.watchProgram();
+  }
+
+  // What takes long can be stopped.
+  watchProgram() {
+    const { program } = this.manuscript;
+    program.onLate = () => {
+      this.lateNotice?.remove();
+      const stop = button("Stop it", () => program.stop());
+      const words = "This takes long. What you type meanwhile is kept as a draft.";
+      this.lateNotice = this.notice(words, { actions: [stop] });
+    };
+    program.onEnd = () => this.lateNotice?.remove();
   }
 
   async open() {
@@ -77,6 +120,8 @@ export class Editor {
       await this.manuscript.load();
       await this.offerDrafts();
       await this.together.catchUp();
+      if (!this.manuscript.isBlank) await this.manuscript.remember("When it was opened");
+      this.folder.look();
     } catch (why) {
       this.fail(why);
     }
@@ -85,6 +130,8 @@ export class Editor {
   close() {
     this.manuscript.close();
     this.together.close();
+    this.folder.close();
+    this.outline.close();
     this.colours.remove();
     this.leave.abort();
   }
@@ -98,10 +145,21 @@ export class Editor {
     return this.manuscript.isReadOnly;
   }
 
+  // Goes on writing where the writer was.
+  goOn() {
+    if (this.last?.isConnected) this.last.focus();
+    else this.manuscript.sections[0]?.focus();
+  }
+
   // What the manuscript calls, as its view.
+
+  kept() {
+    this.folder.saved();
+  }
 
   place(sections) {
     this.list.place(sections);
+    this.outline.place(sections);
     if (!this.isPlaced && sections[0].isFresh) sections[0].focus();
     this.isPlaced = true;
   }
@@ -116,6 +174,7 @@ export class Editor {
     this.showState(name);
     if (name === "refused") this.refused(why);
     else if (name === "saved") this.saveNotice?.remove();
+    this.outline.count();
   }
 
   // A state that passes is not announced.
@@ -169,16 +228,15 @@ export class Editor {
   showLegend() {
     const { authors } = this.colours;
     this.legend.hidden = authors.length < 2;
-    const isShown = element("input", { type: "checkbox", checked: !this.hidesColours });
-    isShown.onchange = () => {
-      this.hidesColours = !isShown.checked;
-      this.paint();
-    };
     const names = authors.map((author) => button(this.nameOf(author), () => this.nameAuthor(author), {
       className: `author by-${author}`, title: `Author ${grouped(author)}: give a name`, dir: "auto",
     }));
-    const shown = element("label", {}, isShown, "Show the others' colours");
-    this.authors.replaceChildren(...[shown, ...names].map((entry) => element("li", {}, entry)));
+    for (const entry of [...this.authors.children].slice(1)) entry.remove();
+    this.authors.append(...names.map((entry) => element("li", {}, entry)));
+  }
+
+  get hidesColours() {
+    return !this.showsColours.checked;
   }
 
   nameOf(author) {
@@ -247,7 +305,11 @@ export class Editor {
   }
 
   async offerDrafts() {
-    const drafts = await this.manuscript.leftDrafts();
+    const left = await this.manuscript.leftDrafts();
+    const sure = this.manuscript.sure(left);
+    if (sure.length) await this.manuscript.putBack(sure);
+    if (sure.length) this.notice("What you wrote last was not saved when the page closed. It is in its place again.");
+    const drafts = left.filter((draft) => !sure.includes(draft));
     if (drafts.length === 0) return;
     const text = "When this manuscript was last open, something that you wrote was not saved in the file. Here it is:";
     const list = drafts.flatMap(({ sections }) => sections.map(({ live }) => live));
@@ -263,10 +325,58 @@ export class Editor {
     notice.firstChild.after(shown);
   }
 
-  // What the writer does at a section.
+  // What the writer does at a section, and how it is taken back.
 
   edited() {
     this.manuscript.edited();
+  }
+
+  wrote(section, list) {
+    this.undo.wrote(section, list);
+  }
+
+  retitled(section, title) {
+    this.undo.retitled(section, title);
+  }
+
+  split(made) {
+    this.undo.did(made);
+  }
+
+  cameIn(section, list) {
+    this.undo.cameIn(section, list);
+  }
+
+  get lists() {
+    return this.undo.lists;
+  }
+
+  turned() {
+    const [undo, redo] = this.turns;
+    undo.disabled = !this.undo.canUndo || this.isReadOnly;
+    redo.disabled = !this.undo.canRedo || this.isReadOnly;
+  }
+
+  // "undo" or "redo".
+  turn(way) {
+    return this.isReadOnly ? null : this.attempt(() => this.undo[way]());
+  }
+
+  // Whether an event of an input asks to take something back or do it again.
+  isTurn(event) {
+    const way = { historyUndo: "undo", historyRedo: "redo" }[event.inputType];
+    if (!way) return false;
+    event.preventDefault();
+    this.turn(way);
+    return true;
+  }
+
+  undoButton() {
+    return button("Undo", () => this.turn("undo"));
+  }
+
+  agrees(line) {
+    return ask("Take it out again?", [paragraph(line)], { agree: "Take it out", isGrave: true });
   }
 
   titled(section, text) {
@@ -287,27 +397,24 @@ export class Editor {
   async move(section, place) {
     if (place < 1 || place > this.manuscript.sections.length) return;
     const focus = document.activeElement;
-    await this.manuscript.move(section, place);
+    this.undo.did(await this.manuscript.move(section, place));
     section.element.scrollIntoView({ block: "nearest" });
     if (section.element.contains(focus)) focus.focus();
   }
 
+  // What is deleted can be had back, so nothing is asked before.
   async drop(section) {
-    const lines = [paragraph(`This deletes “${section.saved.title}” and its text here, and for the others once they ` +
-      "take in your changes.")];
-    if (!(await ask("Delete this section?", lines, { agree: "Delete", isGrave: true }))) return;
-    await this.manuscript.drop(section);
+    const { title } = section.saved;
+    this.undo.did(await this.manuscript.drop(section));
+    this.notice(`“${title}” was deleted.`, { actions: [this.undoButton()] });
   }
 
-  async add(behind) {
-    const input = element("input", { required: true, dir: "auto" });
-    input.oninput = () => input.setCustomValidity(faultOfTitle(input.value));
-    const title = await ask("New section", [field("Title", input)], { agree: "Add", read: () => input.value });
-    if (!title) return;
-    await this.attempt(async () => {
-      await this.manuscript.add(title, behind);
-      this.manuscript.sections[this.manuscript.placeOf(behind)]?.focus();
-    });
+  // A section that is begun has the caret in its title.
+  add(behind) {
+    const section = this.manuscript.begin(behind);
+    this.undo.began(section);
+    section.element.scrollIntoView({ block: "nearest" });
+    section.title.focus();
   }
 
   // Files and sections that are dropped.
@@ -380,15 +487,23 @@ export class Editor {
   }
 
   watchKeys() {
-    const keys = { ArrowUp: "up", ArrowDown: "down", m: "comment" };
+    const keys = { ArrowUp: "up", ArrowDown: "down", KeyM: "comment" };
+    const chords = {
+      KeyS: () => this.manuscript.save(),
+      KeyF: () => this.finder.show(),
+      KeyZ: ({ shiftKey }) => this.turn(shiftKey ? "redo" : "undo"),
+      KeyY: () => this.turn("redo"),
+    };
     this.element.addEventListener("keydown", (event) => {
-      if (event.key === "s" && (event.ctrlKey || event.metaKey)) {
+      const does = isChord(event) && chords[codeOf(event)];
+      if (does && !(event.target.closest(".finder") && /Key[ZY]/.test(codeOf(event)))) {
         event.preventDefault();
-        this.manuscript.save();
+        does(event);
+        return;
       }
       const section = this.sectionAt(event.target);
       if (!event.altKey || !event.shiftKey || !section) return;
-      const name = keys[event.key] ?? keys[event.key.toLowerCase()];
+      const name = keys[codeOf(event)];
       if (!name) return;
       event.preventDefault();
       this.does(name, section);
@@ -398,7 +513,19 @@ export class Editor {
     }, { signal: this.leave.signal });
   }
 
-  came(counts, from) {
-    this.notice(`“${from}”: ${countsInWords(counts)}`, { kind: counts.conflict || counts.stray ? "grave" : "" });
+  came(counts, from, since) {
+    const actions = counts.accepted ? [button("What came", () => this.attempt(() => showChanges(this, since)))] : [];
+    const kind = counts.conflict || counts.stray ? "grave" : "";
+    this.notice(`“${from}”: ${countsInWords(counts)}`, { kind, actions });
   }
+}
+
+// Whether the key of commands is held: on a Mac the control key moves the caret.
+function isChord({ ctrlKey, metaKey, altKey }) {
+  return !altKey && (/^Mac/.test(navigator.platform) ? metaKey : ctrlKey);
+}
+
+// The key of an event by the letter that it writes, or, where a keyboard writes other letters, by its place.
+function codeOf({ key, code }) {
+  return /^[a-z]$/i.test(key) ? `Key${key.toUpperCase()}` : key.length === 1 ? code : key;
 }

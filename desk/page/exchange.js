@@ -1,7 +1,8 @@
 // Exchange with other authors: by files and streams, and with the other manuscripts of this browser.
 
-import { Refused, authorOfFile, countsOf, decoded, isFile } from "./commands.js";
+import { Refused, authorOfFile, authorsOf, countsOf, decoded, isFile, listOf } from "./commands.js";
 import { ask, bytesOf, button, chosenFiles, download, element, grouped, opened, paragraph } from "./dom.js";
+import { canChoose, folderPart } from "./folder.js";
 import { freshKey } from "./store.js";
 import { inWords } from "./told.js";
 import { isTextFile, takeInText } from "./texts.js";
@@ -38,35 +39,62 @@ export async function takeInFiles(editor, files, section) {
   }
 }
 
-async function takeInAsked(editor, bytes, name) {
-  if (await isWanted(editor, bytes, name)) editor.came(await editor.manuscript.takeIn(bytes), name);
+export async function takeInAsked(editor, bytes, name) {
+  if (!(await isWanted(editor, bytes, name))) return;
+  const { manuscript } = editor;
+  await manuscript.save();
+  await manuscript.remember(`Before “${name}” came in`);
+  const answer = await manuscript.takeIn(bytes);
+  editor.came(answer.counts, name, answer.since);
+  editor.undo.did(answer, `This takes out what came from “${name}”, here and for the others once they take in your ` +
+    "changes.");
 }
 
-// What came in can't be taken out again. So the page asks first, if what comes has changes of this manuscript's own
-// author that it lacks, or if a file has no section in common with it.
+// What came in can't be taken out again without deleting it for all. So the page asks first, if what comes has
+// changes of this manuscript's own author that it lacks, or if a file has no section in common with it.
 async function isWanted({ manuscript }, bytes, name) {
-  if (await hasOwnNews(manuscript, bytes)) return isOwnWanted(manuscript, name);
-  if (!isFile(bytes)) return true;
-  const [own, other] = await Promise.all([sectionsOf(manuscript, manuscript.bytes), sectionsOf(manuscript, bytes)]);
-  if (own.length === 0 || other.length === 0 || other.some((key) => own.includes(key))) return true;
+  const { isOwn, isCopy, isForeign } = await tried(manuscript, bytes);
+  if (isOwn || isCopy) return isOwnWanted(manuscript, name);
+  if (!isForeign) return true;
   const line = "It has no section in common with this manuscript, so it may belong to another one. What comes in " +
-    "becomes part of this manuscript, and can't be taken out again.";
+    "becomes part of this manuscript, and can't be taken out again without deleting it for all.";
   return ask(`Take in “${name}”?`, [paragraph(line)], { agree: "Take in" });
 }
 
-// Whether there are changes under the manuscript's own number that it lacks, or others in the place of its own. Bytes
-// that can't be read have none here: the program refuses them later.
-async function hasOwnNews({ program, record: { replica }, bytes }, given) {
-  const spentOf = ({ spent }) => spent.get(replica) ?? 0;
-  try {
-    const [own, other] = await Promise.all([program.read(bytes, false), program.read(given, false)]);
-    if (spentOf(other) > spentOf(own)) return true;
-    if (!isFile(given) || authorOfFile(given) !== replica) return false;
-    const files = [["own.ms", bytes], ["it.ms", given]];
-    return countsOf((await program.does(["merge", "own.ms", "it.ms"], { files })).notes).conflict > 0;
-  } catch {
-    return false;
-  }
+// What bytes would bring, tried by the program on a copy: their counts; whether changes of the manuscript's own
+// author come that it lacks; whether they are a copy of its file with others in the place of its own; and whether a
+// file has no section in common with it. What the program refuses has none of this here; `isByItself` leaves out the
+// second.
+export async function tried({ program, record: { replica }, bytes }, given, { isByItself = false } = {}) {
+  const words = isFile(given) ? ["merge", "own.ms", "it.ms"] : ["take", "own.ms"];
+  const files = [["own.ms", bytes], ["it.ms", given]];
+  const taken = await program.run(words, { files, input: isFile(given) ? undefined : given });
+  if (taken.status !== 0 && taken.status !== 3) return { refused: new Refused(words, taken) };
+  const counts = countsOf(taken.notes);
+  const isHers = isFile(given) && authorOfFile(given) === replica;
+  const isOwn = !isByItself && (await hasOwnNews(program, bytes, taken.files.get("own.ms") ?? bytes));
+  const isForeign = counts.accepted > 0 && (await isForeignTo(program, bytes, given));
+  return { counts, isOwn, isCopy: isHers && counts.conflict > 0, isForeign };
+}
+
+// A draft of what the file said before is refused if changes of its own author came in since.
+async function hasOwnNews(program, bytes, after) {
+  if (after === bytes) return false;
+  const { accepted } = listOf((await program.does(["list", "own.ms"], { files: [["own.ms", bytes]] })).output);
+  const { output: base } = await program.does(["past", "own.ms", accepted], { files: [["own.ms", bytes]] });
+  const files = [["own.ms", after], ["base.txt", base]];
+  const { notes } = await program.run(["revise", "own.ms", "base.txt", accepted], { files, input: base });
+  return /^own operations since /m.test(notes);
+}
+
+async function isForeignTo(program, bytes, given) {
+  if (!isFile(given)) return false;
+  const keys = async (file) => {
+    const { output } = await program.does(["authors", "it.ms"], { files: [["it.ms", file]] });
+    return authorsOf(output).map(({ key }) => key);
+  };
+  const [own, other] = await Promise.all([keys(bytes), keys(given)]);
+  return own.length > 0 && other.length > 0 && !other.some((key) => own.includes(key));
 }
 
 function isOwnWanted({ record: { replica } }, name) {
@@ -77,12 +105,6 @@ function isOwnWanted({ record: { replica } }, name) {
       "another number, from what you have, and go on in that one: what two write with one number never agrees again.",
   ];
   return ask(`Take in “${name}”?`, lines.map(paragraph), { agree: "Take in", isGrave: true });
-}
-
-// The keys of the sections of a file. Bytes that are no manuscript have none here: the program refuses them later.
-async function sectionsOf({ program }, bytes) {
-  const { arranged } = await program.read(bytes, false).catch(() => ({ arranged: [] }));
-  return arranged.map(({ key }) => key);
 }
 
 // Keeps a manuscript together with the others of its circle, which other tabs or other authors here write.
@@ -138,9 +160,9 @@ export class Together {
     const { manuscript } = this;
     const other = await manuscript.store.record(id);
     if (!other || manuscript.isClosed || manuscript.record.taken?.[id] === other.revision) return null;
-    const counts = await manuscript.takeIn((await manuscript.store.file(id)).bytes);
+    const { counts, since } = await manuscript.takeIn((await manuscript.store.file(id)).bytes);
     await manuscript.keepRecord({ taken: { ...manuscript.record.taken, [id]: other.revision } });
-    if (counts.conflict || counts.stray || counts.full) this.editor.came(counts, other.name);
+    if (counts.conflict || counts.stray || counts.full) this.editor.came(counts, other.name, since);
     return counts;
   }
 }
@@ -158,10 +180,11 @@ export async function exchange(editor) {
   const others = element("ul", { className: "others" });
   dialog.append(
     element("h2", { textContent: "Exchange" }),
+    ...(canChoose() ? [folderPart(editor, dialog)] : []),
     part("What others wrote", "Take in another author's file or stream: choose it here, or drop it on this page. " +
       "Their changes are added to yours, passages are never mixed, and what they deleted is deleted here too.", take),
-    part("What you wrote", "Give the others what you have, by mail, on a stick, or in a shared folder: a stream, which " +
-      "they take in.", send),
+    part("What you wrote", "Give the others what you have, by mail, on a stick, or in a shared folder: a stream, " +
+      "which they take in.", send),
     part("Your backup", "Your own file, as this browser keeps it. Keep it for yourself: whoever writes in it writes " +
       "with your number, and that never agrees with what you write.", back),
     part("In this browser", "", others, button("Begin a copy for another author", () => {
@@ -176,7 +199,7 @@ export async function exchange(editor) {
   await opened(dialog);
 }
 
-function part(title, text, ...children) {
+export function part(title, text, ...children) {
   const made = element("section", {}, element("h3", { textContent: title }));
   if (text) made.append(element("p", { textContent: text }));
   made.append(...children);
@@ -186,6 +209,7 @@ function part(title, text, ...children) {
 async function giveFile({ manuscript }) {
   await manuscript.save();
   download(`${manuscript.record.name} (backup).ms`, manuscript.bytes);
+  await manuscript.keepRecord({ copied: Date.now() });
 }
 
 async function giveStream({ manuscript }) {

@@ -1,8 +1,9 @@
 // The manuscripts that the browser keeps.
 
 import { FILES, kindOf } from "./exchange.js";
-import { Refused, countsOf, decoded, encoded, formOf, isFile } from "./commands.js";
+import { Refused, authorOfFile, countsOf, decoded, encoded, formOf, isFile } from "./commands.js";
 import { ask, bytesOf, button, chosenFiles, download, element, field, grouped, paragraph, tell } from "./dom.js";
+import { canChoose, chosenFolder, filesIn, ownerOf } from "./folder.js";
 import { UNTITLED, drawnNumber, freeName, nameInput, numberInput } from "./naming.js";
 import { isTextFile, nameOfText, sectionsOfText } from "./texts.js";
 import { freshKey } from "./store.js";
@@ -13,6 +14,7 @@ const HOLD = 10000;
 export class Shelf {
   constructor({ store, program }) {
     Object.assign(this, { store, program });
+    this.folders = new Map();
   }
 
   // Makes a manuscript at once, for an author with a number drawn at random.
@@ -32,10 +34,10 @@ export class Shelf {
     return given && this.make({ ...given, from, circle });
   }
 
-  async make({ name, replica, from, circle }) {
+  async make({ name, replica, from, circle, folder }) {
     const made = await this.program.does(["new", "new.ms", replica, HOLD]);
     const filled = await this.filled(made.files.get("new.ms"), from);
-    return this.keep({ name, replica, circle, ...filled });
+    return this.keep({ name, replica, circle, folder, ...filled });
   }
 
   // Makes a manuscript at once of a text.
@@ -58,11 +60,43 @@ export class Shelf {
     return { bytes: answer.files.get("new.ms") ?? bytes, waiting: countsOf(answer.notes).waiting };
   }
 
-  async keep({ name, replica, circle = freshKey(), bytes, text, waiting }) {
-    const record = { id: freshKey(), name, replica, circle, waiting, revision: 1, changed: Date.now() };
-    await this.store.keep(record, { bytes, text });
+  async keep({ name, replica, circle = freshKey(), bytes, text, waiting, folder }) {
+    const now = Date.now();
+    const record = { id: freshKey(), name, replica, circle, waiting, folder, revision: 1, changed: now, made: now };
+    const kept = this.store.keep(record, { bytes, text });
+    // A browser that can't keep a folder asks for it the next time.
+    await (folder ? kept.catch(() => this.store.keep({ ...record, folder: undefined }, { bytes, text })) : kept);
+    if (folder) this.folders.set(record.id, folder);
     navigator.storage?.persist?.();
     return record;
+  }
+
+  // Begins with a folder: from one's own file there, or as another author beside those that are there.
+  async bringFolder() {
+    const folder = await chosenFolder();
+    if (!folder) return null;
+    const known = [];
+    for (const [name, entry] of await filesIn(folder)) {
+      known.push({ name, bytes: await bytesOf(await entry.getFile()) });
+    }
+    const files = known.filter(({ bytes }) => isFile(bytes));
+    const chosen = files.length ? await askWhose(folder, files) : "new";
+    if (chosen === null) return null;
+    const name = folder.name.slice(0, 120) || UNTITLED;
+    if (chosen === "new") return this.make({ name, replica: drawnNumber(), from: files[0]?.bytes, folder });
+    const { bytes } = files[chosen];
+    const twin = (await this.store.records()).find(({ replica }) => replica === authorOfFile(bytes));
+    if (twin) return this.putIntoFolder(twin, folder);
+    const { text } = await kindOf(this.program, bytes);
+    return this.keep({ name, replica: authorOfFile(bytes), bytes, text, folder });
+  }
+
+  // A manuscript that is here already is not opened a second time.
+  async putIntoFolder({ id }, folder) {
+    this.folders.set(id, folder);
+    await this.store.exclusively(id, async () => this.store.keep({ ...(await this.store.record(id)), folder }))
+      .catch((why) => console.error(why));
+    return this.store.record(id);
   }
 
   // Takes a file into the list: as one's own, or as what another author wrote, from which one begins.
@@ -93,6 +127,42 @@ export class Shelf {
   }
 }
 
+// Asks which of the files of a folder is one's own: its place among them, or "new".
+function askWhose(folder, files) {
+  const choice = (value, words) => element("label", { className: "choice" },
+    element("input", { type: "radio", name: "file", value, required: true }), words);
+  const choices = [
+    choice("new", "None of them. I write with a number of my own, and take in what is there."),
+    ...files.map(({ name, bytes }, at) =>
+      choice(at, `“${name}” is mine (${ownerOf(bytes)}), and nobody writes in it elsewhere.`)),
+  ];
+  const read = () => choices.map((label) => label.querySelector("input")).find(({ checked }) => checked).value;
+  return ask(`Whose files are in “${folder.name}”?`, choices, { agree: "Begin", read });
+}
+
+// When a manuscript was copied to the disk last, and whether to remind of it: it was changed since, and the copy is
+// older than some days.
+const REMIND = 3 * 24 * 60 * 60 * 1000;
+
+function copyOf({ folder, copied, changed, made = 0 }) {
+  if (folder) return { words: `In the folder “${folder.name}”` };
+  const isOld = changed > (copied ?? made) && Date.now() - (copied ?? made) > REMIND;
+  if (!copied) return { words: "No copy on the disk yet", isOld };
+  return { words: `Last copy on the disk: ${timeInWords(copied)}`, isOld };
+}
+
+function timeInWords(at) {
+  return new Date(at).toLocaleString([], { dateStyle: "medium", timeStyle: "short" });
+}
+
+// What the browser answered when it was asked to keep what it has.
+async function keptInWords() {
+  const isKept = await navigator.storage?.persisted?.();
+  if (isKept) return "The browser keeps these manuscripts until you delete the data of this page. It is no backup.";
+  return "The browser did not agree to keep these manuscripts for good: it may delete them when the disk is full. " +
+    "Back them up.";
+}
+
 export class Home {
   constructor({ store, shelf, channel, help }) {
     Object.assign(this, { store, shelf, channel });
@@ -102,12 +172,14 @@ export class Home {
     const row = element("nav", { className: "row", "aria-label": "Manuscripts" },
       button("New manuscript", () => this.go(() => shelf.fresh()), { className: "main" }),
       button("Open a file …", async () => this.bring(await chosenFiles(FILES))),
+      ...(canChoose() ? [button("Open a folder …", () => this.go(() => shelf.bringFolder()))] : []),
       button("Help", help),
     );
     const two = element("p", {}, element("a", { href: "#two", textContent: "See how two authors write at one place" }));
     const bar = element("header", { className: "bar" }, element("h1", { textContent: "Manuscripts" }), row);
+    this.kept = element("p", { className: "kept" });
     this.element = element("div", { className: "home" }, bar,
-      element("main", {}, this.first, this.list, two));
+      element("main", {}, this.first, this.list, two, this.kept));
     this.watchDrops();
   }
 
@@ -124,32 +196,40 @@ export class Home {
     const records = await this.store.records();
     this.first.hidden = records.length > 0;
     this.list.replaceChildren(...records.map((record) => this.itemOf(record)));
+    this.kept.textContent = await keptInWords();
   }
 
   itemOf(record) {
     const { id, name, replica, changed } = record;
+    const { words, isOld } = copyOf(record);
     const link = element("a", { href: `#open=${id}`, textContent: name, dir: "auto" });
-    const when = new Date(changed).toLocaleString([], { dateStyle: "medium", timeStyle: "short" });
-    const facts = element("small", { textContent: `Changed ${when}, author number ${grouped(replica)}` });
+    const about = `Changed ${timeInWords(changed)}, author number ${grouped(replica)}`;
+    const facts = element("small", { textContent: about });
+    const [className, textContent] = isOld ? ["copy old", `${words}. Back it up.`] : ["copy", words];
+    const copy = element("small", { className, textContent });
     const acts = element("div", { className: "row" },
       button("Back up", () => this.attempt(() => this.backUp(record))),
       button("Rename", () => this.attempt(() => this.rename(record))),
       button("Remove", () => this.attempt(() => this.remove(record))),
     );
     for (const act of acts.children) act.setAttribute("aria-label", `${act.textContent} “${name}”`);
-    return element("li", {}, element("div", {}, link, facts), acts);
+    return element("li", {}, element("div", {}, link, facts, element("br"), copy), acts);
   }
 
   async backUp({ id, name }) {
     download(`${name} (backup).ms`, (await this.store.file(id)).bytes);
+    await this.change(id, { copied: Date.now() });
+  }
+
+  async change(id, changes) {
+    await this.store.exclusively(id, async () => this.store.keep({ ...(await this.store.record(id)), ...changes }));
+    await this.fill();
   }
 
   async rename({ id, name }) {
     const input = nameInput(name);
     const given = await ask("Rename", [field("Name", input)], { agree: "Rename", read: () => input.value });
-    if (!given) return;
-    await this.store.exclusively(id, async () => this.store.keep({ ...(await this.store.record(id)), name: given }));
-    await this.fill();
+    if (given) await this.change(id, { name: given });
   }
 
   async remove({ id, name }) {

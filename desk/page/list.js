@@ -62,7 +62,7 @@ export class Colours {
 }
 
 // The marks of a section: whose its letters are, and where it has comments.
-export function marksOfSection({ runs = [], comments = [] }, isShown) {
+export function marksOfSection({ runs, comments }, isShown) {
   const letters = runs.filter(({ author }) => isShown(author));
   const passages = comments.filter(({ start, end }) => start < end);
   return [

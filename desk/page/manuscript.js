@@ -4,15 +4,19 @@
 // first. So what comes in is a change of a saved text, and it is carried over to what was typed meanwhile.
 
 import {
-  commentsOf, countsOf, decoded, encoded, faultOfTitle, formOf, isBlankFile, isFile, listOf, partsOf, withoutHeadings,
+  authorsOf, countsOf, decoded, encoded, faultOfTitle, formOf, isBlankFile, isFile, listOf, momentsOf,
+  partsByLength, partsOf, withoutHeadings,
 } from "./commands.js";
 import { changes, clustersOf, movedPlace, placeOfScalar, withoutReturns } from "./difference.js";
 import { ChangedElsewhere, freshKey } from "./store.js";
 import { UNTITLED } from "./naming.js";
+import { commentsIn, withdrawn } from "./remarks.js";
 
-const HOME = "manuscript.ms";
+export const HOME = "manuscript.ms";
 const BASE = "base.txt";
 const OTHER = "other.ms";
+
+const MOST_MOMENTS = 100;
 
 // A draft of a section with more letters is kept at most five times a second, and not at each key.
 const LONG = 100000;
@@ -30,6 +34,7 @@ export class Manuscript {
     this.tab = freshKey();
     this.sections = [];
     this.lost = [];
+    this.mayHaveComments = true;
     this.queue = Promise.resolve();
     this.isReadOnly = false;
   }
@@ -43,14 +48,44 @@ export class Manuscript {
     return isBlankFile(this.bytes);
   }
 
-  // The sections that the file has: all but a fresh one.
+  // The sections that the file has: all but fresh ones.
   get known() {
     return this.sections.filter(({ isFresh }) => !isFresh);
   }
 
-  // A manuscript without sections has a fresh one to write in. It stays the last one while it is not in the file.
-  addFresh(fresh = this.makes({ title: "", text: "", isFresh: true })) {
-    if (this.sections.length === 0 || fresh.isDirty) this.sections.push(fresh);
+  // What `arrange` prints of the file.
+  get text() {
+    return formOf(this.known.map(({ saved }) => saved));
+  }
+
+  // Puts fresh sections to their places. A manuscript without sections has one to write in.
+  addFresh(fresh = []) {
+    for (const section of fresh.filter(({ isDirty }) => isDirty)) {
+      const behind = this.sections.indexOf(section.behind);
+      this.sections.splice(behind < 0 ? this.sections.length : behind + 1, 0, section);
+    }
+    if (this.sections.length > 0) return;
+    this.sections.push(fresh[0] ?? this.makes({ title: "", text: "", isFresh: true }));
+  }
+
+  // Begins a section after another one, at once. It comes into the file with the next save.
+  begin(behind) {
+    if (behind.isFresh) behind.isWanted = true;
+    const section = this.makes({ title: "", text: "", isFresh: true, isWanted: true });
+    section.behind = behind;
+    this.sections.splice(this.sections.indexOf(behind) + 1, 0, section);
+    this.view.place(this.sections);
+    this.edited();
+    return section;
+  }
+
+  // Takes a fresh section away.
+  unbegin(section) {
+    section.isWanted = false;
+    this.sections = this.sections.filter((other) => other !== section);
+    this.addFresh([section]);
+    this.view.place(this.sections);
+    this.edited();
   }
 
   // Opening: the text that was kept with the file is shown at once, and then what the program prints.
@@ -107,15 +142,38 @@ export class Manuscript {
   }
 
   // What bytes of the file say: the text, and its sections with their keys, which tell them apart. Where a text has a
-  // line like a title, there are more parts than sections.
+  // line like a title, what `arrange` prints has more parts than there are sections, and no draft can be made of it.
   async look(bytes) {
-    const text = await this.printed(bytes);
+    const [text, authored] = await Promise.all([this.printed(bytes), this.authored(bytes)]);
     const parts = partsOf(text);
-    const { arranged, authors, hasComments } = await this.program.read(bytes, false);
-    const hasOthers = hasComments || authors.some((author) => author !== this.record.replica);
-    const isReadOnly = arranged.length !== parts.length;
-    const sections = isReadOnly ? parts : parts.map((part, at) => ({ ...part, key: arranged[at].key }));
-    return { text, sections, isReadOnly, hasOthers };
+    const hasOthers = authored.some(({ runs }) => runs.some(([author]) => author !== this.record.replica));
+    const isReadOnly = authored.length !== parts.length;
+    const keyed = () => parts.map((part, at) => ({ ...part, key: authored[at].key }));
+    return { text, sections: isReadOnly ? partsByLength(text, authored) : keyed(), isReadOnly, hasOthers };
+  }
+
+  // What bytes of the file say where they have sections that were there before, in this order. Only the text is asked
+  // for, since reading who wrote what takes as long again.
+  async lookFor(wanted, bytes) {
+    const { isReadOnly, hasOthers } = this;
+    if (isReadOnly || wanted.some(({ key }) => key === undefined)) return this.look(bytes);
+    const text = await this.printed(bytes);
+    if (text !== formOf(wanted.map(({ saved }) => saved))) return this.look(bytes);
+    return { text, sections: wanted.map(({ key, saved }) => ({ key, ...saved })), isReadOnly, hasOthers };
+  }
+
+  // Who wrote what in bytes of the file.
+  async authored(bytes) {
+    if (this.lastAuthored?.bytes !== bytes) {
+      const { output } = await this.does(["authors", HOME], { bytes });
+      this.lastAuthored = { bytes, sections: authorsOf(output) };
+    }
+    return this.lastAuthored.sections;
+  }
+
+  // How many operations bytes of the file have accepted: the number of a moment.
+  async accepted(bytes = this.bytes) {
+    return listOf((await this.does(["list", HOME], { bytes })).output).accepted;
   }
 
   // The number of a section in the section list, by which scripts and comments count.
@@ -131,6 +189,7 @@ export class Manuscript {
     this.record = record;
     this.bytes = bytes;
     this.channel?.say({ id: this.id, circle: record.circle });
+    this.view.kept?.();
   }
 
   // Gives the author of a blank file another number.
@@ -174,6 +233,7 @@ export class Manuscript {
     await this.settled();
     this.bytes = bytes;
     this.record = record;
+    this.mayHaveComments = true;
     this.adopt(found);
     return true;
   }
@@ -188,7 +248,7 @@ export class Manuscript {
     Object.assign(this, { isReadOnly, hasOthers });
     const before = new Map(this.known.map((section, at) => [section.key ?? `at ${at}`, section]));
     const isFirst = this.known.every(({ key }) => key === undefined);
-    const fresh = this.sections.find((section) => section.isFresh);
+    const fresh = this.sections.filter((section) => section.isFresh);
     const after = parts.map((part, at) => {
       const name = isFirst ? `at ${at}` : part.key;
       const section = before.get(name);
@@ -240,6 +300,12 @@ export class Manuscript {
   async leftDrafts() {
     const open = await this.store.openTabs();
     return (await this.store.drafts(this.id)).filter(({ tab }) => tab !== this.tab && !open.has(tab));
+  }
+
+  // Those of them that can be put back as they were.
+  sure(drafts) {
+    const isSure = (entry) => this.sections.some((section) => section.isAsIn(entry));
+    return this.isReadOnly ? [] : drafts.filter(({ sections }) => sections.every(isSure));
   }
 
   async putBack(drafts) {
@@ -310,20 +376,20 @@ export class Manuscript {
 
   // The commands that bring what was typed into the file: a title by `retitle`, texts by `revise`.
   async saveDraft() {
-    const { lost } = this;
+    const { lost, text: before } = this;
     const sections = this.sections.filter(({ isFresh, isDirty }) => !isFresh || isDirty);
     const sent = sections.map((section) => (section.isDirty ? section.proposal() : section.clean()));
     const isChanged = ({ saved }, at) => saved.title !== sent[at].title || saved.text !== sent[at].text;
     if (this.isReadOnly || (lost.length === 0 && !sections.some(isChanged))) return;
     this.view.state("saving");
-    const { bytes: before, base } = await this.retitled(sections, sent);
+    const { bytes: titled, base } = await this.retitled(sections, sent);
     const made = sent.map((part) => part.parts ?? [part]);
     const parts = made.flat();
     for (const { place, live } of lost) parts.splice(Math.min(place - 1, parts.length), 0, live);
     const draft = formOf(parts);
-    const bytes = await this.revised(before, base, draft);
-    const fresh = sections.find(({ isFresh }) => isFresh);
-    const isNew = lost.length || fresh || sent.some((part) => part.parts);
+    const bytes = await this.revised(titled, base, draft);
+    const fresh = sections.filter(({ isFresh }) => isFresh);
+    const isNew = lost.length || fresh.length || sent.some((part) => part.parts);
     const found = isNew ? await this.look(bytes) : null;
     await this.keep(bytes, draft);
     for (const [at, section] of sections.entries()) {
@@ -331,8 +397,9 @@ export class Manuscript {
       section.isSplit = false;
     }
     this.lost = this.lost.slice(lost.length);
-    if (fresh) enter(fresh, found.sections[parts.indexOf(made.at(-1)[0])]);
+    for (const section of fresh) enter(section, found.sections[parts.indexOf(made[sections.indexOf(section)][0])]);
     if (found) this.adopt(found);
+    if (sent.some((part) => part.parts)) this.view.split?.({ before, after: found.text, gone: [] });
     this.keepDraft();
   }
 
@@ -345,7 +412,7 @@ export class Manuscript {
       if (isFresh) continue;
       base.push({ title, text: saved.text });
       if (saved.title === title) continue;
-      bytes = written(await this.does(["retitle", HOME, at + 1, title], { bytes }), bytes);
+      bytes = written(await this.does(["retitle", HOME, base.length, title], { bytes }), bytes);
     }
     return { bytes, base: formOf(base) };
   }
@@ -356,25 +423,37 @@ export class Manuscript {
     return written(await this.does(["revise", HOME, BASE], { bytes, files, input: encoded(draft) }), bytes);
   }
 
-  // Runs a command that changes the manuscript, once what was typed is saved. `words` may need the sections as they
-  // are then.
-  async change(command) {
+  // Runs a command that changes the manuscript, once what was typed is saved. `command` may need the sections as they
+  // are then. The answer has the text before and after, the sections that are gone, and what took typing back before.
+  // Where no section is new and no text changes, `ordered` gives the sections after it of those before it.
+  async change(command, ordered) {
     await this.settled();
     const answer = await this.alone(async () => {
       this.view.state("working");
       await this.catchUp();
       await this.saveDraft();
+      const { text: before, known } = this;
       const done = await command();
       const bytes = written(done, this.bytes);
-      if (bytes === this.bytes) return done;
-      const found = await this.look(bytes);
+      if (bytes === this.bytes) return { ...done, before, after: before, gone: [] };
+      const found = await (ordered ? this.lookFor(ordered(known), bytes) : this.look(bytes));
       await this.keep(bytes, found.text, countsOf(done.notes).waiting);
       await this.settled();
+      const { lists } = this.view;
       this.adopt(found);
-      return done;
+      const gone = known.filter((section) => !this.sections.includes(section));
+      return { ...done, before, after: found.text, gone, lists };
     }).finally(() => this.showState());
-    await this.decorate();
+    if (!ordered || this.mayHaveComments) await this.decorate({ keepsColours: Boolean(ordered) });
     return answer;
+  }
+
+  // Makes of the text what `made` makes of it.
+  revise(made) {
+    return this.change(() => {
+      const base = this.text;
+      return this.does(["revise", HOME, BASE], { files: [[BASE, encoded(base)]], input: encoded(made(base)) });
+    });
   }
 
   placeOf(section) {
@@ -382,50 +461,49 @@ export class Manuscript {
   }
 
   move(section, place) {
-    return this.change(() => this.does(["move", HOME, this.placeOf(section), place]));
+    const ordered = (known) => {
+      const others = known.filter((other) => other !== section);
+      return [...others.slice(0, place - 1), section, ...others.slice(place - 1)];
+    };
+    return this.change(() => this.does(["move", HOME, this.placeOf(section), place]), ordered);
   }
 
   drop(section) {
-    return this.change(async () => {
+    const command = async () => {
       const number = await this.numberOf(section);
       return this.does(["edit", HOME], { input: encoded(`drop ${number}\n`) });
-    });
+    };
+    return this.change(command, (known) => known.filter((other) => other !== section));
   }
 
-  // Adds a section after another one, or before all.
+  // Adds a section with a title after another one, or before all.
   add(title, behind) {
     return this.insert([{ title, text: "" }], behind);
   }
 
   insert(added, behind) {
-    return this.change(() => {
+    return this.revise(() => {
       const parts = this.known.map(({ saved }) => saved);
-      const base = formOf(parts);
-      const draft = formOf(parts.toSpliced(behind ? this.placeOf(behind) : 0, 0, ...added));
-      return this.does(["revise", HOME, BASE], { files: [[BASE, encoded(base)]], input: encoded(draft) });
+      parts.splice(behind ? this.placeOf(behind) : 0, 0, ...added);
+      return formOf(parts);
     });
   }
 
   comment(section, first, count, text) {
+    this.mayHaveComments = true;
     return this.change(async () => this.does(["comment", HOME, await this.numberOf(section), first, count, text]));
   }
 
   // Puts a space before each line of a text that begins as a title does, so that the manuscript can be written again.
   mend() {
     return this.change(async () => {
-      const { arranged } = await this.program.read(this.bytes, true);
-      const script = mendingOf(await this.printed(this.bytes), arranged);
-      return this.does(["edit", HOME], { input: encoded(script) });
+      const { numbers } = listOf((await this.does(["list", HOME])).output);
+      return this.does(["edit", HOME], { input: encoded(mendingOf(this.known, numbers)) });
     });
   }
 
-  // No command withdraws a comment, but a frame that deletes it does: 3 and its identifier.
-  withdraw({ author, counter }) {
-    const frame = new Uint8Array(9);
-    frame[0] = 3;
-    new DataView(frame.buffer).setUint32(1, author);
-    new DataView(frame.buffer).setUint32(5, counter);
-    return this.change(() => this.does(["take", HOME], { input: frame }));
+  withdraw(note) {
+    return this.change(() => withdrawn(this, note));
   }
 
   name(version) {
@@ -437,35 +515,60 @@ export class Manuscript {
     return (await this.does(["versions", HOME])).output;
   }
 
-  async version(name) {
-    return decoded((await this.does(["view", HOME, name])).output);
+  // What the manuscript said at a moment, and what changed since then.
+
+  async past(count) {
+    return decoded((await this.does(["past", HOME, count])).output);
   }
 
-  // Takes in another author's file, or a stream. Gives the counts of what came.
+  async changesSince(count) {
+    await this.save();
+    return decoded((await this.does(["changes", HOME, count])).output);
+  }
+
+  async moments() {
+    return momentsOf((await this.does(["moments", HOME])).output);
+  }
+
+  // Remembers the moment as it is: why, and when. A moment of which nothing is new is remembered once.
+  async remember(why) {
+    const { remembered = [] } = this.record;
+    const count = await this.accepted();
+    if (count === 0 || remembered.at(-1)?.count === count) return count;
+    await this.keepRecord({ remembered: [...remembered, { count, why, at: Date.now() }].slice(-MOST_MOMENTS) });
+    return count;
+  }
+
+  // Takes in another author's file, or a stream. The answer has the counts of what came, and the moment before it.
   async takeIn(bytes) {
-    const command = isFile(bytes)
-      ? () => this.does(["merge", HOME, OTHER], { files: [[OTHER, bytes]] })
-      : () => this.does(["take", HOME], { input: bytes });
-    return countsOf((await this.change(command)).notes);
+    this.mayHaveComments = true;
+    let since;
+    const answer = await this.change(async () => {
+      since = await this.accepted();
+      return isFile(bytes)
+        ? this.does(["merge", HOME, OTHER], { files: [[OTHER, bytes]] })
+        : this.does(["take", HOME], { input: bytes });
+    });
+    return { ...answer, counts: countsOf(answer.notes), since };
   }
 
-  // Colours and comments, which are read apart from the text.
-  async decorate() {
-    if (this.isReadOnly || this.isClosed || !(this.hasOthers || this.coloursAll)) return;
-    const { bytes, sections } = this;
-    const { arranged } = await this.program.read(bytes, true);
-    const { output } = await this.does(["comments", HOME], { bytes });
+  // Colours and comments, which are read apart from the text. Colours that are not shown are not read, and neither are
+  // those that stay as they are where `keepsColours`.
+  async decorate({ keepsColours = false } = {}) {
+    const isColoured = this.hasOthers || this.coloursAll;
+    if (this.isClosed || !(isColoured || this.mayHaveComments)) return;
+    const { bytes, known } = this;
+    const isNew = isColoured && !keepsColours && !this.view.hidesColours;
+    const authored = isNew ? await this.authored(bytes) : null;
+    const arranged = known.map(({ key, saved }) => ({ key, text: saved.text }));
+    const comments = this.mayHaveComments ? await commentsIn(this, bytes, arranged) : new Map();
     if (bytes !== this.bytes || this.isClosed) return;
-    const known = new Map(arranged.map((section) => [section.key, section]));
-    const comments = commentsOf(output);
-    for (const section of sections) {
-      if (!known.has(section.key)) continue;
-      const { number, runs, comments: authors } = known.get(section.key);
-      const on = comments.filter((comment) => comment.section === number);
-      section.runs = marksOf(section.saved.text, runs);
-      section.comments = on.map((comment, at) => placed(section.saved.text, comment, authors[at]));
+    for (const section of known) {
+      if (authored) section.setRuns(runsOf(section, authored));
+      section.setComments(comments.get(section.key) ?? []);
     }
-    this.view.decorate(sections);
+    this.mayHaveComments = known.some((section) => section.comments.length > 0);
+    this.view.decorate(known);
   }
 }
 
@@ -475,19 +578,12 @@ function enter(fresh, { key, title }) {
   fresh.enter(title);
 }
 
-// The script that mends the texts of sections, of each of which the count of letters is known.
-function mendingOf(text, arranged) {
-  let at = 0;
-  const lines = [];
-  for (const { number, runs } of arranged) {
-    const count = runs.reduce((sum, [, letters]) => sum + letters, 0);
-    const rest = text.slice(text.indexOf("\n", at) + 1);
-    const body = rest.slice(0, placeOfScalar(rest, count));
-    const places = [...body.matchAll(/(?<=^|\n)# /g)].map(({ index }) => clustersOf(body, 0, index).count);
-    lines.push(...places.reverse().map((place) => `put ${number} ${place}  \n`));
-    at = text.length - rest.length + body.length + 1;
-  }
-  return lines.join("");
+// The script that mends the texts of sections, each of which has a number in the section list.
+function mendingOf(sections, numbers) {
+  return sections.flatMap(({ saved: { text } }, at) => {
+    const places = [...text.matchAll(/(?<=^|\n)# /g)].map(({ index }) => clustersOf(text, 0, index).count);
+    return places.reverse().map((place) => `put ${numbers[at]} ${place}  \n`);
+  }).join("");
 }
 
 // A section that is made of what was typed in one that is gone, or that never was in the file.
@@ -500,12 +596,9 @@ function written({ files }, bytes) {
   return files.get(HOME) ?? bytes;
 }
 
-// A comment, with the places of its passage in the text as it is shown, and who made it.
-function placed(text, { start, end, body }, known) {
-  const [from, to] = [placeOfScalar(text, start), placeOfScalar(text, end)];
-  const shown = (place) => withoutReturns(text.slice(0, place)).length;
-  const author = known?.body === body ? known : {};
-  return { start: shown(from), end: shown(to), body, author: author.author, counter: author.counter };
+function runsOf({ key, saved }, authored) {
+  const { runs = [] } = authored.find((section) => section.key === key) ?? {};
+  return marksOf(saved.text, runs);
 }
 
 // Who wrote what of a text, as stretches; none where the count of its letters is not that of the text.

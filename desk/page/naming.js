@@ -44,7 +44,9 @@ export async function more(editor) {
   const body = [field("Name", title), field("Your author number", number, hint)];
   const read = () => ({ name: title.value, replica: Number(number.value) });
   const given = await ask("More", body, { agree: "Save", read });
-  if (given) await editor.attempt(() => named(editor, given));
+  if (!given) return;
+  editor.goOn();
+  await editor.attempt(() => named(editor, given));
 }
 
 async function named(editor, { name, replica }) {

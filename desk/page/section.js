@@ -3,27 +3,32 @@
 // The text stands twice in one place: in a text area, and under it in a mirror that has the colours and gives both
 // their height. The text area is made when the section comes into view, so that a long manuscript opens at once.
 
-import { carried, changed, changes, movedPlace, splice, withReturns, withoutReturns } from "./difference.js";
+import { carried, changed, changes, inverse, movedPlace, splice, withReturns, withoutReturns } from "./difference.js";
 import { faultOfText, faultOfTitle, faultOfTitles, formOf, hasTitles, partsOf, withoutHeadings } from "./commands.js";
 import { button, element } from "./dom.js";
+import { Mirror } from "./mirror.js";
 import { UNTITLED } from "./naming.js";
 
 const FROM_OUTSIDE = ["insertFromPaste", "insertFromPasteAsQuotation", "insertFromDrop", "insertFromYank"];
 
-// A longer text has no mirror, and so no colours: a browser would take twice the time for each key.
+// A longer text, or one with a longer line, has no mirror, and so no colours: a browser lays out a whole line at each
+// key, and takes the more time for it the more pieces it has.
 const LONGEST_MIRRORED = 150000;
+const LONGEST_LINE = 8000;
 
 export class Section {
-  // `host` is told of what the writer does: edited(section), does(name, section) and titled(section, text), where a
-  // text with titles is pasted.
-  // A section that is `isFresh` is not in the file yet: it comes into it with the first letter.
-  constructor({ key, title, text, isFresh = false }, host) {
-    this.key = key;
-    this.isFresh = isFresh;
+  // `host` is told of what the writer does: edited(section), does(name, section), wrote(section, change) with what
+  // takes it back, cameIn(section, changes), and titled(section, text), where a text with titles is pasted. A section
+  // that is `isFresh` is not in the file yet: it comes into it with the first letter, or where it `isWanted`.
+  constructor({ key, title, text, isFresh = false, isWanted = false }, host) {
+    Object.assign(this, { key, isFresh, isWanted });
     this.setSaved({ title, text });
     this.live = this.shown;
     this.host = host;
     this.marks = [];
+    this.found = [];
+    this.runs = [];
+    this.comments = [];
     this.area = null;
     this.isComposing = false;
     this.build();
@@ -32,8 +37,11 @@ export class Section {
   build() {
     this.title = element("input", { className: "title", value: this.saved.title, dir: "auto", autocomplete: "off" });
     this.title.placeholder = UNTITLED;
+    this.known = this.saved.title;
     this.title.oninput = () => {
       this.judgeTitle();
+      this.host.retitled?.(this, this.known);
+      this.known = this.title.value;
       this.host.edited(this);
     };
     this.title.onfocus = () => this.selectUntitled();
@@ -42,8 +50,8 @@ export class Section {
       event.preventDefault();
       this.focus();
     };
-    this.mirror = element("div", { className: "mirror", dir: "auto" });
-    this.paper = element("div", { className: "paper" }, this.mirror);
+    this.mirror = new Mirror();
+    this.paper = element("div", { className: "paper" }, this.mirror.element);
     this.refusal = element("p", { className: "refusal", hidden: true, role: "status" });
     this.said = "";
     this.notes = element("ul", { className: "notes" });
@@ -125,9 +133,9 @@ export class Section {
     this.area.oninput = () => this.typed();
     this.area.onbeforeinput = (event) => this.pasted(event);
     this.watch(this.area);
-    this.mirror.setAttribute("aria-hidden", "true");
+    this.mirror.element.setAttribute("aria-hidden", "true");
     this.paper.append(this.area);
-    if (this.live.length > LONGEST_MIRRORED) this.paint();
+    if (this.isLong) this.paint();
   }
 
   freeze(isReadOnly) {
@@ -142,6 +150,7 @@ export class Section {
 
   // A text with titles is not pasted before it is asked about.
   pasted(event) {
+    if (this.host.isTurn?.(event)) return;
     const text = event.data ?? event.dataTransfer?.getData("text/plain") ?? "";
     if (!FROM_OUTSIDE.includes(event.inputType) || !this.host.titled || !hasTitles(withoutReturns(text))) return;
     event.preventDefault();
@@ -155,7 +164,9 @@ export class Section {
     const lead = isSplit && text.startsWith("# ") && /[^\n]$/.test(before) ? "\n" : "";
     const closed = /(^|\n)# [^\n]*$/.test(text) && after && !after.startsWith("\n") ? `${text}\n` : text;
     const put = lead + (isSplit ? closed : withoutHeadings(text));
-    this.apply([{ start, end, text: after ? put : put.replace(/\n$/, "") }]);
+    const list = [{ start, end, text: after ? put : put.replace(/\n$/, "") }];
+    if (isSplit) this.apply(list);
+    else this.write(list);
     const place = this.live.length - after.length;
     this.area.setSelectionRange(place, place);
     this.isSplit = isSplit;
@@ -170,13 +181,20 @@ export class Section {
   typed() {
     const change = splice(this.live, this.area.value);
     if (!change) return;
+    this.host.wrote?.(this, inverse(this.live, [change]));
     this.live = this.area.value;
     this.moveMarks([change]);
     this.paint();
     this.host.edited(this);
   }
 
-  // Takes changes of the live text from elsewhere. The caret stays where it is in the text, and so does the selection.
+  // Makes changes of the live text for the writer, who can take them back.
+  write(list) {
+    if (list.length) this.host.wrote?.(this, inverse(this.live, list));
+    this.apply(list);
+  }
+
+  // Makes changes of the live text. The caret stays where it is in the text, and so does the selection.
   apply(list) {
     if (list.length === 0) return;
     this.live = changed(this.live, list);
@@ -189,7 +207,9 @@ export class Section {
   takeIn({ key, title, text }) {
     if (this.title.value === this.saved.title) this.setTitle(title);
     const incoming = changes(this.shown, withoutReturns(text));
-    this.apply(carried(incoming, changes(this.shown, this.live)));
+    const list = carried(incoming, changes(this.shown, this.live));
+    if (list.length) this.host.cameIn?.(this, list);
+    this.apply(list);
     this.setSaved({ title, text });
     this.key = key;
   }
@@ -216,6 +236,7 @@ export class Section {
 
   setTitle(title) {
     if (this.title.value !== title) this.title.value = title;
+    this.known = title;
     this.judgeTitle();
   }
 
@@ -224,11 +245,20 @@ export class Section {
     if (live.title !== saved.title) this.setTitle(live.title);
     const own = changes(saved.text, this.live);
     const isThere = (change) => own.some((mine) => JSON.stringify(mine) === JSON.stringify(change));
-    this.apply(carried(changes(saved.text, live.text).filter((change) => !isThere(change)), own));
+    this.write(carried(changes(saved.text, live.text).filter((change) => !isThere(change)), own));
+  }
+
+  // Whether a draft can be put back as it was: nothing was changed here since it was begun.
+  isAsIn({ key, saved }) {
+    return key === this.key && !this.isDirty && saved.title === this.saved.title && saved.text === this.shown;
+  }
+
+  get isLong() {
+    return this.live.length > LONGEST_MIRRORED || hasLongLine(this.live);
   }
 
   get isDirty() {
-    return this.title.value !== this.saved.title || this.live !== this.shown;
+    return (this.isFresh && this.isWanted) || this.title.value !== this.saved.title || this.live !== this.shown;
   }
 
   // What is to be saved of a section in which nothing was written.
@@ -280,11 +310,44 @@ export class Section {
     this.refusal.hidden = !refusal;
   }
 
-  // Marks are stretches of the text with a class. They are given as places of the saved text.
-  setMarks(marks) {
+  // Who wrote what, and the comments, are given as places of the saved text, and move with what is typed.
+
+  setRuns(runs) {
+    this.runs = this.moved(runs);
+  }
+
+  setComments(comments) {
+    this.comments = this.moved(comments);
+  }
+
+  moved(marks) {
     const own = changes(this.shown, this.live);
-    this.marks = own.length ? marks.map((mark) => movedMark(mark, own)) : marks;
+    return own.length ? marks.map((mark) => movedMark(mark, own)) : marks;
+  }
+
+  // Marks are stretches of the live text with a class.
+  setMarks(marks) {
+    this.marks = marks;
     this.paint();
+  }
+
+  // Marks what was found, and which of it is shown now.
+  setFound(list, current = null) {
+    const nameAt = (start) => (start === current?.start ? "found now" : "found");
+    const found = list.map(({ start, end }) => ({ start, end, name: nameAt(start) }));
+    const isSame = ({ start, end, name }, at) =>
+      this.found[at].start === start && this.found[at].end === end && this.found[at].name === name;
+    if (found.length === this.found.length && found.every(isSame)) return;
+    this.found = found;
+    this.paint();
+  }
+
+  // Brings a place into sight.
+  reveal({ start, end }) {
+    this.wake();
+    const now = this.mirror.element.querySelector(".now");
+    if (now) now.scrollIntoView({ block: "center" });
+    else this.select(start, end);
   }
 
   // Does `work`, which may open a dialog. By then a browser may forget what is selected, and others may change the
@@ -301,23 +364,19 @@ export class Section {
 
   moveMarks(list) {
     if (this.chosen) this.chosen = movedMark(this.chosen, list);
-    this.marks = this.marks.map((mark) => movedMark(mark, list)).filter(({ start, end }) => start < end);
+    const moved = (marks) => marks.map((mark) => movedMark(mark, list)).filter(({ start, end }) => start < end);
+    this.marks = moved(this.marks);
+    this.found = moved(this.found);
+    this.runs = moved(this.runs);
+    for (const note of this.comments) Object.assign(note, movedMark(note, list));
   }
 
   // The end of the mirror is one more line, so that an empty last line has a height.
   paint() {
-    const isLong = this.area !== null && this.live.length > LONGEST_MIRRORED;
+    const isLong = this.area !== null && this.isLong;
     this.paper.classList.toggle("long", isLong);
-    const text = isLong ? "" : `${this.live}\n`;
-    if (isLong || this.marks.length === 0) {
-      if (this.mirror.childNodes.length === 1 && this.mirror.firstChild.nodeType === Node.TEXT_NODE) {
-        replaceText(this.mirror.firstChild, text);
-      } else {
-        this.mirror.textContent = text;
-      }
-      return;
-    }
-    this.mirror.replaceChildren(...pieces(text, this.marks));
+    this.paper.classList.toggle("endless", isLong && hasLongLine(this.live));
+    this.mirror.show(isLong ? "" : `${this.live}\n`, isLong ? [] : [...this.marks, ...this.found]);
   }
 
   select(start, end) {
@@ -326,28 +385,15 @@ export class Section {
   }
 }
 
-// Changes a text node no more than it has to be, since a browser lays out anew what changed.
-function replaceText(node, text) {
-  const change = splice(node.data, text);
-  if (change) node.replaceData(change.start, change.end - change.start, change.text);
+function hasLongLine(text) {
+  for (let at = 0; text.length - at > LONGEST_LINE; ) {
+    const end = text.lastIndexOf("\n", at + LONGEST_LINE);
+    if (end < at) return true;
+    at = end + 1;
+  }
+  return false;
 }
 
 function movedMark(mark, list) {
   return { ...mark, start: movedPlace(mark.start, list, true), end: movedPlace(mark.end, list) };
-}
-
-// A text in pieces, each with the classes of the marks that it is in.
-function pieces(text, marks) {
-  const edges = [...new Set([0, text.length, ...marks.flatMap(({ start, end }) => [start, end])])];
-  edges.sort((one, other) => one - other);
-  const coming = [...marks].sort((one, other) => one.start - other.start);
-  let next = 0;
-  let open = [];
-  return edges.slice(0, -1).map((edge, at) => {
-    open = open.filter(({ end }) => end > edge);
-    while (next < coming.length && coming[next].start <= edge) open.push(coming[next++]);
-    const piece = text.slice(edge, edges[at + 1]);
-    if (open.length === 0) return piece;
-    return element("span", { className: open.map(({ name }) => name).join(" "), textContent: piece });
-  });
 }

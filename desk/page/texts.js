@@ -33,7 +33,7 @@ export async function takeInText(editor, bytes, name, section) {
   const where = behind ? `, after “${behind.title.value}”` : "";
   const lines = [paragraph(`Its text comes in as ${count}${where}.`)];
   if (!(await ask(`Take in “${name}”?`, lines, { agree: "Take in" }))) return;
-  await editor.manuscript.insert(parts, behind);
+  editor.undo.did(await editor.manuscript.insert(parts, behind));
   editor.notice(`“${name}”: ${count} came in.`);
 }
 

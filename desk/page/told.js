@@ -20,6 +20,9 @@ const RULES = [
   [/^no section/, () => "That section is not there any more."],
   [/^no place/, () => "There is no such place for the section."],
   [/^out of range/, () => "That passage is not there any more."],
+  [/^no comment/, () => "That comment is not there any more."],
+  [/^passage not found/, () => "That passage is not there any more."],
+  [/^passage found/, () => "That passage is there more than once."],
   [/^no version/, () => "There is no version of that name."],
   [/^not empty$/, () => "There is a manuscript already."],
   [/^words not understood$/, () => "The program did not understand what the page asked for."],
@@ -36,8 +39,8 @@ export function inWords(notes) {
   return "The program refused this.";
 }
 
-function counted(count, one, many) {
-  return count === 1 ? `1 ${one}` : `${count.toLocaleString("en")} ${many}`;
+export function counted(count, one, many) {
+  return Number(count) === 1 ? `1 ${one}` : `${Number(count).toLocaleString("en")} ${many}`;
 }
 
 // What became of changes that came in.

@@ -5,7 +5,6 @@ import { spawnSync } from "node:child_process";
 import fs from "node:fs";
 import os from "node:os";
 import path from "node:path";
-import { reading } from "../../desk/page/reader.js";
 
 // As much of a document as the questions need. A dialog that is shown goes to `answer`, which gives its return value.
 class FakeElement {
@@ -62,17 +61,18 @@ const binary = process.env.TRIED_PROGRAM ?? "bin/manuscript";
 
 // The program over arrays, as the page calls it.
 const program = {
-  async does(words, { files = [], input = "" } = {}) {
+  async run(words, { files = [], input = "" } = {}) {
     const folder = fs.mkdtempSync(path.join(os.tmpdir(), "asked-"));
     for (const [name, bytes] of files) fs.writeFileSync(path.join(folder, name), bytes);
     const { status, stdout, stderr } = spawnSync(path.resolve(binary), words.map(String), { cwd: folder, input });
     const left = new Map(fs.readdirSync(folder).map((name) => [name, new Uint8Array(fs.readFileSync(path.join(folder, name)))]));
     fs.rmSync(folder, { recursive: true });
-    if (status !== 0 && status !== 3) throw new Error(`${words[0]}: ${stderr}`);
     return { status, output: new Uint8Array(stdout), notes: stderr.toString(), files: left };
   },
-  async read(bytes, hasLetters) {
-    return reading(bytes, hasLetters);
+  async does(words, given) {
+    const answer = await this.run(words, given);
+    if (answer.status !== 0 && answer.status !== 3) throw new Error(`${words[0]}: ${answer.notes}`);
+    return answer;
   },
 };
 
@@ -101,9 +101,10 @@ async function askedFor(bytes, replica, given) {
   };
   const takeIn = async () => {
     seen.isTaken = true;
+    return {};
   };
-  const manuscript = { program, bytes, record: { replica }, takeIn };
-  const editor = { manuscript, attempt: (work) => work(), came() {} };
+  const manuscript = { program, bytes, record: { replica }, takeIn, async save() {}, async remember() {} };
+  const editor = { manuscript, attempt: (work) => work(), came() {}, undo: { did() {} } };
   await takeInFiles(editor, [{ name: "given", arrayBuffer: async () => given.buffer }]);
   return seen;
 }
@@ -137,6 +138,9 @@ if (fs.existsSync(binary)) {
   check("an earlier copy is not", (await askedFor(later, 1, old)).isTaken);
   check("another author's file is not", (await askedFor(later, 1, hers)).isTaken);
   check("nor its stream", (await askedFor(later, 1, await sent(hers))).isTaken);
+  const foreign = await edited(await author(3), "add 1 U\nput 1 0 AB\n");
+  const { asked } = await askedFor(old, 1, foreign);
+  check("a file with no section in common is asked about", /no section in common/.test(asked));
   check("bytes that are none are left to the program", (await askedFor(old, 1, new Uint8Array([9, 9]))).isTaken);
 } else {
   console.log(`not tried: what the page asks, since there is no ${binary}`);

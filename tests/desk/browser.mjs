@@ -274,6 +274,11 @@ export class Page {
     })()`);
   }
 
+  // Shows the tab before others.
+  front() {
+    return this.send("Page.bringToFront");
+  }
+
   async shot(file) {
     const { data } = await this.send("Page.captureScreenshot", { format: "png" });
     fs.writeFileSync(file, Buffer.from(data, "base64"));

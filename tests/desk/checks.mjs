@@ -2,7 +2,10 @@
 
 import fs from "node:fs";
 import { pathToFileURL } from "node:url";
-import { Browser, pause } from "./browser.mjs";
+import { Browser as Chromium, pause } from "./browser.mjs";
+import { Firefox, Unable } from "./firefox.mjs";
+
+export const Browser = process.env.BROWSER === "firefox" ? Firefox : Chromium;
 
 let tried = 0;
 let failed = 0;
@@ -22,8 +25,8 @@ export async function group(name, work) {
   if (!name.includes(process.env.ONLY ?? "")) return;
   const browser = new Browser();
   const tabs = [];
-  const open = async (hash = "", options = {}, from = browser) => {
-    const page = await from.open(address(hash), options);
+  const open = async (hash = "", { at, ...options } = {}, from = browser) => {
+    const page = await from.open(at ? `${at}${hash}` : address(hash), options);
     tabs.push(page);
     return page;
   };
@@ -32,7 +35,8 @@ export async function group(name, work) {
     const faults = tabs.flatMap((page) => page.faults);
     check(`${name}: no script fails`, faults.length === 0, faults);
   } catch (why) {
-    check(`${name} goes to its end`, false, String(why.stack ?? why));
+    if (why instanceof Unable) console.log(`not tried from here on: ${name}: ${why.message}`);
+    else check(`${name} goes to its end`, false, String(why.stack ?? why));
   } finally {
     await browser.close();
     browser.forget();
@@ -67,6 +71,12 @@ export function arranged(page) {
     .decode((await manuscript.does(["arrange", "manuscript.ms"])).output))`);
 }
 
+// Who wrote what of the manuscript that a tab shows, as `authors` prints it.
+export function authors(page) {
+  return page.value(`desk.then(async ({ shown: { manuscript } }) => new TextDecoder()
+    .decode((await manuscript.does(["authors", "manuscript.ms"])).output))`);
+}
+
 export const WRITES = "document.activeElement.matches('textarea')";
 
 // Goes to the list of manuscripts.
@@ -97,11 +107,10 @@ export async function begin(page, name = "The quiet sea", title = "The sea") {
 export async function add(page, title) {
   const before = await page.value("document.querySelectorAll('.section').length");
   await page.pressButton("+ Section");
-  await page.until("document.querySelector('dialog[open]')");
+  await page.until(`document.querySelectorAll('.section').length === ${before + 1}`);
   await page.type(title);
   await page.press("Enter");
-  await page.until(`document.querySelectorAll('.section').length === ${before + 1}`);
-  await page.until("document.activeElement.matches('textarea')");
+  await page.until(WRITES);
 }
 
 export async function saved(page) {

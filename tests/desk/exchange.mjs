@@ -2,8 +2,9 @@
 
 import fs from "node:fs";
 import path from "node:path";
+import { ALT, CONTROL, SHIFT } from "./browser.mjs";
 import {
-  NOTICES, TEXTS, add, arranged, begin, check, group, pause, picture, same, sample, saved, select,
+  NOTICES, SAVED, TEXTS, add, arranged, authors, begin, check, group, pause, picture, same, sample, saved, select,
 } from "./checks.mjs";
 
 const SAME = "document.querySelector('.same').dataset.same === 'true'";
@@ -92,11 +93,13 @@ async function samples(open) {
   await picture(page, "oosterwick");
   await page.click(".legend summary");
   check("the list of who wrote what can be closed", !(await page.value("document.querySelector('.legend').open")));
-  await page.size(360, 740);
-  await pause(200);
-  await picture(page, "phone");
-  const width = await page.value("document.documentElement.scrollWidth");
-  check("and shows on a phone, no wider than it is", width <= 360, width);
+  for (const [name, most, height] of [["on a phone", 360, 740], ["at 200 %", 550, 380]]) {
+    await page.size(most, height);
+    await pause(200);
+    await picture(page, name === "on a phone" ? "phone" : "twice");
+    const width = await page.value("document.documentElement.scrollWidth");
+    check(`and shows ${name}, no wider than it is`, width <= most, width);
+  }
   await page.size(1100, 760);
   await page.colours(true);
   await pause(200);
@@ -127,6 +130,70 @@ async function samples(open) {
   await picture(page, "no_manuscript");
   await page.pressButton("OK");
   same("and nothing is made", await page.value("document.querySelectorAll('.shelf li').length"), 2);
+}
+
+const STREAMS = [
+  "oosterwick/all.frames", "two_authors.frames", "vectors/dropped_counter.frames", "vectors/end.frames",
+  "vectors/letters.frames", "vectors/stray_after_waiting.frames",
+];
+
+// No stream that the program takes is refused, and the page shows what the program prints.
+const COLOURED = "[...document.querySelectorAll('.mirror .by')].map(({ textContent }) => textContent).join('|')";
+
+// Colours stay on their letters, whatever is typed before them and wherever their section goes.
+async function colours(open) {
+  const page = await open();
+  await begin(page);
+  await page.drop({ name: "two_authors.frames", bytes: sample("two_authors.frames") });
+  await page.until("document.querySelector('.mirror .by')");
+  await page.until(SAVED);
+  const coloured = await page.value(COLOURED);
+  const at = await page.value(`[...document.querySelectorAll(".section")].findIndex((each) =>
+    each.querySelector(".by"))`);
+  await select(page, at, 0);
+  await page.type("Here. ");
+  await saved(page);
+  same("colours stay on their letters", await page.value(COLOURED), coloured);
+  await page.value("document.querySelector('.legend input').click()");
+  same("and can be hidden", await page.value(COLOURED), "");
+  await page.type("And here. ");
+  await saved(page);
+  await page.value("document.querySelector('.legend input').click()");
+  same("and shown again", await page.value(COLOURED), coloured);
+  await page.value(`desk.then(({ program }) => {
+    const { run } = program;
+    globalThis.asked = [];
+    program.run = (words, given) => (asked.push(words[0]), run.call(program, words, given));
+  })`);
+  const isLast = await page.value(`${at} + 1 === document.querySelectorAll('.section').length`);
+  await page.press(isLast ? "ArrowUp" : "ArrowDown", ALT | SHIFT);
+  await page.until("asked.includes('move')");
+  await page.until(SAVED);
+  await pause(500);
+  const words = (text) => text.split("|").sort().join("|");
+  same("and go along with a section", words(await page.value(COLOURED)), words(coloured));
+  check("for which nobody is asked who wrote what", !(await page.value("asked.includes('authors')")));
+  await page.value("location.reload()");
+  await pause(500);
+  await page.until("document.querySelector('.mirror .by')");
+  same("and are the same when it is opened again", words(await page.value(COLOURED)), words(coloured));
+}
+
+async function streams(open) {
+  const page = await open();
+  await page.until("document.querySelector('.home')");
+  for (const name of STREAMS) {
+    await page.value(`desk.then(async ({ shelf }) => {
+      const from = Uint8Array.from(${JSON.stringify([...sample(name)])});
+      location.hash = "#open=" + (await shelf.make({ name: ${JSON.stringify(name)}, replica: 99, from })).id;
+    })`);
+    await page.until(`document.title === ${JSON.stringify(name)}`);
+    await page.until("document.querySelector('.state')?.textContent === 'Saved'");
+    await pause(300);
+    const shown = await page.value(`desk.then(({ shown: { manuscript } }) => manuscript.text)`);
+    same(`${name} is shown`, shown, await arranged(page));
+    check("and can be written", !(await page.value("document.querySelector('.title').readOnly")));
+  }
 }
 
 async function files(open) {
@@ -301,6 +368,12 @@ async function tabs(open) {
   await other.until("document.querySelector('textarea').value === 'Listen. It was calm. Then it blew.'");
   const caret = await other.value("document.querySelector('textarea').selectionStart");
   same("where the caret stays in the text", caret, "Listen. It was calm. Then it blew.".length);
+  await other.press("z", CONTROL);
+  const taken = await other.value("document.querySelector('textarea').value");
+  same("and undo takes back what was typed there", taken, "Listen. It was calm.");
+  await other.press("z", CONTROL | SHIFT);
+  await saved(other);
+  await one.until("document.querySelector('textarea').value === 'Listen. It was calm. Then it blew.'");
   const third = await open((await one.value("location.hash")));
   await third.until("document.querySelector('textarea')");
   await select(third, 0, -1);
@@ -350,7 +423,6 @@ async function deleted(open) {
   await other.type("\n# Mine.");
   await other.until("document.querySelector('.state').textContent === 'Kept as a draft'");
   await one.value("document.querySelector('.do-drop').click()");
-  await one.pressButton("Delete");
   await other.until(`/is a new section now/.test(${NOTICES})`);
   await saved(other);
   const kept = "# The sea\nIt was calm.\n # Mine.\n# The land\n\n";
@@ -420,7 +492,7 @@ async function act(page, random) {
     else await page.press("Backspace");
   } else if (kind < 85) {
     await page.value(`desk.then(({ shown }) => shown.does(${random(2) ? "'up'" : "'down'"},
-      shown.manuscript.sections[${at}])).catch(() => {})`);
+      shown.manuscript.sections[${at}])).then(() => {}, () => {})`);
   } else if (kind < 92) {
     await page.value(`(() => {
       const title = document.querySelectorAll(".title")[${at}];
@@ -429,10 +501,10 @@ async function act(page, random) {
     })()`);
   } else if (kind < 95 && sections > 3) {
     await page.value(`desk.then(({ shown: { manuscript } }) =>
-      manuscript.sections[${at}] && manuscript.drop(manuscript.sections[${at}])).catch(() => {})`);
+      manuscript.sections[${at}] && manuscript.drop(manuscript.sections[${at}])).then(() => {}, () => {})`);
   } else {
     await page.value(`desk.then(({ shown: { manuscript } }) =>
-      manuscript.add("New ${random(100)}", manuscript.sections[${at}] ?? null)).catch(() => {})`);
+      manuscript.add("New ${random(100)}", manuscript.sections[${at}] ?? null)).then(() => {}, () => {})`);
   }
 }
 
@@ -452,13 +524,7 @@ async function randomActions(open) {
   const [one, other] = [await arranged(pages[0]), await arranged(pages[1])];
   same("200 random actions in two tabs end in equal bytes", one, other);
   check("of some length", one.length > 200, one.length);
-  const authors = `desk.then(async ({ program, shown: { manuscript } }) =>
-    JSON.stringify((await program.read(manuscript.bytes, true)).arranged.map(({ key, runs }) => [key, runs])))`;
-  const [known, others] = [await pages[0].value(authors), await pages[1].value(authors)];
-  same("and in letters of the same authors", known, others);
-  const counts = JSON.parse(known).map(([, runs]) => runs.reduce((sum, [, count]) => sum + count, 0));
-  const lengths = one.split(/^# .*\n/m).slice(1).map((text) => [...text].length - 1);
-  same("and each letter has an author", counts.join(), lengths.join());
+  same("and in letters of the same authors", await authors(pages[0]), await authors(pages[1]));
   const shown = `desk.then(({ shown: { manuscript } }) => manuscript.sections.map(({ title, live }) =>
     "# " + title.value + "\\n" + live + "\\n").join(""))`;
   for (const page of pages) same("which the page shows", await page.value(shown), one);
@@ -470,6 +536,8 @@ export async function exchange() {
   await group("two who write at once", atOnce);
   await group("what comes in while one composes", composing);
   await group("samples", samples);
+  await group("colours", colours);
+  await group("streams", streams);
   await group("files", files);
   await group("download", download);
   await group("text taken out", takenOut);

@@ -32,7 +32,6 @@ async function byKeys(open) {
   await saved(page);
   await goTo(page, "+ Section");
   await page.press("Enter");
-  await page.until("document.querySelector('dialog[open]')");
   await page.type("The land");
   await page.press("Enter");
   await page.until("document.activeElement.matches('textarea') && document.querySelectorAll('.section').length === 2");
@@ -72,6 +71,36 @@ async function tools(open) {
   await goTo(page, "Move up", SHIFT);
   await page.press("ArrowRight");
   check("arrows go along them", (await page.value(FOCUSED)).startsWith("Comment"), await page.value(FOCUSED));
+}
+
+// The outline beside the text: one stop, with arrows from title to title.
+async function outline(open) {
+  const page = await open();
+  const shown = () => page.value("document.querySelector('.outline').checkVisibility()");
+  await begin(page);
+  await page.type("It was calm, and nobody’s ferry — none — went.");
+  check("one section has no outline", !(await shown()));
+  await add(page, "The land");
+  await page.type("Hills. 山と海");
+  await add(page, "The sky");
+  await saved(page);
+  const TOLD = "[...document.querySelectorAll('.outline button')].map((each) => each.ariaLabel).join('; ')";
+  await pause(1000);
+  same("titles and words", await page.value(TOLD), "The sea, 8 words; The sky, 0 words; The land, 4 words");
+  same("and their sum", await page.value("document.querySelector('.outline p').textContent"), "12 words");
+  const stops = await page.value(`[...document.querySelectorAll(".outline button")].filter(({ tabIndex }) =>
+    tabIndex === 0).map(({ ariaCurrent, ariaLabel }) => ariaCurrent + " " + ariaLabel).join()`);
+  same("the outline is one stop, where one is", stops, "true The sky, 0 words");
+  await picture(page, "outline");
+  await goTo(page, "The sea, 8 words", SHIFT);
+  await page.press("ArrowDown");
+  await page.press("ArrowDown");
+  same("arrows go along it", await page.value(FOCUSED), "The land, 4 words");
+  await page.press("Enter");
+  await page.until("document.activeElement.matches('textarea')");
+  same("and Enter into the text", await page.value("document.activeElement.value"), "Hills. 山と海");
+  await page.size(899, 760);
+  check("a narrow page has none", !(await shown()));
 }
 
 // The state and the notices are seen and announced wherever one is.
@@ -141,9 +170,9 @@ async function directions(open) {
   const page = await open();
   await begin(page, "The quiet sea", "הים");
   await page.value("document.querySelector('.do-drop').click()");
-  await page.until("document.querySelector('dialog[open]')");
-  same("a title in a sentence stands apart", await page.value("document.querySelector('dialog bdi').textContent"), "הים");
-  await page.pressButton("Cancel");
+  await page.until("document.querySelector('.notice bdi')");
+  const name = await page.value("document.querySelector('.notice bdi').textContent");
+  same("a title in a sentence stands apart", name, "הים");
 }
 
 // Each thing that can be used has a name.
@@ -164,6 +193,7 @@ async function names(open) {
 export async function keyboard() {
   await group("by keyboard", byKeys);
   await group("tools", tools);
+  await group("outline", outline);
   await group("reports", report);
   await group("contrast", contrast);
   await group("directions", directions);

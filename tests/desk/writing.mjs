@@ -2,9 +2,10 @@
 
 import fs from "node:fs";
 import path from "node:path";
-import { ALT, Browser, CONTROL, SHIFT } from "./browser.mjs";
+import { ALT, CONTROL, SHIFT } from "./browser.mjs";
 import {
-  NOTICES, SAVED, TEXTS, WRITES, add, address, arranged, begin, check, group, list, pause, picture, same, saved, select,
+  Browser, NOTICES, SAVED, TEXTS, WRITES, add, address, arranged, authors, begin, check, group, list, pause, picture,
+  same, saved, select,
 } from "./checks.mjs";
 
 const TEXT = "It was calm.\n\nThen it blew.";
@@ -26,6 +27,20 @@ async function firstLetter(open) {
   await page.press("Enter");
   await saved(page);
   same("a title takes its place", await arranged(page), "# The sea\nIt was calm.\n");
+  await page.click("nav[aria-label=Manuscript] > button:nth-last-of-type(2)");
+  await page.until("document.querySelector('dialog[open] input')");
+  await page.value("document.querySelector('dialog input').select()");
+  await page.type("The quiet sea");
+  await page.click("dialog[open] button.main");
+  await page.type(" It blew.");
+  await saved(page);
+  same("what is typed after “Save” under “More” reaches the text", await arranged(page),
+    "# The sea\nIt was calm. It blew.\n");
+  await page.click(".add");
+  await page.type("The land\nHills.");
+  await saved(page);
+  same("a section is begun by one click", await arranged(page),
+    "# The sea\nIt was calm. It blew.\n# The land\nHills.\n");
   const again = await open();
   await again.until(`/calm/.test(${TEXTS})`);
   check("the page starts where one was", true);
@@ -55,13 +70,13 @@ async function authorNumber(open) {
   await page.pressButton("Save");
   await page.until(`${replica}.then((known) => known === 42)`);
   check("which can be changed", true);
-  await select(page, 0, 0);
+  await page.until(WRITES);
+  check("and then one goes on writing", true);
   await page.type("It was calm.");
   await asks();
   check("until something is written", await page.value(`${number}.readOnly`));
   await page.pressButton("Cancel");
-  same("which has that number", await page.value(`desk.then(async ({ program, shown: { manuscript } }) =>
-    String((await program.read(manuscript.bytes, false)).authors))`), "42");
+  same("which has that number", await authors(page), "1 42.0\n  42 12\n");
   await list(page);
   await page.pressButton("New manuscript");
   await page.until(`${WRITES} && document.title === 'Untitled 2'`);
@@ -101,17 +116,46 @@ async function drafts(open, browser) {
   const other = new Browser(browser.profile);
   try {
     const again = await open("", {}, other);
+    await again.until(`/in its place again/.test(${NOTICES})`);
+    await picture(again, "put_back");
+    await saved(again);
+    same("a draft is put back by itself", await arranged(again), "# The sea\nIt was calm. Then it blew.\n");
+    await again.reload();
+    await again.until("document.querySelector('textarea')");
+    await pause(300);
+    same("once", await again.value(NOTICES), "");
+  } finally {
+    await other.close();
+  }
+}
+
+// A draft of a section that was changed meanwhile is offered.
+async function oldDraft(open, browser) {
+  const page = await open();
+  await begin(page);
+  await page.type("It was calm.");
+  await saved(page);
+  await page.type(" Then it blew.");
+  await pause(250);
+  await browser.crash();
+  const other = new Browser(browser.profile);
+  try {
+    const first = await open("#two", {}, other);
+    await first.value(`desk.then(async ({ store, program }) => {
+      const [record] = await store.records();
+      const files = [["a.ms", (await store.file(record.id)).bytes]];
+      const input = new TextEncoder().encode("put 1 0 Listen. \\n");
+      const bytes = (await program.does(["edit", "a.ms"], { files, input })).files.get("a.ms");
+      await store.keep({ ...record, revision: record.revision + 1 }, { bytes });
+    })`);
+    const again = await open("", {}, other);
     await again.until("document.querySelector('.notice.draft')");
-    same("the file has what was saved before the crash", await arranged(again), "# The sea\nIt was calm.\n");
     await picture(again, "draft");
     await again.pressButton("Put it back");
     await again.until("!document.querySelector('.notice.draft')");
     await saved(again);
-    same("the draft is offered, and put back", await arranged(again), "# The sea\nIt was calm. Then it blew.\n");
-    await again.reload();
-    await again.until("document.querySelector('textarea')");
-    await pause(300);
-    check("and is offered once", !(await again.value("document.querySelector('.notice.draft')")));
+    same("a draft of a text that was changed is offered, and put back", await arranged(again),
+      "# The sea\nListen. It was calm. Then it blew.\n");
   } finally {
     await other.close();
   }
@@ -178,12 +222,10 @@ async function headings(open) {
   await page.value("history.back()");
   await page.until("document.querySelector('.shelf a')");
   await page.value("document.querySelector('.shelf a').click()");
-  await page.until("document.querySelector('.notice.draft')");
-  check("it is offered when the manuscript is opened again", true);
+  await page.until(`document.querySelector('textarea').value.length > 3`);
+  check("it is there when the manuscript is opened again", true);
   await page.reload();
-  await page.until("document.querySelector('.notice.draft')");
-  await page.pressButton("Put it back");
-  await page.until("document.querySelector('textarea').value.length > 3");
+  await page.until("document.querySelector('textarea')?.value.length > 3");
   same("and is kept as a draft", (await page.value(TEXTS))[0], "One.\n# Two.");
   await select(page, 0, 5);
   await page.type(">");
@@ -296,13 +338,8 @@ async function sections(open) {
   await page.until("document.querySelector('.title').value === 'The sea'");
   same("and dragged", await arranged(page), "# The sea\nIt was calm.\n# Ashore\nHills, mostly.\n");
   await page.value("document.querySelectorAll('.do-drop')[1].click()");
-  await page.until("document.querySelector('dialog[open]')");
-  await page.pressButton("Cancel");
-  const count = await page.value("document.querySelectorAll('.section').length");
-  same("a section is not deleted where that is cancelled", count, 2);
-  await page.value("document.querySelectorAll('.do-drop')[1].click()");
-  await page.pressButton("Delete");
   await page.until("document.querySelectorAll('.section').length === 1");
+  await page.until(SAVED);
   same("a section is deleted", await arranged(page), "# The sea\nIt was calm.\n");
 }
 
@@ -357,8 +394,6 @@ async function moved(open) {
   await page.type("three three");
   await saved(page);
   await page.press("ArrowUp", ALT | SHIFT);
-  await page.until("document.querySelectorAll('.title')[1].value === 'Three'");
-  await page.press("ArrowUp", ALT | SHIFT);
   await page.until("document.querySelector('.title').value === 'Three'");
   const isThere = await page.value("document.activeElement.value === 'three three'");
   check("the caret stays in a section that is moved", isThere);
@@ -370,11 +405,16 @@ async function moved(open) {
   await page.until("document.querySelector('.notes li')");
   const passage = await page.value("document.querySelector('.section .notes .quote').textContent");
   same("a comment is on the section that was moved", passage, "“three”");
+  await select(page, 0, 0);
+  await page.type("At first ");
+  await saved(page);
+  await page.value("document.querySelector('.section .notes .quote').click()");
+  const shown = await page.value(`(({ value, selectionStart: start, selectionEnd: end }) =>
+    value.slice(start, end))(document.activeElement)`);
+  same("its passage is found where it is now", shown, "three");
   await page.value("document.querySelectorAll('.do-drop')[1].click()");
-  await page.until("document.querySelector('dialog[open]')");
-  await page.pressButton("Delete");
   await page.until("document.querySelectorAll('.section').length === 2");
-  same("and the section that is shown is deleted", await arranged(page), "# Three\nthree three\n# Two\ntwo two\n");
+  same("and the section that is shown is deleted", await arranged(page), "# Three\nAt first three three\n# Two\ntwo two\n");
 }
 
 // Carriage returns, which a text area does not show, and a text with a line like a title.
@@ -397,36 +437,14 @@ async function odd(open) {
   await made("add 1 T\nput 1 0 # 😀 one\\n# two\nadd 1 U\nput 1 0 e\u0301\\n# x\n");
   await page.until(`/can be read, exchanged and downloaded here/.test(${NOTICES})`);
   check("a text with a title in it is read only", await page.value("document.querySelector('.title').readOnly"));
+  same("with its sections", await page.value("document.querySelectorAll('.section').length"), 2);
   await page.pressButton("Put a space before it");
-  await page.until("document.querySelectorAll('.section').length === 2");
+  await page.until("!document.querySelector('.title').readOnly");
   same("and can be mended", await arranged(page), "# U\ne\u0301\n # x\n# T\n # 😀 one\n # two\n");
   await select(page, 0, 0);
   await page.type("A");
   await saved(page);
   same("and written again", await arranged(page), "# U\nAe\u0301\n # x\n# T\n # 😀 one\n # two\n");
-}
-
-async function versions(open) {
-  const page = await open();
-  await begin(page);
-  await page.type("It was calm.");
-  await page.pressButton("Versions");
-  await page.until("document.querySelector('dialog[open] .versions li')");
-  await page.type("first draft");
-  await page.press("Enter");
-  await page.until("document.querySelector('.versions b')");
-  await page.press("Escape");
-  await select(page, 0, 0, 2);
-  await page.type("The sea");
-  await saved(page);
-  await page.pressButton("Versions");
-  await page.until("document.querySelector('.versions b')");
-  await picture(page, "versions");
-  await page.pressButton("View");
-  await page.until("document.querySelector('.read')");
-  const read = await page.value("document.querySelector('.read').textContent");
-  same("a version has the text of its time", read, "It was calm.");
-  await picture(page, "version");
 }
 
 async function fullStore(open) {
@@ -483,6 +501,7 @@ export async function writing() {
   await group("author number", authorNumber);
   await group("typing", typing);
   await group("drafts", drafts);
+  await group("an old draft", oldDraft);
   await group("kills", kills);
   await group("input methods", methods);
   await group("headings in a text", headings);
@@ -492,7 +511,6 @@ export async function writing() {
   await group("comments", comments);
   await group("sections that were moved", moved);
   await group("odd texts", odd);
-  await group("versions", versions);
   await group("a full store", fullStore);
   if (process.env.SMALL_DISK) await group("a full disk", fullDisk);
 }
