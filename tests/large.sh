@@ -1,8 +1,8 @@
 #!/usr/bin/env bash
 # Large manuscripts, each within a minute: the summary of a million turns, whose numbers another program computed, a
 # text of 300,000 letters that one author puts at once and another takes in, scripts of many lines in one section, emoji
-# and Hangul without a space between them, a certificate of many steps, texts of 100,000 letters that come in six
-# orders, and batches of each power of two up to the longest.
+# and Hangul without a space between them, passages that overlap themselves at very many places, a certificate of many
+# steps, texts of 100,000 letters that come in six orders, and batches of each power of two up to the longest.
 . "$(dirname "$0")/common.sh"
 
 # Whether what a command printed is what was wanted.
@@ -63,6 +63,24 @@ for scalar in 😀 한; do
     }' >"$work/script"
     look "lines of $scalar" 'made 40001' "$( (ulimit -t 10 && "$program" edit "$work/5") <"$work/script" 2>&1)"
 done
+
+# Passages of 100,000 letters in a text of a million, that overlap themselves at each letter, at every other one, and that
+# stand nowhere though nearly all of them does at each letter.
+repeated() {
+    yes "$1" | head -n "$2" | tr -d '\n'
+}
+remarked() {
+    local word=$1 passage=$2 wanted=$3
+    rm -f "$work/7"
+    "$program" new "$work/7" 7 16 </dev/null
+    { printf 'add 1 T\nput 1 0 '; repeated "$word" $((1000000 / ${#word})); echo; } >"$work/script"
+    "$program" edit "$work/7" <"$work/script" 2>/dev/null
+    (ulimit -t 5 && "$program" remark "$work/7" "$passage" x) </dev/null >"$work/output" 2>"$work/notes"
+    compare "a passage of $word: $wanted" $? 2 '' "passage $wanted\n"
+}
+remarked a "$(repeated a 100000)" 'found 900001 times'
+remarked ab "$(repeated ab 50000)" 'found 450001 times'
+remarked a "$(repeated a 99999)b" 'not found'
 
 # A certificate of 32,500 steps. Each step compares two letters by their right origins, which are those that the next one
 # compares. The left origins take turns, so that the chains are short.

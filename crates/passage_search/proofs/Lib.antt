@@ -1,3 +1,4 @@
 pub mod PlaceLemmas
 pub mod SpanLemmas
 pub mod FirstLemmas
+pub mod StepLemmas

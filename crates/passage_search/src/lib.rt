@@ -3,6 +3,7 @@
 
 mod places;
 mod span;
+mod steps;
 
 pub use places::{Places, places_of};
 pub use span::{Span, span_of};

@@ -1,6 +1,7 @@
 ghost use Rattle.std.specs.Prelude.{◌≡◌, ◌≢◌, ◌<◌, ◌+◌, ◌^◌, []};
 ghost use Rattle.passage_search.specs.Places.{ArePlaces};
 
+use crate::steps::{place_behind, place_from, step_of};
 use memchr::memmem::Finder;
 
 /// The places at which a passage stands in a text: how many they are, overlapping ones counted, and the first of them.
@@ -25,21 +26,18 @@ impl Places {
     }
 }
 
-/// Where the passage stands in the text, both in bytes. It is searched for by Two-Way (Crochemore and Perrin), once for
-/// each place.
+/// Where the passage stands in the text, both in bytes.
 pub fn places_of(text: &[u8], passage: &[u8]) -> Places
     requires { passage.now ≢ [] }
     ensures { ArePlaces text.now passage.now result }
 {
-    let finder = Finder::new(passage);
+    let finder = &Finder::new(passage);
+    let step = step_of(passage);
     let mut places = Places { count: 0, first: 0 };
-    let mut rest = text;
-    let mut passed = 0;
-    'places: while let Some(at) = finder.find(rest) {
-        places = places.and_one(passed + at);
-        passed += at + 1;
-        let (_before, behind) = rest.split_at(at + 1);
-        rest = behind;
+    let mut next = place_from(finder, text, 0);
+    'places: while let Some(at) = next {
+        places = places.and_one(at);
+        next = place_behind(finder, step, text, at);
     }
     places
 }

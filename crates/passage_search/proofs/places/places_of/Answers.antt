@@ -1,18 +1,24 @@
-use Rattle.std.proofs.Common.{refl}
-use Rattle.passage_search.proofs.PlaceLemmas.{search_begins, search_ends, search_goes_on}
+use Rattle.std.proofs.Common.{refl, subst, ◌+◌, arith}
+use Rattle.memchr.specs.Find.{FindsNeedle}
+use Rattle.passage_search.proofs.PlaceLemmas.{search_begins, search_finds, search_goes_on}
+use Rattle.passage_search.proofs.StepLemmas.{has_some}
 use Rattle.passage_search.proofs.places.places_of.Goals as goal
 
 pub places-init : goal.places-init
-places-init c = record { searched = search_begins _ _ _ refl; finder = c.new-finder.ensures }
+places-init c =
+    let text = c.args.text.now in
+    let passage = c.args.passage.now in
+    search_finds text passage _ 0 (omega arith) (search_begins text passage _ refl) c.place_from-next.result
+    (subst (λ needle. FindsNeedle text needle 0 c.place_from-next.result) c.new.ensures c.place_from-next.ensures)
 
 pub places-preserved : goal.places-preserved
 places-preserved c =
-    let kept = c.places.invariant in
-    let found = rw c.new-finder.ensures at c.in-Some.ensures in
-    record {
-      searched = search_goes_on c.args.text.now c.args.passage.now c.places.places c.places.rest.now c.places.passed kept.searched c.requires c.in-Some.at found.0.before found.1 _ _ c.split_at.ensures.back c.and_one-places.ensures.count c.and_one-places.ensures.fresh c.and_one-places.ensures.kept;
-      finder = c.new-finder.ensures;
-    }
-
-pub returns : goal.returns
-returns c = search_ends c.args.text.now c.args.passage.now c.places.places c.places.rest.now c.places.passed c.places.invariant.searched (rw c.new-finder.ensures at c.in_default.ensures)
+    let text = c.args.text.now in
+    let passage = c.args.passage.now in
+    let at = c.in-Some.at in
+    let next = c.place_behind-next.result in
+    let before = rw c.in-Some.is at c.places.invariant in
+    let added = c.and_one-places.ensures in
+    search_finds text passage c.and_one-places.result (at + 1) (omega (arith, before.1.fits, has_some passage c.requires))
+    (search_goes_on text passage c.places.places at before.0 before.1 c.and_one-places.result added.count added.fresh added.kept) next
+    (subst (λ needle. FindsNeedle text needle (at + 1) next) c.new.ensures c.place_behind-next.ensures)
