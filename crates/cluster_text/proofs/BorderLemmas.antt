@@ -1,5 +1,5 @@
 -- The characters at which clusters end, and texts between which no cluster goes on.
-use Rattle.std.proofs.Common.{◌≡◌, ℕ, Bool, true, false, not, ◌&&◌, ◌||◌, List, [], ◌∷◌, ◌++◌, map, Some, unwrap_or, refl, sym, ap, ap₂, ◌∙◌, append_assoc}
+use Rattle.std.proofs.Common.{◌≡◌, ℕ, Bool, true, false, not, ◌&&◌, ◌||◌, ◌<◌, ◌⊎◌, inl, inr, List, [], ◌∷◌, ◌++◌, length, map, Some, unwrap_or, refl, sym, ap, ap₂, ◌∙◌, append_assoc, arith}
 use Rattle.std.proofs.lemmas.Bool.{and_parts, not-true}
 use Rattle.std.proofs.lemmas.List.{map-append}
 use Rattle.std.proofs.lemmas.Str.{chars-append}
@@ -7,7 +7,7 @@ use Rattle.std.specs.Prelude.{encode_utf8_all}
 use Rattle.std.specs.Str.{chars, IsUtf8}
 use Rattle.ucd_breaks.specs.GraphemeClusterBreak.{grapheme_cluster_break}
 use Rattle.ucd_breaks.specs.declared.GraphemeClusterBreak.{GraphemeClusterBreak}
-use Rattle.ucd_breaks.specs.declared.GraphemeClusterBreak.TheVariants.{Control, Extend, Lf, Lv, Lvt, Other, SpacingMark, T, V, Zwj}
+use Rattle.ucd_breaks.specs.declared.GraphemeClusterBreak.TheVariants.{Control, Extend, Lf, Lv, Lvt, Other, RegionalIndicator, SpacingMark, T, V, Zwj}
 use Rattle.ucd_breaks.proofs.Computing.{ucd_breaks}
 use Rattle.ucd_derived.specs.IndicConjunctBreak.{indic_conjunct_break}
 use Rattle.ucd_derived.specs.declared.IndicConjunctBreak.{IndicConjunctBreak}
@@ -17,9 +17,9 @@ use Rattle.ucd_emoji.specs.Binary.{is_extended_pictographic}
 use Rattle.ucd_emoji.proofs.Computing.{ucd_emoji}
 use Rattle.unicode_segmentation.specs.Grapheme.{break_by_pair, ends_in_linker, joins_emoji, is_extend, is_zwj, is_regional, ends_in_pictograph, ends_in_half_flag, is_grapheme_break}
 use Rattle.unicode_segmentation.specs.Segments.{Rule, cut, segments}
-use Rattle.cluster_text.specs.Borders.{closes, opens, first_opens, last_closes, is_free, is_joining, is_linking}
+use Rattle.cluster_text.specs.Borders.{closes, opens, ends_whole, first_opens, is_closed, is_free, is_indicator, is_joining, is_linking, last_closes, onto}
 use Rattle.cluster_text.specs.Clusters.{clusters}
-use Rattle.cluster_text.proofs.CutLemmas.{onto, attach, attach-nil, ReadsNext, StopsAt, StopsBehind, cut-after, cut-apart, cut-border, cut-past}
+use Rattle.cluster_text.proofs.CutLemmas.{attach, attach-nil, ReadsNext, StopsAt, StopsBehind, cut-after, cut-apart, cut-border, cut-past}
 
 -- no cluster goes over the border between two texts, and each has the clusters that it has alone
 abbrev pub Apart : (a b : List ℕ) → Type 0
@@ -72,50 +72,6 @@ linker-cons InCb.Linker vs ws e = refl
 linker-cons InCb.Extend vs ws e = e
 linker-cons _ vs ws e = refl
 
--- no rule looks past a character that opens behind one that closes
-module _ (c d : ℕ) (before : List ℕ) (stop : Closing c) (start : Opening d) where
-  linker-stops : (xs : List ℕ) → ends_in_linker (map indic_conjunct_break (xs ++ d ∷ c ∷ before)) ≡ ends_in_linker (map indic_conjunct_break (xs ++ d ∷ []))
-  unfolding ends_in_linker
-  linker-stops [] = linker-stop (indic_conjunct_break d) _ start.linking ∙ sym (linker-stop (indic_conjunct_break d) _ start.linking)
-  linker-stops (x ∷ xs) = linker-cons (indic_conjunct_break x) _ _ (linker-stops xs)
-
-  pictograph-stops : (xs : List ℕ) → ends_in_pictograph (xs ++ d ∷ c ∷ before) ≡ ends_in_pictograph (xs ++ d ∷ [])
-  unfolding ends_in_pictograph
-  pictograph-stops [] = rw (opening-not_extend _ start.joining).0 refl
-  pictograph-stops (x ∷ xs) = ap (λ b. is_extended_pictographic x || (is_extend (grapheme_cluster_break x) && b)) (pictograph-stops xs)
-
-  half_flag-stops : (xs : List ℕ) → ends_in_half_flag (xs ++ d ∷ c ∷ before) ≡ ends_in_half_flag (xs ++ d ∷ [])
-  unfolding ends_in_half_flag
-  half_flag-stops [] =
-      let none : ends_in_half_flag (c ∷ before) ≡ false = ap (λ b. b && not (ends_in_half_flag before)) (free-not_extend _ stop.free).2 in
-      ap (λ b. is_regional (grapheme_cluster_break d) && not b) none
-  half_flag-stops (x ∷ xs) = ap (λ b. is_regional (grapheme_cluster_break x) && not b) (half_flag-stops xs)
-
-  emoji-stops : (xs : List ℕ) (n : ℕ) → joins_emoji (xs ++ d ∷ c ∷ before) n ≡ joins_emoji (xs ++ d ∷ []) n
-  emoji-stops [] n = rw (opening-not_extend _ start.joining).1 refl
-  emoji-stops (x ∷ xs) n = ap (λ b. is_zwj (grapheme_cluster_break x) && b && is_extended_pictographic n) (pictograph-stops xs)
-
-  rule_stops : StopsBehind (is_grapheme_break true) d (c ∷ before)
-  unfolding is_grapheme_break
-  rule_stops [] [] = refl
-  rule_stops (x ∷ xs) [] = refl
-  rule_stops [] (n ∷ after) = rw (linker-stops [], emoji-stops [] n, half_flag-stops []) refl
-  rule_stops (x ∷ xs) (n ∷ after) = rw (linker-stops (x ∷ xs), emoji-stops (x ∷ xs) n, half_flag-stops (x ∷ xs)) refl
-
--- behind one that closes the pair of neighbors decides
-module _ (c : ℕ) (stop : Closing c) where
-  rule_by_pair : (d : ℕ) (before after : List ℕ)
-      → is_grapheme_break true (c ∷ before) (d ∷ after) ≡ unwrap_or (break_by_pair true (grapheme_cluster_break c) (grapheme_cluster_break d)) true
-  unfolding is_grapheme_break ends_in_half_flag
-  rule_by_pair d before after =
-      let free = free-not_extend _ stop.free in
-      rw (linker-stop (indic_conjunct_break c) (map indic_conjunct_break before) stop.linking, free.1, free.2) refl
-
-rule_reads_next : ReadsNext (is_grapheme_break true)
-unfolding is_grapheme_break
-rule_reads_next [] c xs ys = refl
-rule_reads_next (b ∷ before) c xs ys = refl
-
 pair_breaks : (v w : GraphemeClusterBreak) → is_free v ≡ true → is_joining w ≡ false → unwrap_or (break_by_pair true v w) true ≡ true
 pair_breaks Other Extend e f = sym f
 pair_breaks Other Zwj e f = sym f
@@ -147,13 +103,93 @@ pair_breaks Control w e f = refl
 pair_breaks Lf w e f = refl
 pair_breaks _ w e f = cc
 
+regional_breaks : (v w : GraphemeClusterBreak) → is_regional v ≡ true → is_joining w ≡ false → (is_zwj v ≡ false) × (unwrap_or (break_by_pair true v w) true ≡ true)
+regional_breaks RegionalIndicator Extend e f = cc
+regional_breaks RegionalIndicator Zwj e f = cc
+regional_breaks RegionalIndicator SpacingMark e f = cc
+regional_breaks RegionalIndicator w e f = (refl, refl)
+regional_breaks _ w e f = cc
+
+-- behind the character, and those before it, last first, a cluster ends at each one that opens
+pub record Closed (c : ℕ) (before : List ℕ) : Type 0 where
+  pub linking : is_linking (indic_conjunct_break c) ≡ false
+  pub zwj : is_zwj (grapheme_cluster_break c) ≡ false
+  pub half : ends_in_half_flag (c ∷ before) ≡ false
+  pub pair : (w : GraphemeClusterBreak) → is_joining w ≡ false → unwrap_or (break_by_pair true (grapheme_cluster_break c) w) true ≡ true
+
+closed_by_class : (c : ℕ) (before : List ℕ) → closes c ≡ true → Closed c before
+unfolding ends_in_half_flag
+closed_by_class c before e =
+    let stop = closing c e in
+    let free = free-not_extend _ stop.free in
+    record { linking = stop.linking; zwj = free.1; half = ap (λ b. b && not (ends_in_half_flag before)) free.2; pair = λ w f. pair_breaks _ w stop.free f }
+
+closed_by_flag : (c : ℕ) (before : List ℕ) → (is_indicator c && not (ends_in_half_flag (c ∷ before))) ≡ true → Closed c before
+closed_by_flag c before e =
+    let parts = and_parts (is_indicator c) _ e in
+    let both = and_parts (is_regional (grapheme_cluster_break c)) _ parts.0 in
+    record {
+      linking = not-true _ both.1;
+      zwj = (regional_breaks _ Other both.0 refl).0;
+      half = not-true _ parts.1;
+      pair = λ w f. (regional_breaks _ w both.0 f).1;
+    }
+
+either : (a b : Bool) → (a || b) ≡ true → (a ≡ true) ⊎ (b ≡ true)
+either true b e = inl refl
+either false b e = inr e
+
+pub closed_behind : (c : ℕ) (before : List ℕ) → ends_whole (c ∷ before) ≡ true → Closed c before
+closed_behind c before e =
+    elim (either (closes c) _ e) [ inl one ↦ closed_by_class c before one | inr flag ↦ closed_by_flag c before flag ]
+
+-- no rule looks past a character that opens behind such a place
+module _ (c d : ℕ) (before : List ℕ) (stop : Closed c before) (start : Opening d) where
+  linker-stops : (xs : List ℕ) → ends_in_linker (map indic_conjunct_break (xs ++ d ∷ c ∷ before)) ≡ ends_in_linker (map indic_conjunct_break (xs ++ d ∷ []))
+  unfolding ends_in_linker
+  linker-stops [] = linker-stop (indic_conjunct_break d) _ start.linking ∙ sym (linker-stop (indic_conjunct_break d) _ start.linking)
+  linker-stops (x ∷ xs) = linker-cons (indic_conjunct_break x) _ _ (linker-stops xs)
+
+  pictograph-stops : (xs : List ℕ) → ends_in_pictograph (xs ++ d ∷ c ∷ before) ≡ ends_in_pictograph (xs ++ d ∷ [])
+  unfolding ends_in_pictograph
+  pictograph-stops [] = rw (opening-not_extend _ start.joining).0 refl
+  pictograph-stops (x ∷ xs) = ap (λ b. is_extended_pictographic x || (is_extend (grapheme_cluster_break x) && b)) (pictograph-stops xs)
+
+  half_flag-stops : (xs : List ℕ) → ends_in_half_flag (xs ++ d ∷ c ∷ before) ≡ ends_in_half_flag (xs ++ d ∷ [])
+  unfolding ends_in_half_flag
+  half_flag-stops [] = ap (λ b. is_regional (grapheme_cluster_break d) && not b) stop.half
+  half_flag-stops (x ∷ xs) = ap (λ b. is_regional (grapheme_cluster_break x) && not b) (half_flag-stops xs)
+
+  emoji-stops : (xs : List ℕ) (n : ℕ) → joins_emoji (xs ++ d ∷ c ∷ before) n ≡ joins_emoji (xs ++ d ∷ []) n
+  emoji-stops [] n = rw (opening-not_extend _ start.joining).1 refl
+  emoji-stops (x ∷ xs) n = ap (λ b. is_zwj (grapheme_cluster_break x) && b && is_extended_pictographic n) (pictograph-stops xs)
+
+  rule_stops : StopsBehind (is_grapheme_break true) d (c ∷ before)
+  unfolding is_grapheme_break
+  rule_stops [] [] = refl
+  rule_stops (x ∷ xs) [] = refl
+  rule_stops [] (n ∷ after) = rw (linker-stops [], emoji-stops [] n, half_flag-stops []) refl
+  rule_stops (x ∷ xs) (n ∷ after) = rw (linker-stops (x ∷ xs), emoji-stops (x ∷ xs) n, half_flag-stops (x ∷ xs)) refl
+
+-- there the pair of neighbors decides
+rule_by_pair : (c : ℕ) (before : List ℕ) → Closed c before → (d : ℕ) (after : List ℕ)
+    → is_grapheme_break true (c ∷ before) (d ∷ after) ≡ unwrap_or (break_by_pair true (grapheme_cluster_break c) (grapheme_cluster_break d)) true
+unfolding is_grapheme_break
+rule_by_pair c before stop d after =
+    rw (linker-stop (indic_conjunct_break c) (map indic_conjunct_break before) stop.linking, stop.zwj, stop.half) refl
+
+rule_reads_next : ReadsNext (is_grapheme_break true)
+unfolding is_grapheme_break
+rule_reads_next [] c xs ys = refl
+rule_reads_next (b ∷ before) c xs ys = refl
+
 -- where the texts fall apart by characters, they do by bytes
-apart_from_break : (a b front ds : List ℕ) (c d : ℕ) → IsUtf8 a → chars a ≡ front ++ c ∷ [] → chars b ≡ d ∷ ds → Closing c → Opening d → Apart a b
+apart_from_break : (a b front ds : List ℕ) (c d : ℕ) → IsUtf8 a → chars a ≡ front ++ c ∷ [] → chars b ≡ d ∷ ds → Closed c (onto front []) → Opening d → Apart a b
 unfolding segments
 apart_from_break a b front ds c d utf8 is starts stop start =
     let rule = is_grapheme_break true in
     let pieces : List ℕ → List (List ℕ) = λ cs. cut rule [] cs [] in
-    let breaks = rule_by_pair c stop d (onto front []) ds ∙ pair_breaks _ _ stop.free start.joining in
+    let breaks = rule_by_pair c (onto front []) stop d ds ∙ stop.pair _ start.joining in
     let whole : chars (a ++ b) ≡ front ++ c ∷ d ∷ ds =
     chars-append a b utf8 ∙ ap₂ ◌++◌ is starts ∙ append_assoc front (c ∷ []) (d ∷ ds) in
     ap (λ cs. map encode_utf8_all (pieces cs)) whole
@@ -161,29 +197,70 @@ apart_from_break a b front ds c d utf8 is starts stop start =
     ∙ map-append encode_utf8_all (pieces (front ++ c ∷ [])) (pieces (d ∷ ds))
     ∙ ap₂ (λ cs es. map encode_utf8_all (pieces cs) ++ map encode_utf8_all (pieces es)) (sym is) (sym starts)
 
-pub record LastOf (cs : List ℕ) : Type 0 where
+record LastOf (cs : List ℕ) : Type 0 where
   pub front : List ℕ
   pub last : ℕ
   pub is : cs ≡ front ++ last ∷ []
-  pub closed : closes last ≡ true
 
-pub last_of : (cs : List ℕ) → last_closes cs ≡ true → LastOf cs
-last_of [] e = cc
-last_of (c ∷ []) e = record { front = []; last = c; is = refl; closed = e }
-last_of (c ∷ d ∷ cs) e =
-    let further = last_of (d ∷ cs) e in
-    record { front = c ∷ further.front; last = further.last; is = ap (λ ds. c ∷ ds) further.is; closed = further.closed }
+last_split : (c : ℕ) (cs : List ℕ) → LastOf (c ∷ cs)
+last_split c [] = record { front = []; last = c; is = refl }
+last_split c (d ∷ cs) =
+    let further = last_split d cs in
+    record { front = c ∷ further.front; last = further.last; is = ap (λ ds. c ∷ ds) further.is }
+
+last_of : (cs : List ℕ) → 0 < length cs → LastOf cs
+last_of [] some = absurd (omega arith)
+last_of (c ∷ cs) some = last_split c cs
+
+pub onto-append : (xs ys before : List ℕ) → onto (xs ++ ys) before ≡ onto ys (onto xs before)
+onto-append [] ys before = refl
+onto-append (x ∷ xs) ys before = onto-append xs ys (x ∷ before)
 
 first_of : (cs : List ℕ) → first_opens cs ≡ true → (d : ℕ) × (ds : List ℕ) × (cs ≡ d ∷ ds) × Opening d
 first_of [] e = cc
 first_of (d ∷ ds) e = (d, ds, refl, opening d e)
 
--- a text that ends in a character that closes stands apart from one that begins with one that opens
-pub apart-closed : (a b : List ℕ) → IsUtf8 a → last_closes (chars a) ≡ true → first_opens (chars b) ≡ true → Apart a b
-apart-closed a b utf8 closed opening =
-    let l = last_of (chars a) closed in
+-- a text behind which a cluster ends stands apart from one that begins with a character that opens
+pub apart-closed : (a b : List ℕ) → IsUtf8 a → 0 < length (chars a) → is_closed (chars a) ≡ true → first_opens (chars b) ≡ true → Apart a b
+apart-closed a b utf8 some closed opening =
+    let l = last_of (chars a) some in
     let f = first_of (chars b) opening in
-    apart_from_break a b l.front f.1 l.last f.0 utf8 l.is f.2 (closing l.last l.closed) f.3
+    let ends = sym (ap ends_whole (ap (λ cs. onto cs []) l.is ∙ onto-append l.front (l.last ∷ []) [])) ∙ closed in
+    apart_from_break a b l.front f.1 l.last f.0 utf8 l.is f.2 (closed_behind l.last (onto l.front []) ends) f.3
+
+-- ---- the ends of texts
+
+-- behind a character that closes a cluster ends, whatever stands before it
+pub closed_by_last : (cs before : List ℕ) → last_closes cs ≡ true → ends_whole (onto cs before) ≡ true
+closed_by_last [] before e = cc
+closed_by_last (c ∷ []) before e = rw e refl
+closed_by_last (c ∷ d ∷ cs) before e = closed_by_last (d ∷ cs) (c ∷ before) e
+
+ends_whole-half : (zs : List ℕ) → ends_whole zs ≡ true → ends_in_half_flag zs ≡ false
+unfolding ends_in_half_flag
+ends_whole-half [] e = refl
+ends_whole-half (c ∷ before) e = (closed_behind c before e).half
+
+onto-front : (cs before : List ℕ) → onto cs before ≡ onto cs [] ++ before
+onto-front [] before = refl
+onto-front (c ∷ cs) before =
+    onto-front cs (c ∷ before) ∙ sym (append_assoc (onto cs []) (c ∷ []) before) ∙ ap (λ ds. ds ++ before) (sym (onto-front cs (c ∷ [])))
+
+half_flag-past : (zs before : List ℕ) → ends_in_half_flag before ≡ false → ends_in_half_flag (zs ++ before) ≡ ends_in_half_flag zs
+unfolding ends_in_half_flag
+half_flag-past [] before e = e
+half_flag-past (z ∷ zs) before e = ap (λ b. is_regional (grapheme_cluster_break z) && not b) (half_flag-past zs before e)
+
+ends_whole-past : (zs before : List ℕ) → ends_in_half_flag before ≡ false → ends_whole before ≡ true → ends_whole (zs ++ before) ≡ true → ends_whole zs ≡ true
+ends_whole-past [] before half old e = refl
+ends_whole-past (z ∷ zs) before half old e =
+    ap (λ b. closes z || (is_indicator z && not b)) (sym (half_flag-past (z ∷ zs) before half)) ∙ e
+
+-- of two texts, one behind the other, that end so, the second one does too
+pub closed-behind : (xs ys : List ℕ) → is_closed xs ≡ true → is_closed (xs ++ ys) ≡ true → is_closed ys ≡ true
+closed-behind xs ys one both =
+    ends_whole-past (onto ys []) (onto xs []) (ends_whole-half (onto xs []) one) one
+    (ap ends_whole (sym (onto-append xs ys [] ∙ onto-front ys (onto xs []))) ∙ both)
 
 -- ---- NUL
 

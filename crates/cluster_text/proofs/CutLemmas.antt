@@ -2,11 +2,7 @@
 use Rattle.std.proofs.Common.{◌≡◌, ℕ, Bool, true, false, List, [], ◌∷◌, ◌++◌, refl, sym, ap, ap₂, ◌∙◌, append_assoc, append-nil}
 use Rattle.std.specs.Prelude.{if◌then◌else◌}
 use Rattle.unicode_segmentation.specs.Segments.{Rule, prepend, cut}
-
--- the characters of cs, last first, and then `before`
-abbrev pub onto : List ℕ → List ℕ → List ℕ
-onto [] before = before
-onto (c ∷ cs) before = onto cs (c ∷ before)
+use Rattle.cluster_text.specs.Borders.{onto}
 
 -- a part before the pieces, as a piece of its own or as the front of the first
 abbrev pub attach : Bool → List ℕ → List (List ℕ) → List (List ℕ)

@@ -14,9 +14,9 @@ use Rattle.cluster_text.specs.Borders.{first_opens, last_closes, stands_alone}
 use Rattle.cluster_text.specs.Clusters.{clusters, scalars, span}
 use Rattle.cluster_text.specs.Parts.{enclosed, inside, IsIndex, scalar_count, whole}
 use Rattle.cluster_text.specs.declared.part.Part.{Part}
-use Rattle.cluster_text.proofs.BorderLemmas.{cut-enclosed, nul_closes, nul_opens}
+use Rattle.cluster_text.proofs.BorderLemmas.{closed_by_last, cut-enclosed, nul_closes, nul_opens}
 use Rattle.cluster_text.proofs.TextLemmas.{is_alone, last_closes-append, scalars-append, scalars-clusters, scalars-drop, scalars-take}
-use Rattle.cluster_text.proofs.WayLemmas.{scalars-append as sums-append}
+use Rattle.cluster_text.proofs.TreeLemmas.{scalars-append as sums-append}
 
 nul_ascii : IsAscii (0 ∷ [])
 nul_ascii zero = omega arith
@@ -37,10 +37,12 @@ module _ (text : List ℕ) (utf8 : IsUtf8 text) where
       chars-append (0 ∷ []) (text ++ 0 ∷ []) nul_utf8
       ∙ ap₂ ◌++◌ nul_chars (chars-append text (0 ∷ []) utf8 ∙ ap (λ cs. chars text ++ cs) nul_chars)
 
+  pub enclosed_closes : last_closes (chars (enclosed text)) ≡ true
+  enclosed_closes = ap last_closes enclosed_chars ∙ last_closes-append (0 ∷ chars text) (0 ∷ []) (omega arith) ∙ nul_closes
+
   pub enclosed_alone : stands_alone (enclosed text) ≡ true
   enclosed_alone =
-      is_alone (enclosed text) (ap first_opens enclosed_chars ∙ nul_opens)
-      (ap last_closes enclosed_chars ∙ last_closes-append (0 ∷ chars text) (0 ∷ []) (omega arith) ∙ nul_closes)
+      is_alone (enclosed text) (ap first_opens enclosed_chars ∙ nul_opens) (closed_by_last (chars (enclosed text)) [] enclosed_closes)
 
   pub enclosed_clusters : clusters (enclosed text) ≡ (0 ∷ []) ∷ (clusters text ++ (0 ∷ []) ∷ [])
   unfolding segments
@@ -70,6 +72,9 @@ module _ (parts : List Part) (count : ℕ) (index : IsIndex parts count) where
       let text = inside (whole parts) in
       let all = ap (λ t. length (chars t)) index.text_is ∙ ap length (enclosed_chars text index_utf8) in
       omega (arith, index.count_is, all, length-append (chars text) (0 ∷ []))
+
+  pub index_closes : last_closes (chars (whole parts)) ≡ true
+  index_closes = ap (λ t. last_closes (chars t)) index.text_is ∙ enclosed_closes (inside (whole parts)) index_utf8
 
   pub index_clusters : clusters (whole parts) ≡ (0 ∷ []) ∷ (clusters (inside (whole parts)) ++ (0 ∷ []) ∷ [])
   index_clusters = ap clusters index.text_is ∙ enclosed_clusters (inside (whole parts)) index_utf8

@@ -1,9 +1,11 @@
 pub mod ScalarLemmas
 pub mod CutLemmas
 pub mod BorderLemmas
+pub mod EndingLemmas
 pub mod TextLemmas
 pub mod SingleLemmas
 pub mod PartLemmas
-pub mod WayLemmas
+pub mod TreeLemmas
+pub mod GatherLemmas
 pub mod SpotLemmas
 pub mod IndexLemmas

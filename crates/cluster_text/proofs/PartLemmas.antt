@@ -1,5 +1,5 @@
 -- The clusters and the scalars of parts.
-use Rattle.std.proofs.Common.{◌≡◌, ℕ, ◌+◌, ◌<◌, true, List, [], ◌∷◌, ◌++◌, length, drop, get_or, refl, sym, ap, ◌∙◌, append_assoc, append-nil, length-append}
+use Rattle.std.proofs.Common.{◌≡◌, ℕ, ◌+◌, ◌<◌, ◌≤◌, true, List, [], ◌∷◌, ◌++◌, length, drop, get_or, refl, sym, ap, ◌∙◌, append_assoc, append-nil, length-append, arith}
 use Rattle.std.proofs.lemmas.List.{drop_more}
 use Rattle.std.proofs.lemmas.Str.{chars-nil, chars-append, IsUtf8-append, IsUtf8-nil, IsUtf8-string_bytes}
 use Rattle.std.specs.Prelude.{string_bytes}
@@ -9,7 +9,7 @@ use Rattle.cluster_text.specs.Clusters.{clusters}
 use Rattle.cluster_text.specs.Parts.{scalar_count, whole}
 use Rattle.cluster_text.specs.declared.part.Part.{Part}
 use Rattle.cluster_text.proofs.BorderLemmas.{apart-closed}
-use Rattle.cluster_text.proofs.TextLemmas.{alone, clusters-nil, first_opens-append}
+use Rattle.cluster_text.proofs.TextLemmas.{alone, clusters-nil, first_opens-append, first_opens-some}
 
 pub whole-utf8 : (parts : List Part) → IsUtf8 (whole parts)
 whole-utf8 [] = IsUtf8-nil
@@ -45,7 +45,21 @@ clusters-first part [] =
 clusters-first part (next ∷ parts) =
     let opens : first_opens (chars (whole (next ∷ parts))) ≡ true =
     ap first_opens (chars-first next parts) ∙ first_opens-append (chars (string_bytes next.text)) (chars (whole parts)) (alone _ next.alone).0 in
-    apart-closed (string_bytes part.text) (whole (next ∷ parts)) (IsUtf8-string_bytes part.text) (alone _ part.alone).1 opens
+    let here = alone _ part.alone in
+    apart-closed (string_bytes part.text) (whole (next ∷ parts)) (IsUtf8-string_bytes part.text) (first_opens-some _ here.0) here.1 opens
+
+pub clusters-parts : (xs ys : List Part) → clusters (whole (xs ++ ys)) ≡ clusters (whole xs) ++ clusters (whole ys)
+clusters-parts [] ys = ap (λ cs. cs ++ clusters (whole ys)) (sym clusters-nil)
+clusters-parts (x ∷ xs) ys =
+    clusters-first x (xs ++ ys) ∙ ap (λ cs. clusters (string_bytes x.text) ++ cs) (clusters-parts xs ys)
+    ∙ sym (append_assoc (clusters (string_bytes x.text)) (clusters (whole xs)) (clusters (whole ys)))
+    ∙ ap (λ cs. cs ++ clusters (whole ys)) (sym (clusters-first x xs))
+
+-- each part has a scalar
+pub length-le-scalar_count : (parts : List Part) → length parts ≤ scalar_count parts
+length-le-scalar_count [] = omega arith
+length-le-scalar_count (part ∷ parts) =
+    omega (arith, first_opens-some _ (alone _ part.alone).0, scalar_count-first part parts, length-le-scalar_count parts)
 
 pub parts-first : (parts : List Part) (i : ℕ) (part : Part) → i < length parts → part ≡ get_or parts i part → drop i parts ≡ part ∷ drop (i + 1) parts
 parts-first parts i part lt is = drop_more parts i part lt ∙ ap (λ (p : Part). p ∷ drop (i + 1) parts) (sym is)

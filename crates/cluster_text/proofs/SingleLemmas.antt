@@ -17,7 +17,7 @@ use Rattle.unicode_segmentation.specs.Grapheme.{is_grapheme_break}
 use Rattle.unicode_segmentation.specs.Segments.{Rule, cut, segments}
 use Rattle.cluster_text.specs.Borders.{closes, opens, first_opens, last_closes, is_free, is_joining, is_linking, is_plain, is_special}
 use Rattle.cluster_text.specs.Clusters.{clusters, scalars}
-use Rattle.cluster_text.proofs.BorderLemmas.{apart-closed}
+use Rattle.cluster_text.proofs.BorderLemmas.{apart-closed, closed_by_last}
 use Rattle.cluster_text.proofs.CutLemmas.{attach, attach-nil}
 use Rattle.cluster_text.proofs.TextLemmas.{AllScalars, clusters-nil, concat-cut, cut_scalars, scalars-pieces}
 
@@ -66,6 +66,13 @@ front-singles text n utf8 same le =
     ap scalars (take-map encode_utf8_all n pieces)
     ∙ scalars-pieces (take n pieces) (taken_scalars n pieces (cut_scalars _ [] (chars text) [] (scalars-chars text utf8)))
     ∙ front_of_singles n pieces (cut_filled _ [] (chars text) []) (omega (arith, count, same, whole)) (omega (arith, count, le))
+
+-- a text has no more clusters than scalars
+pub few_clusters : (text : List ℕ) → length (clusters text) ≤ length (chars text)
+unfolding segments
+few_clusters text =
+    let pieces = cut (is_grapheme_break true) [] (chars text) [] in
+    omega (arith, length-map pieces encode_utf8_all, few_pieces pieces (cut_filled _ [] (chars text) []), ap length (concat-cut (is_grapheme_break true) [] (chars text) []))
 
 -- ---- characters of ASCII
 
@@ -132,7 +139,8 @@ plain_clusters (b ∷ c ∷ bs) e =
     let next = ordinary c (plain_parts c bs parts.1).0 in
     let alone = IsAscii-cons b [] first.0 IsAscii-nil in
     let apart = apart-closed (b ∷ []) (c ∷ bs) (IsUtf8-from_ascii (b ∷ []) alone)
-    (ap last_closes (chars-IsAscii (b ∷ []) alone) ∙ ascii_closes b first.0 first.1)
+    (omega (arith, ap length (chars-IsAscii (b ∷ []) alone)))
+    (closed_by_last (chars (b ∷ [])) [] (ap last_closes (chars-IsAscii (b ∷ []) alone) ∙ ascii_closes b first.0 first.1))
     (ap first_opens (chars-IsAscii (c ∷ bs) (plain_ascii (c ∷ bs) parts.1)) ∙ ascii_opens c next.0) in
     let count = ap length apart ∙ length-append (clusters (b ∷ [])) (clusters (c ∷ bs)) in
     let whole : length (clusters (b ∷ c ∷ bs)) ≡ length (clusters (b ∷ [])) + length (clusters (c ∷ bs)) = count in

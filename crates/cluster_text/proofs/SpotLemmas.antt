@@ -1,55 +1,19 @@
 -- How scalars of a text in parts give way to others.
-use Rattle.std.proofs.Common.{◌≡◌, ℕ, zero, suc, ◌+◌, ◌-◌, ◌<◌, ◌≤◌, inl, inr, true, List, [], ◌∷◌, ◌++◌, length, take, drop, get_or, set, refl, sym, ap, ap₂, ◌∙◌, append_assoc, length-append, length-take, length-drop, take_at, drop_at, take_all, drop-drop, arith}
+use Rattle.std.proofs.Common.{◌≡◌, ◌⊎◌, ℕ, zero, suc, ◌+◌, ◌-◌, ◌<◌, ◌≤◌, inl, inr, true, List, [], ◌∷◌, ◌++◌, length, take, drop, get_or, refl, sym, ap, ap₂, ◌∙◌, append_assoc, append-nil, length-append, length-drop, take_at, drop_at, drop-drop, arith}
 use Rattle.std.proofs.Math.Seq.{take-append-add}
 use Rattle.std.proofs.lemmas.Bool.{cases_lt}
-use Rattle.std.proofs.lemmas.List.{take-append-le, drop-append-le, nil_from_length}
-use Rattle.std.proofs.lemmas.Str.{chars-append, encodes-append, encodes-chars}
+use Rattle.std.proofs.lemmas.List.{take-append-drop, take-append-le, drop-append-le, drop_all}
+use Rattle.std.proofs.lemmas.Str.{chars-append, encodes-append, encodes-chars, IsUtf8-append, IsUtf8-string_bytes}
 use Rattle.std.specs.Prelude.{encode_utf8_all, string_bytes}
 use Rattle.std.specs.List.{splice}
 use Rattle.std.specs.Str.{IsUtf8, chars}
-use Rattle.cluster_text.specs.Borders.{first_opens, last_closes, stands_alone}
-use Rattle.cluster_text.specs.Parts.{IsSpot, scalar_count, whole}
+use Rattle.cluster_text.specs.Borders.{first_opens, is_closed, last_closes, stands_alone}
+use Rattle.cluster_text.specs.Parts.{IsGathered, IsSpot, scalar_count, whole}
+use Rattle.cluster_text.specs.Trees.{IsAt}
 use Rattle.cluster_text.specs.declared.part.Part.{Part}
-use Rattle.cluster_text.proofs.PartLemmas.{chars-whole, chars-first, parts-first, scalar_count-append, scalar_count-first, scalar_count-none, whole-append, whole-utf8}
+use Rattle.cluster_text.proofs.BorderLemmas.{closed_by_last}
+use Rattle.cluster_text.proofs.PartLemmas.{chars-whole, chars-first, scalar_count-append, scalar_count-first, scalar_count-none, whole-append, whole-utf8}
 use Rattle.cluster_text.proofs.TextLemmas.{alone, back_chars, first_opens-append, first_opens-take, front_chars, front_utf8, is_alone, last_closes-append, last_closes-drop}
-
-front_back : {X : Type 0} (i : ℕ) (xs : List X) → take i xs ++ drop i xs ≡ xs
-front_back zero xs = refl
-front_back (suc i) [] = refl
-front_back {X} (suc i) (x ∷ xs) = ap (λ (ys : List X). x ∷ ys) (front_back i xs)
-
-module _ (parts : List Part) (i : ℕ) (part : Part) (lt : i < length parts) (is : part ≡ get_or parts i part) where
-  parts_are : parts ≡ take i parts ++ part ∷ drop (i + 1) parts
-  parts_are = sym (front_back i parts) ∙ ap (λ (ps : List Part). take i parts ++ ps) (parts-first parts i part lt is)
-
-  one_more : take (i + 1) parts ≡ take i parts ++ part ∷ []
-  one_more =
-      ap (take (i + 1)) parts_are
-      ∙ ap (λ (ps : List Part). take (i + 1) ps) (sym (append_assoc (take i parts) (part ∷ []) (drop (i + 1) parts)))
-      ∙ take_at (take i parts ++ part ∷ []) (drop (i + 1) parts) (i + 1) (length-append (take i parts) (part ∷ []) ∙ omega (arith, length-take i parts))
-
-  -- a part is passed
-  pub spot-next : (at within : ℕ) → at ≡ scalar_count (take i parts) + within → length (chars (string_bytes part.text)) ≤ within
-      → at ≡ scalar_count (take (i + 1) parts) + (within - length (chars (string_bytes part.text)))
-  spot-next at within place past =
-      let sum = ap scalar_count one_more ∙ scalar_count-append (take i parts) (part ∷ []) in
-      omega (arith, sum, scalar_count-first part [], scalar_count-none, place, past)
-
-  pub spot-found : (at within : ℕ) → at ≡ scalar_count (take i parts) + within → within < length (chars (string_bytes part.text)) → IsSpot parts at i within
-  spot-found at within place fits =
-      record {
-        front = take i parts;
-        here = part;
-        back = drop (i + 1) parts;
-        parts_are = parts_are;
-        index_is = omega (arith, length-take i parts);
-        place = place;
-        fits = fits;
-      }
-
--- all were passed
-pub spot-end : (parts : List Part) (i at within : ℕ) → length parts ≤ i → at ≡ scalar_count (take i parts) + within → at < scalar_count parts → ⊥
-spot-end parts i at within end place few = omega (arith, ap scalar_count (take_all i parts end), place, few)
 
 -- ---- the text around a border
 
@@ -71,6 +35,11 @@ module _ (parts : List Part) (at index within : ℕ) (spot : IsSpot parts at ind
   spot-back =
       ap (drop (index + 1)) (spot.parts_are ∙ sym (append_assoc spot.front (spot.here ∷ []) spot.back))
       ∙ drop_at (spot.front ++ spot.here ∷ []) spot.back (index + 1) (length-append spot.front (spot.here ∷ []) ∙ omega (arith, spot.index_is))
+
+  pub spot-within : at < scalar_count parts
+  spot-within =
+      let all = ap scalar_count spot.parts_are ∙ scalar_count-append spot.front (spot.here ∷ spot.back) in
+      omega (arith, all, scalar_count-first spot.here spot.back, spot.place, spot.fits)
 
   spot-chars : chars (whole parts) ≡ chars (whole spot.front) ++ (chars (string_bytes spot.here.text) ++ chars (whole spot.back))
   spot-chars =
@@ -126,53 +95,82 @@ spots_rise parts at end i j m n first last le =
           absurd (omega (arith, here, there, scalar_count-take (j + 1) i parts ge, first.place, last.place, last.fits, le))
     ]
 
--- the parts around a text that takes the place of what stands between two places
-pub replaced_is : (parts cut : List Part) (at end i j m n : ℕ) (new : List ℕ) → IsSpot parts at i m → IsSpot parts end j n → IsUtf8 new
-    → (first last : Part) → get_or parts i first ≡ first → get_or parts j last ≡ last
-    → whole cut ≡ encode_utf8_all (take (m + 1) (chars (string_bytes first.text))) ++ (new ++ encode_utf8_all (drop n (chars (string_bytes last.text))))
-    → whole (splice parts i (j + 1) cut) ≡ encode_utf8_all (splice (chars (whole parts)) (at + 1) end (chars new))
-replaced_is parts cut at end i j m n new one two utf8 first last first_is last_is cut_is =
-    let front = encode_utf8_all (take (m + 1) (chars (string_bytes first.text))) in
-    let back = encode_utf8_all (drop n (chars (string_bytes last.text))) in
-    let taken : encode_utf8_all (take (at + 1) (chars (whole parts))) ≡ whole one.front ++ front =
-    spot-taken parts at i m one
-    ∙ ap (λ (p : Part). whole one.front ++ encode_utf8_all (take (m + 1) (chars (string_bytes p.text)))) (sym (spot-here parts at i m one first) ∙ first_is) in
-    let left : encode_utf8_all (drop end (chars (whole parts))) ≡ back ++ whole two.back =
-    spot-left parts end j n two
-    ∙ ap (λ (p : Part). encode_utf8_all (drop n (chars (string_bytes p.text))) ++ whole two.back) (sym (spot-here parts end j n two last) ∙ last_is) in
-    ap₂ (λ (xs ys : List Part). whole (xs ++ (cut ++ ys))) (spot-front parts at i m one) (spot-back parts end j n two)
-    ∙ whole-append one.front (cut ++ two.back)
-    ∙ ap (λ t. whole one.front ++ t) (whole-append cut two.back ∙ ap (λ t. t ++ whole two.back) cut_is ∙ append_assoc front (new ++ back) (whole two.back)
-    ∙ ap (λ t. front ++ t) (append_assoc new back (whole two.back)))
-    ∙ sym (append_assoc (whole one.front) front (new ++ (back ++ whole two.back)))
-    ∙ sym (encodes-append (take (at + 1) (chars (whole parts))) (chars new ++ drop end (chars (whole parts)))
-    ∙ ap₂ ◌++◌ taken (encodes-append (chars new) (drop end (chars (whole parts))) ∙ ap₂ ◌++◌ (encodes-chars new utf8) left))
+-- the part at the index of a spot is the one of the spot
+pub at_spot : (parts : List Part) (at index within : ℕ) (spot : IsSpot parts at index within) (part : Part) → IsAt parts index part → part ≡ spot.here
+at_spot parts at index within spot part here =
+    sym (ap₂ (λ (ps : List Part) (k : ℕ). get_or ps k part) here.parts_are here.index_is ∙ get_at here.front part here.back part)
+    ∙ spot-here parts at index within spot part
 
--- a text that keeps the first scalar of one part and the last of another
-pub joined_alone : (first last new text : List ℕ) (m n : ℕ) → IsUtf8 first → IsUtf8 last → IsUtf8 new → stands_alone first ≡ true → stands_alone last ≡ true → 0 < m → n < length (chars last)
-    → text ≡ encode_utf8_all (take m (chars first)) ++ (new ++ encode_utf8_all (drop n (chars last))) → stands_alone text ≡ true
-joined_alone first last new text m n utf8 utf8_last utf8_new one two some fits is =
-    let front = take m (chars first) in
-    let back = drop n (chars last) in
-    let chars_are : chars text ≡ front ++ (chars new ++ back) =
-    ap chars is ∙ chars-append (encode_utf8_all front) (new ++ encode_utf8_all back) (front_utf8 first utf8 m)
-    ∙ ap₂ ◌++◌ (front_chars first utf8 m) (chars-append new (encode_utf8_all back) utf8_new ∙ ap (λ cs. chars new ++ cs) (back_chars last utf8_last n)) in
-    let long : 0 < length back = omega (arith, length-drop n (chars last)) in
-    let closed = last_closes-append (chars new) back long ∙ last_closes-drop n (chars last) fits ∙ (alone last two).1 in
-    is_alone text
-    (ap first_opens chars_are ∙ first_opens-append front (chars new ++ back) (first_opens-take m (chars first) some (alone first one).0))
-    (ap last_closes chars_are ∙ last_closes-append front (chars new ++ back) (omega (arith, length-append (chars new) back)) ∙ closed)
+-- ---- a text that takes the place of what stands between two places, and goes on with the parts behind the last one
 
-set_at : (xs : List Part) (i : ℕ) (x : Part) → i < length xs → set xs i x ≡ take i xs ++ x ∷ drop (suc i) xs
-set_at [] i x lt = absurd (omega arith)
-set_at (y ∷ ys) zero x lt = refl
-set_at (y ∷ ys) (suc i) x lt = ap (λ (zs : List Part). y ∷ zs) (set_at ys i x (omega arith))
+module _ (parts : List Part) (at end i j m n : ℕ) (one : IsSpot parts at i m) (two : IsSpot parts end j n) (first last : Part) (first_at : IsAt parts i first) (last_at : IsAt parts j last)
+    (new text : List ℕ) (utf8 : IsUtf8 new) (behind : ℕ) (gathered : IsGathered parts (encode_utf8_all (take (m + 1) (chars (string_bytes first.text))) ++ (new ++ encode_utf8_all (drop n (chars (string_bytes last.text))))) text (j + 1) behind) where
+  abbrev pub front : List ℕ
+  front = encode_utf8_all (take (m + 1) (chars (string_bytes first.text)))
 
--- one part in the place of one
-pub set_is_splice : (xs : List Part) (at end : ℕ) (x : Part) (new rest : List Part) → end ≡ at + 1 → end ≤ length xs → length new ≡ 1 → new ≡ rest ++ x ∷ []
-    → set xs at x ≡ splice xs at end new
-set_is_splice xs at end x new rest one within len is =
-    let none = nil_from_length rest (omega (arith, ap length is, length-append rest (x ∷ []))) in
-    let new_is : new ≡ x ∷ [] = is ∙ ap (λ (ps : List Part). ps ++ x ∷ []) none in
-    let end_is : suc at ≡ end = omega arith in
-    set_at xs at x (omega arith) ∙ ap₂ (λ (ps : List Part) (k : ℕ). take at xs ++ (ps ++ drop k xs)) (sym new_is) end_is
+  abbrev pub back : List ℕ
+  back = encode_utf8_all (drop n (chars (string_bytes last.text)))
+
+  abbrev pub others : List Part
+  others = drop (j + 1) parts
+
+  taken_is : encode_utf8_all (take (at + 1) (chars (whole parts))) ≡ whole one.front ++ front
+  taken_is =
+      spot-taken parts at i m one
+      ∙ ap (λ (p : Part). whole one.front ++ encode_utf8_all (take (m + 1) (chars (string_bytes p.text)))) (sym (at_spot parts at i m one first first_at))
+
+  left_is : encode_utf8_all (drop end (chars (whole parts))) ≡ back ++ whole others
+  left_is =
+      spot-left parts end j n two
+      ∙ ap₂ (λ (p : Part) (ps : List Part). encode_utf8_all (drop n (chars (string_bytes p.text))) ++ whole ps) (sym (at_spot parts end j n two last last_at)) (sym (spot-back parts end j n two))
+
+  -- the text and what stands behind it
+  rest_is : text ++ whole (drop behind parts) ≡ front ++ (new ++ (back ++ whole others))
+  rest_is =
+      let k = behind - (j + 1) in
+      let end_is : behind ≡ j + 1 + k = omega (arith, gathered.order) in
+      let further : drop behind parts ≡ drop k others = ap (λ i. drop i parts) end_is ∙ sym (drop-drop k (j + 1) parts) in
+      let both : whole (take k others) ++ whole (drop k others) ≡ whole others = sym (whole-append (take k others) (drop k others)) ∙ ap whole (take-append-drop k others) in
+      ap₂ (λ (t : List ℕ) (ps : List Part). t ++ whole ps) gathered.text_is further
+      ∙ append_assoc (front ++ (new ++ back)) (whole (take k others)) (whole (drop k others))
+      ∙ ap (λ t. (front ++ (new ++ back)) ++ t) both
+      ∙ append_assoc front (new ++ back) (whole others) ∙ ap (λ t. front ++ t) (append_assoc new back (whole others))
+
+  pub replaced_is : (cut : List Part) → whole cut ≡ text → whole (splice parts i behind cut) ≡ encode_utf8_all (splice (chars (whole parts)) (at + 1) end (chars new))
+  replaced_is cut cut_is =
+      ap (λ (xs : List Part). whole (xs ++ (cut ++ drop behind parts))) (spot-front parts at i m one)
+      ∙ whole-append one.front (cut ++ drop behind parts)
+      ∙ ap (λ t. whole one.front ++ t) (whole-append cut (drop behind parts) ∙ ap (λ t. t ++ whole (drop behind parts)) cut_is ∙ rest_is)
+      ∙ sym (append_assoc (whole one.front) front (new ++ (back ++ whole others)))
+      ∙ sym (encodes-append (take (at + 1) (chars (whole parts))) (chars new ++ drop end (chars (whole parts)))
+      ∙ ap₂ ◌++◌ taken_is (encodes-append (chars new) (drop end (chars (whole parts))) ∙ ap₂ ◌++◌ (encodes-chars new utf8) left_is))
+
+  front_is : IsUtf8 front
+  front_is = front_utf8 (string_bytes first.text) (IsUtf8-string_bytes first.text) (m + 1)
+
+  text_opens : first_opens (chars text) ≡ true
+  text_opens =
+      let rest = (new ++ back) ++ whole (take (behind - (j + 1)) others) in
+      let kept = take (m + 1) (chars (string_bytes first.text)) in
+      ap (λ t. first_opens (chars t)) (gathered.text_is ∙ append_assoc front (new ++ back) (whole (take (behind - (j + 1)) others)))
+      ∙ ap first_opens (chars-append front rest front_is ∙ ap (λ cs. cs ++ chars rest) (front_chars (string_bytes first.text) (IsUtf8-string_bytes first.text) (m + 1)))
+      ∙ first_opens-append kept (chars rest) (first_opens-take (m + 1) (chars (string_bytes first.text)) (omega arith) (alone (string_bytes first.text) first.alone).0)
+
+  -- where no part is left, the text ends as all of them do
+  text_closes : behind ≡ length parts → last_closes (chars (whole parts)) ≡ true → last_closes (chars text) ≡ true
+  text_closes all closes =
+      let left = drop end (chars (whole parts)) in
+      let none : drop behind parts ≡ [] = drop_all behind parts (omega (arith, all)) in
+      let fits : end < length (chars (whole parts)) = spot-within parts end j n two in
+      let text_is : text ≡ (front ++ new) ++ encode_utf8_all left =
+      sym (append-nil text) ∙ ap (λ (ps : List Part). text ++ whole ps) (sym none) ∙ rest_is
+      ∙ sym (append_assoc front new (back ++ whole others)) ∙ ap (λ t. (front ++ new) ++ t) (sym left_is) in
+      let chars_are : chars text ≡ chars (front ++ new) ++ left =
+      ap chars text_is ∙ chars-append (front ++ new) (encode_utf8_all left) (IsUtf8-append front new front_is utf8)
+      ∙ ap (λ cs. chars (front ++ new) ++ cs) (back_chars (whole parts) (whole-utf8 parts) end) in
+      ap last_closes chars_are ∙ last_closes-append (chars (front ++ new)) left (omega (arith, fits, length-drop end (chars (whole parts))))
+      ∙ last_closes-drop end (chars (whole parts)) fits ∙ closes
+
+  pub text_alone : (is_closed (chars text) ≡ true) ⊎ (behind ≡ length parts) → last_closes (chars (whole parts)) ≡ true → stands_alone text ≡ true
+  text_alone ends closes =
+      is_alone text text_opens (elim ends [ inl closed ↦ closed | inr all ↦ closed_by_last (chars text) [] (text_closes all closes) ])

@@ -1,7 +1,7 @@
 -- Texts that stand alone, and their characters.
 use Rattle.std.proofs.Common.{◌≡◌, ℕ, zero, suc, ◌+◌, ◌-◌, ◌<◌, ◌≤◌, Bool, true, false, inl, inr, List, [], ◌∷◌, ◌++◌, map, length, take, drop, refl, sym, ap, ap₂, subst, ◌∙◌, append_assoc, append-nil, length-append, length-drop, add-one, take_at, drop_at, take_all, arith}
 use Rattle.std.proofs.lemmas.Bool.{and_parts}
-use Rattle.std.proofs.lemmas.List.{drop_all}
+use Rattle.std.proofs.lemmas.List.{drop_all, take-append-drop}
 use Rattle.std.proofs.lemmas.List.Sums.{sum_by-cons}
 use Rattle.std.proofs.lemmas.Str.{chars-nil, chars-encodes, chars_past_char, encodes-append, encodes-chars, scalars-chars, IsUtf8-past_char, IsCharBoundary-at_seam}
 use Rattle.std.specs.Prelude.{encode_utf8, encode_utf8_all}
@@ -9,10 +9,14 @@ use Rattle.std.specs.List.{concat}
 use Rattle.std.specs.Str.{IsUtf8, IsCharBoundary, all_scalars, chars}
 use Rattle.unicode_segmentation.specs.Grapheme.{is_grapheme_break}
 use Rattle.unicode_segmentation.specs.Segments.{Rule, cut, segments}
-use Rattle.cluster_text.specs.Borders.{closes, opens, first_opens, last_closes, stands_alone}
+use Rattle.cluster_text.specs.Borders.{opens, first_opens, is_closed, last_closes, stands_alone}
 use Rattle.cluster_text.specs.Clusters.{clusters, scalars}
 use Rattle.cluster_text.specs.Cuts.{IsCut, IsPassed, IsWhole, SplitsAt}
+use Rattle.cluster_text.specs.Endings.{IsEnding, is_whole, passed}
+use Rattle.cluster_text.specs.declared.ending.Ending.{Ending}
+use Rattle.cluster_text.proofs.BorderLemmas.{closed-behind}
 use Rattle.cluster_text.proofs.CutLemmas.{attach}
+use Rattle.cluster_text.proofs.EndingLemmas.{ending-next}
 
 -- ---- scalars
 
@@ -92,10 +96,10 @@ clusters-nil = ap (λ cs. map encode_utf8_all (cut (is_grapheme_break true) [] c
 
 -- ---- texts that stand alone
 
-pub alone : (text : List ℕ) → stands_alone text ≡ true → (first_opens (chars text) ≡ true) × (last_closes (chars text) ≡ true)
+pub alone : (text : List ℕ) → stands_alone text ≡ true → (first_opens (chars text) ≡ true) × (is_closed (chars text) ≡ true)
 alone text e = and_parts (first_opens (chars text)) _ e
 
-pub is_alone : (text : List ℕ) → first_opens (chars text) ≡ true → last_closes (chars text) ≡ true → stands_alone text ≡ true
+pub is_alone : (text : List ℕ) → first_opens (chars text) ≡ true → is_closed (chars text) ≡ true → stands_alone text ≡ true
 is_alone text e f = rw (e, f) refl
 
 pub first_opens-append : (xs ys : List ℕ) → first_opens xs ≡ true → first_opens (xs ++ ys) ≡ true
@@ -126,9 +130,6 @@ last_closes-drop zero xs some = refl
 last_closes-drop (suc n) [] some = absurd (omega arith)
 last_closes-drop (suc n) (x ∷ []) some = absurd (omega arith)
 last_closes-drop (suc n) (x ∷ d ∷ xs) some = last_closes-drop n (d ∷ xs) (omega arith)
-
-last_closes-end : (xs : List ℕ) (c : ℕ) → last_closes (xs ++ c ∷ []) ≡ closes c
-last_closes-end xs c = last_closes-append xs (c ∷ []) (omega arith)
 
 -- ---- cuts
 
@@ -185,38 +186,35 @@ module _ (text rest : List ℕ) (n : ℕ) (splits : SplitsAt text rest n) where
   pub splits-back : drop (length text - length rest) text ≡ encode_utf8_all (drop n (chars text))
   splits-back = splits-rest ∙ sym (encodes-chars rest splits.utf8) ∙ ap encode_utf8_all splits.rest_is
 
-pub passed-none : (text : List ℕ) (last : ℕ) → IsUtf8 text → IsPassed text text last
-passed-none text last utf8 = record { count = 0; splits = splits-none text utf8; last_is = inl refl }
+pub passed-none : (text : List ℕ) (ending : Ending) → IsUtf8 text → IsEnding [] ending → IsPassed text text ending
+passed-none text ending utf8 ends = record { count = 0; splits = splits-none text utf8; ends = ends }
 
-pub passed-next : (text rest next : List ℕ) (last c : ℕ) → IsPassed text rest last → rest ≡ encode_utf8 c ++ next → IsPassed text next c
-passed-next text rest next last c passed is =
-    let splits = passed.splits in
-    let taken = next_taken passed.count (chars text) c (chars next) (sym splits.rest_is ∙ chars_past_char rest next c splits.utf8 is) in
+pub passed-next : (text rest next : List ℕ) (ending : Ending) (c : ℕ) → IsPassed text rest ending → rest ≡ encode_utf8 c ++ next → IsPassed text next (passed ending c)
+passed-next text rest next ending c way is =
+    let splits = way.splits in
+    let taken = next_taken way.count (chars text) c (chars next) (sym splits.rest_is ∙ chars_past_char rest next c splits.utf8 is) in
     record {
-      count = passed.count + 1;
-      splits = splits-next text rest next passed.count c splits is;
-      last_is = inr (rw add-one (ap last_closes taken.0 ∙ last_closes-end (take passed.count (chars text)) c));
+      count = way.count + 1;
+      splits = splits-next text rest next way.count c splits is;
+      ends = rw (add-one, taken.0) (ending-next (take way.count (chars text)) ending c way.ends);
     }
 
 count_some : (text rest : List ℕ) (n : ℕ) → SplitsAt text rest n → length rest < length text → 0 < n
 count_some text rest zero splits less = absurd (omega (arith, ap length splits.text_is))
 count_some text rest (suc n) splits less = omega arith
 
-pub cut_at_end : (text rest : List ℕ) (last : ℕ) → IsPassed text rest last → rest ≡ [] → 0 < length text → IsCut text rest
-cut_at_end text rest last passed none some =
-    record { count = passed.count; splits = passed.splits; some = count_some text rest passed.count passed.splits (omega (arith, ap length none)); border = inl none }
+pub cut_at_end : (text rest : List ℕ) (ending : Ending) → IsPassed text rest ending → rest ≡ [] → 0 < length text → IsCut text rest
+cut_at_end text rest ending way none some =
+    record { count = way.count; splits = way.splits; some = count_some text rest way.count way.splits (omega (arith, ap length none)); border = inl none }
 
-pub cut_at_border : (text rest next : List ℕ) (last c : ℕ) → IsPassed text rest last → length rest < length text → rest ≡ encode_utf8 c ++ next
-    → closes last ≡ true → opens c ≡ true → IsCut text rest
-cut_at_border text rest next last c passed less is closed opening =
+pub cut_at_border : (text rest next : List ℕ) (ending : Ending) (c : ℕ) → IsPassed text rest ending → length rest < length text → rest ≡ encode_utf8 c ++ next
+    → is_whole ending ≡ true → opens c ≡ true → IsCut text rest
+cut_at_border text rest next ending c way less is closed opening =
     record {
-      count = passed.count;
-      splits = passed.splits;
-      some = count_some text rest passed.count passed.splits less;
-      border = inr (
-        elim passed.last_is [ inl same ↦ absurd (omega (arith, ap length same)) | inr last_is ↦ last_is ∙ closed ],
-        rw (chars_past_char rest next c passed.splits.utf8 is) opening,
-      );
+      count = way.count;
+      splits = way.splits;
+      some = count_some text rest way.count way.splits less;
+      border = inr (sym way.ends.whole_is ∙ closed, rw (chars_past_char rest next c way.splits.utf8 is) opening);
     }
 
 module _ (text rest : List ℕ) (border : IsCut text rest) (utf8 : IsUtf8 text) (whole : stands_alone text ≡ true) where
@@ -226,15 +224,15 @@ module _ (text rest : List ℕ) (border : IsCut text rest) (utf8 : IsUtf8 text) 
       let n = border.count in
       let parts = alone text whole in
       let chars_are : chars front ≡ take n (chars text) = ap chars is ∙ front_chars text utf8 n in
-      let closed : last_closes (take n (chars text)) ≡ true =
+      let closed : is_closed (take n (chars text)) ≡ true =
       elim border.border [
         | inl none ↦
             let nothing : drop n (chars text) ≡ [] = sym border.splits.rest_is ∙ ap chars none ∙ chars-nil in
             let short : length (chars text) ≤ n = omega (arith, ap length nothing, length-drop n (chars text)) in
-            ap last_closes (take_all n (chars text) short) ∙ parts.1
+            ap is_closed (take_all n (chars text) short) ∙ parts.1
         | inr both ↦ both.0
       ] in
-      is_alone front (ap first_opens chars_are ∙ first_opens-take n (chars text) border.some parts.0) (ap last_closes chars_are ∙ closed)
+      is_alone front (ap first_opens chars_are ∙ first_opens-take n (chars text) border.some parts.0) (ap is_closed chars_are ∙ closed)
 
   -- so does what is left, if there is any
   pub rest_alone : IsWhole rest
@@ -243,9 +241,8 @@ module _ (text rest : List ℕ) (border : IsCut text rest) (utf8 : IsUtf8 text) 
         | inl none ↦ inl none
         | inr both ↦
             let n = border.count in
-            let left : first_opens (drop n (chars text)) ≡ true = ap first_opens (sym border.splits.rest_is) ∙ both.1 in
-            let fits : n < length (chars text) = omega (arith, first_opens-some (drop n (chars text)) left, length-drop n (chars text)) in
-            inr (is_alone rest both.1 (ap last_closes border.splits.rest_is ∙ last_closes-drop n (chars text) fits ∙ (alone text whole).1))
+            let all = ap is_closed (take-append-drop n (chars text)) ∙ (alone text whole).1 in
+            inr (is_alone rest both.1 (ap is_closed border.splits.rest_is ∙ closed-behind (take n (chars text)) (drop n (chars text)) both.0 all))
       ]
 
   pub cut_shorter : length rest < length text

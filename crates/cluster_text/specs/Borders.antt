@@ -8,6 +8,7 @@ use Rattle.ucd_breaks.specs.declared.GraphemeClusterBreak.TheVariants.{Control, 
 use Rattle.ucd_derived.specs.IndicConjunctBreak.{indic_conjunct_break}
 use Rattle.ucd_derived.specs.declared.IndicConjunctBreak.{IndicConjunctBreak}
 use Rattle.ucd_derived.specs.declared.IndicConjunctBreak.TheVariants as InCb
+use Rattle.unicode_segmentation.specs.Grapheme.{ends_in_half_flag, is_regional}
 
 -- a class that joins nothing behind it but marks, and vowels and ends of Hangul syllables: letters, emoji, controls, LF, Hangul
 abbrev pub is_free : GraphemeClusterBreak → Bool
@@ -54,9 +55,27 @@ last_closes [] = false
 last_closes (c ∷ []) = closes c
 last_closes (c ∷ d ∷ cs) = last_closes (d ∷ cs)
 
+-- a regional indicator, two of which make a flag
+abbrev pub is_indicator : ℕ → Bool
+is_indicator c = is_regional (grapheme_cluster_break c) && not (is_linking (indic_conjunct_break c))
+
+-- the characters, last first, end in one that closes or in whole flags, or there is none
+abbrev pub ends_whole : List ℕ → Bool
+ends_whole [] = true
+ends_whole (c ∷ before) = closes c || (is_indicator c && not (ends_in_half_flag (c ∷ before)))
+
+-- the characters of cs, last first, and then `before`
+abbrev pub onto : List ℕ → List ℕ → List ℕ
+onto [] before = before
+onto (c ∷ cs) before = onto cs (c ∷ before)
+
+-- behind the characters a cluster ends, where none that joins could go on with it
+abbrev pub is_closed : List ℕ → Bool
+is_closed cs = ends_whole (onto cs [])
+
 -- a text that begins and ends so: between two of them no cluster goes over the border
 abbrev pub stands_alone : List ℕ → Bool
-stands_alone text = first_opens (chars text) && last_closes (chars text)
+stands_alone text = first_opens (chars text) && is_closed (chars text)
 
 -- a byte of a character that is not of ASCII, or a CR
 abbrev pub is_special : ℕ → Bool

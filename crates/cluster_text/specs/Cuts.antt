@@ -1,7 +1,9 @@
 -- Where texts are cut.
 use Rattle.std.specs.Prelude.{◌≡◌, ◌⊎◌, ℕ, ◌<◌, true, List, [], ◌++◌, take, drop, encode_utf8_all}
 use Rattle.std.specs.Str.{IsUtf8, chars}
-use Rattle.cluster_text.specs.Borders.{closes, first_opens, last_closes, stands_alone}
+use Rattle.cluster_text.specs.Borders.{first_opens, is_closed, stands_alone}
+use Rattle.cluster_text.specs.Endings.{IsEnding}
+use Rattle.cluster_text.specs.declared.ending.Ending.{Ending}
 
 -- the text is empty, or it stands alone
 abbrev pub IsWhole : List ℕ → Type 0
@@ -13,15 +15,15 @@ pub record SplitsAt (text rest : List ℕ) (n : ℕ) : Type 0 where
   pub text_is : text ≡ encode_utf8_all (take n (chars text)) ++ rest
   pub rest_is : chars rest ≡ drop n (chars text)
 
--- the text up to `rest` was passed, and `last` is the last character there, if there is one
-pub record IsPassed (text rest : List ℕ) (last : ℕ) : Type 0 where
+-- the text up to `rest` was passed, and it ends so
+pub record IsPassed (text rest : List ℕ) (ending : Ending) : Type 0 where
   pub count : ℕ
   pub splits : SplitsAt text rest count
-  pub last_is : (rest ≡ text) ⊎ (last_closes (take count (chars text)) ≡ closes last)
+  pub ends : IsEnding (take count (chars text)) ending
 
 -- the text is cut in front of `rest`: at its end, or where a cluster ends whatever stands around
 pub record IsCut (text rest : List ℕ) : Type 0 where
   pub count : ℕ
   pub splits : SplitsAt text rest count
   pub some : 0 < count
-  pub border : (rest ≡ []) ⊎ ((last_closes (take count (chars text)) ≡ true) × (first_opens (chars rest) ≡ true))
+  pub border : (rest ≡ []) ⊎ ((is_closed (take count (chars text)) ≡ true) × (first_opens (chars rest) ≡ true))

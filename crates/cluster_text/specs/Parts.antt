@@ -1,8 +1,7 @@
 -- A text in parts, over whose ends no cluster goes.
-use Rattle.std.specs.Prelude.{◌≡◌, ℕ, ◌+◌, ◌-◌, ◌<◌, true, List, [], ◌∷◌, ◌++◌, length, map, take, drop, string_bytes}
+use Rattle.std.specs.Prelude.{◌≡◌, ℕ, ◌+◌, ◌-◌, ◌<◌, ◌≤◌, true, List, [], ◌∷◌, ◌++◌, length, map, take, drop, string_bytes}
 use Rattle.std.specs.List.{concat}
 use Rattle.std.specs.Str.{chars, is_utf8}
-use Rattle.cluster_text.specs.Clusters.{clusters, scalars}
 use Rattle.cluster_text.specs.declared.part.Part.{Part}
 
 -- what parts make up
@@ -37,8 +36,8 @@ pub record IsSpot (parts : List Part) (at index within : ℕ) : Type 0 where
   pub place : at ≡ scalar_count front + within
   pub fits : within < length (chars (string_bytes here.text))
 
--- on the way to the cluster `at`, parts with so many scalars were passed, and `left` clusters of the others are still to be passed
-pub record IsOnWay (parts rest : List Part) (at passed left : ℕ) : Type 0 where
-  pub place : passed + scalars (take left (clusters (whole rest))) ≡ scalars (take at (clusters (whole parts)))
-  pub counts : length (clusters (whole parts)) + left ≡ at + length (clusters (whole rest))
-  pub scalars_are : passed + scalar_count rest ≡ scalar_count parts
+-- a text went on with the parts from one index up to another
+pub record IsGathered (parts : List Part) (old new : List ℕ) (from to : ℕ) : Type 0 where
+  pub order : from ≤ to
+  pub within : to ≤ length parts
+  pub text_is : new ≡ old ++ whole (take (to - from) (drop from parts))

@@ -1,6 +1,8 @@
 ghost use Rattle.std.specs.Prelude.{◌≡◌, ◌++◌, List, IfSome, [], ◌∷◌, ℕ};
-ghost use Rattle.cluster_text.specs.Borders.{closes as closes_on, is_free as is_free_class, is_plain as is_plain_text, is_special};
+ghost use Rattle.cluster_text.specs.Borders.{closes as closes_on, is_free as is_free_class, is_plain as is_plain_text, is_special, is_indicator as is_indicator_on};
 ghost use Rattle.std.specs.List.{list_any};
+ghost use Rattle.ucd_breaks.specs.GraphemeClusterBreak.{grapheme_cluster_break};
+ghost use Rattle.unicode_segmentation.specs.Grapheme.{is_regional as is_regional_class};
 ghost use Rattle.cluster_text.specs.Borders.{is_linking as is_linking_class, is_joining as is_joining_class, opens as opens_on};
 
 use ucd_breaks::GraphemeClusterBreak;
@@ -18,6 +20,23 @@ pub(crate) fn opens(c: char) -> bool
     ensures { result ≡ opens_on c }
 {
     !is_joining(GraphemeClusterBreak::for_char(c)) && !is_linking(IndicConjunctBreak::for_char(c))
+}
+
+/// Whether the character is a regional indicator: two of them make a flag.
+pub(crate) fn is_regional(c: char) -> bool
+    ensures { result ≡ is_regional_class (grapheme_cluster_break c) }
+{
+    matches!(
+        GraphemeClusterBreak::for_char(c),
+        GraphemeClusterBreak::RegionalIndicator
+    )
+}
+
+/// Whether it is one, and the rule on conjuncts does not look past it.
+pub(crate) fn is_indicator(c: char) -> bool
+    ensures { result ≡ is_indicator_on c }
+{
+    is_regional(c) && !is_linking(IndicConjunctBreak::for_char(c))
 }
 
 /// Whether all characters of the text are of ASCII and none is a CR, so that each is a cluster of its own.

@@ -5,9 +5,11 @@ ghost use Rattle.cluster_text.specs.Borders.{stands_alone};
 ghost use Rattle.cluster_text.specs.Cuts.{IsCut, IsWhole};
 ghost use Rattle.cluster_text.specs.Parts.{whole};
 
-use crate::border::{closes, opens};
+use crate::border::opens;
+use crate::ending::Ending;
 use crate::part::Part;
 use crate::scalars::split_first;
+use crate::tree::Tree;
 use std::alloc::{AllocError, Global};
 
 /// Up to how many bytes a text is one part.
@@ -17,15 +19,15 @@ const LONG: usize = 256;
 const SHORT: usize = 128;
 
 /// Cuts a text that stands alone into parts.
-pub(crate) fn cut_up(alloc: Global, text: &str) -> Result<Vec<Part>, AllocError>
+pub(crate) fn cut_up(alloc: Global, text: &str) -> Result<Tree, AllocError>
     requires { stands_alone text.now ≡ true }
-    ensures { IfOk result (λ parts. whole parts.items ≡ text.now) }
+    ensures { IfOk result (λ parts. whole parts ≡ text.now) }
 {
-    let mut parts = Vec::new(alloc);
+    let mut parts = Tree::new();
     let mut rest = text;
     'parts: while !rest.is_empty() {
         let (part, behind) = split_part(rest);
-        parts.push(Part::new(alloc, part)?)?;
+        parts.push(alloc, Part::new(alloc, part)?)?;
         rest = behind;
     }
     Ok(parts)
@@ -53,14 +55,14 @@ fn pass_part(text: &str) -> &str
     ensures { IsCut text.now result.now }
 {
     let mut rest = text;
-    let mut last = '\0';
+    let mut ending = Ending::new();
     'scalars: loop {
         match split_first(rest) {
             Some((next, behind)) => {
-                if text.len() - rest.len() >= SHORT && closes(last) && opens(next) {
+                if text.len() - rest.len() >= SHORT && ending.is_closed() && opens(next) {
                     return rest;
                 }
-                last = next;
+                ending = ending.pass(next);
                 rest = behind;
             }
             None => return rest,

@@ -5,19 +5,18 @@ ghost use Rattle.cluster_text.specs.Clusters.{clusters as clusters_of, span as s
 ghost use Rattle.cluster_text.specs.Parts.{enclosed};
 
 use crate::cutting::cut_up;
-use crate::part::Part;
-use crate::place::find_place;
 use crate::replacing::replace;
 use crate::scalars::count_scalars;
+use crate::tree::Tree;
 use std::alloc::{AllocError, Global};
 use std::marker::Model;
 
 /// A text in which clusters are found by their numbers, and of which scalars give way to others. Each call reads the
-/// parts of the text that it touches, and the counts of the others.
+/// parts of the text that it touches, and the sums of as many as the tree is high.
 #[derive(Drop)]
 pub struct ClusterIndex {
     alloc: Global,
-    parts: Vec<Part>,
+    parts: Tree,
     scalars: usize,
 }
 
@@ -28,9 +27,9 @@ impl Model for ClusterIndex {
 
     ghost use Rattle.cluster_text.specs.Parts.{inside, IsIndex, whole};
 
-    ghost view = { λ index. inside (whole index.parts.items) };
+    ghost view = { λ index. inside (whole index.parts) };
 
-    ghost invariant = { λ index. IsIndex index.parts.items index.scalars };
+    ghost invariant = { λ index. IsIndex index.parts index.scalars };
 }
 
 impl ClusterIndex {
@@ -62,8 +61,8 @@ impl ClusterIndex {
     {
         let _most = self.scalars;
         let at = at as usize + 1;
-        let start = find_place(self.parts.as_slice(), at)?;
-        let end = find_place(self.parts.as_slice(), at + n as usize)?;
+        let start = self.parts.find_place(at)?;
+        let end = self.parts.find_place(at + n as usize)?;
         Some((start - 1, end - start))
     }
 

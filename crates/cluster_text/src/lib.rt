@@ -1,8 +1,10 @@
 //! Where the extended grapheme clusters of a text stand, counted in scalars.
 #![tactic(auto)]
 
+mod balance;
 mod border;
 mod cutting;
+mod ending;
 mod index;
 mod part;
 mod place;
@@ -10,6 +12,7 @@ mod replacing;
 mod scalars;
 mod span;
 mod spot;
+mod tree;
 
 pub use index::ClusterIndex;
 pub use span::cluster_span;

@@ -5,26 +5,35 @@ ghost use Rattle.cluster_text.specs.Parts.{scalar_count, whole};
 
 use crate::part::Part;
 use crate::scalars::count_scalars;
+use crate::tree::Tree;
 use unicode_segmentation::UnicodeSegmentation;
 
-/// How many scalars stand before the cluster `at`. None is the answer where there is none. Only the part in which it
-/// stands is read.
-pub(crate) fn find_place(parts: &[Part], at: usize) -> Option<usize>
-    requires { scalar_count parts.now < 2 ^ 64 }
-    ensures some { IfSome result (λ found. found ≡ scalars_of (take at (clusters_of (whole parts.now)))) }
-    ensures none { IsNone result ↔ (length (clusters_of (whole parts.now)) ≤ at) }
-{
-    let mut passed = 0;
-    let mut left = at;
-    'parts: for part in parts {
-        if left < part.clusters {
-            let inside = scalars_before(part, left);
-            return Some(passed + inside);
+impl Tree {
+    /// How many scalars stand before the cluster `at`. None is the answer where there is none. Only the part in which it
+    /// stands is read.
+    pub(crate) fn find_place(&self, at: usize) -> Option<usize>
+        requires { scalar_count self.now < 2 ^ 64 }
+        ensures some { IfSome result (λ found. found ≡ scalars_of (take at (clusters_of (whole self.now)))) }
+        ensures none { IsNone result ↔ (length (clusters_of (whole self.now)) ≤ at) }
+    {
+        let Some(node) = self.top() else {
+            return None;
+        };
+        let before = node.left.clusters();
+        if at < before {
+            return node.left.find_place(at);
         }
-        passed += part.scalars;
-        left -= part.clusters;
+        let passed = node.left.scalars();
+        let within = at - before;
+        if within < node.part.clusters {
+            let here = scalars_before(&node.part, within);
+            return Some(passed + here);
+        }
+        match node.right.find_place(within - node.part.clusters) {
+            Some(behind) => Some(passed + node.part.scalars + behind),
+            None => None,
+        }
     }
-    None
 }
 
 /// How many scalars the first n clusters of a part have. Where it has as many scalars as clusters, each has one.

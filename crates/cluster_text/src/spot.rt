@@ -1,35 +1,39 @@
 //! The part in which a scalar stands.
-ghost use Rattle.std.specs.Prelude.{◌≡◌, ◌<◌, length};
+ghost use Rattle.std.specs.Prelude.{◌≡◌, ◌<◌, ◌^◌};
 ghost use Rattle.cluster_text.specs.Parts.{IsSpot, scalar_count};
 
-use crate::part::Part;
+use crate::tree::Tree;
 
-/// A part, and how many of its scalars stand before the one that was looked for.
+/// The index of a part, and how many of its scalars stand before the one that was looked for.
 #[derive(Clone, Copy)]
 pub(crate) struct Spot {
     pub(crate) part: usize,
     pub(crate) within: usize,
 }
 
-/// Finds the part of a scalar.
-pub(crate) fn find_spot(parts: &[Part], at: usize) -> Spot
-    requires { at < scalar_count parts.now }
-    ensures { IsSpot parts.now at result.part result.within }
-{
-    let mut within = at;
-    'parts: for index in 0..parts.len() {
-        let part = &parts[index];
-        if within < part.scalars {
-            return Spot {
-                part: index,
-                within,
-            };
+impl Tree {
+    /// Finds the part of a scalar.
+    pub(crate) fn find_spot(&self, at: usize) -> Spot
+        requires within { at < scalar_count self.now }
+        requires few { scalar_count self.now < 2 ^ 64 }
+        ensures { IsSpot self.now at result.part result.within }
+    {
+        let Some(node) = self.top() else {
+            unreachable!()
+        };
+        let before = node.left.scalars();
+        if at < before {
+            return node.left.find_spot(at);
         }
-        within -= part.scalars;
-    }
-    // The parts have more scalars: no call comes here.
-    Spot {
-        part: parts.len(),
-        within,
+        let part = node.left.len();
+        let within = at - before;
+        if within < node.part.scalars {
+            return Spot { part, within };
+        }
+        let spot = node.right.find_spot(within - node.part.scalars);
+        Spot {
+            part: part + 1 + spot.part,
+            within: spot.within,
+        }
     }
 }

@@ -1,29 +1,46 @@
-use Rattle.std.proofs.Common.{◌≡◌, ◌+◌, ◌-◌, List, sym, ap, subst, ◌∙◌, arith}
-use Rattle.std.proofs.lemmas.Result.{on_ok_weaker}
+use Rattle.std.proofs.Common.{◌≡◌, ◌≤◌, ◌+◌, ◌-◌, List, ℕ, ap, subst, ◌∙◌, string_bytes, arith}
 use Rattle.std.specs.Str.{chars}
 use Rattle.std.specs.List.{splice}
 use Rattle.std.specs.Prelude.{encode_utf8_all}
-use Rattle.cluster_text.specs.Parts.{IsSpot, whole}
-use Rattle.cluster_text.specs.declared.part.Part.{Part}
-use Rattle.cluster_text.proofs.SpotLemmas.{replaced_is, spots_rise}
+use Rattle.cluster_text.specs.Borders.{stands_alone}
+use Rattle.cluster_text.specs.Parts.{IsGathered, whole}
+use Rattle.cluster_text.proofs.PartLemmas.{length-le-scalar_count}
+use Rattle.cluster_text.proofs.SpotLemmas.{replaced_is, spot-index, spots_rise, text_alone}
 use Rattle.cluster_text.proofs.replacing.replace.Goals as goal
 
-pub put_in-requires-clause-order : goal.put_in-requires-clause-order
-put_in-requires-clause-order c =
-    let parts = c.args.parts.now.items in
-    let first = subst (λ (ps : List Part). IsSpot ps (c.args.at - 1) c.find_spot-first.result.part c.find_spot-first.result.within) c.as_slice.ensures.value c.find_spot-first.ensures in
-    let last = subst (λ (ps : List Part). IsSpot ps c.args.end c.find_spot-last.result.part c.find_spot-last.result.within) c.as_slice-2.ensures.value c.find_spot-last.ensures in
-    spots_rise parts (c.args.at - 1) c.args.end _ _ _ _ first last (omega (arith, c.requires.order))
+pub get-requires-clause-few : goal.get-requires-clause-few
+get-requires-clause-few c = omega (arith, length-le-scalar_count c.args.parts.now, c.requires.few)
+
+pub get-requires-2-clause-few : goal.get-requires-2-clause-few
+get-requires-2-clause-few c = omega (arith, length-le-scalar_count c.args.parts.now, c.requires.few)
+
+pub gather-requires-clause-few : goal.gather-requires-clause-few
+gather-requires-clause-few c = omega (arith, length-le-scalar_count c.args.parts.now, c.requires.few)
+
+pub overflow_add-last : goal.overflow_add-last
+overflow_add-last c =
+    omega (arith, spot-index _ _ _ _ c.find_spot-last.ensures, length-le-scalar_count c.args.parts.now, c.requires.few)
+
+pub cut_up-requires : goal.cut_up-requires
+cut_up-requires c =
+    let text = string_bytes c.gather.new.text in
+    let way = subst (λ (t : List ℕ). IsGathered c.args.parts.now t text (c.find_spot-last.result.part + 1) c.in_ok-behind.behind) c.in_ok-text.ensures c.in_ok-behind.ensures.gathered in
+    ap stands_alone c.as_str.ensures.value
+    ∙ text_alone c.args.parts.now (c.args.at - 1) c.args.end _ _ _ _ c.find_spot-first.ensures c.find_spot-last.ensures c.get.result.now c.get-2.result.now c.get.ensures c.get-2.ensures
+    c.args.new.now text c.utf8.new _ way c.in_ok-behind.ensures.closed c.requires.closed
+
+pub splice-requires : goal.splice-requires
+splice-requires c =
+    let order : c.args.at - 1 ≤ c.args.end = omega (arith, c.requires.order) in
+    let rise = spots_rise c.args.parts.now (c.args.at - 1) c.args.end _ _ _ _ c.find_spot-first.ensures c.find_spot-last.ensures order in
+    omega (arith, rise, c.in_ok-behind.ensures.gathered.order)
 
 pub returns-clause-ok : goal.returns-clause-ok
 returns-clause-ok c =
-    let parts = c.args.parts.now.items in
-    let first = subst (λ (ps : List Part). IsSpot ps (c.args.at - 1) c.find_spot-first.result.part c.find_spot-first.result.within) c.as_slice.ensures.value c.find_spot-first.ensures in
-    let last = subst (λ (ps : List Part). IsSpot ps c.args.end c.find_spot-last.result.part c.find_spot-last.result.within) c.as_slice-2.ensures.value c.find_spot-last.ensures in
+    let text = string_bytes c.gather.new.text in
+    let way = subst (λ (t : List ℕ). IsGathered c.args.parts.now t text (c.find_spot-last.result.part + 1) c.in_ok-behind.behind) c.in_ok-text.ensures c.in_ok-behind.ensures.gathered in
     let at : (c.args.at - 1) + 1 ≡ c.args.at = omega (arith, c.requires.some) in
-    on_ok_weaker c.put_in.result
-    (λ is.
-    ap whole is
-    ∙ replaced_is parts c.in_ok-cut.cut.items (c.args.at - 1) c.args.end _ _ _ _ c.args.new.now first last c.utf8.new c.index.result.now c.index-2.result.now (sym c.index.ensures) (sym c.index-2.ensures)
-    (c.in_ok-cut.ensures ∙ c.as_str.ensures.value ∙ c.in_ok-text.ensures.text)
-    ∙ ap (λ k. encode_utf8_all (splice (chars (whole parts)) k c.args.end (chars c.args.new.now))) at) c.put_in.ensures.ok
+    ap whole c.splice.ensures
+    ∙ replaced_is c.args.parts.now (c.args.at - 1) c.args.end _ _ _ _ c.find_spot-first.ensures c.find_spot-last.ensures c.get.result.now c.get-2.result.now c.get.ensures c.get-2.ensures
+    c.args.new.now text c.utf8.new _ way c.in_ok-cut.cut (c.in_ok-cut.ensures ∙ c.as_str.ensures.value)
+    ∙ ap (λ k. encode_utf8_all (splice (chars (whole c.args.parts.now)) k c.args.end (chars c.args.new.now))) at

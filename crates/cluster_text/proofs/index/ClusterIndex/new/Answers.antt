@@ -12,7 +12,7 @@ cut_up-requires c = ap stands_alone (c.as_str.ensures.value ∙ c.in_ok-text.ens
 pub invariant_of-result : goal.invariant_of-result
 invariant_of-result c =
     let whole_is = c.in_ok-cut_up.ensures ∙ c.as_str.ensures.value in
-    index_is c.in_ok-cut_up.field-0.items c.count_scalars.result c.args.text.now (whole_is ∙ c.in_ok-text.ensures) c.utf8.text
+    index_is c.in_ok-cut_up.field-0 c.count_scalars.result c.args.text.now (whole_is ∙ c.in_ok-text.ensures) c.utf8.text
     (c.count_scalars.ensures.count ∙ ap (λ (t : List ℕ). length (chars t)) (c.as_str-2.ensures.value ∙ sym whole_is))
 
 pub returns : goal.returns

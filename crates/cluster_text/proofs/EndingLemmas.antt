@@ -1,0 +1,30 @@
+-- How characters end that go on.
+use Rattle.std.proofs.Common.{◌≡◌, ℕ, false, not, ◌&&◌, ◌||◌, List, [], ◌∷◌, ◌++◌, refl, sym, ap, subst, ◌∙◌, append_assoc, append-nil}
+use Rattle.std.specs.List.{fold}
+use Rattle.ucd_breaks.specs.GraphemeClusterBreak.{grapheme_cluster_break}
+use Rattle.unicode_segmentation.specs.Grapheme.{ends_in_half_flag, is_regional}
+use Rattle.cluster_text.specs.Borders.{closes, ends_whole, is_indicator, onto}
+use Rattle.cluster_text.specs.Endings.{IsEnding, passed}
+use Rattle.cluster_text.specs.declared.ending.Ending.{Ending}
+use Rattle.cluster_text.proofs.BorderLemmas.{nul_closes, onto-append}
+
+pub ending-none : IsEnding [] (record { last = 0; half = false })
+unfolding ends_in_half_flag
+ending-none = record { half_is = refl; whole_is = rw nul_closes refl }
+
+pub ending-next : (cs : List ℕ) (ending : Ending) (c : ℕ) → IsEnding cs ending → IsEnding (cs ++ c ∷ []) (passed ending c)
+unfolding ends_in_half_flag
+ending-next cs ending c is =
+    let behind : onto (cs ++ c ∷ []) [] ≡ c ∷ onto cs [] = onto-append cs (c ∷ []) [] in
+    let half : (is_regional (grapheme_cluster_break c) && not ending.half) ≡ ends_in_half_flag (c ∷ onto cs []) =
+    ap (λ b. is_regional (grapheme_cluster_break c) && not b) is.half_is in
+    record {
+      half_is = half ∙ ap ends_in_half_flag (sym behind);
+      whole_is = ap (λ b. closes c || (is_indicator c && not b)) half ∙ ap ends_whole (sym behind);
+    }
+
+pub ending-all : (cs : List ℕ) (ending : Ending) (ds : List ℕ) → IsEnding cs ending → IsEnding (cs ++ ds) (fold passed ending ds)
+ending-all cs ending [] is = subst (λ (es : List ℕ). IsEnding es ending) (sym (append-nil cs)) is
+ending-all cs ending (d ∷ ds) is =
+    subst (λ (es : List ℕ). IsEnding es (fold passed (passed ending d) ds)) (append_assoc cs (d ∷ []) ds)
+    (ending-all (cs ++ d ∷ []) (passed ending d) ds (ending-next cs ending d is))
