@@ -1,0 +1,13 @@
+pub mod FewLemmas
+pub mod WithinLemmas
+pub mod CameLemmas
+pub mod RunsLemmas
+pub mod KeepingLemmas
+pub mod NamedLemmas
+pub mod ViewLemmas
+pub mod FrameIdLemmas
+pub mod PossibleLemmas
+pub mod CertificateLemmas
+pub mod ReadyLemmas
+pub mod RevisedLemmas
+pub mod MergedLemmas

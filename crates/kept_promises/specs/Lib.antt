@@ -1,0 +1,4 @@
+pub mod Keeping
+pub mod Views
+pub mod Certificates
+pub mod Revisions
