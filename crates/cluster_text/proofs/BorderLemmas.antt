@@ -17,7 +17,7 @@ use Rattle.ucd_emoji.specs.Binary.{is_extended_pictographic}
 use Rattle.ucd_emoji.proofs.Computing.{ucd_emoji}
 use Rattle.unicode_segmentation.specs.Grapheme.{break_by_pair, ends_in_linker, joins_emoji, is_extend, is_zwj, is_regional, ends_in_pictograph, ends_in_half_flag, is_grapheme_break}
 use Rattle.unicode_segmentation.specs.Segments.{Rule, cut, segments}
-use Rattle.cluster_text.specs.Borders.{closes, opens, ends_whole, first_opens, is_closed, is_free, is_indicator, is_joining, is_linking, last_closes, onto}
+use Rattle.cluster_text.specs.Borders.{closes, opens, ends_whole, first_opens, is_closed, is_free, is_indicator, is_mark, is_mark_class, is_joining, is_linking, last_closes, onto}
 use Rattle.cluster_text.specs.Clusters.{clusters}
 use Rattle.cluster_text.proofs.CutLemmas.{attach, attach-nil, ReadsNext, StopsAt, StopsBehind, cut-after, cut-apart, cut-border, cut-past}
 
@@ -112,7 +112,7 @@ regional_breaks _ w e f = cc
 
 -- behind the character, and those before it, last first, a cluster ends at each one that opens
 pub record Closed (c : ℕ) (before : List ℕ) : Type 0 where
-  pub linking : is_linking (indic_conjunct_break c) ≡ false
+  pub linker : ends_in_linker (map indic_conjunct_break (c ∷ before)) ≡ false
   pub zwj : is_zwj (grapheme_cluster_break c) ≡ false
   pub half : ends_in_half_flag (c ∷ before) ≡ false
   pub pair : (w : GraphemeClusterBreak) → is_joining w ≡ false → unwrap_or (break_by_pair true (grapheme_cluster_break c) w) true ≡ true
@@ -122,18 +122,45 @@ unfolding ends_in_half_flag
 closed_by_class c before e =
     let stop = closing c e in
     let free = free-not_extend _ stop.free in
-    record { linking = stop.linking; zwj = free.1; half = ap (λ b. b && not (ends_in_half_flag before)) free.2; pair = λ w f. pair_breaks _ w stop.free f }
+    record { linker = linker-stop (indic_conjunct_break c) (map indic_conjunct_break before) stop.linking; zwj = free.1; half = ap (λ b. b && not (ends_in_half_flag before)) free.2; pair = λ w f. pair_breaks _ w stop.free f }
 
 closed_by_flag : (c : ℕ) (before : List ℕ) → (is_indicator c && not (ends_in_half_flag (c ∷ before))) ≡ true → Closed c before
 closed_by_flag c before e =
     let parts = and_parts (is_indicator c) _ e in
     let both = and_parts (is_regional (grapheme_cluster_break c)) _ parts.0 in
     record {
-      linking = not-true _ both.1;
+      linker = linker-stop (indic_conjunct_break c) (map indic_conjunct_break before) (not-true _ both.1);
       zwj = (regional_breaks _ Other both.0 refl).0;
       half = not-true _ parts.1;
       pair = λ w f. (regional_breaks _ w both.0 f).1;
     }
+
+record Marking (v : GraphemeClusterBreak) : Type 0 where
+  pub zwj : is_zwj v ≡ false
+  pub regional : is_regional v ≡ false
+  pub pair : (w : GraphemeClusterBreak) → is_joining w ≡ false → unwrap_or (break_by_pair true v w) true ≡ true
+
+marking : (v : GraphemeClusterBreak) → is_mark_class v ≡ true → Marking v
+marking v e = record { zwj = (apart v Other e refl).0; regional = (apart v Other e refl).1; pair = λ w f. (apart v w e f).2 }
+  where
+    apart : (v w : GraphemeClusterBreak) → is_mark_class v ≡ true → is_joining w ≡ false
+        → (is_zwj v ≡ false) × (is_regional v ≡ false) × (unwrap_or (break_by_pair true v w) true ≡ true)
+    apart Extend Extend e f = cc
+    apart Extend Zwj e f = cc
+    apart Extend SpacingMark e f = cc
+    apart Extend w e f = (refl, refl, refl)
+    apart SpacingMark Extend e f = cc
+    apart SpacingMark Zwj e f = cc
+    apart SpacingMark SpacingMark e f = cc
+    apart SpacingMark w e f = (refl, refl, refl)
+    apart _ w e f = cc
+
+closed_by_mark : (c : ℕ) (before : List ℕ) → (is_mark c && not (ends_in_linker (map indic_conjunct_break (c ∷ before)))) ≡ true → Closed c before
+unfolding ends_in_half_flag
+closed_by_mark c before e =
+    let parts = and_parts (is_mark c) _ e in
+    let mark = marking (grapheme_cluster_break c) parts.0 in
+    record { linker = not-true _ parts.1; zwj = mark.zwj; half = ap (λ b. b && not (ends_in_half_flag before)) mark.regional; pair = mark.pair }
 
 either : (a b : Bool) → (a || b) ≡ true → (a ≡ true) ⊎ (b ≡ true)
 either true b e = inl refl
@@ -141,7 +168,10 @@ either false b e = inr e
 
 pub closed_behind : (c : ℕ) (before : List ℕ) → ends_whole (c ∷ before) ≡ true → Closed c before
 closed_behind c before e =
-    elim (either (closes c) _ e) [ inl one ↦ closed_by_class c before one | inr flag ↦ closed_by_flag c before flag ]
+    elim (either (closes c) _ e) [
+      | inl one ↦ closed_by_class c before one
+      | inr more ↦ elim (either (is_indicator c && not (ends_in_half_flag (c ∷ before))) _ more) [ inl flag ↦ closed_by_flag c before flag | inr mark ↦ closed_by_mark c before mark ]
+    ]
 
 -- no rule looks past a character that opens behind such a place
 module _ (c d : ℕ) (before : List ℕ) (stop : Closed c before) (start : Opening d) where
@@ -176,7 +206,7 @@ rule_by_pair : (c : ℕ) (before : List ℕ) → Closed c before → (d : ℕ) (
     → is_grapheme_break true (c ∷ before) (d ∷ after) ≡ unwrap_or (break_by_pair true (grapheme_cluster_break c) (grapheme_cluster_break d)) true
 unfolding is_grapheme_break
 rule_by_pair c before stop d after =
-    rw (linker-stop (indic_conjunct_break c) (map indic_conjunct_break before) stop.linking, stop.zwj, stop.half) refl
+    rw (stop.linker, stop.zwj, stop.half) refl
 
 rule_reads_next : ReadsNext (is_grapheme_break true)
 unfolding is_grapheme_break
@@ -236,6 +266,17 @@ closed_by_last [] before e = cc
 closed_by_last (c ∷ []) before e = rw e refl
 closed_by_last (c ∷ d ∷ cs) before e = closed_by_last (d ∷ cs) (c ∷ before) e
 
+ends_whole-linker : (zs : List ℕ) → ends_whole zs ≡ true → ends_in_linker (map indic_conjunct_break zs) ≡ false
+unfolding ends_in_linker
+ends_whole-linker [] e = refl
+ends_whole-linker (c ∷ before) e = (closed_behind c before e).linker
+
+linker-past : (zs before : List ℕ) → ends_in_linker (map indic_conjunct_break before) ≡ false
+    → ends_in_linker (map indic_conjunct_break (zs ++ before)) ≡ ends_in_linker (map indic_conjunct_break zs)
+unfolding ends_in_linker
+linker-past [] before e = e
+linker-past (z ∷ zs) before e = linker-cons (indic_conjunct_break z) _ _ (linker-past zs before e)
+
 ends_whole-half : (zs : List ℕ) → ends_whole zs ≡ true → ends_in_half_flag zs ≡ false
 unfolding ends_in_half_flag
 ends_whole-half [] e = refl
@@ -251,15 +292,17 @@ unfolding ends_in_half_flag
 half_flag-past [] before e = e
 half_flag-past (z ∷ zs) before e = ap (λ b. is_regional (grapheme_cluster_break z) && not b) (half_flag-past zs before e)
 
-ends_whole-past : (zs before : List ℕ) → ends_in_half_flag before ≡ false → ends_whole before ≡ true → ends_whole (zs ++ before) ≡ true → ends_whole zs ≡ true
-ends_whole-past [] before half old e = refl
-ends_whole-past (z ∷ zs) before half old e =
-    ap (λ b. closes z || (is_indicator z && not b)) (sym (half_flag-past (z ∷ zs) before half)) ∙ e
+ends_whole-past : (zs before : List ℕ) → ends_whole before ≡ true → ends_whole (zs ++ before) ≡ true → ends_whole zs ≡ true
+ends_whole-past [] before old e = refl
+ends_whole-past (z ∷ zs) before old e =
+    let half = half_flag-past (z ∷ zs) before (ends_whole-half before old) in
+    let linker = linker-past (z ∷ zs) before (ends_whole-linker before old) in
+    ap₂ (λ a b. closes z || ((is_indicator z && not a) || (is_mark z && not b))) (sym half) (sym linker) ∙ e
 
 -- of two texts, one behind the other, that end so, the second one does too
 pub closed-behind : (xs ys : List ℕ) → is_closed xs ≡ true → is_closed (xs ++ ys) ≡ true → is_closed ys ≡ true
 closed-behind xs ys one both =
-    ends_whole-past (onto ys []) (onto xs []) (ends_whole-half (onto xs []) one) one
+    ends_whole-past (onto ys []) (onto xs []) one
     (ap ends_whole (sym (onto-append xs ys [] ∙ onto-front ys (onto xs []))) ∙ both)
 
 -- ---- NUL

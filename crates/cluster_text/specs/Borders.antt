@@ -1,5 +1,5 @@
 -- The places where a cluster ends and another begins, whatever stands around them.
-use Rattle.std.specs.Prelude.{ℕ, Bool, true, false, not, ◌&&◌, ◌||◌, List, [], ◌∷◌, nat_eq, nat_le}
+use Rattle.std.specs.Prelude.{ℕ, Bool, true, false, not, ◌&&◌, ◌||◌, List, [], ◌∷◌, map, nat_eq, nat_le}
 use Rattle.std.specs.List.{list_any}
 use Rattle.std.specs.Str.{chars}
 use Rattle.ucd_breaks.specs.GraphemeClusterBreak.{grapheme_cluster_break}
@@ -8,7 +8,7 @@ use Rattle.ucd_breaks.specs.declared.GraphemeClusterBreak.TheVariants.{Control, 
 use Rattle.ucd_derived.specs.IndicConjunctBreak.{indic_conjunct_break}
 use Rattle.ucd_derived.specs.declared.IndicConjunctBreak.{IndicConjunctBreak}
 use Rattle.ucd_derived.specs.declared.IndicConjunctBreak.TheVariants as InCb
-use Rattle.unicode_segmentation.specs.Grapheme.{ends_in_half_flag, is_regional}
+use Rattle.unicode_segmentation.specs.Grapheme.{ends_in_half_flag, ends_in_linker, is_regional}
 
 -- a class that joins nothing behind it but marks, and vowels and ends of Hangul syllables: letters, emoji, controls, LF, Hangul
 abbrev pub is_free : GraphemeClusterBreak → Bool
@@ -59,10 +59,20 @@ last_closes (c ∷ d ∷ cs) = last_closes (d ∷ cs)
 abbrev pub is_indicator : ℕ → Bool
 is_indicator c = is_regional (grapheme_cluster_break c) && not (is_linking (indic_conjunct_break c))
 
--- the characters, last first, end in one that closes or in whole flags, or there is none
+-- a mark on what stands before it
+abbrev pub is_mark_class : GraphemeClusterBreak → Bool
+is_mark_class Extend = true
+is_mark_class SpacingMark = true
+is_mark_class _ = false
+
+abbrev pub is_mark : ℕ → Bool
+is_mark c = is_mark_class (grapheme_cluster_break c)
+
+-- the characters, last first, end in one that closes, in whole flags, or in a mark that leaves no conjunct open; or there is none
 abbrev pub ends_whole : List ℕ → Bool
 ends_whole [] = true
-ends_whole (c ∷ before) = closes c || (is_indicator c && not (ends_in_half_flag (c ∷ before)))
+ends_whole (c ∷ before) =
+    closes c || ((is_indicator c && not (ends_in_half_flag (c ∷ before))) || (is_mark c && not (ends_in_linker (map indic_conjunct_break (c ∷ before)))))
 
 -- the characters of cs, last first, and then `before`
 abbrev pub onto : List ℕ → List ℕ → List ℕ

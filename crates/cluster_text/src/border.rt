@@ -1,5 +1,7 @@
 ghost use Rattle.std.specs.Prelude.{◌≡◌, ◌++◌, List, IfSome, [], ◌∷◌, ℕ};
-ghost use Rattle.cluster_text.specs.Borders.{closes as closes_on, is_free as is_free_class, is_plain as is_plain_text, is_special, is_indicator as is_indicator_on};
+ghost use Rattle.cluster_text.specs.Borders.{closes as closes_on, is_free as is_free_class, is_plain as is_plain_text, is_special, is_indicator as is_indicator_on, is_mark as is_mark_on};
+ghost use Rattle.cluster_text.specs.Endings.{stays_open};
+ghost use Rattle.ucd_derived.specs.IndicConjunctBreak.{indic_conjunct_break};
 ghost use Rattle.std.specs.List.{list_any};
 ghost use Rattle.ucd_breaks.specs.GraphemeClusterBreak.{grapheme_cluster_break};
 ghost use Rattle.unicode_segmentation.specs.Grapheme.{is_regional as is_regional_class};
@@ -37,6 +39,27 @@ pub(crate) fn is_indicator(c: char) -> bool
     ensures { result ≡ is_indicator_on c }
 {
     is_regional(c) && !is_linking(IndicConjunctBreak::for_char(c))
+}
+
+/// Whether the character is a mark on what stands before it.
+pub(crate) fn is_mark(c: char) -> bool
+    ensures { result ≡ is_mark_on c }
+{
+    matches!(
+        GraphemeClusterBreak::for_char(c),
+        GraphemeClusterBreak::Extend | GraphemeClusterBreak::SpacingMark
+    )
+}
+
+/// Whether a conjunct is open behind the character, where `before` tells whether one was before it.
+pub(crate) fn leaves_open(c: char, before: bool) -> bool
+    ensures { result ≡ stays_open (indic_conjunct_break c) before }
+{
+    match IndicConjunctBreak::for_char(c) {
+        IndicConjunctBreak::Linker => true,
+        IndicConjunctBreak::Extend => before,
+        _ => false,
+    }
 }
 
 /// Whether all characters of the text are of ASCII and none is a CR, so that each is a cluster of its own.

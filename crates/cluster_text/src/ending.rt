@@ -1,16 +1,19 @@
 //! How a text ends.
-ghost use Rattle.std.specs.Prelude.{◌≡◌, []};
+ghost use Rattle.std.specs.Prelude.{◌≡◌, ◌&&◌, [], not};
 ghost use Rattle.std.specs.List.{fold};
 ghost use Rattle.std.specs.Str.{chars};
+ghost use Rattle.cluster_text.specs.Borders.{is_indicator as is_indicator_on, is_mark as is_mark_on};
 ghost use Rattle.cluster_text.specs.Endings.{IsEnding, is_whole, passed};
 
-use crate::border::{closes, is_indicator, is_regional};
+use crate::border::{closes, is_indicator, is_mark, is_regional, leaves_open};
 
-/// The last character of a text, and whether it is half of a flag whose other half would come behind it.
+/// The last character of a text, whether it is half of a flag whose other half would come behind it, and whether a
+/// consonant behind it would join a conjunct.
 #[derive(Clone, Copy)]
 pub(crate) struct Ending {
     last: char,
     half: bool,
+    conjunct: bool,
 }
 
 impl Ending {
@@ -21,6 +24,7 @@ impl Ending {
         Ending {
             last: '\0',
             half: false,
+            conjunct: false,
         }
     }
 
@@ -29,7 +33,11 @@ impl Ending {
         ensures { result ≡ passed self next }
     {
         let half = is_regional(next) && !self.half;
-        Ending { last: next, half }
+        Ending {
+            last: next,
+            half,
+            conjunct: leaves_open(next, self.conjunct),
+        }
     }
 
     /// That of a text with another one behind it.
@@ -43,6 +51,20 @@ impl Ending {
     pub(crate) fn is_closed(self) -> bool
         ensures { result ≡ is_whole self }
     {
-        closes(self.last) || is_indicator(self.last) && !self.half
+        closes(self.last) || self.ends_flag() || self.ends_mark()
+    }
+
+    /// Whether it ends in whole flags.
+    fn ends_flag(self) -> bool
+        ensures { result ≡ is_indicator_on self.last && not self.half }
+    {
+        is_indicator(self.last) && !self.half
+    }
+
+    /// Whether it ends in a mark that leaves no conjunct open.
+    fn ends_mark(self) -> bool
+        ensures { result ≡ is_mark_on self.last && not self.conjunct }
+    {
+        is_mark(self.last) && !self.conjunct
     }
 }
