@@ -1,8 +1,9 @@
 #!/usr/bin/env bash
 # Large manuscripts, each within a minute: the summary of a million turns, whose numbers another program computed, a
-# text of 300,000 letters that one author puts at once and another takes in, scripts of many lines in one section, emoji
-# and Hangul without a space between them, passages that overlap themselves at very many places, a certificate of many
-# steps, texts of 100,000 letters that come in six orders, and batches of each power of two up to the longest.
+# text of 300,000 letters that one author puts at once and another takes in, scripts of many lines in one section, emoji,
+# Hangul, flags and marks without a space between them, passages that overlap themselves at very many places, a
+# certificate of many steps, texts of 100,000 letters that come in six orders, and batches of each power of two up to the
+# longest.
 . "$(dirname "$0")/common.sh"
 
 # Whether what a command printed is what was wanted.
@@ -62,6 +63,31 @@ for scalar in 😀 한; do
         for (line = 0; line < 40000; line++) print "put 1 " line " " scalar
     }' >"$work/script"
     look "lines of $scalar" 'made 40001' "$( (ulimit -t 10 && "$program" edit "$work/5") <"$work/script" 2>&1)"
+done
+
+# Flags, and letters with a mark, with no space between them, and letters at the end of 400,000 others, a line of a script
+# each, at three sizes: each reads the parts of the text that it touches, and one path of the tree in which they stand.
+put_each() {
+    LC_ALL=C awk -v from="$1" -v count="$2" -v cluster="$3" 'BEGIN {
+        for (line = 0; line < count; line++) print "put 1 " (from + line) " " cluster
+    }'
+}
+for cluster in 🇫🇷 $'e\xcc\x81'; do
+    for count in 10000 20000 40000; do
+        rm -f "$work/5"
+        "$program" new "$work/5" 5 16 </dev/null
+        { echo 'add 1 T'; put_each 0 "$count" "$cluster"; } >"$work/script"
+        look "$count lines of $cluster" "made $((2 * count + 1))" "$( (ulimit -t 5 && "$program" edit "$work/5") <"$work/script" 2>&1)"
+    done
+done
+han=$(head -c 200000 /dev/zero | tr '\0' a | sed 's/a/字/g')
+for count in 13750 27500 55000; do
+    rm -f "$work/5"
+    "$program" new "$work/5" 5 16 </dev/null
+    printf 'add 1 T\nput 1 0 %s\n' "$han" | "$program" edit "$work/5" 2>/dev/null
+    printf 'put 1 0 %s\n' "$han" | "$program" edit "$work/5" 2>/dev/null
+    put_each 400000 "$count" 字 >"$work/script"
+    look "$count letters behind 400000" "made $count" "$( (ulimit -t 5 && "$program" edit "$work/5") <"$work/script" 2>&1)"
 done
 
 # Passages of 100,000 letters in a text of a million, that overlap themselves at each letter, at every other one, and that
