@@ -19,6 +19,8 @@ pub mod ListingLemmas
 pub mod PlainFileLemmas
 pub mod RevisionTakenLemmas
 pub mod RevisingLemmas
+pub mod DraftSizeLemmas
+pub mod ShownLemmas
 pub mod WholeLemmas
 pub mod RevisingSinceLemmas
 pub mod SectionCountLemmas

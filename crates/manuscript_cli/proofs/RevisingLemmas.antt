@@ -1,6 +1,6 @@
 -- What a draft gives to a replica, by how far it was read.
 use Rattle.std.proofs.Common.{◌≡◌, ◌≢◌, ◌⊎◌, ◌↔◌, inl, inr, ℕ, suc, zero, List, [], ◌∷◌, ◌++◌, ◌+◌, ◌-◌, ◌<◌, ◌≤◌, length, take, Option, Some, None, refl, sym, ap, subst, ◌∙◌, arith, drop, drop_at, length-append, min, nat_eq, nat_lt, true, false, ◌&&◌}
-use Rattle.std.specs.Prelude.{IfErr, IfOk, IfSome, MatchResult, Result, Ok, Err, if◌then◌else◌, option_map}
+use Rattle.std.specs.Prelude.{Bool, IfErr, IfOk, IfSome, MatchResult, Result, Ok, Err, if◌then◌else◌, option_map}
 use Rattle.std.specs.Option.{option_or}
 use Rattle.std.specs.List.{common_prefix_len}
 use Rattle.std.specs.Str.{bytes_eq}
@@ -9,6 +9,7 @@ use Rattle.std.proofs.lemmas.Slice.Eq.{bytes_eq-Decides}
 use Rattle.std.proofs.lemmas.List.{length-take}
 use Rattle.fugue_ids.specs.declared.op.Op.{Op}
 use Rattle.origin_model.specs.declared.operations.Place.TheVariants.{Catalogue as catalogue}
+use Rattle.origin_model.specs.edits.Refusal.{held_count}
 use Rattle.origin_model.specs.edits.State.{State as Replica, Stands}
 use Rattle.origin_model.specs.operations.History.{accepted}
 use Rattle.origin_model.specs.taking.Taking.{IsSettled}
@@ -40,7 +41,7 @@ use Rattle.command_kinds.specs.Crashes.{IsFinished}
 use Rattle.command_kinds.specs.Edit.{IsLeft, made_outcome}
 use Rattle.command_kinds.specs.Findings.{Finding, Refuses, Does}
 use Rattle.command_kinds.specs.Giving.{GivesTo}
-use Rattle.manuscript_cli.specs.Revising.{BaseStops, DraftGives, HasBytes, IsHandedBack, IsRevisedTo, LooksAtBase, MeetsLimit, RevisionGives, Revises, TextStops, base_refusal, draft_refusal, empties, parts_fault_refusal, parts_refusal, revise_refusal, revised_outcome, revision, text_refusal}
+use Rattle.manuscript_cli.specs.Revising.{BaseStops, DraftGives, HasBytes, IsHandedBack, IsRevisedTo, LooksAtBase, MeetsLimit, RevisionGives, Revises, TextStops, base_refusal, draft_refusal, empties, is_too_large, parts_fault_refusal, parts_refusal, revise_refusal, revised_outcome, revision, text_refusal}
 use Rattle.manuscript_cli.specs.SectionCounts.{section_counts}
 use Rattle.command_kinds.specs.Saving.{Giver, GivesOnce, Outcome, ReadsInput}
 use Rattle.command_kinds.specs.Changes.{Change}
@@ -72,50 +73,62 @@ file_bytes (Some h) = (h.last.seen, refl)
 module _ (guest : DiskView) (input : SourceView) (replica : Replica) (base : List ℕ) (has : HasBytes guest base) where
   -- the base is refused
   pub gives_base : (course : Finding Outcome) (why : Refusal) → base_refusal replica.held.history base ≡ Some why → RevisionGives guest input course replica (Refuses why)
-  gives_base course why e = let d = left_bytes input.left in (base, has, d.0, d.1, inl (ap (λ o. option_or o (text_refusal replica.held.history d.0)) e))
+  gives_base course why e = let d = left_bytes input.left in (base, has, d.0, d.1, inl (ap (λ o. option_or o (text_refusal replica d.0)) e))
 
   -- or the text
-  pub gives_text : (course : Finding Outcome) (draft : List ℕ) (why : Refusal) → IsLeft input draft → base_refusal replica.held.history base ≡ None → text_refusal replica.held.history draft ≡ Some why → RevisionGives guest input course replica (Refuses why)
-  gives_text course draft why left good e = (base, has, draft, left, inl (ap (λ o. option_or o (text_refusal replica.held.history draft)) good ∙ e))
+  pub gives_text : (course : Finding Outcome) (draft : List ℕ) (why : Refusal) → IsLeft input draft → base_refusal replica.held.history base ≡ None → text_refusal replica draft ≡ Some why → RevisionGives guest input course replica (Refuses why)
+  gives_text course draft why left good e = (base, has, draft, left, inl (ap (λ o. option_or o (text_refusal replica draft)) good ∙ e))
 
-  allows : (draft : List ℕ) → base_refusal replica.held.history base ≡ None → text_refusal replica.held.history draft ≡ None → draft_refusal replica.held.history base draft ≡ None
-  allows draft good e = ap (λ o. option_or o (text_refusal replica.held.history draft)) good ∙ e
+  allows : (draft : List ℕ) → base_refusal replica.held.history base ≡ None → text_refusal replica draft ≡ None → draft_refusal replica base draft ≡ None
+  allows draft good e = ap (λ o. option_or o (text_refusal replica draft)) good ∙ e
 
   -- or a limit is met
-  pub gives_limit : (draft : List ℕ) (why : Refusal) → IsLeft input draft → base_refusal replica.held.history base ≡ None → text_refusal replica.held.history draft ≡ None → MeetsLimit replica draft why → RevisionGives guest input (Refuses why) replica (Refuses why)
+  pub gives_limit : (draft : List ℕ) (why : Refusal) → IsLeft input draft → base_refusal replica.held.history base ≡ None → text_refusal replica draft ≡ None → MeetsLimit replica draft why → RevisionGives guest input (Refuses why) replica (Refuses why)
   gives_limit draft why left good e meets = (base, has, draft, left, inr (allows draft good e, refl, meets))
 
   -- or the draft comes
-  pub gives_draft : (draft : List ℕ) (outcome : Outcome) → IsLeft input draft → base_refusal replica.held.history base ≡ None → text_refusal replica.held.history draft ≡ None → IsHandedBack replica draft outcome ⊎ Revises replica draft outcome → RevisionGives guest input (Does outcome) replica (Does outcome)
+  pub gives_draft : (draft : List ℕ) (outcome : Outcome) → IsLeft input draft → base_refusal replica.held.history base ≡ None → text_refusal replica draft ≡ None → IsHandedBack replica draft outcome ⊎ Revises replica draft outcome → RevisionGives guest input (Does outcome) replica (Does outcome)
   gives_draft draft outcome left good e revises = (base, has, draft, left, (allows draft good e, refl, revises))
 
 -- a text within the limit
-text_short : (h : List Op) (draft : List ℕ) → length draft ≤ LONGEST_TEXT → text_refusal h draft ≡ (if bytes_eq draft (arranged_text h) then None else parts_refusal h (parts draft))
-text_short h draft short = ap (λ t. if t then Some refusal.TooLong else (if bytes_eq draft (arranged_text h) then None else parts_refusal h (parts draft))) (ltb_no LONGEST_TEXT (length draft) short)
+text_short : (replica : Replica) (draft : List ℕ) → length draft ≤ LONGEST_TEXT → text_refusal replica draft ≡ (if bytes_eq draft (arranged_text replica.held.history) then None else parts_refusal replica (parts draft))
+text_short replica draft short = ap (λ t. if t then Some refusal.TooLong else (if bytes_eq draft (arranged_text replica.held.history) then None else parts_refusal replica (parts draft))) (ltb_no LONGEST_TEXT (length draft) short)
   where
     ltb_no : (a b : ℕ) → b ≤ a → nat_lt a b ≡ false
     ltb_no a b l = grind arith
 
 -- one that is another than what was printed, or the same
-text_other : (h : List Op) (draft : List ℕ) → length draft ≤ LONGEST_TEXT → draft ≢ arranged_text h → text_refusal h draft ≡ parts_refusal h (parts draft)
-text_other h draft short other =
-    text_short h draft short
-    ∙ ap (λ t. if t then None else parts_refusal h (parts draft)) (false_from_ne_true (bytes_eq draft (arranged_text h)) (λ t. other ((bytes_eq-Decides draft (arranged_text h)).0 t)))
+text_other : (replica : Replica) (draft : List ℕ) → length draft ≤ LONGEST_TEXT → draft ≢ arranged_text replica.held.history → text_refusal replica draft ≡ parts_refusal replica (parts draft)
+text_other replica draft short other =
+    text_short replica draft short
+    ∙ ap (λ t. if t then None else parts_refusal replica (parts draft)) (false_from_ne_true (bytes_eq draft (arranged_text replica.held.history)) (λ t. other ((bytes_eq-Decides draft (arranged_text replica.held.history)).0 t)))
 
-pub text_same : (h : List Op) (draft : List ℕ) → length draft ≤ LONGEST_TEXT → draft ≡ arranged_text h → text_refusal h draft ≡ None
-text_same h draft short same = text_short h draft short ∙ ap (λ t. if t then None else parts_refusal h (parts draft)) ((bytes_eq-Decides draft (arranged_text h)).1 same)
+pub text_same : (replica : Replica) (draft : List ℕ) → length draft ≤ LONGEST_TEXT → draft ≡ arranged_text replica.held.history → text_refusal replica draft ≡ None
+text_same replica draft short same = text_short replica draft short ∙ ap (λ t. if t then None else parts_refusal replica (parts draft)) ((bytes_eq-Decides draft (arranged_text replica.held.history)).1 same)
 
-pub text_reads : (h : List Op) (draft : List ℕ) (ps : List Part) → length draft ≤ LONGEST_TEXT → draft ≢ arranged_text h → parts draft ≡ Ok ps → empties h ps ≡ false → text_refusal h draft ≡ None
-text_reads h draft ps short other e some = text_other h draft short other ∙ (ap (parts_refusal h) e ∙ ap (λ t. if t then Some refusal.EmptyDraft else None) some)
+module _ (replica : Replica) (draft : List ℕ) (ps : List Part) (short : length draft ≤ LONGEST_TEXT) (other : draft ≢ arranged_text replica.held.history) (e : parts draft ≡ Ok ps) where
+  pub text_empty : empties replica.held.history ps ≡ true → text_refusal replica draft ≡ Some refusal.EmptyDraft
+  text_empty none =
+      text_other replica draft short other
+      ∙ (ap (parts_refusal replica) e ∙ ap (λ t. if t then Some refusal.EmptyDraft else (if is_too_large ps then Some (refusal.TooMany (held_count replica)) else None)) none)
 
-pub text_empty : (h : List Op) (draft : List ℕ) (ps : List Part) → length draft ≤ LONGEST_TEXT → draft ≢ arranged_text h → parts draft ≡ Ok ps → empties h ps ≡ true → text_refusal h draft ≡ Some refusal.EmptyDraft
-text_empty h draft ps short other e none = text_other h draft short other ∙ (ap (parts_refusal h) e ∙ ap (λ t. if t then Some refusal.EmptyDraft else None) none)
+  by_size : (large : Bool) → empties replica.held.history ps ≡ false → is_too_large ps ≡ large → text_refusal replica draft ≡ (if large then Some (refusal.TooMany (held_count replica)) else None)
+  by_size large some size =
+      text_other replica draft short other
+      ∙ (ap (parts_refusal replica) e ∙ ap (λ t. if t then Some refusal.EmptyDraft else (if is_too_large ps then Some (refusal.TooMany (held_count replica)) else None)) some
+      ∙ ap (λ t. if t then Some (refusal.TooMany (held_count replica)) else None) size)
 
-pub text_bad : (h : List Op) (draft : List ℕ) (line : ℕ) → length draft ≤ LONGEST_TEXT → draft ≢ arranged_text h → parts draft ≡ Err line → text_refusal h draft ≡ Some (refusal.BadDraft line)
-text_bad h draft line short other e = text_other h draft short other ∙ ap (parts_refusal h) e
+  pub text_reads : empties replica.held.history ps ≡ false → is_too_large ps ≡ false → text_refusal replica draft ≡ None
+  text_reads = by_size false
 
-pub text_long : (h : List Op) (draft : List ℕ) → LONGEST_TEXT < length draft → text_refusal h draft ≡ Some refusal.TooLong
-text_long h draft long = ap (λ t. if t then Some refusal.TooLong else (if bytes_eq draft (arranged_text h) then None else parts_refusal h (parts draft))) (ltb_yes LONGEST_TEXT (length draft) long)
+  pub text_large : empties replica.held.history ps ≡ false → is_too_large ps ≡ true → text_refusal replica draft ≡ Some (refusal.TooMany (held_count replica))
+  text_large = by_size true
+
+pub text_bad : (replica : Replica) (draft : List ℕ) (line : ℕ) → length draft ≤ LONGEST_TEXT → draft ≢ arranged_text replica.held.history → parts draft ≡ Err line → text_refusal replica draft ≡ Some (refusal.BadDraft line)
+text_bad replica draft line short other e = text_other replica draft short other ∙ ap (parts_refusal replica) e
+
+pub text_long : (replica : Replica) (draft : List ℕ) → LONGEST_TEXT < length draft → text_refusal replica draft ≡ Some refusal.TooLong
+text_long replica draft long = ap (λ t. if t then Some refusal.TooLong else (if bytes_eq draft (arranged_text replica.held.history) then None else parts_refusal replica (parts draft))) (ltb_yes LONGEST_TEXT (length draft) long)
   where
     ltb_yes : (a b : ℕ) → a < b → nat_lt a b ≡ true
     ltb_yes a b l = grind arith
@@ -177,9 +190,9 @@ outcome_of replica last draft ps n other e r =
 
 -- a draft that came gives what was made
 pub draft_gives : (guest : Change DiskView) (input : Change SourceView) (replica last : Replica) (base draft : List ℕ) (ps : List Part) (n : ℕ) (kept : Option (List Op)) → HasBytes guest.old base
-    → IsLeft input.old draft → base_refusal replica.held.history base ≡ None → length draft ≤ LONGEST_TEXT → draft ≢ arranged_text replica.held.history → parts draft ≡ Ok ps → empties replica.held.history ps ≡ false → IsSettled replica.held → IsRevisedTo replica last ps n
+    → IsLeft input.old draft → base_refusal replica.held.history base ≡ None → length draft ≤ LONGEST_TEXT → draft ≢ arranged_text replica.held.history → parts draft ≡ Ok ps → empties replica.held.history ps ≡ false → is_too_large ps ≡ false → IsSettled replica.held → IsRevisedTo replica last ps n
     → (course : Finding Outcome) × GivesTo (revision guest input course) replica last kept (Ok (note.Revised n (section_counts last.held.history (drop (length (accepted replica.held.history)) (accepted last.held.history)))))
-draft_gives guest input replica last base draft ps n kept has left good short other e some settled r =
+draft_gives guest input replica last base draft ps n kept has left good short other e some fits settled r =
     let makes = r.revised.makes in
     let made : List Op = all_made replica makes.changes in
     let outcome : Outcome = revised_outcome last made in
@@ -191,7 +204,7 @@ draft_gives guest input replica last base draft ps n kept has left good short ot
       Does outcome,
       record {
         outcome = outcome;
-        gives = gives_draft guest.old input.old replica base has draft outcome left good (text_reads replica.held.history draft ps short other e some) (inr (outcome_of replica last draft ps n other e r));
+        gives = gives_draft guest.old input.old replica base has draft outcome left good (text_reads replica draft ps short other e some fits) (inr (outcome_of replica last draft ps n other e r));
         suffices = record { same_state = enough.same_state; place = enough.place };
         saved = ap (drop (length (accepted last.held.history) - n)) makes.changed.gained.accepted_are ∙ drop_at (accepted replica.held.history) made (length (accepted last.held.history) - n) (sym last_made);
         noted = record { line = (λ i. revised_text (sym makes.count i) (section_counts last.held.history (sym behind i))); status = refl };
@@ -208,7 +221,7 @@ same_gives guest input replica base draft kept has left good short same settled 
       Does outcome,
       record {
         outcome = outcome;
-        gives = gives_draft guest.old input.old replica base has draft outcome left good (text_same replica.held.history draft short same) (inl (record { same = same; outcome_is = refl }));
+        gives = gives_draft guest.old input.old replica base has draft outcome left good (text_same replica draft short same) (inl (record { same = same; outcome_is = refl }));
         suffices = changed_suffice replica replica [] settled stands none;
         saved = ap (drop (length (accepted replica.held.history) - 0)) none.gained.accepted_are ∙ drop_at (accepted replica.held.history) [] (length (accepted replica.held.history) - 0) (omega arith);
         noted = record { line = refl; status = refl };
@@ -275,22 +288,39 @@ module _ (guest : Change DiskView) (input : Change SourceView) (before after : R
     input_gives F refusal.NoMemory none fails count = tt
     input_gives F refusal.TooLong none fails count =
         let left = longer_left input none in
-        gives_text guest.old input.old before base has (Refuses refusal.TooLong) left.0 refusal.TooLong left.1 good (text_long before.held.history left.0 left.2)
+        gives_text guest.old input.old before base has (Refuses refusal.TooLong) left.0 refusal.TooLong left.1 good (text_long before left.0 left.2)
     input_gives F _ none fails count = absurd none
+
+    -- one that is too large
+    large_gives : (draft : List ℕ) (ps : List Part) (why : Refusal) → draft ≢ arranged_text before.held.history → IsTextRead input draft → parts draft ≡ Ok ps → empties before.held.history ps ≡ false
+        → is_too_large ps ≡ true → why ≡ refusal.TooMany (held_count before) → GivesTo (revision guest input (Refuses why)) before after kept (Err why)
+    large_gives draft ps why other read e some large is =
+        let full : Refusal = refusal.TooMany (held_count before) in
+        subst (λ (w : Refusal). GivesTo (revision guest input (Refuses w)) before after kept (Err w)) (sym is)
+        (gives_text guest.old input.old before base has (Refuses full) draft full (text_left input draft read) good (text_large before draft ps read.short other e some large))
+
+    -- one that meets a limit
+    limit_gives : (draft : List ℕ) (ps : List Part) (why : Refusal) → draft ≢ arranged_text before.held.history → IsTextRead input draft → parts draft ≡ Ok ps → empties before.held.history ps ≡ false
+        → is_too_large ps ≡ false → MeetsLimit before draft why → GivesTo (revision guest input (Refuses why)) before after kept (Err why)
+    limit_gives draft ps refusal.Words other read e some fits limit = absurd ((no_fault limit.fault).0 (sym limit.why_is))
+    limit_gives draft ps refusal.Outside other read e some fits limit = absurd ((no_fault limit.fault).1 (sym limit.why_is))
+    limit_gives draft ps refusal.NoMemory other read e some fits limit = tt
+    limit_gives draft ps why other read e some fits limit =
+        gives_limit guest.old input.old before base has draft why (text_left input draft read) good (text_reads before draft ps read.short other e some fits) limit
 
     -- and one that is no draft, or that did not come
     pub text_gives : (draft : List ℕ) (why : Refusal) → draft ≢ arranged_text before.held.history → IsTextRead input draft → TextStops why before draft → GivesTo (revision guest input (Refuses why)) before after kept (Err why)
     text_gives draft refusal.NoMemory other read stops = tt
     text_gives draft (refusal.BadDraft line) other read stops =
         gives_text guest.old input.old before base has (Refuses (refusal.BadDraft line)) draft (refusal.BadDraft line) (text_left input draft read) good
-        (text_bad before.held.history draft line read.short other stops)
+        (text_bad before draft line read.short other stops)
     text_gives draft refusal.EmptyDraft other read stops =
         gives_text guest.old input.old before base has (Refuses refusal.EmptyDraft) draft refusal.EmptyDraft (text_left input draft read) good
-        (text_empty before.held.history draft stops.0 read.short other stops.1 stops.2)
-    text_gives draft refusal.Words other read stops = absurd ((no_fault stops.3.fault).0 (sym stops.3.why_is))
-    text_gives draft refusal.Outside other read stops = absurd ((no_fault stops.3.fault).1 (sym stops.3.why_is))
-    text_gives draft why other read stops =
-        gives_limit guest.old input.old before base has draft why (text_left input draft read) good (text_reads before.held.history draft stops.0 read.short other stops.1 stops.2) stops.3
+        (text_empty before draft stops.0 read.short other stops.1 stops.2)
+    text_gives draft why other read stops = elim stops.3 [
+      | inl large ↦ large_gives draft stops.0 why other read stops.1 stops.2 large.0 large.1
+      | inr limit ↦ limit_gives draft stops.0 why other read stops.1 stops.2 limit.0 limit.1
+    ]
 
 -- how the objects are left
 pub base_looked : (guest : Change DiskView) (end : Status) (F : Type 0) → LooksOnly guest.old guest.new F → (F → end ≡ status.OutsideFault) → LooksAtBase guest end
@@ -311,27 +341,32 @@ pub draft_stops : {T : Type 0} (result : Result T DraftFault) (why : Refusal) (r
 draft_stops (Ok x) why replica draft is bad = cc is
 draft_stops (Err fault) why replica draft is bad = subst (λ (w : Refusal). TextStops w replica draft) (sym is) (parts_stop fault (Err fault) replica draft refl bad)
 
-pub limit_stops : (fault : ReviseFault) (replica last : Replica) (draft : List ℕ) (ps : List Part) → parts draft ≡ Ok ps → empties replica.held.history ps ≡ false → StopsAtLimit replica last fault
+pub limit_stops : (fault : ReviseFault) (replica last : Replica) (draft : List ℕ) (ps : List Part) → parts draft ≡ Ok ps → empties replica.held.history ps ≡ false → is_too_large ps ≡ false → StopsAtLimit replica last fault
     → LacksRoom replica (revision_cost replica.held.history ps) fault → LacksPlan replica ps fault → (arranged_parts replica.held.history ≡ ps → IsOutOfMemory fault) → TextStops (revise_refusal fault) replica draft
-limit_stops (fault.Edit edit.NoSection) replica last draft ps e some stops lacks planned spared = tt
-limit_stops (fault.Edit edit.OutOfRange) replica last draft ps e some stops lacks planned spared = tt
-limit_stops (fault.Edit edit.NoMemory) replica last draft ps e some stops lacks planned spared = tt
-limit_stops (fault.Move moving.NoSection) replica last draft ps e some stops lacks planned spared = tt
-limit_stops (fault.Move moving.NoPlace) replica last draft ps e some stops lacks planned spared = tt
-limit_stops (fault.Move moving.NoMemory) replica last draft ps e some stops lacks planned spared = tt
-limit_stops why replica last draft ps e some stops lacks planned spared = elim planned [
+limit_stops (fault.Edit edit.NoSection) replica last draft ps e some fits stops lacks planned spared = tt
+limit_stops (fault.Edit edit.OutOfRange) replica last draft ps e some fits stops lacks planned spared = tt
+limit_stops (fault.Edit edit.NoMemory) replica last draft ps e some fits stops lacks planned spared = tt
+limit_stops (fault.Move moving.NoSection) replica last draft ps e some fits stops lacks planned spared = tt
+limit_stops (fault.Move moving.NoPlace) replica last draft ps e some fits stops lacks planned spared = tt
+limit_stops (fault.Move moving.NoMemory) replica last draft ps e some fits stops lacks planned spared = tt
+limit_stops why replica last draft ps e some fits stops lacks planned spared = elim planned [
   | inl wants ↦ absurd wants
   | inr p ↦
-      (ps, e, some, record { fault = why; why_is = refl; no_want = λ is. cc is; last = last; stops = stops; ps = ps; reads = e; plan = p.0; no_room = p.1; lacks = lacks; changes = λ same. spared same })
+      (ps, e, some, inr (fits, record { fault = why; why_is = refl; no_want = λ is. cc is; last = last; stops = stops; ps = ps; reads = e; plan = p.0; no_room = p.1; lacks = lacks; changes = λ same. spared same }))
 ]
+
+-- a draft that is too large
+pub too_large_stops : (replica : Replica) (draft : List ℕ) (ps : List Part) (why : Refusal) → parts draft ≡ Ok ps → empties replica.held.history ps ≡ false → is_too_large ps ≡ true
+    → why ≡ refusal.TooMany (held_count replica) → TextStops why replica draft
+too_large_stops replica draft ps why e some large is = subst (λ (w : Refusal). TextStops w replica draft) (sym is) (ps, e, some, inl (large, refl))
 
 -- a revision that stopped
 pub revise_stops : (result : Result ℕ ReviseFault) (why : Refusal) (replica last : Replica) (draft : List ℕ) (ps : List Part) → MatchResult result (λ (n : ℕ). Err why ≡ Ok n) (λ fault. why ≡ revise_refusal fault)
-    → parts draft ≡ Ok ps → empties replica.held.history ps ≡ false → IfErr result (λ f. StopsAtLimit replica last f) → Costs replica last (revision_cost replica.held.history ps) result
+    → parts draft ≡ Ok ps → empties replica.held.history ps ≡ false → is_too_large ps ≡ false → IfErr result (λ f. StopsAtLimit replica last f) → Costs replica last (revision_cost replica.held.history ps) result
     → IfErr result (λ f. LacksPlan replica ps f) → (arranged_parts replica.held.history ≡ ps → IfErr result (λ f. IsOutOfMemory f)) → TextStops why replica draft
-revise_stops (Ok n) why replica last draft ps is e some stops costs planned spared = cc is
-revise_stops (Err f) why replica last draft ps is e some stops costs planned spared =
-    subst (λ (w : Refusal). TextStops w replica draft) (sym is) (limit_stops f replica last draft ps e some stops costs planned spared)
+revise_stops (Ok n) why replica last draft ps is e some fits stops costs planned spared = cc is
+revise_stops (Err f) why replica last draft ps is e some fits stops costs planned spared =
+    subst (λ (w : Refusal). TextStops w replica draft) (sym is) (limit_stops f replica last draft ps e some fits stops costs planned spared)
 
 -- or that came to an end
 revised_of : (n : ℕ) (replica last : Replica) (ps : List Part) → ArrangedReads → IsRevision replica last ps n → MakesNothing replica last ps n → Costs replica last (revision_cost replica.held.history ps) (Ok n)

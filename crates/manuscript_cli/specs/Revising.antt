@@ -1,10 +1,12 @@
 -- The command `revise`: the draft on the input is what a file's replica comes to show, where the other file has what it showed.
-use Rattle.std.specs.Prelude.{◌≡◌, ◌≢◌, ◌⊎◌, ℕ, true, false, Bool, nat_eq, nat_lt, ◌&&◌, if◌then◌else◌, Option, Some, None, Result, Ok, Err, IfSome, List, [], ◌++◌, length, option_map}
+use Rattle.std.specs.Prelude.{◌≡◌, ◌≢◌, ◌⊎◌, ◌+◌, ◌≤◌, ℕ, true, false, Bool, nat_eq, nat_lt, ◌&&◌, if◌then◌else◌, Option, Some, None, Result, Ok, Err, IfSome, List, [], ◌++◌, length, option_map}
 use Rattle.std.specs.Option.{option_or}
 use Rattle.std.specs.Str.{bytes_eq}
 use Rattle.fugue_ids.specs.Causes.{Rose}
+use Rattle.fugue_ids.specs.declared.limits.TheConstants.{MOST_OPERATIONS}
 use Rattle.fugue_ids.specs.declared.op.Op.{Op}
 use Rattle.origin_model.specs.declared.edit_fault.EditFault.TheVariants as edit_fault
+use Rattle.origin_model.specs.edits.Refusal.{held_count}
 use Rattle.origin_model.specs.edits.State.{State as Replica, Stands}
 use Rattle.origin_model.specs.operations.History.{accepted}
 use Rattle.origin_model.specs.taking.Taking.{IsSettled}
@@ -14,7 +16,7 @@ use Rattle.catalogue_notes.specs.Arranged.{arranged, arranged_text}
 use Rattle.catalogue_notes.specs.declared.moving.MoveFault.TheVariants as move_fault
 use Rattle.draft_plan.specs.Differences.{first_difference}
 use Rattle.draft_plan.specs.Drafts.{Part, form, parts}
-use Rattle.draft_plan.specs.Limits.{Costs, LacksRoom, revision_cost}
+use Rattle.draft_plan.specs.Limits.{Costs, LacksRoom, letters, part_letters, revision_cost}
 use Rattle.draft_plan.specs.Plain.{arranged_parts}
 use Rattle.draft_plan.specs.Plans.{Plan, plan_cost}
 use Rattle.draft_plan.specs.Revision.{IsRevision, MakesNothing, StopsAtLimit}
@@ -42,19 +44,28 @@ base_refusal h base = option_map refusal.BaseDiffers (first_difference (arranged
 abbrev pub empties : List Op → List Part → Bool
 empties h ps = nat_eq (length ps) 0 && nat_lt 0 (length (arranged h))
 
--- why what a draft says is not taken: a line is bad, or it has nothing
-abbrev pub parts_refusal : List Op → Result (List Part) ℕ → Option Refusal
-parts_refusal h (Ok ps) = if empties h ps then Some refusal.EmptyDraft else None
-parts_refusal h (Err line) = Some (refusal.BadDraft line)
+-- the draft has more sections and letters than a replica may hold operations
+abbrev pub is_too_large : List Part → Bool
+is_too_large ps = nat_lt MOST_OPERATIONS (length ps + part_letters ps)
+
+-- no replica shows so much
+abbrev pub ShowsNoMore : Type 0
+ShowsNoMore = (s : Replica) → Stands s → length (arranged s.held.history) + letters s.held.history ≤ MOST_OPERATIONS
+
+-- why what a draft says is not taken: a line is bad, or it has nothing, or too much
+abbrev pub parts_refusal : Replica → Result (List Part) ℕ → Option Refusal
+parts_refusal replica (Ok ps) =
+    if empties replica.held.history ps then Some refusal.EmptyDraft else (if is_too_large ps then Some (refusal.TooMany (held_count replica)) else None)
+parts_refusal replica (Err line) = Some (refusal.BadDraft line)
 
 -- why the bytes are no draft: there are too many, or what they say is not taken, unless they are what was printed
-abbrev pub text_refusal : List Op → (draft : List ℕ) → Option Refusal
-text_refusal h draft =
-    if nat_lt LONGEST_TEXT (length draft) then Some refusal.TooLong else (if bytes_eq draft (arranged_text h) then None else parts_refusal h (parts draft))
+abbrev pub text_refusal : Replica → (draft : List ℕ) → Option Refusal
+text_refusal replica draft =
+    if nat_lt LONGEST_TEXT (length draft) then Some refusal.TooLong else (if bytes_eq draft (arranged_text replica.held.history) then None else parts_refusal replica (parts draft))
 
 -- why a draft is not taken, by the first cause that there is
-abbrev pub draft_refusal : List Op → (base draft : List ℕ) → Option Refusal
-draft_refusal h base draft = option_or (base_refusal h base) (text_refusal h draft)
+abbrev pub draft_refusal : Replica → (base draft : List ℕ) → Option Refusal
+draft_refusal replica base draft = option_or (base_refusal replica.held.history base) (text_refusal replica draft)
 
 -- why a draft was not read, or not come to, as a refusal
 abbrev pub parts_fault_refusal : DraftFault → Refusal
@@ -125,10 +136,10 @@ pub record MeetsLimit (replica : Replica) (draft : List ℕ) (why : Refusal) : T
 -- What a draft gives. There are many ways from what is shown to the draft: this one came to that course.
 abbrev pub DraftGives : (base draft : List ℕ) → (course : Finding Outcome) → Replica → Finding Outcome → Type 0
 DraftGives base draft course replica (Refuses why) =
-    (draft_refusal replica.held.history base draft ≡ Some why)
-    ⊎ ((draft_refusal replica.held.history base draft ≡ None) × (course ≡ Refuses why) × MeetsLimit replica draft why)
+    (draft_refusal replica base draft ≡ Some why)
+    ⊎ ((draft_refusal replica base draft ≡ None) × (course ≡ Refuses why) × MeetsLimit replica draft why)
 DraftGives base draft course replica (Does outcome) =
-    (draft_refusal replica.held.history base draft ≡ None) × (course ≡ Does outcome) × (IsHandedBack replica draft outcome ⊎ Revises replica draft outcome)
+    (draft_refusal replica base draft ≡ None) × (course ≡ Does outcome) × (IsHandedBack replica draft outcome ⊎ Revises replica draft outcome)
 
 -- the file, where it is told, has these bytes
 abbrev pub HasBytes : DiskView → List ℕ → Type 0
@@ -164,4 +175,6 @@ abbrev pub TextStops : Refusal → Replica → (draft : List ℕ) → Type 0
 TextStops refusal.NoMemory replica draft = Unit {0}
 TextStops (refusal.BadDraft line) replica draft = parts draft ≡ Err line
 TextStops refusal.EmptyDraft replica draft = (ps : List Part) × (parts draft ≡ Ok ps) × (empties replica.held.history ps ≡ true)
-TextStops why replica draft = (ps : List Part) × (parts draft ≡ Ok ps) × (empties replica.held.history ps ≡ false) × MeetsLimit replica draft why
+TextStops why replica draft =
+    (ps : List Part) × (parts draft ≡ Ok ps) × (empties replica.held.history ps ≡ false)
+    × (((is_too_large ps ≡ true) × (why ≡ refusal.TooMany (held_count replica))) ⊎ ((is_too_large ps ≡ false) × MeetsLimit replica draft why))

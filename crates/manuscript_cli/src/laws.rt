@@ -13,6 +13,7 @@ ghost use Rattle.op_frame.specs.declared.encoding.TheConstants.{LONGEST_RUN};
 ghost use Rattle.version_views.specs.declared.limits.TheConstants.{LONGEST_NAME, VERSION_CODE};
 ghost use Rattle.manuscript_cli.specs.Moments.{MomentsTellFile};
 ghost use Rattle.manuscript_cli.specs.Past.{PastIsArranged, PastStays};
+ghost use Rattle.manuscript_cli.specs.Revising.{ShowsNoMore};
 ghost use Rattle.manuscript_cli.specs.Runs.{EachFinishedIsIn};
 ghost use Rattle.manuscript_cli.specs.declared.check.TheConstants.{LONGEST_TEXT};
 ghost use Rattle.manuscript_cli.specs.declared.words.TheConstants.{GREATEST_CURSOR, GREATEST_MOMENT, GREATEST_PLACE};
@@ -70,4 +71,9 @@ pub fn past_stays()
 /// accepted, and each of these is told of once.
 pub fn moments_tell_file()
     ensures { MomentsTellFile }
+{}
+
+/// A draft with more sections and letters than a replica may hold operations is one that none shows: no way leads to it.
+pub fn replicas_show_no_more()
+    ensures { ShowsNoMore }
 {}

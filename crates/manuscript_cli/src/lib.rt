@@ -9,6 +9,7 @@ mod check;
 mod command;
 mod comments;
 mod counting;
+mod draft_size;
 mod held;
 mod laws;
 mod list;
@@ -32,6 +33,7 @@ pub use command::Command;
 pub use command_kinds::{Refusal, Status, VersionName, tell};
 pub use laws::{
     every_finished_command_is_in_the_file, limits_in_numbers, moments_tell_file, past_stays,
+    replicas_show_no_more,
 };
 pub use top::run;
 pub use words::{files_of, read_words};

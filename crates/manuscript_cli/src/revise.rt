@@ -1,13 +1,14 @@
 //! The command `revise`: a draft is what the replica comes to show.
 ghost use Rattle.std.specs.Prelude.{◌≡◌, ◌≢◌, ◌↔◌, ℕ, Ok, None, IfErr, IfOk, IsTrue, OnOk, Option, false, List};
 ghost use Rattle.fugue_ids.specs.declared.op.Op.{Op};
+ghost use Rattle.origin_model.specs.edits.Refusal.{held_count};
 ghost use Rattle.origin_model.specs.edits.State.{Stands};
 ghost use Rattle.catalogue_notes.specs.Arranged.{arranged_text};
 ghost use Rattle.draft_plan.specs.Drafts.{Part, parts};
 ghost use Rattle.replica_file.specs.Loading.{IsReady};
 ghost use Rattle.replica_file.specs.Looks.{LooksOnly};
 ghost use Rattle.manuscript_cli.specs.Revising.{BaseStops, HasBytes, IsRevisedTo, LooksAtBase, TextStops};
-ghost use Rattle.manuscript_cli.specs.Revising.{base_refusal, empties, parts_fault_refusal, revise_refusal, revision};
+ghost use Rattle.manuscript_cli.specs.Revising.{base_refusal, empties, is_too_large, parts_fault_refusal, revise_refusal, revision};
 ghost use Rattle.manuscript_cli.specs.RevisingSince.{noted_revision};
 ghost use Rattle.command_kinds.specs.Files.{FileRefuses};
 ghost use Rattle.command_kinds.specs.Findings.{Finding};
@@ -16,9 +17,10 @@ ghost use Rattle.command_kinds.specs.declared.status.Status.{Status as AnyStatus
 ghost use Rattle.command_kinds.specs.Saving.{Outcome, ReadsInput, SavesGiven, SavingBlameless};
 ghost use Rattle.command_kinds.specs.Changes.{IsTold, change};
 ghost use Rattle.command_kinds.specs.declared.refusal.Refusal.{Refusal as AnyRefusal};
-ghost use Rattle.command_kinds.specs.declared.refusal.Refusal.TheVariants.{Outside};
+ghost use Rattle.command_kinds.specs.declared.refusal.Refusal.TheVariants.{Outside, TooMany};
 
 use crate::check::read_text;
+use crate::draft_size;
 use crate::plain_file::read_start;
 use crate::section_counts::section_counts;
 use catalogue_notes::{MoveFault, write_arranged};
@@ -186,7 +188,8 @@ fn revise_to(alloc: Global, replica: &mut Replica, text: &[u8]) -> Result<u32, R
     requires ready { IsReady replica.old }
     requires other { text.now ≢ arranged_text replica.old.held.history }
     ensures made { IfOk result (λ n. (ps : List Part) × (parts text.now ≡ Ok ps)
-        × (empties replica.old.held.history ps ≡ false) × IsRevisedTo replica.old replica.new ps n) }
+        × (empties replica.old.held.history ps ≡ false) × (is_too_large ps ≡ false)
+        × IsRevisedTo replica.old replica.new ps n) }
     ensures err { IfErr result (λ why. TextStops why replica.old text.now) }
 {
     // What is printed then is the draft in its form by this law.
@@ -195,8 +198,19 @@ fn revise_to(alloc: Global, replica: &mut Replica, text: &[u8]) -> Result<u32, R
     if drops_all(replica, &draft) {
         return Err(Refusal::EmptyDraft);
     }
+    if draft_size::is_too_large(draft.parts()) {
+        return Err(too_many(replica));
+    }
     let made = revise(alloc, replica, &draft).map_err(refusal_of_limit)?;
     Ok(made)
+}
+
+/// No operation more has a place.
+pub(crate) fn too_many(replica: &Replica) -> Refusal
+    ensures { result ≡ TooMany (held_count replica.now) }
+{
+    let held = replica.accepted().len() + replica.waiting().len();
+    Refusal::TooMany(held as u32)
 }
 
 /// The refusal that a fault of a draft is.

@@ -1,6 +1,6 @@
 //! The command `revise` with a number: a draft of what a file showed when so many operations were accepted.
 ghost use Rattle.std.specs.Prelude.{◌≡◌, ◌≢◌, ◌⊎◌, IfErr, IfOk, None, OnOk, Some};
-ghost use Rattle.origin_model.specs.edits.Refusal.{held_count, next_of_own};
+ghost use Rattle.origin_model.specs.edits.Refusal.{next_of_own};
 ghost use Rattle.origin_model.specs.taking.Taking.{HasPlace, IsSettled, TooMany as AnswersTooMany, answer, intake};
 ghost use Rattle.replica_file.specs.Loading.{IsReady};
 ghost use Rattle.version_views.specs.Fronts.{front_of};
@@ -10,12 +10,12 @@ ghost use Rattle.command_kinds.specs.Findings.{Finding};
 ghost use Rattle.command_kinds.specs.Intake.{FeedsNot};
 ghost use Rattle.command_kinds.specs.Saving.{Outcome, ReadsInput, SavesGiven, SavingBlameless};
 ghost use Rattle.command_kinds.specs.declared.refusal.Refusal.{Refusal as AnyRefusal};
-ghost use Rattle.command_kinds.specs.declared.refusal.Refusal.TheVariants.{NoMemory as NoMemoryFound, TooMany as TooManyFound};
+ghost use Rattle.command_kinds.specs.declared.refusal.Refusal.TheVariants.{NoMemory as NoMemoryFound};
 ghost use Rattle.manuscript_cli.specs.Revising.{LooksAtBase};
 ghost use Rattle.manuscript_cli.specs.RevisingSince.{Brings, FindsNoRoom, HasNoPlaceFor, MomentDecidesAlone, moment_refusal};
 ghost use Rattle.manuscript_cli.specs.RevisingSince.{revision_since, same_next, told_of_whole as told_of};
 
-use crate::revise::{DraftSources, Revised, revise_by};
+use crate::revise::{DraftSources, Revised, revise_by, too_many};
 use command_kinds::{Gives, Kept, Note, Refusal, Status, last_of, save_given};
 use fugue_ids::Op;
 use origin_model::Tally;
@@ -163,14 +163,6 @@ fn told_of_whole(replica: &Replica, why: Refusal) -> Refusal
         Refusal::TooMany(_) => too_many(replica),
         other => other,
     }
-}
-
-/// No operation more has a place.
-fn too_many(replica: &Replica) -> Refusal
-    ensures { result ≡ TooManyFound (held_count replica.now) }
-{
-    let held = replica.accepted().len() + replica.waiting().len();
-    Refusal::TooMany(held as u32)
 }
 
 /// Takes copies of the operations in.

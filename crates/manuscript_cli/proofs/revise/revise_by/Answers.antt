@@ -72,4 +72,4 @@ returns-clause-gives g c kept =
     c.section_counts-sections.ensures ∙ ap (λ l. section_counts now.held.history (drop (length l) (accepted now.held.history))) c.accepted-before.ensures.accepted in
     rw counted
     (draft_gives (change (g.G.Disk.seen c.args.base.now) (g.G.Disk.seen c.check_base.new.base)) input
-    c.args.replica.now now ok.0 c.as_slice-draft.result.now made.0 _ kept ok.1 (text_left input _ read) ok.2 read.short other made.1 made.2 c.requires.ready.settled made.3)
+    c.args.replica.now now ok.0 c.as_slice-draft.result.now made.0 _ kept ok.1 (text_left input _ read) ok.2 read.short other made.1 made.2 made.3 c.requires.ready.settled made.4)
