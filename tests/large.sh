@@ -1,9 +1,9 @@
 #!/usr/bin/env bash
 # Large manuscripts, each within a minute: the summary of a million turns, whose numbers another program computed, a
 # text of 300,000 letters that one author puts at once and another takes in, scripts of many lines in one section, emoji,
-# Hangul, flags and marks without a space between them, passages that overlap themselves at very many places, a
-# certificate of many steps, texts of 100,000 letters that come in six orders, and batches of each power of two up to the
-# longest.
+# Hangul, flags and marks without a space between them, passages that overlap themselves at very many places, drafts of as
+# many letters as a file holds and more, deletes that wait for their letters, a certificate of many steps, texts of 100,000
+# letters that come in six orders, and batches of each power of two up to the longest.
 . "$(dirname "$0")/common.sh"
 
 # Whether what a command printed is what was wanted.
@@ -107,6 +107,43 @@ remarked() {
 remarked a "$(repeated a 100000)" 'found 900001 times'
 remarked ab "$(repeated ab 50000)" 'found 450001 times'
 remarked a "$(repeated a 99999)b" 'not found'
+
+# Drafts of one section with so many letters: as many as a file holds, one more, and a hundred million. The last two are
+# refused without being compared with the text, in a few times the memory of the draft.
+drafted() {
+    local letters=$1 status=$2 notes=$3
+    rm -f "$work/8"
+    "$program" new "$work/8" 8 16 </dev/null
+    "$program" arrange "$work/8" </dev/null >"$work/base"
+    { echo '# T'; yes 'so much and more' | head -c "$letters"; } >"$work/draft"
+    (ulimit -t 10 && ulimit -v 500000 && "$program" revise "$work/8" "$work/base") <"$work/draft" >"$work/output" 2>"$work/notes"
+    compare "a draft of $letters letters" $? "$status" '' "$notes"
+}
+drafted 4194303 0 'made 4194304\nsections: 1 added, 0 dropped, 0 moved, 0 retitled\n'
+drafted 4194304 7 'too many: 0\n'
+drafted 100000000 7 'too many: 0\n'
+
+# Deletes that are pending, in no order, until the letters that they name come as runs of 1,000. Each takes time in
+# proportion to those that are pending.
+pending() {
+    printf "$section"
+    LC_ALL=C awk -v count="$1" '
+        function bytes(number) { printf "%c%c%c%c", number / 16777216, number / 65536 % 256, number / 256 % 256, number % 256 }
+        BEGIN {
+            for (at = 0; at < count; at++) { printf "\3"; bytes(7); bytes(at * 7919 % count) }
+            for (at = 0; at < count; at += 1000) {
+                printf "\4"; bytes(7); bytes(at); bytes(9); bytes(0)
+                if (at) { printf "\1"; bytes(7); bytes(at - 1) } else printf "%c", 0
+                printf "%c%c%c", 0, 3, 232
+                for (letter = 0; letter < 1000; letter++) printf "%c%cx", 0, 0
+            }
+        }'
+}
+for count in 25000 50000 100000; do
+    pending "$count" >"$work/frames"
+    (ulimit -t 60 && "$program" show 1048576) <"$work/frames" >"$work/output" 2>"$work/notes"
+    compare "$count pending deletes" $? 0 '# T\n\n' "$(counts $((2 * count + 1)) 0 0 0 0 0)"
+done
 
 # A certificate of 32,500 steps. Each step compares two letters by their right origins, which are those that the next one
 # compares. The left origins take turns, so that the chains are short.
