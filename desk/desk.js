@@ -24,7 +24,7 @@ class Desk {
     const [worker, module] = ["worker", "module"].map((id) => document.getElementById(id).textContent);
     this.store = store;
     this.program = new Program(worker, module);
-    this.channel = new Channel("manuscript");
+    this.channel = new Channel("manuscript", store);
     this.shelf = new Shelf(this);
     this.help = help;
     window.addEventListener("hashchange", () => this.show());

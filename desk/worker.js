@@ -16,8 +16,11 @@ let ready;
 
 async function compiled(text) {
   const packed = Uint8Array.from(atob(text.trim()), (letter) => letter.charCodeAt(0));
-  const stream = new Blob([packed]).stream().pipeThrough(new DecompressionStream("gzip"));
-  return WebAssembly.compile(await new Response(stream).arrayBuffer());
+  // Not as a Blob: WebKit reads none in a worker of a page from the disk.
+  const { readable, writable } = new DecompressionStream("gzip");
+  const writer = writable.getWriter();
+  const [unpacked] = await Promise.all([new Response(readable).arrayBuffer(), writer.write(packed), writer.close()]);
+  return WebAssembly.compile(unpacked);
 }
 
 function ran(module, { words, files, input }) {

@@ -1,10 +1,11 @@
 #!/usr/bin/env bash
-# Tries the page, dist/desk.html, in a headless Chromium and in a headless Firefox, as a writer uses it: desk.sh
-# [GROUP..] Before that it tries, under Node alone, what the page asks before it takes a file, and undo beside others.
-# Where there is no page, no Node or neither browser, it says so and ends with status 0. The environment may have:
+# Tries the page, dist/desk.html, in a headless Chromium, in a headless Firefox and in WebKitGTK's small browser, as a
+# writer uses it: desk.sh [GROUP..] Before that it tries, under Node alone, what the page asks before it takes a file, and
+# undo beside others. Where there is no page, no Node or no browser, it says so and ends with status 0. The environment
+# may have:
 #
 #     DESK         another page
-#     BROWSER      chromium or firefox: that one alone
+#     BROWSER      chromium, firefox or webkit: that one alone
 #     ONLY         a word: only the tests whose names have it are run
 #     SHOTS        a folder: pictures are left there
 #     SEED         another seed for the random actions
@@ -50,6 +51,13 @@ if is_there firefox || is_there firefox-esr; then
     try_in firefox "$@"
 else
     echo 'not tried in Firefox, since there is none'
+fi
+# Debian's packages webkit2gtk-driver, libwebkit2gtk and xvfb have what this needs.
+if is_there WebKitWebDriver && is_there Xvfb && compgen -G '/usr/lib*/**/webkit*/MiniBrowser' >/dev/null; then
+    has_browser=yes
+    try_in webkit "$@"
+else
+    echo 'not tried in WebKit, since there is none that can be driven'
 fi
 [ -n "$has_browser" ] || not_tried 'browser'
 exit "$status"

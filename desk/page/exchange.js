@@ -9,12 +9,35 @@ import { isTextFile, takeInText } from "./texts.js";
 
 export const FILES = ".ms,.frames,.md,.txt,application/octet-stream";
 
-// Messages between tabs.
+// After how many milliseconds the store is looked at again.
+const LOOKS = 2000;
+
+// Messages between tabs. WebKit carries none between pages from the disk, so a tab in sight looks at the store too.
 export class Channel {
-  constructor(name) {
+  constructor(name, store) {
     this.hearers = new Set();
     this.line = new BroadcastChannel(name);
-    this.line.onmessage = ({ data }) => this.hearers.forEach((hear) => hear(data));
+    this.line.onmessage = ({ data }) => {
+      this.records = null;
+      this.tell(data);
+    };
+    setInterval(() => document.hidden || this.look(store).catch((why) => console.warn(why)), LOOKS);
+  }
+
+  tell(message) {
+    this.hearers.forEach((hear) => hear(message));
+  }
+
+  // Tells of the manuscripts that were kept or removed since the store was looked at last.
+  async look(store) {
+    const records = new Map((await store.records()).map((record) => [record.id, record]));
+    const before = this.records ?? records;
+    this.records = records;
+    for (const id of new Set([...before.keys(), ...records.keys()])) {
+      const { revision, circle } = records.get(id) ?? {};
+      const was = before.get(id);
+      if (was?.revision !== revision || was?.circle !== circle) this.tell({ id, circle, revision });
+    }
   }
 
   say(message) {
@@ -124,9 +147,11 @@ export class Together {
   }
 
   // Another tab saved a manuscript, or let it join a circle.
-  async heard({ id, circle }) {
-    const before = this.manuscript.record.circle;
-    if (id === this.manuscript.id) await this.manuscript.save();
+  async heard({ id, circle, revision }) {
+    const { id: own, record } = this.manuscript;
+    const before = record.circle;
+    if (id === own && revision === record.revision && circle === before) return;
+    if (id === own) await this.manuscript.save();
     else if (circle === before) this.want(id);
     if (this.manuscript.record.circle !== before) this.catchUp().catch((why) => this.editor.fail(why));
   }

@@ -4,6 +4,7 @@ import { spawn } from "node:child_process";
 import fs from "node:fs";
 import os from "node:os";
 import path from "node:path";
+import { ALT, AnyPage, CONTROL, pause } from "./pages.mjs";
 
 const NAMES = ["chromium", "chromium-browser", "google-chrome"];
 
@@ -12,8 +13,6 @@ export function chromium() {
   const paths = folders.flatMap((folder) => NAMES.map((name) => path.join(folder, name)));
   return paths.find((file) => fs.existsSync(file));
 }
-
-export const pause = (time) => new Promise((done) => setTimeout(done, time));
 
 // No browser outlives the tests.
 const started = new Set();
@@ -110,14 +109,9 @@ const KEYS = {
   End: { code: "End", windowsVirtualKeyCode: 35 },
 };
 
-export const ALT = 1;
-export const CONTROL = 2;
-export const SHIFT = 8;
-
-export class Page {
-  faults = [];
-
+class Page extends AnyPage {
   constructor(browser, session, target) {
+    super();
     Object.assign(this, { browser, session, target });
     browser.hear((method, params, from) => {
       if (from !== session) return;
@@ -159,15 +153,6 @@ export class Page {
     const { result, exceptionDetails: fault } = await this.send("Runtime.evaluate", asked);
     if (fault) throw new Error(fault.exception?.description ?? fault.text);
     return result.value;
-  }
-
-  // Waits until an expression holds.
-  async until(expression, most = 15000) {
-    for (const end = Date.now() + most; Date.now() < end; await pause(20)) {
-      if (await this.value(expression).catch(() => false)) return;
-    }
-    const shown = await this.value("document.body.innerText.slice(0, 600)").catch(String);
-    throw new Error(`not seen within ${most} ms: ${expression}, but ${JSON.stringify(shown)}`);
   }
 
   // Key events, as a keyboard makes them.
@@ -217,12 +202,7 @@ export class Page {
   }
 
   async click(selector) {
-    const box = await this.value(`(() => {
-      const found = document.querySelector(${JSON.stringify(selector)});
-      found.scrollIntoView({ block: "center" });
-      const { x, y, width, height } = found.getBoundingClientRect();
-      return { x: x + width / 2, y: y + height / 2 };
-    })()`);
+    const box = await this.middle(selector);
     const mouse = { ...box, button: "left", clickCount: 1 };
     await this.send("Input.dispatchMouseEvent", { type: "mousePressed", ...mouse });
     await this.send("Input.dispatchMouseEvent", { type: "mouseReleased", ...mouse });
@@ -248,30 +228,6 @@ export class Page {
     }
     await mouse("mouseReleased", to);
     await this.send("Input.setInterceptDrags", { enabled: false });
-  }
-
-  // Presses the button with these words, in the topmost dialog if there is one.
-  async pressButton(words) {
-    await this.value(`(() => {
-      const room = [...document.querySelectorAll("dialog[open]")].at(-1) ?? document;
-      const found = [...room.querySelectorAll("button")].find((each) => each.textContent === ${JSON.stringify(words)});
-      if (!found) throw new Error("no button " + ${JSON.stringify(words)});
-      found.click();
-    })()`);
-  }
-
-  // Drops files on the page, as { name, bytes }.
-  async drop(...files) {
-    const texts = files.map(({ name, bytes }) => ({ name, text: Buffer.from(bytes).toString("base64") }));
-    const given = JSON.stringify(texts);
-    await this.value(`(() => {
-      const dataTransfer = new DataTransfer();
-      for (const { name, text } of ${given}) {
-        const bytes = Uint8Array.from(atob(text), (letter) => letter.charCodeAt(0));
-        dataTransfer.items.add(new File([bytes], name));
-      }
-      document.body.dispatchEvent(new DragEvent("drop", { dataTransfer, bubbles: true, cancelable: true }));
-    })()`);
   }
 
   // Shows the tab before others.

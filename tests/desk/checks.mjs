@@ -2,10 +2,12 @@
 
 import fs from "node:fs";
 import { pathToFileURL } from "node:url";
-import { Browser as Chromium, pause } from "./browser.mjs";
-import { Firefox, Unable } from "./firefox.mjs";
+import { Browser as Chromium } from "./browser.mjs";
+import { Firefox } from "./firefox.mjs";
+import { Unable, pause } from "./pages.mjs";
+import { WebKit } from "./webkit.mjs";
 
-export const Browser = process.env.BROWSER === "firefox" ? Firefox : Chromium;
+export const Browser = { firefox: Firefox, webkit: WebKit }[process.env.BROWSER] ?? Chromium;
 
 let tried = 0;
 let failed = 0;

@@ -2,7 +2,7 @@
 
 import fs from "node:fs";
 import path from "node:path";
-import { ALT, CONTROL, SHIFT } from "./browser.mjs";
+import { ALT, CONTROL, SHIFT } from "./pages.mjs";
 import {
   NOTICES, SAVED, TEXTS, add, arranged, authors, begin, check, group, pause, picture, same, sample, saved, select,
 } from "./checks.mjs";

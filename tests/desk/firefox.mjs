@@ -5,11 +5,9 @@ import { spawn } from "node:child_process";
 import fs from "node:fs";
 import os from "node:os";
 import path from "node:path";
-import { ALT, CONTROL, SHIFT, pause } from "./browser.mjs";
+import { DriverPage, Unable, pause } from "./pages.mjs";
 
 const NAMES = ["firefox", "firefox-esr"];
-
-export class Unable extends Error {}
 
 // After how long an answer is not waited for any more.
 const LATE = 90000;
@@ -126,18 +124,11 @@ export class Firefox {
   }
 }
 
-// The keys that have no letter, as WebDriver writes them.
-const KEYS = {
-  Enter: "\uE007", Tab: "\uE004", Escape: "\uE00C", Backspace: "\uE003", ArrowLeft: "\uE012", ArrowUp: "\uE013",
-  ArrowRight: "\uE014", ArrowDown: "\uE015", Home: "\uE011", End: "\uE010",
-};
-
-const HELD = [[SHIFT, "\uE008"], [CONTROL, "\uE009"], [ALT, "\uE00A"]];
-
-class FirefoxPage {
-  faults = [];
+class FirefoxPage extends DriverPage {
+  name = "Firefox";
 
   constructor(browser, context) {
+    super();
     Object.assign(this, { browser, context });
     browser.hearers.push((method, { type, level, text, source }) => {
       const isFault = source?.context === context && type === "javascript" && level === "error";
@@ -151,9 +142,7 @@ class FirefoxPage {
 
   // Chromium's words that have one of WebDriver in their place.
   async send(method, params) {
-    if (method === "Input.insertText") {
-      return this.value(`document.execCommand("insertText", false, ${JSON.stringify(params.text)})`);
-    }
+    if (method === "Input.insertText") return this.insert(params.text);
     if (method === "Page.addScriptToEvaluateOnNewDocument") {
       const functionDeclaration = `() => { ${params.source} }`;
       return this.browser.ask("script.addPreloadScript", { functionDeclaration, contexts: [this.context] });
@@ -173,9 +162,6 @@ class FirefoxPage {
     return this.ask("browsingContext.setViewport", { viewport: { width, height } });
   }
 
-  // Firefox is tried in light colours.
-  colours() {}
-
   async value(expression) {
     const told = `(async () => JSON.stringify({ value: await (0, eval)(${JSON.stringify(expression)}) }))()`;
     const { result, exceptionDetails: fault } = await this.browser.ask("script.evaluate",
@@ -184,84 +170,8 @@ class FirefoxPage {
     return JSON.parse(result.value).value;
   }
 
-  async until(expression, most = 20000) {
-    for (const end = Date.now() + most; Date.now() < end; await pause(20)) {
-      // What is asked while the page is loaded anew may not be answered.
-      if (await Promise.race([this.value(expression).catch(() => false), pause(3000)])) return;
-    }
-    const shown = await this.value("document.body.innerText.slice(0, 600)").catch(String);
-    throw new Error(`not seen within ${most} ms: ${expression}, but ${JSON.stringify(shown)}`);
-  }
-
-  keys(actions) {
-    return this.ask("input.performActions", { actions: [{ type: "key", id: "keys", actions }] });
-  }
-
-  async type(text) {
-    for (const letter of text) {
-      const value = letter === "\n" ? KEYS.Enter : letter;
-      await this.keys([{ type: "keyDown", value }, { type: "keyUp", value }]);
-    }
-  }
-
-  async press(key, modifiers = 0) {
-    const held = HELD.filter(([bit]) => modifiers & bit).map(([, value]) => value);
-    const value = KEYS[key] ?? key;
-    await this.keys([
-      ...held.map((each) => ({ type: "keyDown", value: each })), { type: "keyDown", value }, { type: "keyUp", value },
-      ...held.map((each) => ({ type: "keyUp", value: each })),
-    ]);
-  }
-
-  // Pastes a text where the caret is. Without a window there is no clipboard: the page is told of a paste as Firefox
-  // does, and what it lets through is put in.
-  paste(text) {
-    return this.value(`(() => {
-      const given = { inputType: "insertFromPaste", data: ${JSON.stringify(text)}, bubbles: true, cancelable: true };
-      const goes = document.activeElement.dispatchEvent(new InputEvent("beforeinput", given));
-      if (goes) document.execCommand("insertText", false, given.data);
-    })()`);
-  }
-
-  dropText() {
-    throw new Unable("Firefox is not told to drop a text");
-  }
-
-  drag() {
-    throw new Unable("Firefox is not told to drag");
-  }
-
-  async click(selector) {
-    const { x, y } = await this.value(`(() => {
-      const found = document.querySelector(${JSON.stringify(selector)});
-      found.scrollIntoView({ block: "center" });
-      const { x, y, width, height } = found.getBoundingClientRect();
-      return { x: Math.round(x + width / 2), y: Math.round(y + height / 2) };
-    })()`);
-    const press = ["pointerDown", "pointerUp"].map((type) => ({ type, button: 0 }));
-    const actions = [{ type: "pointerMove", x, y }, ...press];
-    await this.ask("input.performActions", { actions: [{ type: "pointer", id: "mouse", actions }] });
-  }
-
-  async pressButton(words) {
-    await this.value(`(() => {
-      const room = [...document.querySelectorAll("dialog[open]")].at(-1) ?? document;
-      const found = [...room.querySelectorAll("button")].find((each) => each.textContent === ${JSON.stringify(words)});
-      if (!found) throw new Error("no button " + ${JSON.stringify(words)});
-      found.click();
-    })()`);
-  }
-
-  async drop(...files) {
-    const texts = files.map(({ name, bytes }) => ({ name, text: Buffer.from(bytes).toString("base64") }));
-    await this.value(`(() => {
-      const dataTransfer = new DataTransfer();
-      for (const { name, text } of ${JSON.stringify(texts)}) {
-        const bytes = Uint8Array.from(atob(text), (letter) => letter.charCodeAt(0));
-        dataTransfer.items.add(new File([bytes], name));
-      }
-      document.body.dispatchEvent(new DragEvent("drop", { dataTransfer, bubbles: true, cancelable: true }));
-    })()`);
+  act(actions) {
+    return this.ask("input.performActions", { actions });
   }
 
   // Shows the tab before others.

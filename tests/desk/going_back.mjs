@@ -1,6 +1,6 @@
 // Undo and redo, earlier moments, and find and replace.
 
-import { ALT, CONTROL, SHIFT } from "./browser.mjs";
+import { ALT, CONTROL, SHIFT } from "./pages.mjs";
 import {
   NOTICES, SAVED, TEXTS, WRITES, add, arranged, begin, check, group, pause, picture, same, sample, saved, select,
 } from "./checks.mjs";

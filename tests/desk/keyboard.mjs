@@ -1,6 +1,6 @@
 // The page by keyboard alone, and the names that a screen reader is given.
 
-import { SHIFT } from "./browser.mjs";
+import { SHIFT } from "./pages.mjs";
 import { WRITES, add, arranged, begin, check, group, pause, picture, same, saved } from "./checks.mjs";
 
 const FOCUSED = `(() => {

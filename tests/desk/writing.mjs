@@ -2,7 +2,7 @@
 
 import fs from "node:fs";
 import path from "node:path";
-import { ALT, CONTROL, SHIFT } from "./browser.mjs";
+import { ALT, CONTROL, SHIFT } from "./pages.mjs";
 import {
   Browser, NOTICES, SAVED, TEXTS, WRITES, add, address, arranged, authors, begin, check, group, list, pause, picture,
   same, saved, select,
