@@ -146,31 +146,37 @@ for count in 25000 50000 100000; do
 done
 
 # A certificate of 32,500 steps. Each step compares two letters by their right origins, which are those that the next one
-# compares. The left origins take turns, so that the chains are short.
+# compares. The left origins take turns, so that the chains are short; in front of them is a chain of so many letters.
 crossed() {
-    LC_ALL=C awk -v pairs="$1" '
+    LC_ALL=C awk -v pairs="$1" -v chain="$2" '
         function bytes(number) { printf "%c%c%c%c", number / 16777216, number / 65536 % 256, number / 256 % 256, number % 256 }
         function origin(replica, at) { if (replica) { printf "\1"; bytes(replica); bytes(at) } else printf "%c", 0 }
-        function scalar(replica, at, left, right, name) {
-            printf "\2"; bytes(replica); bytes(at); bytes(9); bytes(0); origin(left, 0); origin(right, at - 1)
+        function scalar(replica, at, left, from, right, name) {
+            printf "\2"; bytes(replica); bytes(at); bytes(9); bytes(0); origin(left, from); origin(right, at - 1)
             printf "%c%c%s", 0, 0, name
         }
         BEGIN {
-            scalar(7, 0, 0, 0, "z")
+            for (at = 0; at < chain; at++) scalar(8, at, at ? 8 : 0, at - 1, 0, "c")
+            first = chain ? 8 : 0
+            scalar(7, 0, first, chain - 1, 0, "z")
             for (at = 0; at < pairs; at++) {
-                left = at % 2 ? 0 : 7
-                scalar(1, at, left, at ? 2 : 0, at == pairs - 1 ? "x" : "a")
-                scalar(2, at, left, at ? 1 : 0, at == pairs - 1 ? "y" : "a")
+                left = at % 2 ? first : 7
+                from = at % 2 ? chain - 1 : 0
+                scalar(1, at, left, from, at ? 2 : 0, at == pairs - 1 ? "x" : "a")
+                scalar(2, at, left, from, at ? 1 : 0, at == pairs - 1 ? "y" : "a")
             }
         }'
 }
-{ printf "$section"; crossed 32500; } >"$work/frames"
-"$program" new "$work/6" 6 16 </dev/null
-"$program" take "$work/6" <"$work/frames" 2>/dev/null
-places=$("$program" print "$work/6" </dev/null | LC_ALL=C awk 'NR == 2 { print index($0, "x") - 1, index($0, "y") - 1 }')
-(ulimit -t 5 && "$program" why "$work/6" 1 $places) </dev/null >"$work/certificate" 2>"$work/notes"
-look 'the steps of a long certificate' 32500 "$(grep -c claim "$work/certificate")"
-look 'and it is valid' yes "$( (ulimit -t 5 && "$program" check "$work/6") <"$work/certificate" 2>&1)"
+for chain in 0 32500; do
+    rm -f "$work/6"
+    { printf "$section"; crossed 32500 "$chain"; } >"$work/frames"
+    "$program" new "$work/6" 6 16 </dev/null
+    "$program" take "$work/6" <"$work/frames" 2>/dev/null
+    places=$("$program" print "$work/6" </dev/null | LC_ALL=C awk 'NR == 2 { print index($0, "x") - 1, index($0, "y") - 1 }')
+    (ulimit -t 5 && "$program" why "$work/6" 1 $places) </dev/null >"$work/certificate" 2>"$work/notes"
+    look "the steps of a long certificate behind $chain letters" 32500 "$(grep -c claim "$work/certificate")"
+    look 'and it is valid' yes "$( (ulimit -t 5 && "$program" check "$work/6") <"$work/certificate" 2>&1)"
+done
 
 # The frames of 100,000 letters, each directly behind the start or one that came before it, and the text that they make.
 # Two authors take turns: so no letter joins the run of another, but for a few at random, and each is a node of the tree.

@@ -38,7 +38,7 @@ no_position (op ∷ h) x e =
     ]
 
 -- an operation's identifier was not held before it came
-new_id : (h : List Op) (op : Op) (x : Identifier) → Lawful (op ∷ h) → is_own x op ≡ true → holds h x ≡ false
+pub new_id : (h : List Op) (op : Op) (x : Identifier) → Lawful (op ∷ h) → is_own x op ≡ true → holds h x ≡ false
 new_id h op x w own = ap (id_held h) (sym (own_id op x own)) ∙ (when_ready h op w.0).fresh
 
 -- all operations

@@ -6,3 +6,4 @@ pub mod Positions
 pub mod Chains
 pub mod Checks
 pub mod Making
+pub mod Parting

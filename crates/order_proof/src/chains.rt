@@ -1,7 +1,7 @@
 //! Chains of origins, each member by one look-up.
 
 ghost use Rattle.std.specs.Prelude.{◌≡◌, reverse, IfOk};
-ghost use Rattle.origin_model.specs.order.Order.{lefts, rights};
+ghost use Rattle.origin_model.specs.order.Order.{rights};
 ghost use Rattle.order_proof.specs.Chains.{beside_up, chain_eq, ends_with};
 ghost use Rattle.order_proof.specs.Chains.{is_down as is_down_in, is_rights as is_rights_in};
 ghost use Rattle.order_proof.specs.Positions.{history_at};
@@ -11,43 +11,6 @@ use crate::positions::{Positions, find};
 use fugue_ids::ElementId;
 use origin_model::{left_of, right_of};
 use std::alloc::{AllocError, Global};
-
-/// The chain of left origins from x up.
-fn climb_left<P: Positions>(
-    alloc: Global,
-    held: &P,
-    end: usize,
-    x: ElementId,
-) -> Result<Vec<ElementId>, AllocError>
-    ensures { IfOk result (λ found. reverse found.items ≡ lefts (history_at (P.operations held.now) end) x) }
-{
-    let mut found = Vec::new(alloc);
-    let mut current = x;
-    let mut below = end;
-    'scan: while let Some((at, op)) = find(held, below, current) {
-        found.push(current)?;
-        below = at;
-        match left_of(op) {
-            Some(next) => current = next,
-            None => return Ok(found),
-        }
-    }
-    Ok(found)
-}
-
-/// The chain of left origins down to x, among the first `end` operations.
-pub fn lefts_of<P: Positions>(
-    alloc: Global,
-    held: &P,
-    end: usize,
-    x: ElementId,
-) -> Result<Vec<ElementId>, AllocError>
-    ensures { IfOk result (λ found. found.items ≡ lefts (history_at (P.operations held.now) end) x) }
-{
-    let mut found = climb_left(alloc, held, end, x)?;
-    found.reverse();
-    Ok(found)
-}
 
 /// The chain of right origins from x up, as long as elements have this left origin.
 fn climb<P: Positions>(

@@ -9,8 +9,9 @@ ghost use Rattle.order_proof.specs.Making.{reason_at as reason_at_in, reason_bet
 ghost use Rattle.order_proof.specs.Positions.{history_at};
 ghost use Rattle.order_proof.specs.Making.{certificate_made, certificate_made_at, rests_on, certificate};
 
-use crate::chains::{lefts_of, rights_of};
+use crate::chains::rights_of;
 use crate::look_ups::right_at;
+use crate::parting::downs_of;
 use crate::positions::Positions;
 use crate::{Chain, Proof, Reason, Step};
 use fugue_ids::{ElementId, NoMemory};
@@ -158,18 +159,8 @@ fn make_step<P: Positions>(
 ) -> Result<Step, AllocError>
     ensures { IfOk result (λ step. step ≡ certificate_made (history_at (P.operations held.now) end) x y) }
 {
-    let xs = lefts_of(alloc, held, end, x)?;
-    let ys = lefts_of(alloc, held, end, y)?;
-    let count = common_count(xs.as_slice(), ys.as_slice());
-    step_at(
-        alloc,
-        held,
-        end,
-        x,
-        y,
-        behind(xs.as_slice(), count),
-        behind(ys.as_slice(), count),
-    )
+    let (down_x, down_y) = downs_of(alloc, held, end, x, y)?;
+    step_at(alloc, held, end, x, y, down_x.as_slice(), down_y.as_slice())
 }
 
 fn claim_below(step: &Step) -> Option<(ElementId, ElementId)>

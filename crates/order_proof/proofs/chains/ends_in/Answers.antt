@@ -1,5 +1,4 @@
-use Rattle.std.proofs.Common.{ap, arith, false, refl, sym, ◌∙◌}
-use Rattle.order_proof.specs.Positions.{history_at}
+use Rattle.std.proofs.Common.{arith, refl, sym, ◌∙◌}
 use Rattle.order_proof.proofs.BesideLemmas.{not_false, not_true}
 use Rattle.order_proof.proofs.WalkLemmas.{walk_last, walk_misses, walk_on, walk_wrong}
 use Rattle.order_proof.proofs.chains.ends_in.Goals as goal
