@@ -24,14 +24,13 @@ is_there() {
     command -v "$@" >/dev/null
 }
 
-# Tries the page in a browser, if it is wanted. Node 20 knows WebSocket, by which Firefox is driven, by a flag alone.
+# Tries the page in a browser, if it is wanted.
 try_in() {
-    local browser=$1 flags=(--no-warnings)
+    local browser=$1
     shift
     [ "${BROWSER:-$browser}" = "$browser" ] || return 0
-    node -e 'process.exit(globalThis.WebSocket ? 0 : 1)' || flags+=(--experimental-websocket)
     echo "in $browser"
-    BROWSER=$browser DESK=$(realpath "$page") node "${flags[@]}" tests/desk/desk.mjs "$@" || status=1
+    BROWSER=$browser DESK=$(realpath "$page") node --no-warnings tests/desk/desk.mjs "$@" || status=1
 }
 
 is_there node || not_tried 'node'

@@ -6,6 +6,7 @@ import fs from "node:fs";
 import os from "node:os";
 import path from "node:path";
 import { DriverPage, Unable, pause } from "./pages.mjs";
+import { Socket } from "./socket.mjs";
 
 const NAMES = ["firefox", "firefox-esr"];
 
@@ -61,9 +62,8 @@ export class Firefox {
       });
       this.child.on("exit", () => failed(new Error(`Firefox ended: ${told}`)));
     });
-    this.socket = new WebSocket(`${address}/session`);
-    this.socket.onmessage = ({ data }) => this.#heard(JSON.parse(data));
-    await new Promise((done, failed) => Object.assign(this.socket, { onopen: done, onerror: failed }));
+    this.socket = new Socket(`${address}/session`, (message) => this.#heard(JSON.parse(message)));
+    await this.socket.opened;
     await this.#ask("session.new", { capabilities: {} });
     await this.#ask("session.subscribe", { events: ["log.entryAdded"] });
   }
