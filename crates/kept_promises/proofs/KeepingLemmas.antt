@@ -18,7 +18,7 @@ use Rattle.command_kinds.proofs.CrashLemmas.{safe_at_rest}
 use Rattle.command_kinds.proofs.LawfulLemmas.{held_lawful}
 use Rattle.command_kinds.specs.Files.{FileHolds, HasOps, Header, new_file_header}
 use Rattle.manuscript_cli.specs.Runs.{AllBrought, CommandRun, FollowEachOther, IsMeanwhile, LeadsFrom, StandsBehind}
-use Rattle.kept_promises.proofs.RunsLemmas.{EachHasAll, all_in}
+use Rattle.manuscript_cli.proofs.RunsLemmas.{EachHasAll, all_in}
 use Rattle.kept_promises.specs.Keeping.{Became, FilesKeepOperations}
 use Rattle.kept_promises.proofs.FewLemmas.{count, few_held}
 

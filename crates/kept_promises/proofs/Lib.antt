@@ -1,7 +1,6 @@
 pub mod FewLemmas
 pub mod WithinLemmas
 pub mod CameLemmas
-pub mod RunsLemmas
 pub mod KeepingLemmas
 pub mod NamedLemmas
 pub mod ViewLemmas

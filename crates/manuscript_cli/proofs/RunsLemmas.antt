@@ -36,7 +36,7 @@ left_since old new P leaves first image left =
     ]
 
 -- one of the lists that a safe file may have
-abbrev IsOneOf : (ops more : List Op) → List Op → Type 0
+abbrev pub IsOneOf : (ops more : List Op) → List Op → Type 0
 IsOneOf ops more had = (had ≡ ops) ⊎ (had ≡ ops ++ more)
 
 same_ops : (header : Header) (a b : List Op) (bytes : List ℕ) → HasOps header a bytes → HasOps header b bytes → a ≡ b
@@ -220,16 +220,16 @@ run_next header ops more run s t safe leads =
     next header run ops more went.0 went.1 t leads.began leads.stood went.2 run.crash refl leads.behind
 
 -- whatever is left of a safe file behind some runs has one of its lists, and then what they brought
-record HasAll (header : Header) (runs : List CommandRun) (ops more : List Op) (image : List ℕ) : Type 0 where
-  base : List Op
-  one : IsOneOf ops more base
-  brought : List Op
-  all : AllBrought runs brought
-  has : HasOps header (base ++ brought) image
+pub record HasAll (header : Header) (runs : List CommandRun) (ops more : List Op) (image : List ℕ) : Type 0 where
+  pub base : List Op
+  pub one : IsOneOf ops more base
+  pub brought : List Op
+  pub all : AllBrought runs brought
+  pub has : HasOps header (base ++ brought) image
 
-record EachHasAll (header : Header) (runs : List CommandRun) (ops more : List Op) (s : State) : Type 0 where
-  honest : IsHonest s
-  leaves : (image : List ℕ) → IsCrashImage s image → HasAll header runs ops more image
+pub record EachHasAll (header : Header) (runs : List CommandRun) (ops more : List Op) (s : State) : Type 0 where
+  pub honest : IsHonest s
+  pub leaves : (image : List ℕ) → IsCrashImage s image → HasAll header runs ops more image
 
 no_more_runs : (header : Header) (ops more : List Op) (image : List ℕ) → HasOpsOr header ops more image → HasAll header [] ops more image
 no_more_runs header ops more image (inl has) = record { base = ops; one = inl refl; brought = []; all = refl; has = subst (λ l. HasOps header l image) (sym (append-nil ops)) has }
@@ -246,7 +246,7 @@ one_run_more header run runs ops more s next image rest =
       has = subst (λ l. HasOps header l image) (ap (λ (l : List Op). l ++ rest.brought) brings.4 ∙ append_assoc brings.0 brings.2 rest.brought) rest.has;
     }
 
-all_in : (header : Header) (runs : List CommandRun) (ops more : List Op) (s t : State) → IsSafe header ops more s → FollowEachOther runs s t → EachHasAll header runs ops more t
+pub all_in : (header : Header) (runs : List CommandRun) (ops more : List Op) (s t : State) → IsSafe header ops more s → FollowEachOther runs s t → EachHasAll header runs ops more t
 all_in header [] ops more s t safe same =
     let stays = subst (IsSafe header ops more) (sym same) safe in
     record { honest = stays.honest; leaves = λ image is. no_more_runs header ops more image (stays.leaves image is) }
