@@ -21,6 +21,8 @@ import reader
 # Bytes at which some field of a frame begins to be wrong, or just is not.
 TELLING = [0, 1, 2, 3, 4, 5, 6, 10, 13, 0x10, 0x11, 0xD7, 0xD8, 0xDF, 0xE0, 0xC1, 0xC3, 0xED, 0xF4, 0xF5, 0xFF]
 TITLES = ["T", "Sea", "\u00e9", "\U0001f3a9x", "a b", "t" * 480]
+# The commands that report on a file, and need no other word.
+REPORTS = ["print", "arrange", "list", "comments", "remarks", "authors", "versions", "moments", "send"]
 SECTION = bytes.fromhex("01 00000001 00000000 00 00 0001 54")
 
 
@@ -127,13 +129,13 @@ class Odd:
         return file[: self.random.randrange(len(file) + 1)] if self.random.random() < 0.1 else file
 
 
-def read(command, data):
+def read(command, data, *words):
     """What the reader prints and notes, and its status."""
     output = io.TextIOWrapper(io.BytesIO(), encoding="utf-8", newline="")
     notes = io.StringIO()
     with redirect_stdout(output), redirect_stderr(notes):
         try:
-            status = reader.COMMANDS[command](data, *(["one"] if command == "view" else []))
+            status = reader.COMMANDS[command](data, *words)
         except reader.Refused as refused:
             print(refused, file=sys.stderr)
             status = refused.status
@@ -156,20 +158,16 @@ def main(program, seed, count):
         for _ in range(count):
             stream, data = odd.stream(), odd.file()
             file.write_bytes(data)
-            tries = [
-                ("show", stream, run(program, ["show"], stream)),
-                ("print", data, run(program, ["print", str(file)])),
-                ("arrange", data, run(program, ["arrange", str(file)])),
-                ("comments", data, run(program, ["comments", str(file)])),
-                ("versions", data, run(program, ["versions", str(file)])),
-                ("view", data, run(program, ["view", str(file), "one"])),
-                ("send", data, run(program, ["send", str(file)])),
-            ]
-            for command, given, seen in tries:
+            moment = str(odd.random.randrange(6))
+            of_file = [*((command,) for command in REPORTS), ("view", "one"), ("past", moment), ("changes", moment)]
+            tries = [(["show"], stream, run(program, ["show"], stream))]
+            tries += [([name, *words], data, run(program, [name, str(file), *words])) for name, *words in of_file]
+            for (command, *words), given, seen in tries:
                 statuses[command, seen[2]] = statuses.get((command, seen[2]), 0) + 1
-                if seen != read(command, given):
+                wanted = read(command, given, *words)
+                if seen != wanted:
                     wrong += 1
-                    print(f"{command} of {given.hex()}: {seen} and not {read(command, given)}")
+                    print(f"{command} {' '.join(words)} of {given.hex()}: {seen} and not {wanted}")
     ends = ", ".join(f"{command} with {status} {times}" for (command, status), times in sorted(statuses.items()))
     print(f"{count} odd streams and files: {ends}; {wrong} read differently")
     return 1 if wrong else 0
