@@ -17,11 +17,10 @@ export class Channel {
   constructor(name, store) {
     this.hearers = new Set();
     this.line = new BroadcastChannel(name);
-    this.line.onmessage = ({ data }) => {
-      this.records = null;
-      this.tell(data);
-    };
-    setInterval(() => document.hidden || this.look(store).catch((why) => console.warn(why)), LOOKS);
+    this.line.onmessage = ({ data }) => this.tell(data);
+    const look = () => this.look(store).catch((why) => console.warn(why));
+    look();
+    setInterval(() => document.hidden || look(), LOOKS);
   }
 
   tell(message) {

@@ -151,6 +151,9 @@ export class WebKit {
 class WebKitPage extends DriverPage {
   name = "WebKit";
 
+  // Its display has no graphics processor, and it is told not to use one: what a picture takes says nothing of others.
+  isDrawnSlowly = true;
+
   constructor(browser, window) {
     super();
     Object.assign(this, { browser, window });
