@@ -1,0 +1,6 @@
+pub mod ListLemmas
+pub mod StayLemmas
+pub mod PassageLemmas
+pub mod MergeLemmas
+pub mod DraftLemmas
+pub mod LawLemmas

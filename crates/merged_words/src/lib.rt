@@ -1,0 +1,6 @@
+//! What two authors' drafts of one manuscript give together.
+#![tactic(auto)]
+
+mod laws;
+
+pub use laws::{drafts_merge, no_third_word};
