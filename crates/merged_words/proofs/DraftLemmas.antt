@@ -1,12 +1,12 @@
 -- One author's draft of a section, in a history that has another author's operations too.
-use Rattle.std.proofs.Common.{List, [], ap, arith, false, get_or, inl, inr, length, not, refl, subst, sym, take, true, ℕ, ◌++◌, ◌<◌, ◌≤◌, ◌∙◌, ◌∷◌, ◌≡◌, ◌⊎◌}
+use Rattle.std.proofs.Common.{List, [], ap, arith, false, get_or, inl, inr, length, not, refl, subst, sym, true, ℕ, ◌++◌, ◌<◌, ◌≤◌, ◌∙◌, ◌∷◌, ◌≡◌, ◌⊎◌}
 use Rattle.std.specs.Prelude.{Option, Some, map}
 use Rattle.std.specs.List.{AllPairs, Contains, flat_map}
 use Rattle.std.proofs.lemmas.Bool.{cases_order, false_from_ne_true, false≢true, true≢false}
 use Rattle.std.proofs.lemmas.List.{length-append, length-map}
 use Rattle.std.proofs.lemmas.List.Concat.{flat_map-cons}
 use Rattle.std.proofs.lemmas.List.Kept.{AllPairs-filter}
-use Rattle.std.proofs.Math.Seq.{get_or-append_seam, take-append_seam}
+use Rattle.std.proofs.Math.Seq.{get_or-append_seam}
 use Rattle.fugue_ids.specs.Identifiers.{Identifier}
 use Rattle.fugue_ids.specs.Listed.{last_before}
 use Rattle.fugue_ids.specs.declared.op.Op.{Op}
@@ -15,6 +15,7 @@ use Rattle.fugue_ids.proofs.IdentifierLemmas.{not_some}
 use Rattle.fugue_ids.proofs.ListLemmas.{contains_filter, contains_filter_from, contains_here, contains_middle, contains_none, contains_there}
 use Rattle.origin_model.specs.declared.operations.Place.{Place}
 use Rattle.origin_model.specs.declared.operations.Place.TheVariants.{Section as within}
+use Rattle.origin_model.specs.edits.Edits.{in_front, left_for}
 use Rattle.origin_model.specs.edits.Passages.{Relation}
 use Rattle.origin_model.specs.operations.History.{element_of, holder, holds}
 use Rattle.origin_model.specs.operations.Verdict.{Lawful}
@@ -64,6 +65,12 @@ module _ (s : Identifier) (part whole : List Op) (w : Lawful whole) (f : IsPartO
 
   pub text_is : Lawful part → text part s ≡ map (scalar whole) (shown (within s) part)
   text_is v = scalars_are (shown (within s) part) (λ x m. (shown_in (within s) part v x m).0)
+
+-- what is in front of a position is the last of those in front
+last_in_front : (front back : List Identifier) → in_front (front ++ back) (length front) ≡ last_before front
+last_in_front [] back = refl
+last_in_front (x ∷ []) back = refl
+last_in_front (x ∷ y ∷ xs) back = last_in_front (y ∷ xs) back
 
 -- a list in a strict order has each member at one position
 at_once : (R : Relation) → ((x : Identifier) → R x x ≡ false) → (xs : List Identifier) → AllPairs (λ x y. R x y ≡ true) xs → (z : Identifier) (i j : ℕ) → i < length xs → j < length xs
@@ -125,7 +132,7 @@ module _ (s : Identifier) (base own other whole : List Op) (u : Lawful base) (v 
     part = c.first;
     each = each i;
     ordered = comes_ordered base S T 0 N d.hunks d.stays (part_shown_ordered own d.lawful c.first) i;
-    forward = forward_of (last_before (take i S)) (come i) (d.put i);
+    forward = forward_of (left_for p base i) (come i) (d.put i);
     apart = apart i;
   }
     where
@@ -137,17 +144,17 @@ module _ (s : Identifier) (base own other whole : List Op) (u : Lawful base) (v 
   pub come_stands : (front back : List Identifier) → S ≡ front ++ back → (x : Identifier) → Contains (come (length front)) x → StandsAt R front back x
   come_stands front back e x m = by_list (come (length front)) (is_own (length front)) (λ z k. (come_in (length front) z k).1) (d.put (length front)) x m
     where
-      in_front : last_before (take (length front) S) ≡ last_before front
-      in_front = ap (λ l. last_before (take (length front) l)) e ∙ ap last_before (take-append_seam front back)
+      before_it : left_for p base (length front) ≡ last_before front
+      before_it = ap (λ l. in_front l (length front)) e ∙ last_in_front front back
 
-      by_list : (xs : List Identifier) → IsOwn p whole own other xs → ((z : Identifier) → Contains xs z → holds base z ≡ false) → IsPutInOneGo p own (last_before (take (length front) S)) xs
+      by_list : (xs : List Identifier) → IsOwn p whole own other xs → ((z : Identifier) → Contains xs z → holds base z ≡ false) → IsPutInOneGo p own (left_for p base (length front)) xs
           → (x : Identifier) → Contains xs x → StandsAt R front back x
       by_list [] o n g x m = absurd (contains_none x m)
       by_list (y ∷ ys) o n g x m =
           stands p whole c.lawful own d.lawful c.first y ys o.each o.ordered o.forward base u d.part base_whole front back
           (subst (AllPairs T) e (part_shown_ordered base u base_whole))
           (λ z k. (shown_in p base u z (subst (λ l. Contains l z) (sym e) k)).0) n
-          (g.0.0, g.0.1, g.0.2, g.0.3 ∙ in_front) x m
+          (g.0.0, g.0.1, g.0.2, g.0.3 ∙ before_it) x m
 
   -- what is hidden in the whole is hidden by one of both
   pub hidden_from : (z : Identifier) → is_hidden whole z ≡ true → (is_hidden own z ≡ true) ⊎ (is_hidden other z ≡ true)

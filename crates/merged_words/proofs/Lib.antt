@@ -4,3 +4,4 @@ pub mod PassageLemmas
 pub mod MergeLemmas
 pub mod DraftLemmas
 pub mod LawLemmas
+pub mod TypedLemmas

@@ -1,12 +1,16 @@
 -- What two authors' drafts of one manuscript give together. Each history is newest first.
-use Rattle.std.specs.Prelude.{◌≡◌, ◌⊎◌, ℕ, ◌+◌, All, Option, true, List, [], ◌∷◌, ◌++◌, if◌then◌else◌, nat_eq, take}
+use Rattle.std.specs.Prelude.{◌≡◌, ◌⊎◌, ℕ, ◌+◌, ◌≤◌, All, Option, true, List, [], ◌∷◌, ◌++◌, Some, if◌then◌else◌, nat_eq, length}
 use Rattle.std.specs.List.{Contains}
 use Rattle.fugue_ids.specs.Identifiers.{Identifier}
 use Rattle.fugue_ids.specs.Listed.{last_before}
 use Rattle.fugue_ids.specs.declared.op.Op.{Op}
 use Rattle.origin_model.specs.declared.operations.Place.{Place}
 use Rattle.origin_model.specs.declared.operations.Place.TheVariants.{Section as within}
+use Rattle.origin_model.specs.edits.Edits.{Put, left_for}
+use Rattle.origin_model.specs.edits.Effect.{IsMade}
 use Rattle.origin_model.specs.edits.Passages.{GoesForward}
+use Rattle.origin_model.specs.edits.Refusal.{put_ids, section_shown}
+use Rattle.origin_model.specs.edits.State.{State}
 use Rattle.origin_model.specs.operations.History.{has_op, holds}
 use Rattle.origin_model.specs.operations.Verdict.{Lawful}
 use Rattle.origin_model.specs.order.Laws.{IsPartOf}
@@ -35,6 +39,13 @@ abbrev pub IsPutInOneGo : Place → List Op → Option Identifier → List Ident
 IsPutInOneGo p h left [] = Unit {0}
 IsPutInOneGo p h left (x ∷ xs) = IsDirectlyBehind p h left x × GoesForward p h x xs
 
+-- what an editor types at one place of a section is put in one go behind the shown element in front of it
+abbrev pub TypedInOneGo : Type 0
+TypedInOneGo =
+    (old new : State) (k at n : ℕ) (scalars : List ℕ) (section : Identifier) → Lawful old.held.history → section_shown old k ≡ Some section
+    → at ≤ length (shown (within section) old.held.history) → IsMade old new (Put k at scalars) n
+    → IsPutInOneGo (within section) new.held.history (left_for (within section) old.held.history at) (put_ids old scalars)
+
 -- An author's draft of a section: by its hunks the old text becomes the new one, what stands between them stays, and what
 -- comes in the place of each is put in one go behind the element in front of it.
 pub record IsDraft (section : Identifier) (base own : List Op) : Type 0 where
@@ -44,7 +55,7 @@ pub record IsDraft (section : Identifier) (base own : List Op) : Type 0 where
   pub transforms : Transforms nat_eq (text base section) (text own section) hunks
   pub stays : StayBetween base 0 (shown (within section) base) (shown (within section) own) hunks
   pub put : (i : ℕ)
-      → IsPutInOneGo (within section) own (last_before (take i (shown (within section) base)))
+      → IsPutInOneGo (within section) own (left_for (within section) base i)
       (comes_at base 0 (shown (within section) base) (shown (within section) own) hunks stays i)
 
 -- a history has all operations of two authors and no others, and no element is of both but those of the base

@@ -3,4 +3,4 @@
 
 mod laws;
 
-pub use laws::{drafts_merge, no_third_word};
+pub use laws::{drafts_merge, no_third_word, typed_in_one_go};
