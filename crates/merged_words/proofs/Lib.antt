@@ -5,3 +5,4 @@ pub mod MergeLemmas
 pub mod DraftLemmas
 pub mod LawLemmas
 pub mod TypedLemmas
+mod Examples
