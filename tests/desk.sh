@@ -24,6 +24,15 @@ is_there() {
     command -v "$@" >/dev/null
 }
 
+# The folders are those of miniBrowser in tests/desk/webkit.mjs.
+has_mini_browser() {
+    local folder
+    for folder in /usr/lib /usr/libexec '/usr/lib/*'; do
+        compgen -G "$folder/webkit*gtk*/MiniBrowser" >/dev/null && return
+    done
+    return 1
+}
+
 # Tries the page in a browser, if it is wanted.
 try_in() {
     local browser=$1
@@ -51,8 +60,8 @@ if is_there firefox || is_there firefox-esr; then
 else
     echo 'not tried in Firefox, since there is none'
 fi
-# Debian's packages webkit2gtk-driver, libwebkit2gtk and xvfb have what this needs.
-if is_there WebKitWebDriver && is_there Xvfb && compgen -G '/usr/lib*/**/webkit*/MiniBrowser' >/dev/null; then
+# Debian's packages webkit2gtk-driver and xvfb, and the library that the first needs, have what this needs.
+if is_there WebKitWebDriver && is_there Xvfb && has_mini_browser; then
     has_browser=yes
     try_in webkit "$@"
 else

@@ -1,4 +1,4 @@
--- Two authors put a letter each behind the one letter of a section: the premises of the laws hold, and both letters are shown.
+-- Two authors put a letter each behind the one letter of a section: the premises of `drafts_merge` hold, and both letters are shown.
 use Rattle.std.proofs.Common.{List, [], ap, arith, false, get_or, inl, inr, nat_eq, refl, subst, sym, true, ℕ, ◌++◌, ◌∙◌, ◌∷◌, ◌≡◌, ◌⊎◌}
 use Rattle.std.specs.Prelude.{None, Some, codes, if◌then◌else◌, is_some}
 use Rattle.std.proofs.lemmas.Bool.{cases_Bool, cases_order, false≢true, ne_eqb, or_cases, or_left, or_right}
