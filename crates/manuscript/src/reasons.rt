@@ -273,6 +273,7 @@ impl<'a> Reasons<'a> {
     fn about_many(&self) -> About {
         match self.command {
             Some(Command::Show(_)) => About::Input,
+            Some(Command::Revise | Command::ReviseSince(_)) => About::Home,
             _ => About::File,
         }
     }
