@@ -591,7 +591,7 @@ def cluster_count(text):
 
 def cluster_starts(text):
     """Where the extended grapheme clusters of a text begin, in scalars."""
-    before, regionals, is_joined = None, 0, False
+    before, regionals, has_picture, is_joined = None, 0, False, False
     for at, kind in enumerate(map(cluster_class, text)):
         if before is None:
             joins = False
@@ -601,13 +601,14 @@ def cluster_starts(text):
             joins = (
                 kind in ("Extend", "ZWJ", "SpacingMark")
                 or kind in HANGUL.get(before, ())
-                or (before == "ZWJ" and kind == "Picture" and is_joined)
+                or (kind == "Picture" and is_joined)
                 or (before == kind == "Regional" and regionals % 2 == 1)
             )
         if not joins:
             yield at
         regionals = regionals + 1 if kind == "Regional" else 0
-        is_joined = kind == "Picture" or (is_joined and kind in ("Extend", "ZWJ"))
+        is_joined = kind == "ZWJ" and has_picture
+        has_picture = kind == "Picture" or (has_picture and kind == "Extend")
         before = kind
 
 
