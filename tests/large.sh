@@ -123,8 +123,8 @@ drafted 4194303 0 'made 4194304\nsections: 1 added, 0 dropped, 0 moved, 0 retitl
 drafted 4194304 7 'too many: 0\n'
 drafted 100000000 7 'too many: 0\n'
 
-# Deletes that are pending, in no order, until the letters that they name come as runs of 1,000. Each takes time in
-# proportion to those that are pending.
+# Deletes that are pending, in no order, until the letters that they name come as runs of 1,000. Those that leave in one
+# run move the others once.
 pending() {
     printf "$section"
     LC_ALL=C awk -v count="$1" '
@@ -139,9 +139,9 @@ pending() {
             }
         }'
 }
-for count in 25000 50000 100000; do
+for count in 25000 50000 100000 200000; do
     pending "$count" >"$work/frames"
-    (ulimit -t 60 && "$program" show 1048576) <"$work/frames" >"$work/output" 2>"$work/notes"
+    (ulimit -t 10 && "$program" show 1048576) <"$work/frames" >"$work/output" 2>"$work/notes"
     compare "$count pending deletes" $? 0 '# T\n\n' "$(counts $((2 * count + 1)) 0 0 0 0 0)"
 done
 

@@ -1,6 +1,6 @@
 -- What the lines tell, added up.
-use Rattle.std.proofs.Common.{List, [], ap, arith, drop, false, inl, inr, length, refl, subst, suc, sym, take, true, zero, ℕ, ◌+◌, ◌-◌, ◌++◌, ◌<◌, ◌≤◌, ◌^◌, ◌∙◌, ◌∷◌, ◌≡◌, length-append}
-use Rattle.std.specs.Prelude.{Bool, cond, filter, flat_map, if◌then◌else◌, map, nat_eq, sum_by}
+use Rattle.std.proofs.Common.{List, [], ap, arith, drop, false, inl, inr, length, refl, suc, sym, take, true, zero, ℕ, ◌+◌, ◌-◌, ◌++◌, ◌<◌, ◌≤◌, ◌^◌, ◌∙◌, ◌∷◌, ◌≡◌, length-append}
+use Rattle.std.specs.Prelude.{Bool, filter, flat_map, if◌then◌else◌, map, nat_eq, sum_by}
 use Rattle.std.specs.List.{range_with_len}
 use Rattle.std.proofs.lemmas.Bool.{cases_eq, eq-eqb, ne_eqb}
 use Rattle.std.proofs.lemmas.List.{drop_all, take-append-drop}
@@ -9,22 +9,17 @@ use Rattle.std.proofs.lemmas.List.Sums.{sum_by-append, sum_by-cons}
 use Rattle.std.proofs.Math.Seq.{drop-nil}
 use Rattle.fugue_ids.specs.declared.op.Op.{Op}
 use Rattle.batch_moments.specs.Counts.{count, is_delete, is_note, is_section, is_text_of, parts, replicas, text_parts, told}
-use Rattle.batch_moments.specs.Laws.{TellAll, MomentsTellAll, deletes_told, notes_told, sections_told, sum_told, texts_told}
-use Rattle.batch_moments.specs.Lines.{Line, RiseTo, between, lines, lines_from}
+use Rattle.batch_moments.specs.Laws.{MomentsTellAll, deletes_told, notes_told, sections_told, sum_told, texts_told}
+use Rattle.batch_moments.specs.Lines.{Line, RiseTo, between, lines_from}
 use Rattle.batch_moments.specs.declared.part.Part.{Part}
 use Rattle.batch_moments.specs.declared.part.Part.TheVariants.{Texts, Deletes, Sections, Notes}
-
-plus_none : (n : ℕ) → n + 0 ≡ n
-plus_none n = omega arith
-
-none_plus : (n : ℕ) → 0 + n ≡ n
-none_plus n = omega arith
+use Rattle.std.proofs.Math.Nat.{add-zero, zero-add}
 
 -- what a part tells of so many, whatever is measured
 sum_of_told : (m : Part → ℕ) (part : ℕ → Part) (n : ℕ) → (n ≡ 0 → m (part n) ≡ 0) → sum_by m (told part n) ≡ m (part n)
 sum_of_told m part n none = elim (cases_eq n 0) [
   | inl e ↦ ap (λ (b : Bool). sum_by m (if b then [] else part n ∷ [])) (eq-eqb n 0 e) ∙ sym (none e)
-  | inr apart ↦ ap (λ (b : Bool). sum_by m (if b then [] else part n ∷ [])) (ne_eqb n 0 apart) ∙ sum_by-cons m (part n) [] ∙ plus_none (m (part n))
+  | inr apart ↦ ap (λ (b : Bool). sum_by m (if b then [] else part n ∷ [])) (ne_eqb n 0 apart) ∙ sum_by-cons m (part n) [] ∙ add-zero (m (part n))
 ]
 
 module _ (m : Part → ℕ) (f : ℕ → ℕ) where
@@ -52,9 +47,9 @@ module _ (r : ℕ) (f : ℕ → ℕ) where
   range_within a zero l u = absurd (omega (arith, l, u))
   range_within a (suc k) l u = elim (cases_eq a r) [
     | inl e ↦ range_next (texts_told r) f a k
-        ∙ (λ i. (here a ∙ ap (λ (b : Bool). if b then f a else 0) (eq-eqb a r e)) i + range_beyond (a + 1) k (omega (arith, e)) i) ∙ plus_none (f a) ∙ ap f e
+        ∙ (λ i. (here a ∙ ap (λ (b : Bool). if b then f a else 0) (eq-eqb a r e)) i + range_beyond (a + 1) k (omega (arith, e)) i) ∙ add-zero (f a) ∙ ap f e
     | inr apart ↦ range_next (texts_told r) f a k
-        ∙ (λ i. (here a ∙ ap (λ (b : Bool). if b then f a else 0) (ne_eqb a r apart)) i + range_within (a + 1) k (omega (arith, l, apart)) (omega (arith, u)) i) ∙ none_plus (f r)
+        ∙ (λ i. (here a ∙ ap (λ (b : Bool). if b then f a else 0) (ne_eqb a r apart)) i + range_within (a + 1) k (omega (arith, l, apart)) (omega (arith, u)) i) ∙ zero-add (f r)
   ]
 
 -- the parts of some operations, whatever is measured

@@ -1,11 +1,10 @@
 -- Lines that are written one after another.
 use Rattle.std.proofs.lemmas.Bool.{cases_lt}
 use Rattle.std.proofs.lemmas.List.{drop_all, take_all}
-use Rattle.std.proofs.Math.Seq.{take-nil}
-use Rattle.std.proofs.Common.{inl, inr, length-drop, max, min, take, ◌-◌, List, [], add-one, ap, arith, drop, drop-cons, get_or, length, refl, subst, sym, ℕ, ◌+◌, ◌++◌, ◌<◌, ◌≤◌, ◌∙◌, ◌∷◌, ◌≡◌}
+use Rattle.std.proofs.Common.{inl, inr, min, suc, take, ◌-◌, List, add-one, ap, arith, drop, drop-cons, get_or, length, sym, ℕ, ◌+◌, ◌<◌, ◌≤◌, ◌∙◌, ◌∷◌, ◌≡◌}
 use Rattle.fugue_ids.specs.declared.op.Op.{Op}
 use Rattle.batch_moments.specs.Counts.{parts}
-use Rattle.batch_moments.specs.Lines.{Line, between, lines_from}
+use Rattle.batch_moments.specs.Lines.{between, lines_from}
 
 -- the next one of some moments
 module _ (moments : List ℕ) (i next : ℕ) (below : i < length moments) (is : next ≡ get_or moments i 0) where
@@ -15,22 +14,15 @@ module _ (moments : List ℕ) (i next : ℕ) (below : i < length moments) (is : 
   pub lines_next : (from : ℕ) (ops : List Op) → lines_from from (drop i moments) ops ≡ record { moment = next; parts = parts (between from next ops) } ∷ lines_from next (drop (i + 1) moments) ops
   lines_next from ops = ap (λ (l : List ℕ). lines_from from l ops) left
 
--- a part within the bounds of a list
-pub within_bounds : (from to : ℕ) (ops : List Op) → take (max (min to (length ops)) (min from (length ops)) - min from (length ops)) (drop (min from (length ops)) ops) ≡ between from to ops
-within_bounds from to ops = elim (cases_lt from (length ops)) [
-  | inl below ↦
-      let start : min from (length ops) ≡ from = omega (arith, below) in
-      elim (cases_lt (length ops) to) [
-        | inl past ↦
-            let n : max (min to (length ops)) (min from (length ops)) - min from (length ops) ≡ length (drop from ops) = omega (arith, start, past, below, length-drop from ops) in
-            (λ i. take (n i) (drop (start i) ops)) ∙ take_all (length (drop from ops)) (drop from ops) (omega arith) ∙ sym (take_all (to - from) (drop from ops) (omega (arith, past, length-drop from ops)))
-        | inr inside ↦
-            let n : max (min to (length ops)) (min from (length ops)) - min from (length ops) ≡ to - from = omega (arith, start, inside, below) in
-            λ i. take (n i) (drop (start i) ops)
-      ]
+-- so many operations at the front, and those behind them, are as many as there are at most
+pub within_all : (n m : ℕ) (ops : List Op) → m ≡ min n (length ops) → (take n ops ≡ take m ops) × (drop n ops ≡ drop m ops)
+within_all n m ops is = elim (cases_lt n (length ops)) [
+  | inl below ↦ let e : n ≡ m = omega (arith, is, below) in (ap (λ k. take k ops) e, ap (λ k. drop k ops) e)
   | inr past ↦
-      let none : drop from ops ≡ [] = drop_all from ops past in
-      let end : drop (min from (length ops)) ops ≡ [] = drop_all (min from (length ops)) ops (omega (arith, past)) in
-      ap (λ (l : List Op). take (max (min to (length ops)) (min from (length ops)) - min from (length ops)) l) end ∙ take-nil (max (min to (length ops)) (min from (length ops)) - min from (length ops))
-      ∙ sym (ap (λ (l : List Op). take (to - from) l) none ∙ take-nil (to - from))
+      let e : length ops ≤ m = omega (arith, is, past) in
+      (take_all n ops past ∙ sym (take_all m ops e), drop_all n ops past ∙ sym (drop_all m ops e))
 ]
+
+-- without the first of them
+pub without_first : (left : ℕ) (ops rest : List Op) (op : Op) → 0 < left → ops ≡ op ∷ rest → (take left ops ≡ op ∷ take (left - 1) rest) × (drop left ops ≡ drop (left - 1) rest)
+without_first left ops rest op some is = let e : left ≡ suc (left - 1) = omega (arith, some) in (λ i. take (e i) (is i), λ i. drop (e i) (is i))

@@ -1,11 +1,13 @@
 //! How many operations of each kind there are.
-ghost use Rattle.std.specs.Prelude.{◌≡◌, ◌++◌, ◌∷◌, [], nat_eq, if◌then◌else◌, List, OnOk, IfOk};
+ghost use Rattle.std.specs.Prelude.{◌≡◌, ◌++◌, ◌∷◌, [], drop, nat_eq, if◌then◌else◌, List, OnOk, IfOk, take};
+ghost use Rattle.op_runs.specs.Finding.{op_of};
 ghost use Rattle.fugue_ids.specs.declared.op.Op.{Op as AnyOp};
 ghost use Rattle.batch_moments.specs.Counts.{parts as parts_told, text_parts as text_parts_of};
 ghost use Rattle.batch_moments.specs.Steps.{AreOf, HasTextMore, HaveRoom};
 
 use crate::Part;
 use fugue_ids::{NoMemory, Op};
+use op_runs::{OpRef, OpSlice};
 use std::alloc::Global;
 use std::collections::BTreeMap;
 
@@ -41,7 +43,21 @@ impl Counts {
     }
 
     /// Counts the operation.
-    fn add(&mut self, op: &Op) -> Result<(), NoMemory>
+    fn add(&mut self, op: &OpRef<'_>) -> Result<(), NoMemory>
+        requires { HaveRoom self.old }
+        ensures { OnOk result ((before : List AnyOp) → AreOf before self.old → AreOf (before ++ op_of op.now ∷ []) self.new) }
+    {
+        match op {
+            OpRef::Letter(start, _) => self.add_text(start.id.replica),
+            OpRef::Deletion(_) => {
+                self.deletes += 1;
+                Ok(())
+            }
+            OpRef::Whole(op) => self.add_whole(op),
+        }
+    }
+
+    fn add_whole(&mut self, op: &Op) -> Result<(), NoMemory>
         requires { HaveRoom self.old }
         ensures { OnOk result ((before : List AnyOp) → AreOf before self.old → AreOf (before ++ op.now ∷ []) self.new) }
     {
@@ -54,14 +70,19 @@ impl Counts {
         Ok(())
     }
 
-    /// The counts of the operations.
-    fn of(alloc: Global, ops: &[Op]) -> Result<Counts, NoMemory>
-        ensures { IfOk result (AreOf ops.now) }
+    /// The counts of so many operations at the front, which are taken off.
+    fn of(alloc: Global, ops: &mut OpSlice<'_>, count: usize) -> Result<Counts, NoMemory>
+        ensures counts { IfOk result (AreOf (take count ops.old)) }
+        ensures rest { OnOk result (ops.new ≡ drop count ops.old) }
     {
-        let _count = ops.len();
         let mut counts = Counts::new(alloc);
-        'ops: for op in ops {
-            counts.add(op)?;
+        let mut left = count.min(ops.len());
+        'ops: while left > 0 {
+            let Some(op) = ops.next_op() else {
+                unreachable!()
+            };
+            counts.add(&op)?;
+            left -= 1;
         }
         Ok(counts)
     }
@@ -88,11 +109,16 @@ fn text_parts(alloc: Global, counts: &Counts) -> Result<Vec<Part>, NoMemory>
     Ok(parts)
 }
 
-/// What is told of the operations.
-pub(crate) fn parts_of(alloc: Global, ops: &[Op]) -> Result<Vec<Part>, NoMemory>
-    ensures { IfOk result (λ parts. parts.items ≡ parts_told ops.now) }
+/// What is told of so many operations at the front, which are taken off.
+pub(crate) fn parts_of(
+    alloc: Global,
+    ops: &mut OpSlice<'_>,
+    count: usize,
+) -> Result<Vec<Part>, NoMemory>
+    ensures parts { IfOk result (λ parts. parts.items ≡ parts_told (take count ops.old)) }
+    ensures rest { OnOk result (ops.new ≡ drop count ops.old) }
 {
-    let counts = Counts::of(alloc, ops)?;
+    let counts = Counts::of(alloc, ops, count)?;
     let mut parts = text_parts(alloc, &counts)?;
     tell(&mut parts, counts.deletes, Part::Deletes(counts.deletes))?;
     tell(&mut parts, counts.sections, Part::Sections(counts.sections))?;

@@ -83,10 +83,6 @@ module _ {V : Type 0} (key : Identifier) (d : Block V) where
 pub empty_block : {V : Type 0} (b : Block V) → b.counters.items ≡ [] → (c : ℕ) → value_at b c ≡ None
 empty_block b none c = ap (λ (cs : List ℕ). value_beside cs b.values.items c) none
 
-pub empty_by_length : {X : Type 0} (xs : List X) → length xs ≡ 0 → xs ≡ []
-empty_by_length [] e = refl
-empty_by_length (x ∷ xs) e = absurd (omega (arith, e))
-
 pub no_value : {V : Type 0} (o : Option V) → o ≡ None → IsSome o → ⊥
 no_value None e h = absurd (cc)
 no_value (Some v) e h = absurd (cc)

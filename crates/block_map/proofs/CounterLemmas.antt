@@ -5,14 +5,11 @@ use Rattle.std.proofs.lemmas.Bool.Decides.{nat_tests}
 use Rattle.block_map.specs.Columns.{IsAscending, IsGapFor, value_beside}
 use Rattle.block_map.specs.Floors.{HasNone, IsGreatest}
 use Rattle.block_map.proofs.ColumnLemmas.{place_of_value, rises}
+use Rattle.fugue_ids.proofs.OptionLemmas.{none_unless}
 
 -- a counter is not less than one that is at most it
 not_less : (a b : ℕ) → b ≤ a → is_lt (nat_cmp a b) ≡ false
 not_less a b le = grind (arith, nat_tests)
-
-pub none_unless : {V : Type 0} (o : Option V) → (IsSome o → ⊥) → o ≡ None
-none_unless None not = refl
-none_unless (Some v) not = absurd (not refl)
 
 -- what follows where there is none
 pub none_then : {X P Q : Type 0} (o : Option X) → IfNone o P → (P → Q) → IfNone o Q

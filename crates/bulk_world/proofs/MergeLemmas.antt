@@ -15,7 +15,7 @@ use Rattle.origin_model.specs.operations.Verdict.{Lawful, id_held, verdict}
 use Rattle.origin_model.specs.order.Laws.{SameOps}
 use Rattle.origin_model.specs.taking.Taking.{Accepted, Held, IsSettled, answer, held_from, intake, settle, taken}
 use Rattle.origin_model.specs.edits.Edits.{ReadyInTurn, extended, id_at}
-use Rattle.origin_model.proofs.SharedLemmas.{holds-other, settle-settled, when_ready}
+use Rattle.origin_model.proofs.SharedLemmas.{holds-other, id_held-nil, settle-settled, swap_or, when_ready}
 use Rattle.origin_model.proofs.edits.EditIntakeLemmas.{accepts}
 use Rattle.origin_model.proofs.edits.MadeLemmas.{ready_lawful}
 use Rattle.list_spec.proofs.DeliveryLemmas.{part_more}
@@ -104,15 +104,11 @@ quiet h = record { history = h; waiting = [] }
 none_waits : (h : List Op) → IsSettled (quiet h)
 none_waits h = All-nil _
 
-none_held : (o : Option Identifier) → id_held [] o ≡ false
-none_held None = refl
-none_held (Some i) = refl
-
 -- operations that are Ready in turn are accepted, where there is room
 pub all_accepted : (hold most : ℕ) (p ops : List Op) → ReadyInTurn p ops → length p + length ops ≤ most → held_from hold most (quiet p) ops ≡ quiet (extended p ops)
 all_accepted hold most p [] r l = refl
 all_accepted hold most p (op ∷ ops) r l =
-    let ok : answer hold most (quiet p) op ≡ Accepted = accepts hold most p [] op (none_waits p) r.0 (none_held (id_of op)) (ne_eqb (length p + 0) most (λ e. omega (arith, e, l))) in
+    let ok : answer hold most (quiet p) op ≡ Accepted = accepts hold most p [] op (none_waits p) r.0 (id_held-nil (id_of op)) (ne_eqb (length p + 0) most (λ e. omega (arith, e, l))) in
     let next : intake hold most (quiet p) op ≡ quiet (op ∷ p) = ap (λ a. settle (taken a (quiet p) op)) ok ∙ settle-settled (quiet (op ∷ p)) (none_waits (op ∷ p)) in
     ap (λ s. held_from hold most s ops) next ∙ all_accepted hold most (op ∷ p) ops r.1 (omega (arith, l))
 
@@ -140,14 +136,8 @@ comes_behind m n h a b d w wa wb =
         (has-extended h a op ∙ both_false (has_op a op) (has_op h op) (others_absent m n a op d wa.of (All-head (IsOf n) op ops f)) (All-head (IsAbsent h) op ops e))
         (absent_all ops (All-tail (IsAbsent h) op ops e) (All-tail (IsOf n) op ops f))
 
-or_turned : (a b c : Bool) → (a || (b || c)) ≡ (b || (a || c))
-or_turned true true c = refl
-or_turned true false c = refl
-or_turned false true c = refl
-or_turned false false c = refl
-
 -- both have the same operations then
 pub same_behind : (h a b : List Op) → SameOps (extended (extended h a) b) (extended (extended h b) a)
 same_behind h a b x =
-    has-extended (extended h a) b x ∙ ap (λ k. has_op b x || k) (has-extended h a x) ∙ or_turned (has_op b x) (has_op a x) (has_op h x)
+    has-extended (extended h a) b x ∙ ap (λ k. has_op b x || k) (has-extended h a x) ∙ swap_or (has_op b x) (has_op a x) (has_op h x)
     ∙ ap (λ k. has_op a x || k) (sym (has-extended h b x)) ∙ sym (has-extended (extended h b) a x)

@@ -22,7 +22,7 @@ use Rattle.origin_model.specs.edits.Edits.{Cut, IsEdit, Put, above_all, deletes_
 use Rattle.origin_model.proofs.SharedLemmas.{missing-held, when_ready}
 use Rattle.origin_model.proofs.edits.CutLemmas.{cut_takes}
 use Rattle.origin_model.proofs.edits.EditedTextLemmas.{text_length}
-use Rattle.origin_model.proofs.edits.FreshIdLemmas.{BelowAll, IsBelow, history_below, none_from}
+use Rattle.origin_model.proofs.edits.FreshIdLemmas.{above_below, BelowAll, counters_below, held_below, history_below, IsBelow, none_from}
 use Rattle.origin_model.proofs.edits.MadeLemmas.{cut_made, put_made}
 use Rattle.origin_model.proofs.edits.PutLemmas.{put_lands}
 use Rattle.origin_model.specs.edits.State.{State}
@@ -53,36 +53,8 @@ pub record IsSteady (n : ℕ) (h : List Op) : Type 0 where
   pub own : All (IsFrom n) (shown (within section_id) h)
   pub counters : next_counter n h [] ≤ length h
 
--- where each counter is below a number, so is what is next
-above_below : (ns : List ℕ) (c : ℕ) → All (λ m. m < c) ns → above_all ns ≤ c
-above_below [] c a = omega arith
-above_below (n ∷ ns) c a = omega (arith, All-head (λ m. m < c) n ns a, above_below ns c (All-tail (λ m. m < c) n ns a))
-
-own_below : (r c : ℕ) (ids : List Identifier) → All (IsBelow r c) ids → All (λ m. m < c) (map (λ i. i.counter) (filter (λ i. nat_eq i.replica r) ids))
-own_below r c [] a = All-nil (λ m. m < c)
-own_below r c (i ∷ ids) a =
-    let rest = own_below r c ids (All-tail (IsBelow r c) i ids a) in
-    by_test (nat_eq i.replica r) (All-head (IsBelow r c) i ids a) rest
-  where
-    L : List ℕ
-    L = map (λ i. i.counter) (filter (λ i. nat_eq i.replica r) ids)
-
-    by_test : (b : Bool) → (b ≡ true → i.counter < c) → All (λ m. m < c) L → All (λ m. m < c) (map (λ i. i.counter) (if b then i ∷ filter (λ i. nat_eq i.replica r) ids else filter (λ i. nat_eq i.replica r) ids))
-    by_test true f rest = All-cons (λ m. m < c) i.counter L (f refl) rest
-    by_test false f rest = rest
-
 next_within : (r c : ℕ) (h : List Op) → BelowAll r c h → next_counter r h [] ≤ c
-next_within r c h a = omega (arith, ap (λ l. above_all (counters r l)) (append-nil h), above_below (counters r h) c (own_below r c (flat_map mentioned h) a))
-
--- what is held has a counter below
-held_below : (r c : ℕ) (h : List Op) (x : Identifier) → BelowAll r c h → holds h x ≡ true → IsBelow r c x
-held_below r c h x a k own =
-    elim (cases_lt x.counter c) [
-      | inl l ↦ l
-      | inr l ↦
-          let is : id_at r x.counter ≡ x = ap (λ n. id_at n x.counter) (sym (eqb-true x.replica r own)) in
-          absurd (true≢false (sym k ∙ ap (holds h) (sym is) ∙ none_from r c h a x.counter l))
-    ]
+next_within r c h a = omega (arith, ap (λ l. above_all (counters r l)) (append-nil h), above_below (counters r h) c (counters_below r c (flat_map mentioned h) a))
 
 -- what is named is held
 held_or_not : (h : List Op) (n : Identifier × Role) (ns : List (Identifier × Role)) (o : Option Op) → holder h n.0 ≡ o → first_missing h (n ∷ ns) ≡ None

@@ -1,6 +1,6 @@
 -- The sum over a text, one scalar after another.
 use Rattle.std.proofs.Common.{List, ap, arith, drop, get_or, length, refl, sym, ◌%◌, ◌*◌, ◌+◌, ◌<◌, ◌≤◌, ◌∙◌, ◌∷◌, ◌≡◌, ℕ, suc}
-use Rattle.std.proofs.Math.Nat.{add-mod-mod, mod-add-mod, mod-mod}
+use Rattle.std.proofs.Math.Nat.{add-mod-mod, add-zero, mod-add-mod, mod-mod, zero-add}
 use Rattle.std.proofs.lemmas.List.{at_drop_all, at_drop_more}
 use Rattle.std.proofs.lemmas.Nat.{mul-mod_first}
 use Rattle.bulk_world.specs.Summary.{sum_of, weighed}
@@ -14,12 +14,9 @@ pub record IsSummed (chs : List ℕ) (k place sum : ℕ) : Type 0 where
   pub sum_is : (sum + weighed (k + 1) (drop k chs)) % m ≡ sum_of chs
   pub small : sum % m ≡ sum
 
-none_more : (n : ℕ) → 0 + n ≡ n
-none_more n = omega arith
-
 -- none at first
 pub none_summed : (chs : List ℕ) → IsSummed chs 0 1 0
-none_summed chs = record { place_is = refl; sum_is = ap (λ n. n % m) (none_more (weighed 1 chs)); small = refl }
+none_summed chs = record { place_is = refl; sum_is = ap (λ n. n % m) (zero-add (weighed 1 chs)); small = refl }
 
 swapped : (s q w : ℕ) → s + q + w ≡ s + w + q
 swapped s q w = omega arith
@@ -49,10 +46,7 @@ next_summed chs k place sum ch next_place next_sum product n u at pe se le ne =
       small = ap (λ s. s % m) se ∙ mod-mod (sum + product) m ∙ sym se;
     }
 
-zero_more : (s : ℕ) → s + 0 ≡ s
-zero_more s = omega arith
-
 -- and all at the end
 pub all_summed : (chs : List ℕ) (k place sum : ℕ) → IsSummed chs k place sum → length chs ≤ k → sum ≡ sum_of chs
 all_summed chs k place sum u l =
-    sym u.small ∙ ap (λ s. s % m) (sym (zero_more sum)) ∙ sym (at_drop_all (λ l. (sum + weighed (k + 1) l) % m) chs k l) ∙ u.sum_is
+    sym u.small ∙ ap (λ s. s % m) (sym (add-zero sum)) ∙ sym (at_drop_all (λ l. (sum + weighed (k + 1) l) % m) chs k l) ∙ u.sum_is

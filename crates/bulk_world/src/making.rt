@@ -1,4 +1,5 @@
-ghost use Rattle.std.specs.Prelude.{◌≡◌, IfOk, ◌≢◌, codes, OnOk};
+ghost use Rattle.std.specs.Prelude.{◌≡◌, IfOk, ◌≢◌, codes, OnOk, take};
+ghost use Rattle.op_runs.specs.Finding.{op_of};
 ghost use Rattle.bulk_world.specs.Summary.{summary};
 ghost use Rattle.bulk_world.specs.Turns.{author, bulk_world, two_begin};
 ghost use Rattle.origin_model.specs.taking.Taking.{IsSettled, held_from, intake};
@@ -9,7 +10,8 @@ use crate::Summary;
 use crate::generator::unless_memory_wants;
 use crate::telling::tell_of;
 use crate::turn::take_turns;
-use fugue_ids::{MOST_OPERATIONS, NoMemory, Op, Title, TitleFault};
+use fugue_ids::{MOST_OPERATIONS, NoMemory, Title, TitleFault};
+use op_runs::{OpRef, OpSlice};
 use origin_model::order_by_set;
 use replica_core::{FeedFault, Replica, Tally};
 use std::alloc::Global;
@@ -56,8 +58,9 @@ fn bulk_among(
     open(alloc, first, second)?;
     take_turns(first, second, seed, count)?;
     let made = second.accepted().len();
-    hear(alloc, second, &first.accepted()[1..])?;
-    hear(alloc, first, &second.accepted()[1..made])?;
+    let others = first.accepted().len();
+    hear(alloc, second, first.accepted_from(1), others - 1)?;
+    hear(alloc, first, second.accepted_from(1), made - 1)?;
     tell_of(alloc, first, second)
 }
 
@@ -80,7 +83,9 @@ pub(crate) fn open(alloc: Global, first: &mut Replica, second: &mut Replica) -> 
     ensures second { OnOk result (second.new ≡ two_begin 2) }
 {
     add_section(alloc, first)?;
-    hear(alloc, second, first.accepted())
+    let ops = first.accepted();
+    let count = ops.len();
+    hear(alloc, second, ops, count)
 }
 
 fn add_section(alloc: Global, first: &mut Replica) -> Result<(), NoMemory>
@@ -103,29 +108,40 @@ fn new_title(alloc: Global) -> Result<Title, NoMemory>
     }
 }
 
-/// A replica hears of the operations, one after another.
-pub(crate) fn hear(alloc: Global, replica: &mut Replica, ops: &[Op]) -> Result<(), NoMemory>
+/// A replica hears of the first so many of the operations, one after another.
+pub(crate) fn hear(
+    alloc: Global,
+    replica: &mut Replica,
+    ops: OpSlice<'_>,
+    count: usize,
+) -> Result<(), NoMemory>
     requires { IsSettled replica.old.held }
     ensures heard { OnOk result (replica.new ≡ record replica.old {
-      held = held_from replica.old.hold replica.old.most replica.old.held ops.now;
+      held = held_from replica.old.hold replica.old.most replica.old.held (take count ops.entry);
     }) }
     ensures settled { OnOk result (IsSettled replica.new.held) }
 {
-    'heard: for op in ops {
-        hear_one(alloc, replica, op)?;
+    let mut rest = ops;
+    let mut left = count;
+    'heard: while left > 0 {
+        let Some(op) = rest.next_op() else {
+            return Ok(());
+        };
+        hear_one(alloc, replica, &op)?;
+        left -= 1;
     }
     Ok(())
 }
 
 /// A refused operation changes nothing.
-fn hear_one(alloc: Global, replica: &mut Replica, op: &Op) -> Result<(), NoMemory>
+fn hear_one(alloc: Global, replica: &mut Replica, op: &OpRef<'_>) -> Result<(), NoMemory>
     requires { IsSettled replica.old.held }
     ensures heard { OnOk result (replica.new ≡ record replica.old {
-      held = intake replica.old.hold replica.old.most replica.old.held op.now;
+      held = intake replica.old.hold replica.old.most replica.old.held (op_of op.now);
     }) }
     ensures settled { OnOk result (IsSettled replica.new.held) }
 {
-    let op = op.clone_in(alloc)?;
+    let op = op.copy_in(alloc)?;
     match replica.feed(op, &mut Tally::default()) {
         Ok(_) => Ok(()),
         Err(FeedFault::TooMany(_)) => Ok(()),

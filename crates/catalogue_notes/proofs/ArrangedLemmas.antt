@@ -66,7 +66,7 @@ abbrev section_by : Identifier → Option Op → Identifier
 section_by x o = elim o [ None ↦ x | Some e ↦ elim (move_in e) [ None ↦ x | Some m ↦ m.section ] ]
 
 -- a Section makes no move
-no_move : (f : Op) → fits SectionRole f ≡ true → move_in f ≡ None
+pub no_move : (f : Op) → fits SectionRole f ≡ true → move_in f ≡ None
 no_move (Section i l r t) k = refl
 no_move (Text i s l r c) k = refl
 no_move (Delete i) k = refl

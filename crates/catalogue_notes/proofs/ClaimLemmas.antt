@@ -11,12 +11,12 @@ use Rattle.fugue_ids.proofs.IdentifierLemmas.{id_eq-true}
 use Rattle.fugue_ids.proofs.ListLemmas.{contains_cases, contains_here, contains_none, contains_there}
 use Rattle.origin_model.specs.operations.History.{holder, is_own}
 use Rattle.origin_model.specs.operations.Verdict.{Lawful, names}
-use Rattle.origin_model.proofs.SharedLemmas.{Fits, holder-other, holder-own}
+use Rattle.origin_model.proofs.SharedLemmas.{Fits, holder-other, holder-own, is_own-id}
 use Rattle.catalogue_notes.specs.Arranged.{beats, best, better}
 use Rattle.catalogue_notes.specs.Claims.{Claim}
 use Rattle.catalogue_notes.specs.Lift.{passing}
 use Rattle.catalogue_notes.specs.Lift.{claims}
-use Rattle.catalogue_notes.proofs.HolderLemmas.{Joins, cases_option, holder-kept, is_own-id, joins, names_held, not_both, same_value}
+use Rattle.catalogue_notes.proofs.HolderLemmas.{Joins, cases_option, holder-kept, joins, names_held, not_both, same_value}
 use Rattle.catalogue_notes.proofs.LiftLemmas.{passing_from, some_inj}
 
 module _ {V : Type 0} (says : Op → Option (Claim V)) (test : List Op → Claim V → Bool) where

@@ -37,10 +37,6 @@ pub none_there : {X : Type 0} → (o : Option X) → is_some o ≡ false → o �
 none_there None k = refl
 none_there (Some x) k = absurd (false≢true (sym k))
 
--- an operation that has the identifier is its owner
-pub is_own-id : (e : Op) (x : Identifier) → id_of e ≡ Some x → is_own x e ≡ true
-is_own-id e x k = ap (λ o. origin_eq o (Some x)) k ∙ id_eq-refl x
-
 -- what a Ready operation is: its identifier is new, and what it names is held and fits
 pub record Joins (h : List Op) (e : Op) : Type 0 where
   pub fresh : (x : Identifier) → id_of e ≡ Some x → holder h x ≡ None

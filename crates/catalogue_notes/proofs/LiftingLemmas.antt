@@ -33,12 +33,7 @@ use Rattle.catalogue_notes.proofs.HolderLemmas.{IsHeld, cases_option, holder-kep
 use Rattle.catalogue_notes.proofs.LiftLemmas.{in_order, lift-nil, lift-none, lift-some, lift_fits, lift_lawful, rests_of, section-kept, shape}
 use Rattle.catalogue_notes.proofs.PartLemmas.{filter_full}
 use Rattle.replica_core.proofs.WalkLemmas.{passed_step}
-
--- tests that are true alike are equal
-same_test : (b c : Bool) → (b ≡ true → c ≡ true) → (c ≡ true → b ≡ true) → b ≡ c
-same_test true c f g = sym (f refl)
-same_test false true f g = g refl
-same_test false false f g = refl
+use Rattle.std.specs.Cmp.{both_ways}
 
 abbrev N : List Op → List Node
 N h = nodes catalogue (lift h)
@@ -48,7 +43,7 @@ node_held : (h : List Op) (x : Identifier) → Lawful h → has_node (N h) x ≡
 node_held h x w =
     let v = lift_lawful h w in
     let n = order_by_nodes catalogue (lift h) v in
-    same_test (has_node (N h) x) (holds (lift h) x)
+    both_ways (has_node (N h) x) (holds (lift h) x)
     (λ k. let i = (n.same_members x).1 k in ap is_some i.held)
     (λ k.
     let q = found (holder (lift h) x) k in
@@ -191,7 +186,7 @@ lifting_same ops i op known list bids w k l e f q =
     }
 
 -- what is neither a Section nor a Note adds nothing
-nothing_lifted : (known : Identifier → Bool) (ns : List Node) (op : Op) → is_section_or_note op ≡ false → lift_by known ns op ≡ None
+pub nothing_lifted : (known : Identifier → Bool) (ns : List Node) (op : Op) → is_section_or_note op ≡ false → lift_by known ns op ≡ None
 nothing_lifted known ns (Section i l r t) e = absurd (true≢false e)
 nothing_lifted known ns (Text i s l r c) e = refl
 nothing_lifted known ns (Delete i) e = refl

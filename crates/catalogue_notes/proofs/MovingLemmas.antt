@@ -31,6 +31,7 @@ use Rattle.catalogue_notes.proofs.HolderLemmas.{IsHeld, anything, are_held, join
 use Rattle.catalogue_notes.proofs.LiftLemmas.{map_from}
 use Rattle.catalogue_notes.proofs.MoveLemmas.{move_lands}
 use Rattle.origin_model.proofs.SharedLemmas.{Fits}
+use Rattle.fugue_ids.proofs.OptionLemmas.{err_inj}
 
 -- the identifier of the next note is new
 pub fresh : (s : State) → holds s.held.history (id_at s.number (next_of_own s)) ≡ false
@@ -95,18 +96,6 @@ note_refuses_ok s n r = record {
 -- want of memory is told as such
 memory_told : (fault : EditFault) → fault ≡ EditNoMemory → as_move_fault fault ≡ NoMemory
 memory_told fault e = ap as_move_fault e
-
--- an answer that is a fault
-abbrev pub failed : {E : Type 0} → E → Result ℕ E
-failed e = Err e
-
-abbrev fault_in : {E : Type 0} → E → Result ℕ E → E
-fault_in other (Ok n) = other
-fault_in other (Err e) = e
-
--- the fault of an answer is one
-pub err_inj : {E : Type 0} → (a b : E) → failed a ≡ failed b → a ≡ b
-err_inj a b e = ap (fault_in a) e
 
 pub note_refuses_err : (s : State) (fault : EditFault) → RefusesNote s (Err fault) → NoteRefusesAs s (Err (as_move_fault fault))
 note_refuses_err s fault r = record {

@@ -1,7 +1,8 @@
 -- What an arrangement becomes as a note comes behind it.
 use Rattle.std.proofs.Common.{Bool, List, [], ap, arith, get_or, length, not, refl, reverse, subst, sym, ℕ, ◌&&◌, ◌+◌, ◌-◌, ◌++◌, ◌<◌, ◌∙◌, ◌∷◌, ◌≡◌, ◌≤◌}
-use Rattle.std.specs.Prelude.{None, Option, Some, is_some, option_to_list}
-use Rattle.std.proofs.lemmas.List.{length-reverse, reverse-append, reverse-reverse}
+use Rattle.std.specs.Prelude.{None, Option, Some, is_some, option_and_then, option_to_list, slice_get}
+use Rattle.std.proofs.lemmas.Option.{slice_get_read}
+use Rattle.std.proofs.lemmas.List.{get_or_push, length-append, length-reverse, reverse-append, reverse-reverse}
 use Rattle.fugue_ids.specs.Identifiers.{Identifier}
 use Rattle.fugue_ids.specs.Keyed.{IsReplaced}
 use Rattle.fugue_ids.specs.Ops.{id_of}
@@ -13,7 +14,7 @@ use Rattle.origin_model.specs.order.Printed.{is_withdrawn}
 use Rattle.origin_model.specs.sides.Node.{IsNew, has_origin}
 use Rattle.origin_model.proofs.SharedLemmas.{not_hidden_before}
 use Rattle.section_list.specs.SectionList.{IsInOrder, Listing, with_element}
-use Rattle.replica_core.proofs.WalkLemmas.{passed_all, passed_more}
+use Rattle.replica_core.proofs.WalkLemmas.{passed_all, passed_more, read_there}
 use Rattle.catalogue_notes.specs.Arranging.{IsBehindNote}
 use Rattle.catalogue_notes.specs.Claims.{Move, move_in}
 use Rattle.catalogue_notes.specs.Lift.{is_section}
@@ -89,13 +90,36 @@ newest h ops older note op e w is there =
     let at = newest_at ops older note op (length ops - 1) (list ∙ is) below last there in
     record { below = below; last = last; list = list; lawful = subst Lawful (sym list) w; is = at.0; before = at.1 }
 
+-- it is there
+last_of : (h older : List Op) (note : Op) → h ≡ note ∷ older → note ≡ get_or (reverse h) (length (reverse h) - 1) note
+last_of h older note is =
+    let longer : reverse h ≡ reverse older ++ note ∷ [] = ap reverse is ∙ reverse-append (note ∷ []) older in
+    let at : length (reverse older) ≡ length (reverse h) - 1 = omega (arith, ap length longer, length-append (reverse older) (note ∷ [])) in
+    sym (ap (λ l. get_or l (length (reverse h) - 1) note) longer ∙ get_or_push (reverse older) note note (length (reverse h) - 1) at)
+
 -- the note behind an arrangement, which stands at the end of the list
-module _ (h ops : List Op) (op : Op) (a : Arrangement) (r : IsBehindNote h a) (e : ops ≡ reverse h) (w : Lawful h) (there : op ≡ get_or ops (length ops - 1) op) where
+module _ (h : List Op) (a : Arrangement) (r : IsBehindNote h a) (w : Lawful h) where
+  abbrev ops : List Op
+  ops = reverse h
+
+  abbrev op : Op
+  op = Note r.id r.named r.code r.body
+
   abbrev i : ℕ
   i = length ops - 1
 
-  pub at_end : IsNewest h ops r.older (Note r.id r.named r.code r.body) op i
-  at_end = newest h ops r.older (Note r.id r.named r.code r.body) op e w r.is there
+  there : op ≡ get_or ops (length ops - 1) op
+  there = last_of h r.older op r.is
+
+  pub at_end : IsNewest h ops r.older op op i
+  at_end = newest h ops r.older op op refl w r.is there
+
+  -- what is read at the end is read of the note
+  pub noted_read : (count : ℕ) (o : Option Lift) → count ≡ length ops - 1 → o ≡ option_and_then (lift_by (is_section h) a.lifted.list.nodes) (slice_get ops count)
+      → lift_by (is_section h) a.lifted.list.nodes op ≡ o
+  noted_read count o last e =
+      read_there (lift_by (is_section h) a.lifted.list.nodes) ops i op o (slice_get_read ops (length ops) i op refl at_end.below there)
+      (e ∙ ap (λ k. option_and_then (lift_by (is_section h) a.lifted.list.nodes) (slice_get ops k)) last)
 
   abbrev list : Listing
   list = a.lifted.list

@@ -23,15 +23,10 @@ use Rattle.catalogue_notes.specs.declared.layout.Layout.{Layout}
 use Rattle.catalogue_notes.proofs.PartLemmas.{filter_no, filter_yes}
 use Rattle.catalogue_notes.proofs.PrintingLemmas.{heading_found}
 use Rattle.catalogue_notes.proofs.RetitlingLemmas.{arranged_section as arranged_held}
+use Rattle.section_list.proofs.PlainLemmas.{visible_listed}
 
 abbrev visible : Cell → Bool
 visible c = not c.hidden
-
--- what is visible is listed
-pub visible_listed : (cells : List Cell) (x : Identifier) → Contains (section_cell_ids (section_cells_shown cells)) x → Contains (section_cell_ids cells) x
-visible_listed cells x m =
-    let c = contains_map_from (λ (c : Cell). c.id) (section_cells_shown cells) x m in
-    subst (Contains (section_cell_ids cells)) c.2 (contains_map (λ (c : Cell). c.id) cells c.0 (contains_filter_from visible cells c.0 c.1).0)
 
 -- a visible element stands among the visible ones where as many as stand before it say
 pub visible_place : (cells : List Cell) (x : Identifier) → AllPairs (λ a b. a ≢ b) (section_cell_ids cells) → Contains (section_cell_ids (section_cells_shown cells)) x

@@ -8,6 +8,8 @@ use Rattle.fugue_ids.specs.Identifiers.{Identifier, id_eq}
 use Rattle.fugue_ids.proofs.IdentifierLemmas.{cases_id, eq-id_eq, ne-id_eq}
 use Rattle.fugue_ids.proofs.ListLemmas.{all_from_contains, all_pairs_append, all_pairs_head, all_pairs_nil, all_pairs_tail, contains_cases, contains_here, contains_middle, contains_middle_cases, contains_none, contains_there}
 use Rattle.origin_model.specs.edits.Landing.{following, first_after}
+use Rattle.origin_model.proofs.edits.SplitLemmas.{get_in}
+use Rattle.origin_model.proofs.SharedLemmas.{split_member}
 
 -- no two members are the same
 abbrev pub Distinct : List Identifier → Type 0
@@ -83,21 +85,11 @@ filter_out (x ∷ xs) zero s d e =
 filter_out (x ∷ xs) (suc k) s d e =
     filter_yes (is_other s) x xs (ap not (ne-id_eq x s (head_apart x xs s d (get_in xs k s e))))
     ∙ ap (λ l. x ∷ l) (filter_out xs k s (all_pairs_tail (λ a b. a ≢ b) x xs d) e)
-  where
-    get_in : (xs : List Identifier) (k : ℕ) (x : Identifier) → slice_get xs k ≡ Some x → Contains xs x
-    get_in [] k x e = cc
-    get_in (y ∷ xs) zero x e = let d : y ≡ x = cc in subst (Contains (y ∷ xs)) d (contains_here y xs)
-    get_in (y ∷ xs) (suc k) x e = contains_there y xs x (get_in xs k x e)
 
 -- where a list of distinct members has one
 pub index_once : (front : List Identifier) (t : Identifier) (back : List Identifier) (i : ℕ) → Distinct (front ++ t ∷ back) → slice_get (front ++ t ∷ back) i ≡ Some t → i ≡ length front
 index_once [] t back zero d e = refl
 index_once [] t back (suc i) d e = absurd (head_apart t back t d (get_in back i t e) refl)
-  where
-    get_in : (xs : List Identifier) (k : ℕ) (x : Identifier) → slice_get xs k ≡ Some x → Contains xs x
-    get_in [] k x e = cc
-    get_in (y ∷ xs) zero x e = let d : y ≡ x = cc in subst (Contains (y ∷ xs)) d (contains_here y xs)
-    get_in (y ∷ xs) (suc k) x e = contains_there y xs x (get_in xs k x e)
 index_once (x ∷ front) t back zero d e = let x_is : x ≡ t = cc in absurd (head_apart x (front ++ t ∷ back) t d (contains_middle front t back) x_is)
 index_once (x ∷ front) t back (suc i) d e = let k = index_once front t back i (all_pairs_tail (λ a b. a ≢ b) x (front ++ t ∷ back) d) e in ap suc k
 
@@ -113,20 +105,11 @@ length-out [] k s e = cc
 length-out (x ∷ xs) zero s e = omega arith
 length-out (x ∷ xs) (suc k) s e = let n = length-out xs k s e in omega (arith, n)
 
--- a list, cut at a member
-pub cut_at : (xs : List Identifier) (x : Identifier) → Contains xs x → (f : List Identifier) × (b : List Identifier) × (xs ≡ f ++ x ∷ b)
-cut_at [] x m = absurd (contains_none x m)
-cut_at (y ∷ xs) x m =
-    elim (contains_cases y xs x m) [
-      | inl e ↦ ([], xs, ap (λ z. z ∷ xs) e)
-      | inr k ↦ let r = cut_at xs x k in (y ∷ r.0, r.1, ap (λ l. y ∷ l) r.2)
-    ]
-
 -- distinct members of a list are no more than it has
 pub within_length : (xs ys : List Identifier) → Distinct xs → ((x : Identifier) → Contains xs x → Contains ys x) → length xs ≤ length ys
 within_length [] ys d f = omega arith
 within_length (x ∷ xs) ys d f =
-    let c = cut_at ys x (f x (contains_here x xs)) in
+    let c = split_member ys x (f x (contains_here x xs)) in
     let rest : (z : Identifier) → Contains xs z → Contains (c.0 ++ c.1) z = λ z m.
     elim (contains_middle_cases c.0 x c.1 z (subst (λ l. Contains l z) c.2 (f z (contains_there x xs z m)))) [
       | inl e ↦ absurd (head_apart x xs z d m e)

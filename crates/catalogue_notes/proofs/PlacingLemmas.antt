@@ -26,6 +26,7 @@ use Rattle.catalogue_notes.proofs.HolderLemmas.{cases_option, not_both, same_val
 use Rattle.catalogue_notes.proofs.MoveLemmas.{alone}
 use Rattle.catalogue_notes.proofs.PartLemmas.{parts_same}
 use Rattle.catalogue_notes.proofs.WinningLemmas.{won_by}
+use Rattle.origin_model.proofs.SharedLemmas.{empty_from}
 
 -- what stands at the first of the elements to come, and then at the rest
 pub next_part : {X Y : Type 0} → (f : X → List Y) (xs : List X) (x : X) → slice_get xs 0 ≡ Some x → flat_map f xs ≡ f x ++ flat_map f (drop 1 xs)
@@ -84,11 +85,6 @@ placing_more at sections rest s old new d first here others f =
 
 pub placing_all : (at : Identifier → Identifier) (sections rest : List Identifier) (placing : Identifier → Option Identifier) → slice_get rest 0 ≡ None → IsPlacingSome at sections rest placing → IsPlacing at sections placing
 placing_all at sections rest placing e f = subst (λ z. IsPlacing at z placing) (sym (append-nil f.front) ∙ ap (λ z. f.front ++ z) (sym (no_rest rest e)) ∙ f.whole) f.placed
-
--- a list without members is empty
-empty_from : (xs : List Identifier) → ((e : Identifier) → Contains xs e → ⊥) → xs ≡ []
-empty_from [] f = refl
-empty_from (x ∷ xs) f = absurd (f x (contains_here x xs))
 
 -- at an element stands what is placed there
 at_element : (h : List Op) (placing : Identifier → Option Identifier) → Lawful h → IsPlacing (position h) (shown catalogue h) placing → (x : Identifier) → sections_at h x ≡ option_to_list (placing x)

@@ -2,7 +2,7 @@
 use Rattle.std.proofs.Common.{Bool, ap, arith, false, inl, inr, length, refl, subst, sym, true, ℕ, ◌+◌, ◌-◌, ◌<◌, ◌≤◌, ◌^◌, ◌∙◌, ◌≡◌, ◌≢◌, ◌⊎◌}
 use Rattle.std.specs.Prelude.{Err, IfSome, None, Option, Result, Some, if◌then◌else◌, nat_eq, nat_lt, option_map}
 use Rattle.std.specs.Option.{option_or}
-use Rattle.std.proofs.lemmas.Bool.{cases_Bool, true≢false}
+use Rattle.std.proofs.lemmas.Bool.{cases_Bool, le-ltb, lt-ltb, true≢false}
 use Rattle.std.proofs.lemmas.Bool.Decides.{nat_tests}
 use Rattle.origin_model.specs.declared.edit_fault.EditFault.{EditFault}
 use Rattle.origin_model.specs.declared.edit_fault.EditFault.TheVariants.{NoSection as EditNoSection, OutOfRange as EditOutOfRange, IdsSpent as EditIdsSpent, TooMany as EditTooMany, NoMemory as EditNoMemory}
@@ -19,13 +19,7 @@ use Rattle.catalogue_notes.specs.declared.moving.MoveFault.TheVariants.{IdsSpent
 use Rattle.catalogue_notes.proofs.ArrangedLemmas.{arranged_length}
 use Rattle.catalogue_notes.proofs.HolderLemmas.{not_both, same_value}
 use Rattle.catalogue_notes.proofs.LiftLemmas.{map_from}
-use Rattle.catalogue_notes.proofs.MovingLemmas.{err_inj}
-
-test_no : (k n : ℕ) → n ≤ k → nat_lt k n ≡ false
-test_no k n l = grind (arith, nat_tests)
-
-test_yes : (k n : ℕ) → k < n → nat_lt k n ≡ true
-test_yes k n l = grind (arith, nat_tests)
+use Rattle.fugue_ids.proofs.OptionLemmas.{err_inj}
 
 test_below : (k n : ℕ) → nat_lt k n ≡ true → k < n
 test_below k n t = grind (arith, nat_tests)
@@ -43,20 +37,20 @@ module _ (s : State) (w : Lawful s.held.history) where
   counted = arranged_length s.held.history w
 
   pub section_absent : (k : ℕ) → length (shown catalogue s.held.history) ≤ k → section_cause s k ≡ Some NoSection
-  section_absent k l = ap (unless NoSection) (test_no k (length (arranged s.held.history)) (omega (arith, l, counted)))
+  section_absent k l = ap (unless NoSection) (le-ltb k (length (arranged s.held.history)) (omega (arith, l, counted)))
 
   pub section_there : (k : ℕ) → k < length (shown catalogue s.held.history) → section_cause s k ≡ None
-  section_there k l = ap (unless NoSection) (test_yes k (length (arranged s.held.history)) (omega (arith, l, counted)))
+  section_there k l = ap (unless NoSection) (lt-ltb k (length (arranged s.held.history)) (omega (arith, l, counted)))
 
   pub place_absent : (k j : ℕ) → section_cause s k ≡ None → length (shown catalogue s.held.history) ≤ j → place_cause s k j ≡ Some NoPlace
   place_absent k j e l =
       ap (λ o. option_or o (unless NoPlace (nat_lt j (length (arranged s.held.history))))) e
-      ∙ ap (unless NoPlace) (test_no j (length (arranged s.held.history)) (omega (arith, l, counted)))
+      ∙ ap (unless NoPlace) (le-ltb j (length (arranged s.held.history)) (omega (arith, l, counted)))
 
   pub place_there : (k j : ℕ) → section_cause s k ≡ None → j < length (shown catalogue s.held.history) → place_cause s k j ≡ None
   place_there k j e l =
       ap (λ o. option_or o (unless NoPlace (nat_lt j (length (arranged s.held.history))))) e
-      ∙ ap (unless NoPlace) (test_yes j (length (arranged s.held.history)) (omega (arith, l, counted)))
+      ∙ ap (unless NoPlace) (lt-ltb j (length (arranged s.held.history)) (omega (arith, l, counted)))
 
 pub section_below : (s : State) (k : ℕ) → section_cause s k ≡ None → k < length (arranged s.held.history)
 section_below s k e = below k (length (arranged s.held.history)) NoSection e

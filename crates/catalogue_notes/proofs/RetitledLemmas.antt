@@ -60,6 +60,12 @@ no_retitle h (Text i s l r c) e = claims-none retitle_in is_valid_title (Text i 
 no_retitle h (Delete i) e = claims-none retitle_in is_valid_title (Delete i) h refl
 no_retitle h (Note i ns c b) e = absurd (true≢false e)
 
+pub not_retitled : (known : Identifier → Bool) (op : Op) → is_section_or_note op ≡ false → known_retitle known op ≡ None
+not_retitled known (Section i l r t) e = absurd (true≢false e)
+not_retitled known (Text i s l r c) e = refl
+not_retitled known (Delete i) e = refl
+not_retitled known (Note i ns c b) e = absurd (true≢false e)
+
 -- so it is passed over
 pub retitled_between : (ops : List Op) (bids : List Bid) (i : ℕ) (op : Op) → i < length ops → op ≡ get_or ops i op → is_section_or_note op ≡ false
     → reverse bids ≡ map bid_of (retitles (Passed ops i)) → reverse bids ≡ map bid_of (retitles (Passed ops (i + 1)))

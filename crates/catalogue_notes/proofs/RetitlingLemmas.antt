@@ -31,6 +31,7 @@ use Rattle.catalogue_notes.proofs.ArrangedLemmas.{arranged_shown, shown_is}
 use Rattle.catalogue_notes.proofs.HolderLemmas.{is_section-held}
 use Rattle.catalogue_notes.proofs.MovingLemmas.{fresh, ready_held}
 use Rattle.catalogue_notes.proofs.RetitleLemmas.{retitle_lands}
+use Rattle.origin_model.proofs.edits.SplitLemmas.{get_in}
 
 title_length : (n : ℕ) → 0 < n → n ≤ LONGEST_TITLE → (nat_lt 0 n ≡ true) × (nat_le n LONGEST_TITLE ≡ true)
 title_length n a b = (grind (arith, nat_tests), grind (arith, nat_tests))
@@ -59,12 +60,6 @@ title_utf8 bytes t =
 pub title_bytes : (bytes : List ℕ) → is_title bytes ≡ true → encode_utf8_all (chars bytes) ≡ bytes
 title_bytes bytes t = encode_utf8_all-chars bytes (IsUtf8-from_is_utf8 bytes (title_utf8 bytes t))
 
--- what stands at a place is a member
-pub placed_in : (xs : List Identifier) (k : ℕ) (x : Identifier) → slice_get xs k ≡ Some x → Contains xs x
-placed_in [] k x e = cc
-placed_in (y ∷ xs) zero x e = let d : y ≡ x = cc in subst (λ z. Contains (z ∷ xs) x) (sym d) (contains_here x xs)
-placed_in (y ∷ xs) (suc k) x e = contains_there y xs x (placed_in xs k x e)
-
 -- an arranged section is held by a Section
 pub arranged_section : (h : List Op) (s : Identifier) → Lawful h → Contains (arranged h) s → is_section h s ≡ true
 arranged_section h s w m = let f = shown_is h s w (arranged_shown h s m) in is_section-held h s f.0 f.1 f.2
@@ -75,7 +70,7 @@ module _ (s : State) (k : ℕ) (title : List ℕ) (plan : Plan) (p : IsRetitlePl
   retitle_plan_lands =
       subst (IsRetitled s.held.history (retitle_by s p.section title) p.section) p.scalars
       (retitle_lands s.held.history (id_at s.number (next_of_own s)) p.section (encode_utf8_all title) st.lawful (fresh s) p.left_over
-      (arranged_section s.held.history p.section st.lawful (placed_in (arranged s.held.history) k p.section p.placed)) p.is_text)
+      (arranged_section s.held.history p.section st.lawful (get_in (arranged s.held.history) k p.section p.placed)) p.is_text)
 
   pub retitle_plan_held : AreHeld s.held.history plan.names
   retitle_plan_held =

@@ -42,12 +42,6 @@ same_option None None f g = refl
 same_option None (Some x) f g = g x refl
 same_option (Some x) q f g = sym (f x refl)
 
--- tests that are true alike are equal
-pub same_test : (b c : Bool) → (b ≡ true → c ≡ true) → (c ≡ true → b ≡ true) → b ≡ c
-same_test true c f g = sym (f refl)
-same_test false true f g = g refl
-same_test false false f g = refl
-
 -- what is lifted of a part is lifted of the whole
 stands-within : (g k : List Op) (o : Option Identifier) → ((x : Identifier) (op : Op) → holder g x ≡ Some op → holder k x ≡ Some op) → stands g o ≡ true → stands k o ≡ true
 stands-within g k None f t = refl

@@ -78,7 +78,7 @@ pub valid_in_whole : ValidInWhole
 valid_in_whole h w = record { moves_are = λ m. moves_are h m w; retitles_are = λ r. retitles_are h r w }
 
 -- identifiers of which neither is smaller are the same
-id_total : (a b : Identifier) → id_lt a b ≡ false → id_lt b a ≡ false → a ≡ b
+pub id_total : (a b : Identifier) → id_lt a b ≡ false → id_lt b a ≡ false → a ≡ b
 id_total a b h k = id_eq-true a b (grind (arith, nat_tests))
 
 -- which claim wins

@@ -10,7 +10,7 @@ ghost use Rattle.catalogue_notes.specs.Lifting.{IsLiftOf};
 ghost use Rattle.catalogue_notes.specs.Making.{without};
 ghost use Rattle.catalogue_notes.specs.Placing.{AreApart, AreWinners, IsArranged, IsPlacing, bid_position, position_in};
 
-use crate::lifting::{Lifted, lift_of};
+use crate::lifting::{Lifted, lift_at};
 use crate::reading::Bid;
 use crate::winning::{take_bid, winners_among};
 use fugue_ids::{ElementId, NoMemory};
@@ -101,9 +101,8 @@ impl Arrangement {
             (AreWinners replica.now.held.history self.new.lifted.moves.items (get id_cmp self.new.winners)) }
         ensures sections { self.new.sections ≡ self.old.sections }
     {
-        let ops = replica.accepted();
-        let newest = ops.len() - 1;
-        let Some(lift) = lift_of(&self.lifted.list, replica, &ops[newest]) else {
+        let newest = replica.accepted().len() - 1;
+        let Some(lift) = lift_at(&self.lifted.list, replica, newest) else {
             return Ok(());
         };
         let bid = lift.bid;

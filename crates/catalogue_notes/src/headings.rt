@@ -7,7 +7,7 @@ ghost use Rattle.catalogue_notes.specs.Lift.{is_section as is_section_in};
 
 use crate::arrangement::position_of;
 use crate::layout::Layout;
-use crate::printing::title_given;
+use crate::printing::title_of;
 use crate::sections::is_section;
 use fugue_ids::{ElementId, NoMemory};
 use replica_core::Replica;
@@ -72,7 +72,7 @@ impl<'a> Headings<'a> {
         requires { is_section_in self.now section ≡ true }
         ensures { result.now ≡ encode_utf8_all (heading_in self.now section) }
     {
-        title_given(self.layout.title_giver(self.replica, section))
+        title_of(self.replica, &self.layout, section)
     }
 
     /// The element at which a section stands.

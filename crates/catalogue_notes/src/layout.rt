@@ -1,7 +1,8 @@
 //! What is printed: the sections as they are arranged, and which operations give their titles.
-ghost use Rattle.std.specs.Prelude.{◌≡◌, IfOk, option_copied};
+ghost use Rattle.std.specs.Prelude.{◌≡◌, IfOk, option_map};
 ghost use Rattle.std.specs.BTreeMap.{get};
 ghost use Rattle.fugue_ids.specs.Identifiers.{id_cmp};
+ghost use Rattle.op_runs.specs.Finding.{op_of};
 ghost use Rattle.origin_model.specs.edits.State.{Stands};
 ghost use Rattle.origin_model.specs.operations.History.{holder};
 ghost use Rattle.catalogue_notes.specs.Printing.{IsLayout, title_giver as title_giver_in};
@@ -10,7 +11,8 @@ use crate::arrangement::Arrangement;
 use crate::reading::Bid;
 use crate::retitles::retitles_of;
 use crate::winning::winners_among;
-use fugue_ids::{ElementId, NoMemory, Op};
+use fugue_ids::{ElementId, NoMemory};
+use op_runs::OpRef;
 use replica_core::Replica;
 use std::alloc::Global;
 use std::collections::BTreeMap;
@@ -38,8 +40,12 @@ impl Layout {
     }
 
     /// The operation that gives a section its title.
-    pub(crate) fn title_giver<'a>(&self, replica: &'a Replica, section: ElementId) -> Option<&'a Op>
-        ensures { option_copied result ≡ title_giver_in replica.now.held.history self.now section }
+    pub(crate) fn title_giver<'a>(
+        &self,
+        replica: &'a Replica,
+        section: ElementId,
+    ) -> Option<OpRef<'a>>
+        ensures { option_map op_of result ≡ title_giver_in replica.now.held.history self.now section }
     {
         match self.winners.get(&section) {
             Some(bid) => replica.holder(bid.id),

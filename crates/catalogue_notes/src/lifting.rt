@@ -1,6 +1,7 @@
 //! The elements that sections can stand at: those of Sections and of valid moves.
-ghost use Rattle.std.specs.Prelude.{◌≡◌, ◌<◌, ◌++◌, false, length, IfOk, OnOk, option_to_list, option_map};
+ghost use Rattle.std.specs.Prelude.{◌≡◌, ◌<◌, ◌++◌, false, length, IfOk, OnOk, option_and_then, option_to_list, option_map, slice_get};
 ghost use Rattle.origin_model.specs.edits.State.{Stands};
+ghost use Rattle.origin_model.specs.operations.History.{accepted as accepted_list};
 ghost use Rattle.origin_model.specs.sides.Node.{has_origin, IsNew};
 ghost use Rattle.section_list.specs.SectionList.{IsInOrder, with_element};
 ghost use Rattle.catalogue_notes.specs.Claims.{move_in as move_on};
@@ -61,7 +62,7 @@ fn lift_of_move(list: &SectionList, replica: &Replica, found: &Move) -> Option<L
 }
 
 /// What the operation adds to the list.
-pub(crate) fn lift_of(list: &SectionList, replica: &Replica, op: &Op) -> Option<Lift>
+fn lift_of(list: &SectionList, replica: &Replica, op: &Op) -> Option<Lift>
     ensures { result ≡ lift_by (is_section_in replica.now.held.history) list.now.nodes op.now }
 {
     match op {
@@ -74,6 +75,17 @@ pub(crate) fn lift_of(list: &SectionList, replica: &Replica, op: &Op) -> Option<
             Some(found) => lift_of_move(list, replica, &found),
             None => None,
         },
+    }
+}
+
+/// What the operation at a position of the accepted ones adds to the list.
+pub(crate) fn lift_at(list: &SectionList, replica: &Replica, at: usize) -> Option<Lift>
+    ensures { result ≡ option_and_then (lift_by (is_section_in replica.now.held.history) list.now.nodes)
+        (slice_get (accepted_list replica.now.held.history) at) }
+{
+    match replica.section_or_note(at) {
+        Some(op) => lift_of(list, replica, op),
+        None => None,
     }
 }
 
@@ -99,13 +111,12 @@ impl Lifted {
         ensures lifted { IfOk result (λ lifted. IsLiftOf replica.now.held.history lifted.list lifted.moves.items) }
         ensures stands { Stands replica.now }
     {
-        let ops = replica.accepted();
         let mut lifted = Lifted {
             list: SectionList::new(alloc),
             moves: Vec::new(alloc),
         };
         'walk: for at in replica.sections_and_notes() {
-            if let Some(lift) = lift_of(&lifted.list, replica, &ops[*at]) {
+            if let Some(lift) = lift_at(&lifted.list, replica, *at) {
                 lifted.take(lift)?;
             }
         }

@@ -11,7 +11,7 @@ ghost use Rattle.catalogue_notes.specs.Printing.{IsLayout, title_giver, title_of
 
 use crate::entry::{Entry, Outline};
 use crate::layout::Layout;
-use crate::printing::title_given;
+use crate::printing::title_of;
 use fugue_ids::{ElementId, NoMemory};
 use replica_core::Replica;
 use section_list::SectionList;
@@ -45,7 +45,7 @@ fn entry_of(
     ensures heading { IfOk result (λ entry.
         string_bytes entry.heading ≡ title_of_op (title_giver replica.now.held.history layout.now section)) }
 {
-    let title = title_given(layout.title_giver(replica, section));
+    let title = title_of(replica, layout, section);
     Ok(Entry {
         section,
         number: number_of(catalogue, section),

@@ -1,13 +1,15 @@
 //! The sections printed as they are arranged, under their headings.
-ghost use Rattle.std.specs.Prelude.{◌≡◌, ◌++◌, ◌∷◌, List, [], ℕ, Some, codes, drop, flat_map, option_copied};
+ghost use Rattle.std.specs.Prelude.{◌≡◌, ◌++◌, ◌∷◌, List, [], ℕ, Some, codes, drop, flat_map};
 ghost use Rattle.fugue_ids.specs.Gathers.{GathersText};
 ghost use Rattle.fugue_ids.specs.Outs.{OutView, WritesBytes};
+ghost use Rattle.op_runs.specs.Finding.{op_of};
 ghost use Rattle.origin_model.specs.edits.State.{Stands};
 ghost use Rattle.catalogue_notes.specs.Arranged.{arranged_text};
-ghost use Rattle.catalogue_notes.specs.Printing.{WritesText, page, printed_by, title_in as title_in_op, title_of_op, utf8_or_none};
+ghost use Rattle.catalogue_notes.specs.Printing.{WritesText, page, printed_by, title_giver, title_in as title_in_op, title_of_op, utf8_or_none};
 
 use crate::layout::Layout;
 use fugue_ids::{ElementId, Failed, Gather, NoMemory, Op, Out};
+use op_runs::OpRef;
 use outer_ports::Sink;
 use replica_core::Replica;
 use section_catalogue::Manuscript;
@@ -65,12 +67,22 @@ fn title_in(op: &Op) -> &str
     }
 }
 
-/// The title that the operation gives, where there is one.
-pub(crate) fn title_given(giver: Option<&Op>) -> &str
-    ensures { result.now ≡ title_of_op (option_copied giver.entry) }
+/// The same of an operation that is given by value.
+fn title_given<'a>(giver: &OpRef<'a>) -> &'a str
+    ensures { result.now ≡ title_in_op (op_of giver.now) }
 {
     match giver {
-        Some(op) => title_in(op),
+        OpRef::Whole(op) => title_in(op),
+        OpRef::Letter(_, _) | OpRef::Deletion(_) => "",
+    }
+}
+
+/// The title of a section.
+pub(crate) fn title_of<'a>(replica: &'a Replica, layout: &Layout, section: ElementId) -> &'a str
+    ensures { result.now ≡ title_of_op (title_giver replica.now.held.history layout.now section) }
+{
+    match layout.title_giver(replica, section) {
+        Some(giver) => title_given(&giver),
         None => "",
     }
 }
@@ -110,7 +122,7 @@ fn put_section<O: Out>(
     ensures { GathersText (O.seen output.old) (O.seen output.new) gather.old gather.new result
         (printed_by places.now replica.now.held.history layout.now section) }
 {
-    let title = title_given(layout.title_giver(replica, section));
+    let title = title_of(replica, layout, section);
     match places.section(section) {
         Some(text) => put_page(gather, output, title.as_bytes(), text),
         None => Ok(()),

@@ -1,6 +1,7 @@
 //! The valid retitles of a history, and the greatest stamp.
-ghost use Rattle.std.specs.Prelude.{◌≡◌, IfOk, map, max, reverse};
+ghost use Rattle.std.specs.Prelude.{◌≡◌, IfOk, map, max, option_and_then, reverse, slice_get};
 ghost use Rattle.origin_model.specs.edits.State.{Stands};
+ghost use Rattle.origin_model.specs.operations.History.{accepted as accepted_list};
 ghost use Rattle.catalogue_notes.specs.Lift.{greatest, is_section as is_section_in, retitles};
 ghost use Rattle.catalogue_notes.specs.Readings.{bid_of, known_retitle};
 ghost use Rattle.catalogue_notes.specs.declared.reading.Bid.{Bid as BidOf};
@@ -23,15 +24,25 @@ fn valid_retitle(replica: &Replica, op: &Op) -> Option<Bid>
     }
 }
 
+/// What the operation at a position of the accepted ones says, where it is a retitle of a section.
+fn retitle_at(replica: &Replica, at: usize) -> Option<Bid>
+    ensures { result ≡ option_and_then (known_retitle (is_section_in replica.now.held.history))
+        (slice_get (accepted_list replica.now.held.history) at) }
+{
+    match replica.section_or_note(at) {
+        Some(op) => valid_retitle(replica, op),
+        None => None,
+    }
+}
+
 /// The valid retitles, the oldest first.
 pub(crate) fn retitles_of(alloc: Global, replica: &Replica) -> Result<Vec<Bid>, NoMemory>
     ensures retitles { IfOk result (λ bids. reverse bids.items ≡ map bid_of (retitles replica.now.held.history)) }
     ensures stands { Stands replica.now }
 {
-    let ops = replica.accepted();
     let mut bids = Vec::new(alloc);
     'walk: for at in replica.sections_and_notes() {
-        if let Some(bid) = valid_retitle(replica, &ops[*at]) {
+        if let Some(bid) = retitle_at(replica, *at) {
             bids.push(bid)?;
         }
     }

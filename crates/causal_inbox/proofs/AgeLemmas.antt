@@ -12,18 +12,14 @@ use Rattle.std.proofs.lemmas.List.Quantifiers.{all_pairs_push}
 use Rattle.std.proofs.lemmas.List.Sorted.{searched}
 use Rattle.std.proofs.lemmas.List.Sums.{position_or_len_is}
 use Rattle.std.proofs.Math.Seq.{get_or-append_seam}
-use Rattle.fugue_ids.proofs.ListLemmas.{all_pairs_head, all_pairs_tail}
-use Rattle.causal_inbox.specs.Index.{with_age, dropped, is_last}
-
--- what was put at the end is the last one
-pub last_put : {X : Type 0} (xs : List X) (x : X) → slice_get (xs ++ x ∷ []) (length xs) ≡ Some x
-last_put xs x = slice_get-get_or (xs ++ x ∷ []) (length xs) x (omega (arith, length-append xs (x ∷ []))) ∙ ap Some (get_or-append_seam xs x [] x)
+use Rattle.fugue_ids.proofs.ListLemmas.{all_pairs_head, all_pairs_tail, slice_get-seam}
+use Rattle.causal_inbox.specs.Index.{IsFirstFrom, with_age, dropped, is_last}
 
 -- an age is added once
 pub added_twice : (a : ℕ) (ages : List ℕ) → with_age (with_age ages a) a ≡ with_age ages a
 added_twice a ages =
     let behind : length (ages ++ a ∷ []) - 1 ≡ length ages = omega (arith, length-append ages (a ∷ [])) in
-    elim (cases_Bool (is_last ages a)) [ inl e ↦ rw (e, e) | inr e ↦ rw (e, behind, last_put ages a, eq-eqb a a refl) ]
+    elim (cases_Bool (is_last ages a)) [ inl e ↦ rw (e, e) | inr e ↦ rw (e, behind, slice_get-seam ages a, eq-eqb a a refl) ]
 
 -- a filter that all pass keeps all
 filter_all : (p : ℕ → Bool) (xs : List ℕ) → All (λ x. p x ≡ true) xs → filter p xs ≡ xs
@@ -94,12 +90,18 @@ unfound ages a p r s k within e =
     let f = searched ages a (Err p) s (rises_on ages r) in
     elim (cases_lt k p) [ inl before ↦ omega (arith, f.1 k before, e) | inr behind ↦ omega (arith, f.2 k behind within, e) ]
 
--- what a search among ages answers
-pub position_searched : (ages : List ℕ) (a : ℕ) (r : Result ℕ ℕ) → AllPairs ◌<◌ ages → IsBinarySearchResult (λ b. nat_cmp b a) ages r
-    → position_or_len (λ b. nat_eq b a) ages ≡ elim r [ Ok p ↦ p | Err p ↦ length ages ]
-position_searched ages a (Ok p) r s = let f = searched ages a (Ok p) s (rises_on ages r) in position_found ages p a r f.0 f.1
-position_searched ages a (Err p) r s = position_or_len_is (λ b. nat_eq b a) ages (length ages) 0 (omega arith)
-    (λ k within. ne_eqb (get_or ages k 0) a (unfound ages a p r s k within)) (λ there. absurd (omega (arith, there)))
+-- the position of an age that is not there
+pub position_none : (ages : List ℕ) (a first : ℕ) → AllPairs ◌<◌ ages → IsFirstFrom ages a first → (first < length ages → get_or ages first 0 ≢ a) → position_or_len (λ b. nat_eq b a) ages ≡ length ages
+position_none ages a first r is other = position_or_len_is (λ b. nat_eq b a) ages (length ages) 0 (omega arith)
+    (λ k within. ne_eqb (get_or ages k 0) a (apart k within)) (λ there. absurd (omega (arith, there)))
+  where
+    apart : (k : ℕ) → k < length ages → get_or ages k 0 ≢ a
+    apart k within e = elim (cases_lt k first) [
+      | inl before ↦ omega (arith, is.before k before, e)
+      | inr behind ↦
+          let in_list : first < length ages = omega (arith, behind, within) in
+          other in_list (omega (arith, rises_on ages r first k behind within, is.behind first (omega arith) in_list, e))
+    ]
 
 -- without an age that was found
 dropped_found : (ages : List ℕ) (p a : ℕ) → AllPairs ◌<◌ ages → p < length ages → get_or ages p 0 ≡ a → dropped ages a ≡ remove ages p

@@ -1,8 +1,8 @@
 -- What stands around a gap.
-use Rattle.std.proofs.Common.{ap, arith, sym, List, ℕ, [], ◌∷◌, ◌++◌, ◌+◌, ◌-◌, ◌<◌, ◌≡◌, ◌∙◌, length, drop, take, set, get_or}
-use Rattle.std.specs.List.{remove, swap}
-use Rattle.std.proofs.lemmas.List.{append_assoc, drop-set, drop-set-lt, drop_more, length-set, length-take-le, take-set-le, take_more, take_more_set}
-use Rattle.std.proofs.lemmas.List.Edits.{remove-append_right, swap_is}
+use Rattle.std.proofs.Common.{ap, arith, sym, List, ℕ, [], ◌∷◌, ◌++◌, ◌+◌, ◌<◌, ◌≡◌, ◌∙◌, length, drop, take, set, get_or}
+use Rattle.std.specs.List.{swap}
+use Rattle.std.proofs.lemmas.List.{append_assoc, drop-set, drop-set-lt, drop_more, length-set, take-set-le, take_more, take_more_set}
+use Rattle.std.proofs.lemmas.List.Edits.{swap_is}
 use Rattle.causal_inbox.specs.Gap.{around}
 
 -- the item behind the gap goes before it
@@ -44,22 +44,3 @@ moved_back (d ∷ rest) at size some within =
     ∙ sym (append_assoc (take at xs) (before ∷ []) (drop (at + size + 1) xs))
     ∙ (λ i. sym (take_more xs at d below) i ++ drop (at + size + 1) xs)
     ∙ ap (λ n. take (at + 1) xs ++ drop n xs) {x = at + size + 1} {y = at + 1 + size} (omega arith)
-
--- the item before the gap stands in its place
-pub last_before : {X : Type 0} (xs : List X) (at size : ℕ) (x : X) → at < length xs → x ≡ get_or xs at x
-    → around xs (at + 1) size ≡ take at xs ++ x ∷ drop (at + 1 + size) xs
-last_before xs at size x below is =
-    (λ i. take_more xs at x below i ++ drop (at + 1 + size) xs)
-    ∙ append_assoc (take at xs) (get_or xs at x ∷ []) (drop (at + 1 + size) xs)
-    ∙ ap (λ y. take at xs ++ y ∷ drop (at + 1 + size) xs) (sym is)
-
--- it leaves, and the gap grows
-pub taken_out : {X : Type 0} (xs : List X) (at size : ℕ) (x filler : X) → at < length xs → x ≡ get_or xs at x
-    → around (set xs at filler) at (size + 1) ≡ remove (around xs (at + 1) size) at
-taken_out xs at size x filler below is =
-    let front : length (take at xs) ≡ at = length-take-le at xs (omega (arith, below)) in
-    (λ i. take-set-le at xs at filler (omega arith) i ++ drop-set-lt (at + (size + 1)) xs at filler (omega arith) i)
-    ∙ ap (λ n. take at xs ++ drop n xs) {x = at + (size + 1)} {y = at + 1 + size} (omega arith)
-    ∙ ap (λ n. take at xs ++ remove (x ∷ drop (at + 1 + size) xs) n) {x = 0} {y = at - at} (omega arith)
-    ∙ sym (remove-append_right (take at xs) (x ∷ drop (at + 1 + size) xs) at at front (omega arith))
-    ∙ ap (λ l. remove l at) (sym (last_before xs at size x below is))

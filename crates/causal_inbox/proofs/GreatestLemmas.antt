@@ -84,11 +84,11 @@ entry_where m ops ages key none index =
     by_entry None f = refl
     by_entry (Some v) f = filled v f
 
-no_member : (ns : List ℕ) → ((n : ℕ) → Contains ns n → ⊥) → ns ≡ []
+pub no_member : (ns : List ℕ) → ((n : ℕ) → Contains ns n → ⊥) → ns ≡ []
 no_member [] none = refl
 no_member (n ∷ ns) none = absurd (none n (contains_here n ns))
 
-greatest_of : (ns : List ℕ) (n : ℕ) → Contains ns n → All (λ m. m ≤ n) ns → IsGreatest ns (Some n)
+pub greatest_of : (ns : List ℕ) (n : ℕ) → Contains ns n → All (λ m. m ≤ n) ns → IsGreatest ns (Some n)
 greatest_of [] n c b = absurd (contains_none n c)
 greatest_of (m ∷ ns) n c b = record { none = (λ e. cc, λ e. cc); member = c; bound = b }
 

@@ -14,6 +14,7 @@ use Rattle.causal_inbox.specs.Greatest.{IsGreatestUnder, IsLastKey}
 use Rattle.causal_inbox.specs.Key.{own}
 use Rattle.causal_inbox.specs.Lists.{key_cmp}
 use Rattle.causal_inbox.specs.declared.key.Key.{Key}
+use Rattle.fugue_ids.proofs.OptionLemmas.{none_unless}
 
 -- keys that the order does not tell apart are equal
 pub same_key : (a b : Key) → is_eq (key_cmp a b) ≡ true → a ≡ b
@@ -41,10 +42,6 @@ within_first k r e = grind (arith, common_steps)
 pub before_first : (k : Key) (r : ℕ) → k.id.replica ≤ r → key_cmp k (own (record { replica = r + 1; counter = 0 })) ≡ Less
 before_first k r e = grind (arith, common_steps)
 
-no_entry : {X : Type 0} (o : Option X) → (IsSome o → ⊥) → o ≡ None
-no_entry None none = refl
-no_entry (Some x) none = absurd (none refl)
-
 -- the greatest counter by the last key
 pub greatest_last : (m : BTreeMap Key (List ℕ)) (r : ℕ) (key : Key) → IsLastKey m r (Some key) → key.id.replica ≡ r → IsGreatestUnder m r (Some key.id.counter)
 greatest_last m r key l same = record {
@@ -55,7 +52,7 @@ greatest_last m r key l same = record {
 
 pub greatest_other : (m : BTreeMap Key (List ℕ)) (r : ℕ) (key : Key) → IsLastKey m r (Some key) → (key.id.replica ≡ r → ⊥) → IsGreatestUnder m r None
 greatest_other m r key l other = record {
-  none = λ e k at. no_entry (get key_cmp m k) (λ there.
+  none = λ e k at. none_unless (get key_cmp m k) (λ there.
       let rise = replicas_rise key k (l.last k (omega (arith, at)) there) in
       let within = l.within in
       other (omega (arith, rise, within, at)));

@@ -7,4 +7,5 @@ pub mod GreatestLemmas
 pub mod QueueLemmas
 pub mod RangeLemmas
 pub mod GapLemmas
+pub mod SpacedLemmas
 pub mod InboxLemmas

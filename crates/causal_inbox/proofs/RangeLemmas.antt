@@ -1,5 +1,5 @@
 -- The keys between that of one identifier and those of another, and what operations have or name of those between.
-use Rattle.std.proofs.Common.{◌≡◌, ◌≤◌, ◌<◌, ◌+◌, ◌-◌, ◌∙◌, ap, sym, refl, false, true, arith, inl, inr, subst, List, ℕ}
+use Rattle.std.proofs.Common.{◌≡◌, ◌≤◌, ◌<◌, ◌+◌, ◌-◌, ◌∙◌, ap, sym, refl, arith, inl, inr, subst, List, ℕ}
 use Rattle.std.proofs.lemmas.Grind.{common_steps}
 use Rattle.std.specs.Prelude.{◌↔◌, Contains, IsSome, IsTrue, Bool, None, flat_map, is_some}
 use Rattle.std.proofs.lemmas.Bool.{true≢false}

@@ -1,5 +1,5 @@
 -- An index of waiting operations. Each has an age: a later one has a greater age.
-use Rattle.std.specs.Prelude.{◌≡◌, ◌<◌, ◌-◌, ℕ, Option, Some, None, Bool, false, not, List, [], ◌∷◌, ◌++◌, length, nat_eq, slice_get, AllPairs, filter, if◌then◌else◌}
+use Rattle.std.specs.Prelude.{◌≡◌, ◌<◌, ◌-◌, ◌≤◌, ℕ, get_or, Option, Some, None, Bool, false, not, List, [], ◌∷◌, ◌++◌, length, nat_eq, slice_get, AllPairs, filter, if◌then◌else◌}
 use Rattle.std.specs.Option.{option_eq}
 use Rattle.fugue_ids.specs.Ops.{op_eq}
 use Rattle.fugue_ids.specs.declared.op.Op.{Op}
@@ -48,3 +48,9 @@ is_equal op (Some other) = op_eq other op
 -- the operation at the position is equal
 abbrev pub is_equal_at : List Op → Op → ℕ → Bool
 is_equal_at ops op p = is_equal op (slice_get ops p)
+
+-- the first age that is not below this one has the position
+pub record IsFirstFrom (ages : List ℕ) (age position : ℕ) : Type 0 where
+  pub within : position ≤ length ages
+  pub before : (k : ℕ) → k < position → get_or ages k 0 < age
+  pub behind : (k : ℕ) → position ≤ k → k < length ages → age ≤ get_or ages k 0

@@ -12,6 +12,8 @@ pub record Waiting : Type 0 where
   pub ops : List Op
   -- how many may wait
   pub hold : ℕ
+  -- how many gaps are among what waits, where operations left
+  pub gaps : ℕ
 
 -- what waits is no more than may, and is found by the lists of ages
 pub record IsIndexed (ops : List Op) (hold : ℕ) (ages : List ℕ) (lists : BTreeMap Key (List ℕ)) : Type 0 where

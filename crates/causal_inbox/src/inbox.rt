@@ -1,4 +1,4 @@
-ghost use Rattle.std.specs.Prelude.{◌≡◌, ◌↔◌, ◌<◌, ◌≤◌, ◌++◌, ◌∷◌, [], true, false, length, position as first_position};
+ghost use Rattle.std.specs.Prelude.{◌≡◌, ◌↔◌, ◌<◌, ◌≤◌, ◌++◌, ◌∷◌, [], None, Some, true, false, length, position as first_position};
 ghost use Rattle.std.specs.Prelude.{remove as without, slice_get, OnOk, OnErr, IfErr, List, IsTrue, ◌+◌, ◌^◌};
 ghost use Rattle.fugue_ids.specs.Ops.{id_of};
 ghost use Rattle.origin_model.specs.operations.History.{has_op};
@@ -6,15 +6,13 @@ ghost use Rattle.origin_model.specs.operations.Verdict.{id_held, verdict, verdic
 ghost use Rattle.origin_model.specs.taking.Taking.{is_decided as decides};
 ghost use Rattle.origin_model.specs.operations.Counters.{counters, IsGreatest};
 ghost use Rattle.causal_inbox.specs.Faults.{refused_op};
-ghost use Rattle.causal_inbox.specs.Naming.{AreConcerned};
+ghost use Rattle.causal_inbox.specs.Naming.{AreConcerned, naming};
 ghost use Rattle.fugue_ids.specs.declared.op.Op.{Op as AnyOp};
 
-mod open_inbox;
-
 use crate::index::Index;
-use crate::{Found, Queue};
+use crate::key::named_key;
+use crate::{Found, Gapped};
 use fugue_ids::{ElementId, Op};
-pub use open_inbox::OpenInbox;
 use origin_model::{PlainReplica, Verdict};
 use std::alloc::Global;
 use std::marker::Model;
@@ -45,9 +43,11 @@ pub enum PushFault {
 }
 
 /// The waiting operations, in the order in which they came, and how many may wait.
+///
+/// One that leaves moves no others: a gap stays, until the inbox is closed.
 #[derive(Drop)]
 pub struct Inbox {
-    ops: Queue<Op>,
+    ops: Gapped<Op>,
     index: Index,
     hold: u32,
 }
@@ -57,17 +57,17 @@ impl Model for Inbox {
 
     ghost Value = { Waiting };
 
-    ghost view = { λ inbox. record { ops = inbox.ops; hold = inbox.hold } };
+    ghost view = { λ inbox. record { ops = inbox.ops.items; hold = inbox.hold; gaps = inbox.ops.gaps } };
 
-    ghost invariant = { λ inbox. IsIndexed inbox.ops inbox.hold inbox.index.ages inbox.index.lists };
+    ghost invariant = { λ inbox. IsIndexed inbox.ops.items inbox.hold inbox.index.ages.items inbox.index.lists };
 }
 
 impl Inbox {
     pub fn new(alloc: Global, hold: u32) -> Inbox
-        ensures { result ≡ record { ops = []; hold = hold } }
+        ensures { result ≡ record { ops = []; hold = hold; gaps = 0 } }
     {
         Inbox {
-            ops: Queue::new(alloc),
+            ops: Gapped::new(alloc),
             index: Index::new(alloc),
             hold,
         }
@@ -84,9 +84,9 @@ impl Inbox {
         if self.ops.len() == 0 {
             return Found::Absent;
         }
-        if self.index.has_equal(self.ops.as_slice(), op) {
+        if self.index.has_equal(&self.ops, op) {
             Found::Same
-        } else if self.index.has_id(self.ops.as_slice(), op.id()) {
+        } else if self.index.has_id(&self.ops, op.id()) {
             Found::Clash
         } else {
             Found::Absent
@@ -120,21 +120,54 @@ impl Inbox {
     pub fn next_decidable<F: Facts>(&self, facts: &F) -> Option<usize>
         ensures { result ≡ first_position (λ op. decides (verdict (F.history facts.now) op)) self.now.ops }
     {
-        let ops = self.ops.as_slice();
-        ops.iter().position(|op| is_decided(facts.verdict(op)))
+        'ops: for position in 0..self.ops.len() {
+            if is_decided(facts.verdict(self.ops.get(position))) {
+                return Some(position);
+            }
+        }
+        None
     }
 
-    /// Those behind it close up.
+    /// How many wait.
+    pub fn len(&self) -> usize
+        ensures len { result ≡ length self.now.ops }
+        ensures within { length self.now.ops ≤ self.now.hold }
+    {
+        self.ops.len()
+    }
+
+    pub fn op_at(&self, position: usize) -> &Op
+        requires { position < length self.now.ops }
+        ensures { slice_get self.now.ops position ≡ Some result.now }
+    {
+        self.ops.get(position)
+    }
+
+    /// The position of the operation that rests on the identifier behind k others that do.
+    pub fn nth_naming(&self, id: ElementId, k: usize) -> Option<usize>
+        ensures { result ≡ slice_get (naming id self.now.ops) k }
+    {
+        self.index.nth(&named_key(id), k)
+    }
+
+    /// One leaves, and those behind it come one position forward.
     pub fn remove(&mut self, position: usize) -> Op
         requires { position < length self.old.ops }
         ensures op { slice_get self.old.ops position ≡ Some result }
-        ensures rest { self.new ≡ record self.old { ops = without self.old.ops position } }
+        ensures rest { self.new.ops ≡ without self.old.ops position }
+        ensures hold { self.new.hold ≡ self.old.hold }
         ensures within { length self.new.ops ≤ self.new.hold }
     {
-        let mut open = self.open();
-        let op = open.remove(position);
-        *self = open.close();
+        let op = self.ops.remove(position, filler());
+        self.index.remove(&op, position);
         op
+    }
+
+    /// The operations lie in one slice again. Where none left, nothing moves.
+    pub fn close(&mut self)
+        ensures { self.new ≡ record self.old { gaps = 0 } }
+    {
+        self.ops.close();
     }
 
     /// The greatest counter of the replica among the identifiers that waiting operations have or name.
@@ -156,11 +189,25 @@ impl Inbox {
         self.index.concerns(first, count)
     }
 
+    /// The operations in one slice, where the inbox is closed.
     pub fn ops(&self) -> &[Op]
+        requires { self.now.gaps ≡ 0 }
         ensures ops { result.now ≡ self.now.ops }
         ensures within { length self.now.ops ≤ self.now.hold }
     {
         self.ops.as_slice()
+    }
+}
+
+/// What lies in the place of an operation that left: it holds no memory.
+fn filler() -> Op
+    ensures { id_of result ≡ None }
+{
+    Op::Delete {
+        target: ElementId {
+            replica: 1,
+            counter: 0,
+        },
     }
 }
 

@@ -7,16 +7,16 @@ ghost use Rattle.origin_model.specs.operations.Verdict.{id_held};
 ghost use Rattle.origin_model.specs.operations.Counters.{counters, IsGreatest};
 ghost use Rattle.causal_inbox.specs.Keyed.{HasNoEmpty};
 ghost use Rattle.std.specs.List.{position_or_len};
-ghost use Rattle.causal_inbox.specs.Index.{IsAgeIndex, IsAgeIndexOfSome, is_equal_at, positions_with};
+ghost use Rattle.causal_inbox.specs.Index.{IsAgeIndex, IsAgeIndexOfSome, IsFirstFrom, is_equal_at, positions_with};
 ghost use Rattle.causal_inbox.specs.Lists.{ages_under, key_cmp};
 ghost use Rattle.causal_inbox.specs.Greatest.{IsGreatestUnder, IsLastKey};
 ghost use Rattle.causal_inbox.specs.Naming.{AreConcerned};
 ghost use Rattle.causal_inbox.specs.Ranges.{HasListFrom};
 
-use crate::Queue;
 use crate::key::{Key, main_key, named_key, own_key};
 use crate::keyed_lists::list_under;
 use crate::lists::{Lists, add_age, drop_age, nth_age};
+use crate::{Gapped, Queue};
 use fugue_ids::{ElementId, NoMemory, Op};
 use std::alloc::Global;
 
@@ -34,18 +34,18 @@ pub enum Found {
 /// one that is removed changes no other.
 #[derive(Drop)]
 pub(crate) struct Index {
-    pub ages: Queue<u64>,
+    pub ages: Gapped<u64>,
     pub lists: Lists,
     pub alloc: Global,
 }
 
 impl Index {
     pub fn new(alloc: Global) -> Index
-        ensures index { IsAgeIndex [] result.ages (ages_under result.lists) }
+        ensures index { IsAgeIndex [] result.ages.items (ages_under result.lists) }
         ensures no_empty { HasNoEmpty key_cmp result.lists }
     {
         Index {
-            ages: Queue::new(alloc),
+            ages: Gapped::new(alloc),
             lists: Lists::new(alloc),
             alloc,
         }
@@ -53,24 +53,24 @@ impl Index {
 
     /// The position of the operation with the key that stands behind k others with it.
     pub fn nth(&self, key: &Key, k: usize) -> Option<usize>
-        requires { AllPairs ◌<◌ self.now.ages }
-        ensures { (ops : List AnyOp) → IsAgeIndex ops self.now.ages (ages_under self.now.lists)
+        requires { AllPairs ◌<◌ self.now.ages.items }
+        ensures { (ops : List AnyOp) → IsAgeIndex ops self.now.ages.items (ages_under self.now.lists)
             → result ≡ slice_get (positions_with key.now ops) k }
     {
         match nth_age(&self.lists, key, k) {
-            Some(age) => Some(position(self.ages.as_slice(), age)),
+            Some(age) => Some(position(&self.ages, age)),
             None => None,
         }
     }
 
     /// Whether one of the operations is equal.
-    pub fn has_equal(&self, ops: &[Op], op: &Op) -> bool
-        requires { IsAgeIndex ops.now self.now.ages (ages_under self.now.lists) }
-        ensures { result ≡ has_op ops.now op.now }
+    pub fn has_equal(&self, ops: &Gapped<Op>, op: &Op) -> bool
+        requires { IsAgeIndex ops.now.items self.now.ages.items (ages_under self.now.lists) }
+        ensures { result ≡ has_op ops.now.items op.now }
     {
         let key = main_key(op);
         for age in list_under(&self.lists, &key) {
-            if equals_at(ops, position(self.ages.as_slice(), *age), op) {
+            if equals_at(ops, position(&self.ages, *age), op) {
                 return true;
             }
         }
@@ -78,9 +78,9 @@ impl Index {
     }
 
     /// Whether one of the operations has the identifier.
-    pub fn has_id(&self, ops: &[Op], id: Option<ElementId>) -> bool
-        requires { IsAgeIndex ops.now self.now.ages (ages_under self.now.lists) }
-        ensures { result ≡ id_held ops.now id }
+    pub fn has_id(&self, ops: &Gapped<Op>, id: Option<ElementId>) -> bool
+        requires { IsAgeIndex ops.now.items self.now.ages.items (ages_under self.now.lists) }
+        ensures { result ≡ id_held ops.now.items id }
     {
         match id {
             Some(id) => nth_age(&self.lists, &own_key(id), 0).is_some(),
@@ -92,7 +92,7 @@ impl Index {
     #[tactic(auto, using(crate::proofs::GreatestLemmas::greatest_mentioned))]
     pub fn greatest(&self, replica: u32) -> Option<u32>
         requires { HasNoEmpty key_cmp self.now.lists }
-        ensures { (ops : List AnyOp) → IsAgeIndex ops self.now.ages (ages_under self.now.lists)
+        ensures { (ops : List AnyOp) → IsAgeIndex ops self.now.ages.items (ages_under self.now.lists)
             → IsGreatest (counters replica ops) result }
     {
         greatest_under(&self.lists, replica)
@@ -103,7 +103,7 @@ impl Index {
         requires some { 0 < count }
         requires counters { first.counter + count ≤ 2 ^ 32 }
         requires no_empty { HasNoEmpty key_cmp self.now.lists }
-        ensures { (ops : List AnyOp) → IsAgeIndex ops self.now.ages (ages_under self.now.lists)
+        ensures { (ops : List AnyOp) → IsAgeIndex ops self.now.ages.items (ages_under self.now.lists)
             → IsTrue result ↔ AreConcerned ops first count }
     {
         has_list_from(&self.lists, first, count)
@@ -111,15 +111,15 @@ impl Index {
 
     /// One operation more, at the end. After want of memory the index is as before.
     pub fn add(&mut self, op: &Op) -> Result<(), NoMemory>
-        requires { IsAgeIndexOfSome self.old.ages (ages_under self.old.lists) }
-        ensures ok { OnOk result ((ops : List AnyOp) → IsAgeIndex ops self.old.ages (ages_under self.old.lists)
-            → IsAgeIndex (ops ++ op.now ∷ []) self.new.ages (ages_under self.new.lists)) }
-        ensures err { OnErr result ((ops : List AnyOp) → IsAgeIndex ops self.old.ages (ages_under self.old.lists)
-            → IsAgeIndex ops self.new.ages (ages_under self.new.lists)) }
+        requires { IsAgeIndexOfSome self.old.ages.items (ages_under self.old.lists) }
+        ensures ok { OnOk result ((ops : List AnyOp) → IsAgeIndex ops self.old.ages.items (ages_under self.old.lists)
+            → IsAgeIndex (ops ++ op.now ∷ []) self.new.ages.items (ages_under self.new.lists)) }
+        ensures err { OnErr result ((ops : List AnyOp) → IsAgeIndex ops self.old.ages.items (ages_under self.old.lists)
+            → IsAgeIndex ops self.new.ages.items (ages_under self.new.lists)) }
         ensures no_empty { HasNoEmpty key_cmp self.old.lists → HasNoEmpty key_cmp self.new.lists }
     {
         let end = self.ages.len();
-        let age = next_age(self.ages.as_slice())?;
+        let age = next_age(&self.ages)?;
         self.ages.push(age)?;
         if let Err(fault) = add_age(&mut self.lists, self.alloc, op, age) {
             drop_age(&mut self.lists, op, age);
@@ -131,11 +131,11 @@ impl Index {
 
     /// The operation at the position less.
     pub fn remove(&mut self, op: &Op, position: usize)
-        requires within { position < length self.old.ages }
-        requires some { IsAgeIndexOfSome self.old.ages (ages_under self.old.lists) }
-        ensures index { (ops : List AnyOp) → IsAgeIndex ops self.old.ages (ages_under self.old.lists)
+        requires within { position < length self.old.ages.items }
+        requires some { IsAgeIndexOfSome self.old.ages.items (ages_under self.old.lists) }
+        ensures index { (ops : List AnyOp) → IsAgeIndex ops self.old.ages.items (ages_under self.old.lists)
             → slice_get ops position ≡ Some op.now
-            → IsAgeIndex (without ops position) self.new.ages (ages_under self.new.lists) }
+            → IsAgeIndex (without ops position) self.new.ages.items (ages_under self.new.lists) }
         ensures no_empty { HasNoEmpty key_cmp self.old.lists → HasNoEmpty key_cmp self.new.lists }
     {
         let age = self.ages.remove(position, 0);
@@ -144,38 +144,59 @@ impl Index {
 }
 
 /// Whether the operation at the position is equal.
-fn equals_at(ops: &[Op], position: usize, op: &Op) -> bool
-    ensures { result ≡ is_equal_at ops.now op.now position }
+fn equals_at(ops: &Gapped<Op>, position: usize, op: &Op) -> bool
+    ensures { result ≡ is_equal_at ops.now.items op.now position }
 {
     if position >= ops.len() {
         return false;
     }
-    ops[position] == *op
+    *ops.get(position) == *op
 }
 
-/// Where the age stands.
-fn position(ages: &[u64], age: u64) -> usize
-    requires { AllPairs ◌<◌ ages.now }
-    ensures { result ≡ position_or_len (λ b. nat_eq b age) ages.now }
+/// Where the age stands: the number of ages where it does not.
+fn position(ages: &Gapped<u64>, age: u64) -> usize
+    requires { AllPairs ◌<◌ ages.now.items }
+    ensures { result ≡ position_or_len (λ b. nat_eq b age) ages.now.items }
 {
-    match ages.binary_search(&age) {
-        Ok(position) => position,
-        Err(_) => ages.len(),
+    let first = first_from(ages, age);
+    if first < ages.len() && *ages.get(first) == age {
+        return first;
     }
+    ages.len()
+}
+
+/// The position of the first age that is not below this one.
+fn first_from(ages: &Gapped<u64>, age: u64) -> usize
+    requires { AllPairs ◌<◌ ages.now.items }
+    ensures { IsFirstFrom ages.now.items age result }
+{
+    let mut low = 0;
+    let mut high = ages.len();
+    'halves: while low < high {
+        let middle = low + (high - low) / 2;
+        if *ages.get(middle) < age {
+            low = middle + 1;
+        } else {
+            high = middle;
+        }
+    }
+    low
 }
 
 /// An age above all. There is none behind the last number, which no run reaches.
-fn next_age(ages: &[u64]) -> Result<u64, NoMemory>
-    requires { AllPairs ◌<◌ ages.now }
-    ensures { IfOk result (λ age. All (λ other. other < age) ages.now) }
+fn next_age(ages: &Gapped<u64>) -> Result<u64, NoMemory>
+    requires { AllPairs ◌<◌ ages.now.items }
+    ensures { IfOk result (λ age. All (λ other. other < age) ages.now.items) }
 {
-    let Some(last) = ages.last() else {
+    let count = ages.len();
+    if count == 0 {
         return Ok(0);
-    };
-    if *last == u64::MAX {
+    }
+    let last = *ages.get(count - 1);
+    if last == u64::MAX {
         return Err(NoMemory);
     }
-    Ok(*last + 1)
+    Ok(last + 1)
 }
 
 /// Whether a key of one of so many identifiers, from this one on, has a list.

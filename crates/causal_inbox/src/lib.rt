@@ -10,6 +10,6 @@ mod lists;
 mod queue;
 
 pub use gapped::Gapped;
-pub use inbox::{Facts, Inbox, OpenInbox, PushFault, is_decided};
+pub use inbox::{Facts, Inbox, PushFault, is_decided};
 pub use index::Found;
 pub use queue::Queue;

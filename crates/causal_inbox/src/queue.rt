@@ -1,7 +1,6 @@
 ghost use Rattle.std.specs.Prelude.{◌≡◌, ◌<◌, ◌≤◌, ◌+◌, ◌-◌, ◌++◌, ◌∷◌, [], Some, drop, take, length};
 ghost use Rattle.std.specs.Prelude.{remove as without, set as with_item, slice_get, OnOk, OnErr, IfErr};
 
-use crate::gapped::Gapped;
 use std::alloc::{AllocFailed, Global};
 use std::marker::Model;
 use std::mem::replace;
@@ -34,22 +33,6 @@ impl<T: Drop> Queue<T> {
             items: Vec::new(alloc),
             gone: 0,
         }
-    }
-
-    /// The items behind those that are gone.
-    pub(crate) fn behind(mut items: Vec<T>, mut gone: usize) -> Queue<T>
-        requires { gone ≤ length items.items }
-        ensures { result ≡ drop gone items.items }
-    {
-        drop_gone(&mut items, &mut gone);
-        Queue { items, gone }
-    }
-
-    /// The same items, to leave one after another.
-    pub fn open(self) -> Gapped<T>
-        ensures { result ≡ self }
-    {
-        Gapped::new(self.items, self.gone)
     }
 
     pub fn as_slice(&self) -> &[T]
@@ -124,7 +107,7 @@ fn move_up<T>(items: &mut [T], first: usize, position: usize, filler: T) -> T
 }
 
 /// Drops the places that are gone where they are more than the items.
-fn drop_gone<T: Drop>(items: &mut Vec<T>, gone: &mut usize)
+pub(crate) fn drop_gone<T: Drop>(items: &mut Vec<T>, gone: &mut usize)
     requires { gone.old ≤ length items.old.items }
     ensures items { drop gone.new items.new.items ≡ drop gone.old items.old.items }
     ensures few { gone.new + gone.new ≤ length items.new.items }

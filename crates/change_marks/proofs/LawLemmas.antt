@@ -7,13 +7,13 @@ use Rattle.std.proofs.lemmas.List.{append-nil}
 use Rattle.fugue_ids.specs.Identifiers.{Identifier}
 use Rattle.fugue_ids.specs.declared.op.Op.{Op}
 use Rattle.fugue_ids.proofs.IdentifierLemmas.{id_eq-refl}
-use Rattle.fugue_ids.proofs.ListLemmas.{contains_filter_from, contains_here, contains_there}
+use Rattle.fugue_ids.proofs.ListLemmas.{contains_filter_from, contains_here, contains_there, pointwise-same}
 use Rattle.origin_model.specs.declared.operations.Place.TheVariants.{Section as within}
 use Rattle.origin_model.specs.operations.History.{holder, holds}
 use Rattle.origin_model.specs.operations.Verdict.{Lawful}
 use Rattle.origin_model.specs.order.Order.{order}
 use Rattle.origin_model.specs.order.Printed.{is_hidden, scalar_of, shown}
-use Rattle.origin_model.proofs.SharedLemmas.{order_total}
+use Rattle.origin_model.proofs.SharedLemmas.{found, order_total}
 use Rattle.origin_model.proofs.edits.EditedTextLemmas.{text_length}
 use Rattle.catalogue_notes.specs.Arranged.{arranged, position}
 use Rattle.catalogue_notes.specs.Lift.{is_section, lift}
@@ -54,10 +54,6 @@ then_marks true false true r = refl
 then_marks true true false r = refl
 then_marks true true true r = refl
 
-some_is : (o : Option Op) → is_some o ≡ true → (op : Op) × (o ≡ Some op)
-some_is None e = absurd (false≢true e)
-some_is (Some op) e = (op, refl)
-
 both : (a b : Bool) → (a && b) ≡ true → a ≡ true
 both true b e = refl
 both false b e = e
@@ -65,7 +61,7 @@ both false b e = e
 -- a letter of the moment is the same now
 same_letter : (f h : List Op) (x : Identifier) → Lawful h → IsLater f h → is_shown f x ≡ true → letter h x ≡ scalar_of (holder f x)
 same_letter f h x w l e =
-    let held = some_is (holder f x) (both (holds f x) (not (is_hidden f x)) e) in
+    let held = found (holder f x) (both (holds f x) (not (is_hidden f x)) e) in
     ap scalar_of (holder_later f h x held.0 w l held.1) ∙ sym (ap scalar_of held.1)
 
 pub changes_by_filter : ChangesByFilter
@@ -82,10 +78,6 @@ changes_by_filter f h s w l =
           ∙ parts_same (letter h) (λ x. scalar_of (holder f x)) (filter (is_shown f) xs) (λ x m. same_letter f h x w l (contains_filter_from (is_shown f) xs x m).1)
           ∙ sym (ap (flat_map (λ x. scalar_of (holder f x))) (subst (λ whole. shown (within s) f ≡ filter (is_shown f) (order (within s) whole)) (sym l.whole) (shown_by_filter (within s) l.newer f (subst Lawful l.whole w))));
     }
-
-same_bytes : (xs : List ℕ) → pointwise nat_eq xs xs ≡ true
-same_bytes [] = refl
-same_bytes (x ∷ xs) = rw (eq-eqb x x refl) (same_bytes xs)
 
 -- what is held and compared with itself has no mark
 no_change : (had is : Bool) (r : ℕ) → had ≡ true → is_changed_element (marked_as had is is r) ≡ false
@@ -106,7 +98,7 @@ nothing_marked h s w =
 unchanged : (h : List Op) (s : Identifier) → Lawful h → is_section h s ≡ true → is_changed h h s ≡ false
 unchanged h s w k =
     let rest : Bool = is_retitled h h s || is_moved h h s in
-    let title : is_retitled h h s ≡ false = ap not (same_bytes (heading_bytes h s)) in
+    let title : is_retitled h h s ≡ false = ap not (pointwise-same (heading_bytes h s)) in
     let place : is_moved h h s ≡ false = ap not (id_eq-refl (position h s)) in
     (λ i. (not (k i) || (title i || place i)) || nothing_marked h s w i)
 

@@ -1,13 +1,16 @@
 //! What begins and ends a run, put where one run ends and the next one begins.
-ghost use Rattle.std.specs.Prelude.{◌≡◌, ◌++◌};
+ghost use Rattle.std.specs.Prelude.{◌≡◌, ◌++◌, Some, option_to_list};
 ghost use Rattle.std.specs.Str.{encode_utf8_all};
 ghost use Rattle.fugue_ids.specs.Gathers.{GathersText};
+ghost use Rattle.op_runs.specs.Finding.{op_of};
+ghost use Rattle.origin_model.specs.order.Printed.{scalar_of};
 ghost use Rattle.change_marks.specs.Marks.{letter, opening};
 ghost use Rattle.change_marks.specs.Steps.{closing_of, is_open as is_open_as, turn};
 
 use crate::Mark;
 use fugue_ids::{ElementId, Failed, Gather, Op, Out};
 use itoa::Buffer;
+use op_runs::OpRef;
 use replica_core::Replica;
 
 /// Whether the open run has the mark.
@@ -67,6 +70,27 @@ fn put_turn<O: Out>(
     put_opening(gather, output, mark)
 }
 
+/// The scalar of a Text.
+fn scalar_in(op: &OpRef<'_>) -> Option<char>
+    ensures { option_to_list result ≡ scalar_of (Some (op_of op.now)) }
+{
+    match op {
+        OpRef::Letter(_, ch) => Some(*ch),
+        OpRef::Whole(Op::Text { ch, .. }) => Some(*ch),
+        _ => None,
+    }
+}
+
+/// The letter of an element.
+fn find_letter(replica: &Replica, id: ElementId) -> Option<char>
+    ensures { option_to_list result ≡ letter replica.now.held.history id }
+{
+    match replica.holder(id) {
+        Some(op) => scalar_in(&op),
+        None => None,
+    }
+}
+
 /// Puts the letter of an element.
 fn put_letter<O: Out>(
     gather: &mut Gather,
@@ -77,9 +101,9 @@ fn put_letter<O: Out>(
     ensures { GathersText (O.seen output.old) (O.seen output.new) gather.old gather.new result
         (encode_utf8_all (letter replica.now.held.history id)) }
 {
-    match replica.holder(id) {
-        Some(Op::Text { ch, .. }) => gather.put_scalar(output, *ch),
-        _ => gather.put(output, b""),
+    match find_letter(replica, id) {
+        Some(ch) => gather.put_scalar(output, ch),
+        None => gather.put(output, b""),
     }
 }
 

@@ -20,6 +20,7 @@ use Rattle.cluster_text.specs.Clusters.{clusters, scalars}
 use Rattle.cluster_text.proofs.BorderLemmas.{apart-closed, closed_by_last}
 use Rattle.cluster_text.proofs.CutLemmas.{attach, attach-nil}
 use Rattle.cluster_text.proofs.TextLemmas.{AllScalars, clusters-nil, concat-cut, cut_scalars, scalars-pieces}
+use Rattle.std.proofs.lemmas.Bool.{and_from}
 
 -- ---- where there are as many clusters as scalars, each has one
 
@@ -80,10 +81,6 @@ either_first : (a b : Bool) → (a || b) ≡ true → b ≡ false → a ≡ true
 either_first true b e f = refl
 either_first false b e f = sym (sym e ∙ f)
 
-both : (a b : Bool) → a ≡ true → b ≡ true → (a && b) ≡ true
-both true b e f = f
-both false b e f = e
-
 module _ (c : ℕ) (below : c < 128) where
   free_below : (is_free (grapheme_cluster_break c) || nat_eq c 13) ≡ true
   unfolding ucd_breaks
@@ -98,10 +95,10 @@ module _ (c : ℕ) (below : c < 128) where
   joining_below = Stepped-below grapheme_cluster_break grapheme_cluster_break_stepped (λ x v. not (is_joining v)) 128 refl c below
 
   pub ascii_opens : opens c ≡ true
-  ascii_opens = both _ _ joining_below linking_below
+  ascii_opens = and_from _ _ joining_below linking_below
 
   pub ascii_closes : nat_eq c 13 ≡ false → closes c ≡ true
-  ascii_closes other = both _ _ (either_first _ _ free_below other) linking_below
+  ascii_closes other = and_from _ _ (either_first _ _ free_below other) linking_below
 
 -- a byte that is not special
 ordinary : (b : ℕ) → is_special b ≡ false → (b < 128) × (nat_eq b 13 ≡ false)

@@ -1,7 +1,13 @@
--- Taking in a list of operations, a run at a time: the runs that are copied, and why it stops.
+-- Taking in a list of operations, some at a time, and why it stops.
 use Rattle.std.proofs.Common.{List, [], ap, append_assoc, arith, drop, get_or, length, length-append, refl, subst, sym, ℕ, ◌+◌, ◌++◌, ◌<◌, ◌≤◌, ◌∙◌, ◌∷◌, ◌≡◌}
-use Rattle.std.specs.Prelude.{Option, Some}
-use Rattle.std.proofs.lemmas.List.{append-nil, drop_more}
+use Rattle.std.specs.Prelude.{Bool, Option, Some}
+use Rattle.std.proofs.lemmas.List.{append-nil, drop_more, nil_from_length}
+use Rattle.std.proofs.lemmas.Option.{get_or_from_slice_get}
+use Rattle.fugue_ids.specs.Identifiers.{Identifier}
+use Rattle.fugue_ids.specs.declared.op.Op.TheVariants.{Delete}
+use Rattle.op_runs.specs.Deletions.{deletes_by, target_by}
+use Rattle.op_runs.proofs.DeletionLemmas.{length-deletes}
+use Rattle.op_runs.proofs.FindLemmas.{delete_at}
 use Rattle.fugue_ids.specs.Runs.{run_from, start_behind, text_by, text_in}
 use Rattle.fugue_ids.specs.declared.op.Op.{Op}
 use Rattle.fugue_ids.specs.declared.run.RunStart.{RunStart}
@@ -17,25 +23,6 @@ use Rattle.replica_core.specs.declared.keeping.FeedFault.TheVariants as feed_fau
 use Rattle.replica_core.proofs.FeedingLemmas.{takes_none_in, takes_on}
 use Rattle.command_kinds.specs.Intake.{FeedsNotAll, OneTooMany, copied}
 use Rattle.command_kinds.proofs.IntakeLemmas.{copied-append, copied-nil}
-
--- the first operation, where it is a Text
-pub first_copied : (ops : List Op) (op : Op) (start : RunStart) (ch : ℕ) → 0 < length ops → op ≡ get_or ops 0 op → text_in op ≡ Some (start, ch) → ops ≡ run_from start (ch ∷ []) ++ drop 1 ops
-first_copied ops op start ch some is text =
-    drop_more ops 0 op some ∙ ap (λ (o : Op). o ∷ drop 1 ops) (sym is ∙ text_is_by op start ch text)
-
--- and the next one, where it goes on with the run
-pub next_copied : (ops : List Op) (start : RunStart) (text : List ℕ) (count ch : ℕ) (op : Op) → ops ≡ run_from start text ++ drop count ops → count ≡ length text → count < length ops → op ≡ get_or ops count op
-    → op ≡ text_by (start_behind start count) ch → ops ≡ run_from start (text ++ ch ∷ []) ++ drop (count + 1) ops
-next_copied ops start text count ch op split long below is goes_on =
-    let op_is : op ≡ text_by (start_behind start (length text)) ch = goes_on ∙ (λ i. text_by (start_behind start (long i)) ch) in
-    let rest : drop count ops ≡ op ∷ drop (count + 1) ops = drop_more ops count op below ∙ ap (λ (o : Op). o ∷ drop (count + 1) ops) (sym is) in
-    split ∙ ap (λ (l : List Op). run_from start text ++ l) rest ∙ ap (λ (o : Op). run_from start text ++ o ∷ drop (count + 1) ops) op_is
-    ∙ sym (append_assoc (run_from start text) (text_by (start_behind start (length text)) ch ∷ []) (drop (count + 1) ops))
-    ∙ ap (λ (l : List Op). l ++ drop (count + 1) ops) (sym (run-append start text (ch ∷ [])))
-
--- a Text that says the next and has this scalar
-pub text_behind : (op : Op) (start next : RunStart) (count ch : ℕ) → text_in op ≡ Some (next, ch) → next ≡ start_behind start count → op ≡ text_by (start_behind start count) ch
-text_behind op start next count ch text goes_on = text_is_by op next ch text ∙ (λ i. text_by (goes_on i) ch)
 
 -- what was kept of two lists, one behind the other
 pub both_kept : (start mid : State) (a b : List Op) (kept one two : Option (List Op)) → mid ≡ record start { held = held_from start.hold start.most start.held a } → one ≡ copied kept (kept_from start.hold start.most start.held a)
@@ -72,7 +59,7 @@ fault_whole (feed_fault.TooMany limit) replica ops more (most, one) =
     (most, record { front = one.front; op = one.op; more = one.more ++ more; parts = ap (λ (l : List Op). l ++ more) one.parts ∙ append_assoc one.front (one.op ∷ one.more) more; has_place = one.has_place; refused = one.refused })
 fault_whole feed_fault.NoMemory replica ops more fed = tt
 
--- A list that is taken in a run at a time: the first ones were, and these are left.
+-- A list that is taken in some at a time: the first ones were, and these are left.
 module _ (start : State) (counts : Tally) (kept : Option (List Op)) (ops : List Op) where
   pub record IsCopying (now : State) (counts_now : Tally) (kept_now : Option (List Op)) (rest : List Op) : Type 0 where
     pub done : List Op
@@ -106,8 +93,11 @@ module _ (start : State) (counts : Tally) (kept : Option (List Op)) (ops : List 
 
     -- none is left
     pub copying_over : length rest ≡ 0 → copying.done ≡ ops
-    copying_over none = sym (copying.parts ∙ ap (λ (l : List Op). copying.done ++ l) (none_left rest none) ∙ append-nil copying.done)
-      where
-        none_left : (l : List Op) → length l ≡ 0 → l ≡ []
-        none_left [] is = refl
-        none_left (op ∷ l) is = absurd (omega (arith, is))
+    copying_over none = sym (copying.parts ∙ ap (λ (l : List Op). copying.done ++ l) (nil_from_length rest none) ∙ append-nil copying.done)
+
+-- Deletes of neighbours, of which the first ones were taken in
+pub next_delete : (down : Bool) (target : Identifier) (n k : ℕ) → k < n → drop k (deletes_by down target n) ≡ (Delete (target_by down target k) ∷ []) ++ drop (k + 1) (deletes_by down target n)
+next_delete down target n k below =
+    let op : Op = Delete (target_by down target k) in
+    let all : List Op = deletes_by down target n in
+    drop_more all k op (omega (arith, below, length-deletes down target n)) ∙ ap (λ (o : Op). o ∷ drop (k + 1) all) (get_or_from_slice_get all k op op (sym (delete_at down target n k below)))

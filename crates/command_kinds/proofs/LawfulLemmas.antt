@@ -2,7 +2,7 @@
 use Rattle.std.proofs.Common.{◌≡◌, Bool, true, false, inl, inr, ℕ, List, [], ◌∷◌, refl, subst, sym}
 use Rattle.std.specs.Prelude.{if◌then◌else◌}
 use Rattle.fugue_ids.specs.declared.op.Op.{Op}
-use Rattle.origin_model.proofs.SharedLemmas.{earliest_found, within-none, within-some, without}
+use Rattle.origin_model.proofs.SharedLemmas.{accepted_by, earliest_found, within-none, within-some, without}
 use Rattle.origin_model.specs.declared.operations.Verdict.{Verdict}
 use Rattle.origin_model.specs.declared.operations.Verdict.TheVariants.{Ready, Stray}
 use Rattle.origin_model.specs.operations.Verdict.{Lawful, verdict}
@@ -26,14 +26,6 @@ settle_lawful : (s : Held) → Lawful s.history → Lawful (settle s).history
 unfolding settle
 settle_lawful s lawful = settled_lawful s.waiting s lawful
 
--- what is accepted was Ready
-accepted_ready : (most hold : Bool) (v : Verdict) → answer_by most hold v ≡ Accepted → v ≡ Ready
-accepted_ready most hold (Stray i) is = cc is
-accepted_ready true hold v is = cc is
-accepted_ready false hold Ready is = refl
-accepted_ready false true v is = cc is
-accepted_ready false false v is = cc is
-
 -- and neither there nor in conflict
 answer_new : (again conflict : Bool) (a : Answer) → (if again then Again else if conflict then Conflict else a) ≡ Accepted → a ≡ Accepted
 answer_new true conflict a is = cc is
@@ -41,7 +33,7 @@ answer_new false true a is = cc is
 answer_new false false a is = is
 
 taken_lawful : (hold most : ℕ) (s : Held) (op : Op) (a : Answer) → answer hold most s op ≡ a → Lawful s.history → Lawful (taken a s op).history
-taken_lawful hold most s op Accepted is lawful = (accepted_ready _ _ (verdict s.history op) (answer_new (is_again s op) (is_taken s op) _ is), lawful)
+taken_lawful hold most s op Accepted is lawful = (accepted_by _ _ (verdict s.history op) (answer_new (is_again s op) (is_taken s op) _ is), lawful)
 taken_lawful hold most s op _ is lawful = lawful
 
 pub held_lawful : (hold most : ℕ) (s : Held) (ops : List Op) → Lawful s.history → Lawful (held_from hold most s ops).history

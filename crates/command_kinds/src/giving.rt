@@ -1,5 +1,6 @@
 //! The commands that save: something is given to the replica of the home file, and what came of it is saved and noted.
 ghost use Rattle.std.specs.Prelude.{◌≡◌, ◌≢◌, ◌-◌, [], drop, length, Some, IfSome};
+ghost use Rattle.origin_model.specs.operations.History.{accepted};
 ghost use Rattle.outer_ports.specs.disk.Disks.{DiskTells, DiskView};
 ghost use Rattle.replica_file.specs.declared.load_file.End.{End as FileEnd};
 ghost use Rattle.replica_file.specs.Ends.{EndsAt, IsWithinReach};
@@ -23,7 +24,7 @@ use crate::home_file::{load_file, save};
 use crate::kept::Kept;
 use crate::printing::note as note_counts;
 use crate::refusal::{Refusal, tell};
-use fugue_ids::Op;
+use op_runs::OpSlice;
 use outer_ports::{Disk, Sink};
 use replica_core::Replica;
 use replica_file::End;
@@ -140,32 +141,22 @@ fn give_and_save<F, T: Gives<F>, H: Disk>(
 }
 
 /// What is to be saved, where so many operations were accepted before something was given.
-fn to_save<'a>(note: &Note, before: usize, replica: &'a Replica, kept: &'a Kept) -> &'a [Op]
-    ensures { result.now ≡ ops_to_save note.now before replica.now kept.now }
+fn to_save<'a>(note: &Note, before: usize, replica: &'a Replica, kept: &'a Kept) -> OpSlice<'a>
+    ensures { result ≡ ops_to_save note.now before replica.now kept.now }
 {
     match note {
-        Note::Counted(_) => kept.ops(),
-        Note::Made(_) => behind(replica.accepted(), before),
-        Note::Revised(made, _) => last_of(replica.accepted(), *made),
+        Note::Counted(_) => OpSlice::of(kept.ops()),
+        Note::Made(_) => replica.accepted_from(before),
+        Note::Revised(made, _) => last_of(replica, *made),
     }
 }
 
-/// The last operations, so many.
-pub fn last_of(ops: &[Op], count: u32) -> &[Op]
-    ensures { result.now ≡ drop (length ops.now - count) ops.now }
+/// The operations that the replica accepted last, so many.
+pub fn last_of(replica: &Replica, count: u32) -> OpSlice<'_>
+    ensures { result ≡ drop (length (accepted replica.now.held.history) - count) (accepted replica.now.held.history) }
 {
-    behind(ops, ops.len().saturating_sub(count as usize))
-}
-
-/// The operations behind so many.
-pub fn behind(ops: &[Op], before: usize) -> &[Op]
-    ensures { result.now ≡ drop before ops.now }
-{
-    if before <= ops.len() {
-        &ops[before..]
-    } else {
-        &[]
-    }
+    let all = replica.accepted().len();
+    replica.accepted_from(all.saturating_sub(count as usize))
 }
 
 fn note_down<N: Sink>(note: &Note, notes: &mut N) -> Status

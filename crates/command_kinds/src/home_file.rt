@@ -8,7 +8,8 @@ ghost use Rattle.outer_ports.specs.disk.Disks.{DiskTells};
 ghost use Rattle.std.specs.Prelude.{◌≡◌, ◌≢◌, IfOk, IfSome};
 
 use crate::Refusal;
-use fugue_ids::{MOST_OPERATIONS, Op};
+use fugue_ids::MOST_OPERATIONS;
+use op_runs::OpSlice;
 use outer_ports::Disk;
 use replica_core::Replica;
 use replica_file::{End, append, load, load_moments};
@@ -49,11 +50,11 @@ pub(crate) fn save<H: Disk>(
     alloc: Global,
     file: &mut H,
     end: End,
-    ops: &[Op],
+    ops: OpSlice<'_>,
 ) -> Result<(), Refusal>
     requires reaches { IsWithinReach end }
     requires ends { IfSome (H.seen file.old).past (λ h. EndsAt h.last end) }
-    ensures meets { SaveMeets end ops.now (change (H.seen file.old) (H.seen file.new)) result }
+    ensures meets { SaveMeets end ops.entry (change (H.seen file.old) (H.seen file.new)) result }
     ensures told { DiskTells (H.seen file.old) → result ≢ Err Outside
         → (H.seen file.new).faults ≡ (H.seen file.old).faults }
 {

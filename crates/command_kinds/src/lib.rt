@@ -26,7 +26,7 @@ mod version_name;
 pub use counts::{Counts, Note, SectionCounts};
 pub use creating::new_file;
 pub use edit::Script;
-pub use giving::{Gives, behind, last_of, save_given};
+pub use giving::{Gives, last_of, save_given};
 pub use home_file::{load_file, load_file_moments};
 pub use kept::Kept;
 pub use merge::OtherFile;

@@ -12,6 +12,7 @@ use crate::giving::Gives;
 use crate::home_file::load_file;
 use crate::kept::Kept;
 use crate::refusal::Refusal;
+use op_runs::OpSlice;
 use origin_model::Tally;
 use outer_ports::Disk;
 use replica_core::Replica;
@@ -54,6 +55,7 @@ fn give_all(
 {
     let mut tally = Tally::default();
     take_copies(alloc, replica, other.accepted(), &mut tally, kept)?;
-    take_copies(alloc, replica, other.waiting(), &mut tally, kept)?;
+    let waiting = OpSlice::of(other.waiting());
+    take_copies(alloc, replica, waiting, &mut tally, kept)?;
     Ok(Note::Counted(Counts::of(replica, tally)))
 }

@@ -6,6 +6,7 @@ use crate::report::{Report, Told};
 use crate::text_out::gone_out;
 use fugue_ids::{NoMemory, write_whole};
 use op_frame::encode_all;
+use op_runs::OpSlice;
 use outer_ports::Sink;
 use replica_core::Replica;
 use std::alloc::Global;
@@ -31,6 +32,6 @@ fn frames_of(alloc: Global, replica: &Replica) -> Result<Vec<u8>, NoMemory>
 {
     let mut frames = Vec::new(alloc);
     encode_all(replica.accepted(), &mut frames)?;
-    encode_all(replica.waiting(), &mut frames)?;
+    encode_all(OpSlice::of(replica.waiting()), &mut frames)?;
     Ok(frames)
 }

@@ -6,6 +6,7 @@ use crate::assertions::{equal, equal_at, holds_at};
 use crate::frames::{NEW, OLD, PRINTED, SAVED};
 use crate::memory::{list, sure_disk};
 use fugue_ids::{ElementId, MOST_OPERATIONS, Op, Title};
+use op_runs::OpSlice;
 use outer_ports::{Disk, MemDisk, MemSink, Pick};
 use replica_file::{CreateFault, End, LoadFault, append, create, load};
 use std::alloc::Global;
@@ -80,7 +81,7 @@ fn counted<H: Disk>(alloc: Global, disk: &mut H, most: u32) -> Result<(usize, En
 /// Loads, and appends the operations. The answer is where the file's meaning ends then.
 fn save<H: Disk>(alloc: Global, disk: &mut H, ops: &[Op]) -> Option<End> {
     let (_count, end) = counted(alloc, disk, MOST_OPERATIONS).ok()?;
-    append(alloc, disk, end, ops).ok()
+    append(alloc, disk, end, OpSlice::of(ops)).ok()
 }
 
 /// Whether this is printed of a file.

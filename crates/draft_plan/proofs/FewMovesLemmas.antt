@@ -37,14 +37,11 @@ use Rattle.draft_plan.specs.Shaping.{KeepsPlaces}
 use Rattle.draft_plan.proofs.RankLemmas.{flag_at, flag_count, flags_most, one_order}
 use Rattle.draft_plan.proofs.RevisionLemmas.{shown_holds}
 use Rattle.draft_plan.proofs.ShapeLemmas.{got}
+use Rattle.std.proofs.Math.Bool.{or-true}
 
 and_true : (b : Bool) → b && true ≡ b
 and_true true = refl
 and_true false = refl
-
-or_true : (b : Bool) → b || true ≡ true
-or_true true = refl
-or_true false = refl
 
 -- a member that is not chosen, put in
 filter_put : (f : Identifier → Bool) (ys : List Identifier) (j : ℕ) (s : Identifier) → f s ≡ false → filter f (insert ys j s) ≡ filter f ys
@@ -209,7 +206,7 @@ among_to : (xs : List Identifier) (s : Identifier) → Contains xs s → is_amon
 among_to [] s m = absurd (contains_none s m)
 among_to (x ∷ xs) s m = elim (contains_cases x xs s m) [
   | inl e ↦ ap (λ b. b || is_among xs s) (eq-id_eq s x (sym e))
-  | inr k ↦ ap (λ b. id_eq s x || b) (among_to xs s k) ∙ or_true (id_eq s x)
+  | inr k ↦ ap (λ b. id_eq s x || b) (among_to xs s k) ∙ or-true (id_eq s x)
 ]
 
 among_from : (xs : List Identifier) (s : Identifier) → is_among xs s ≡ true → Contains xs s

@@ -27,7 +27,6 @@ use Rattle.catalogue_notes.specs.Moving.{IsRetitleMade, RefusesFor, TellsAbsence
 use Rattle.catalogue_notes.specs.declared.moving.MoveFault.{MoveFault}
 use Rattle.catalogue_notes.proofs.ClaimLemmas.{claims-none, claims-some}
 use Rattle.catalogue_notes.proofs.HolderLemmas.{anything, cases_option, joins, not_both, same_value}
-use Rattle.catalogue_notes.proofs.MovingLemmas.{failed}
 use Rattle.catalogue_notes.proofs.LiftLemmas.{passing_from}
 use Rattle.catalogue_notes.proofs.PartLemmas.{filter_no, filter_yes}
 use Rattle.catalogue_notes.proofs.RetitleLemmas.{title_shape}
@@ -45,6 +44,7 @@ use Rattle.draft_plan.proofs.NeededLemmas.{only_join, only_none, only_one, only_
 use Rattle.draft_plan.proofs.SectionLemmas.{text_kept}
 use Rattle.draft_plan.proofs.ShapeLemmas.{got, history_is, note_limit, same_join, same_none, section_there}
 use Rattle.draft_plan.specs.declared.fault.ReviseFault.TheVariants as fault
+use Rattle.fugue_ids.proofs.OptionLemmas.{failed}
 
 changes_none : (h : List Op) (s : Identifier) → ChangesOnly h h s
 changes_none h s = record { catalogue_is = refl; arranged_as = refl; moved = refl; others = λ t d. same_none h t }

@@ -178,9 +178,6 @@ part_line l b rest e =
     ∙ ap (λ (t : List ℕ). l ++ 10 ∷ t) (sym (append_assoc (join_with_byte 10 b) (10 ∷ []) rest))
     ∙ sym (append_assoc l (10 ∷ []) ((join_with_byte 10 b ++ 10 ∷ []) ++ rest))
 
-both_true : (a b : Bool) → a ≡ true → b ≡ true → (a && b) ≡ true
-both_true a b e f = and_from a b e f
-
 -- the lines up to the next heading, and the form of the parts behind them
 reform_heading : (l : List ℕ) (ls : List (List ℕ)) → is_heading l ≡ true → ended (filled ls) ≡ ended (before_heading ls) ++ form (parts_of ls)
     → ended (filled (l ∷ ls)) ≡ form (parts_of (l ∷ ls))
@@ -190,7 +187,7 @@ reform_heading l (k ∷ ls) e more =
       | inl t ↦
           let none : before_heading (k ∷ ls) ≡ [] = before_all [] (k ∷ ls) (All-nil (λ l. is_heading l ≡ false)) t in
           let one : ended (filled (k ∷ ls)) ≡ form (parts_of (k ∷ ls)) = more ∙ ap (λ b. ended b ++ form (parts_of (k ∷ ls))) none in
-          ap (λ t. ended (cond t (l ∷ [] ∷ filled (k ∷ ls)) (l ∷ filled (k ∷ ls)))) (both_true (is_heading l) (is_heading k) e t)
+          ap (λ t. ended (cond t (l ∷ [] ∷ filled (k ∷ ls)) (l ∷ filled (k ∷ ls)))) (and_from (is_heading l) (is_heading k) e t)
           ∙ ap (λ m. (l ++ 10 ∷ []) ++ ((10 ∷ []) ++ m)) one
           ∙ sym (part_line l [] (form (parts_of (k ∷ ls))) e)
           ∙ ap (λ b. part_form (record { title = title_of l; text = join_with_byte 10 b }) ++ form (parts_of (k ∷ ls))) (sym none)

@@ -21,7 +21,7 @@ use Rattle.origin_model.specs.operations.Counters.{counters, mentioned}
 use Rattle.origin_model.specs.operations.History.{holds}
 use Rattle.origin_model.specs.operations.Verdict.{names}
 use Rattle.origin_model.proofs.SharedLemmas.{Fits}
-use Rattle.origin_model.proofs.edits.FreshIdLemmas.{BelowAll, IsBelow, history_below, none_from, waiting_below}
+use Rattle.origin_model.proofs.edits.FreshIdLemmas.{above_below, BelowAll, counters_below, held_below, history_below, IsBelow, none_from, waiting_below}
 use Rattle.origin_model.proofs.edits.MadeLemmas.{extended_length}
 use Rattle.catalogue_notes.specs.Lift.{stamp}
 use Rattle.catalogue_notes.specs.Moving.{as_move_fault, note_cause}
@@ -31,32 +31,6 @@ use Rattle.catalogue_notes.proofs.HolderLemmas.{joins}
 use Rattle.draft_plan.specs.Limits.{Cost, Costs, IsOutOfMemory, LacksRoom, TakesUpTo, cost, counters_left, operations_left, plus, stamps_left}
 use Rattle.draft_plan.specs.declared.fault.ReviseFault.{ReviseFault}
 use Rattle.draft_plan.specs.declared.fault.ReviseFault.TheVariants as fault
-
--- where each counter is below a number, so is what is next
-above_below : (ns : List ℕ) (c : ℕ) → All (λ m. m < c) ns → above_all ns ≤ c
-above_below [] c a = omega arith
-above_below (n ∷ ns) c a = omega (arith, All-head (λ m. m < c) n ns a, above_below ns c (All-tail (λ m. m < c) n ns a))
-
-own_below : (r c : ℕ) (ids : List Identifier) → All (IsBelow r c) ids → All (λ m. m < c) (map (λ i. i.counter) (filter (λ i. nat_eq i.replica r) ids))
-own_below r c [] a = All-nil (λ m. m < c)
-own_below r c (i ∷ ids) a = by_test (nat_eq i.replica r) (All-head (IsBelow r c) i ids a) (own_below r c ids (All-tail (IsBelow r c) i ids a))
-  where
-    rest : List Identifier
-    rest = filter (λ i. nat_eq i.replica r) ids
-
-    by_test : (b : Bool) → (b ≡ true → i.counter < c) → All (λ m. m < c) (map (λ i. i.counter) rest) → All (λ m. m < c) (map (λ i. i.counter) (cond b (i ∷ rest) rest))
-    by_test true f a = All-cons (λ m. m < c) i.counter (map (λ i. i.counter) rest) (f refl) a
-    by_test false f a = a
-
--- what is held has a counter below
-held_below : (r c : ℕ) (h : List Op) (x : Identifier) → BelowAll r c h → holds h x ≡ true → IsBelow r c x
-held_below r c h x a k own =
-    elim (cases_lt x.counter c) [
-      | inl l ↦ l
-      | inr l ↦
-          let is : id_at r x.counter ≡ x = ap (λ n. id_at n x.counter) (sym (eqb-true x.replica r own)) in
-          absurd (true≢false (sym k ∙ ap (holds h) (sym is) ∙ none_from r c h a x.counter l))
-    ]
 
 -- the operation's own identifier has a counter below
 abbrev pub MakesBelow : (r c : ℕ) → Op → Type 0
@@ -90,7 +64,7 @@ next_joined old new ops k g ready own =
     let all : BelowAll r (n + k) (extended h ops ++ w) =
     subst (All P) (sym (flat_map-append mentioned (extended h ops) w)) (All-append P (flat_map mentioned (extended h ops)) (flat_map mentioned w) front rest) in
     let next : above_all (counters r (extended h ops ++ w)) ≤ n + k =
-    above_below (counters r (extended h ops ++ w)) (n + k) (own_below r (n + k) (flat_map mentioned (extended h ops ++ w)) all) in
+    above_below (counters r (extended h ops ++ w)) (n + k) (counters_below r (n + k) (flat_map mentioned (extended h ops ++ w)) all) in
     subst (λ (s : State). next_of_own s ≤ n + k) (sym g.others) next
 
 -- what operations take that join

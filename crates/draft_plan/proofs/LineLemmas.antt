@@ -163,14 +163,17 @@ line_whole (b ∷ bs) h p =
     let one : IsLine (b ∷ bs) = no_line_feed (b ∷ bs) p in
     record { one_line = one; split = inr (refl, refl); pieces_are = line_alone b bs one; shorter = h }
 
--- a text that is not empty has a first line
-cases_found : (o : Option ℕ) → (o ≡ None) ⊎ ((i : ℕ) × (o ≡ Some i))
-cases_found None = inl refl
-cases_found (Some i) = inr (i, refl)
+-- the first line ends somewhere, or it does not
+line_end : (text : List ℕ) → (position (λ b. b == 10) text ≡ None) ⊎ ((at : ℕ) × (position (λ b. b == 10) text ≡ Some at))
+line_end text = by (position (λ b. b == 10) text) refl
+  where
+    by : (found : Option ℕ) → position (λ b. b == 10) text ≡ found → (position (λ b. b == 10) text ≡ None) ⊎ ((at : ℕ) × (position (λ b. b == 10) text ≡ Some at))
+    by None is = inl is
+    by (Some at) is = inr (at, is)
 
 first_of : (text : List ℕ) → 0 < length text → (line : List ℕ) × (rest : List ℕ) × IsFirstLine text line rest
 first_of text h =
-    elim (cases_found (position (λ b. b == 10) text)) [
+    elim (line_end text) [
       | inl n ↦ (text, [], line_whole text h n)
       | inr f ↦ (take f.0 text, take (length text - (f.0 + 1)) (drop (f.0 + 1) text), line_found f.0 text f.1)
     ]

@@ -19,19 +19,15 @@ use Rattle.origin_model.specs.operations.Verdict.{Lawful}
 use Rattle.origin_model.specs.order.Laws.{IsIn}
 use Rattle.origin_model.specs.order.Order.{order}
 use Rattle.origin_model.specs.order.Printed.{deletes, is_hidden, shown}
-use Rattle.origin_model.proofs.SharedLemmas.{holder-own, not_hidden_before, order_total}
+use Rattle.origin_model.proofs.SharedLemmas.{holder-own, is_own-id, not_hidden_before, order_total}
 use Rattle.catalogue_notes.specs.Arranged.{arranged}
 use Rattle.catalogue_notes.proofs.ArrangedLemmas.{arranged_shown, shown_arranged, shown_is}
-use Rattle.catalogue_notes.proofs.HolderLemmas.{cases_option, holder-kept, is_own-id, joins, not_both}
+use Rattle.catalogue_notes.proofs.HolderLemmas.{cases_option, holder-kept, joins, not_both}
 use Rattle.draft_plan.specs.Needed.{InRevision, InSections, InTexts, IsElement, MayBeDeleted, MakesOnly, NoneIsNeedless}
 use Rattle.draft_plan.specs.Shaping.{IsReshaped}
 use Rattle.draft_plan.proofs.NeededLemmas.{only_join, only_weaker, section_held, touches_weaker}
 use Rattle.draft_plan.proofs.SectionLemmas.{shown_held}
-
--- the history in front of operations is lawful
-lawful_front : (ops h : List Op) → Lawful (extended h ops) → Lawful h
-lawful_front [] h w = w
-lawful_front (op ∷ ops) h w = (lawful_front ops (op ∷ h) w).1
+use Rattle.origin_model.proofs.edits.MadeLemmas.{lawful_front}
 
 -- what is held stays held
 stays_held : (ops h : List Op) (x : Identifier) (f : Op) → Lawful (extended h ops) → holder h x ≡ Some f → holder (extended h ops) x ≡ Some f

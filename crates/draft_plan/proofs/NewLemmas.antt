@@ -9,17 +9,13 @@ use Rattle.origin_model.specs.edits.Effect.{Gains}
 use Rattle.origin_model.specs.edits.Refusal.{next_of_own, put_ids}
 use Rattle.origin_model.specs.edits.State.{State}
 use Rattle.origin_model.specs.operations.History.{holds, is_own}
-use Rattle.origin_model.proofs.SharedLemmas.{holds-other, holds-own}
+use Rattle.origin_model.proofs.SharedLemmas.{holds-older, holds-other, holds-own}
 use Rattle.origin_model.proofs.edits.FreshIdLemmas.{NoneFrom, history_below, none_from}
 use Rattle.draft_plan.specs.Texts.{AreNew}
 
--- what is held stays held
-holds_more : (op : Op) (h : List Op) (x : Identifier) → holds h x ≡ true → holds (op ∷ h) x ≡ true
-holds_more op h x k = elim (cases_Bool (is_own x op)) [ inl own ↦ holds-own op h x own | inr other ↦ holds-other op h x other ∙ k ]
-
 still_held : (ops h : List Op) (x : Identifier) → holds h x ≡ true → holds (extended h ops) x ≡ true
 still_held [] h x k = k
-still_held (op ∷ ops) h x k = still_held ops (op ∷ h) x (holds_more op h x k)
+still_held (op ∷ ops) h x k = still_held ops (op ∷ h) x (holds-older op h x k)
 
 not_yet : (ops h : List Op) (x : Identifier) → holds (extended h ops) x ≡ false → holds h x ≡ false
 not_yet ops h x none = false_from_ne_true (holds h x) (λ k. true≢false (sym (still_held ops h x k) ∙ none))

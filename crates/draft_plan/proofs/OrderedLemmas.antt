@@ -12,11 +12,7 @@ use Rattle.origin_model.specs.operations.History.{element_of}
 use Rattle.origin_model.specs.order.Order.{order}
 use Rattle.origin_model.specs.order.Printed.{shown}
 use Rattle.origin_model.proofs.edits.MadeLemmas.{put_made}
-
--- an operation that is no element of the place leaves its order
-pub order-none : (p : Place) (op : Op) (older : List Op) → element_of p op ≡ None → order p (op ∷ older) ≡ order p older
-unfolding order
-order-none p op older e = rw (e, order)
+use Rattle.origin_model.proofs.SharedLemmas.{order-none}
 
 -- texts that are typed leave the orders of other sections
 typed_orders : (chs : List ℕ) (r c : ℕ) (s t : Identifier) (left right : Option Identifier) (h : List Op) → t ≢ s → order (within t) (extended h (typed r c s left right chs)) ≡ order (within t) h

@@ -20,13 +20,14 @@ use Rattle.origin_model.proofs.SharedLemmas.{holder-own, order_total}
 use Rattle.catalogue_notes.specs.Arranged.{best, counts, heading, winner}
 use Rattle.catalogue_notes.specs.Claims.{Move, Retitle, move_in, retitle_in}
 use Rattle.catalogue_notes.specs.Lift.{is_valid_title, moves, passing, retitles}
-use Rattle.catalogue_notes.proofs.ArrangedLemmas.{move_found, move_test, position_by, shown_is}
+use Rattle.catalogue_notes.proofs.ArrangedLemmas.{move_found, move_test, no_move, position_by, shown_is}
 use Rattle.catalogue_notes.proofs.ClaimLemmas.{claim_found, claims-none}
 use Rattle.catalogue_notes.proofs.HolderLemmas.{Joins, cases_option, holder-kept, not_both, same_value, section_held}
 use Rattle.catalogue_notes.proofs.LiftLemmas.{passing_from}
 use Rattle.catalogue_notes.proofs.PartLemmas.{filter_no, filter_same, parts_same}
 use Rattle.catalogue_notes.proofs.RetitleLemmas.{title-kept, title_shape}
 use Rattle.draft_plan.specs.Shaping.{KeepsPlaces, SameSection}
+use Rattle.std.proofs.Math.Bool.{or-true}
 
 -- an operation that says no retitle, and deletes none
 pub record IsQuiet (h : List Op) (e : Op) : Type 0 where
@@ -103,26 +104,16 @@ pub record IsStill (h : List Op) (e : Op) : Type 0 where
   pub says : move_in e ≡ None
   pub spares : (c : Move) → Contains (moves h) c → deletes c.id e ≡ false
 
-or_right : (b : Bool) → b || true ≡ true
-or_right true = refl
-or_right false = refl
-
 -- all sections have the moves and the positions that they had
 pub places_kept : (h : List Op) (e : Op) → IsStill h e → KeepsPlaces h (e ∷ h)
 places_kept h e q =
     let moved : moves (e ∷ h) ≡ moves h = claims-none move_in move_test e h (ap (passing (move_test h)) q.says) in
     record {
-      part = λ op k. ap (λ b. op_eq e op || b) k ∙ or_right (op_eq e op);
+      part = λ op k. ap (λ b. op_eq e op || b) k ∙ or-true (op_eq e op);
       moved = moved;
       positions = λ s. ap (position_by s)
           (ap (winner (e ∷ h) s) moved ∙ ap best (filter_same (counts (e ∷ h) s) (counts h s) (moves h) (λ c m. ap (λ b. id_eq c.section s && not (b || is_hidden h c.id)) (q.spares c m))));
     }
-
-no_move : (f : Op) → fits SectionRole f ≡ true → move_in f ≡ None
-no_move (Section i l r t) k = refl
-no_move (Text i s l r c) k = refl
-no_move (Delete i) k = refl
-no_move (Note id named code body) k = absurd (false≢true k)
 
 -- the delete of a section deletes no move
 pub delete_still : (h : List Op) (s : Identifier) → Lawful h → Contains (shown catalogue h) s → IsStill h (Delete s)

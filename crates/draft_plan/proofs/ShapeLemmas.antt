@@ -43,9 +43,9 @@ use Rattle.draft_plan.specs.declared.fault.ReviseFault.{ReviseFault}
 use Rattle.draft_plan.specs.declared.fault.ReviseFault.TheVariants as fault
 use Rattle.draft_plan.proofs.ChangeLemmas.{changed_edit, changed_move, stops_edit, stops_first, stops_note}
 use Rattle.draft_plan.proofs.MakingLemmas.{AnyChange, makes_join, makes_none, makes_one, stops_behind}
-use Rattle.draft_plan.proofs.OrderedLemmas.{order-none}
 use Rattle.draft_plan.proofs.NeededLemmas.{in_drop, in_take, only_join, only_none, only_one, only_weaker, touches_weaker}
 use Rattle.draft_plan.proofs.SectionLemmas.{IsQuiet, delete_quiet, delete_still, heading_kept, held_kept, places_kept, section_kept}
+use Rattle.origin_model.proofs.SharedLemmas.{order-none}
 
 -- a section as it was
 pub same_none : (h : List Op) (s : Identifier) → SameSection h h s

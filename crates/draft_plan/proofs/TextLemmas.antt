@@ -22,7 +22,7 @@ use Rattle.origin_model.specs.order.Order.{order}
 use Rattle.origin_model.specs.order.Printed.{shown, text}
 use Rattle.origin_model.proofs.edits.AllowedLemmas.{allowed}
 use Rattle.origin_model.proofs.edits.CutLemmas.{cut_takes}
-use Rattle.origin_model.proofs.edits.EditedTextLemmas.{cut_erases, put_writes, text_length}
+use Rattle.origin_model.proofs.edits.EditedTextLemmas.{cut_erases, other_place, put_writes, text_length}
 use Rattle.origin_model.proofs.edits.PutLemmas.{put_lands}
 use Rattle.origin_model.proofs.edits.RefusalLemmas.{cut_count, put_count}
 use Rattle.text_diff.specs.declared.hunk.Hunk.{Hunk}
@@ -36,18 +36,11 @@ use Rattle.draft_plan.proofs.NewLemmas.{new_earlier, put_new}
 use Rattle.draft_plan.proofs.NeededLemmas.{cut_in_text, only_join, put_in_text}
 use Rattle.draft_plan.proofs.OrderedLemmas.{put_orders}
 use Rattle.draft_plan.proofs.ChangeLemmas.{changed_edit, changed_join, changed_none, count_join, count_one, stops_after, stops_edit, stops_first}
-
--- the history after operations
-history_is : (old new : State) (ops : List Op) → Gains old new ops → new.held.history ≡ extended old.held.history ops
-history_is old new ops g = ap (λ (s : State). s.held.history) g.others
+use Rattle.draft_plan.proofs.ShapeLemmas.{history_is}
 
 -- an edit of the section alone
 one_edit : (k : ℕ) (command : Command) → EditsText k (Edit command) → All (EditsText k) (Edit command ∷ [])
 one_edit k command e = All-cons (EditsText k) (Edit command) [] e (All-nil (EditsText k))
-
--- another section is another place
-other_place : (t s : Identifier) → t ≢ s → within t ≢ within s
-other_place t s n e = let d : t ≡ s = cc e in n d
 
 -- a cut that was made
 module _ (old new : State) (k at n count : ℕ) (x : Identifier) (w : Lawful old.held.history) (e : section_shown old k ≡ Some x)

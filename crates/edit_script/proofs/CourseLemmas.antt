@@ -21,6 +21,7 @@ use Rattle.edit_script.specs.Lines.{fault_at}
 use Rattle.edit_script.specs.Scripts.{Does, IsRefused, LinesLead, RunsUpTo, RunsWhole, StopsAt, by_scalars, line_refusal}
 use Rattle.edit_script.proofs.DecideLemmas.{line_is_one}
 use Rattle.edit_script.proofs.RunLemmas.{leads_grow}
+use Rattle.origin_model.proofs.edits.MadeLemmas.{join_at_end}
 
 -- no refusal is a want of memory
 abbrev NotMemory : Option EditFault → Type 0
@@ -49,11 +50,6 @@ refusal_is s (Put k at new) = within_section (section_shown s k) _ (λ x. range_
 refusal_is s (Cut k at n) = within_section (section_shown s k) _ (λ x. range_refusal _ _ _ (ops_refusal s _))
 refusal_is s (Add at title) = range_refusal _ _ _ (elements_refusal s 1)
 refusal_is s (DropSection k) = within_section (section_shown s k) _ (λ x. ops_refusal s 1)
-
--- operations that join stand at the end of the accepted ones
-join_at_end : (h ops : List Op) → accepted (extended h ops) ≡ accepted h ++ ops
-join_at_end h [] = sym (append-nil (reverse h))
-join_at_end h (op ∷ ops) = join_at_end (op ∷ h) ops ∙ ap (λ (z : List Op). z ++ ops) (reverse-append (op ∷ []) h) ∙ append_assoc (reverse h) (op ∷ []) ops
 
 joined : (s : State) (ops : List Op) → Gains s (with_ops s ops) ops
 joined s ops = record { accepted_are = join_at_end s.held.history ops; others = refl }

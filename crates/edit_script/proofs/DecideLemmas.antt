@@ -12,21 +12,7 @@ use Rattle.fugue_ids.specs.declared.limits.TheConstants.{LONGEST_TITLE}
 use Rattle.origin_model.specs.edits.Edits.{Command, Put, Cut, Add, DropSection}
 use Rattle.edit_script.specs.Grammar.{Asks, IsBad, IsNote, IsWritable, escaped, command_line}
 use Rattle.edit_script.proofs.EscapeLemmas.{escaped_some}
-
--- it holds, or it does not
-abbrev pub Decided : Type 0 → Type 0
-Decided P = P ⊎ (P → ⊥)
-
-less_decided : (m n : ℕ) → Decided (m < n)
-less_decided m n = elim (cases_lt m n) [ inl less ↦ inl less | inr never ↦ inr (λ less. omega (arith, less, never)) ]
-
-true_decided : (b : Bool) → Decided (b ≡ true)
-true_decided true = inl refl
-true_decided false = inr (λ e. false≢true e)
-
-false_decided : (b : Bool) → Decided (b ≡ false)
-false_decided true = inr (λ e. false≢true (sym e))
-false_decided false = inl refl
+use Rattle.fugue_ids.proofs.DecideLemmas.{Decided, is_false_decided, is_true_decided, less_decided, title_decided}
 
 some_decided : (xs : List ℕ) → Decided (xs ≢ [])
 some_decided [] = inr (λ some. some refl)
@@ -96,24 +82,15 @@ scalars_within (suc most) (x ∷ xs) short all =
     let parts = and_parts (scalar x) (all_scalars xs) all in
     (scalar_fits x parts.0, scalars_within most xs (omega (arith, short)) parts.1)
 
-title_decided : (bytes : List ℕ) → Decided (IsTitleText bytes)
-title_decided bytes = by (less_decided 0 (length bytes)) (less_decided (length bytes) (LONGEST_TITLE + 1)) (false_decided (has_line_end bytes))
-  where
-    by : Decided (0 < length bytes) → Decided (length bytes < LONGEST_TITLE + 1) → Decided (has_line_end bytes ≡ false) → Decided (IsTitleText bytes)
-    by (inl some) (inl short) (inl line) = inl (record { some = some; short = omega (arith, short); one_line = line })
-    by (inl some) (inl short) (inr never) = inr (λ is. never is.one_line)
-    by (inl some) (inr never) line = inr (λ is. never (let short = is.short in omega (arith, short)))
-    by (inr never) short line = inr (λ is. never is.some)
-
 writable_decided : (command : Command) → Decided (IsWritable command)
-writable_decided (Add at title) = by (less_decided (at + 1) (2 ^ 32)) (true_decided (all_scalars title)) (title_decided (encode_utf8_all title))
+writable_decided (Add at title) = by (less_decided (at + 1) (2 ^ 32)) (is_true_decided (all_scalars title)) (title_decided (encode_utf8_all title))
   where
     by : Decided (at + 1 < 2 ^ 32) → Decided (all_scalars title ≡ true) → Decided (IsTitleText (encode_utf8_all title)) → Decided (IsWritable (Add at title))
     by (inl place) (inl scalars) (inl is_title) = inl (place, scalars, is_title)
     by (inl place) (inl scalars) (inr never) = inr (λ can. never can.2)
     by (inl place) (inr never) is_title = inr (λ can. never can.1)
     by (inr never) scalars is_title = inr (λ can. never can.0)
-writable_decided (Put k at new) = by (less_decided (k + 1) (2 ^ 32)) (less_decided at (2 ^ 32)) (true_decided (all_scalars new)) (some_decided new)
+writable_decided (Put k at new) = by (less_decided (k + 1) (2 ^ 32)) (less_decided at (2 ^ 32)) (is_true_decided (all_scalars new)) (some_decided new)
   where
     by : Decided (k + 1 < 2 ^ 32) → Decided (at < 2 ^ 32) → Decided (all_scalars new ≡ true) → Decided (new ≢ []) → Decided (IsWritable (Put k at new))
     by (inl section) (inl place) (inl scalars) (inl some) = inl (section, place, scalars, some)
@@ -205,7 +182,7 @@ edit_decided line = by (add_decided line) (put_decided line) (cut_decided line) 
     by (inr a) (inr p) (inr c) (inr d) = inr (λ found. none a p c d found.0 found.1)
 
 utf8_decided : (line : List ℕ) → Decided (IsUtf8 line)
-utf8_decided line = by (true_decided (is_utf8 line))
+utf8_decided line = by (is_true_decided (is_utf8 line))
   where
     by : Decided (is_utf8 line ≡ true) → Decided (IsUtf8 line)
     by (inl is) = inl (IsUtf8-from_is_utf8 line is)

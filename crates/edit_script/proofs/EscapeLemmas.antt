@@ -167,11 +167,6 @@ chars_push bytes longer ch utf8 longer_utf8 is =
     sym (chars_from_encodes (chars bytes ++ ch ∷ []) longer longer_utf8
     (encodes-append (chars bytes) (ch ∷ []) ∙ ap₂ ◌++◌ (encodes-chars bytes utf8) (append-nil (encode_utf8 ch)) ∙ sym is))
 
--- a number that is not 0
-pub some_if : (n : ℕ) → nat_eq n 0 ≡ false → 0 < n
-some_if zero is = absurd (eqb-false 0 0 is refl)
-some_if (suc n) is = omega arith
-
 -- only no scalars are written as an empty text
 pub none_written : (new : List ℕ) → length (flat_map escaped new) ≡ 0 → new ≡ []
 none_written [] none = refl

@@ -20,6 +20,7 @@ use Rattle.origin_model.specs.declared.edit_fault.EditFault.{EditFault}
 use Rattle.origin_model.specs.declared.edit_fault.EditFault.TheVariants.{NoSection, OutOfRange, IdsSpent, TooMany, NoMemory}
 use Rattle.edit_script.specs.Scripts.{by_scalars, clusters_in, in_scalars, line_refusal, scalars_from}
 use Rattle.edit_script.specs.Lines.{IsSpan, Made, Unmade}
+use Rattle.fugue_ids.proofs.OptionLemmas.{some_is_none}
 
 -- an edit by scalars that was made is the edit by clusters
 pub made_in : (old new : State) (command by other : Command) (result : Result ℕ EditFault) → other ≡ command → by ≡ by_scalars old command → line_refusal old command ≡ refusal_message old by
@@ -81,9 +82,6 @@ pub shown_text : (found : Option Identifier) (written : Identifier → List ℕ)
     → (x : Identifier) × (found ≡ Some x) × (bytes ≡ written x)
 shown_text None written bytes e = cc
 shown_text (Some x) written bytes e = (x, refl, same_Some bytes (written x) e)
-
-some_is_none : {X : Type 0} (x : X) → IsNone (Some x) → ⊥
-some_is_none x e = cc
 
 pub span_found : (s : State) (k at n : ℕ) (bytes : List ℕ) (x : Identifier) (r : Option (ℕ × ℕ)) (result : Result (ℕ × ℕ) EditFault) (fault : EditFault) → result ≡ ok_or r fault
     → section_shown s k ≡ Some x → bytes ≡ encode_utf8_all (text s.held.history x) → IsUtf8 bytes → Lawful s.held.history

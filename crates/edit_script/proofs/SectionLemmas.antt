@@ -25,6 +25,8 @@ use Rattle.cluster_text.specs.Clusters.{clusters, scalars, span}
 use Rattle.edit_script.specs.Lines.{HasNoSpan}
 use Rattle.edit_script.specs.Scripts.{clusters_in}
 use Rattle.edit_script.specs.Sections.{AreOf, changed, IsPassage, text_in}
+use Rattle.fugue_ids.proofs.OptionLemmas.{some_is_none}
+use Rattle.origin_model.proofs.edits.MadeLemmas.{lawful_front}
 
 -- where each text stays, what is kept of them does
 same_texts : (texts : List (Identifier × List ℕ)) (old new : State) → ((t : Identifier) → text new.held.history t ≡ text old.held.history t) → AreOf texts old → AreOf texts new
@@ -56,15 +58,12 @@ other_texts texts old new x none others are t =
 kept_chars : (s : State) (x : Identifier) (kept : List ℕ) → IsUtf8 kept → kept ≡ text_in s x → chars kept ≡ text s.held.history x
 kept_chars s x kept utf8 is = encodes_same (chars kept) (text s.held.history x) (encodes-chars kept utf8 ∙ is)
 
-never_none : {X : Type 0} (x : X) → IsNone (Some x) → ⊥
-never_none x e = cc
-
 -- clusters that were found in the text of a section
 pub passage_found : (s : State) (k at n : ℕ) (x : Identifier) (kept : List ℕ) (found : ℕ × ℕ) → section_shown s k ≡ Some x → kept ≡ text_in s x → Lawful s.held.history → IsUtf8 kept
     → found ≡ span (clusters kept) at n → (IsNone (Some found) ↔ (length (clusters kept) < at + n)) → found.0 + found.1 ≤ length (chars kept) → IsPassage s k at n x kept found
 passage_found s k at n x kept found shown kept_is lawful utf8 span_is none fits =
     let same = ap (λ (b : List ℕ). length (clusters b)) kept_is in
-    let enough : at + n ≤ length (clusters kept) = elim (cases_lt (length (clusters kept)) (at + n)) [ inl few ↦ absurd (never_none found (none.1 few)) | inr rest ↦ rest ] in
+    let enough : at + n ≤ length (clusters kept) = elim (cases_lt (length (clusters kept)) (at + n)) [ inl few ↦ absurd (some_is_none found (none.1 few)) | inr rest ↦ rest ] in
     let scalars_are = ap length (kept_chars s x kept utf8 kept_is) in
     let long = text_length s.held.history x lawful in
     record {
@@ -159,13 +158,9 @@ in_range_within position count cause e =
     refused : nat_lt count position ≡ true → in_range position count cause ≡ None → ⊥
     refused past e = let found = rw past at e in cc
 
-lawful_before : (ops h : List Op) → Lawful (extended h ops) → Lawful h
-lawful_before [] h lawful = lawful
-lawful_before (op ∷ ops) h lawful = (lawful_before ops (op ∷ h) lawful).1
-
 -- what was accepted before an edit was lawful
 was_lawful : (old new : State) (ops : List Op) → Gains old new ops → Lawful new.held.history → Lawful old.held.history
-was_lawful old new ops gained lawful = lawful_before ops old.held.history (subst (λ (s : State). Lawful s.held.history) gained.others lawful)
+was_lawful old new ops gained lawful = lawful_front ops old.held.history (subst (λ (s : State). Lawful s.held.history) gained.others lawful)
 
 pub add_kept : (texts : List (Identifier × List ℕ)) (old new : State) (at : ℕ) (title : List ℕ) (result : Result ℕ EditFault) → Lawful new.held.history
     → RefusesExactly old (Add at title) result → IfOk result (IsMade old new (Add at title)) → AreOf texts old → OnOk result (AreOf texts new)

@@ -4,10 +4,6 @@ use Rattle.std.specs.Io.KnownBytes.{prepend_known}
 use Rattle.std.proofs.Math.Seq.{take-append-add}
 use Rattle.std.proofs.lemmas.List.{length-take-le}
 
-pub prepend_twice : (front next : List ℕ) (left : Option (List ℕ)) → prepend_known front (prepend_known next left) ≡ prepend_known (front ++ next) left
-prepend_twice front next None = refl
-prepend_twice front next (Some left) = ap (λ (l : List ℕ). Some l) (sym (append_assoc front next left))
-
 -- the first ones of a buffer, and what was put behind them
 pub placed_longer : (old new part : List ℕ) (from n : ℕ) → new ≡ take from old ++ part → from ≤ length old → take (from + n) new ≡ take from old ++ take n part
 placed_longer old new part from n is within =

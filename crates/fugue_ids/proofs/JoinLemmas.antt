@@ -3,14 +3,14 @@ use Rattle.std.specs.Prelude.{◌≡◌, ℕ, zero, suc, ◌+◌, ◌-◌, ◌<�
 use Rattle.std.proofs.Common.{ap, sym, subst, ◌∙◌, append_assoc, arith, length-append, length-drop, get_or, add-one}
 use Rattle.std.proofs.lemmas.List.{append-nil, take-append-le, take_all, take-append-drop, length-take-le}
 use Rattle.std.proofs.Math.Seq.{take-append-add, take-add}
-use Rattle.std.specs.Io.KnownBytes.{append_known}
+use Rattle.std.specs.Io.KnownBytes.{append_known, prepend_known}
 use Rattle.fugue_ids.specs.Outs.{OutView, OutTells, spent, Took, TookFront, IsSure, WritesSome, WritesBytes}
 
 append_known-nil : (w : Option (List ℕ)) → append_known w [] ≡ w
 append_known-nil None = refl
 append_known-nil (Some bytes) = ap Some (append-nil bytes)
 
-append_known-twice : (w : Option (List ℕ)) (a b : List ℕ) → append_known (append_known w a) b ≡ append_known w (a ++ b)
+pub append_known-twice : (w : Option (List ℕ)) (a b : List ℕ) → append_known (append_known w a) b ≡ append_known w (a ++ b)
 append_known-twice None a b = refl
 append_known-twice (Some bytes) a b = ap Some (append_assoc bytes a b)
 
@@ -27,7 +27,7 @@ pub took_none : (v w : OutView) → w.written ≡ v.written → w.room ≡ v.roo
 took_none v w e f = record { written = e ∙ sym (append_known-nil v.written); room = f ∙ sym (spent-zero v.room) }
 
 -- what tells goes on telling
-tells_more : (w v : Option (List ℕ)) (bytes : List ℕ) → v ≡ append_known w bytes → IsSome w → IsSome v
+pub tells_more : (w v : Option (List ℕ)) (bytes : List ℕ) → v ≡ append_known w bytes → IsSome w → IsSome v
 tells_more None v bytes is tells = absurd (cc tells)
 tells_more (Some held) v bytes is tells = subst (λ (o : Option (List ℕ)). IsSome o) (sym is) refl
 
@@ -110,15 +110,12 @@ text_joins {E} {T} {S} x (Err e) u v w a b s t = record {
   calm_told = λ tells. tt;
 }
 
--- what `&piece[at..]` is
-rest_is : (at : ℕ) (piece : List ℕ) → take (length piece - at) (drop at piece) ≡ drop at piece
-rest_is at piece = take_all (length piece - at) (drop at piece) (omega (arith, length-drop at piece))
-
+-- what `&piece[at..]` is, behind what is before it
 take_front_rest : (at : ℕ) (piece : List ℕ) → take at piece ++ take (length piece - at) (drop at piece) ≡ piece
-take_front_rest at piece = ap (λ (t : List ℕ). take at piece ++ t) (rest_is at piece) ∙ take-append-drop at piece
+take_front_rest at piece = ap (λ (t : List ℕ). take at piece ++ t) (take_all (length piece - at) (drop at piece) (omega (arith, length-drop at piece))) ∙ take-append-drop at piece
 
 pub front_grows : (at n : ℕ) (piece : List ℕ) → take at piece ++ take n (take (length piece - at) (drop at piece)) ≡ take (at + n) piece
-front_grows at n piece = ap (λ (t : List ℕ). take at piece ++ take n t) (rest_is at piece) ∙ sym (take-add at n piece)
+front_grows at n piece = ap (λ (t : List ℕ). take at piece ++ take n t) (take_all (length piece - at) (drop at piece) (omega (arith, length-drop at piece))) ∙ sym (take-add at n piece)
 
 sure_call : (E T : Type 0) (x : T) (room : Option ℕ) (n m before now : ℕ) → m ≡ n → IfSome room (λ r. n ≤ r) → IfSome room (λ r. now ≡ before)
     → IfSome room (λ r. IsSure {E = E} {T = T} r m before now (Ok x))
@@ -210,3 +207,7 @@ call_stops {E} {T} {S} x e u v w piece at below s t =
     subst (WritesBytes {E = E} {T = S} u w (Err e)) (take_front_rest at piece)
     (text_joins {E = E} {T = T} {S = S} x (Err e) u v w (take at piece) (take (length piece - at) (drop at piece)) s
     (call_failed {E = E} {S = S} e v w (take (length piece - at) (drop at piece)) t))
+
+pub prepend_twice : (a b : List ℕ) (left : Option (List ℕ)) → prepend_known a (prepend_known b left) ≡ prepend_known (a ++ b) left
+prepend_twice a b None = refl
+prepend_twice a b (Some l) = ap Some (sym (append_assoc a b l))

@@ -11,3 +11,5 @@ pub mod LowLemmas
 pub mod PartLemmas
 pub mod PassingLemmas
 pub mod HalvesLemmas
+pub mod OptionLemmas
+pub mod DecideLemmas

@@ -1,11 +1,12 @@
 -- What std's lemmas do not say of `All`, `Contains`, `AllPairs` and `position_or_len`.
 -- std has `All-nil`, `All-cons`, `All-head`, `All-tail`, `All-append`, `All-map`, `All-filter`, `All-weaker`, `All-contains`, `All-get_or`,
 -- `All-from_recursion`, `recursion_from_All`, `Contains-get_or` and `Contains-append_left`, `_right`, `_cases` (`lemmas.List.Elements`), and `AllPairs-cons` (`lemmas.List.Kept`).
-use Rattle.std.specs.Prelude.{◌≡◌, ◌⊎◌, ℕ, zero, suc, ◌<◌, Bool, true, false, ◌&&◌, cond, List, [], ◌∷◌, ◌++◌, length, map, filter, refl}
+use Rattle.std.specs.Prelude.{[], Bool, cond, false, filter, length, List, map, nat_eq, refl, slice_get, Some, suc, true, zero, ℕ, ◌&&◌, ◌++◌, ◌+◌, ◌<◌, ◌∷◌, ◌≡◌, ◌⊎◌}
+use Rattle.std.specs.Cmp.Lexicographic.{pointwise}
 use Rattle.std.specs.List.{All, AllPairs, Contains, insert}
 use Rattle.std.proofs.Common.{ap, arith, get_or, inl, inr, subst, sym, take, drop, ◌∙◌}
 use Rattle.std.proofs.lemmas.List.{take-append-drop}
-use Rattle.std.proofs.lemmas.Bool.{cases_Bool, true≢false}
+use Rattle.std.proofs.lemmas.Bool.{and_from, cases_Bool, eq-eqb, true≢false}
 use Rattle.std.proofs.lemmas.List.Elements.{All-append, All-contains, All-contains_itself, All-cons, All-filter, All-map, filter_passes, All-head, All-tail, All-nil, Contains-append_cases, Contains-append_left, Contains-append_right, Contains-get_or}
 use Rattle.std.proofs.lemmas.List.Kept.{AllPairs-cons}
 
@@ -190,3 +191,22 @@ module _ {X : Type 0} (f g : X → Bool) where
         | true ↦ ap (λ (t : List X). cond (g x) (x ∷ t) t) (filter-both xs)
         | false ↦ filter-both xs
       ]
+
+-- what stands in the first of two lists, in the second, and at the end
+pub slice_get-append : {X : Type 0} (xs ys : List X) (k : ℕ) → k < length xs → slice_get (xs ++ ys) k ≡ slice_get xs k
+slice_get-append [] ys k h = absurd (omega (arith, h))
+slice_get-append (x ∷ xs) ys zero h = refl
+slice_get-append (x ∷ xs) ys (suc k) h = slice_get-append xs ys k (omega (arith, h))
+
+pub slice_get-behind : {X : Type 0} (xs ys : List X) (k : ℕ) → slice_get (xs ++ ys) (length xs + k) ≡ slice_get ys k
+slice_get-behind [] ys k = let e : 0 + k ≡ k = omega arith in ap (slice_get ys) e
+slice_get-behind (x ∷ xs) ys k = let e : suc (length xs) + k ≡ suc (length xs + k) = omega arith in ap (slice_get (x ∷ xs ++ ys)) e ∙ slice_get-behind xs ys k
+
+pub slice_get-seam : {X : Type 0} (xs : List X) (x : X) → slice_get (xs ++ x ∷ []) (length xs) ≡ Some x
+slice_get-seam [] x = refl
+slice_get-seam (y ∷ ys) x = slice_get-seam ys x
+
+-- a list of numbers is the same as itself, number by number
+pub pointwise-same : (xs : List ℕ) → pointwise nat_eq xs xs ≡ true
+pointwise-same [] = refl
+pointwise-same (x ∷ xs) = and_from (nat_eq x x) (pointwise nat_eq xs xs) (eq-eqb x x refl) (pointwise-same xs)

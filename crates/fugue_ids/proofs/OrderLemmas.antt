@@ -1,5 +1,5 @@
 -- The order of identifiers is total, and what the answers of its comparison mean.
-use Rattle.std.proofs.Common.{◌≡◌, ◌⊎◌, ◌<◌, ◌∙◌, false, inl, inr, sym, arith}
+use Rattle.std.proofs.Common.{arith, false, inl, inr, sym, true, ◌<◌, ◌∙◌, ◌≡◌, ◌⊎◌}
 use Rattle.std.specs.BTreeMap.Range.{IsLeBy, IsLtBy}
 use Rattle.std.specs.Cmp.{IsTotalOrder, ranks, strict}
 use Rattle.std.specs.FinMap.{IsAntisymmetric}
@@ -8,7 +8,7 @@ use Rattle.std.specs.declared.cmp.Ordering.{Ordering}
 use Rattle.std.specs.declared.cmp.Ordering.TheVariants.{Equal, Greater, Less}
 use Rattle.std.proofs.lemmas.Bool.{cases_lt}
 use Rattle.std.proofs.lemmas.Bool.Decides.{nat_tests}
-use Rattle.fugue_ids.specs.Identifiers.{Identifier, IsAtMost, id_cmp}
+use Rattle.fugue_ids.specs.Identifiers.{id_cmp, id_lt, Identifier, IsAtMost}
 
 -- a stands before b
 abbrev pub IsBefore : Identifier → Identifier → Type 0
@@ -77,3 +77,10 @@ at_most_from_not_lt a b h = grind (arith, nat_tests, h)
 
 pub not_lt_from_at_most : (a b : Identifier) → IsAtMost b a → is_lt (id_cmp a b) ≡ false
 not_lt_from_at_most a b h = grind (arith, nat_tests, h)
+
+-- a strict order of identifiers
+pub id_irrefl : (a : Identifier) → id_lt a a ≡ false
+id_irrefl a = grind (arith, nat_tests)
+
+pub id_trans : (a b c : Identifier) → id_lt a b ≡ true → id_lt b c ≡ true → id_lt a c ≡ true
+id_trans a b c h k = grind (arith, nat_tests)

@@ -4,6 +4,7 @@ use Rattle.std.specs.Str.{chars, encode_utf8_all, IsUtf8}
 use Rattle.std.proofs.lemmas.Str.{chars-encodes}
 use lib.Pointwise.{pointwise, bytes_decides}
 use lib.Utf8.{encode}
+use Rattle.std.specs.Cmp.{both_ways}
 
 -- a text is written in UTF-8 part by part
 pub encode-append : (a b : List ℕ) → encode_utf8_all (a ++ b) ≡ encode_utf8_all a ++ encode_utf8_all b
@@ -19,17 +20,10 @@ pub encode_utf8_all-chars : (bytes : List ℕ) → IsUtf8 bytes → encode_utf8_
 encode_utf8_all-chars bytes utf8 =
     ap encode_utf8_all (ap chars (sym utf8.1.1) ∙ chars-encodes utf8.0 utf8.1.0) ∙ utf8.1.1
 
--- two tests that hold together are one
-same_tests : (a b : Bool) → (a ≡ true → b ≡ true) → (b ≡ true → a ≡ true) → a ≡ b
-same_tests true true f g = refl
-same_tests true false f g = sym (f refl)
-same_tests false true f g = g refl
-same_tests false false f g = refl
-
 -- texts are the same where their scalars are
 pointwise-chars : (a b : List ℕ) → IsUtf8 a → IsUtf8 b → pointwise nat_eq a b ≡ pointwise nat_eq (chars a) (chars b)
 pointwise-chars a b u v =
-    same_tests _ _
+    both_ways _ _
     (λ same. (bytes_decides _ _).1 (ap chars ((bytes_decides a b).0 same)))
     (λ same. (bytes_decides _ _).1 (sym (encode_utf8_all-chars a u) ∙ ap encode_utf8_all ((bytes_decides (chars a) (chars b)).0 same) ∙ encode_utf8_all-chars b v))
 

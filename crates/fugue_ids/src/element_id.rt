@@ -1,6 +1,7 @@
-ghost use Rattle.std.specs.Prelude.{◌≡◌, ◌↔◌, ◌<◌, IsNone, IfSome, Some};
+ghost use Rattle.std.specs.Prelude.{◌≡◌, ◌↔◌, ◌+◌, ◌<◌, ◌^◌, IsNone, IfSome, Some};
 ghost use Rattle.std.specs.Ordering.{is_lt};
 ghost use Rattle.fugue_ids.specs.Identifiers.{Identifier, id_cmp, id_eq, id_lt};
+ghost use Rattle.fugue_ids.specs.Runs.{id_behind};
 
 use std::marker::Model;
 
@@ -36,6 +37,17 @@ impl ElementId {
             return None;
         }
         Some(ElementId { replica, counter })
+    }
+
+    /// The identifier so many behind this one, of the same replica.
+    pub fn behind(self, count: u32) -> ElementId
+        requires { self.counter + count < 2 ^ 32 }
+        ensures { result ≡ id_behind self count }
+    {
+        ElementId {
+            replica: self.replica,
+            counter: self.counter + count,
+        }
     }
 }
 

@@ -1,5 +1,5 @@
 ghost use Rattle.std.specs.Prelude.{◌≡◌, ◌↔◌, ◌<◌, ◌≤◌, ◌+◌, ◌++◌, ◌^◌, IsTrue, drop, length, take};
-ghost use Rattle.fugue_ids.specs.Runs.{id_behind as id_behind_of, run_from, start_behind, text_by, text_in};
+ghost use Rattle.fugue_ids.specs.Runs.{run_from, start_behind, text_by, text_in};
 
 use crate::{ElementId, Op};
 
@@ -13,17 +13,6 @@ pub struct RunStart {
     pub section: ElementId,
     pub left: Option<ElementId>,
     pub right: Option<ElementId>,
-}
-
-/// The identifier so many behind this one.
-fn id_behind(id: ElementId, count: usize) -> ElementId
-    requires { id.counter + count < 2 ^ 32 }
-    ensures { result ≡ id_behind_of id count }
-{
-    ElementId {
-        replica: id.replica,
-        counter: id.counter + count as u32,
-    }
 }
 
 impl RunStart {
@@ -49,9 +38,9 @@ impl RunStart {
             return *self;
         }
         RunStart {
-            id: id_behind(self.id, count),
+            id: self.id.behind(count as u32),
             section: self.section,
-            left: Some(id_behind(self.id, count - 1)),
+            left: Some(self.id.behind(count as u32 - 1)),
             right: self.right,
         }
     }

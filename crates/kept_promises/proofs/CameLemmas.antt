@@ -15,6 +15,7 @@ use Rattle.origin_model.specs.operations.Verdict.{Lawful, first_missing, fits, i
 use Rattle.origin_model.specs.order.Laws.{IsPartOf}
 use Rattle.origin_model.specs.taking.Taking.{Accepted, Answer, Held, Waits, answer, decided_on, held_from, intake, is_decided, joined, settle, settled_within, taken}
 use Rattle.origin_model.proofs.SharedLemmas.{Fits, IsEarliest, Within-part, accepted_is_ready, all_fit, becomes_ready, cases_held, earliest_found, fit_each, found, has-append, missing-held, when_ready, within-none, within-some, without}
+use Rattle.fugue_ids.proofs.IdentifierLemmas.{not_some}
 
 -- ---- what each operation that is accepted has
 module _ (P : Op → Type 0) (old : List Op) where
@@ -89,16 +90,13 @@ fitted : (old h : List Op) (ns : List (Identifier × Role)) → Lawful h → IsP
 fitted old h [] w f none all = All-nil (Fits old)
 fitted old h (n ∷ ns) w f none all =
     elim (cases_held (holder old n.0)) [
-      | inl k ↦ absurd (missing n.0 (sym (ap (λ o. elim o [ None ↦ Some n.0 | Some op ↦ first_missing old ns ]) k) ∙ none))
+      | inl k ↦ absurd (not_some n.0 (sym (ap (λ o. elim o [ None ↦ Some n.0 | Some op ↦ first_missing old ns ]) k) ∙ none))
       | inr k ↦
           let later : Fits h n = All-head (Fits h) n ns all in
           let same : later.0 ≡ k.0 = cc (later.1, Within-part old h w f n.0 k.0 k.1) in
           All-cons (Fits old) n ns (k.0, k.1, subst (λ o. fits n.1 o ≡ true) same later.2)
           (fitted old h ns w f (sym (missing-held old n ns k.0 k.1) ∙ none) (All-tail (Fits h) n ns all))
     ]
-  where
-    missing : (i : Identifier) → Some i ≡ None → ⊥
-    missing i e = cc e
 
 -- one that was not decided and becomes Ready named an identifier that was missing
 pub names_missing : (old h : List Op) (op : Op) → Lawful h → IsPartOf old h → decided_on old op ≡ false → verdict h op ≡ Ready → first_missing old (names op) ≡ None → ⊥

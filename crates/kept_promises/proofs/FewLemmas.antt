@@ -9,20 +9,17 @@ use Rattle.origin_model.specs.declared.operations.Verdict.TheVariants.{Ready, St
 use Rattle.origin_model.specs.operations.Verdict.{verdict}
 use Rattle.origin_model.specs.taking.Taking.{Accepted, Again, Answer, Conflict, Held, TooMany, Waits, answer, answer_by, held_from, intake, is_again, is_kept, is_taken, joined, settle, settled_within, taken}
 use Rattle.origin_model.proofs.SharedLemmas.{IsEarliest, earliest_found, within-none, within-some, without}
+use Rattle.replica_core.proofs.DecisionLemmas.{not_most}
+use Rattle.replica_file.proofs.LoadingLemmas.{settle_few, within_few}
 
 -- how many operations are held
 abbrev pub count : Held → ℕ
 count s = length s.history + length s.waiting
 
-kept_by : (full at_hold : Bool) (v : Verdict) → is_kept (answer_by full at_hold v) ≡ true → full ≡ false
-kept_by full at_hold (Stray i) k = absurd (false≢true k)
-kept_by true at_hold v k = absurd (false≢true k)
-kept_by false at_hold v k = refl
-
 kept_by_lines : (again other full at_hold : Bool) (v : Verdict) → is_kept (if again then Again else if other then Conflict else answer_by full at_hold v) ≡ true → full ≡ false
 kept_by_lines true other full at_hold v k = absurd (false≢true k)
 kept_by_lines false true full at_hold v k = absurd (false≢true k)
-kept_by_lines false false full at_hold v k = kept_by full at_hold v k
+kept_by_lines false false full at_hold v k = not_most full at_hold v k
 
 -- one that is kept had room
 kept_room : (hold most : ℕ) (s : Held) (op : Op) → is_kept (answer hold most s op) ≡ true → count s ≢ most
@@ -55,21 +52,6 @@ one_leaves s r e = by (verdict s.history r.0)
     by Ready = omega (arith, fewer)
     by _ = omega (arith, fewer)
 
-steps_leave : (room : List Op) (s : Held) → count (settled_within room s) ≤ count s
-steps_leave [] s = omega arith
-steps_leave (o ∷ room) s =
-    elim (earliest_found s.history s.waiting) [
-      | inl k ↦ subst (λ t. count t ≤ count s) (sym (within-none o room s k.0)) (omega arith)
-      | inr k ↦
-          let rest : count (settled_within room (without s k.0)) ≤ count (without s k.0) = steps_leave room (without s k.0) in
-          let one : count (without s k.0) ≤ count s = one_leaves s k.0 k.2 in
-          subst (λ t. count t ≤ count s) (sym (within-some o room s k.0 k.1)) (omega (arith, rest, one))
-    ]
-
-settling_leaves : (s : Held) → count (settle s) ≤ count s
-unfolding settle
-settling_leaves s = steps_leave s.waiting s
-
 taken_fits : (hold most : ℕ) (s : Held) (op : Op) → count s ≤ most → (a : Answer) → answer hold most s op ≡ a → count (taken a s op) ≤ most
 taken_fits hold most s op l Accepted e = let other : count s ≢ most = kept_room hold most s op (ap is_kept e) in omega (arith, l, other)
 taken_fits hold most s op l Waits e = let other : count s ≢ most = kept_room hold most s op (ap is_kept e) in omega (arith, l, other, length-append s.waiting (op ∷ []))
@@ -78,6 +60,6 @@ taken_fits hold most s op l _ e = l
 pub few_held : (hold most : ℕ) (s : Held) (ops : List Op) → count s ≤ most → count (held_from hold most s ops) ≤ most
 few_held hold most s [] l = l
 few_held hold most s (op ∷ ops) l =
-    let settled : count (intake hold most s op) ≤ count (taken (answer hold most s op) s op) = settling_leaves (taken (answer hold most s op) s op) in
+    let settled : count (intake hold most s op) ≤ count (taken (answer hold most s op) s op) = settle_few (taken (answer hold most s op) s op) in
     let one : count (taken (answer hold most s op) s op) ≤ most = taken_fits hold most s op l (answer hold most s op) refl in
     few_held hold most (intake hold most s op) ops (omega (arith, settled, one))

@@ -19,21 +19,12 @@ use Rattle.origin_model.specs.operations.Verdict.{Lawful, verdict}
 use Rattle.origin_model.specs.order.Laws.{IsPartOf}
 use Rattle.origin_model.specs.order.Printed.{deletes}
 use Rattle.origin_model.specs.taking.Taking.{Held, IsSettled, decided_on, held_from}
-use Rattle.origin_model.proofs.SharedLemmas.{has-append, has-holder, missing-held, ready_absent}
+use Rattle.origin_model.proofs.SharedLemmas.{has-append, has-holder, has_member, missing-held, ready_absent}
 use Rattle.version_views.specs.Laws.{leaves_version, view_named}
 use Rattle.version_views.specs.Versions.{is_version, is_withdrawn, name_given, op_behind, version_with, withdraws, withdraws_note}
 use Rattle.version_views.proofs.FrontMakingLemmas.{intakes_grow}
 use Rattle.version_views.proofs.VersionLemmas.{later_ops_leave_written}
 use Rattle.kept_promises.proofs.CameLemmas.{BecomesSo, Came, came, names_missing}
-
--- an operation that a list has, as a look-up finds it
-has_contained : (ops : List Op) (x : Op) → Contains ops x → has_op ops x ≡ true
-has_contained [] x c = absurd (contains_none x c)
-has_contained (o ∷ ops) x c =
-    elim (contains_cases o ops x c) [
-      | inl e ↦ or_left (op_eq o x) (has_op ops x) (subst (λ y. op_eq o y ≡ true) e (op_eq-refl o))
-      | inr k ↦ or_right (op_eq o x) (has_op ops x) (has_contained ops x k)
-    ]
 
 -- what is newer is not among the older ones
 newer_absent : (new old : List Op) (x : Op) → Lawful (new ++ old) → has_op new x ≡ true → has_op old x ≡ false
@@ -147,7 +138,7 @@ module _ (old : List Op) (r : ℕ) (name : List ℕ) where
       let lawful : Lawful (g.newer ++ old) = subst Lawful g.grown c.lawful in
       let each : All (λ op. leaves_version g.newer old r name op ≡ true) g.newer =
       all_from_contains (λ op. leaves_version g.newer old r name op ≡ true) g.newer (λ x k.
-      let m : has_op g.newer x ≡ true = has_contained g.newer x k in
+      let m : has_op g.newer x ≡ true = has_member g.newer x k in
       let there : has_op (held_from hold most start ops).history x ≡ true = subst (λ h. has_op h x ≡ true) (sym g.grown) (has-append g.newer old x ∙ or_left (has_op g.newer x) (has_op old x) m) in
       elim (c.each x there) [
         | inl e ↦ absurd (true≢false (sym e ∙ newer_absent g.newer old x lawful m))

@@ -27,9 +27,9 @@ use Rattle.catalogue_notes.proofs.ArrangedLemmas.{arranged_shown, position_in, s
 use Rattle.catalogue_notes.proofs.HolderLemmas.{IsHeld, are_held}
 use Rattle.catalogue_notes.proofs.LiftLemmas.{lift_lawful, lifted_from, order_held}
 use Rattle.catalogue_notes.proofs.PartLemmas.{following_in}
-use Rattle.catalogue_notes.proofs.RetitlingLemmas.{placed_in}
 use Rattle.draft_plan.specs.Changes.{AreAllowed, Change, Edit, Move, Retitle, all_made, behind, change_refusal, made_of}
 use Rattle.draft_plan.specs.declared.fault.ReviseFault.TheVariants as fault
+use Rattle.origin_model.proofs.edits.SplitLemmas.{get_in}
 
 module _ (h : List Op) (w : Lawful h) where
   -- ---- what a move names is held
@@ -51,7 +51,7 @@ module _ (h : List Op) (w : Lawful h) where
 
   front_in : (xs : List Identifier) (j : ℕ) (x : Identifier) → in_front xs j ≡ Some x → Contains xs x
   front_in xs zero x e = cc e
-  front_in xs (suc i) x e = placed_in xs i x e
+  front_in xs (suc i) x e = get_in xs i x e
 
   left_held : (k j : ℕ) → All (IsHeld h) (option_to_list (left_for h k j))
   left_held k j = by (in_front (without (arranged h) k) j) refl
@@ -89,7 +89,7 @@ change_ready s (Move k j) w e = by (section_placed s k) refl
     by None is = tt
     by (Some section) is = (
       noted_ready s.number s.held.history s.held.waiting (move_names section (origins_for s.held.history k j)) MOVE_CODE (move_body (stamp s.held.history + 1) (origins_for s.held.history k j)) w
-          (move_held s.held.history w section k j (placed_in (arranged s.held.history) k section is)),
+          (move_held s.held.history w section k j (get_in (arranged s.held.history) k section is)),
       tt,
     )
 change_ready s (Retitle k title) w e = by (section_placed s k) refl
@@ -98,7 +98,7 @@ change_ready s (Retitle k title) w e = by (section_placed s k) refl
     by None is = tt
     by (Some section) is = (
       noted_ready s.number s.held.history s.held.waiting (section ∷ []) RETITLE_CODE (retitle_body (stamp s.held.history + 1) (encode_utf8_all title)) w
-          (are_held s.held.history (section ∷ []) (All-cons (IsHeld s.held.history) section [] (section_held s.held.history w section (placed_in (arranged s.held.history) k section is)) (All-nil (IsHeld s.held.history)))),
+          (are_held s.held.history (section ∷ []) (All-cons (IsHeld s.held.history) section [] (section_held s.held.history w section (get_in (arranged s.held.history) k section is)) (All-nil (IsHeld s.held.history)))),
       tt,
     )
 

@@ -14,7 +14,7 @@ use Rattle.origin_model.specs.operations.History.{accepted, has_op}
 use Rattle.origin_model.specs.operations.Verdict.{Lawful}
 use Rattle.origin_model.specs.order.Laws.{IsPartOf, SameOps}
 use Rattle.origin_model.specs.taking.Taking.{HasPlace, Held, IsSettled, decided_on, held_from, is_decided}
-use Rattle.origin_model.proofs.SharedLemmas.{Lawful-append, has-append, held-append, order_by_set, places-append, stays_settled}
+use Rattle.origin_model.proofs.SharedLemmas.{has-append, has-reverse, held-append, Lawful-append, order_by_set, part_at_end, places-append, stays_settled}
 use Rattle.origin_model.proofs.edits.EditIntakeLemmas.{state_of}
 use Rattle.origin_model.proofs.edits.MadeLemmas.{join_at_end}
 use Rattle.origin_model.proofs.edits.UndecidedLemmas.{Undecided}
@@ -25,7 +25,7 @@ use Rattle.draft_plan.specs.Changes.{all_made}
 use Rattle.version_views.specs.Fronts.{front_of}
 use Rattle.version_views.specs.Views.{first_ops}
 use Rattle.version_views.proofs.FrontMakingLemmas.{first_taken}
-use Rattle.version_views.proofs.ViewLemmas.{part_of, parts}
+use Rattle.version_views.proofs.ViewLemmas.{parts}
 use Rattle.command_kinds.specs.Findings.{Finding, Does, Refuses}
 use Rattle.command_kinds.specs.Saving.{Outcome}
 use Rattle.command_kinds.specs.Take.{ops_of}
@@ -38,15 +38,11 @@ use Rattle.kept_promises.specs.Revisions.{AreAlike, ComesTo, IsRevisedThenMerged
 use Rattle.kept_promises.proofs.FewLemmas.{count, few_held}
 use Rattle.kept_promises.proofs.ReadyLemmas.{changes_lawful}
 use Rattle.kept_promises.proofs.WithinLemmas.{Leaves, all_stay, all_taken, part_short, same_verdict}
+use Rattle.std.specs.Cmp.{both_ways}
 
 -- the same operations fix the rest
 pub are_alike : (a b : List Op) → Lawful a → Lawful b → SameOps a b → AreAlike a b
 are_alike a b v w same = record { same_ops = same; same_text = order_by_set a b v w same; same_arrangement = arranged_by_set a b v w same }
-
-same_bool : (a b : Bool) → (a ≡ true → b ≡ true) → (b ≡ true → a ≡ true) → a ≡ b
-same_bool true b f g = sym (f refl)
-same_bool false true f g = g refl
-same_bool false false f g = refl
 
 -- a look-up in the accepted operations
 either : (a b : Bool) → (a || (b || false)) ≡ (b || a)
@@ -55,14 +51,8 @@ either true false = refl
 either false true = refl
 either false false = refl
 
-reversed_has : (ops : List Op) (x : Op) → has_op (reverse ops) x ≡ has_op ops x
-reversed_has [] x = refl
-reversed_has (op ∷ ops) x =
-    ap (λ l. has_op l x) (reverse-append (op ∷ []) ops) ∙ has-append (reverse ops) (op ∷ []) x
-    ∙ ap (λ b. b || (op_eq op x || false)) (reversed_has ops x) ∙ either (has_op ops x) (op_eq op x)
-
 in_accepted : (h : List Op) (x : Op) → has_op (accepted h) x ≡ has_op h x
-in_accepted h x = reversed_has h x
+in_accepted h x = has-reverse h x
 
 lacked_has : (h ops : List Op) (x : Op) → has_op (lacked h ops) x ≡ true → has_op ops x ≡ true
 lacked_has h [] x m = m
@@ -150,7 +140,7 @@ module _ (n : ℕ) (was : Replica) (revised : Outcome) (w : Lawful was.held.hist
       ∙ has-append (accepted first) revised.saved x ∙ ap (λ b. b || has_op revised.saved x) (in_accepted first x)
 
   first_part : IsPartOf first h
-  first_part = subst (IsPartOf first) (parts n h) (part_of (take (length h - n) h) first)
+  first_part = subst (IsPartOf first) (parts n h) (part_at_end (take (length h - n) h) first)
 
   old_part : IsPartOf h whole.history
   old_part x m = whole_has x ∙ or_left (has_op h x) (has_op (lacked h revised.saved) x) m
@@ -165,7 +155,7 @@ module _ (n : ℕ) (was : Replica) (revised : Outcome) (w : Lawful was.held.hist
   -- what is in the old history or in the revision is all
   same_whole : (ops : List Op) → ((x : Op) → has_op ops x ≡ true → has_op h x ≡ true) → ((x : Op) → has_op h x ≡ true → (has_op first x ≡ true) ⊎ (has_op ops x ≡ true))
       → (x : Op) → (has_op came.last x || has_op ops x) ≡ has_op whole.history x
-  same_whole ops within all x = same_bool (has_op came.last x || has_op ops x) (has_op whole.history x) to from
+  same_whole ops within all x = both_ways (has_op came.last x || has_op ops x) (has_op whole.history x) to from
     where
       to : (has_op came.last x || has_op ops x) ≡ true → has_op whole.history x ≡ true
       to m = elim (or_cases (has_op came.last x) (has_op ops x) m) [ inl j ↦ last_part x j | inr j ↦ old_part x (within x j) ]
@@ -197,7 +187,7 @@ module _ (n : ℕ) (was : Replica) (revised : Outcome) (w : Lawful was.held.hist
       let all : (has_op (take n (accepted h)) x || has_op rest x) ≡ true =
       sym (has-append (take n (accepted h)) rest x) ∙ ap (λ l. has_op l x) (take-append-drop n (accepted h)) ∙ in_accepted h x ∙ m in
       elim (or_cases (has_op (take n (accepted h)) x) (has_op rest x) all) [
-        | inl j ↦ inl (ap (λ l. has_op l x) (sym (first_taken n h)) ∙ reversed_has (take n (accepted h)) x ∙ j)
+        | inl j ↦ inl (ap (λ l. has_op l x) (sym (first_taken n h)) ∙ has-reverse (take n (accepted h)) x ∙ j)
         | inr j ↦ inr j
       ]
 

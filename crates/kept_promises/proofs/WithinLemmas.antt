@@ -16,17 +16,10 @@ use Rattle.origin_model.specs.operations.History.{has_op, holder, holds, is_own}
 use Rattle.origin_model.specs.operations.Verdict.{Lawful, first_line, first_missing, first_stray, fits, id_held, names, verdict}
 use Rattle.origin_model.specs.order.Laws.{IsPartOf, SameOps}
 use Rattle.origin_model.specs.taking.Taking.{Accepted, Again, Answer, Conflict, HasPlace, TooMany, Waits, answer, answer_by, answers_from, decided_on, held_from, intake, is_decided, is_taken, settle, taken}
-use Rattle.origin_model.proofs.SharedLemmas.{Within-part, accepted_is_ready, becomes_ready, cases_held, found, has-holder, holder-has, names_within, ready_absent, settle-settled, when_ready}
+use Rattle.origin_model.proofs.SharedLemmas.{accepted_is_ready, becomes_ready, cases_held, found, has-holder, holder-has, id_held-nil, names_within, ready_absent, settle-settled, swap_or, when_ready, Within-part}
 use Rattle.origin_model.proofs.edits.EditIntakeLemmas.{accepts, state_of}
 use Rattle.origin_model.proofs.edits.UndecidedLemmas.{Undecided}
 use Rattle.kept_promises.proofs.FewLemmas.{too_many}
-
--- ---- a lawful part is no longer than the whole
-swap_or : (a b c : Bool) → (a || (b || c)) ≡ (b || (a || c))
-swap_or true true c = refl
-swap_or true false c = refl
-swap_or false true c = refl
-swap_or false false c = refl
 
 -- the list without one of its members
 record IsWithout (ops : List Op) (op : Op) : Type 0 where
@@ -58,11 +51,6 @@ part_short (op ∷ a) b w f =
     ] in
     let short : length a ≤ length r.rest = part_short a r.rest w.1 rest in
     omega (arith, short, r.longer)
-
--- ---- what a history between a part and the whole takes in
-none_held : (o : Option Identifier) → id_held [] o ≡ false
-none_held None = refl
-none_held (Some i) = refl
 
 none_undecided : (h : List Op) → Undecided h []
 none_undecided h = All-nil (λ op. decided_on h op ≡ false)
@@ -100,7 +88,7 @@ module _ (hold most : ℕ) (whole : List Op) (is_lawful : Lawful whole) (few : l
   new_answer : (p : List Op) (op : Op) → Lawful p → IsPartOf p whole → has_op whole op ≡ true → verdict p op ≡ Ready → answer hold most (state_of p []) op ≡ Accepted
   new_answer p op w f m v =
       let short : length (op ∷ p) ≤ length whole = part_short (op ∷ p) whole (v, w) (grows_part p op f m) in
-      accepts hold most p [] op (none_undecided p) v (none_held (id_of op)) (ne_eqb (length p + 0) most (λ e. omega (arith, e, short, few)))
+      accepts hold most p [] op (none_undecided p) v (id_held-nil (id_of op)) (ne_eqb (length p + 0) most (λ e. omega (arith, e, short, few)))
 
   new_intake : (p : List Op) (op : Op) → Lawful p → IsPartOf p whole → has_op whole op ≡ true → verdict p op ≡ Ready → intake hold most (state_of p []) op ≡ state_of (op ∷ p) []
   new_intake p op w f m v = ap (λ a. settle (taken a (state_of p []) op)) (new_answer p op w f m v) ∙ settle-settled (state_of (op ∷ p) []) (none_undecided (op ∷ p))

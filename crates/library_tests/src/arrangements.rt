@@ -6,7 +6,7 @@ use crate::op_lines::Line::{self, Coded, Delete, Section, Text};
 use crate::op_lines::{NONE, Name, note, op};
 use crate::plain::Plain;
 use crate::plain_notes::arranged_text;
-use crate::replicas::{feed_lines, feed_one};
+use crate::replicas::{accepted_by, feed_lines, feed_one};
 use crate::turns::Dice;
 use catalogue_notes::{MOVE_CODE, MoveFault, RETITLE_CODE, move_section, retitle, write_arranged};
 use fugue_ids::{Op, Title};
@@ -26,7 +26,8 @@ pub fn arranges(alloc: Global, replica: &Replica, text: &[u8]) -> Result<bool, F
 /// Whether this is written of them, and is what the plain program writes.
 fn arranges_as_plain(alloc: Global, replica: &Replica, text: &[u8]) -> Result<bool, Fail> {
     let mut plain = Plain::new(alloc);
-    plain.take_all(alloc, replica.accepted())?;
+    let ops = accepted_by(alloc, replica)?;
+    plain.take_all(alloc, &ops)?;
     let wanted = arranged_text(alloc, &plain.accepted)?;
     Ok(wanted.as_slice() == text && arranges(alloc, replica, text)?)
 }
@@ -427,7 +428,8 @@ fn act_and_gather(
     };
     let answer = perform(rt, alloc, replica, asked)?;
     equal_at(rt, &asked, answer.is_ok(), count > 0);
-    match replica.accepted().last() {
+    let accepted = accepted_by(alloc, replica)?;
+    match accepted.last() {
         Some(made) if !pool.contains(made) => pool.push(made.clone_in(alloc)?)?,
         _ => {}
     }

@@ -3,7 +3,7 @@
 use crate::assertions::equal;
 use crate::edits::Edit::{Add, Cut, Put};
 use crate::edits::make;
-use crate::replicas::{feed_ops, writes, writes_as_plain};
+use crate::replicas::{accepted_by, copies_of, feed_accepted, feed_ops, writes, writes_as_plain};
 use bulk_world::{Summary, bulk};
 use outer_ports::MemSink;
 use replica_core::Replica;
@@ -48,7 +48,7 @@ fn tell(
     second: &Replica,
 ) -> Result<Summary, Fail> {
     for replica in [first, second] {
-        assert!(rt; writes_as_plain(alloc, replica, replica.accepted())?);
+        assert!(rt; writes_as_plain(alloc, replica, replica)?);
     }
     let mut output = MemSink::new(alloc, 4096, Vec::new(alloc));
     first.write_manuscript(&mut output)?;
@@ -77,7 +77,7 @@ fn make_by_turns(
     second: &mut Replica,
 ) -> Result<Summary, Fail> {
     make(rt, alloc, first, Add(0, "B"))??;
-    feed_ops(rt, alloc, second, first.accepted())?;
+    feed_accepted(rt, alloc, second, first)?;
     let mut x = SEED;
     for turn in 1..=TURNS {
         x = x.wrapping_mul(MULTIPLIER).wrapping_add(ADDEND);
@@ -88,9 +88,10 @@ fn make_by_turns(
         }
     }
     let made = second.accepted().len();
-    feed_ops(rt, alloc, second, first.accepted().get(1..).unwrap_or(&[]))?;
-    let ops = second.accepted().get(1..made).unwrap_or(&[]);
-    feed_ops(rt, alloc, first, ops)?;
+    let others = copies_of(alloc, first.accepted_from(1))?;
+    feed_ops(rt, alloc, second, &others)?;
+    let ops = accepted_by(alloc, second)?;
+    feed_ops(rt, alloc, first, ops.get(1..made).unwrap_or(&[]))?;
     tell(rt, alloc, first, second)
 }
 

@@ -5,7 +5,7 @@ use crate::edits::Edit::{self, Add, Cut, Drop as DropSection, Put};
 use crate::edits::make;
 use crate::plain::Plain;
 use crate::plain_notes::is_withdrawn;
-use crate::replicas::feed_ops;
+use crate::replicas::{accepted_by, feed_accepted, feed_ops};
 use crate::turns::Dice;
 use fugue_ids::{Body, ElementId, Op};
 use margin_notes::{COMMENT_CODE, CommentFault, comment, is_text, write_comments};
@@ -112,7 +112,8 @@ fn lists(alloc: Global, replica: &Replica, text: &[u8]) -> Result<bool, Fail> {
 /// Whether the comments are written as the plain program writes them.
 fn lists_as_plain(alloc: Global, replica: &Replica) -> Result<bool, Fail> {
     let mut plain = Plain::new(alloc);
-    plain.take_all(alloc, replica.accepted())?;
+    let ops = accepted_by(alloc, replica)?;
+    plain.take_all(alloc, &ops)?;
     let wanted = margins(alloc, &plain.accepted)?;
     Ok(plain.waiting.is_empty() && lists(alloc, replica, &wanted)?)
 }
@@ -154,7 +155,8 @@ fn act(rt: &impl Abort, alloc: Global, dice: &mut Dice, replica: &mut Replica) -
             comment_on(rt, alloc, replica, section, at, n)
         }
         3 => {
-            let ids = by_id(alloc, replica.accepted())?;
+            let ops = accepted_by(alloc, replica)?;
+            let ids = by_id(alloc, &ops)?;
             match ids.get(dice.roll(ids.len())) {
                 Some((id, _)) => feed_ops(rt, alloc, replica, &[Op::Delete { target: *id }]),
                 None => Ok(()),
@@ -182,9 +184,9 @@ fn play(
         act(rt, alloc, dice, b)?;
         act(rt, alloc, dice, c)?;
         match dice.roll(3) {
-            0 => feed_ops(rt, alloc, b, a.accepted())?,
-            1 => feed_ops(rt, alloc, c, b.accepted())?,
-            _ => feed_ops(rt, alloc, a, c.accepted())?,
+            0 => feed_accepted(rt, alloc, b, a)?,
+            1 => feed_accepted(rt, alloc, c, b)?,
+            _ => feed_accepted(rt, alloc, a, c)?,
         }
         for replica in [&*a, &*b, &*c] {
             holds_at(rt, &round, lists_as_plain(alloc, replica)?);

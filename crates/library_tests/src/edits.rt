@@ -3,7 +3,7 @@
 use crate::assertions::{equal, equal_at, holds_at};
 use crate::op_lines::Line::{self, Delete, Section, Text};
 use crate::op_lines::{CODE, NONE, SECTION, T, id, op};
-use crate::replicas::{feed_lines, writes};
+use crate::replicas::{accepted_by, feed_lines, writes};
 use fugue_ids::{Body, NoteNames, Title};
 use replica_core::{EditFault, Replica, Tally};
 use std::alloc::Global;
@@ -205,7 +205,8 @@ pub fn accepted_last(
     replica: &Replica,
     lines: &[Line],
 ) -> Result<(), Fail> {
-    for (accepted, line) in replica.accepted().iter().rev().zip(lines.iter().rev()) {
+    let ops = accepted_by(alloc, replica)?;
+    for (accepted, line) in ops.iter().rev().zip(lines.iter().rev()) {
         let wanted = op(rt, alloc, *line)?;
         holds_at(rt, line, *accepted == wanted);
     }

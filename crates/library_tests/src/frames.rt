@@ -12,6 +12,7 @@ use fugue_ids::{Body, ElementId, NoMemory, NoteNames, Op, Title};
 use op_frame::{
     First, FrameFault, FrameFront, FrameOps, FrameReader, Grown, encode, encode_all, first_frame,
 };
+use op_runs::OpSlice;
 use origin_model::Grammar;
 use outer_ports::{MemSource, Source, SureSource};
 use plain::plain_frames;
@@ -154,7 +155,7 @@ fn starts_of(rt: &(impl Abort + AllocGlobal), bytes: &[u8], ops: &[Op]) -> Resul
 /// Whether the operations are written as these frames behind what stands there, and are read back from them.
 fn is_framed(rt: &(impl Abort + AllocGlobal), ops: &[Op], frames: &[u8]) -> Result<bool, Fail> {
     let mut bytes = Vec::from_slice(rt.alloc(), b"#")?;
-    encode_all(ops, &mut bytes)?;
+    encode_all(OpSlice::of(ops), &mut bytes)?;
     let starts = starts_of(rt, frames, ops)?;
     let mut source = SureSource::new(frames.to_vec(rt.alloc())?, 3);
     let mut reader = FrameReader::new(rt.alloc(), frames.len() as u64)?;
@@ -291,7 +292,7 @@ fn bytes_begin_a_frame_until_the_first_wrong_one(rt: HostRuntime) -> Result<(), 
 fn a_stream_reads_the_same_in_pieces_of_every_size(rt: HostRuntime) -> Result<(), Fail> {
     let ops = operations(&rt)?;
     let mut bytes = Vec::new(rt.alloc());
-    encode_all(&ops, &mut bytes)?;
+    encode_all(OpSlice::of(&ops), &mut bytes)?;
     for piece in 1..=233 {
         let mut source = SureSource::new(bytes.to_vec(rt.alloc())?, piece);
         let mut reader = FrameReader::new(rt.alloc(), 233)?;
@@ -332,7 +333,7 @@ fn a_stream_reads_the_same_in_pieces_of_every_size(rt: HostRuntime) -> Result<()
 fn the_longest_frames_go_through_the_buffer(rt: HostRuntime) -> Result<(), Fail> {
     let ops = typed_row(&rt, 0, 2_048, Some(id(2, 0)), &Some(id(3, 0)))?;
     let mut bytes = Vec::new(rt.alloc());
-    encode_all(&ops, &mut bytes)?;
+    encode_all(OpSlice::of(&ops), &mut bytes)?;
     equal(&rt, bytes.len(), 6_218);
     let starts = starts_of(&rt, &bytes, &ops)?;
     for (piece, failing, given) in [

@@ -6,7 +6,7 @@ use crate::edits::Edit::{self, Add, Cut, Put};
 use crate::edits::make;
 use crate::plain::Plain;
 use crate::pools::step_beside;
-use crate::replicas::{feed_ops, writes};
+use crate::replicas::{accepted_by, feed_ops, writes};
 use fugue_ids::Op;
 use replica_core::Replica;
 use std::alloc::Global;
@@ -88,7 +88,8 @@ fn join(
     edits: &[Edit],
 ) -> Result<(), Fail> {
     begin(rt, alloc, replica, begun, edits)?;
-    for op in replica.accepted() {
+    let ops = accepted_by(alloc, replica)?;
+    for op in &ops {
         if !pool.contains(op) {
             pool.push(op.clone_in(alloc)?)?;
         }
@@ -108,7 +109,8 @@ fn hear_all(
 ) -> Result<(), Fail> {
     let mut plain = Plain::new(alloc);
     begin(rt, alloc, replica, begun, author.edits)?;
-    plain.take_all(alloc, replica.accepted())?;
+    let ops = accepted_by(alloc, replica)?;
+    plain.take_all(alloc, &ops)?;
     let (first, step) = author.order;
     for turn in 0..DELIVERIES {
         let at = first.saturating_add(turn.saturating_mul(step)) % MADE;

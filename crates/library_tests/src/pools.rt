@@ -4,7 +4,7 @@ use crate::assertions::holds_at;
 use crate::op_lines::Line::{Delete, Note, Section, Text};
 use crate::op_lines::{Line, NONE, SECTION, op};
 use crate::plain::{Plain, printed};
-use crate::replicas::{has_room, writes};
+use crate::replicas::{accepted_by, has_room, writes};
 use fugue_ids::Op;
 use replica_core::{Replica, Tally};
 use std::alloc::Global;
@@ -69,7 +69,8 @@ pub fn step_beside(
 }
 
 pub fn is_beside(alloc: Global, replica: &Replica, plain: &Plain) -> Result<bool, Fail> {
-    let is_held = replica.accepted() == plain.accepted.ops()
+    let accepted = accepted_by(alloc, replica)?;
+    let is_held = accepted.as_slice() == plain.accepted.ops()
         && replica.waiting() == plain.waiting.as_slice();
     let wanted = printed(alloc, &plain.accepted)?;
     Ok(is_held && writes(alloc, replica, &wanted)?)

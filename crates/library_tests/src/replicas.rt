@@ -7,7 +7,8 @@ use crate::assertions::{equal, equal_at, holds_at};
 use crate::op_lines::Line::{Delete, Note, Text};
 use crate::op_lines::{A, B, D, Line, NONE, SECTION, T, X, Y, op};
 use crate::plain::{Plain, printed};
-use fugue_ids::Op;
+use fugue_ids::{NoMemory, Op};
+use op_runs::OpSlice;
 use outer_ports::MemSink;
 use replica_core::{DeliverFault, Replica, Settled, Taken, Tally};
 use std::alloc::Global;
@@ -62,12 +63,31 @@ pub fn writes(alloc: Global, replica: &Replica, text: &[u8]) -> Result<bool, Fai
     Ok(written.written() == text)
 }
 
-/// Whether a plain replica accepts these operations, and its manuscript is written.
-pub fn writes_as_plain(alloc: Global, replica: &Replica, ops: &[Op]) -> Result<bool, Fail> {
+/// Whether a plain replica accepts what another one accepted, and its manuscript is written.
+pub fn writes_as_plain(alloc: Global, replica: &Replica, other: &Replica) -> Result<bool, Fail> {
+    let ops = accepted_by(alloc, other)?;
     let mut plain = Plain::new(alloc);
-    plain.take_all(alloc, ops)?;
+    plain.take_all(alloc, &ops)?;
     let wanted = printed(alloc, &plain.accepted)?;
     Ok(plain.waiting.is_empty() && writes(alloc, replica, &wanted)?)
+}
+
+/// Copies of the operations of a slice.
+pub fn copies_of(alloc: Global, ops: OpSlice<'_>) -> Result<Vec<Op>, NoMemory> {
+    let mut copies = Vec::new(alloc);
+    let mut rest = ops;
+    for _ in 0..u64::MAX {
+        match rest.next_op() {
+            Some(op) => copies.push(op.copy_in(alloc)?)?,
+            None => break,
+        }
+    }
+    Ok(copies)
+}
+
+/// Copies of the operations that a replica accepted.
+pub fn accepted_by(alloc: Global, replica: &Replica) -> Result<Vec<Op>, NoMemory> {
+    copies_of(alloc, replica.accepted())
 }
 
 /// Feeds the operations of the lines.
@@ -96,6 +116,17 @@ pub fn feed_ops(
         feed_one(rt, replica, op.clone_in(alloc)?, &mut tally)?;
     }
     Ok(())
+}
+
+/// Feeds copies of what another replica accepted.
+pub fn feed_accepted(
+    rt: &impl Abort,
+    alloc: Global,
+    replica: &mut Replica,
+    other: &Replica,
+) -> Result<(), Fail> {
+    let ops = accepted_by(alloc, other)?;
+    feed_ops(rt, alloc, replica, &ops)
 }
 
 /// Feeds the operations to a new replica, and looks at what it shows.

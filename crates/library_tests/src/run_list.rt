@@ -3,7 +3,7 @@
 use crate::assertions::{equal, equal_at, holds_at};
 use crate::dice::Dice;
 use crate::ids::{id, text};
-use fugue_ids::{NoMemory, Op, RunStart, Title, read_text};
+use fugue_ids::{ElementId, NoMemory, Op, RunStart, Title, read_text};
 use op_runs::{OpRef, OpRuns, OpSlice, Stretch};
 use std::alloc::Global;
 use std::test::Fail;
@@ -123,9 +123,19 @@ fn has(runs: &OpRuns, position: usize, op: &Op) -> bool {
     }
 }
 
+/// Whether the last operations of both lists are equal.
+fn end_alike(runs: &OpRuns, plain: &[Op]) -> bool {
+    match (runs.last(), plain.last()) {
+        (Some(found), Some(op)) => is_op(&found, op),
+        (None, None) => true,
+        _ => false,
+    }
+}
+
 /// Whether the list is these operations: each by its position, and those from a position on by a walk.
 fn is_list(alloc: Global, runs: &OpRuns, plain: &[Op], position: usize) -> Result<bool, NoMemory> {
     let mut is_so = runs.len() == plain.len() && runs.get(plain.len()).is_none();
+    is_so = is_so && end_alike(runs, plain);
     for place in 0..plain.len() {
         is_so = is_so && has(runs, place, &plain[place]);
     }
@@ -156,6 +166,18 @@ fn push(runs: &mut OpRuns, op: Op) -> bool {
     runs.len() < 1_000 && runs.push(op).is_ok()
 }
 
+/// Takes the last operation of both lists, where that is a Section or a Note. The answer is whether they agree.
+fn take_last(runs: &mut OpRuns, plain: &mut Vec<Op>) -> bool {
+    let is_other = matches!(
+        plain.last(),
+        Some(Op::Section { .. }) | Some(Op::Note { .. })
+    );
+    match runs.take_last() {
+        Some(op) => is_other && plain.pop() == Some(op),
+        None => !is_other,
+    }
+}
+
 #[test]
 fn it_is_the_plain_list(rt: HostRuntime) -> Result<(), Fail> {
     let alloc = rt.alloc();
@@ -169,6 +191,9 @@ fn it_is_the_plain_list(rt: HostRuntime) -> Result<(), Fail> {
                 runs.pop(count);
                 plain.truncate(plain.len() - count);
             }
+            if dice.roll(3) == 0 {
+                holds_at(&rt, &turn, take_last(&mut runs, &mut plain));
+            }
             let op = some_op(alloc, &mut dice, plain.last())?;
             plain.push(op.clone_in(alloc)?)?;
             holds_at(&rt, &turn, push(&mut runs, op));
@@ -181,6 +206,33 @@ fn it_is_the_plain_list(rt: HostRuntime) -> Result<(), Fail> {
                 equal_at(&rt, &turn, runs.repeats(position, &start, &text), wanted);
             }
         }
+    }
+    Ok(())
+}
+
+/// Puts Deletes of so many neighbours behind the others, if there is room.
+fn push_deletes(runs: &mut OpRuns, first: ElementId, count: u32) -> bool {
+    let is_small = runs.len() < 1_000 && first.counter < 1_000 && count < 1_000;
+    is_small && runs.push_deletes(first, count).is_ok()
+}
+
+/// Deletes of neighbours that come at once are those that come one by one, whatever the list ends with.
+#[test]
+fn deletes_come_at_once(rt: HostRuntime) -> Result<(), Fail> {
+    let alloc = rt.alloc();
+    let mut dice = Dice { state: 11 };
+    let mut runs = OpRuns::new(alloc);
+    let mut plain = Vec::new(alloc);
+    for turn in 0..120 {
+        let first = dice.number(6);
+        let count = dice.number(4);
+        holds_at(&rt, &turn, push_deletes(&mut runs, id(3, first), count));
+        for behind in 0..count {
+            let target = id(3, first.wrapping_add(behind));
+            plain.push(Op::Delete { target })?;
+        }
+        holds_at(&rt, &turn, is_list(alloc, &runs, &plain, first as usize)?);
+        equal_at(&rt, &turn, runs.entries(), plain_entries(&plain));
     }
     Ok(())
 }

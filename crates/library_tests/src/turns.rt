@@ -3,7 +3,7 @@
 use crate::assertions::holds_at;
 use crate::edits::Edit::{self, Add, Cut, Drop, Note, Put};
 use crate::edits::make;
-use crate::replicas::{feed_ops, writes_as_plain};
+use crate::replicas::{copies_of, feed_ops, writes_as_plain};
 use replica_core::Replica;
 use std::alloc::Global;
 use std::process::Abort;
@@ -51,9 +51,9 @@ fn feed_from(
     to: &mut Replica,
     first: usize,
 ) -> Result<usize, Fail> {
-    let ops = from.accepted();
-    feed_ops(rt, alloc, to, ops.get(first..).unwrap_or(&[]))?;
-    Ok(ops.len())
+    let ops = copies_of(alloc, from.accepted_from(first))?;
+    feed_ops(rt, alloc, to, &ops)?;
+    Ok(from.accepted().len())
 }
 
 /// One of them edits, and now and then the other hears of it.
@@ -95,8 +95,7 @@ fn edit_by_turns(
     let made = first.accepted().len();
     holds_at(rt, &seed, made > 40 && made == second.accepted().len());
     for replica in [&*first, &*second] {
-        let is_so = replica.waiting().is_empty()
-            && writes_as_plain(alloc, replica, first.accepted())?;
+        let is_so = replica.waiting().is_empty() && writes_as_plain(alloc, replica, first)?;
         holds_at(rt, &seed, is_so);
     }
     Ok(())

@@ -9,7 +9,7 @@ use crate::edits::{Edit, make};
 use crate::op_lines::Line::{Coded, Delete};
 use crate::op_lines::{Line, op};
 use crate::plain_notes::{version_name, view_text};
-use crate::replicas::feed_one;
+use crate::replicas::{accepted_by, feed_one};
 use crate::turns::Dice;
 use fugue_ids::{Body, Op};
 use outer_ports::MemSink;
@@ -175,7 +175,8 @@ const ROWS: &[Row] = &[
 fn compare(rt: &impl Abort, alloc: Global, replica: &Replica, wanted: &str) -> Result<(), Fail> {
     let mut found = None;
     let mut lines = Vec::new(alloc);
-    let ops = replica.accepted();
+    let copies = accepted_by(alloc, replica)?;
+    let ops = copies.as_slice();
     for (n, op) in ops.iter().enumerate() {
         if let Some(name) = version_name(ops, replica.number(), op) {
             lines.extend_from_slice(format!(in alloc; "{n} ")?.as_bytes())?;
@@ -238,7 +239,7 @@ fn act_and_compare(
                 equal_at(rt, &turn, give_name(rt, alloc, replica, name)?, Ok(1));
             }
             1 => {
-                let ops = replica.accepted();
+                let ops = accepted_by(alloc, replica)?;
                 let some = ops.get(dice.roll(ops.len()));
                 if let Some(target) = some.and_then(|op| op.id()) {
                     let op = Op::Delete { target };

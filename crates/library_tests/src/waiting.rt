@@ -1,11 +1,11 @@
-//! What waits, by value, and its queue beside a plain vector.
+//! What waits, by value, and its lists beside a plain vector.
 
 ghost use Rattle.std.specs.Prelude.{◌<◌};
 
 use crate::assertions::{equal, equal_at, holds_at};
 use crate::dice::Dice;
 use crate::ids::{id, text};
-use causal_inbox::{Found, Inbox, PushFault, Queue};
+use causal_inbox::{Found, Gapped, Inbox, PushFault, Queue};
 use fugue_ids::{Op, Title};
 use origin_model::{PlainReplica, Verdict};
 use std::mem::replace;
@@ -40,16 +40,15 @@ fn what_waits_is_found_bounded_counted_and_removed(rt: HostRuntime) {
     for (replica, want) in [(1, Some(7)), (2, Some(0)), (9, Some(0)), (3, None)] {
         equal_at(&rt, &replica, inbox.greatest(replica), want);
     }
-    equal(&rt, inbox.ops().len(), 3);
+    equal(&rt, inbox.len(), 3);
     equal(&rt, inbox.remove(1), Op::Delete { target: id(1, 7) });
     equal(&rt, inbox.greatest(1), Some(4));
-    let mut open = inbox.open();
-    let named = (open.nth_naming(id(1, 4), 0), open.nth_naming(id(1, 4), 1));
+    let named = (inbox.nth_naming(id(1, 4), 0), inbox.nth_naming(id(1, 4), 1));
     equal(&rt, named, (Some(1), None));
-    assert!(rt; open.len() == 2);
-    equal(&rt, open.op_at(1).id(), Some(id(2, 0)));
-    equal(&rt, open.remove(0).id(), Some(id(1, 2)));
-    drop(replace(&mut inbox, open.close()));
+    assert!(rt; inbox.len() == 2);
+    equal(&rt, inbox.op_at(1).id(), Some(id(2, 0)));
+    equal(&rt, inbox.remove(0).id(), Some(id(1, 2)));
+    inbox.close();
     equal(&rt, inbox.ops().len(), 1);
     drop(inbox);
 }
@@ -79,7 +78,7 @@ fn the_first_that_is_ready_or_stray_is_decidable(rt: HostRuntime) -> Result<(), 
     Ok(())
 }
 
-/// Items come, change and go, and then go while the queue is open.
+/// Items come, change and go.
 #[test]
 fn items_come_change_and_go_as_in_a_vector(rt: HostRuntime) -> Result<(), Fail> {
     let mut dice = Dice { state: 5 };
@@ -100,16 +99,58 @@ fn items_come_change_and_go_as_in_a_vector(rt: HostRuntime) -> Result<(), Fail> 
             let is_so = is_same && queue.as_slice() == vector.as_slice();
             holds_at(&rt, &(seed, item), is_so);
         }
-        let mut open = queue.open();
-        for turn in 0..8 {
+    }
+    Ok(())
+}
+
+/// The same where gaps stay until the list is closed.
+#[test]
+fn items_leave_gaps_and_those_left_are_as_in_a_vector(rt: HostRuntime) -> Result<(), Fail> {
+    let mut dice = Dice { state: 6 };
+    for seed in 0..200u64 {
+        let mut list = Gapped::new(rt.alloc());
+        let mut vector = Vec::new(rt.alloc());
+        for item in 0..60 {
             let at = dice.roll(vector.len());
-            if at < open.len() && at < vector.len() {
-                equal(&rt, *open.get(at), vector[at]);
-                let is_same = open.remove(at, 99) == vector.remove(at);
-                holds_at(&rt, &(seed, turn), is_same);
+            let is_same = match dice.roll(5) {
+                0 if at < list.len() && at < vector.len() => {
+                    list.put(at, item) == replace(&mut vector[at], item)
+                }
+                1 | 2 if at < list.len() && at < vector.len() => {
+                    list.remove(at, 99) == vector.remove(at)
+                }
+                _ => list.push(item).is_ok() && vector.push(item).is_ok(),
+            };
+            holds_at(&rt, &(seed, item), is_same);
+            let at = dice.roll(vector.len());
+            if at < list.len() && at < vector.len() {
+                equal_at(&rt, &(seed, item), *list.get(at), vector[at]);
+                holds_at(&rt, &(seed, item), list.stretch(at)[0] == vector[at]);
             }
         }
-        equal(&rt, open.close().as_slice(), vector.as_slice());
+        list.close();
+        equal(&rt, list.as_slice(), vector.as_slice());
     }
+    Ok(())
+}
+
+/// More leave in shuffled order than gaps are noted: they are closed on the way.
+#[test]
+fn thousands_leave_in_any_order_as_from_a_vector(rt: HostRuntime) -> Result<(), Fail> {
+    let mut dice = Dice { state: 7 };
+    let mut list = Gapped::new(rt.alloc());
+    let mut vector = Vec::new(rt.alloc());
+    for item in 0..5000u32 {
+        let is_in = list.push(item).is_ok() && vector.push(item).is_ok();
+        holds_at(&rt, &item, is_in);
+    }
+    for turn in 0..4990u32 {
+        let at = dice.roll(vector.len());
+        if at < list.len() && at < vector.len() {
+            holds_at(&rt, &turn, list.remove(at, 0) == vector.remove(at));
+        }
+    }
+    list.close();
+    equal(&rt, list.as_slice(), vector.as_slice());
     Ok(())
 }

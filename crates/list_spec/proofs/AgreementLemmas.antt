@@ -17,7 +17,7 @@ use Rattle.origin_model.specs.taking.Taking.{Answer, Full, Held, IsSettled, TooM
 use Rattle.origin_model.specs.edits.Edits.{ReadyInTurn, extended}
 use Rattle.origin_model.specs.edits.State.{State}
 use Rattle.origin_model.specs.edits.Effect.{with_ops}
-use Rattle.origin_model.proofs.SharedLemmas.{Covers, Covers-same, accept_covers, covered_closed, fold_covers, has-append, has-holder, has-moved, nothing_covers, nothing_settled, order_by_set, owns, same_closed, settles}
+use Rattle.origin_model.proofs.SharedLemmas.{accept_covers, covered_closed, Covers, Covers-same, fold_covers, has-append, has-holder, has-moved, is_own-id, nothing_covers, nothing_settled, order_by_set, parts_join, same_closed, settles}
 use Rattle.origin_model.proofs.edits.UndecidedLemmas.{all_stay}
 use Rattle.list_spec.specs.Agreement.{AllAgree, GotEverything, HasEverything, all_answers, answer_at, answers_to, begun, brought, brought_by, where_true}
 use Rattle.list_spec.specs.Worlds.{Deliver, Edit, Event, Noting, World, after_event, after_events, after_making, changed, delivered, effect, made_at, note_effect, pooled, world}
@@ -33,7 +33,7 @@ record Has (came : List Op) (s : Held) : Type 0 where
 -- in a lawful history an identifier is that of one operation
 lawful_consistent : (h : List Op) → Lawful h → Consistent h
 lawful_consistent h w a b i m n e f =
-    let q = sym (has-holder h i a w m (owns a i e)) ∙ has-holder h i b w n (owns b i f) in cc q
+    let q = sym (has-holder h i a w m (is_own-id a i e)) ∙ has-holder h i b w n (is_own-id b i f) in cc q
 
 -- operations that are Ready in turn come to those that came before
 makes_covers : (came ops : List Op) (h w : List Op) → Covers came (record { history = h; waiting = w }) → ReadyInTurn h ops → Covers (ops ++ came) (record { history = extended h ops; waiting = w })
@@ -213,10 +213,6 @@ same_turned : (xs ys zs : List Op) → SameOps (xs ++ (ys ++ zs)) ((ys ++ xs) ++
 same_turned xs ys zs x =
     has-append xs (ys ++ zs) x ∙ ap (λ b. has_op xs x || b) (has-append ys zs x) ∙ turned (has_op xs x) (has_op ys x) (has_op zs x)
     ∙ ap (λ b. b || has_op zs x) (sym (has-append ys xs x)) ∙ sym (has-append (ys ++ xs) zs x)
-
--- a part of the pool and what an event brings are part of the pool behind the event
-parts_join : (xs ys all : List Op) → IsPartOf xs all → IsPartOf ys all → IsPartOf (xs ++ ys) all
-parts_join xs ys all f g x m = elim (or_cases (has_op xs x) (has_op ys x) (sym (has-append xs ys x) ∙ m)) [ inl j ↦ f x j | inr j ↦ g x j ]
 
 -- what events bring comes to its replica
 events_have : (n : ℕ) (came : List Op) (w : World) (events : List Event) → IsSound w → IsPartOf came w.pool → WithinLimits (all_answers n w events) → All (HasAt n came) w.replicas

@@ -1,5 +1,5 @@
 -- How many operations the parts of a draft take at least.
-use Rattle.std.proofs.Common.{◌≡◌, ℕ, ◌+◌, ◌<◌, ◌≤◌, List, [], ◌∷◌, length, map, nat_lt, true, false, refl, arith, sym, ◌∙◌, ap, take, get_or}
+use Rattle.std.proofs.Common.{◌≡◌, ℕ, ◌+◌, ◌<◌, ◌≤◌, List, [], ◌∷◌, length, map, nat_lt, true, false, refl, arith, sym, ap, take, get_or}
 use Rattle.std.specs.List.{sum_by}
 use Rattle.std.specs.Str.{chars}
 use Rattle.std.proofs.lemmas.List.Sums.{sum_by-cons, sum_by_more_le}
@@ -10,6 +10,7 @@ use Rattle.draft_plan.specs.Limits.{part_letters}
 use Rattle.draft_plan.specs.Readings.{seen_part}
 use Rattle.manuscript_cli.specs.Revising.{is_too_large}
 use Rattle.fugue_ids.specs.declared.limits.TheConstants.{MOST_OPERATIONS}
+use Rattle.std.proofs.lemmas.Bool.{le-ltb, lt-ltb}
 
 -- a section, and the letters of its text
 abbrev pub taken : ReadPart → ℕ
@@ -24,15 +25,9 @@ module _ (parts : List ReadPart) where
   -- the parts before one have a place, and it and its letters have none behind them
   pub is_over : (at : ℕ) (d : ReadPart) (room letters : ℕ) → at < length parts → room + sum_by taken (take at parts) ≡ MOST_OPERATIONS → letters ≡ length (chars (get_or parts at d).text.now) → room ≤ letters → true ≡ is_too_large (map seen_part parts)
   is_over at d room letters there left long over =
-      sym (ltb_yes MOST_OPERATIONS (length (map seen_part parts) + part_letters (map seen_part parts)) (omega (arith, left, long, over, sum_by_more_le taken parts at d there, taken_all parts)))
-    where
-      ltb_yes : (a b : ℕ) → a < b → nat_lt a b ≡ true
-      ltb_yes a b l = grind arith
+      sym (lt-ltb MOST_OPERATIONS (length (map seen_part parts) + part_letters (map seen_part parts)) (omega (arith, left, long, over, sum_by_more_le taken parts at d there, taken_all parts)))
 
   -- all parts have a place
   pub is_within : (at room : ℕ) → length parts ≤ at → room + sum_by taken (take at parts) ≡ MOST_OPERATIONS → false ≡ is_too_large (map seen_part parts)
   is_within at room all left =
-      sym (ltb_no MOST_OPERATIONS (length (map seen_part parts) + part_letters (map seen_part parts)) (omega (arith, left, ap (sum_by taken) (take_all at parts all), taken_all parts)))
-    where
-      ltb_no : (a b : ℕ) → b ≤ a → nat_lt a b ≡ false
-      ltb_no a b l = grind arith
+      sym (le-ltb MOST_OPERATIONS (length (map seen_part parts) + part_letters (map seen_part parts)) (omega (arith, left, ap (sum_by taken) (take_all at parts all), taken_all parts)))

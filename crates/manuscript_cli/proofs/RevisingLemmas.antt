@@ -4,9 +4,9 @@ use Rattle.std.specs.Prelude.{Bool, IfErr, IfOk, IfSome, MatchResult, Result, Ok
 use Rattle.std.specs.Option.{option_or}
 use Rattle.std.specs.List.{common_prefix_len}
 use Rattle.std.specs.Str.{bytes_eq}
-use Rattle.std.proofs.lemmas.Bool.{cases_eq, cases_lt, false_from_ne_true, ne_eqb}
+use Rattle.std.proofs.lemmas.Bool.{cases_eq, cases_lt, false_from_ne_true, le-ltb, lt-ltb, ne_eqb}
 use Rattle.std.proofs.lemmas.Slice.Eq.{bytes_eq-Decides}
-use Rattle.std.proofs.lemmas.List.{length-take}
+use Rattle.std.proofs.lemmas.List.{length-take, nil_from_length}
 use Rattle.fugue_ids.specs.declared.op.Op.{Op}
 use Rattle.origin_model.specs.declared.operations.Place.TheVariants.{Catalogue as catalogue}
 use Rattle.origin_model.specs.edits.Refusal.{held_count}
@@ -92,10 +92,7 @@ module _ (guest : DiskView) (input : SourceView) (replica : Replica) (base : Lis
 
 -- a text within the limit
 text_short : (replica : Replica) (draft : List ℕ) → length draft ≤ LONGEST_TEXT → text_refusal replica draft ≡ (if bytes_eq draft (arranged_text replica.held.history) then None else parts_refusal replica (parts draft))
-text_short replica draft short = ap (λ t. if t then Some refusal.TooLong else (if bytes_eq draft (arranged_text replica.held.history) then None else parts_refusal replica (parts draft))) (ltb_no LONGEST_TEXT (length draft) short)
-  where
-    ltb_no : (a b : ℕ) → b ≤ a → nat_lt a b ≡ false
-    ltb_no a b l = grind arith
+text_short replica draft short = ap (λ t. if t then Some refusal.TooLong else (if bytes_eq draft (arranged_text replica.held.history) then None else parts_refusal replica (parts draft))) (le-ltb LONGEST_TEXT (length draft) short)
 
 -- one that is another than what was printed, or the same
 text_other : (replica : Replica) (draft : List ℕ) → length draft ≤ LONGEST_TEXT → draft ≢ arranged_text replica.held.history → text_refusal replica draft ≡ parts_refusal replica (parts draft)
@@ -128,10 +125,7 @@ pub text_bad : (replica : Replica) (draft : List ℕ) (line : ℕ) → length dr
 text_bad replica draft line short other e = text_other replica draft short other ∙ ap (parts_refusal replica) e
 
 pub text_long : (replica : Replica) (draft : List ℕ) → LONGEST_TEXT < length draft → text_refusal replica draft ≡ Some refusal.TooLong
-text_long replica draft long = ap (λ t. if t then Some refusal.TooLong else (if bytes_eq draft (arranged_text replica.held.history) then None else parts_refusal replica (parts draft))) (ltb_yes LONGEST_TEXT (length draft) long)
-  where
-    ltb_yes : (a b : ℕ) → a < b → nat_lt a b ≡ true
-    ltb_yes a b l = grind arith
+text_long replica draft long = ap (λ t. if t then Some refusal.TooLong else (if bytes_eq draft (arranged_text replica.held.history) then None else parts_refusal replica (parts draft))) (lt-ltb LONGEST_TEXT (length draft) long)
 
 -- what was read of the input was left
 pub text_left : (input : Change SourceView) (text : List ℕ) → IsTextRead input text → IsLeft input.old text
@@ -179,14 +173,10 @@ outcome_of replica last draft ps n other e r =
       made_are = r.revised.makes.changed.gained.accepted_are;
       revised = subst (IsRevision replica last ps) r.revised.makes.count r.revised;
       prints = r.prints;
-      unchanged = λ same. nothing made (sym r.revised.makes.count ∙ (r.same same).0);
+      unchanged = λ same. nil_from_length made (sym r.revised.makes.count ∙ (r.same same).0);
       costs = subst (λ m. Costs replica last (revision_cost replica.held.history ps) (Ok m)) r.revised.makes.count r.costs;
       outcome_is = refl;
     }
-  where
-    nothing : (ops : List Op) → length ops ≡ 0 → ops ≡ []
-    nothing [] k = refl
-    nothing (op ∷ ops) k = absurd (omega (arith, k))
 
 -- a draft that came gives what was made
 pub draft_gives : (guest : Change DiskView) (input : Change SourceView) (replica last : Replica) (base draft : List ℕ) (ps : List Part) (n : ℕ) (kept : Option (List Op)) → HasBytes guest.old base

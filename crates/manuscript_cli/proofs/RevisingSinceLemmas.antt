@@ -1,7 +1,7 @@
 -- What a draft gives to the replica as it was, in the whole.
-use Rattle.std.proofs.Common.{◌≡◌, ◌≢◌, ◌⊎◌, inl, inr, ℕ, List, [], ◌∷◌, ◌++◌, ◌+◌, ◌<◌, ◌≤◌, ◌∙◌, Option, Some, None, Bool, true, false, ap, drop, get_or, length, nat_lt, refl, subst, sym, take}
+use Rattle.std.proofs.Common.{◌≡◌, ◌≢◌, ◌⊎◌, inl, inr, ℕ, List, [], ◌∷◌, ◌++◌, ◌∙◌, Option, Some, None, Bool, true, false, ap, append_assoc, length, nat_lt, refl, subst, sym}
 use Rattle.std.specs.Prelude.{IsErrOf, Ok, Err, Result, if◌then◌else◌}
-use Rattle.std.proofs.lemmas.List.{take-append-drop, take_all, take_more}
+use Rattle.std.proofs.lemmas.List.{append-nil}
 use Rattle.fugue_ids.specs.declared.op.Op.{Op}
 use Rattle.origin_model.specs.edits.Refusal.{held_count}
 use Rattle.origin_model.specs.edits.State.{State as Replica}
@@ -52,53 +52,46 @@ fed_not (feed_fault.TooMany limit) old new op before after many left = (left.0, 
 fed_not feed_fault.NoMemory old new op before after many left = tt
 
 -- ---- operations that are taken in one after another
--- the first k found their place
-pub record AreTaken (start now : Replica) (ops : List Op) (k : ℕ) : Type 0 where
-  pub now_is : now ≡ record start { held = held_from start.hold start.most start.held (take k ops) }
-  pub place : HasPlace start.hold start.most start.held (take k ops)
+-- the first ones found their place, and these are left
+pub record AreTaken (start now : Replica) (ops rest : List Op) : Type 0 where
+  pub done : List Op
+  pub parts : ops ≡ done ++ rest
+  pub now_is : now ≡ record start { held = held_from start.hold start.most start.held done }
+  pub place : HasPlace start.hold start.most start.held done
   pub settled : IsSettled now.held
 
-pub taken_none : (start : Replica) (ops : List Op) → IsSettled start.held → AreTaken start start ops 0
-taken_none start ops settled = record { now_is = refl; place = places-none start.hold start.most start.held; settled = settled }
+pub taken_none : (start : Replica) (ops : List Op) → IsSettled start.held → AreTaken start start ops ops
+taken_none start ops settled = record { done = []; parts = refl; now_is = refl; place = places-none start.hold start.most start.held; settled = settled }
 
-module _ (start now : Replica) (ops : List Op) (k : ℕ) (op : Op) (was : AreTaken start now ops k) (is : op ≡ get_or ops k op) (l : k < length ops) where
-  more : take (k + 1) ops ≡ take k ops ++ op ∷ []
-  more = take_more ops k op l ∙ ap (λ o. take k ops ++ o ∷ []) (sym is)
-
+module _ (start now : Replica) (ops rest : List Op) (op : Op) (behind : List Op) (was : AreTaken start now ops rest) (is : rest ≡ op ∷ behind) where
   abbrev at : Held
-  at = held_from start.hold start.most start.held (take k ops)
+  at = held_from start.hold start.most start.held was.done
 
   answered : answer now.hold now.most now.held op ≡ answer start.hold start.most at op
   answered = ap (λ (s : Replica). answer s.hold s.most s.held op) was.now_is
 
-  pub taken_more : (new : Replica) → new ≡ record now { held = intake now.hold now.most now.held op } → answer now.hold now.most now.held op ≢ AnswersTooMany → IsSettled new.held → AreTaken start new ops (k + 1)
+  pub taken_more : (new : Replica) → new ≡ record now { held = intake now.hold now.most now.held op } → answer now.hold now.most now.held op ≢ AnswersTooMany → IsSettled new.held → AreTaken start new ops behind
   taken_more new e other settled =
       record {
+        done = was.done ++ op ∷ [];
+        parts = was.parts ∙ ap (λ l. was.done ++ l) is ∙ sym (append_assoc was.done (op ∷ []) behind);
         now_is =
             e ∙ ap (λ (s : Replica). record s { held = intake s.hold s.most s.held op }) was.now_is
-            ∙ ap (λ h. record start { held = h }) (held-append start.hold start.most start.held (take k ops) (op ∷ []))
-            ∙ ap (λ l. record start { held = held_from start.hold start.most start.held l }) (sym more);
-        place =
-            subst (HasPlace start.hold start.most start.held) (sym more)
-            (places-append start.hold start.most start.held (take k ops) (op ∷ []) was.place (places-one start.hold start.most at op (λ many. other (answered ∙ many))));
+            ∙ ap (λ h. record start { held = h }) (held-append start.hold start.most start.held was.done (op ∷ []));
+        place = places-append start.hold start.most start.held was.done (op ∷ []) was.place (places-one start.hold start.most at op (λ many. other (answered ∙ many)));
         settled = settled;
       }
 
   pub one_too_many : answer now.hold now.most now.held op ≡ AnswersTooMany → IsOneTooMany start ops
   one_too_many many places =
-      let whole : ops ≡ take k ops ++ op ∷ drop (k + 1) ops = sym (take-append-drop (k + 1) ops) ∙ ap (λ l. l ++ drop (k + 1) ops) more ∙ append_one (take k ops) (drop (k + 1) ops) in
-      no_place_left start.hold start.most start.held (take k ops) (drop (k + 1) ops) op (subst (HasPlace start.hold start.most start.held) whole places) (sym answered ∙ many)
-    where
-      append_one : (a b : List Op) → (a ++ op ∷ []) ++ b ≡ a ++ op ∷ b
-      append_one [] b = refl
-      append_one (o ∷ a) b = ap (λ z. o ∷ z) (append_one a b)
+      no_place_left start.hold start.most start.held was.done behind op (subst (HasPlace start.hold start.most start.held) (was.parts ∙ ap (λ l. was.done ++ l) is) places) (sym answered ∙ many)
 
   pub full_finds : (fault : FeedFault) → FeedsNot fault now op → HasNoPlaceFor fault start ops
   full_finds (feed_fault.TooMany limit) many = one_too_many many.1
   full_finds feed_fault.NoMemory many = tt
 
-pub taken_all : (start now : Replica) (ops : List Op) (k : ℕ) → AreTaken start now ops k → length ops ≤ k → HasPlace start.hold start.most start.held ops
-taken_all start now ops k was l = subst (HasPlace start.hold start.most start.held) (take_all k ops l) was.place
+pub taken_all : (start now : Replica) (ops rest : List Op) → AreTaken start now ops rest → rest ≡ [] → HasPlace start.hold start.most start.held ops
+taken_all start now ops rest was none = subst (HasPlace start.hold start.most start.held) (sym (was.parts ∙ ap (λ l. was.done ++ l) none ∙ append-nil was.done)) was.place
 
 -- why what was made has no place
 pub full_room : (fault : FeedFault) (replica : Replica) (ops : List Op) (why : Refusal) → why ≡ refusal.TooMany (held_count replica) → HasNoPlaceFor fault replica ops → FindsNoRoom (told_fault why fault) replica ops

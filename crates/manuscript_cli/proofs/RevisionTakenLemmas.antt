@@ -11,7 +11,7 @@ use Rattle.origin_model.specs.operations.Verdict.{Lawful}
 use Rattle.origin_model.specs.taking.Taking.{IsSettled}
 use Rattle.origin_model.proofs.edits.EditIntakeLemmas.{comes, takes}
 use Rattle.origin_model.proofs.edits.FreshIdLemmas.{IsUnknown}
-use Rattle.origin_model.proofs.edits.MadeLemmas.{extended_length}
+use Rattle.origin_model.proofs.edits.MadeLemmas.{extended_length, lawful_front}
 use Rattle.origin_model.proofs.edits.NotedLemmas.{noted_unknown}
 use Rattle.origin_model.proofs.edits.UndecidedLemmas.{made_unknown}
 use Rattle.catalogue_notes.specs.Lift.{stamp}
@@ -24,15 +24,10 @@ use Rattle.edit_script.specs.Laws.{AreTakenIn}
 use Rattle.command_kinds.specs.Edit.{made_outcome}
 use Rattle.command_kinds.specs.Saving.{Suffices}
 
--- what came behind a lawful history was lawful on the way
-older_lawful : (ops h : List Op) → Lawful (extended h ops) → Lawful h
-older_lawful [] h w = w
-older_lawful (op ∷ ops) h w = (older_lawful ops (op ∷ h) w).1
-
 -- and each operation was Ready in its turn
 pub in_turn : (ops h : List Op) → Lawful (extended h ops) → ReadyInTurn h ops
 in_turn [] h w = tt
-in_turn (op ∷ ops) h w = ((older_lawful ops (op ∷ h) w).0, in_turn ops (op ∷ h) w)
+in_turn (op ∷ ops) h w = ((lawful_front ops (op ∷ h) w).0, in_turn ops (op ∷ h) w)
 
 -- nothing that waits names what a change makes
 one_unknown : (w : List Op) (op : Op) → IsUnknown w op → All (IsUnknown w) (op ∷ [])

@@ -19,6 +19,7 @@ use Rattle.catalogue_notes.specs.Arranged.{arranged}
 use Rattle.catalogue_notes.proofs.ArrangedLemmas.{arranged_length, arranged_once}
 use Rattle.manuscript_cli.specs.Revising.{ShowsNoMore}
 use Rattle.origin_model.proofs.SharedLemmas.{none_elsewhere, order-none, order-some, order_bounded}
+use Rattle.fugue_ids.proofs.IdentifierLemmas.{cases_origin}
 
 -- how many elements these sections have
 abbrev elements : List Op → List Identifier → ℕ
@@ -29,10 +30,6 @@ one_more : (p : Place) (op : Op) (h : List Op) (x : Identifier) → element_of p
 one_more p op h x e =
     let stands = λ (z : Identifier). before_in (order p h) (op ∷ h) z x in
     ap length (order-some p op h x e) ∙ length-insert (order p h) (count_by stands (order p h)) x (count_by-le-length stands (order p h))
-
-cases_some : (o : Option Identifier) → (o ≡ None) ⊎ ((x : Identifier) × (o ≡ Some x))
-cases_some None = inl refl
-cases_some (Some x) = inr (x, refl)
 
 -- sections that are not the place of the operation have the elements that they had
 others_stay : (p : Place) (op : Op) (h : List Op) (x : Identifier) (sections : List Identifier) → element_of p op ≡ Some x → All (λ s. p ≢ within s) sections → elements (op ∷ h) sections ≡ elements h sections
@@ -51,7 +48,7 @@ sections_gain op h [] once = omega arith
 sections_gain op h (s ∷ sections) once =
     let new = sum_by-cons (λ s. length (order (within s) (op ∷ h))) s sections in
     let old = sum_by-cons (λ s. length (order (within s) h)) s sections in
-    elim (cases_some (element_of (within s) op)) [
+    elim (cases_origin (element_of (within s) op)) [
       | inl none ↦ omega (arith, new, old, ap length (order-none (within s) op h none), sections_gain op h sections (all_pairs_tail (λ s t. s ≢ t) s sections once))
       | inr some ↦
           let apart = All-weaker (λ t. s ≢ t) (λ t. within s ≢ within t) (λ t other same. other (same_section s t same)) sections (all_pairs_head (λ s t. s ≢ t) s sections once) in
@@ -67,7 +64,7 @@ elements_few [] sections once =
     omega (arith, order_bounded catalogue [], sum_by-le (λ s. length (order (within s) [])) 0 sections (all_from_contains (λ s. length (order (within s) []) ≤ 0) sections (λ s member. order_bounded (within s) [])))
 elements_few (op ∷ h) sections once =
     let before = elements_few h sections once in
-    elim (cases_some (element_of catalogue op)) [
+    elim (cases_origin (element_of catalogue op)) [
       | inl none ↦ omega (arith, before, ap length (order-none catalogue op h none), sections_gain op h sections once)
       | inr some ↦ omega (arith, before, one_more catalogue op h some.0 some.1, others_stay catalogue op h some.0 sections some.1 (never_catalogue sections))
     ]

@@ -22,7 +22,7 @@ use Rattle.origin_model.specs.operations.Verdict.{Lawful, id_held, names, verdic
 use Rattle.origin_model.specs.order.Laws.{IsPartOf}
 use Rattle.origin_model.specs.order.Printed.{shown}
 use Rattle.origin_model.specs.taking.Taking.{Accepted, Again, Answer, Conflict, HasPlace, Held, IsSettled, TooMany, answer, answer_by, answers_from, held_from, intake, is_again, is_taken, settle, taken}
-use Rattle.origin_model.proofs.SharedLemmas.{Lawful-append, Within-part, becomes_ready, counters-append, has-holder, holds-older, holds-other, holds-own, names_within, settle-settled, when_ready}
+use Rattle.origin_model.proofs.SharedLemmas.{becomes_ready, counters-append, has-holder, holds-older, holds-other, holds-own, Lawful-append, names_within, part_at_end, settle-settled, when_ready, Within-part}
 use Rattle.origin_model.proofs.edits.EditIntakeLemmas.{accepts, not_waiting, state_of}
 use Rattle.origin_model.proofs.edits.FreshIdLemmas.{BelowAll, IsUnknown, history_below, new_unknown, waiting_below}
 use Rattle.origin_model.proofs.edits.MadeLemmas.{join_at_end}
@@ -31,7 +31,7 @@ use Rattle.catalogue_notes.specs.Moving.{move_by, retitle_by, section_placed}
 use Rattle.draft_plan.specs.Changes.{Change, Changed, Edit, Move, Retitle, all_made, behind, made_of}
 use Rattle.version_views.specs.Fronts.{front_of}
 use Rattle.version_views.specs.Views.{first_ops}
-use Rattle.version_views.proofs.ViewLemmas.{part_of, parts}
+use Rattle.version_views.proofs.ViewLemmas.{parts}
 use Rattle.command_kinds.specs.Saving.{Outcome, Suffices}
 use Rattle.command_kinds.specs.declared.refusal.Refusal.TheVariants as refusal
 use Rattle.command_kinds.proofs.LawfulLemmas.{held_lawful}
@@ -284,7 +284,7 @@ module _ (n : ℕ) (replica : Replica) (settled : IsSettled replica.held) (stand
   past_lawful = Lawful-append (take (length replica.held.history - n) replica.held.history) (first_ops n replica.held.history) (subst Lawful (sym (parts n replica.held.history)) stands.lawful)
 
   past_part : IsPartOf past.held.history replica.held.history
-  past_part = subst (IsPartOf (first_ops n replica.held.history)) (parts n replica.held.history) (part_of (take (length replica.held.history - n) replica.held.history) (first_ops n replica.held.history))
+  past_part = subst (IsPartOf (first_ops n replica.held.history)) (parts n replica.held.history) (part_at_end (take (length replica.held.history - n) replica.held.history) (first_ops n replica.held.history))
 
   next_same : next_of_own replica ≡ next_of_own past
   next_same = eqb-true (next_of_own replica) (next_of_own past) (none_since (nat_lt (length replica.held.history) n) (same_next replica past) n may)

@@ -2,7 +2,8 @@
 
 ghost use Rattle.origin_model.specs.operations.History.{accepted};
 
-use fugue_ids::{ElementId, Op, OpKey};
+use fugue_ids::{ElementId, OpKey};
+use op_runs::OpRef;
 use order_proof::Positions;
 use replica_core::Replica;
 
@@ -15,8 +16,12 @@ pub(crate) struct Held<'a> {
 impl Positions for Held<'_> {
     ghost operations = { λ held. accepted held.replica.now.held.history };
 
-    fn operations(&self) -> &[Op] {
-        self.replica.accepted()
+    fn count(&self) -> usize {
+        self.replica.accepted().len()
+    }
+
+    fn operation(&self, position: usize) -> Option<OpRef<'_>> {
+        self.replica.operation(position)
     }
 
     fn position(&self, id: ElementId) -> Option<usize> {

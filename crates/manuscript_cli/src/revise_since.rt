@@ -1,5 +1,6 @@
 //! The command `revise` with a number: a draft of what a file showed when so many operations were accepted.
 ghost use Rattle.std.specs.Prelude.{◌≡◌, ◌≢◌, ◌⊎◌, IfErr, IfOk, None, OnOk, Some};
+ghost use Rattle.op_runs.specs.Finding.{op_of};
 ghost use Rattle.origin_model.specs.edits.Refusal.{next_of_own};
 ghost use Rattle.origin_model.specs.taking.Taking.{HasPlace, IsSettled, TooMany as AnswersTooMany, answer, intake};
 ghost use Rattle.replica_file.specs.Loading.{IsReady};
@@ -17,7 +18,7 @@ ghost use Rattle.manuscript_cli.specs.RevisingSince.{revision_since, same_next, 
 
 use crate::revise::{DraftSources, Revised, revise_by, too_many};
 use command_kinds::{Gives, Kept, Note, Refusal, Status, last_of, save_given};
-use fugue_ids::Op;
+use op_runs::{OpRef, OpSlice};
 use origin_model::Tally;
 use outer_ports::{Disk, Sink, Source};
 use replica_core::{FeedFault, Replica};
@@ -136,7 +137,7 @@ fn bring(
 {
     match given {
         Ok(revised) => {
-            let taken = take_made(alloc, replica, last_of(past.accepted(), revised.made));
+            let taken = take_made(alloc, replica, last_of(&past, revised.made));
             match taken {
                 Ok(()) => {
                     replace(replica, past).discard();
@@ -166,10 +167,10 @@ fn told_of_whole(replica: &Replica, why: Refusal) -> Refusal
 }
 
 /// Takes copies of the operations in.
-fn take_made(alloc: Global, replica: &mut Replica, ops: &[Op]) -> Result<(), Refusal>
+fn take_made(alloc: Global, replica: &mut Replica, ops: OpSlice<'_>) -> Result<(), Refusal>
     requires settled { IsSettled replica.old.held }
-    ensures ok { OnOk result (HasPlace replica.old.hold replica.old.most replica.old.held ops.now) }
-    ensures err { IfErr result (λ why. FindsNoRoom why replica.old ops.now) }
+    ensures ok { OnOk result (HasPlace replica.old.hold replica.old.most replica.old.held ops.entry) }
+    ensures err { IfErr result (λ why. FindsNoRoom why replica.old ops.entry) }
 {
     let full = too_many(replica);
     match take_all(alloc, replica, ops) {
@@ -180,28 +181,29 @@ fn take_made(alloc: Global, replica: &mut Replica, ops: &[Op]) -> Result<(), Ref
 }
 
 /// The same, where one that finds no place is told by the replica.
-fn take_all(alloc: Global, replica: &mut Replica, ops: &[Op]) -> Result<(), FeedFault>
+fn take_all(alloc: Global, replica: &mut Replica, ops: OpSlice<'_>) -> Result<(), FeedFault>
     requires settled { IsSettled replica.old.held }
-    ensures ok { OnOk result (HasPlace replica.old.hold replica.old.most replica.old.held ops.now) }
-    ensures err { IfErr result (λ fault. HasNoPlaceFor fault replica.old ops.now) }
+    ensures ok { OnOk result (HasPlace replica.old.hold replica.old.most replica.old.held ops.entry) }
+    ensures err { IfErr result (λ fault. HasNoPlaceFor fault replica.old ops.entry) }
 {
-    'ops: for op in ops {
-        take_copy(alloc, replica, op)?;
+    let mut rest = ops;
+    'ops: while let Some(op) = rest.next_op() {
+        take_copy(alloc, replica, &op)?;
     }
     Ok(())
 }
 
 /// Takes a copy of the operation in.
-fn take_copy(alloc: Global, replica: &mut Replica, op: &Op) -> Result<(), FeedFault>
+fn take_copy(alloc: Global, replica: &mut Replica, op: &OpRef<'_>) -> Result<(), FeedFault>
     requires settled { IsSettled replica.old.held }
     ensures ok { OnOk result (replica.new ≡ record replica.old {
-      held = intake replica.old.hold replica.old.most replica.old.held op.now;
+      held = intake replica.old.hold replica.old.most replica.old.held (op_of op.now);
     }) }
-    ensures place { OnOk result (answer replica.old.hold replica.old.most replica.old.held op.now ≢ AnswersTooMany) }
+    ensures place { OnOk result (answer replica.old.hold replica.old.most replica.old.held (op_of op.now) ≢ AnswersTooMany) }
     ensures settled { OnOk result (IsSettled replica.new.held) }
-    ensures err { IfErr result (λ fault. FeedsNot fault replica.old op.now) }
+    ensures err { IfErr result (λ fault. FeedsNot fault replica.old (op_of op.now)) }
 {
-    let copy = op.clone_in(alloc)?;
+    let copy = op.copy_in(alloc)?;
     let mut tally = Tally::default();
     replica.feed(copy, &mut tally)?;
     Ok(())

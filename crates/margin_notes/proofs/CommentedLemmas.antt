@@ -32,8 +32,10 @@ use Rattle.margin_notes.specs.declared.limits.TheConstants.{COMMENT_CODE}
 use Rattle.margin_notes.specs.Commenting.{HasNoRange, IsCommentMade, IsCommented, IsRange, NamesPassage, range_of, scalar_in}
 use Rattle.margin_notes.specs.Comments.{Comment, comments_in, is_text, is_text_of}
 use Rattle.margin_notes.specs.Margins.{span}
-use Rattle.margin_notes.proofs.CountLemmas.{count_at, get_in, ordered_at, up_to}
+use Rattle.margin_notes.proofs.CountLemmas.{count_at, ordered_at, up_to}
 use Rattle.margin_notes.proofs.MemberLemmas.{to_comments}
+use Rattle.origin_model.proofs.edits.SplitLemmas.{get_in}
+use Rattle.fugue_ids.proofs.OptionLemmas.{some_is_none}
 
 -- what stands in a list
 get_some : {X : Type 0} → (xs : List X) (i : ℕ) → i < length xs → (x : X) × (slice_get xs i ≡ Some x)
@@ -80,9 +82,6 @@ some_scalars bytes at (suc m) u l k =
     let i = IsPieceOf-slice_get (is_grapheme_break true) bytes at (o.0, f.0) u o.1 in
     let utf8 : IsUtf8 f.0 = subst IsUtf8 (sym i.bytes) (IsUtf8-between bytes o.0 (o.0 + length f.0) u (omega arith) i.start i.end) in
     omega (arith, some_scalar f.0 utf8 (piece_some ps at f.0 (segments_nonempty (is_grapheme_break true) bytes) f.1), first_of ps at m f.0 f.1)
-
-some_is_none : {X : Type 0} (x : X) → IsNone (Some x) → ⊥
-some_is_none x e = cc
 
 -- where a text was found, there is the section
 pub text_there : (found : Option Identifier) (written : Identifier → List ℕ) (bytes : List ℕ) → Some bytes ≡ option_map written found

@@ -9,17 +9,9 @@ use Rattle.fugue_ids.proofs.IdentifierLemmas.{cases_id, eq-id_eq, index_of-here,
 use Rattle.fugue_ids.proofs.ListLemmas.{contains_cases, contains_filter_from, contains_here, contains_map, contains_map_from, contains_none, contains_there}
 use Rattle.section_list.specs.Cells.{Cell, section_cell_ids, section_cells_shown, section_shown_before}
 use Rattle.margin_notes.specs.Listing.{number_from}
-
--- a first member that passes counts one more, and one that fails nothing
-count-yes : (q : Identifier → Bool) (e : Identifier) (es : List Identifier) → q e ≡ true → count_by q (e ∷ es) ≡ suc (count_by q es)
-count-yes q e es h = sum_by-cons (λ x. cond (q x) 1 0) e es ∙ ap (λ b. cond b 1 0 + count_by q es) h ∙ omega arith
-
-count-no : (q : Identifier → Bool) (e : Identifier) (es : List Identifier) → q e ≡ false → count_by q (e ∷ es) ≡ count_by q es
-count-no q e es h = sum_by-cons (λ x. cond (q x) 1 0) e es ∙ ap (λ b. cond b 1 0 + count_by q es) h ∙ omega arith
-
-none_pass : (q : Identifier → Bool) (es : List Identifier) → All (λ e. q e ≡ false) es → count_by q es ≡ 0
-none_pass q [] h = refl
-none_pass q (e ∷ es) h = count-no q e es (All-head (λ e. q e ≡ false) e es h) ∙ none_pass q es (All-tail (λ e. q e ≡ false) e es h)
+use Rattle.origin_model.proofs.edits.SplitLemmas.{get_in}
+use Rattle.section_list.proofs.PlainLemmas.{visible_listed}
+use Rattle.origin_model.proofs.SharedLemmas.{count-no, count-yes, none_pass}
 
 lt_suc : (i j : ℕ) → nat_lt (suc i) (suc j) ≡ nat_lt i j
 lt_suc i j = grind (arith, nat_tests)
@@ -29,12 +21,6 @@ lt_first i = grind (arith, nat_tests)
 
 lt_none : (i : ℕ) → nat_lt (suc i) 0 ≡ false
 lt_none i = grind (arith, nat_tests)
-
--- the member that has so many others in front of it is a member
-pub get_in : (xs : List Identifier) (i : ℕ) (x : Identifier) → slice_get xs i ≡ Some x → Contains xs x
-get_in [] i x e = cc
-get_in (y ∷ xs) zero x e = let d : y ≡ x = cc in subst (Contains (y ∷ xs)) d (contains_here y xs)
-get_in (y ∷ xs) (suc i) x e = contains_there y xs x (get_in xs i x e)
 
 -- one that is not the first is in the rest
 in_back : (e : Identifier) (es : List Identifier) (x : Identifier) → (x ≡ e → ⊥) → Contains (e ∷ es) x → Contains es x
@@ -49,13 +35,6 @@ ordered_at R (z ∷ xs) zero (suc j) x y o a b l =
     let d : z ≡ x = cc in
     subst (λ w. R w y ≡ true) d (All-contains (λ w. R z w ≡ true) xs y (all_pairs_head (λ a b. R a b ≡ true) z xs o) (get_in xs j y b))
 ordered_at R (z ∷ xs) (suc i) (suc j) x y o a b l = ordered_at R xs i j x y (all_pairs_tail (λ a b. R a b ≡ true) z xs o) a b (omega (arith, l))
-
--- the visible cells are some of the cells
-pub visible_in : (cells : List Cell) (y : Identifier) → Contains (section_cell_ids (section_cells_shown cells)) y → Contains (section_cell_ids cells) y
-visible_in cells y k =
-    let id : Cell → Identifier = λ c. c.id in
-    let f = contains_map_from id (section_cells_shown cells) y k in
-    subst (Contains (section_cell_ids cells)) f.2 (contains_map id cells f.0 (contains_filter_from (λ c. not c.hidden) cells f.0 f.1).0)
 
 -- no number is that of what is not there
 pub no_number : (k : ℕ) (xs : List Identifier) (s : Identifier) → (Contains xs s → ⊥) → number_from k xs s ≡ None
@@ -141,7 +120,7 @@ module _ (R : Identifier → Identifier → Bool) (irrefl : (a : Identifier) →
             let none : All (λ y. q y ≡ false) (e.id ∷ ids) = subst (λ z. All (λ y. R y z ≡ false) (e.id ∷ ids)) (sym d) (none_first e.id ids o) in
             ap (λ n. length (section_cells_shown (take n (e ∷ es)))) (index_of-here e.id ids x d)
             ∙ sym (none_pass q (section_cell_ids (section_cells_shown (e ∷ es)))
-            (all_from_contains (λ y. q y ≡ false) (section_cell_ids (section_cells_shown (e ∷ es))) (λ y k. All-contains (λ z. q z ≡ false) (e.id ∷ ids) y none (visible_in (e ∷ es) y k))))
+            (all_from_contains (λ y. q y ≡ false) (section_cell_ids (section_cells_shown (e ∷ es))) (λ y k. All-contains (λ z. q z ≡ false) (e.id ∷ ids) y none (visible_listed (e ∷ es) y k))))
         | inr d ↦
             let k : Contains ids x = in_back e.id ids x d c in
             let first : q e.id ≡ true = All-contains (T e.id) ids x (all_pairs_head T e.id ids o) k in

@@ -2,7 +2,7 @@
 use Rattle.margin_notes.proofs.Words.{Bool, Delete, Note, Section, Text, cases_Bool, id_of, inl, inr, true≢false, Identifier, IsIn, List, None, Op, Option, Some, [], ap, before, false, holder, id_eq, if◌then◌else◌, not, option_map, refl, slice_get, subst, sym, true, within, ℕ, ◌&&◌, ◌++◌, ◌||◌, ◌∙◌, ◌∷◌, ◌≡◌}
 use Rattle.std.specs.Prelude.{decimal, option_and_then}
 use Rattle.origin_model.specs.order.Printed.{is_withdrawn}
-use Rattle.replica_core.specs.Index.{is_section_or_note}
+use Rattle.replica_core.specs.Index.{if_section_or_note, is_section_or_note, section_or_note_at}
 use Rattle.margin_notes.specs.Comments.{Comment, comment_in, is_text_of}
 use Rattle.margin_notes.specs.Listing.{Line, anchors_of, body_of, line_for, line_in, line_of, section_number, section_of, text_section}
 use Rattle.margin_notes.specs.Margins.{span}
@@ -26,11 +26,6 @@ section_says h c s e =
 
 pub section_from : (h : List Op) (c : Comment) (s : Identifier) → AnchorsIn h s c.first c.last → section_of h c ≡ Some s
 section_from h c s a = has_section h c s (λ i. (text_at (holder h c.first) s a.first_in i && text_at (holder h c.last) s a.last_in i) && a.in_order i)
-
--- a test that is not unequal
-pub not_other : (b : Bool) → not b ≡ false → b ≡ true
-not_other true e = refl
-not_other false e = cc
 
 -- where no section has the anchors, none has the comment
 pub section_none : (h : List Op) (a : Anchors) (c : Comment) → a ≡ anchors_of c → ((s : Identifier) → AnchorsIn h s a.first a.last → ⊥) → None ≡ section_of h c
@@ -127,6 +122,11 @@ line_by_place h op = by (comment_in op)
     by None = refl
     by (Some c) = elim (is_withdrawn h c.id) as (λ (b : Bool). (if b then None else line_for h c) ≡ option_and_then (line_placed h) (if b then None else placed h c)) [ true ↦ refl | false ↦ at c (section_of h c) ]
 
+-- so it is of whatever stands somewhere
+pub line_at_place : (h : List Op) (o : Option Op) → option_and_then (line_in h) o ≡ option_and_then (line_placed h) (option_and_then (placed_in h) o)
+line_at_place h None = refl
+line_at_place h (Some op) = line_by_place h op
+
 -- what is neither a Section nor a Note is no comment
 pub no_place : (h : List Op) (op : Op) → is_section_or_note op ≡ false → placed_in h op ≡ None
 no_place h (Section i l r t) e = absurd (true≢false e)
@@ -152,3 +152,14 @@ placed_own h op p e = by (comment_in op) refl e
           | inl t ↦ let no : None ≡ Some p = sym (ap (λ b. if b then None else placed h c) t) ∙ k in cc
           | inr t ↦ (comment_says op c says).own ∙ ap Some (at c (section_of h c) (sym (ap (λ b. if b then None else placed h c) t) ∙ k))
         ]
+
+-- the body at a position is that of the Section or Note there
+pub body_there : (ops : List Op) (at : ℕ) → body_of (section_or_note_at ops at) ≡ body_of (slice_get ops at)
+body_there ops at = by (slice_get ops at)
+  where
+    by : (o : Option Op) → body_of (option_and_then if_section_or_note o) ≡ body_of o
+    by None = refl
+    by (Some (Section i l r t)) = refl
+    by (Some (Text i s l r c)) = refl
+    by (Some (Delete i)) = refl
+    by (Some (Note i ns c b)) = refl

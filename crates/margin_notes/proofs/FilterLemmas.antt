@@ -1,6 +1,8 @@
 -- Lists of identifiers that tests keep a part of.
 use Rattle.fugue_ids.proofs.ListLemmas.{filter-both}
 use Rattle.margin_notes.proofs.Words.{All, All-head, All-tail, All-weaker, AllPairs, Bool, Identifier, List, [], all_pairs_head, all_pairs_tail, ap, cases_Bool, cond, drop, false, filter, inl, inr, length, not, refl, subst, sym, take, true, true≢false, ◌&&◌, ◌∙◌, ◌∷◌, ◌≡◌}
+use Rattle.origin_model.proofs.edits.SplitLemmas.{filter_all}
+use Rattle.std.proofs.Math.Bool.{and_comm}
 
 -- tests that agree on each member keep the same members
 pub filter-agree : (f g : Identifier → Bool) (xs : List Identifier) → All (λ x. f x ≡ g x) xs → filter f xs ≡ filter g xs
@@ -9,15 +11,9 @@ filter-agree f g (x ∷ xs) a =
     let rest : filter f xs ≡ filter g xs = filter-agree f g xs (All-tail (λ y. f y ≡ g y) x xs a) in
     λ i. cond (All-head (λ y. f y ≡ g y) x xs a i) (x ∷ rest i) (rest i)
 
-and-comm : (a b : Bool) → (a && b) ≡ (b && a)
-and-comm true true = refl
-and-comm true false = refl
-and-comm false true = refl
-and-comm false false = refl
-
 -- two tests keep the same members in either order
 pub filter-swap : (f g : Identifier → Bool) (xs : List Identifier) → filter f (filter g xs) ≡ filter g (filter f xs)
-filter-swap f g xs = filter-both g f xs ∙ (λ i. filter (λ x. and-comm (g x) (f x) i) xs) ∙ sym (filter-both f g xs)
+filter-swap f g xs = filter-both g f xs ∙ (λ i. filter (λ x. and_comm (g x) (f x) i) xs) ∙ sym (filter-both f g xs)
 
 -- the members that pass stand before the others
 abbrev pub IsCut : (Identifier → Bool) → List Identifier → Type 0
@@ -34,12 +30,6 @@ filter-none : (q : Identifier → Bool) (xs : List Identifier) → All (λ y. q 
 filter-none q [] a = refl
 filter-none q (x ∷ xs) a =
     ap (λ b. cond b (x ∷ filter q xs) (filter q xs)) (All-head (λ y. q y ≡ false) x xs a) ∙ filter-none q xs (All-tail (λ y. q y ≡ false) x xs a)
-
--- one that all pass keeps all
-filter-all : (q : Identifier → Bool) (xs : List Identifier) → All (λ y. q y ≡ true) xs → filter q xs ≡ xs
-filter-all q [] a = refl
-filter-all q (x ∷ xs) a =
-    ap (λ b. cond b (x ∷ filter q xs) (filter q xs)) (All-head (λ y. q y ≡ true) x xs a) ∙ ap (λ t. x ∷ t) (filter-all q xs (All-tail (λ y. q y ≡ true) x xs a))
 
 -- the members that pass are the first ones
 pub front_of_cut : (q : Identifier → Bool) (xs : List Identifier) → IsCut q xs → filter q xs ≡ take (length (filter q xs)) xs
@@ -63,6 +53,6 @@ back_of_cut q (x ∷ xs) c =
       | inl k ↦ subst goal (sym k) (back_of_cut q xs (all_pairs_tail (λ u v. q v ≡ true → q u ≡ true) x xs c))
       | inr k ↦
           let fail : All (λ y. q y ≡ false) xs = all_fail q x xs c k in
-          subst goal (sym k) (ap (λ t. x ∷ t) (filter-all (λ y. not (q y)) xs (All-weaker (λ y. q y ≡ false) (λ y. not (q y) ≡ true) (λ y e. ap not e) xs fail))
+          subst goal (sym k) (ap (λ t. x ∷ t) (filter_all (λ y. not (q y)) xs (All-weaker (λ y. q y ≡ false) (λ y. not (q y) ≡ true) (λ y e. ap not e) xs fail))
           ∙ subst (λ l. x ∷ xs ≡ drop (length l) (x ∷ xs)) (sym (filter-none q xs fail)) refl)
     ]

@@ -19,7 +19,8 @@ use Rattle.margin_notes.specs.Margins.{comment_line, lines_from}
 use Rattle.margin_notes.proofs.CountLemmas.{number_in}
 use Rattle.margin_notes.proofs.KeptLemmas.{said_from, said_in, said_pairs}
 use Rattle.margin_notes.proofs.MemberLemmas.{comment_says, from_comments, has_section, listed_apart, section_is, to_comments}
-use Rattle.margin_notes.proofs.SortLemmas.{Earlier, by_id_from, by_id_in, by_id_ordered, id_irrefl, id_trans}
+use Rattle.margin_notes.proofs.SortLemmas.{Earlier, by_id_from, by_id_in, by_id_ordered}
+use Rattle.fugue_ids.proofs.OrderLemmas.{id_irrefl, id_trans}
 
 -- the line a is written before b
 abbrev pub Below : Line → Line → Type 0

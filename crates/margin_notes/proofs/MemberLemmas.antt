@@ -14,6 +14,7 @@ use Rattle.margin_notes.specs.declared.limits.TheConstants.{COMMENT_CODE}
 use Rattle.margin_notes.proofs.KeptLemmas.{said_from, said_in, said_pairs}
 use Rattle.margin_notes.proofs.PassageLemmas.{both_parts}
 use Rattle.margin_notes.proofs.SortLemmas.{Apart, by_id_count, by_id_from, by_id_in, by_id_ordered, ordered_once}
+use Rattle.std.proofs.lemmas.Bool.{not-true}
 
 -- what a comment says of its operation
 pub record Says (op : Op) (c : Comment) : Type 0 where
@@ -69,11 +70,7 @@ from_comments h s c m =
     let k = contains_filter_from (counts h s) (comments h) c m in
     let f = said_from comment_in h c k.0 in
     let b = both_parts (is_in_section h s c) (not (is_withdrawn h c.id)) k.1 in
-    record { op = f.0; member = f.1; says = f.2; in_section = b.0; stands = not_true (is_withdrawn h c.id) b.1 }
-  where
-    not_true : (b : Bool) → not b ≡ true → b ≡ false
-    not_true true e = cc
-    not_true false e = refl
+    record { op = f.0; member = f.1; says = f.2; in_section = b.0; stands = not-true (is_withdrawn h c.id) b.1 }
 
 pub to_comments : (h : List Op) (s : Identifier) (c : Comment) → IsCommentOf h s c → Contains (comments_in h s) c
 to_comments h s c i =

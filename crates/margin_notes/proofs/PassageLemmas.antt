@@ -2,7 +2,7 @@
 use Rattle.margin_notes.proofs.Words.{All, All-weaker, Bool, Delete, Identifier, IsIn, IsPartOf, KeepsOrder, Lawful, List, None, Note, Op, Option, Place, Section, Some, Text, [], all_from_contains, ap, before, cases_Bool, false, filter, first_missing, has_op, holder, holds, id_eq, id_of, if◌then◌else◌, inl, inr, names, or_right, order, refl, stands_at, sym, true, within, ◌&&◌, ◌++◌, ◌||◌, ◌∙◌, ◌∷◌, ◌≡◌}
 use Rattle.origin_model.specs.declared.operations.Role.{Role}
 use Rattle.origin_model.specs.declared.operations.Role.TheVariants.{Any}
-use Rattle.origin_model.proofs.SharedLemmas.{IsHeld, Lawful-append, Within-append, cases_held, found, has-append, holder_owns, holds-older, order_total, own_id, parts_keep_order, when_ready}
+use Rattle.origin_model.proofs.SharedLemmas.{cases_held, found, has-append, holder_owns, holds-older, IsHeld, Lawful-append, order-in, order_total, own_id, part_at_end, parts_keep_order, when_ready, Within-append}
 use Rattle.std.specs.Prelude.{is_some, nat_eq}
 use Rattle.fugue_ids.proofs.IdentifierLemmas.{not_some}
 use Rattle.margin_notes.specs.declared.limits.TheConstants.{COMMENT_CODE}
@@ -11,17 +11,9 @@ use Rattle.margin_notes.specs.Laws.{CommentsStay, SpanStays}
 use Rattle.margin_notes.specs.Margins.{stands_between}
 use Rattle.margin_notes.proofs.FilterLemmas.{filter-agree, filter-swap}
 
--- the older operations are a part of all
-part_of : (new h : List Op) → IsPartOf h (new ++ h)
-part_of new h op e = has-append new h op ∙ or_right (has_op new op) (has_op h op) e
-
 -- later operations keep the order of the older elements
 keeps : (p : Place) (new h : List Op) → Lawful (new ++ h) → KeepsOrder p h (new ++ h)
-keeps p new h w = parts_keep_order p h (new ++ h) (Lawful-append new h w) w (part_of new h)
-
--- the elements of an order are of its place
-pub all_in : (p : Place) (h : List Op) → Lawful h → All (IsIn p h) (order p h)
-all_in p h w = all_from_contains (IsIn p h) (order p h) (λ x k. ((order_total p h w).lists x).1 k)
+keeps p new h w = parts_keep_order p h (new ++ h) (Lawful-append new h w) w (part_at_end new h)
 
 pub span_stays : SpanStays
 span_stays p new h a b w m n =
@@ -29,7 +21,7 @@ span_stays p new h a b w m n =
     let k : KeepsOrder p h whole = keeps p new h w in
     filter-agree (stands_between p h a b) (stands_between p whole a b) (order p h)
     (All-weaker (IsIn p h) (λ x. stands_between p h a b x ≡ stands_between p whole a b x)
-    (λ x i. λ j. (id_eq a x || k.same_before a x m i j) && (id_eq x b || k.same_before x b i n j)) (order p h) (all_in p h (Lawful-append new h w)))
+    (λ x i. λ j. (id_eq a x || k.same_before a x m i j) && (id_eq x b || k.same_before x b i n j)) (order p h) (order-in p h (Lawful-append new h w)))
     ∙ ap (filter (stands_between p whole a b)) k.same_order
     ∙ filter-swap (stands_between p whole a b) (holds h) (order p whole)
 
@@ -60,7 +52,7 @@ text_stays s new h x w held =
     ap (is_text_by s) (Within-append new h w x o.0 o.1) ∙ sym (ap (is_text_by s) o.1)
 
 -- tests of which the last is compared only where the others hold
-same_tests : (a b c d : Bool) → (a ≡ true → b ≡ true → c ≡ d) → (a && b && c) ≡ (a && b && d)
+pub same_tests : (a b c d : Bool) → (a ≡ true → b ≡ true → c ≡ d) → (a && b && c) ≡ (a && b && d)
 same_tests true true c d f = f refl refl
 same_tests true false c d f = refl
 same_tests false b c d f = refl

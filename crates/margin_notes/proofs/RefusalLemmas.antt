@@ -10,18 +10,7 @@ use Rattle.origin_model.specs.edits.State.{State}
 use Rattle.margin_notes.specs.declared.commenting.CommentFault.{CommentFault}
 use Rattle.margin_notes.specs.declared.commenting.CommentFault.TheVariants.{NoSection, OutOfRange, IdsSpent, TooMany, NoMemory}
 use Rattle.margin_notes.specs.Commenting.{HasNoRange, IsPassage, RefusesComment, as_comment_fault, clusters_of, comment_refusal, range_refusal}
-
--- an answer that is a fault
-abbrev failed : {E : Type 0} → E → Result ℕ E
-failed e = Err e
-
-abbrev fault_in : {E : Type 0} → E → Result ℕ E → E
-fault_in other (Ok n) = other
-fault_in other (Err e) = e
-
--- the fault of an answer is one
-err_inj : {E : Type 0} → (a b : E) → failed a ≡ failed b → a ≡ b
-err_inj a b e = ap (fault_in a) e
+use Rattle.fugue_ids.proofs.OptionLemmas.{err_inj, failed}
 
 -- a refusal that is the cause, or want of memory
 abbrev Comes : Result ℕ CommentFault → Option CommentFault → Type 0

@@ -7,13 +7,7 @@ use Rattle.fugue_ids.specs.Identifiers.{id_eq, id_lt}
 use Rattle.fugue_ids.proofs.IdentifierLemmas.{id_eq-true}
 use Rattle.fugue_ids.proofs.ListLemmas.{all_pairs_nil, all_pairs_weaker, contains_cases, contains_here, contains_none, contains_there}
 use Rattle.margin_notes.specs.Comments.{Comment, by_id, put_by_id}
-
--- a strict order of identifiers
-pub id_irrefl : (a : Identifier) → id_lt a a ≡ false
-id_irrefl a = grind (arith, nat_tests)
-
-pub id_trans : (a b c : Identifier) → id_lt a b ≡ true → id_lt b c ≡ true → id_lt a c ≡ true
-id_trans a b c h k = grind (arith, nat_tests)
+use Rattle.fugue_ids.proofs.OrderLemmas.{id_irrefl, id_trans}
 
 same_by : (a b : Identifier) → id_lt a b ≡ false → id_lt b a ≡ false → id_eq a b ≡ true
 same_by a b h k = grind (arith, nat_tests)

@@ -8,12 +8,13 @@ use Rattle.std.proofs.lemmas.List.Sums.{count_by-le-length, length-filter}
 use Rattle.fugue_ids.proofs.IdentifierLemmas.{id_eq-false, id_eq-true}
 use Rattle.fugue_ids.proofs.ListLemmas.{all_pairs_weaker, filter-both}
 use Rattle.origin_model.specs.order.Laws.{IsTotal}
-use Rattle.origin_model.proofs.SharedLemmas.{order_total}
+use Rattle.origin_model.proofs.SharedLemmas.{order-in, order_total}
 use Rattle.margin_notes.specs.Comments.{is_text_of}
 use Rattle.margin_notes.specs.Laws.{SpanIsPassage}
 use Rattle.margin_notes.specs.Margins.{passage, stands_between}
 use Rattle.margin_notes.proofs.FilterLemmas.{IsCut, back_of_cut, filter-agree, filter-swap, front_of_cut}
-use Rattle.margin_notes.proofs.PassageLemmas.{all_in, both_parts, text_in}
+use Rattle.margin_notes.proofs.PassageLemmas.{both_parts, text_in}
+use Rattle.std.proofs.Math.Bool.{and_comm}
 
 module _ (p : Place) (h : List Op) (w : Lawful h) (a b : Identifier) (in_a : IsIn p h a) (in_order : (id_eq a b || before p h a b) ≡ true) where
   abbrev total : IsTotal p h
@@ -74,19 +75,13 @@ module _ (p : Place) (h : List Op) (w : Lawful h) (a b : Identifier) (in_a : IsI
         | inr t ↦ ap (λ c. c || before p h a x) t ∙ total.one_first a x in_a m (id_eq-false a x t)
       ]
 
-  and-comm : (c d : Bool) → (c && d) ≡ (d && c)
-  and-comm true true = refl
-  and-comm true false = refl
-  and-comm false true = refl
-  and-comm false false = refl
-
   -- the shown elements of the passage are those up to b that are not before a
   middle : filter (λ x. not (is_before x)) upper ≡ filter visible (passage p h a b)
   middle =
       filter-both is_up_to (λ x. not (is_before x)) (shown p h)
       ∙ filter-agree (λ x. is_up_to x && not (is_before x)) (stands_between p h a b) (shown p h)
       (All-weaker (IsIn p h) (λ x. (is_up_to x && not (is_before x)) ≡ stands_between p h a b x)
-      (λ x m. and-comm (is_up_to x) (not (is_before x)) ∙ sym (ap (λ c. c && is_up_to x) (not_before x m))) (shown p h) (All-filter visible (IsIn p h) (order p h) (all_in p h w)))
+      (λ x m. and_comm (is_up_to x) (not (is_before x)) ∙ sym (ap (λ c. c && is_up_to x) (not_before x m))) (shown p h) (All-filter visible (IsIn p h) (order p h) (order-in p h w)))
       ∙ filter-swap (stands_between p h a b) visible (order p h)
 
   abbrev from : ℕ

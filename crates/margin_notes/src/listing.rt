@@ -1,11 +1,11 @@
 //! The comments of visible sections, in the order in which they are listed.
-ghost use Rattle.std.specs.Prelude.{◌≡◌, IfOk, Some, map, option_map, reverse, slice_get};
+ghost use Rattle.std.specs.Prelude.{◌≡◌, IfOk, map, option_and_then, option_map, reverse, slice_get};
 ghost use Rattle.origin_model.specs.edits.State.{Stands};
 ghost use Rattle.section_catalogue.specs.Manuscript.{OnEach};
 ghost use Rattle.margin_notes.specs.Listing.{HasFew, entry_line, line_in, lines_in, listed, section_number};
 
-use crate::placing::place_of;
-use fugue_ids::{ElementId, NoMemory, Op};
+use crate::placing::place_at;
+use fugue_ids::{ElementId, NoMemory};
 use replica_core::Replica;
 use section_catalogue::Manuscript;
 use std::alloc::Global;
@@ -36,12 +36,11 @@ fn number_of(places: &Manuscript, section: ElementId) -> Option<usize>
 }
 
 /// The entry of the operation at the position, where it is a comment that is listed.
-fn entry_of(replica: &Replica, at: usize, op: &Op) -> Option<Entry>
-    requires { slice_get (reverse replica.now.held.history) at ≡ Some op.now }
+fn entry_at(replica: &Replica, at: usize) -> Option<Entry>
     ensures { option_map (entry_line (reverse replica.now.held.history)) result
-        ≡ line_in replica.now.held.history op.now }
+        ≡ option_and_then (line_in replica.now.held.history) (slice_get (reverse replica.now.held.history) at) }
 {
-    let place = place_of(replica, at, op)?;
+    let place = place_at(replica, at)?;
     let number = number_of(replica.places(), place.section)?;
     Some(Entry {
         number,
@@ -58,10 +57,9 @@ fn entries_of(alloc: Global, replica: &Replica) -> Result<Vec<Entry>, NoMemory>
         ≡ lines_in replica.now.held.history (reverse replica.now.held.history)) }
     ensures stands { Stands replica.now }
 {
-    let ops = replica.accepted();
     let mut entries = Vec::new(alloc);
     'walk: for at in replica.sections_and_notes() {
-        if let Some(entry) = entry_of(replica, *at, &ops[*at]) {
+        if let Some(entry) = entry_at(replica, *at) {
             entries.push(entry)?;
         }
     }

@@ -1,5 +1,5 @@
 //! Where comments stand: the section and the span of each.
-ghost use Rattle.std.specs.Prelude.{◌≡◌, ◌||◌, IfOk, Some, map, option_map, reverse, slice_get};
+ghost use Rattle.std.specs.Prelude.{◌≡◌, ◌||◌, IfOk, Some, map, option_and_then, option_map, reverse, slice_get};
 ghost use Rattle.fugue_ids.specs.Identifiers.{id_eq};
 ghost use Rattle.origin_model.specs.declared.operations.Place.TheVariants.{Section as within};
 ghost use Rattle.origin_model.specs.edits.State.{Stands};
@@ -106,7 +106,7 @@ fn end_of(places: &Manuscript, section: ElementId, first: ElementId, last: Eleme
 }
 
 /// Where the operation at the position stands, if it is a comment of a section that is not withdrawn.
-pub(crate) fn place_of(replica: &Replica, at: usize, op: &Op) -> Option<CommentPlace>
+fn place_of(replica: &Replica, at: usize, op: &Op) -> Option<CommentPlace>
     requires { slice_get (reverse replica.now.held.history) at ≡ Some op.now }
     ensures { option_map (comment_placed (reverse replica.now.held.history)) result
         ≡ placed_in replica.now.held.history op.now }
@@ -126,16 +126,26 @@ pub(crate) fn place_of(replica: &Replica, at: usize, op: &Op) -> Option<CommentP
     })
 }
 
+/// The same, whatever operation stands at the position.
+pub(crate) fn place_at(replica: &Replica, at: usize) -> Option<CommentPlace>
+    ensures { option_map (comment_placed (reverse replica.now.held.history)) result
+        ≡ option_and_then (placed_in replica.now.held.history) (slice_get (reverse replica.now.held.history) at) }
+{
+    match replica.section_or_note(at) {
+        Some(op) => place_of(replica, at, op),
+        None => None,
+    }
+}
+
 /// Where all comments stand that have a section and are not withdrawn, as they were accepted.
 pub fn comment_places(alloc: Global, replica: &Replica) -> Result<Vec<CommentPlace>, NoMemory>
     ensures places { IfOk result (λ places. map (comment_placed (reverse replica.now.held.history)) places.items
         ≡ placed_comments replica.now.held.history) }
     ensures stands { Stands replica.now }
 {
-    let ops = replica.accepted();
     let mut places = Vec::new(alloc);
     'walk: for at in replica.sections_and_notes() {
-        if let Some(place) = place_of(replica, *at, &ops[*at]) {
+        if let Some(place) = place_at(replica, *at) {
             places.push(place)?;
         }
     }

@@ -3,12 +3,13 @@ ghost use Rattle.std.specs.Prelude.{◌≡◌, ◌++◌, ◌∷◌, List, [], �
 ghost use Rattle.fugue_ids.specs.Gathers.{GathersText};
 ghost use Rattle.fugue_ids.specs.Outs.{OutView, WritesBytes};
 ghost use Rattle.origin_model.specs.edits.State.{Stands};
+ghost use Rattle.origin_model.specs.operations.History.{accepted as accepted_list};
 ghost use Rattle.margin_notes.specs.Listing.{WritesMargins, entry_bytes};
 ghost use Rattle.margin_notes.specs.Margins.{margins};
 
 use crate::listing::{Entry, listed_entries};
 use crate::reading::body_at;
-use fugue_ids::{Failed, Gather, NoMemory, Op, Out};
+use fugue_ids::{Failed, Gather, NoMemory, Out};
 use itoa::Buffer;
 use outer_ports::Sink;
 use replica_core::Replica;
@@ -38,11 +39,11 @@ impl From<NoMemory> for MarginFault {
 fn put_line<O: Out>(
     gather: &mut Gather,
     output: &mut O,
-    ops: &[Op],
+    replica: &Replica,
     entry: &Entry,
 ) -> Result<(), Failed>
     ensures { GathersText (O.seen output.old) (O.seen output.new) gather.old gather.new result
-        (entry_bytes ops.now entry.now) }
+        (entry_bytes (accepted_list replica.now.held.history) entry.now) }
 {
     let mut number = Buffer::new();
     let mut from = Buffer::new();
@@ -50,7 +51,7 @@ fn put_line<O: Out>(
     let number = number.format(entry.number).as_bytes();
     let from = from.format(entry.from).as_bytes();
     let to = to.format(entry.to).as_bytes();
-    let text = body_at(ops, entry.at);
+    let text = body_at(replica, entry.at);
     gather.put_pieces(output, &[number, b" ", from, b" ", to, b" ", text, b"\n"])
 }
 
@@ -58,25 +59,25 @@ fn put_line<O: Out>(
 fn put_lines<O: Out>(
     gather: &mut Gather,
     output: &mut O,
-    ops: &[Op],
+    replica: &Replica,
     entries: &[Entry],
 ) -> Result<(), Failed>
     ensures { GathersText (O.seen output.old) (O.seen output.new) gather.old gather.new result
-        (flat_map (entry_bytes ops.now) entries.now) }
+        (flat_map (entry_bytes (accepted_list replica.now.held.history)) entries.now) }
 {
     'entries: for entry in entries {
-        put_line(gather, output, ops, entry)?;
+        put_line(gather, output, replica, entry)?;
     }
     Ok(())
 }
 
 /// Writes the lines of entries. It takes no memory.
-fn write_lines<O: Out>(output: &mut O, ops: &[Op], entries: &[Entry]) -> Result<(), Failed>
+fn write_lines<O: Out>(output: &mut O, replica: &Replica, entries: &[Entry]) -> Result<(), Failed>
     ensures { WritesBytes (O.seen output.old) (O.seen output.new) result
-        (flat_map (entry_bytes ops.now) entries.now) }
+        (flat_map (entry_bytes (accepted_list replica.now.held.history)) entries.now) }
 {
     let mut gather = Gather::new();
-    put_lines(&mut gather, output, ops, entries)?;
+    put_lines(&mut gather, output, replica, entries)?;
     gather.flush(output)
 }
 
@@ -101,5 +102,5 @@ pub fn write_comments<O: Sink>(
     ensures stands { Stands replica.now }
 {
     let entries = listed_entries(alloc, replica)?;
-    told(write_lines(output, replica.accepted(), entries.as_slice()))
+    told(write_lines(output, replica, entries.as_slice()))
 }

@@ -1,10 +1,12 @@
 //! Which operations are comments.
 ghost use Rattle.std.specs.Prelude.{◌≡◌, option_map, slice_get};
+ghost use Rattle.origin_model.specs.operations.History.{accepted as accepted_list};
 ghost use Rattle.margin_notes.specs.Comments.{comment_in, comment_of, is_text as is_text_of};
 ghost use Rattle.margin_notes.specs.Listing.{anchors_of, body_in as body_on, body_of};
 
 use crate::COMMENT_CODE;
 use fugue_ids::{ElementId, LONGEST_BODY, Op, is_line};
+use replica_core::Replica;
 
 /// A comment, without its text.
 #[derive(Clone, Copy, PartialEq, Eq)]
@@ -62,11 +64,11 @@ fn body_in(op: &Op) -> &[u8]
     }
 }
 
-/// The body of the note at the position: nothing where no note stands there.
-pub fn body_at(ops: &[Op], at: usize) -> &[u8]
-    ensures { result.now ≡ body_of (slice_get ops.now at) }
+/// The body of the accepted note at the position: nothing where no note stands there.
+pub fn body_at(replica: &Replica, at: usize) -> &[u8]
+    ensures { result.now ≡ body_of (slice_get (accepted_list replica.now.held.history) at) }
 {
-    match ops.get(at) {
+    match replica.section_or_note(at) {
         Some(op) => body_in(op),
         None => &[],
     }

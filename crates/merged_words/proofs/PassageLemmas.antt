@@ -19,12 +19,7 @@ use Rattle.origin_model.proofs.SharedLemmas.{IsIn-held, Ordered-agree, Within-pa
 use Rattle.origin_model.proofs.edits.PassageLemmas.{together}
 use Rattle.merged_words.specs.Drafts.{IsDirectlyBehind}
 use Rattle.merged_words.proofs.ListLemmas.{StandsAt}
-
--- the last member of a list is one
-pub last_in : (xs : List Identifier) (l : Identifier) → last_before xs ≡ Some l → Contains xs l
-last_in [] l e = absurd (not_some l (sym e))
-last_in (x ∷ []) l e = let d : x ≡ l = cc e in subst (Contains (x ∷ [])) d (contains_here x [])
-last_in (x ∷ y ∷ xs) l e = contains_there x (y ∷ xs) l (last_in (y ∷ xs) l e)
+use Rattle.origin_model.proofs.edits.SplitLemmas.{end_in}
 
 -- it is a given member, or stands behind it
 abbrev pub IsAtEnd : Relation → List Identifier → Identifier → Type 0
@@ -39,7 +34,7 @@ at_end R (x ∷ y ∷ xs) z o m =
     elim (contains_cases x (y ∷ xs) z m) [
       | inl e ↦
           let k = at_end R (y ∷ xs) y rest (contains_here y xs) in
-          let before_it : R x k.0 ≡ true = All-contains (T x) (y ∷ xs) k.0 (all_pairs_head T x (y ∷ xs) o) (last_in (y ∷ xs) k.0 k.1) in
+          let before_it : R x k.0 ≡ true = All-contains (T x) (y ∷ xs) k.0 (all_pairs_head T x (y ∷ xs) o) (end_in (y ∷ xs) k.0 k.1) in
           (k.0, k.1, inr (subst (λ q. R q k.0 ≡ true) e before_it))
       | inr n ↦ at_end R (y ∷ xs) z rest n
     ]
@@ -154,7 +149,7 @@ module _ (p : Place) (whole : List Op) (w : Lawful whole) where
         in_front : (e : Identifier) → Contains front e → R e x ≡ true
         in_front e m =
             let l = at_end R front e (all_pairs_before T front back sorted) m in
-            let before_it : R l.0 x ≡ true = across d.0 (x ∷ d.1) own_ordered l.0 x (last_in d.0 l.0 (d.3 ∙ l.1)) (contains_here x d.1) in
+            let before_it : R l.0 x ≡ true = across d.0 (x ∷ d.1) own_ordered l.0 x (end_in d.0 l.0 (d.3 ∙ l.1)) (contains_here x d.1) in
             elim l.2 [ inl i ↦ subst (λ q. R q x ≡ true) (sym i) before_it | inr i ↦ (order_total p whole w).transitive e l.0 x i before_it ]
 
         behind : (e : Identifier) → Contains back e → R x e ≡ true
@@ -165,7 +160,7 @@ module _ (p : Place) (whole : List Op) (w : Lawful whole) where
               | inr i ↦ elim (Contains-append_cases d.0 d.1 e i) [
                 | inl j ↦
                     let l = at_end R d.0 e (all_pairs_before T d.0 (x ∷ d.1) own_ordered) j in
-                    let turn : R l.0 e ≡ true = across front back sorted l.0 e (last_in front l.0 (sym d.3 ∙ l.1)) m in
+                    let turn : R l.0 e ≡ true = across front back sorted l.0 e (end_in front l.0 (sym d.3 ∙ l.1)) m in
                     absurd (elim l.2 [ inl q ↦ true≢false (sym turn ∙ ap (R l.0) q ∙ (order_total p whole w).irreflexive l.0) | inr q ↦ no_loop l.0 e turn q ])
                 | inr j ↦ All-contains (T x) d.1 e (all_pairs_head T x d.1 (all_pairs_behind T d.0 (x ∷ d.1) own_ordered)) j
               ]

@@ -5,7 +5,7 @@ use Rattle.std.proofs.lemmas.List.{append_assoc}
 use Rattle.std.proofs.lemmas.List.Concat.{flat_map-append}
 use Rattle.node_rope.specs.Walk.{Tree, count_of, whole, HasCounts, IsAttached, before, after, mirror}
 use Rattle.node_rope.proofs.WalkLemmas.{whole-node}
-use Rattle.node_rope.proofs.TurnLemmas.{same-or-not}
+use Rattle.fugue_ids.proofs.OptionLemmas.{cases_number}
 
 before-here : (y n : ℕ) → before y n y ≡ n ∷ y ∷ []
 before-here y n = elim (eqb_tells y y) as (λ _. before y n y ≡ n ∷ y ∷ []) [
@@ -32,7 +32,7 @@ module _ (t u : Tree) (ct : HasCounts t) (cu : HasCounts u) (y n : ℕ) (a : IsA
       let R = whole t (t.right x) in
       let split : F (L ++ x ∷ R) ≡ F L ++ (before y n x ++ F R) = flat_map-append (before y n) L (x ∷ R) in
       whole-node u cu x ∙ ap (λ o. whole u (u.left x) ++ x ∷ whole u o) (a.others_right x xn) ∙ ap (λ ys. whole u (u.left x) ++ x ∷ ys) r ∙
-      elim (same-or-not x y) as (λ _. whole u (u.left x) ++ x ∷ F R ≡ F (whole t (Some x))) [
+      elim (cases_number x y) as (λ _. whole u (u.left x) ++ x ∷ F R ≡ F (whole t (Some x))) [
         | inl e ↦ (
             let l' : whole u (u.left n) ≡ F L = ap (whole u) (a.n_left ∙ ap t.left (sym e)) ∙ l in
             let made : whole u (u.left x) ≡ F L ++ n ∷ [] =
@@ -69,7 +69,7 @@ module _ (t u : Tree) (ct : HasCounts t) (cu : HasCounts u) (y n : ℕ) (a : IsA
       let R = whole t (t.right x) in
       let split : F (L ++ x ∷ R) ≡ F L ++ (after y n x ++ F R) = flat_map-append (after y n) L (x ∷ R) in
       whole-node u cu x ∙ ap (λ o. whole u o ++ x ∷ whole u (u.right x)) (a.others_right x xn) ∙ ap (λ xs. xs ++ x ∷ whole u (u.right x)) l ∙
-      elim (same-or-not x y) as (λ _. F L ++ x ∷ whole u (u.right x) ≡ F (whole t (Some x))) [
+      elim (cases_number x y) as (λ _. F L ++ x ∷ whole u (u.right x) ≡ F (whole t (Some x))) [
         | inl e ↦ (
             let r' : whole u (u.right n) ≡ F R = ap (whole u) (a.n_left ∙ ap t.right (sym e)) ∙ r in
             let made : whole u (u.right x) ≡ n ∷ F R =

@@ -25,6 +25,7 @@ use Rattle.node_rope.proofs.WalkLemmas.{whole-node}
 use Rattle.node_rope.proofs.ShapeLemmas.{length-shapes}
 use Rattle.node_rope.proofs.GrowthLemmas.{are-within}
 use Rattle.node_rope.proofs.ItemLemmas.{root-below}
+use Rattle.fugue_ids.proofs.ListLemmas.{slice_get-append}
 
 pub got-of : {X Y : Type 0} (f : X → Y) (xs : List X) (i : ℕ) → slice_get (map f xs) i ≡ option_map f (slice_get xs i)
 got-of f [] i = refl
@@ -35,11 +36,6 @@ pub some-of : {X : Type 0} (xs : List X) (i : ℕ) → i < length xs → (x : X)
 some-of [] i h = absurd (omega arith)
 some-of (x ∷ xs) zero h = (x, refl)
 some-of (x ∷ xs) (suc i) h = some-of xs i (omega arith)
-
-pub first-of : {X : Type 0} (xs ys : List X) (i : ℕ) → i < length xs → slice_get (xs ++ ys) i ≡ slice_get xs i
-first-of [] ys i h = absurd (omega arith)
-first-of (x ∷ xs) ys zero h = refl
-first-of (x ∷ xs) ys (suc i) h = first-of xs ys i (omega arith)
 
 pub end-of : {X : Type 0} (xs : List X) (y : X) (i : ℕ) → i ≡ length xs → slice_get (xs ++ y ∷ []) i ≡ Some y
 end-of [] y zero e = refl
@@ -95,7 +91,7 @@ module _ {T : Type 0} (s u : Store T) (root top : Option Link) (sound : HasRight
   old-item i h =
       let v = some-of (values_of s) i (omega (arith, h, length-values)) in
       let ne : i ≢ l.number = λ e. (let n = g.number in omega (arith, e, n, h)) in
-      item-is u i v.0 (let c = g.count in omega (arith, c, h)) (ap (λ xs. slice_get xs i) g.values ∙ first-of (values_of s) (value ∷ []) i (omega (arith, h, length-values)) ∙ v.1)
+      item-is u i v.0 (let c = g.count in omega (arith, c, h)) (ap (λ xs. slice_get xs i) g.values ∙ slice_get-append (values_of s) (value ∷ []) i (omega (arith, h, length-values)) ∙ v.1)
       ∙ ap (λ k. (k, v.0) ∷ []) (g.keys i ne) ∙ sym (item-is s i v.0 h v.1)
 
   abbrev pub beside_before : ℕ → ℕ → List (Identifier × T)

@@ -12,12 +12,13 @@ use Rattle.node_rope.specs.Joined.{IsJoined, IsSummedBut, IsBelow}
 use Rattle.node_rope.specs.Grown.{new_beside, joined_beside}
 use Rattle.node_rope.specs.Sides.{flipped}
 use Rattle.node_rope.proofs.FaceLemmas.{tree_by}
-use Rattle.node_rope.proofs.TurnLemmas.{same-or-not}
 use Rattle.node_rope.proofs.MirrorLemmas.{mirror-but, mirror-linked, mirror-below}
 use Rattle.node_rope.proofs.ShapeLemmas.{weight-sum, least-sum}
 use Rattle.node_rope.proofs.JoinLemmas.{some-or-not, count-sum, counted-summed, joined-sums, adding-commutes, lesser-commutes, joined-proper, joined-linked, joined-below, joined-top, joined-crown}
 use Rattle.node_rope.proofs.JoinWriteLemmas as joining
 use Rattle.node_rope.proofs.JoinWriteLemmas.{AreWithin}
+use Rattle.fugue_ids.proofs.OptionLemmas.{cases_number}
+use Rattle.node_rope.proofs.LiftLemmas.{link-same}
 
 -- where a link of the new tree comes from
 abbrev pub Came : (ℕ → Shape) → Link → Link → Link → Type 0
@@ -72,9 +73,6 @@ flip-entered f g at l w e = record {
   parents = λ i m h. flip-came f at l m (e.parents i m h);
 }
 
-link-same : (l m : Link) → Some l ≡ Some m → m ≡ l
-link-same l m e = cc
-
 no-link : (m : Link) → None ≡ Some m → ⊥
 no-link m e = cc
 
@@ -96,22 +94,22 @@ module _ (ss : List Shape) (at l : Link) (key : Identifier) (w : Own) (ct : HasC
   same_before = joining.field-before ss at l h_before ct within in_y number refl refl refl
 
   entered_lefts_before : (i : ℕ) (m : Link) → (shape_at us_before i).left ≡ Some m → Came (shape_at ss) at l m
-  entered_lefts_before i m e = elim (same-or-not i at.number) as (λ _. Came (shape_at ss) at l m) [
+  entered_lefts_before i m e = elim (cases_number i at.number) as (λ _. Came (shape_at ss) at l m) [
     | inl f ↦ inl (link-same l m (sym (ap (λ s. s.left) (joining.at_y_before ss at l h_before ct within in_y number refl refl refl)) ∙ ap (λ (j : ℕ). (shape_at us_before j).left) (sym f) ∙ e))
-    | inr f ↦ elim (same-or-not i l.number) as (λ _. Came (shape_at ss) at l m) [
+    | inr f ↦ elim (cases_number i l.number) as (λ _. Came (shape_at ss) at l m) [
       | inl g ↦ inr (inr (at.number, inl (sym (ap (λ s. s.left) new_before_is) ∙ ap (λ (j : ℕ). (shape_at us_before j).left) (sym g) ∙ e)))
       | inr g ↦ inr (inr (i, inl (sym (joining.others-before ss at l h_before ct within in_y number refl refl refl (λ s. s.left) (λ s q. refl) i f g) ∙ e)))
     ]
   ]
 
   entered_rights_before : (i : ℕ) (m : Link) → (shape_at us_before i).right ≡ Some m → Came (shape_at ss) at l m
-  entered_rights_before i m e = elim (same-or-not i l.number) as (λ _. Came (shape_at ss) at l m) [
+  entered_rights_before i m e = elim (cases_number i l.number) as (λ _. Came (shape_at ss) at l m) [
     | inl g ↦ absurd (no-link m (sym (ap (λ s. s.right) new_before_is) ∙ ap (λ (j : ℕ). (shape_at us_before j).right) (sym g) ∙ e))
     | inr g ↦ inr (inr (i, inr (inl (sym (same_before (λ s. s.right) (λ s q. refl) (λ s q. refl) i g) ∙ e))))
   ]
 
   entered_parents_before : (i : ℕ) (m : Link) → (shape_at us_before i).parent ≡ Some m → Came (shape_at ss) at l m
-  entered_parents_before i m e = elim (same-or-not i l.number) as (λ _. Came (shape_at ss) at l m) [
+  entered_parents_before i m e = elim (cases_number i l.number) as (λ _. Came (shape_at ss) at l m) [
     | inl g ↦ inr (inl (link-same at m (sym (ap (λ s. s.parent) new_before_is) ∙ ap (λ (j : ℕ). (shape_at us_before j).parent) (sym g) ∙ e)))
     | inr g ↦ elim (some-or-not (link_number (shape_at ss at.number).left) i) as (λ _. Came (shape_at ss) at l m) [
       | inl f ↦ inl (link-same l m (sym (ap (λ s. s.parent) (joining.at_m-before ss at l h_before ct within in_y number refl refl refl i f)) ∙ e))

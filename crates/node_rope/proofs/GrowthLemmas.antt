@@ -11,7 +11,6 @@ use Rattle.node_rope.specs.Joined.{IsJoined}
 use Rattle.node_rope.specs.Grown.{IsGrown}
 use Rattle.node_rope.specs.Rising.{IsRising, IsRaised, SameLinks, AreSmall}
 use Rattle.node_rope.proofs.WalkLemmas.{some-same}
-use Rattle.node_rope.proofs.TurnLemmas.{same-or-not}
 use Rattle.node_rope.proofs.MirrorLemmas.{mirror-counted, mirror-linked, mirror-below}
 use Rattle.node_rope.proofs.ShapeLemmas.{length-shapes, made-below}
 use Rattle.node_rope.proofs.RaiseLemmas.{linked-along, below-along}
@@ -19,6 +18,7 @@ use Rattle.node_rope.proofs.JoinLemmas.{joined-attached}
 use Rattle.node_rope.proofs.JoinWriteLemmas.{AreWithin}
 use Rattle.node_rope.proofs.EnterLemmas.{Came, IsEntered}
 use Rattle.node_rope.proofs.AttachLemmas.{attached-walk, attached-walk-after}
+use Rattle.fugue_ids.proofs.OptionLemmas.{cases_number}
 
 pub unnumbered : (o : Option Link) → link_number o ≡ None → o ≡ None
 unnumbered None e = refl
@@ -58,11 +58,11 @@ module _ {T : Type 0} (s u : Store T) (root : Option Link) (at l : Link) (w : Ow
 
   pub small : made_count s < 2 ^ 62 → AreSmall (shapes_of s) (w.weight + w.weight) → AreSmall (shapes_of u) w.weight
   small few b = record {
-    counts = λ i. elim (same-or-not i l.number) as (λ _. (shape_at (shapes_of u) i).count < 2 ^ 32 - 1) [
+    counts = λ i. elim (cases_number i l.number) as (λ _. (shape_at (shapes_of u) i).count < 2 ^ 32 - 1) [
       | inl f ↦ omega (arith, ap (λ (k : ℕ). (shape_at (shapes_of u) k).count) f, e.new_count, b.counts at.number)
       | inr f ↦ omega (arith, e.count_same i f, b.counts i)
     ];
-    weights = λ i. elim (same-or-not i l.number) as (λ _. (shape_at (shapes_of u) i).weight + w.weight < 2 ^ 64) [
+    weights = λ i. elim (cases_number i l.number) as (λ _. (shape_at (shapes_of u) i).weight + w.weight < 2 ^ 64) [
       | inl f ↦ omega (arith, ap (λ (k : ℕ). (shape_at (shapes_of u) k).weight) f, e.new_weight, b.weights at.number)
       | inr f ↦ omega (arith, e.weight_same i f, b.weights i)
     ];
@@ -72,7 +72,7 @@ module _ {T : Type 0} (s u : Store T) (root : Option Link) (at l : Link) (w : Ow
       (kept' : IsKept u v) (count' : made_count v ≡ made_count u) where
     small-count : (i : ℕ) → (shape_at (shapes_of v) i).count ≤ suc (made_count v)
     small-count i =
-        let k : (shape_at (shapes_of u) i).count ≤ suc (made_count s) = elim (same-or-not i l.number) as (λ _. (shape_at (shapes_of u) i).count ≤ suc (made_count s)) [
+        let k : (shape_at (shapes_of u) i).count ≤ suc (made_count s) = elim (cases_number i l.number) as (λ _. (shape_at (shapes_of u) i).count ≤ suc (made_count s)) [
           | inl f ↦ omega (arith, ap (λ (k : ℕ). (shape_at (shapes_of u) k).count) f, e.new_count, sound.small at.number)
           | inr f ↦ omega (arith, e.count_same i f, sound.small i)
         ] in

@@ -4,11 +4,11 @@ use Rattle.node_rope.specs.Walk.{Tree, count_of, HasCounts, IsLinked, IsAttached
 use Rattle.node_rope.specs.Sums.{Measure, IsCommutative, sum_measure, lesser, sum_of, IsSummed}
 use Rattle.node_rope.specs.Joined.{IsJoined, IsSummedBut, IsBelow}
 use Rattle.node_rope.proofs.WalkLemmas.{below-left, below-right, some-same, none-some}
-use Rattle.node_rope.proofs.TurnLemmas.{same-or-not}
+use Rattle.fugue_ids.proofs.OptionLemmas.{cases_number}
 
 pub some-or-not : (o : Option ℕ) (i : ℕ) → (o ≡ Some i) ⊎ (o ≡ Some i → ⊥)
 some-or-not None i = inr (λ e. none-some i e)
-some-or-not (Some x) i = elim (same-or-not x i) as (λ _. (Some x ≡ Some i) ⊎ (Some x ≡ Some i → ⊥)) [ inl e ↦ inl (ap Some e) | inr e ↦ inr (λ f. e (some-same x i f)) ]
+some-or-not (Some x) i = elim (cases_number x i) as (λ _. (Some x ≡ Some i) ⊎ (Some x ≡ Some i → ⊥)) [ inl e ↦ inl (ap Some e) | inr e ↦ inr (λ f. e (some-same x i f)) ]
 
 pub count-sum : (t : Tree) (o : Option ℕ) → count_of t o ≡ sum_of sum_measure t.count o
 count-sum t None = refl
@@ -72,7 +72,7 @@ module _ (t u : Tree) (ct : HasCounts t) (linked : IsLinked t) (below : IsBelow 
     pub joined-sums : IsSummedBut m u own' s' (own' n) (Some y)
     joined-sums = record {
       low = λ x e. subst (λ (k : ℕ). m.both (s' k) (own' n) ≡ m.both (sum_of m s' (u.left k)) (m.both (own' k) (sum_of m s' (u.right k)))) (some-same y x e) low-y;
-      rest = λ x e. elim (same-or-not x n) as (λ _. Right x) [
+      rest = λ x e. elim (cases_number x n) as (λ _. Right x) [
         | inl f ↦ subst Right (sym f) right-n
         | inr f ↦ right-other x (λ g. e (ap Some (sym g))) f
       ];
@@ -85,7 +85,7 @@ module _ (t u : Tree) (ct : HasCounts t) (linked : IsLinked t) (below : IsBelow 
   ]
 
   pub joined-proper : (i : ℕ) → u.parent i ≡ Some i → ⊥
-  joined-proper i e = elim (same-or-not i n) as (λ _. ⊥) [
+  joined-proper i e = elim (cases_number i n) as (λ _. ⊥) [
     | inl f ↦ j.fresh (some-same n y (ap Some (sym f) ∙ sym e ∙ ap u.parent f ∙ j.n_parent))
     | inr f ↦ (
         let nl : t.left y ≡ Some i → ⊥ = λ g. f (sym (some-same n i (sym (j.moved_parent i g) ∙ e))) in
@@ -99,29 +99,29 @@ module _ (t u : Tree) (ct : HasCounts t) (linked : IsLinked t) (below : IsBelow 
     not-new f = elim (below m x e) as (λ _. ⊥) [ inl g ↦ j.new_left x (g ∙ ap Some f) | inr g ↦ j.new_right x (g ∙ ap Some f) ]
 
   joined_left : (x m : ℕ) → u.left x ≡ Some m → u.parent m ≡ Some x
-  joined_left x m e = elim (same-or-not x y) as (λ _. u.parent m ≡ Some x) [
+  joined_left x m e = elim (cases_number x y) as (λ _. u.parent m ≡ Some x) [
     | inl f ↦ (let is : n ≡ m = some-same n m (sym j.y_left ∙ ap u.left (sym f) ∙ e) in ap u.parent (sym is) ∙ j.n_parent ∙ ap Some (sym f))
-    | inr f ↦ elim (same-or-not x n) as (λ _. u.parent m ≡ Some x) [
+    | inr f ↦ elim (cases_number x n) as (λ _. u.parent m ≡ Some x) [
       | inl g ↦ j.moved_parent m (sym j.n_left ∙ ap u.left (sym g) ∙ e) ∙ ap Some (sym g)
       | inr g ↦ kept x m f (linked.from_left x m (sym (j.others_left x f g) ∙ e))
     ]
   ]
 
   joined_right : (x m : ℕ) → u.right x ≡ Some m → u.parent m ≡ Some x
-  joined_right x m e = elim (same-or-not x n) as (λ _. u.parent m ≡ Some x) [
+  joined_right x m e = elim (cases_number x n) as (λ _. u.parent m ≡ Some x) [
     | inl f ↦ absurd (none-some m (sym j.n_right ∙ ap u.right (sym f) ∙ e))
     | inr f ↦ (
         let r : t.right x ≡ Some m = sym (j.others_right x f) ∙ e in
-        elim (same-or-not x y) as (λ _. u.parent m ≡ Some x) [
+        elim (cases_number x y) as (λ _. u.parent m ≡ Some x) [
           | inl g ↦ j.others_parent m (λ h. j.new_right x (r ∙ ap Some h)) (λ h. linked.apart y m h (ap t.right (sym g) ∙ r)) ∙ linked.from_right x m r
           | inr g ↦ kept x m g (linked.from_right x m r)
         ])
   ]
 
   joined_apart : (x m : ℕ) → u.left x ≡ Some m → u.right x ≡ Some m → ⊥
-  joined_apart x m e f = elim (same-or-not x n) as (λ _. ⊥) [
+  joined_apart x m e f = elim (cases_number x n) as (λ _. ⊥) [
     | inl g ↦ none-some m (sym j.n_right ∙ ap u.right (sym g) ∙ f)
-    | inr g ↦ elim (same-or-not x y) as (λ _. ⊥) [
+    | inr g ↦ elim (cases_number x y) as (λ _. ⊥) [
       | inl h ↦ (let is : n ≡ m = some-same n m (sym j.y_left ∙ ap u.left (sym h) ∙ e) in j.new_right x (sym (j.others_right x g) ∙ f ∙ ap Some (sym is)))
       | inr h ↦ linked.apart x m (sym (j.others_left x h g) ∙ e) (sym (j.others_right x g) ∙ f)
     ]
@@ -131,7 +131,7 @@ module _ (t u : Tree) (ct : HasCounts t) (linked : IsLinked t) (below : IsBelow 
   joined-linked = record { from_left = joined_left; from_right = joined_right; apart = joined_apart }
 
   pub joined-below : IsBelow u
-  joined-below i p e = elim (same-or-not i n) as (λ _. (u.left p ≡ Some i) ⊎ (u.right p ≡ Some i)) [
+  joined-below i p e = elim (cases_number i n) as (λ _. (u.left p ≡ Some i) ⊎ (u.right p ≡ Some i)) [
     | inl f ↦ (let is : y ≡ p = some-same y p (sym j.n_parent ∙ ap u.parent (sym f) ∙ e) in inl (ap u.left (sym is) ∙ j.y_left ∙ ap Some (sym f)))
     | inr f ↦ elim (some-or-not (t.left y) i) as (λ _. (u.left p ≡ Some i) ⊎ (u.right p ≡ Some i)) [
       | inl g ↦ (let is : n ≡ p = some-same n p (sym (j.moved_parent i g) ∙ e) in inl (ap u.left (sym is) ∙ j.n_left ∙ g))
@@ -214,7 +214,7 @@ module _ {M : Type 0} (m : Measure M) (C : IsCommutative m) (t u : Tree) (linked
     low = λ z e. (
         let zx : z ≢ x = λ f. proper (e ∙ ap Some f) in
         elim (below x z e) as (λ _. Lacking z) [ inl f ↦ lacks-left z zx f | inr f ↦ lacks-right z zx f ]);
-    rest = λ z e. elim (same-or-not z x) as (λ _. Sums z) [
+    rest = λ z e. elim (cases_number z x) as (λ _. Sums z) [
       | inl f ↦ subst Sums (sym f) sums-here
       | inr f ↦ sums-other z f e
     ];

@@ -9,9 +9,9 @@ use Rattle.node_rope.specs.Walk.{HasCounts}
 use Rattle.node_rope.specs.Grown.{with_parent, joined_beside}
 use Rattle.node_rope.specs.Joined.{IsJoined}
 use Rattle.node_rope.proofs.WalkLemmas.{below-left, some-same, none-some}
-use Rattle.node_rope.proofs.TurnLemmas.{same-or-not}
 use Rattle.node_rope.proofs.JoinLemmas.{some-or-not}
 use Rattle.node_rope.proofs.RaiseLemmas.{set_same, set_other}
+use Rattle.fugue_ids.proofs.OptionLemmas.{cases_number}
 
 pub got-more : (ss : List Shape) (h : Shape) (x : ℕ) → x ≢ length ss → shape_at (ss ++ h ∷ []) x ≡ shape_at ss x
 got-more [] h zero e = absurd (e refl)
@@ -98,7 +98,7 @@ module _ (ss : List Shape) (at l : Link) (h : Shape) (ct : HasCounts (tree_of ss
 
   -- a field that neither write touches
   pub field-before : {X : Type 0} (f : Shape → X) → ((s : Shape) (q : Option Link) → f (record s { parent = q }) ≡ f s) → ((s : Shape) (q : Option Link) → f (record s { left = q }) ≡ f s) → (x : ℕ) → x ≢ l.number → f (shape_at us-before x) ≡ f (shape_at ss x)
-  field-before f p q x xn = elim (same-or-not x y_before) as (λ _. f (shape_at us-before x) ≡ f (shape_at ss x)) [
+  field-before f p q x xn = elim (cases_number x y_before) as (λ _. f (shape_at us-before x) ≡ f (shape_at ss x)) [
     | inl e ↦ ap (λ (j : ℕ). f (shape_at us-before j)) e ∙ ap f at_y_before ∙ q (shape_at ss y_before) (Some l) ∙ ap (λ (j : ℕ). f (shape_at ss j)) (sym e)
     | inr e ↦ elim (some-or-not (link_number o-before) x) as (λ _. f (shape_at us-before x) ≡ f (shape_at ss x)) [
       | inl g ↦ ap f (at_m-before x g) ∙ p (shape_at ss x) (Some l)
@@ -114,7 +114,7 @@ module _ (ss : List Shape) (at l : Link) (h : Shape) (ct : HasCounts (tree_of ss
   ]
 
   pub parents-before : (x : ℕ) → x ≢ l.number → (link_number o-before ≡ Some x → ⊥) → (shape_at us-before x).parent ≡ (shape_at ss x).parent
-  parents-before x xn g = elim (same-or-not x y_before) as (λ _. (shape_at us-before x).parent ≡ (shape_at ss x).parent) [
+  parents-before x xn g = elim (cases_number x y_before) as (λ _. (shape_at us-before x).parent ≡ (shape_at ss x).parent) [
     | inl e ↦ ap (λ (j : ℕ). (shape_at us-before j).parent) e ∙ ap (λ s. s.parent) at_y_before ∙ ap (λ (j : ℕ). (shape_at ss j).parent) (sym e)
     | inr e ↦ ap (λ s. s.parent) (at_else-before x xn e g)
   ]

@@ -3,7 +3,7 @@ use Rattle.std.proofs.Common.{◌≡◌, ◌≢◌, ◌⊎◌, inl, inr, ℕ, ze
 use Rattle.std.specs.Prelude.{eqb, is_some}
 use Rattle.std.proofs.lemmas.Bool.{false_from_ne_true}
 use Rattle.std.proofs.lemmas.Bool.Decides.{eqb_tells}
-use Rattle.std.proofs.lemmas.List.{length-map}
+use Rattle.std.proofs.lemmas.List.{length-map, nil_from_length}
 use Rattle.fugue_ids.specs.Identifiers.{Identifier, id_eq}
 use Rattle.fugue_ids.specs.Keyed.{IsReplaced}
 use Rattle.fugue_ids.proofs.IdentifierLemmas.{id_eq-true, eq-id_eq}
@@ -22,13 +22,14 @@ use Rattle.node_rope.specs.Sums.{no_rank}
 use Rattle.node_rope.specs.Grown.{IsGrown}
 use Rattle.node_rope.specs.Turned.{IsRearranged}
 use Rattle.node_rope.proofs.WalkLemmas.{whole-node}
-use Rattle.node_rope.proofs.TurnLemmas.{same-or-not}
 use Rattle.node_rope.proofs.ShapeLemmas.{length-shapes, made-below, higher}
 use Rattle.node_rope.proofs.GrowthLemmas.{are-within}
 use Rattle.node_rope.proofs.ItemLemmas.{root-below}
 use Rattle.node_rope.proofs.EffectLemmas.{item-is, some-of, new-item}
 use Rattle.node_rope.proofs.LightLemmas.{only, single-sound}
 use Rattle.std.proofs.lemmas.List.{append-nil}
+use Rattle.std.proofs.lemmas.Option.{slice_get_within}
+use Rattle.fugue_ids.proofs.OptionLemmas.{cases_number, is_some-false}
 
 -- x is one of the numbers
 abbrev pub Among : ℕ → List ℕ → Type 0
@@ -93,10 +94,6 @@ module _ {T : Type 0} (s : Store T) (root : Option Link) (sound : HasRightLinks 
   -- and no other number does
   pub all-made : (x : ℕ) → Among x (order s root) → x < made_count s
   all-made x a = made-under (count_of t (link_number root)) (link_number root) (omega arith) (root-below s root sound root sound.made_root) x a
-
-none-of : {X : Type 0} (o : Option X) → is_some o ≡ false → o ≡ None
-none-of None e = refl
-none-of (Some x) e = absurd (cc)
 
 pub length-values : {T : Type 0} (s : Store T) → length (values_of s) ≡ made_count s
 length-values s = length-map s.pile.values node_value
@@ -186,7 +183,7 @@ module _ {T : Type 0} (wt : T → Own) (s : Store T) (root : Option Link) (m : B
   ]
 
   pub fresh : (k : Identifier) (xs : List (Identifier × T)) → rope_items_of s root ≡ xs → is_some (value_under k xs) ≡ false → value_of m k ≡ None
-  fresh k xs e f = free k (none-of (value_under k (rope_items_of s root)) (ap (λ (ys : List (Identifier × T)). is_some (value_under k ys)) e ∙ f))
+  fresh k xs e f = free k (is_some-false (value_under k (rope_items_of s root)) (ap (λ (ys : List (Identifier × T)). is_some (value_under k ys)) e ∙ f))
 
   pub same-roped : (n : BlockMap Link) → HasSameValues m n → IsRope wt s root n
   same-roped n h = record {
@@ -220,27 +217,22 @@ got-end [] y (suc i) x e = absurd (cc)
 got-end (z ∷ xs) y zero x e = inl e
 got-end (z ∷ xs) y (suc i) x e = elim (got-end xs y i x e) as (λ _. (slice_get xs i ≡ Some x) ⊎ ((suc i ≡ suc (length xs)) × (y ≡ x))) [ inl h ↦ inl h | inr h ↦ inr (ap suc h.0, h.1) ]
 
-pub got-below : {X : Type 0} (xs : List X) (i : ℕ) (x : X) → slice_get xs i ≡ Some x → i < length xs
-got-below [] i x e = absurd (cc)
-got-below (z ∷ xs) zero x e = omega arith
-got-below (z ∷ xs) (suc i) x e = let h = got-below xs i x e in omega arith
-
 -- one more node, and its key
 pub grown-roped : {T : Type 0} (wt : T → Own) (s v : Store T) (root top : Option Link) (m p : BlockMap Link) (key : Identifier) (w : Own) (value : T) (l : Link) → IsRope wt s root m → IsGrown s v top key w value l → IsKept s v
     → made_count s < 4194304 → w.weight < 4194305 → w.rank ≤ no_rank → w ≡ wt value → value_of m key ≡ None → IsReplaced (value_of m) (value_of p) key (Some l) → IsRope wt v top p
 grown-roped wt s v root top m p key w value l r g kept few small fits is none set = record {
   sound = g.sound;
   few = omega (arith, few, g.count);
-  light = λ i. elim (same-or-not i l.number) as (λ _. (shape_at (shapes_of v) i).own.weight < 4194305) [
+  light = λ i. elim (cases_number i l.number) as (λ _. (shape_at (shapes_of v) i).own.weight < 4194305) [
     | inl e ↦ (let here = ap (λ o. o.weight) g.own_here in let y = ap (λ (k : ℕ). (shape_at (shapes_of v) k).own.weight) e in omega (arith, small, here, y))
     | inr e ↦ (let old = r.light i in let y = ap (λ o. o.weight) (g.owns i e) in omega (arith, old, y))
   ];
-  fits = λ i. elim (same-or-not i l.number) as (λ _. (shape_at (shapes_of v) i).own.rank ≤ no_rank) [
+  fits = λ i. elim (cases_number i l.number) as (λ _. (shape_at (shapes_of v) i).own.rank ≤ no_rank) [
     | inl e ↦ (let here = ap (λ o. o.rank) g.own_here in let y = ap (λ (k : ℕ). (shape_at (shapes_of v) k).own.rank) e in omega (arith, fits, here, y))
     | inr e ↦ (let old = r.fits i in let y = ap (λ o. o.rank) (g.owns i e) in omega (arith, old, y))
   ];
   weighs = λ i x e. elim (got-end (values_of s) value i x (ap (λ xs. slice_get xs i) (sym g.values) ∙ e)) as (λ _. (shape_at (shapes_of v) i).own ≡ wt x) [
-    | inl f ↦ (let h = got-below (values_of s) i x f in g.owns i (λ q. omega (arith, h, length-values s, q, g.number)) ∙ r.weighs i x f)
+    | inl f ↦ (let h = slice_get_within (values_of s) i x f in g.owns i (λ q. omega (arith, h, length-values s, q, g.number)) ∙ r.weighs i x f)
     | inr f ↦ (let here : i ≡ l.number = omega (arith, f.0, length-values s, g.number) in ap (λ (k : ℕ). (shape_at (shapes_of v) k).own) here ∙ g.own_here ∙ is ∙ ap wt f.1)
   ];
   mapped = λ k x e. elim (Rattle.fugue_ids.proofs.IdentifierLemmas.cases_id k key) as (λ _. IsMade v x) [
@@ -254,7 +246,7 @@ grown-roped wt s v root top m p key w value l r g kept few small fits is none se
         let h = made-below s x (r.mapped k x was) in
         g.keys x.number (λ q. omega (arith, h, q, g.number)) ∙ r.keyed k x was)
   ];
-  listed = λ i b. elim (same-or-not i l.number) as (λ _. (y : Link) × (y.number ≡ i) × (value_of p (shape_at (shapes_of v) i).key ≡ Some y)) [
+  listed = λ i b. elim (cases_number i l.number) as (λ _. (y : Link) × (y.number ≡ i) × (value_of p (shape_at (shapes_of v) i).key ≡ Some y)) [
     | inl e ↦ (l, sym e, ap (λ (k : ℕ). value_of p (shape_at (shapes_of v) k).key) e ∙ ap (value_of p) g.key_here ∙ set.here)
     | inr e ↦ (
         let at = r.listed i (omega (arith, b, e, g.count, g.number)) in
@@ -268,15 +260,10 @@ grown-roped wt s v root top m p key w value l r g kept few small fits is none se
   differs : (x : Link) → Some x ≡ None → ⊥
   differs x e = cc
 
--- ---- the first node
-empty : {X : Type 0} (xs : List X) → length xs ≡ 0 → xs ≡ []
-empty [] e = refl
-empty (x ∷ xs) e = absurd (omega arith)
-
 module _ {T : Type 0} (s v : Store T) (root : Option Link) (key : Identifier) (w : Own) (value : T) (l : Link) (none : made_count s ≡ 0) (shapes : shapes_of v ≡ shapes_of s ++ only key w ∷ []) (values : values_of v ≡ values_of s ++ value ∷ []) (number : l.number ≡ made_count s)
     (made : IsMade v l) (count : made_count v ≡ made_count s + 1) (fits : w.rank ≤ no_rank) where
   none-there : shapes_of s ≡ []
-  none-there = empty (shapes_of s) (length-shapes s ∙ none)
+  none-there = nil_from_length (shapes_of s) (length-shapes s ∙ none)
 
   one-there : shapes_of v ≡ only key w ∷ []
   one-there = shapes ∙ ap (λ (xs : List Shape). xs ++ only key w ∷ []) none-there

@@ -10,6 +10,9 @@ use Rattle.node_rope.specs.Turned.{leads, relinked, swapped, with_child}
 use Rattle.node_rope.proofs.WalkLemmas.{moved-other, moved-here, some-same, none-some}
 use Rattle.node_rope.proofs.RaiseLemmas.{set_same, set_other}
 
+pub link-same : (l m : Link) → Some l ≡ Some m → m ≡ l
+link-same l m e = cc
+
 pub length-with_child : (ss : List Shape) (o : Option Link) (p : ℕ) (c : Link) → length (with_child ss o p c) ≡ length ss
 length-with_child ss None p c = refl
 length-with_child ss (Some g) p c = length-set ss g.number _
@@ -31,9 +34,6 @@ leads-tells (Some l) i = elim (eqb_tells l.number i) as (λ _. ((leads (Some l) 
   | inl e ↦ inl (e.0, ap Some e.1)
   | inr e ↦ inr (e.0, λ f. e.1 (some-same l.number i f))
 ]
-
-link-same : (l m : Link) → Some l ≡ Some m → m ≡ l
-link-same l m e = cc
 
 -- a link of the node over c, with c in the place of p
 pub relinked-moved : (o : Option Link) (p : ℕ) (c : Link) → link_number (relinked o p c) ≡ moved p c.number (link_number o)

@@ -6,6 +6,8 @@ use Rattle.node_rope.specs.declared.pile.Spot.{Spot}
 use Rattle.node_rope.specs.declared.cells.Node.{Node}
 use Rattle.node_rope.specs.Filed.{MooringsLead, IsFiled}
 use Rattle.node_rope.proofs.BoxLemmas.{lies-longer, lies-shorter, lies-last}
+use Rattle.std.proofs.lemmas.Option.{slice_get_within}
+use Rattle.fugue_ids.proofs.ListLemmas.{slice_get-seam}
 
 module _ {X Y : Type 0} (f : X → Y) where
   pub got-mapped : (xs : List X) (i : ℕ) (r : X) (d : Y) → r ≡ get_or xs i r → i < length xs → f r ≡ get_or (map f xs) i d
@@ -69,17 +71,8 @@ got-first [] w i n g = absurd (cc)
 got-first (x ∷ ns) w zero n g = g
 got-first (x ∷ ns) w (suc i) n g = got-first ns w i n g
 
-got-end : {T : Type 0} (ns : List T) (w : T) → slice_get (ns ++ w ∷ []) (length ns) ≡ Some w
-got-end [] w = refl
-got-end (x ∷ ns) w = got-end ns w
-
-got-below : {T : Type 0} (ns : List T) (i : ℕ) (n : T) → slice_get ns i ≡ Some n → i < length ns
-got-below [] i n g = absurd (cc)
-got-below (x ∷ ns) zero n g = omega arith
-got-below (x ∷ ns) (suc i) n g = let h = got-below ns i n g in omega arith
-
 pub filed-less : {T Z : Type 0} (s : Spot) (ns : List (Node T)) (ms : List (Mooring Z)) (w : Node T) (m : Mooring Z) → length ns ≡ length ms → IsFiled s (ns ++ w ∷ []) (ms ++ m ∷ []) → IsFiled w.older ns ms
 filed-less s ns ms w m pair f = record {
-  last = leads-shorter ms (m ∷ []) w.older (length ns) (omega arith) (f.each (length ns) w (got-end ns w));
-  each = λ i n g. let h = got-below ns i n g in leads-shorter ms (m ∷ []) n.older i (omega arith) (f.each i n (got-first ns w i n g));
+  last = leads-shorter ms (m ∷ []) w.older (length ns) (omega arith) (f.each (length ns) w (slice_get-seam ns w));
+  each = λ i n g. let h = slice_get_within ns i n g in leads-shorter ms (m ∷ []) n.older i (omega arith) (f.each i n (got-first ns w i n g));
 }

@@ -8,10 +8,10 @@ use Rattle.node_rope.specs.Shapes.{shape_at, link_number, tree_of, weight_at, we
 use Rattle.node_rope.specs.Sums.{sum_measure, sum_of}
 use Rattle.node_rope.specs.Reweighed.{IsSoundBut, IsOff, AreOff, summed, shifted}
 use Rattle.node_rope.proofs.WalkLemmas.{some-same, below-left, below-right}
-use Rattle.node_rope.proofs.TurnLemmas.{same-or-not}
 use Rattle.node_rope.proofs.ShapeLemmas.{weight-sum}
 use Rattle.node_rope.proofs.RaiseLemmas.{written, unwritten}
 use Rattle.node_rope.proofs.ReweighLemmas.{IsSummedOnce, summed-step}
+use Rattle.fugue_ids.proofs.OptionLemmas.{cases_number}
 
 -- the difference brings a node's weight to the sum
 shifted-summed : (ss : List Shape) (less more : ℕ) (l : Link) → IsOff ss less more l → shifted less more (shape_at ss l.number) ≡ summed ss (shape_at ss l.number)
@@ -38,7 +38,7 @@ module _ {T : Type 0} (s u : Store T) (root : Option Link) (l : Link) (less more
   elsewhere = unwritten s u l (shifted less more (shape_at ss x)) (b.here l refl) is
 
   same-least : (i : ℕ) → (shape_at us i).least ≡ (shape_at ss i).least
-  same-least i = elim (same-or-not i x) as (λ _. (shape_at us i).least ≡ (shape_at ss i).least) [
+  same-least i = elim (cases_number i x) as (λ _. (shape_at us i).least ≡ (shape_at ss i).least) [
     | inl e ↦ ap (λ (j : ℕ). (shape_at us j).least) e ∙ ap (λ (h : Shape). h.least) here ∙ ap (λ (j : ℕ). (shape_at ss j).least) (sym e)
     | inr e ↦ ap (λ (h : Shape). h.least) (elsewhere i e)
   ]

@@ -14,8 +14,9 @@ use Rattle.node_rope.specs.Walk.{Tree, count_of, whole}
 use Rattle.node_rope.specs.Items.{IsRope, rope_items_of}
 use Rattle.node_rope.specs.Places.{StandsAt}
 use Rattle.node_rope.proofs.WalkLemmas.{whole-node, some-same, below-left, below-right}
-use Rattle.node_rope.proofs.KeyLemmas.{Among, among-parts, among-right, over-left, over-right, all-made, got-below}
+use Rattle.node_rope.proofs.KeyLemmas.{Among, among-parts, among-right, over-left, over-right, all-made}
 use Rattle.node_rope.proofs.SeenLemmas.{items-key, order-length}
+use Rattle.std.proofs.lemmas.Option.{slice_get_within}
 
 abbrev pub NoRepeat : List ℕ → Type 0
 NoRepeat [] = Unit {0}
@@ -25,7 +26,7 @@ once-append : (xs ys : List ℕ) → NoRepeat xs → NoRepeat ys → ((z : ℕ) 
 once-append [] ys a b d = b
 once-append (x ∷ xs) ys a b d = (λ e. elim (among-parts x xs ys e) as (λ _. ⊥) [ inl f ↦ a.0 f | inr f ↦ d x (inl refl) f ], once-append xs ys a.1 b (λ z e f. d z (inr e) f))
 
-number-or-none : (o : Option ℕ) → (o ≡ None) ⊎ ((a : ℕ) × (o ≡ Some a))
+pub number-or-none : (o : Option ℕ) → (o ≡ None) ⊎ ((a : ℕ) × (o ≡ Some a))
 number-or-none None = inl refl
 number-or-none (Some a) = inr (a, refl)
 
@@ -151,8 +152,8 @@ keys-once {T} wt s root m r i j k a b =
     let xs = order s root in
     let nodes = all-made s root r.sound in
     let long : length (keys_of (rope_items_of s root)) ≡ length xs = length-map (rope_items_of s root) (λ (e : Identifier × T). e.0) ∙ order-length wt s root m r in
-    let hi = got-below (keys_of (rope_items_of s root)) i k a in
-    let hj = got-below (keys_of (rope_items_of s root)) j k b in
+    let hi = slice_get_within (keys_of (rope_items_of s root)) i k a in
+    let hj = slice_get_within (keys_of (rope_items_of s root)) j k b in
     let li : i < length xs = omega (arith, hi, long) in
     let lj : j < length xs = omega (arith, hj, long) in
     let ki : Some (shape_at (shapes_of s) (get_or xs i 0)).key ≡ Some k = sym (items-key s xs nodes i li) ∙ a in

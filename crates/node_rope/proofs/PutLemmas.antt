@@ -16,11 +16,11 @@ use Rattle.node_rope.specs.Sums.{no_rank}
 use Rattle.node_rope.specs.Items.{IsRope, item_at, rope_items_of}
 use Rattle.node_rope.specs.Beside.{put_under}
 use Rattle.node_rope.specs.Reweighed.{AreStill, IsStill}
-use Rattle.node_rope.proofs.TurnLemmas.{same-or-not}
 use Rattle.node_rope.proofs.ShapeLemmas.{made-below}
 use Rattle.node_rope.proofs.EffectLemmas.{item-is}
 use Rattle.node_rope.proofs.KeyLemmas.{all-made, mapped-items, alone, length-values}
 use Rattle.node_rope.proofs.ReweighLemmas.{still, placed, tree-along, order-still}
+use Rattle.fugue_ids.proofs.OptionLemmas.{cases_number}
 
 got-set : {X : Type 0} (xs : List X) (n : ℕ) (y : X) (i : ℕ) (x : X) → slice_get (slice_set xs n y) i ≡ Some x → ((i ≡ n) × (y ≡ x)) ⊎ ((i ≢ n) × (slice_get xs i ≡ Some x))
 got-set [] n y i x e = absurd (cc)
@@ -68,11 +68,11 @@ module _ {T : Type 0} (wt : T → Own) (s v : Store T) (root : Option Link) (m :
   put-roped = record {
     sound = sound;
     few = omega (arith, r.few, put-count);
-    light = λ i. elim (same-or-not i l.number) as (λ _. (shape_at (shapes_of v) i).own.weight < 4194305) [
+    light = λ i. elim (cases_number i l.number) as (λ _. (shape_at (shapes_of v) i).own.weight < 4194305) [
       | inl e ↦ omega (arith, small, ap (λ o. o.weight) here, ap (λ (j : ℕ). (shape_at (shapes_of v) j).own.weight) e)
       | inr e ↦ omega (arith, r.light i, ap (λ o. o.weight) (others i e))
     ];
-    fits = λ i. elim (same-or-not i l.number) as (λ _. (shape_at (shapes_of v) i).own.rank ≤ no_rank) [
+    fits = λ i. elim (cases_number i l.number) as (λ _. (shape_at (shapes_of v) i).own.rank ≤ no_rank) [
       | inl e ↦ omega (arith, fits, ap (λ o. o.rank) here, ap (λ (j : ℕ). (shape_at (shapes_of v) j).own.rank) e)
       | inr e ↦ omega (arith, r.fits i, ap (λ o. o.rank) (others i e))
     ];

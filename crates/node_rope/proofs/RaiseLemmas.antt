@@ -12,9 +12,9 @@ use Rattle.node_rope.specs.Sums.{Measure, sum_measure, lesser, sum_of}
 use Rattle.node_rope.specs.Joined.{IsSummedBut, IsBelow}
 use Rattle.node_rope.specs.Rising.{IsLikewise, IsRising, IsRaised, SameLinks, left_to_rise, AreSmall, more}
 use Rattle.node_rope.proofs.WalkLemmas.{some-same}
-use Rattle.node_rope.proofs.TurnLemmas.{same-or-not}
 use Rattle.node_rope.proofs.ShapeLemmas.{length-shapes, made-below}
 use Rattle.node_rope.proofs.JoinLemmas.{raised-once, adding-commutes, lesser-commutes}
+use Rattle.fugue_ids.proofs.OptionLemmas.{cases_number}
 
 pub set_same : (ss : List Shape) (i : ℕ) (h : Shape) → i < length ss → shape_at (slice_set ss i h) i ≡ h
 set_same ss i h p = get_or-set_same ss i h lone p
@@ -66,7 +66,7 @@ module _ {T : Type 0} (s u : Store T) (w : Own) (l : Link) (rising : IsRising s 
   elsewhere = unwritten s u l (more w (shape_at ss x)) (rising.made_here l refl) is
 
   step-links : SameLinks ss us
-  step-links i = elim (same-or-not i x) as (λ _. IsLikewise (shape_at ss i) (shape_at us i)) [
+  step-links i = elim (cases_number i x) as (λ _. IsLikewise (shape_at ss i) (shape_at us i)) [
     | inl e ↦ subst (λ (j : ℕ). IsLikewise (shape_at ss j) (shape_at us j)) (sym e) (subst (λ h. IsLikewise (shape_at ss x) h) (sym here) (record { left = refl; right = refl; parent = refl; key = refl; own = refl }))
     | inr e ↦ subst (λ h. IsLikewise (shape_at ss i) h) (sym (elsewhere i e)) (likewise (shape_at ss i))
   ]
@@ -110,7 +110,7 @@ module _ {T : Type 0} (s u : Store T) (w : Own) (l : Link) (rising : IsRising s 
 
     step-raised : IsRaised ss₀ us w (shape_at ss x).parent
     step-raised = record {
-      each = λ i. elim (same-or-not i x) as (λ _. (shape_at us i ≡ shape_at ss₀ i) ⊎ ((shape_at us i ≡ more w (shape_at ss₀ i)) × ((z : ℕ) → link_number (shape_at ss x).parent ≡ Some z → (shape_at us i).count ≤ (shape_at us z).count))) [
+      each = λ i. elim (cases_number i x) as (λ _. (shape_at us i ≡ shape_at ss₀ i) ⊎ ((shape_at us i ≡ more w (shape_at ss₀ i)) × ((z : ℕ) → link_number (shape_at ss x).parent ≡ Some z → (shape_at us i).count ≤ (shape_at us z).count))) [
         | inl e ↦ inr (
           ap (shape_at us) e ∙ here ∙ ap (more w) (raised.at x refl ∙ ap (shape_at ss₀) (sym e)),
           λ z f. omega (arith, ap (λ h. h.count) here, higher z f, ap (λ h. h.count) (up_kept z f), ap (λ (j : ℕ). (shape_at us j).count) e),

@@ -18,13 +18,13 @@ use Rattle.node_rope.specs.Sums.{sum_measure, lesser}
 use Rattle.node_rope.specs.Items.{IsRope, item_at, rope_items_of, value_under}
 use Rattle.node_rope.specs.Beside.{put_under, renamed, rekeyed}
 use Rattle.node_rope.specs.Reweighed.{ArePlaced}
-use Rattle.node_rope.proofs.TurnLemmas.{same-or-not}
 use Rattle.node_rope.proofs.ShapeLemmas.{length-shapes, made-below}
 use Rattle.node_rope.proofs.RaiseLemmas.{set_same, set_other}
 use Rattle.node_rope.proofs.SumLemmas.{summed-along}
 use Rattle.node_rope.proofs.EffectLemmas.{item-is}
 use Rattle.node_rope.proofs.KeyLemmas.{all-made, mapped-items, alone}
 use Rattle.node_rope.proofs.ReweighLemmas.{tree-along, order-still}
+use Rattle.fugue_ids.proofs.OptionLemmas.{cases_number}
 
 -- s with another key in the node l
 module _ {T : Type 0} (s v : Store T) (root : Option Link) (l : Link) (other : Identifier) (sound : HasRightLinks s root) (made : IsMade s l) (is : shapes_of v ≡ slice_set (shapes_of s) l.number (record (shape_at (shapes_of s) l.number) { key = other }))
@@ -46,7 +46,7 @@ module _ {T : Type 0} (s v : Store T) (root : Option Link) (l : Link) (other : I
 
   -- all but the keys is the same
   pub field : {X : Type 0} (f : Shape → X) → ((h : Shape) (k : Identifier) → f (record h { key = k }) ≡ f h) → (i : ℕ) → f (shape_at us i) ≡ f (shape_at ss i)
-  field {X} f h i = elim (same-or-not i l.number) as (λ _. f (shape_at us i) ≡ f (shape_at ss i)) [
+  field {X} f h i = elim (cases_number i l.number) as (λ _. f (shape_at us i) ≡ f (shape_at ss i)) [
     | inl e ↦ ap (λ (j : ℕ). f (shape_at us j)) e ∙ ap f here ∙ h (shape_at ss l.number) other ∙ ap (λ (j : ℕ). f (shape_at ss j)) (sym e)
     | inr e ↦ ap f (elsewhere i e)
   ]
@@ -107,7 +107,7 @@ module _ {T : Type 0} (wt : T → Own) (s v : Store T) (root : Option Link) (m p
       | inl f ↦ ap (λ (y : Link). (shape_at (shapes_of v) y.number).key) (sym f.1) ∙ key-here s v root l other r.sound there is count kept ∙ sym f.0
       | inr f ↦ key-elsewhere s v root l other r.sound there is count kept x.number (λ g. f.0 (sym (r.keyed k x f.1) ∙ ap (λ (j : ℕ). (shape_at (shapes_of s) j).key) g ∙ r.keyed key l at)) ∙ r.keyed k x f.1
     ];
-    listed = λ i b. elim (same-or-not i l.number) as (λ _. (y : Link) × (y.number ≡ i) × (value_of p (shape_at (shapes_of v) i).key ≡ Some y)) [
+    listed = λ i b. elim (cases_number i l.number) as (λ _. (y : Link) × (y.number ≡ i) × (value_of p (shape_at (shapes_of v) i).key ≡ Some y)) [
       | inl e ↦ (l, sym e, ap (λ (j : ℕ). value_of p (shape_at (shapes_of v) j).key) e ∙ ap (value_of p) (key-here s v root l other r.sound there is count kept) ∙ new-key)
       | inr e ↦ (
           let q = r.listed i (omega (arith, b, count)) in

@@ -11,11 +11,11 @@ use Rattle.node_rope.specs.Sums.{lesser, sum_of}
 use Rattle.node_rope.specs.Shapes.{leasts}
 use Rattle.node_rope.specs.Reweighed.{summed, IsOff, AreOff, IsStill, AreStill, ArePlaced, SameOwns, IsSoundBut}
 use Rattle.node_rope.proofs.WalkLemmas.{some-same, below-left, below-right, length-whole}
-use Rattle.node_rope.proofs.TurnLemmas.{same-or-not}
 use Rattle.node_rope.proofs.ShapeLemmas.{weight-sum, least-sum}
 use Rattle.node_rope.proofs.RaiseLemmas.{written, unwritten}
 use Rattle.node_rope.proofs.ClimbLemmas.{weight-is}
 use Rattle.node_rope.proofs.LightLemmas.{bounded}
+use Rattle.fugue_ids.proofs.OptionLemmas.{cases_number}
 
 pub still : (h : Shape) → IsStill h h
 still h = record { left = refl; right = refl; parent = refl; key = refl; count = refl }
@@ -104,13 +104,13 @@ module _ {T : Type 0} (s u : Store T) (root : Option Link) (l : Link) (b : IsSou
   elsewhere = unwritten s u l (summed ss (shape_at ss x)) (b.here l refl) is
 
   step-still : AreStill ss us
-  step-still i = elim (same-or-not i x) as (λ _. IsStill (shape_at ss i) (shape_at us i)) [
+  step-still i = elim (cases_number i x) as (λ _. IsStill (shape_at ss i) (shape_at us i)) [
     | inl e ↦ subst (λ (j : ℕ). IsStill (shape_at ss j) (shape_at us j)) (sym e) (subst (λ h. IsStill (shape_at ss x) h) (sym here) (record { left = refl; right = refl; parent = refl; key = refl; count = refl }))
     | inr e ↦ subst (λ h. IsStill (shape_at ss i) h) (sym (elsewhere i e)) (still (shape_at ss i))
   ]
 
   step-owns : SameOwns ss us
-  step-owns i = elim (same-or-not i x) as (λ _. (shape_at us i).own ≡ (shape_at ss i).own) [
+  step-owns i = elim (cases_number i x) as (λ _. (shape_at us i).own ≡ (shape_at ss i).own) [
     | inl e ↦ ap (λ (j : ℕ). (shape_at us j).own) e ∙ ap (λ (h : Shape). h.own) here ∙ ap (λ (j : ℕ). (shape_at ss j).own) (sym e)
     | inr e ↦ ap (λ (h : Shape). h.own) (elsewhere i e)
   ]
@@ -129,7 +129,7 @@ module _ {T : Type 0} (s u : Store T) (root : Option Link) (l : Link) (b : IsSou
   not-own-right e = let h = below-right (tree_of ss) b.tree.counted x x e in omega (arith, h)
 
   step-rest : (i : ℕ) → (link_number (shape_at ss x).parent ≡ Some i → ⊥) → (shape_at us i).weight ≡ weight_at us (shape_at us i).left + ((shape_at us i).own.weight + weight_at us (shape_at us i).right)
-  step-rest i ne = elim (same-or-not i x) as (λ _. (shape_at us i).weight ≡ weight_at us (shape_at us i).left + ((shape_at us i).own.weight + weight_at us (shape_at us i).right)) [
+  step-rest i ne = elim (cases_number i x) as (λ _. (shape_at us i).weight ≡ weight_at us (shape_at us i).left + ((shape_at us i).own.weight + weight_at us (shape_at us i).right)) [
     | inl e ↦ subst (λ (j : ℕ). (shape_at us j).weight ≡ weight_at us (shape_at us j).left + ((shape_at us j).own.weight + weight_at us (shape_at us j).right)) (sym e)
         (omega (arith, ap (λ (h : Shape). h.weight) here, ap (λ (h : Shape). h.own.weight) here, ap (λ (h : Shape). weight_at us h.left) here, ap (λ (h : Shape). weight_at us h.right) here, other (shape_at ss x).left not-own-left, other (shape_at ss x).right not-own-right))
     | inr e ↦ (
@@ -159,7 +159,7 @@ module _ {T : Type 0} (s u : Store T) (root : Option Link) (l : Link) (b : IsSou
       ap (λ (h : Shape). h.least) (elsewhere i e) ∙ b.tree.ranked i (λ f. e (sym (some-same x i f))) ∙ (λ j. min (left j) (min (sym (ap (λ (h : Shape). h.own.rank) (elsewhere i e)) j) (right j)))
 
   step-low : (i : ℕ) → (link_number (shape_at ss x).parent ≡ Some i → ⊥) → IsLow i
-  step-low i ne = elim (same-or-not i x) as (λ _. IsLow i) [ inl e ↦ subst IsLow (sym e) low-here | inr e ↦ low-other i e ne ]
+  step-low i ne = elim (cases_number i x) as (λ _. IsLow i) [ inl e ↦ subst IsLow (sym e) low-here | inr e ↦ low-other i e ne ]
 
   fits : sum ≤ 4194304 * (shape_at ss x).count
   fits = omega (arith, heavy ss b.bound (shape_at ss x).left, heavy ss b.bound (shape_at ss x).right, b.light x, b.tree.counted x)
@@ -168,7 +168,7 @@ module _ {T : Type 0} (s u : Store T) (root : Option Link) (l : Link) (b : IsSou
   step-but = record {
     tree = tree-along s u root (placed ss us step-still) count kept b.tree step-rest step-low;
     light = λ i. omega (arith, b.light i, ap (λ o. o.weight) (step-owns i));
-    bound = λ i. elim (same-or-not i x) as (λ _. (shape_at us i).weight ≤ 4194304 * (shape_at us i).count) [
+    bound = λ i. elim (cases_number i x) as (λ _. (shape_at us i).weight ≤ 4194304 * (shape_at us i).count) [
       | inl e ↦ subst (λ (j : ℕ). (shape_at us j).weight ≤ 4194304 * (shape_at us j).count) (sym e) (omega (arith, fits, ap (λ (h : Shape). h.weight) here, ap (λ (h : Shape). h.count) here))
       | inr e ↦ omega (arith, b.bound i, ap (λ (h : Shape). h.weight) (elsewhere i e), ap (λ (h : Shape). h.count) (elsewhere i e))
     ];
@@ -251,13 +251,13 @@ module _ {T : Type 0} (s u : Store T) (root : Option Link) (at : Link) (w : Own)
   own-elsewhere = unwritten s u at (record (shape_at (shapes_of s) at.number) { own = w }) made writes
 
   pub own-still : AreStill (shapes_of s) (shapes_of u)
-  own-still i = elim (same-or-not i at.number) as (λ _. IsStill (shape_at (shapes_of s) i) (shape_at (shapes_of u) i)) [
+  own-still i = elim (cases_number i at.number) as (λ _. IsStill (shape_at (shapes_of s) i) (shape_at (shapes_of u) i)) [
     | inl e ↦ subst (λ (j : ℕ). IsStill (shape_at (shapes_of s) j) (shape_at (shapes_of u) j)) (sym e) (subst (λ h. IsStill (shape_at (shapes_of s) at.number) h) (sym own-there) (record { left = refl; right = refl; parent = refl; key = refl; count = refl }))
     | inr e ↦ subst (λ h. IsStill (shape_at (shapes_of s) i) h) (sym (own-elsewhere i e)) (still (shape_at (shapes_of s) i))
   ]
 
   own-weight : (i : ℕ) → (shape_at (shapes_of u) i).weight ≡ (shape_at (shapes_of s) i).weight
-  own-weight i = elim (same-or-not i at.number) as (λ _. (shape_at (shapes_of u) i).weight ≡ (shape_at (shapes_of s) i).weight) [
+  own-weight i = elim (cases_number i at.number) as (λ _. (shape_at (shapes_of u) i).weight ≡ (shape_at (shapes_of s) i).weight) [
     | inl e ↦ ap (λ (j : ℕ). (shape_at (shapes_of u) j).weight) e ∙ ap (λ (h : Shape). h.weight) own-there ∙ ap (λ (j : ℕ). (shape_at (shapes_of s) j).weight) (sym e)
     | inr e ↦ ap (λ (h : Shape). h.weight) (own-elsewhere i e)
   ]
@@ -267,7 +267,7 @@ module _ {T : Type 0} (s u : Store T) (root : Option Link) (at : Link) (w : Own)
   own-weight-at (Some l) = own-weight l.number
 
   own-least : (i : ℕ) → (shape_at (shapes_of u) i).least ≡ (shape_at (shapes_of s) i).least
-  own-least i = elim (same-or-not i at.number) as (λ _. (shape_at (shapes_of u) i).least ≡ (shape_at (shapes_of s) i).least) [
+  own-least i = elim (cases_number i at.number) as (λ _. (shape_at (shapes_of u) i).least ≡ (shape_at (shapes_of s) i).least) [
     | inl e ↦ ap (λ (j : ℕ). (shape_at (shapes_of u) j).least) e ∙ ap (λ (h : Shape). h.least) own-there ∙ ap (λ (j : ℕ). (shape_at (shapes_of s) j).least) (sym e)
     | inr e ↦ ap (λ (h : Shape). h.least) (own-elsewhere i e)
   ]
@@ -340,7 +340,7 @@ module _ {T : Type 0} (s u : Store T) (root : Option Link) (at : Link) (w : Own)
           ap (λ (h : Shape). weight_at (shapes_of u) h.right) e,
         )))
         (λ i ne. own-low i (λ f. ne (ap Some (sym f))));
-    light = λ i. elim (same-or-not i at.number) as (λ _. (shape_at (shapes_of u) i).own.weight < 4194305) [
+    light = λ i. elim (cases_number i at.number) as (λ _. (shape_at (shapes_of u) i).own.weight < 4194305) [
       | inl e ↦ omega (arith, lt, ap (λ o. o.weight) own-here, ap (λ (j : ℕ). (shape_at (shapes_of u) j).own.weight) e)
       | inr e ↦ omega (arith, light i, ap (λ o. o.weight) (own-others i e))
     ];

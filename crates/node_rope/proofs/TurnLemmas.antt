@@ -4,17 +4,12 @@ use Rattle.std.proofs.lemmas.Bool.Decides.{eqb_tells}
 use Rattle.node_rope.specs.Walk.{Tree, count_of, HasCounts, IsLinked, moved, IsTurned}
 use Rattle.node_rope.specs.Sums.{Measure, sum_of, IsSummed}
 use Rattle.node_rope.proofs.WalkLemmas.{below-left, below-right, moved-other, moved-here, some-same, none-some}
-
-pub same-or-not : (x y : ℕ) → (x ≡ y) ⊎ (x ≢ y)
-same-or-not x y = elim (eqb_tells x y) as (λ _. (x ≡ y) ⊎ (x ≢ y)) [
-  | inl e ↦ inl e.1
-  | inr e ↦ inr e.1
-]
+use Rattle.fugue_ids.proofs.OptionLemmas.{cases_number}
 
 -- what a moved link leads to
 pub moved-cases : (p c : ℕ) (o : Option ℕ) (m : ℕ) → moved p c o ≡ Some m → ((o ≡ Some p) × (m ≡ c)) ⊎ ((o ≡ Some m) × (m ≢ p))
 moved-cases p c None m e = absurd (none-some m e)
-moved-cases p c (Some x) m e = elim (same-or-not x p) as (λ _. ((Some x ≡ Some p) × (m ≡ c)) ⊎ ((Some x ≡ Some m) × (m ≢ p))) [
+moved-cases p c (Some x) m e = elim (cases_number x p) as (λ _. ((Some x ≡ Some p) × (m ≡ c)) ⊎ ((Some x ≡ Some m) × (m ≢ p))) [
   | inl f ↦ inl (ap Some f, some-same m c (sym e ∙ ap (λ y. moved p c (Some y)) f ∙ moved-here p c))
   | inr f ↦ (
       let is : Some x ≡ Some m = sym (moved-other p c (Some x) (λ g. f (some-same x p g))) ∙ e in
@@ -43,16 +38,16 @@ module _ (t u : Tree) (ct : HasCounts t) (linked : IsLinked t) (p c : ℕ) (n : 
 
   others : (x : ℕ) → x ≢ p → (o : Option ℕ) → ((m : ℕ) → o ≡ Some m → t.parent m ≡ Some x) → count_of u (moved p c o) ≡ count_of t o
   others x differs None back = refl
-  others x differs (Some m) back = elim (same-or-not m p) as (λ _. count_of u (moved p c (Some m)) ≡ count_of t (Some m)) [
+  others x differs (Some m) back = elim (cases_number m p) as (λ _. count_of u (moved p c (Some m)) ≡ count_of t (Some m)) [
     | inl e ↦ ap (λ y. count_of u (moved p c (Some y))) e ∙ ap (count_of u) (moved-here p c) ∙ n.count_c ∙ ap t.count (sym e)
     | inr e ↦ ap (count_of u) (moved-other p c (Some m) (λ f. e (some-same m p f))) ∙ n.count_others m e (λ f. differs (some-same x p (sym (back m refl) ∙ ap t.parent f ∙ linked.from_left p c rotated.was)))
   ]
 
   pub turned-counted : HasCounts u
-  turned-counted i = elim (same-or-not i c) as (λ _. u.count i ≡ count_of u (u.left i) + (count_of u (u.right i) + 1)) [
+  turned-counted i = elim (cases_number i c) as (λ _. u.count i ≡ count_of u (u.left i) + (count_of u (u.right i) + 1)) [
     | inl e ↦ subst (λ (j : ℕ). u.count j ≡ count_of u (u.left j) + (count_of u (u.right j) + 1)) (sym e)
         (omega (arith, n.count_c, n.count_p, ct p, ct c, ap (count_of t) rotated.was, ap (count_of u) rotated.c_left, ap (count_of u) rotated.c_right, under-c (t.left c) (below-left t ct c)))
-    | inr e ↦ elim (same-or-not i p) as (λ _. u.count i ≡ count_of u (u.left i) + (count_of u (u.right i) + 1)) [
+    | inr e ↦ elim (cases_number i p) as (λ _. u.count i ≡ count_of u (u.left i) + (count_of u (u.right i) + 1)) [
       | inl f ↦ subst (λ (j : ℕ). u.count j ≡ count_of u (u.left j) + (count_of u (u.right j) + 1)) (sym f)
           (omega (arith, n.count_p, ap (count_of u) rotated.p_left, ap (count_of u) rotated.p_right, under-c (t.right c) (below-right t ct c), right-p))
       | inr f ↦ omega (arith, ct i, n.count_others i f e, ap (count_of u) (rotated.others_left i f e), ap (count_of u) (rotated.others_right i f e), others i f (t.left i) (linked.from_left i), others i f (t.right i) (linked.from_right i))
@@ -74,7 +69,7 @@ module _ (t u : Tree) (ct : HasCounts t) (linked : IsLinked t) (p c : ℕ) (n : 
 
     sum-others : (x : ℕ) → x ≢ p → (o : Option ℕ) → ((k : ℕ) → o ≡ Some k → t.parent k ≡ Some x) → sum_of m s' (moved p c o) ≡ sum_of m s o
     sum-others x differs None back = refl
-    sum-others x differs (Some k) back = elim (same-or-not k p) as (λ _. sum_of m s' (moved p c (Some k)) ≡ sum_of m s (Some k)) [
+    sum-others x differs (Some k) back = elim (cases_number k p) as (λ _. sum_of m s' (moved p c (Some k)) ≡ sum_of m s (Some k)) [
       | inl e ↦ ap (λ y. sum_of m s' (moved p c (Some y))) e ∙ ap (sum_of m s') (moved-here p c) ∙ at_c ∙ ap s (sym e)
       | inr e ↦ ap (sum_of m s') (moved-other p c (Some k) (λ f. e (some-same k p f))) ∙ rest k e (λ f. differs (some-same x p (sym (back k refl) ∙ ap t.parent f ∙ linked.from_left p c rotated.was)))
     ]
@@ -99,9 +94,9 @@ module _ (t u : Tree) (ct : HasCounts t) (linked : IsLinked t) (p c : ℕ) (n : 
         ∙ (λ i. m.both (sym (ap (sum_of m s') (rotated.others_left x xp xc) ∙ sum-others x xp (t.left x) (linked.from_left x)) i) (m.both (own x) (sym (ap (sum_of m s') (rotated.others_right x xp xc) ∙ sum-others x xp (t.right x) (linked.from_right x)) i)))
 
     pub turned-sums : IsSummed m u own s'
-    turned-sums i = elim (same-or-not i c) as (λ _. Right i) [
+    turned-sums i = elim (cases_number i c) as (λ _. Right i) [
       | inl e ↦ subst Right (sym e) right-c
-      | inr e ↦ elim (same-or-not i p) as (λ _. Right i) [
+      | inr e ↦ elim (cases_number i p) as (λ _. Right i) [
         | inl f ↦ subst Right (sym f) right-p-now
         | inr f ↦ right-other i f e
       ]
@@ -122,23 +117,23 @@ module _ (t u : Tree) (ct : HasCounts t) (linked : IsLinked t) (p c : ℕ) (n : 
   ]
 
   link_left : (x m : ℕ) → u.left x ≡ Some m → u.parent m ≡ Some x
-  link_left x m e = elim (same-or-not x c) as (λ _. u.parent m ≡ Some x) [
+  link_left x m e = elim (cases_number x c) as (λ _. u.parent m ≡ Some x) [
     | inl f ↦ (
         let l : t.left c ≡ Some m = sym rotated.c_left ∙ ap u.left (sym f) ∙ e in
         let small = below-left t ct c m l in
         n.parent_others m (λ g. omega (arith, small, low, ap t.count g)) (λ g. omega (arith, small, ap t.count g)) (λ g. linked.apart c m l g) ∙ linked.from_left c m l ∙ ap Some (sym f))
-    | inr f ↦ elim (same-or-not x p) as (λ _. u.parent m ≡ Some x) [
+    | inr f ↦ elim (cases_number x p) as (λ _. u.parent m ≡ Some x) [
       | inl g ↦ n.parent_middle m (sym rotated.p_left ∙ ap u.left (sym g) ∙ e) ∙ ap Some (sym g)
       | inr g ↦ from_other x m g f (t.left x) (sym (rotated.others_left x g f) ∙ e) (linked.from_left x)
     ]
   ]
 
   link_right : (x m : ℕ) → u.right x ≡ Some m → u.parent m ≡ Some x
-  link_right x m e = elim (same-or-not x c) as (λ _. u.parent m ≡ Some x) [
+  link_right x m e = elim (cases_number x c) as (λ _. u.parent m ≡ Some x) [
     | inl f ↦ (
         let is : p ≡ m = some-same p m (sym rotated.c_right ∙ ap u.right (sym f) ∙ e) in
         ap u.parent (sym is) ∙ n.parent_p ∙ ap Some (sym f))
-    | inr f ↦ elim (same-or-not x p) as (λ _. u.parent m ≡ Some x) [
+    | inr f ↦ elim (cases_number x p) as (λ _. u.parent m ≡ Some x) [
       | inl g ↦ (
           let r : t.right p ≡ Some m = sym rotated.p_right ∙ ap u.right (sym g) ∙ e in
           let small = below-right t ct p m r in
@@ -163,12 +158,12 @@ module _ (t u : Tree) (ct : HasCounts t) (linked : IsLinked t) (p c : ℕ) (n : 
   ]
 
   link_apart : (x m : ℕ) → u.left x ≡ Some m → u.right x ≡ Some m → ⊥
-  link_apart x m e f = elim (same-or-not x c) as (λ _. ⊥) [
+  link_apart x m e f = elim (cases_number x c) as (λ _. ⊥) [
     | inl g ↦ (
         let small = below-left t ct c m (sym rotated.c_left ∙ ap u.left (sym g) ∙ e) in
         let is : p ≡ m = some-same p m (sym rotated.c_right ∙ ap u.right (sym g) ∙ f) in
         omega (arith, small, low, ap t.count is))
-    | inr g ↦ elim (same-or-not x p) as (λ _. ⊥) [
+    | inr g ↦ elim (cases_number x p) as (λ _. ⊥) [
       | inl h ↦ (
           let l = linked.from_right c m (sym rotated.p_left ∙ ap u.left (sym h) ∙ e) in
           let r = linked.from_right p m (sym rotated.p_right ∙ ap u.right (sym h) ∙ f) in
@@ -182,7 +177,7 @@ module _ (t u : Tree) (ct : HasCounts t) (linked : IsLinked t) (p c : ℕ) (n : 
 
   opt-tells : (o : Option ℕ) (i : ℕ) → (o ≡ Some i) ⊎ (o ≡ Some i → ⊥)
   opt-tells None i = inr (none-some i)
-  opt-tells (Some x) i = elim (same-or-not x i) as (λ _. (Some x ≡ Some i) ⊎ (Some x ≡ Some i → ⊥)) [ inl e ↦ inl (ap Some e) | inr e ↦ inr (λ f. e (some-same x i f)) ]
+  opt-tells (Some x) i = elim (cases_number x i) as (λ _. (Some x ≡ Some i) ⊎ (Some x ≡ Some i → ⊥)) [ inl e ↦ inl (ap Some e) | inr e ↦ inr (λ f. e (some-same x i f)) ]
 
   module _ (below : (i q : ℕ) → t.parent i ≡ Some q → (t.left q ≡ Some i) ⊎ (t.right q ≡ Some i)) where
     over-p : (q : ℕ) → t.parent p ≡ Some q → (u.left q ≡ Some c) ⊎ (u.right q ≡ Some c)
@@ -195,16 +190,16 @@ module _ (t u : Tree) (ct : HasCounts t) (linked : IsLinked t) (p c : ℕ) (n : 
     elsewhere-below i q ip ic im e =
         let stays : moved p c (Some i) ≡ Some i = moved-other p c (Some i) (λ g. ip (some-same i p g)) in
         elim (below i q e) as (λ _. (u.left q ≡ Some i) ⊎ (u.right q ≡ Some i)) [
-          | inl f ↦ elim (same-or-not q p) as (λ _. (u.left q ≡ Some i) ⊎ (u.right q ≡ Some i)) [
+          | inl f ↦ elim (cases_number q p) as (λ _. (u.left q ≡ Some i) ⊎ (u.right q ≡ Some i)) [
             | inl g ↦ absurd (ic (some-same i c (sym f ∙ ap t.left g ∙ rotated.was)))
-            | inr g ↦ elim (same-or-not q c) as (λ _. (u.left q ≡ Some i) ⊎ (u.right q ≡ Some i)) [
+            | inr g ↦ elim (cases_number q c) as (λ _. (u.left q ≡ Some i) ⊎ (u.right q ≡ Some i)) [
               | inl h ↦ inl (ap u.left h ∙ rotated.c_left ∙ ap t.left (sym h) ∙ f)
               | inr h ↦ inl (rotated.others_left q g h ∙ ap (moved p c) f ∙ stays)
             ]
           ]
-          | inr f ↦ elim (same-or-not q p) as (λ _. (u.left q ≡ Some i) ⊎ (u.right q ≡ Some i)) [
+          | inr f ↦ elim (cases_number q p) as (λ _. (u.left q ≡ Some i) ⊎ (u.right q ≡ Some i)) [
             | inl g ↦ inr (ap u.right g ∙ rotated.p_right ∙ ap t.right (sym g) ∙ f)
-            | inr g ↦ elim (same-or-not q c) as (λ _. (u.left q ≡ Some i) ⊎ (u.right q ≡ Some i)) [
+            | inr g ↦ elim (cases_number q c) as (λ _. (u.left q ≡ Some i) ⊎ (u.right q ≡ Some i)) [
               | inl h ↦ absurd (im (ap t.right (sym h) ∙ f))
               | inr h ↦ inr (rotated.others_right q g h ∙ ap (moved p c) f ∙ stays)
             ]
@@ -212,9 +207,9 @@ module _ (t u : Tree) (ct : HasCounts t) (linked : IsLinked t) (p c : ℕ) (n : 
         ]
 
     pub turned-below : (i q : ℕ) → u.parent i ≡ Some q → (u.left q ≡ Some i) ⊎ (u.right q ≡ Some i)
-    turned-below i q e = elim (same-or-not i c) as (λ _. (u.left q ≡ Some i) ⊎ (u.right q ≡ Some i)) [
+    turned-below i q e = elim (cases_number i c) as (λ _. (u.left q ≡ Some i) ⊎ (u.right q ≡ Some i)) [
       | inl f ↦ subst (λ (k : ℕ). (u.left q ≡ Some k) ⊎ (u.right q ≡ Some k)) (sym f) (over-p q (sym n.parent_c ∙ ap u.parent (sym f) ∙ e))
-      | inr f ↦ elim (same-or-not i p) as (λ _. (u.left q ≡ Some i) ⊎ (u.right q ≡ Some i)) [
+      | inr f ↦ elim (cases_number i p) as (λ _. (u.left q ≡ Some i) ⊎ (u.right q ≡ Some i)) [
         | inl g ↦ (let is : c ≡ q = some-same c q (sym n.parent_p ∙ ap u.parent (sym g) ∙ e) in inr (ap u.right (sym is) ∙ rotated.c_right ∙ ap Some (sym g)))
         | inr g ↦ elim (opt-tells (t.right c) i) as (λ _. (u.left q ≡ Some i) ⊎ (u.right q ≡ Some i)) [
           | inl h ↦ (let is : p ≡ q = some-same p q (sym (n.parent_middle i h) ∙ e) in inl (ap u.left (sym is) ∙ rotated.p_left ∙ h))
@@ -225,9 +220,9 @@ module _ (t u : Tree) (ct : HasCounts t) (linked : IsLinked t) (p c : ℕ) (n : 
 
   -- the top of a rotated tree
   pub turned-top : (P : ℕ → Type 0) → P p → (root : Option ℕ) → ((i : ℕ) → P i → t.parent i ≡ None → root ≡ Some i) → (i : ℕ) → P i → u.parent i ≡ None → moved p c root ≡ Some i
-  turned-top P pp root top i pi e = elim (same-or-not i c) as (λ _. moved p c root ≡ Some i) [
+  turned-top P pp root top i pi e = elim (cases_number i c) as (λ _. moved p c root ≡ Some i) [
     | inl f ↦ ap (moved p c) (top p pp (sym n.parent_c ∙ ap u.parent (sym f) ∙ e)) ∙ moved-here p c ∙ ap Some (sym f)
-    | inr f ↦ elim (same-or-not i p) as (λ _. moved p c root ≡ Some i) [
+    | inr f ↦ elim (cases_number i p) as (λ _. moved p c root ≡ Some i) [
       | inl g ↦ absurd (none-some c (sym e ∙ ap u.parent g ∙ n.parent_p))
       | inr g ↦ elim (opt-tells (t.right c) i) as (λ _. moved p c root ≡ Some i) [
         | inl h ↦ absurd (none-some p (sym e ∙ n.parent_middle i h))

@@ -10,12 +10,13 @@ use Rattle.node_rope.specs.Walk.{Tree, count_of, whole, HasCounts, IsLinked, IsT
 use Rattle.node_rope.specs.Sums.{sum_measure, lesser, sum_of}
 use Rattle.node_rope.specs.Turned.{swapped, with_child, lifted, SameItems}
 use Rattle.node_rope.proofs.WalkLemmas.{none-some, rotated-walk}
-use Rattle.node_rope.proofs.TurnLemmas.{same-or-not, turned-counted, turned-linked, turned-sums, turned-below, turned-top, turned-crown}
+use Rattle.node_rope.proofs.TurnLemmas.{turned-counted, turned-linked, turned-sums, turned-below, turned-top, turned-crown}
 use Rattle.node_rope.proofs.ShapeLemmas.{length-shapes, made-below, weight-sum, least-sum}
 use Rattle.node_rope.proofs.JoinLemmas.{some-or-not, adding-commutes, lesser-commutes}
 use Rattle.node_rope.proofs.GrowthLemmas.{are-within, unnumbered}
 use Rattle.node_rope.proofs.LiftLemmas.{relinked-from}
 use Rattle.node_rope.proofs.LiftedLemmas as lifts
+use Rattle.fugue_ids.proofs.OptionLemmas.{cases_number}
 
 -- c stands above p in the place of p, and the order is the same
 pub record IsLifted {T : Type 0} (s v : Store T) (root root' : Option Link) (p c : Link) : Type 0 where
@@ -70,9 +71,9 @@ module _ {T : Type 0} (s v : Store T) (root root' : Option Link) (p c : Link) (s
   rest = lifts.untouched ss p c sound.counted sound.linked was in_p in_c in_middle in_top over
 
   every : {X : Type 0} (f : Shape → X) → f (shape_at vs p.number) ≡ f (shape_at ss p.number) → f (shape_at vs c.number) ≡ f (shape_at ss c.number) → ((i : ℕ) → i ≢ p.number → i ≢ c.number → f (shape_at vs i) ≡ f (shape_at ss i)) → (i : ℕ) → f (shape_at vs i) ≡ f (shape_at ss i)
-  every f at_p at_c others i = elim (same-or-not i p.number) as (λ _. f (shape_at vs i) ≡ f (shape_at ss i)) [
+  every f at_p at_c others i = elim (cases_number i p.number) as (λ _. f (shape_at vs i) ≡ f (shape_at ss i)) [
     | inl e ↦ ap (λ (k : ℕ). f (shape_at vs k)) e ∙ at_p ∙ ap (λ (k : ℕ). f (shape_at ss k)) (sym e)
-    | inr e ↦ elim (same-or-not i c.number) as (λ _. f (shape_at vs i) ≡ f (shape_at ss i)) [
+    | inr e ↦ elim (cases_number i c.number) as (λ _. f (shape_at vs i) ≡ f (shape_at ss i)) [
       | inl g ↦ ap (λ (k : ℕ). f (shape_at vs k)) g ∙ at_c ∙ ap (λ (k : ℕ). f (shape_at ss k)) (sym g)
       | inr g ↦ others i e g
     ]
@@ -136,9 +137,9 @@ module _ {T : Type 0} (s v : Store T) (root root' : Option Link) (p c : Link) (s
       ]
 
   made-all : (f : Shape → Option Link) → AreMade v (f (shape_at vs p.number)) → AreMade v (f (shape_at vs c.number)) → ((i : ℕ) → i ≢ p.number → i ≢ c.number → AreMade v (f (shape_at vs i))) → (i : ℕ) → AreMade v (f (shape_at vs i))
-  made-all f at_p at_c others i = elim (same-or-not i p.number) as (λ _. AreMade v (f (shape_at vs i))) [
+  made-all f at_p at_c others i = elim (cases_number i p.number) as (λ _. AreMade v (f (shape_at vs i))) [
     | inl e ↦ subst (λ (k : ℕ). AreMade v (f (shape_at vs k))) (sym e) at_p
-    | inr e ↦ elim (same-or-not i c.number) as (λ _. AreMade v (f (shape_at vs i))) [
+    | inr e ↦ elim (cases_number i c.number) as (λ _. AreMade v (f (shape_at vs i))) [
       | inl g ↦ subst (λ (k : ℕ). AreMade v (f (shape_at vs k))) (sym g) at_c
       | inr g ↦ others i e g
     ]
@@ -157,9 +158,9 @@ module _ {T : Type 0} (s v : Store T) (root root' : Option Link) (p c : Link) (s
       (elsewhere-made (λ h. h.parent) (λ h m e. inr e) (λ h m e. inl (link-back p m e)) sound.made_parent)
 
   small-now : (i : ℕ) → (shape_at vs i).count ≤ suc (made_count v)
-  small-now i = elim (same-or-not i p.number) as (λ _. (shape_at vs i).count ≤ suc (made_count v)) [
+  small-now i = elim (cases_number i p.number) as (λ _. (shape_at vs i).count ≤ suc (made_count v)) [
     | inl e ↦ omega (arith, ap (λ (k : ℕ). (shape_at vs k).count) e, ap (λ h. h.count) turned_p, sound.small p.number, count, sound.counted p.number, ap (count_of t) was, sound.counted c.number)
-    | inr e ↦ elim (same-or-not i c.number) as (λ _. (shape_at vs i).count ≤ suc (made_count v)) [
+    | inr e ↦ elim (cases_number i c.number) as (λ _. (shape_at vs i).count ≤ suc (made_count v)) [
       | inl g ↦ omega (arith, ap (λ (k : ℕ). (shape_at vs k).count) g, ap (λ h. h.count) turned_c, sound.small p.number, count)
       | inr g ↦ omega (arith, rest (λ h. h.count) (λ h q. refl) (λ h q. refl) (λ h q. refl) i e g, sound.small i, count)
     ]

@@ -9,11 +9,11 @@ use Rattle.fugue_ids.specs.declared.op.Op.{Op}
 use Rattle.fugue_ids.specs.declared.op.Op.TheVariants.{Delete, Note, Section, Text}
 use Rattle.origin_model.specs.operations.History.{has_op, holder, is_own}
 use Rattle.origin_model.specs.operations.Verdict.{Lawful, names}
-use Rattle.origin_model.proofs.SharedLemmas.{Fits, Within, Within-part, has-holder, holder-has, holder-other, holder-own}
+use Rattle.origin_model.proofs.SharedLemmas.{Fits, has-holder, holder-has, holder-other, holder-own, is_own-id, Within, Within-part}
 use Rattle.catalogue_notes.specs.Claims.{Move, Retitle, move_in, retitle_in}
 use Rattle.catalogue_notes.specs.Lift.{as_section, is_section, lift, lifted_of, moves, retitles, stands}
 use Rattle.catalogue_notes.proofs.ArrangedLemmas.{found_move, move_found, move_test}
-use Rattle.catalogue_notes.proofs.HolderLemmas.{IsHeld, anything, holder-kept, is_own-id, joins, names_held, section_by}
+use Rattle.catalogue_notes.proofs.HolderLemmas.{IsHeld, anything, holder-kept, joins, names_held, section_by}
 use Rattle.catalogue_notes.proofs.LiftLemmas.{Rests, holder-lift, lift-other, lifted-kept, lifted_at, passing-same, passing_from, passing_to, rests_of, shape}
 use Rattle.catalogue_notes.proofs.RetitleLemmas.{title_shape}
 use Rattle.catalogue_notes.proofs.ValidLemmas.{valid_in_whole}

@@ -14,15 +14,15 @@ use Rattle.origin_model.specs.operations.Verdict.{Lawful, names}
 use Rattle.origin_model.specs.order.Laws.{IsIn, IsPartOf, KeepsOrder}
 use Rattle.origin_model.specs.order.Order.{before, order}
 use Rattle.origin_model.specs.order.Printed.{is_hidden}
-use Rattle.origin_model.proofs.SharedLemmas.{Fits, Within-part, has-holder, parts_keep_order}
-use Rattle.catalogue_notes.proofs.HolderLemmas.{IsHeld, anything, is_own-id, names_held, not_both}
+use Rattle.origin_model.proofs.SharedLemmas.{Fits, has-holder, is_own-id, order-in, parts_keep_order, Within-part}
+use Rattle.catalogue_notes.proofs.HolderLemmas.{IsHeld, anything, names_held, not_both}
 use Rattle.catalogue_notes.proofs.LiftLemmas.{if_so, some_inj}
 use Rattle.margin_notes.specs.Comments.{Comment, comment_in, comment_of, is_in_section, is_text, is_text_of}
 use Rattle.margin_notes.specs.Margins.{passage, stands_between}
 use Rattle.margin_notes.specs.declared.limits.TheConstants.{COMMENT_CODE}
 use Rattle.margin_notes.proofs.FilterLemmas.{filter-agree, filter-swap}
 use Rattle.margin_notes.proofs.MemberLemmas.{comment_says, from_comments, to_comments}
-use Rattle.margin_notes.proofs.PassageLemmas.{all_in, text_in}
+use Rattle.margin_notes.proofs.PassageLemmas.{same_tests, text_in}
 use Rattle.note_laws.specs.CommentLaws.{CommentInPart, ListedInPart, PassageInPart, ShownInPart, is_visible}
 use Rattle.note_laws.proofs.OperationLemmas.{member_has, stands_in_part}
 
@@ -31,7 +31,7 @@ passage_in_part p part whole a b v w f m n =
     let k : KeepsOrder p part whole = parts_keep_order p part whole v w f in
     filter-agree (stands_between p part a b) (stands_between p whole a b) (order p part)
     (All-weaker (IsIn p part) (λ x. stands_between p part a b x ≡ stands_between p whole a b x)
-    (λ x i. λ j. (id_eq a x || k.same_before a x m i j) && (id_eq x b || k.same_before x b i n j)) (order p part) (all_in p part v))
+    (λ x i. λ j. (id_eq a x || k.same_before a x m i j) && (id_eq x b || k.same_before x b i n j)) (order p part) (order-in p part v))
     ∙ ap (filter (stands_between p whole a b)) k.same_order
     ∙ filter-swap (stands_between p whole a b) (holds part) (order p whole)
 
@@ -50,12 +50,6 @@ shown_in_part p part whole a b v w f m n =
     ∙ filter-agree (λ x. is_visible part x && is_visible whole x) (is_visible whole) xs (all_from_contains (λ x. (is_visible part x && is_visible whole x) ≡ is_visible whole x) xs (λ x k. visible_in_part part whole x f))
     ∙ ap (filter (is_visible whole)) (passage_in_part p part whole a b v w f m n)
     ∙ filter-swap (is_visible whole) (holds part) (passage p whole a b)
-
--- tests of which the last is compared only where the others hold
-same_tests : (a b c d : Bool) → (a ≡ true → b ≡ true → c ≡ d) → (a && b && c) ≡ (a && b && d)
-same_tests true true c d f = f refl refl
-same_tests true false c d f = refl
-same_tests false b c d f = refl
 
 -- a comment whose anchors are Texts of the same sections is one of the same sections
 pub same_section : (s : Identifier) (c : Comment) (part whole : List Op) → Lawful part → Lawful whole → IsPartOf part whole

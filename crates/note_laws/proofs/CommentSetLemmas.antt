@@ -14,7 +14,7 @@ use Rattle.origin_model.specs.operations.Verdict.{Lawful}
 use Rattle.origin_model.specs.order.Laws.{IsIn, SameOps}
 use Rattle.origin_model.specs.order.Order.{before, order}
 use Rattle.origin_model.specs.order.Printed.{is_hidden, scalar_of, shown, text}
-use Rattle.origin_model.proofs.SharedLemmas.{order_by_set, parts_keep_order}
+use Rattle.origin_model.proofs.SharedLemmas.{count_alike, has_member, order-in, order_by_set, parts_keep_order, same-part}
 use Rattle.cluster_text.specs.Clusters.{clusters}
 use Rattle.catalogue_notes.proofs.PartLemmas.{parts_same}
 use Rattle.catalogue_notes.proofs.SetLemmas.{arranged_by_set}
@@ -25,19 +25,16 @@ use Rattle.margin_notes.specs.Margins.{Span, comment_line, lines_from, span}
 use Rattle.margin_notes.specs.Placing.{PlacedComment, placed_at}
 use Rattle.margin_notes.proofs.FilterLemmas.{filter-agree}
 use Rattle.margin_notes.proofs.MemberLemmas.{from_comments, listed_apart, to_comments}
-use Rattle.margin_notes.proofs.PassageLemmas.{all_in, both_parts, text_in}
-use Rattle.margin_notes.proofs.SortLemmas.{Earlier, by_id_from, by_id_in, by_id_ordered, id_irrefl, id_trans, same_ordered}
+use Rattle.margin_notes.proofs.PassageLemmas.{both_parts, text_in}
+use Rattle.margin_notes.proofs.SortLemmas.{Earlier, by_id_from, by_id_in, by_id_ordered, same_ordered}
 use Rattle.passage_remarks.specs.Laws.{IsRemark}
 use Rattle.passage_remarks.specs.Remarks.{Remark, remark_at, remark_told, remarks, remarks_from}
 use Rattle.passage_remarks.proofs.LawLemmas.{are_comments}
 use Rattle.passage_remarks.proofs.OrderLemmas.{Before, before_irrefl, before_trans}
 use Rattle.note_laws.specs.CommentLaws.{CommentsBySet}
 use Rattle.note_laws.proofs.CommentPartLemmas.{is_text_by, same_section}
-use Rattle.note_laws.proofs.OperationLemmas.{has_member, member_has, same_holder, same_part, same_withdrawn}
-
--- tests that agree on the members count the same
-count_agree : (f g : Identifier → Bool) (xs : List Identifier) → All (λ x. f x ≡ g x) xs → count_by f xs ≡ count_by g xs
-count_agree f g xs all = sym (length-filter f xs) ∙ ap length (filter-agree f g xs all) ∙ length-filter g xs
+use Rattle.note_laws.proofs.OperationLemmas.{member_has, same_holder, same_withdrawn}
+use Rattle.fugue_ids.proofs.OrderLemmas.{id_irrefl, id_trans}
 
 -- the anchors of a comment of a section are elements of it
 record AreIn (h : List Op) (s : Identifier) (c : Comment) : Type 0 where
@@ -55,7 +52,7 @@ anchors_in h s c e =
 module _ (a b : List Op) (v : Lawful a) (w : Lawful b) (same : SameOps a b) where
   pub sections : (s : Identifier) (c : Comment) → is_in_section a s c ≡ is_in_section b s c
   sections s c =
-      same_section s c a b v w (same_part a b same) (ap (is_text_by s) (same_holder a b v w same c.first)) (ap (is_text_by s) (same_holder a b v w same c.last))
+      same_section s c a b v w (same-part a b same) (ap (is_text_by s) (same_holder a b v w same c.first)) (ap (is_text_by s) (same_holder a b v w same c.last))
 
   visible : (p : Place) → shown p a ≡ shown p b
   visible = (order_by_set a b v w same).same_shown
@@ -66,7 +63,7 @@ module _ (a b : List Op) (v : Lawful a) (w : Lawful b) (same : SameOps a b) wher
       let i = from_comments a s c m in
       to_comments b s c (record {
         op = i.op;
-        member = member_has b i.op (same_part a b same i.op (has_member a i.op i.member));
+        member = member_has b i.op (same-part a b same i.op (has_member a i.op i.member));
         says = i.says;
         in_section = sym (sections s c) ∙ i.in_section;
         stands = sym (same_withdrawn a b same c.id) ∙ i.stands;
@@ -74,18 +71,18 @@ module _ (a b : List Op) (v : Lawful a) (w : Lawful b) (same : SameOps a b) wher
 
   -- the elements of a section
   elements : (s : Identifier) → All (IsIn (within s) a) (shown (within s) a)
-  elements s = All-filter (λ x. not (is_hidden a x)) (IsIn (within s) a) (order (within s) a) (all_in (within s) a v)
+  elements s = All-filter (λ x. not (is_hidden a x)) (IsIn (within s) a) (order (within s) a) (order-in (within s) a v)
 
   pub spans : (s : Identifier) (c : Comment) → is_in_section a s c ≡ true → span a s c.first c.last ≡ span b s c.first c.last
   spans s c e =
       let k = anchors_in a s c e in
-      let r = (parts_keep_order (within s) a b v w (same_part a b same)).same_before in
+      let r = (parts_keep_order (within s) a b v w (same-part a b same)).same_before in
       let A : Identifier → Identifier → Bool = before (within s) a in
       let B : Identifier → Identifier → Bool = before (within s) b in
       let xs : List Identifier = shown (within s) a in
-      let from = count_agree (λ x. A x c.first) (λ x. B x c.first) xs (All-weaker (IsIn (within s) a) (λ x. A x c.first ≡ B x c.first) (λ x m. r x c.first m k.first) xs (elements s)) in
+      let from = count_alike (λ x. A x c.first) (λ x. B x c.first) xs (All-weaker (IsIn (within s) a) (λ x. A x c.first ≡ B x c.first) (λ x m. r x c.first m k.first) xs (elements s)) in
       let to =
-      count_agree (λ x. id_eq x c.last || A x c.last) (λ x. id_eq x c.last || B x c.last) xs
+      count_alike (λ x. id_eq x c.last || A x c.last) (λ x. id_eq x c.last || B x c.last) xs
       (All-weaker (IsIn (within s) a) (λ x. (id_eq x c.last || A x c.last) ≡ (id_eq x c.last || B x c.last)) (λ x m. ap (λ t. id_eq x c.last || t) (r x c.last m k.last)) xs (elements s)) in
       (λ i. record { from = from i; to = to i }) ∙ (λ i. record { from = count_by (λ x. B x c.first) (visible (within s) i); to = count_by (λ x. id_eq x c.last || B x c.last) (visible (within s) i) })
 

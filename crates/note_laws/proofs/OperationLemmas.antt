@@ -13,17 +13,8 @@ use Rattle.origin_model.specs.operations.History.{has_op, holder}
 use Rattle.origin_model.specs.operations.Verdict.{Lawful}
 use Rattle.origin_model.specs.order.Laws.{IsPartOf, SameOps}
 use Rattle.origin_model.specs.order.Printed.{is_withdrawn}
-use Rattle.origin_model.proofs.SharedLemmas.{Within-part, has-append, hidden-has}
+use Rattle.origin_model.proofs.SharedLemmas.{has-append, hidden-has, same-part, Within-part}
 use Rattle.catalogue_notes.proofs.HolderLemmas.{cases_option, not_both}
-
--- the members of a history are its operations
-pub has_member : (h : List Op) (op : Op) → Contains h op → has_op h op ≡ true
-has_member [] op m = absurd (contains_none op m)
-has_member (o ∷ h) op m =
-    elim (contains_cases o h op m) [
-      | inl e ↦ ap (λ t. t || has_op h op) (ap (op_eq o) (sym e) ∙ op_eq-refl o)
-      | inr k ↦ or_right (op_eq o op) (has_op h op) (has_member h op k)
-    ]
 
 pub member_has : (h : List Op) (op : Op) → has_op h op ≡ true → Contains h op
 member_has [] op e = absurd (false≢true e)
@@ -38,19 +29,11 @@ pub stands_in_part : (part whole : List Op) (x : Identifier) → IsPartOf part w
 stands_in_part part whole x f n =
     false_from_ne_true (is_withdrawn part x) (λ t. true≢false (sym (hidden-has whole x ∙ f (Delete x) (sym (hidden-has part x) ∙ t)) ∙ n))
 
--- the older operations are a part of all
-pub older_part : (new h : List Op) → IsPartOf h (new ++ h)
-older_part new h op e = has-append new h op ∙ or_right (has_op new op) (has_op h op) e
-
--- histories with the same operations are parts of each other
-pub same_part : (a b : List Op) → SameOps a b → IsPartOf a b
-same_part a b same op k = sym (same op) ∙ k
-
 -- and find and withdraw the same
 pub same_holder : (a b : List Op) → Lawful a → Lawful b → SameOps a b → (x : Identifier) → holder a x ≡ holder b x
 same_holder a b v w same x =
-    let into = Within-part a b w (same_part a b same) in
-    let back = Within-part b a v (same_part b a (λ op. sym (same op))) in
+    let into = Within-part a b w (same-part a b same) in
+    let back = Within-part b a v (same-part b a (λ op. sym (same op))) in
     elim (cases_option (holder a x)) [
       | inl n ↦ elim (cases_option (holder b x)) [
         | inl m ↦ n ∙ sym m

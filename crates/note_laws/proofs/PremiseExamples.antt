@@ -17,7 +17,7 @@ use Rattle.catalogue_notes.specs.Claims.{Move}
 use Rattle.catalogue_notes.specs.Lift.{claims, lift, moves, retitles}
 use Rattle.margin_notes.specs.Comments.{Comment, comment_in, is_in_section}
 use Rattle.note_laws.specs.MoveLaws.{LeavesWinner}
-use Rattle.note_laws.proofs.OperationLemmas.{older_part}
+use Rattle.origin_model.proofs.SharedLemmas.{part_at_end}
 
 abbrev id : ℕ → ℕ → Identifier
 id replica counter = record { replica = replica; counter = counter }
@@ -65,7 +65,7 @@ another_move :
     → IfSome (winner part s (moves part)) (λ m. is_withdrawn whole m.id ≡ false) → position whole s ≡ position part s) → ⊥
 unfolding lift claims
 another_move law =
-    true≢false (ap (λ (x : Identifier). nat_eq x.replica 3) (law part (c_second ∷ part) c are_lawful.0 are_lawful.2 (older_part (c_second ∷ []) part) refl))
+    true≢false (ap (λ (x : Identifier). nat_eq x.replica 3) (law part (c_second ∷ part) c are_lawful.0 are_lawful.2 (part_at_end (c_second ∷ []) part) refl))
 
 -- and where the one that won is withdrawn, another position wins
 withdrawn_move :
@@ -74,7 +74,7 @@ withdrawn_move :
 unfolding lift claims
 withdrawn_move law =
     true≢false (ap (λ (x : Identifier). nat_eq x.counter 2)
-    (law part (Delete (id 1 3) ∷ part) c are_lawful.0 are_lawful.3 (older_part (Delete (id 1 3) ∷ []) part) (λ m k e. k)))
+    (law part (Delete (id 1 3) ∷ part) c are_lawful.0 are_lawful.3 (part_at_end (Delete (id 1 3) ∷ []) part) (λ m k e. k)))
 
 -- a section that the part lacks has no heading there
 no_section :
@@ -83,7 +83,7 @@ no_section :
 unfolding claims verdict
 no_section law =
     let one : List Op = Section a None None (codes "A") ∷ [] in
-    true≢false (ap (λ (t : List ℕ). nat_eq (length t) 1) (law [] one a tt (refl, tt) (older_part one []) (record { no_claim = λ r k e. k; not_withdrawn = tt })))
+    true≢false (ap (λ (t : List ℕ). nat_eq (length t) 1) (law [] one a tt (refl, tt) (part_at_end one []) (record { no_claim = λ r k e. k; not_withdrawn = tt })))
 
 -- a comment that the part lacks may be on letters that it lacks
 no_letter :
@@ -95,4 +95,4 @@ no_letter law =
     let empty : List Op = Section a None None (codes "A") ∷ [] in
     let written : List Op = Text letter a None None 65 ∷ empty in
     let comment : Comment = record { id = id 1 2; first = letter; last = letter; text = codes "x" } in
-    true≢false (sym (law a comment (Note (id 1 2) (letter ∷ letter ∷ []) 3 (codes "x")) empty written (refl, tt) (refl, (refl, tt)) (older_part (Text letter a None None 65 ∷ []) empty) refl))
+    true≢false (sym (law a comment (Note (id 1 2) (letter ∷ letter ∷ []) 3 (codes "x")) empty written (refl, tt) (refl, (refl, tt)) (part_at_end (Text letter a None None 65 ∷ []) empty) refl))

@@ -2,14 +2,13 @@
 use Rattle.std.proofs.Common.{ap, sym, ◌∙◌, ◌≡◌}
 use Rattle.std.specs.Prelude.{Some}
 use Rattle.origin_model.specs.operations.History.{holder}
-use Rattle.origin_model.proofs.SharedLemmas.{has-holder}
-use Rattle.catalogue_notes.proofs.HolderLemmas.{is_own-id, same_value}
+use Rattle.origin_model.proofs.SharedLemmas.{has-holder, has_member, is_own-id}
+use Rattle.catalogue_notes.proofs.HolderLemmas.{same_value}
 use Rattle.catalogue_notes.proofs.LiftLemmas.{some_inj}
 use Rattle.margin_notes.specs.Comments.{comment_in}
 use Rattle.margin_notes.specs.Listing.{section_of}
 use Rattle.margin_notes.proofs.MemberLemmas.{comment_says, from_comments, has_section, section_is}
 use Rattle.note_laws.specs.CommentLaws.{ListedOnce, OneSection, SectionLookedUp}
-use Rattle.note_laws.proofs.OperationLemmas.{has_member}
 
 pub looked_up : SectionLookedUp
 looked_up h s c = (section_is h c s, has_section h c s)

@@ -12,7 +12,7 @@ use Rattle.origin_model.specs.operations.History.{has_op, holder}
 use Rattle.origin_model.specs.operations.Verdict.{Lawful, fits}
 use Rattle.origin_model.specs.order.Laws.{IsPartOf}
 use Rattle.origin_model.specs.order.Printed.{is_withdrawn, title_of}
-use Rattle.origin_model.proofs.SharedLemmas.{Lawful-append, Within-part, has-append, hidden-has}
+use Rattle.origin_model.proofs.SharedLemmas.{has-append, hidden-has, Lawful-append, part_at_end, Within-part}
 use Rattle.catalogue_notes.specs.Arranged.{position, winner}
 use Rattle.catalogue_notes.specs.Claims.{Claim, Move, Retitle, move_in, retitle_in}
 use Rattle.catalogue_notes.specs.Laws.{HasWinner, IsWinner, Stays}
@@ -21,15 +21,11 @@ use Rattle.catalogue_notes.proofs.ArrangedLemmas.{one_move, position_by}
 use Rattle.catalogue_notes.proofs.ClaimLemmas.{one_claim}
 use Rattle.catalogue_notes.proofs.HolderLemmas.{not_both, same_value, section_held}
 use Rattle.catalogue_notes.proofs.RetitleLemmas.{title-kept, title_shape}
-use Rattle.catalogue_notes.proofs.ValidLemmas.{valid_in_whole, winners}
+use Rattle.catalogue_notes.proofs.ValidLemmas.{id_total, valid_in_whole, winners}
 use Rattle.margin_notes.proofs.SortLemmas.{id_other}
 use Rattle.note_laws.specs.MoveLaws.{HeadingStays, KeepsWinner, LaterOpsLeaveHeading, LaterOpsLeavePosition, LeavesWinner, PassesBy, PositionStays, PositionStaysExactly}
 use Rattle.note_laws.proofs.ClaimPartLemmas.{IsSaid, move_in_part, move_said, retitle_in_part, retitle_said}
-use Rattle.note_laws.proofs.OperationLemmas.{older_part, stands_in_part}
-
--- identifiers of which neither is smaller are the same
-id_total : (a b : Identifier) → id_lt a b ≡ false → id_lt b a ≡ false → a ≡ b
-id_total a b h k = elim (cases_id a b) [ inl e ↦ e | inr n ↦ absurd (true≢false (sym (id_other a b n h) ∙ k)) ]
+use Rattle.note_laws.proofs.OperationLemmas.{stands_in_part}
 
 -- claims of a part are claims of the whole
 module _ {V : Type 0} (part whole : List Op) (s : Identifier) (old new : List (Claim V)) (within : IsPartOf part whole) (kept : (c : Claim V) → Contains old c → Contains new c)
@@ -166,13 +162,13 @@ module _ {V : Type 0} (says : Op → Option (Claim V)) (new h : List Op) (s : Id
 pub later_position : LaterOpsLeavePosition
 later_position new h s w passes =
     let v : Lawful h = Lawful-append new h w in
-    let f : IsPartOf h (new ++ h) = older_part new h in
+    let f : IsPartOf h (new ++ h) = part_at_end new h in
     position_stays h (new ++ h) s v w f
     (leaves_winner move_in new h s (moves h) (moves (new ++ h)) (winners h s v).0 (λ m c. move_said (new ++ h) m w c) (λ op m k e. (move_in_part h (new ++ h) op m v w f k e).1) passes)
 
 pub later_heading : LaterOpsLeaveHeading
 later_heading new h s w is passes =
     let v : Lawful h = Lawful-append new h w in
-    let f : IsPartOf h (new ++ h) = older_part new h in
+    let f : IsPartOf h (new ++ h) = part_at_end new h in
     heading_stays h (new ++ h) s v w f is
     (leaves_winner retitle_in new h s (retitles h) (retitles (new ++ h)) (winners h s v).1 (λ r c. retitle_said (new ++ h) r w c) (λ op r k e. (retitle_in_part h (new ++ h) op r v w f k e).1) passes)

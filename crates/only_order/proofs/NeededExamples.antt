@@ -21,6 +21,7 @@ use Rattle.origin_model.specs.edits.Edits.{id_at}
 use Rattle.origin_model.specs.edits.Passages.{IsTie, Relation}
 use Rattle.origin_model.proofs.SharedLemmas.{order_total}
 use Rattle.only_order.specs.TextOrder.{EndsBlock, HangsOn, HasLaterRight, HeadsBlock, IsLater, IsLeft, IsRightSibling, IsStrictOrder, LeadsUp, LeansOn}
+use Rattle.fugue_ids.proofs.OrderLemmas.{id_irrefl, id_trans}
 
 -- identifiers in their order, and the other way round
 abbrev rising : Relation
@@ -29,30 +30,24 @@ rising x y = id_lt x y
 abbrev falling : Relation
 falling x y = id_lt y x
 
-lt_irreflexive : (a : Identifier) → id_lt a a ≡ false
-lt_irreflexive a = grind (arith, nat_tests)
-
 lt_one : (a b : Identifier) → id_eq a b ≡ false → id_lt a b ≡ not (id_lt b a)
 lt_one a b h = grind (arith, nat_tests)
 
-lt_transitive : (a b c : Identifier) → id_lt a b ≡ true → id_lt b c ≡ true → id_lt a c ≡ true
-lt_transitive a b c h k = grind (arith, nat_tests)
-
 lt_loop : (a b : Identifier) → id_lt a b ≡ true → id_lt b a ≡ true → ⊥
-lt_loop a b h k = true≢false (sym (lt_transitive a b a h k) ∙ lt_irreflexive a)
+lt_loop a b h k = true≢false (sym (id_trans a b a h k) ∙ id_irrefl a)
 
 rising_strict : (p : Place) (h : List Op) → IsStrictOrder p h rising
 rising_strict p h = record {
-  irreflexive = λ x _. lt_irreflexive x;
+  irreflexive = λ x _. id_irrefl x;
   one_first = λ x y _ _ n. lt_one x y (ne-id_eq x y n);
-  transitive = λ x y z _ _ _. lt_transitive x y z;
+  transitive = λ x y z _ _ _. id_trans x y z;
 }
 
 falling_strict : (p : Place) (h : List Op) → IsStrictOrder p h falling
 falling_strict p h = record {
-  irreflexive = λ x _. lt_irreflexive x;
+  irreflexive = λ x _. id_irrefl x;
   one_first = λ x y _ _ n. lt_one y x (ne-id_eq y x (λ e. n (sym e)));
-  transitive = λ x y z _ _ _ k j. lt_transitive z y x j k;
+  transitive = λ x y z _ _ _ k j. id_trans z y x j k;
 }
 
 -- letters of one section

@@ -9,15 +9,10 @@ use Rattle.origin_model.specs.operations.Verdict.{Lawful}
 use Rattle.origin_model.specs.order.Laws.{IsIn}
 use Rattle.origin_model.specs.order.Order.{Passes, left_at, lefts, next_left, next_right, rights}
 use Rattle.origin_model.specs.edits.Passages.{IsOnLeft, Relation}
-use Rattle.origin_model.proofs.SharedLemmas.{IsHeld, IsIn-held, chain-ends, chain_above, lefts-above, same_chain}
+use Rattle.origin_model.proofs.SharedLemmas.{chain-ends, chain_above, IsHeld, IsIn-held, lefts-above, not_nil, same_chain}
 use Rattle.only_order.specs.TextOrder.{HangsOn, IsLeft, IsRightSibling, IsTextOrder, LeadsUp, LeansOn, WasPutBefore}
 use Rattle.only_order.specs.Chains.{ByChains, IsOrderByChains}
 use Rattle.only_order.proofs.HeldLemmas.{is_sibling, left_held, right_held, right_sibling, rights_above, sibling_is}
-
--- a list with a member is not empty
-not_nil : (c : List Identifier) (u : Identifier) (more : List Identifier) → [] ≡ c ++ u ∷ more → ⊥
-not_nil [] u more e = cc e
-not_nil (y ∷ c) u more e = cc e
 
 -- how a list with the last member e is split behind c
 split_end : (xs c : List Identifier) (e u : Identifier) (more : List Identifier) → xs ++ e ∷ [] ≡ c ++ u ∷ more → (rest : List Identifier) × (xs ≡ c ++ rest) × (u ∷ more ≡ rest ++ e ∷ [])

@@ -13,7 +13,7 @@ use Rattle.origin_model.specs.operations.Verdict.{Lawful}
 use Rattle.origin_model.specs.order.Laws.{IsIn}
 use Rattle.origin_model.specs.edits.Passages.{Relation}
 use Rattle.origin_model.specs.order.Order.{left_at, lefts, next_left, next_right, older_of, right_at, rights}
-use Rattle.origin_model.proofs.SharedLemmas.{IsHeld, IsIn-held, Within, beside_is, chain_above, further, lefts-above, lefts-in, lefts-prefix, lefts-within, never_none, right_at_in, right_by, rights-in, rights-prefix, rights-within, same_chain}
+use Rattle.origin_model.proofs.SharedLemmas.{beside_is, chain_above, further, IsHeld, IsIn-held, IsIn-within, lefts-above, lefts-in, lefts-prefix, lefts-within, never_none, right_at_in, right_by, rights-in, rights-prefix, rights-within, same_chain, Within}
 use Rattle.only_order.proofs.HeldLemmas.{right_sibling, left_held, alone_from, rights_above, sibling_held}
 use Rattle.only_order.specs.TextOrder.{IsLater}
 use Rattle.only_order.specs.Chains.{IsOrderByChains}
@@ -38,10 +38,6 @@ above_once next h None (Some y) a b e = absurd (never_none next h y (b y refl) (
 above_once next h (Some x) None a b e = absurd (never_none next h x (a x refl) e)
 above_once next h (Some x) (Some y) a b e = ap Some (same_chain next h x y (a x refl) (b y refl) e)
 
--- an element of the older history is one of the whole
-pub in_whole : (p : Place) (g h : List Op) (x : Identifier) → Within g h → IsIn p g x → IsIn p h x
-in_whole p g h x f m = record { op = m.op; held = f x m.op m.held; place = m.place }
-
 module _ (p : Place) (h : List Op) (w : Lawful h) where
   -- elements behind one front of their chains of left origins have one left origin
   same_left : (a b : Identifier) (front : List Identifier) → IsIn p h a → IsIn p h b → lefts h a ≡ front ++ a ∷ [] → lefts h b ≡ front ++ b ∷ [] → left_at h a ≡ left_at h b
@@ -65,7 +61,7 @@ module _ (p : Place) (h : List Op) (w : Lawful h) where
   module _ (g : List Op) (v : Lawful g) (f : Within g h) where
     -- an element of it is one of the whole
     whole : (x : Identifier) → IsIn p g x → IsIn p h x
-    whole x m = in_whole p g h x f m
+    whole x m = IsIn-within p g h x f m
 
     held : (x : Identifier) → IsIn p g x → IsHeld h x
     held x m = IsIn-held p h x (whole x m)

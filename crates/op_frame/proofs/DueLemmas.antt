@@ -7,7 +7,7 @@ use Rattle.std.specs.Str.{IsUtf8, chars, encode_utf8_all}
 use Rattle.std.proofs.Math.Seq.{drop-append_seam, take-append_seam}
 use Rattle.std.proofs.lemmas.Bool.{or_from, or_parts}
 use Rattle.std.proofs.lemmas.Bool.Decides.{nat_tests}
-use Rattle.std.proofs.lemmas.List.{append-nil}
+use Rattle.std.proofs.lemmas.List.{append-nil, nil_from_length}
 use Rattle.std.proofs.lemmas.List.Folds.{list_any-append}
 use Rattle.std.proofs.lemmas.Str.{encodes-chars, IsCharBoundary-from_take, IsUtf8-append, IsUtf8-drop, IsUtf8-nil}
 use Rattle.fugue_ids.specs.Identifiers.{Identifier}
@@ -25,7 +25,7 @@ use Rattle.op_frame.specs.declared.due.Last.{Last}
 use Rattle.op_frame.specs.declared.due.Last.TheVariants.{Body, Code, Count, Length, Names, Nothing, Scalars, Text, Title}
 use Rattle.op_frame.specs.declared.grown.Grown.TheVariants.{Frame as IsWhole, Front as IsFrontGrown}
 use Rattle.op_frame.proofs.CodeLemmas.{identifier_code, length_once, scalar_below, scalar_code}
-use Rattle.op_frame.proofs.FieldLemmas.{AreBytes, IdentifierFront, IdentifierWith, bytes_of_code, count_front, none_long}
+use Rattle.op_frame.proofs.FieldLemmas.{AreBytes, IdentifierFront, IdentifierWith, bytes_of_code, count_front}
 use Rattle.op_frame.proofs.FormatLemmas.{field_done, identifier, scalar, several_of, values_of}
 use Rattle.op_frame.proofs.ItemLemmas.{has_frame, of_each_version, run_is}
 use Rattle.op_frame.proofs.NoteLemmas.{blanks, blanks_end, empty_body, no_code, no_names}
@@ -281,7 +281,7 @@ run_done counter bytes p at early = record {
 pub numbers_there : (b r : List ℕ) (n m : ℕ) → 0 < n → n < 2 ^ 32 → m < 2 ^ 32 → length b ≡ 8 → b ≡ to_be_bytes w32 n ++ drop 4 b → r ≡ drop 4 b → r ≡ to_be_bytes w32 m ++ drop 4 r
     → (p : IdentifierWith b []) × (p.id.counter ≡ m)
 numbers_there b r n m some n_fits m_fits long first is second =
-    let none : drop 4 r ≡ [] = none_long (drop 4 r) (omega (arith, length-drop 4 r, ap length is, length-drop 4 b, long)) in (
+    let none : drop 4 r ≡ [] = nil_from_length (drop 4 r) (omega (arith, length-drop 4 r, ap length is, length-drop 4 b, long)) in (
       record {
         id = record { replica = n; counter = m };
         is_identifier = record { some_replica = some; replica_fits = n_fits; counter_fits = m_fits };
@@ -330,7 +330,7 @@ text_before len bytes more utf8 one_line short e = (
 
 -- where no text is due nothing is
 text_is : (len : ℕ) (more : List ℕ) → IsTitleEnd len more ↔ Completes (text_due len) more
-text_is zero more = (λ e. none_long more e.2, λ none. subst (IsTitleEnd 0) (sym none) (IsUtf8-nil, refl, refl))
+text_is zero more = (λ e. nil_from_length more e.2, λ none. subst (IsTitleEnd 0) (sym none) (IsUtf8-nil, refl, refl))
 text_is (suc len) more = (λ e. e, λ e. e)
 
 sound_text : (len : ℕ) → len ≤ LONGEST_TITLE → IsSoundDue (text_due len)

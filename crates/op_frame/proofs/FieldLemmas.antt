@@ -7,11 +7,6 @@ use Rattle.fugue_ids.specs.Identifiers.{Identifier}
 use Rattle.origin_model.specs.frames.Frames.{IsIdentifier, id_bytes, scalar_bytes}
 use Rattle.op_frame.specs.FrameFronts.{scalar_of_bytes}
 
--- nothing has no bytes
-pub none_long : (bytes : List ℕ) → length bytes ≡ 0 → bytes ≡ []
-none_long [] e = refl
-none_long (x ∷ bytes) e = absurd (omega (arith, e))
-
 abbrev pub AreBytes : List ℕ → Type 0
 AreBytes b = (i : ℕ) → get_or b i 0 < 256
 

@@ -4,7 +4,7 @@ use Rattle.std.specs.Prelude.{◌↔◌, Option, Some, None, flat_map}
 use Rattle.std.specs.Int.{to_be_bytes, w16}
 use Rattle.std.specs.Str.{encode_utf8_all}
 use Rattle.std.proofs.Math.Seq.{take-add}
-use Rattle.std.proofs.lemmas.List.{append-nil, append_cancel_left, take-set-le, take_more_set}
+use Rattle.std.proofs.lemmas.List.{append-nil, append_cancel_left, nil_from_length, take-set-le, take_more_set}
 use Rattle.fugue_ids.specs.Identifiers.{Identifier}
 use Rattle.fugue_ids.specs.declared.op.Op.{Op}
 use Rattle.fugue_ids.specs.declared.op.Op.TheVariants.{Delete, Note, Section, Text as TextOp}
@@ -19,7 +19,7 @@ use Rattle.op_frame.specs.declared.encoding.TheConstants.{LONGEST_FRAME}
 use Rattle.op_frame.specs.declared.grown.Grown.{Grown}
 use Rattle.op_frame.specs.declared.grown.Grown.TheVariants.{Bad as IsNeither, Front as IsFrontGrown}
 use Rattle.op_frame.proofs.DueLemmas.{sample}
-use Rattle.op_frame.proofs.FieldLemmas.{length-identifiers, none_long}
+use Rattle.op_frame.proofs.FieldLemmas.{length-identifiers}
 use Rattle.op_frame.proofs.FormatLemmas.{two_fronts}
 use Rattle.op_frame.proofs.FrameLemmas.{bad_goes_on}
 use Rattle.op_frame.proofs.ItemLemmas.{has_frame, has_run_frame}
@@ -81,7 +81,7 @@ none_begins g due before field behind a e short never = bad_goes_on g (before ++
     elsewhere framed between rest b is =
         let completes : Completes due between = (a.rest between).0 (framed.ops, subst (λ l. IsFrame g (record { bytes = l; ops = framed.ops })) is b.is_frame) in
         let split : field ≡ between ++ rest = append_cancel_left before field (between ++ rest) (b.split ∙ ap (λ l. l ++ rest) is ∙ append_assoc before between rest) in
-        let none : rest ≡ [] = none_long rest (omega (arith, long_enough due between a.sound e completes, short, ap length split, length-append between rest)) in
+        let none : rest ≡ [] = nil_from_length rest (omega (arith, long_enough due between a.sound e completes, short, ap length split, length-append between rest)) in
         never [] (subst (Completes due) (sym (append-nil field ∙ split ∙ ap (λ l. between ++ l) none ∙ append-nil between)) completes)
 
 -- no frame is longer than a run with both origins and 1,024 scalars

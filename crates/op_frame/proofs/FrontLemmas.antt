@@ -15,7 +15,8 @@ use Rattle.origin_model.specs.frames.Frames.{AreNames, Begins, Framed, HasFrame,
 use Rattle.op_frame.proofs.CodeLemmas.{scalar_below}
 use Rattle.op_frame.proofs.OperationLemmas.{section_fields, text_fields, note_fields, section_of, text_of, note_of}
 use Rattle.op_frame.proofs.ItemLemmas.{fields_of, fields_valid, item_framed, item_is_framed, run_fields, run_of}
-use Rattle.op_frame.proofs.SearchLemmas.{Decided, decided_by, both_decided, is_true_decided, is_false_decided, equal_decided, less_decided, Found, IsSearched, below, narrowed, mapped, paired, listed}
+use Rattle.op_frame.proofs.SearchLemmas.{Found, IsSearched, below, narrowed, mapped, paired, listed}
+use Rattle.fugue_ids.proofs.DecideLemmas.{both_decided, Decided, decided_by, equal_decided, is_false_decided, is_true_decided, less_decided, title_decided}
 
 identifiers : IsSearched IsIdentifier
 identifiers =
@@ -39,14 +40,9 @@ scalars : IsSearched IsScalar
 scalars =
     mapped _ (narrowed _ (below 1114112) IsScalar (λ c. is_true_decided _)) (λ c. c) (λ c. c) IsScalar (λ c is. is.1) (λ c is. ((scalar_below c is, is), refl))
 
-text_decided : (bytes : List ℕ) → Decided (IsTitleText bytes)
-text_decided bytes =
-    decided_by (both_decided (less_decided 0 (length bytes)) (both_decided (less_decided (length bytes) 481) (is_false_decided (has_line_end bytes))))
-    (λ p. record { some = p.0; short = omega (arith, p.1.0); one_line = p.1.1 }) (λ p. (p.some, (omega (arith, p.short), p.one_line)))
-
 titles : IsSearched IsTitle
 titles =
-    mapped _ (narrowed _ (listed _ scalars 480) (λ t. IsTitleText (encode_utf8_all t)) (λ t. text_decided (encode_utf8_all t))) (λ t. t) (λ t. t) IsTitle
+    mapped _ (narrowed _ (listed _ scalars 480) (λ t. IsTitleText (encode_utf8_all t)) (λ t. title_decided (encode_utf8_all t))) (λ t. t) (λ t. t) IsTitle
     (λ t is. record { scalars = All-from_recursion IsScalar t is.0.1; text = is.1 }) (λ t is. (((omega (arith, length-le-encodes t, is.text.short), recursion_from_All IsScalar t is.scalars), is.text), refl))
 
 sections : IsSearched section_fields.valid

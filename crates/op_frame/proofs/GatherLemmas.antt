@@ -29,7 +29,8 @@ use Rattle.op_frame.proofs.HeadLemmas.{scalars_are, text_there}
 use Rattle.op_frame.proofs.ItemLemmas.{of_each_version}
 use Rattle.op_frame.proofs.ReaderLemmas.{advances_by, reading_at}
 use Rattle.op_frame.proofs.StreamLemmas.{gave_more, rises}
-use Rattle.op_frame.proofs.ToldLemmas.{prepend_twice, shows}
+use Rattle.op_frame.proofs.ToldLemmas.{shows}
+use Rattle.fugue_ids.proofs.JoinLemmas.{prepend_twice}
 
 -- a reader without a fault that holds these operations back
 abbrev pub standing : Grammar → (limit : ℕ) → List Op → List ℕ → (offset last : ℕ) → FrameReading

@@ -9,8 +9,8 @@ pub mod SearchLemmas
 pub mod ItemLemmas
 pub mod FrontLemmas
 pub mod ReadingLemmas
-pub mod StretchLemmas
-pub mod EncodingLemmas
+pub mod RunFrameLemmas
+pub mod OpenRunLemmas
 pub mod ToldLemmas
 pub mod WindowLemmas
 pub mod StepLemmas

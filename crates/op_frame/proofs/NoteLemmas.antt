@@ -9,8 +9,9 @@ use Rattle.op_frame.specs.FrameFronts.{AreNamesBytes, Completes, IsBodyBytes, Is
 use Rattle.op_frame.specs.declared.due.Due.TheVariants.{Fields}
 use Rattle.op_frame.specs.declared.due.Last.TheVariants.{Body, Code, Length, Names}
 use Rattle.op_frame.proofs.CodeLemmas.{byte_code, length_once}
-use Rattle.op_frame.proofs.FieldLemmas.{AreBytes, bytes_of_count, none_long}
+use Rattle.op_frame.proofs.FieldLemmas.{AreBytes, bytes_of_count}
 use Rattle.op_frame.proofs.FormatLemmas.{byte, field_done, identifier, several_of, values_of}
+use Rattle.std.proofs.lemmas.List.{nil_from_length}
 
 -- n bytes 0
 abbrev pub blanks : ℕ → List ℕ
@@ -67,7 +68,7 @@ code_done code is = record { rest = field_done byte byte_code IsBodyBytes (code 
 
 -- where no body is due nothing is
 body_is : (len : ℕ) (more : List ℕ) → IsBodyEnd len more ↔ Completes (body_due len) more
-body_is zero more = (λ e. none_long more e.1, λ none. subst (IsBodyEnd 0) (sym none) (All-nil IsByte, refl))
+body_is zero more = (λ e. nil_from_length more e.1, λ none. subst (IsBodyEnd 0) (sym none) (All-nil IsByte, refl))
 body_is (suc len) more = (λ e. e, λ e. e)
 
 body_sound : (len : ℕ) → len ≤ LONGEST_BODY → IsSoundDue (body_due len)

@@ -20,7 +20,8 @@ use Rattle.op_frame.proofs.AnswerLemmas.{answers_by}
 use Rattle.op_frame.proofs.DecodingLemmas.{same_meaning}
 use Rattle.op_frame.proofs.FrameFrontLemmas.{frame_short}
 use Rattle.op_frame.proofs.FrameLemmas.{bad_goes_on}
-use Rattle.op_frame.proofs.ToldLemmas.{prepend_twice, shows, some_is, take_past}
+use Rattle.op_frame.proofs.ToldLemmas.{shows, some_is, take_past}
+use Rattle.fugue_ids.proofs.JoinLemmas.{prepend_twice}
 
 -- where the reader stands within a call: nothing that was to be given is lost
 pub record Stands (old unread : List ℕ) (before now : SourceView) (room : ℕ) : Type 0 where

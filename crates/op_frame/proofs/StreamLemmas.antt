@@ -15,7 +15,8 @@ use Rattle.op_frame.specs.declared.fault.FrameFault.{FrameFault}
 use Rattle.op_frame.specs.Readers.{FrameReading, to_give, ReadingAnswerIs, AreFirst, Chains, EndsBy, Follows, Gave, GaveFirst, GivesOperation, GivesInOrder, HasTodo, IsByReading, IsReadByBytes, Nexts, Rises, answer_at, given_with, held, raised, read}
 use Rattle.op_frame.proofs.FrameLemmas.{bad_goes_on}
 use Rattle.op_frame.proofs.ReadingLemmas.{bytes_of, ops_of, partial_end, reads_once, reads_some, starts_first}
-use Rattle.op_frame.proofs.ToldLemmas.{prepend_none, prepend_twice, shows, some_is, take_past}
+use Rattle.op_frame.proofs.ToldLemmas.{prepend_none, shows, some_is, take_past}
+use Rattle.fugue_ids.proofs.JoinLemmas.{prepend_twice}
 
 -- nothing was given yet
 pub gave_none : (reader : FrameReading) (left : Option (List ℕ)) → reader.todo ≡ [] → reader.unread ≡ [] → reader.offset ≡ 0 → Gave left [] reader left

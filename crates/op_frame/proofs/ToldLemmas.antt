@@ -8,10 +8,6 @@ pub prepend_none : (left : Option (List ℕ)) → prepend_known [] left ≡ left
 prepend_none None = refl
 prepend_none (Some l) = refl
 
-pub prepend_twice : (a b : List ℕ) (left : Option (List ℕ)) → prepend_known a (prepend_known b left) ≡ prepend_known (a ++ b) left
-prepend_twice a b None = refl
-prepend_twice a b (Some l) = ap Some (sym (append_assoc a b l))
-
 -- what holds of the first bytes with anything behind them holds of what is told
 pub shows : (P : List ℕ → Type 0) (front : List ℕ) (left told : Option (List ℕ)) → told ≡ prepend_known front left → ((rest : List ℕ) → left ≡ Some rest → P (front ++ rest)) → IfSome told P
 shows P front None told is holds = subst (λ t. IfSome t P) (sym is) tt

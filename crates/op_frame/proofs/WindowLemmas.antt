@@ -6,8 +6,8 @@ use Rattle.std.proofs.lemmas.List.{drop-take, drop-append-le, take-append-le, le
 use Rattle.std.proofs.Math.Seq.{take-append-add}
 use Rattle.outer_ports.specs.Sources.{SourceView}
 use Rattle.op_frame.specs.Windows.{Filled, Placed}
-use Rattle.op_frame.proofs.ToldLemmas.{prepend_twice}
 use Rattle.outer_ports.proofs.CountLemmas.{count_so}
+use Rattle.fugue_ids.proofs.JoinLemmas.{prepend_twice}
 
 part_is : (s e : ℕ) (b : List ℕ) → s ≤ e → drop s (take e b) ≡ take (e - s) (drop s b)
 part_is s e b le = let is : e ≡ s + (e - s) = omega (arith, le) in ap (λ (k : ℕ). drop s (take k b)) is ∙ drop-take s (e - s) b

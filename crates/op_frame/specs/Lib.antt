@@ -1,6 +1,6 @@
 pub mod Firsts
 pub mod Encoded
-pub mod Stretches
+pub mod OpenRuns
 pub mod Laws
 pub mod Windows
 pub mod Refills

@@ -1,16 +1,19 @@
-ghost use Rattle.std.specs.Prelude.{◌≡◌, ◌≤◌, ◌+◌, ◌*◌, ◌++◌, All, length, map, flat_map};
+ghost use Rattle.std.specs.Prelude.{◌≡◌, ◌<◌, ◌≤◌, ◌+◌, ◌*◌, ◌^◌, ◌++◌, All, length, flat_map};
 ghost use Rattle.std.specs.Prelude.{vec_len, vec_capacity, OnOk, OnErr};
-ghost use Rattle.origin_model.specs.frames.Frames.{HasFrame, frame, scalar_bytes};
+ghost use Rattle.std.specs.Char.{IsScalar};
+ghost use Rattle.origin_model.specs.frames.Frames.{HasFrame, frame, run_frame, scalar_bytes};
 ghost use Rattle.origin_model.specs.frames.Frames.{body_bytes, id_bytes, names_bytes, origin_bytes, title_bytes};
+ghost use Rattle.origin_model.specs.frames.Framings.{frames};
+ghost use Rattle.fugue_ids.specs.Runs.{run_from};
 ghost use Rattle.fugue_ids.specs.declared.op.Op.TheVariants.{Note as NoteOp, Section as SectionOp};
-ghost use Rattle.origin_model.specs.frames.Framings.{scalar_in};
 ghost use Rattle.op_frame.specs.Encoded.{Puts};
-ghost use Rattle.op_frame.specs.Stretches.{AreTyped, WritesRun};
+ghost use Rattle.op_frame.specs.OpenRuns.{run_of};
 
-use crate::framed::has_frame;
+use crate::framed::{has_frame, has_identifiers};
 use crate::protocol::{DELETE, NOTE, RUN, SECTION, TEXT};
 use fugue_ids::{
-    Body, ElementId, LONGEST_BODY, LONGEST_TITLE, MOST_NAMES, NoMemory, NoteNames, Op, Title,
+    Body, ElementId, LONGEST_BODY, LONGEST_TITLE, MOST_NAMES, NoMemory, NoteNames, Op, RunStart,
+    Title,
 };
 
 /// The most Texts of a run.
@@ -98,31 +101,42 @@ fn put_note(out: &mut Vec<u8>, id: ElementId, names: &NoteNames, code: u8, body:
     put_body(out, body);
 }
 
-/// Appends the frame of the run that has these operations.
-pub(crate) fn encode_run(ops: &[Op], out: &mut Vec<u8>) -> Result<(), NoMemory>
-    requires { AreTyped ops.now }
-    ensures have_frames { OnOk result (All HasFrame ops.now) }
-    ensures ok { OnOk result (WritesRun out.old.items out.new.items ops.now) }
+/// Appends the one frame of a run that is not empty.
+pub(crate) fn encode_texts(
+    start: &RunStart,
+    text: &[char],
+    out: &mut Vec<u8>,
+) -> Result<(), NoMemory>
+    requires some { 0 < length text.now }
+    requires short { length text.now ≤ LONGEST_RUN }
+    requires counters { start.now.id.counter + length text.now ≤ 2 ^ 32 }
+    ensures have_frames { OnOk result (All HasFrame (run_from start.now text.now)) }
+    ensures ok { OnOk result (out.new.items ≡ out.old.items ++ frames (run_from start.now text.now)) }
     ensures err { OnErr result (out.new.items ≡ out.old.items) }
 {
-    let Op::Text {
-        id,
-        section,
-        left,
-        right,
-        ..
-    } = &ops[0]
-    else {
-        unreachable!()
-    };
-    out.reserve(LONGEST_HEAD + 3 * ops.len())?;
+    if text.len() > 1 {
+        encode_run(start, text, out)
+    } else {
+        encode(&start.text(text[0]), out)
+    }
+}
+
+fn encode_run(start: &RunStart, text: &[char], out: &mut Vec<u8>) -> Result<(), NoMemory>
+    requires short { length text.now ≤ LONGEST_RUN }
+    requires counters { start.now.id.counter + length text.now ≤ 2 ^ 32 }
+    ensures have_frames { OnOk result (All HasFrame (run_from start.now text.now)) }
+    ensures ok { OnOk result (out.new.items ≡ out.old.items ++ run_frame (run_of start.now text.now)) }
+    ensures err { OnErr result (out.new.items ≡ out.old.items) }
+{
+    has_identifiers(start);
+    out.reserve(LONGEST_HEAD + 3 * text.len())?;
     put(out, &[RUN]);
-    put_id(out, *id);
-    put_id(out, *section);
-    put_origin(out, *left);
-    put_origin(out, *right);
-    put(out, &(ops.len() as u16).to_be_bytes());
-    put_scalars(out, ops);
+    put_id(out, start.id);
+    put_id(out, start.section);
+    put_origin(out, start.left);
+    put_origin(out, start.right);
+    put(out, &(text.len() as u16).to_be_bytes());
+    put_scalars(out, text);
     Ok(())
 }
 
@@ -196,27 +210,18 @@ fn put_body(out: &mut Vec<u8>, body: &Body)
 
 fn put_scalar(out: &mut Vec<u8>, ch: char)
     requires { vec_len out.old + 3 ≤ vec_capacity out.old }
-    ensures { Puts out.old out.new (scalar_bytes ch) }
+    ensures puts { Puts out.old out.new (scalar_bytes ch) }
+    ensures scalar { IsScalar ch }
 {
     put(out, &(ch as u32).to_be_bytes()[1..]);
 }
 
-fn put_scalars(out: &mut Vec<u8>, ops: &[Op])
-    requires { vec_len out.old + 3 * length ops.now ≤ vec_capacity out.old }
-    ensures puts { Puts out.old out.new (flat_map scalar_bytes (map scalar_in ops.now)) }
-    ensures have_frames { All HasFrame ops.now }
+fn put_scalars(out: &mut Vec<u8>, text: &[char])
+    requires { vec_len out.old + 3 * length text.now ≤ vec_capacity out.old }
+    ensures puts { Puts out.old out.new (flat_map scalar_bytes text.now) }
+    ensures scalars { All IsScalar text.now }
 {
-    for op in ops {
-        has_frame(op);
-        put_scalar(out, scalar(op));
-    }
-}
-
-fn scalar(op: &Op) -> char
-    ensures { result ≡ scalar_in op.now }
-{
-    match op {
-        Op::Text { ch, .. } => *ch,
-        _ => '\0',
+    for ch in text {
+        put_scalar(out, *ch);
     }
 }

@@ -53,11 +53,21 @@ pub(crate) fn has_frame(op: &Op)
 pub(crate) fn has_text_frame(next: &RunStart, ch: char)
     ensures { HasFrame (text_by next.now ch) }
 {
-    identifier(next.id);
-    identifier(next.section);
-    origin(next.left);
-    origin(next.right);
+    has_identifiers(next);
     scalar(ch);
+}
+
+/// What the first Text of a run says can stand in a frame: nothing is done.
+pub(crate) fn has_identifiers(start: &RunStart)
+    ensures id { IsIdentifier start.now.id }
+    ensures section { IsIdentifier start.now.section }
+    ensures left { IsOrigin start.now.left }
+    ensures right { IsOrigin start.now.right }
+{
+    identifier(start.id);
+    identifier(start.section);
+    origin(start.left);
+    origin(start.right);
 }
 
 fn identifier(_id: ElementId)

@@ -1,7 +1,9 @@
 -- Deletes of neighbours.
-use Rattle.std.proofs.Common.{◌≡◌, ℕ, zero, suc, ◌+◌, ◌-◌, ◌<◌, ◌^◌, ◌⊎◌, Bool, true, false, [], ◌∷◌, ◌++◌, length, refl, ap, sym, ◌∙◌, arith, inl, inr}
+use Rattle.std.proofs.Common.{◌≡◌, ℕ, zero, suc, ◌+◌, ◌-◌, ◌<◌, ◌≤◌, ◌^◌, ◌⊎◌, Bool, true, false, List, [], append_assoc, length-append, take, ◌∷◌, ◌++◌, length, refl, ap, sym, ◌∙◌, arith, inl, inr}
+use Rattle.std.proofs.Math.Seq.{take-append_seam}
 use Rattle.fugue_ids.specs.Identifiers.{Identifier}
 use Rattle.fugue_ids.specs.Runs.{id_behind, next_id}
+use Rattle.fugue_ids.specs.declared.op.Op.{Op}
 use Rattle.fugue_ids.specs.declared.op.Op.TheVariants.{Delete}
 use Rattle.fugue_ids.proofs.RunLemmas.{none_behind, one_behind}
 use Rattle.op_runs.specs.Deletions.{deletes_by, deletes_down, deletes_up, id_before, target_by}
@@ -52,23 +54,50 @@ same_way : (d : Deletes) (down : Bool) → ((d.count ≡ 1) ⊎ (d.down ≡ down
 same_way d down (inl one) = single_deletes d.down down d.target d.count one
 same_way d down (inr same) = ap (λ b. deletes_by b d.target d.count) same
 
--- a Delete more
-pub longer_is : (d : Deletes) (target : Identifier) (down : Bool) → target.counter < 2 ^ 32 → GoesOnBy d target down → IsLonger d target (record { target = d.target; count = d.count + 1; down = down })
-longer_is d target true fits (way, is) =
+-- how many come in a direction: forwards all of so many, backwards one
+abbrev pub longer_by : Bool → ℕ → ℕ
+longer_by true most = 1
+longer_by false most = most
+
+-- Deletes more
+pub longer_is : (d : Deletes) (target : Identifier) (most : ℕ) (down : Bool) → 0 < most → target.counter + most ≤ 2 ^ 32 → GoesOnBy d target down
+    → IsLonger d target most (record { target = d.target; count = d.count + longer_by down most; down = down })
+longer_is d target most true some fits (way, is) =
     let counter : d.target.counter ≡ target.counter + d.count = ap (λ (i : Identifier). i.counter) is in
     let e : d.target.counter - d.count ≡ target.counter = omega (arith, counter) in
     let there : id_before d.target d.count ≡ target = λ i. record { replica = (ap (λ (z : Identifier). z.replica) is) i; counter = e i } in
+    let one : 1 ≡ d.count + 1 - d.count = omega arith in
     record {
       target_is = refl;
-      count_is = refl;
+      some = omega arith;
+      within = omega (arith, some);
       counters = omega (arith, counter);
-      ops = deletes-append true d.target d.count 1 ∙ (λ i. sym (same_way d true way) i ++ Delete (there i) ∷ []);
+      ops = deletes-append true d.target d.count 1 ∙ (λ i. sym (same_way d true way) i ++ Delete (there i) ∷ [])
+          ∙ ap (λ n. deletes_by d.down d.target d.count ++ deletes_by false target n) one;
     }
-longer_is d target false fits (way, is) =
+longer_is d target most false some fits (way, is) =
     let counter : target.counter ≡ d.target.counter + d.count = ap (λ (i : Identifier). i.counter) is in
+    let all : most ≡ d.count + most - d.count = omega arith in
     record {
       target_is = refl;
-      count_is = refl;
+      some = omega (arith, some);
+      within = omega arith;
       counters = omega (arith, counter, fits);
-      ops = deletes-append false d.target d.count 1 ∙ (λ i. sym (same_way d false way) i ++ Delete (sym is i) ∷ []);
+      ops = deletes-append false d.target d.count most ∙ (λ i. sym (same_way d false way) i ++ deletes_up (sym is i) most)
+          ∙ ap (λ n. deletes_by d.down d.target d.count ++ deletes_by false target n) all;
     }
+
+-- Deletes that came behind others, and those that came behind them
+pub deletes_behind : (old : List Op) (target : Identifier) (n m : ℕ) → (old ++ deletes_by false target n) ++ deletes_by false (id_behind target n) m ≡ old ++ deletes_by false target (n + m)
+deletes_behind old target n m = append_assoc old (deletes_up target n) (deletes_up (id_behind target n) m) ∙ ap (λ z. old ++ z) (sym (up-append target n m))
+
+-- so many are taken back
+pub deletes_back : (old : List Op) (target : Identifier) (n : ℕ) → take (length (old ++ deletes_by false target n) - n) (old ++ deletes_by false target n) ≡ old
+deletes_back old target n =
+    let len : length (old ++ deletes_up target n) - n ≡ length old = omega (arith, length-append old (deletes_up target n), length-deletes false target n) in
+    ap (λ k. take k (old ++ deletes_up target n)) len ∙ take-append_seam old (deletes_up target n)
+
+-- one Delete more
+pub deletes_more : (down : Bool) (target : Identifier) (n : ℕ) → deletes_by down target (n + 1) ≡ deletes_by down target n ++ Delete (target_by down target n) ∷ []
+deletes_more true target n = deletes-append true target n 1
+deletes_more false target n = deletes-append false target n 1

@@ -21,8 +21,9 @@ use Rattle.op_runs.specs.declared.part.Part.TheVariants.{Deleted, Other, Typed}
 use Rattle.op_runs.specs.declared.part.TypedPart.{TypedPart}
 use Rattle.op_runs.proofs.DeletionLemmas.{length-deletes, none_before}
 use Rattle.op_runs.proofs.FindLemmas.{delete_at, letter_at, typed_at}
-use Rattle.op_runs.proofs.PartLemmas.{has_some, part_has, slice_get-append, sound_of}
+use Rattle.op_runs.proofs.PartLemmas.{has_some, part_has, sound_of}
 use Rattle.op_runs.proofs.RepeatLemmas.{part_never}
+use Rattle.fugue_ids.proofs.ListLemmas.{slice_get-append}
 
 other_entry : Option Op → Entry
 other_entry None = Neighbours false (record { replica = 0; counter = 0 }) 0
@@ -84,7 +85,7 @@ slice_get-seam : (xs : List Op) (x : Op) → slice_get (xs ++ x ∷ []) (length 
 slice_get-seam [] x = refl
 slice_get-seam (y ∷ ys) x = slice_get-seam ys x
 
-start_same : (s : RunStart) → start_behind s 0 ≡ s
+pub start_same : (s : RunStart) → start_behind s 0 ≡ s
 start_same s = λ i. record { id = none_behind s.id i; section = s.section; left = s.left; right = s.right }
 
 target_same : (down : Bool) (t : Identifier) → target_by down t 0 ≡ t

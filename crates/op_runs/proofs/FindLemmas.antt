@@ -1,24 +1,27 @@
 -- The operation at a position: the part that has it, and which of its operations it is.
 use Rattle.std.proofs.Common.{◌≡◌, ℕ, zero, suc, ◌+◌, ◌-◌, ◌<◌, ◌≤◌, Bool, true, false, List, [], ◌∷◌, ◌++◌, length, take, drop, get_or, refl, ap, sym, subst, ◌∙◌, arith, length-append, length-drop, inl, inr}
-use Rattle.std.specs.Prelude.{Option, Some, All, slice_get, option_map}
+use Rattle.std.specs.Prelude.{None, Option, Some, All, slice_get, option_map}
 use Rattle.std.proofs.lemmas.Bool.{cases_lt}
 use Rattle.std.proofs.lemmas.Grind.{flat_map-append}
 use Rattle.std.proofs.lemmas.List.{get_or-drop, get_or-take, length-take-le}
 use Rattle.std.proofs.lemmas.Option.{slice_get-get_or}
 use Rattle.std.proofs.lemmas.List.Elements.{All-cons, All-head, All-nil, All-tail}
 use Rattle.fugue_ids.specs.Identifiers.{Identifier}
-use Rattle.fugue_ids.specs.Runs.{id_behind, in_a_row, left_behind, next_id, run_from, start_behind, text_by}
+use Rattle.fugue_ids.specs.Ops.{target_of}
+use Rattle.fugue_ids.specs.Runs.{id_behind, in_a_row, left_behind, next_id, run_from, start_behind, text_by, text_in}
 use Rattle.fugue_ids.specs.declared.op.Op.{Op}
 use Rattle.fugue_ids.specs.declared.op.Op.TheVariants.{Delete, Text}
-use Rattle.fugue_ids.proofs.ListLemmas.{all_before, all_behind}
+use Rattle.fugue_ids.proofs.ListLemmas.{all_before, all_behind, slice_get-append, slice_get-behind}
 use Rattle.fugue_ids.proofs.RunLemmas.{left_one, none_behind, one_behind}
 use Rattle.op_runs.specs.Deletions.{deletes_by, id_before, target_by}
 use Rattle.op_runs.specs.Finding.{IsFloor, IsSpot, all_len}
-use Rattle.op_runs.specs.Parts.{IsSound, firsts_of, ops_of, other_ops, part_len, part_ops}
+use Rattle.op_runs.specs.Growing.{IsLast}
+use Rattle.op_runs.specs.Parts.{IsOther, IsSound, firsts_of, ops_of, other_ops, part_len, part_ops}
 use Rattle.op_runs.specs.declared.part.Part.{Part}
+use Rattle.op_runs.specs.declared.part.Part.TheVariants.{Deleted, Other, Typed}
 use Rattle.op_runs.specs.declared.part.TypedPart.{TypedPart}
 use Rattle.op_runs.proofs.DeletionLemmas.{none_before, one_before}
-use Rattle.op_runs.proofs.PartLemmas.{has_some, part_has, slice_get-append}
+use Rattle.op_runs.proofs.PartLemmas.{has_some, one_more, part_has}
 
 -- Where parts begin
 
@@ -93,10 +96,6 @@ ops_len letters others (p ∷ ps) s =
     let r = ops_len letters others ps (All-tail P p ps s) in
     omega (arith, length-append (part_ops letters others p) (ops_of letters others ps), part_has letters others p (All-head P p ps s), r)
 
-slice_get-behind : {X : Type 0} (xs ys : List X) (k : ℕ) → slice_get (xs ++ ys) (length xs + k) ≡ slice_get ys k
-slice_get-behind [] ys k = let e : 0 + k ≡ k = omega arith in ap (slice_get ys) e
-slice_get-behind (x ∷ xs) ys k = let e : suc (length xs) + k ≡ suc (length xs + k) = omega arith in ap (slice_get (x ∷ xs ++ ys)) e ∙ slice_get-behind xs ys k
-
 -- the operations before a spot, and those from its part on
 pub spot_parts : (letters : List ℕ) (others : List Op) (ps : List Part) (position k offset : ℕ) (s : IsSpot ps position k offset)
     → ops_of letters others ps ≡ ops_of letters others s.before ++ (part_ops letters others s.part ++ ops_of letters others s.after)
@@ -160,3 +159,47 @@ other_at others k j op h g e =
     let first : j ≡ 0 = omega (arith, g) in
     let there : slice_get others k ≡ Some op = slice_get-get_or others k op h ∙ ap Some (sym e) in
     (λ i. slice_get (other_ops (sym there i)) (sym first i))
+
+-- the last operation is that of the last part
+pub last_read : (letters : List ℕ) (others : List Op) (ps : List Part) (last : Part) → IsLast ps last → All (IsSound (length letters) (length others)) ps
+    → slice_get (ops_of letters others ps) (length (ops_of letters others ps) - 1) ≡ slice_get (part_ops letters others last) (part_len last - 1)
+last_read letters others ps last is sound =
+    let P = IsSound (length letters) (length others) in
+    let at : P last = All-head P last [] (all_behind P is.front (last ∷ []) (subst (All P) is.whole sound)) in
+    let front : List Op = ops_of letters others is.front in
+    let here : List Op = part_ops letters others last in
+    let long : length here ≡ part_len last = part_has letters others last at in
+    let some : 0 < part_len last = has_some (length letters) (length others) last at in
+    let whole : ops_of letters others ps ≡ front ++ here = ap (ops_of letters others) is.whole ∙ one_more letters others is.front last in
+    let n : length (front ++ here) - 1 ≡ length front + (part_len last - 1) = omega (arith, long, some, length-append front here) in
+    (λ i. slice_get (whole i) (length (whole i) - 1)) ∙ ap (slice_get (front ++ here)) n ∙ slice_get-behind front here (part_len last - 1)
+
+-- a run has Texts alone, and Deletes are Deletes
+no_other_typed : (id s : Identifier) (l r : Option Identifier) (text : List ℕ) (j : ℕ) (op : Op) → Some op ≡ slice_get (in_a_row id s l r text) j → text_in op ≡ None → ⊥
+no_other_typed id s l r [] j op e none = cc
+no_other_typed id s l r (c ∷ text) zero op e none = let same : op ≡ Text id s l r c = cc in absurd (some_none (sym (ap text_in same) ∙ none))
+  where
+    some_none : text_in (Text id s l r c) ≡ None → ⊥
+    some_none d = cc
+no_other_typed id s l r (c ∷ text) (suc j) op e none = no_other_typed (next_id id) s (Some id) r text j op e none
+
+no_other_deleted : (down : Bool) (t : Identifier) (n j : ℕ) (op : Op) → j < n → Some op ≡ slice_get (deletes_by down t n) j → target_of op ≡ None → ⊥
+no_other_deleted down t n j op h e none =
+    let both : Some op ≡ Some (Delete (target_by down t j)) = e ∙ sym (delete_at down t n j h) in
+    let same : op ≡ Delete (target_by down t j) = cc in
+    some_none (target_by down t j) (sym (ap target_of same) ∙ none)
+  where
+    some_none : (x : Identifier) → target_of (Delete x) ≡ None → ⊥
+    some_none x d = cc
+
+-- where the last operation is neither a Text nor a Delete, the last part has it
+pub last_other : (letters : List ℕ) (others : List Op) (ps : List Part) (last : Part) (op : Op) → IsLast ps last → All (IsSound (length letters) (length others)) ps
+    → Some op ≡ slice_get (ops_of letters others ps) (length (ops_of letters others ps) - 1) → IsOther op → (k : ℕ) × (last ≡ Other k)
+last_other letters others ps last op is sound e other =
+    by_part last (has_some (length letters) (length others) last (All-head (IsSound (length letters) (length others)) last [] (all_behind (IsSound (length letters) (length others)) is.front (last ∷ []) (subst (All (IsSound (length letters) (length others))) is.whole sound))))
+    (e ∙ last_read letters others ps last is sound)
+  where
+    by_part : (p : Part) → 0 < part_len p → Some op ≡ slice_get (part_ops letters others p) (part_len p - 1) → (k : ℕ) × (p ≡ Other k)
+    by_part (Typed r) some e = absurd (no_other_typed r.start.id r.start.section r.start.left r.start.right (take r.count (drop r.at letters)) (r.count - 1) op e other.0)
+    by_part (Deleted d) some e = absurd (no_other_deleted d.down d.target d.count (d.count - 1) op (omega (arith, some)) e other.1)
+    by_part (Other k) some e = (k, refl)

@@ -8,7 +8,7 @@ use Rattle.std.proofs.Math.Seq.{set-append_seam}
 use Rattle.fugue_ids.specs.Runs.{run_from}
 use Rattle.fugue_ids.specs.declared.limits.TheConstants.{MOST_OPERATIONS}
 use Rattle.fugue_ids.specs.declared.op.Op.{Op}
-use Rattle.fugue_ids.proofs.ListLemmas.{all_before, all_behind}
+use Rattle.fugue_ids.proofs.ListLemmas.{all_before, all_behind, slice_get-append}
 use Rattle.fugue_ids.proofs.RunLemmas.{length-typed}
 use Rattle.op_runs.specs.Growing.{IsAdded, IsLast, IsReplaced}
 use Rattle.op_runs.specs.Parts.{AreApart, AreLaid, AreParts, GoesOn, IsInside, IsOther, IsSound, IsWhole, StandsBehind, firsts_of, letters_in, ops_of, other_ops, others_in, part_len, part_ops}
@@ -60,11 +60,6 @@ laid-last l o (q ∷ qs) p L O a =
     record { letters = r.letters; others = r.others; laid = (a.0, r.laid); behind = r.behind; letters_end = r.letters_end; others_end = r.others_end }
 
 -- Letters and others that come leave the parts as they are
-
-pub slice_get-append : {X : Type 0} (xs ys : List X) (k : ℕ) → k < length xs → slice_get (xs ++ ys) k ≡ slice_get xs k
-slice_get-append [] ys k h = absurd (omega (arith, h))
-slice_get-append (x ∷ xs) ys zero h = refl
-slice_get-append (x ∷ xs) ys (suc k) h = slice_get-append xs ys k (omega (arith, h))
 
 taken_stays : (letters more : List ℕ) (at count : ℕ) → at + count ≤ length letters → take count (drop at (letters ++ more)) ≡ take count (drop at letters)
 taken_stays letters more at count h =

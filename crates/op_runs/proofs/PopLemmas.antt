@@ -1,16 +1,17 @@
 -- What is left of a list of operations where some go at its end.
-use Rattle.std.proofs.Common.{◌≡◌, ℕ, ◌+◌, ◌-◌, ◌<◌, ◌≤◌, Bool, true, false, List, [], ◌∷◌, ◌++◌, length, take, drop, refl, ap, sym, subst, ◌∙◌, arith, inl, inr, append_assoc, length-append, length-drop}
-use Rattle.std.specs.Prelude.{All}
-use Rattle.std.proofs.lemmas.List.{drop-take, length-take-le, take-append-drop, take-take, take_all}
+use Rattle.std.proofs.Common.{◌≡◌, ℕ, ◌+◌, ◌-◌, ◌<◌, ◌≤◌, Bool, true, false, List, [], ◌∷◌, ◌++◌, length, take, drop, get_or, suc, refl, ap, sym, subst, ◌∙◌, arith, inl, inr, append_assoc, length-append, length-drop}
+use Rattle.std.specs.Prelude.{All, Option, Some, slice_get}
+use Rattle.std.proofs.lemmas.List.{drop_all, drop-take, length-take-le, take-append-drop, take-take, take_all}
 use Rattle.std.proofs.lemmas.List.Elements.{All-append, All-cons, All-head, All-nil, All-tail, All-take}
-use Rattle.std.proofs.Math.Seq.{take-append_seam}
+use Rattle.std.proofs.Math.Seq.{drop-cons, take-append_seam}
 use Rattle.fugue_ids.specs.Runs.{run_from, start_behind}
 use Rattle.fugue_ids.specs.declared.op.Op.{Op}
+use Rattle.fugue_ids.specs.declared.op.Op.TheVariants.{Delete}
 use Rattle.fugue_ids.proofs.ListLemmas.{all_before, all_behind}
 use Rattle.fugue_ids.proofs.RunLemmas.{length-typed, run_parted}
 use Rattle.op_runs.specs.Deletions.{CountersFit, deletes_by, target_by}
 use Rattle.op_runs.specs.Growing.{IsLast, TakesOff, letters_of, shortened}
-use Rattle.op_runs.specs.Parts.{AreLaid, AreParts, GoesOn, IsOther, IsSound, IsWhole, StandsBehind, firsts_of, letters_in, ops_of, others_in, part_len, part_ops}
+use Rattle.op_runs.specs.Parts.{AreLaid, AreParts, GoesOn, IsOther, IsSound, IsWhole, StandsBehind, firsts_of, letters_in, ops_of, other_ops, others_in, part_len, part_ops}
 use Rattle.op_runs.specs.declared.part.Deletes.{Deletes}
 use Rattle.op_runs.specs.declared.part.Part.{Part}
 use Rattle.op_runs.specs.declared.part.Part.TheVariants.{Deleted, Other, Typed}
@@ -281,3 +282,75 @@ module _ (l : List ℕ) (o : List Op) (ps : List Part) (fs : List ℕ) (n : ℕ)
   pub taken_most : (ps' : List Part) (fs' : List ℕ) (most count : ℕ) → TakesOff ps ps' fs fs' last most count → count ≤ most
   taken_most ps' fs' most count (inl t) = t.1
   taken_most ps' fs' most count (inr t) = omega (arith, t.0)
+
+-- The last operation goes, which is one of the others
+module _ (l : List ℕ) (o o' : List Op) (front : List Part) (k : ℕ) (fs : List ℕ) (n : ℕ) (op : Op) (a : AreParts l o (front ++ Other k ∷ []) fs n) (is : o ≡ o' ++ op ∷ []) where
+  shorter : take (length o - 1) o ≡ o'
+  shorter = (λ i. take (length (is i) - 1) (is i)) ∙ front_taken o' (op ∷ []) 1 refl
+
+  -- it is the last of the others
+  here : other_ops (slice_get o k) ≡ op ∷ []
+  here =
+      let at = laid-last 0 0 front (Other k) (length l) (length o) a.laid in
+      let behind : k ≡ at.others = at.behind in
+      let end : k ≡ length o' = omega (arith, behind, at.others_end, ap length is, length-append o' (op ∷ [])) in
+      (λ i. other_ops (slice_get (is i) (end i))) ∙ ap other_ops (seam o')
+    where
+      seam : (xs : List Op) → slice_get (xs ++ op ∷ []) (length xs) ≡ Some op
+      seam [] = refl
+      seam (x ∷ xs) = seam xs
+
+  whole_ops : ops_of l o (front ++ Other k ∷ []) ≡ ops_of l o front ++ op ∷ []
+  whole_ops = one_more l o front (Other k) ∙ ap (λ z. ops_of l o front ++ z) here
+
+  pub other_taken : (fs' : List ℕ) → fs' ≡ take (length fs - 1) fs → AreParts l o' front fs' (n - 1) × (ops_of l o (front ++ Other k ∷ []) ≡ ops_of l o' front ++ op ∷ [])
+  other_taken fs' e =
+      let r = subst (λ z. IsPopped z (take (length o - 1) o) front fs' n (ops_of l o (front ++ Other k ∷ [])) 1) (take_all (length l - 0) l (omega arith)) (dropped l o front (Other k) fs n a fs' e) in
+      let p : IsPopped l o' front fs' n (ops_of l o (front ++ Other k ∷ [])) 1 = subst (λ z. IsPopped l z front fs' n (ops_of l o (front ++ Other k ∷ [])) 1) shorter r in
+      let same : ops_of l o' front ≡ ops_of l o front =
+      p.ops ∙ (λ i. take (length (whole_ops i) - 1) (whole_ops i)) ∙ front_taken (ops_of l o front) (op ∷ []) 1 refl in
+      (p.are, whole_ops ∙ ap (λ z. z ++ op ∷ []) (sym same))
+
+-- what a list is with its last member apart
+seam_at_end : {X : Type 0} (xs : List X) (d : X) → 0 < length xs → xs ≡ take (length xs - 1) xs ++ get_or xs (length xs - 1) d ∷ []
+seam_at_end xs d some =
+    let n = length xs - 1 in
+    sym (take-append-drop n xs)
+    ∙ ap (λ z. take n xs ++ z) (drop-cons xs n d (omega (arith, some)) ∙ ap (λ z. get_or xs n d ∷ z) (drop_all (suc n) xs (omega (arith, some))))
+
+last_part_gone : (front : List Part) (p : Part) → take (length (front ++ p ∷ []) - 1) (front ++ p ∷ []) ≡ front
+last_part_gone front p =
+    let len : length (front ++ p ∷ []) - 1 ≡ length front = omega (arith, length-append front (p ∷ [])) in
+    ap (λ k. take k (front ++ p ∷ [])) len ∙ take-append_seam front (p ∷ [])
+
+-- the same of the lists that a call left
+pub record IsTakenOff (l : List ℕ) (o : List Op) (ps : List Part) (fs : List ℕ) (n : ℕ) (old : List Op) (found : Option Op) : Type 0 where
+  pub op : Op
+  pub is : found ≡ Some op
+  pub are : AreParts l o ps fs (n - 1)
+  pub ops : old ≡ ops_of l o ps ++ op ∷ []
+
+-- a part that has one of the others is that one
+pub is_other : (p : Part) → 0 < others_in p → (k : ℕ) × (p ≡ Other k)
+is_other (Typed r) h = absurd (omega (arith, h))
+is_other (Deleted d) h = absurd (omega (arith, h))
+is_other (Other k) h = (k, refl)
+
+pub other_gone : (l : List ℕ) (o o' : List Op) (ps ps' : List Part) (fs fs' : List ℕ) (n k : ℕ) (found : Option Op) → AreParts l o ps fs n → IsLast ps (Other k)
+    → ps' ≡ take (length ps - 1) ps → fs' ≡ take (length fs - 1) fs → o' ≡ take (length o - 1) o → ((d : Op) → 0 < length o → found ≡ Some (get_or o (length o - 1) d))
+    → IsTakenOff l o' ps' fs' n (ops_of l o ps) found
+other_gone l o o' ps ps' fs fs' n k found a is e f g h =
+    let b : AreParts l o (is.front ++ Other k ∷ []) fs n = subst (λ (z : List Part). AreParts l o z fs n) is.whole a in
+    let front : ps' ≡ is.front = e ∙ (λ i. take (length (is.whole i) - 1) (is.whole i)) ∙ last_part_gone is.front (Other k) in
+    let at = laid-last 0 0 is.front (Other k) (length l) (length o) b.laid in
+    let some : 0 < length o = omega (arith, at.others_end) in
+    let none : Op = Delete (record { replica = 0; counter = 0 }) in
+    let op : Op = get_or o (length o - 1) none in
+    let whole : o ≡ o' ++ op ∷ [] = seam_at_end o none some ∙ ap (λ z. z ++ op ∷ []) (sym g) in
+    let r = other_taken l o o' is.front k fs n op b whole fs' f in
+    record {
+      op = op;
+      is = h none some;
+      are = subst (λ (z : List Part). AreParts l o' z fs' (n - 1)) (sym front) r.0;
+      ops = ap (ops_of l o) is.whole ∙ r.1 ∙ ap (λ (z : List Part). ops_of l o' z ++ op ∷ []) (sym front);
+    }

@@ -1,6 +1,6 @@
 -- What comes of a list of operations where a run, a Delete or another operation comes behind it.
-use Rattle.std.proofs.Common.{◌≡◌, ℕ, ◌+◌, ◌<◌, ◌≤◌, ◌^◌, List, [], ◌∷◌, ◌++◌, length, take, drop, refl, ap, sym, subst, ◌∙◌, arith, inl, inr, append-nil, length-append, length-drop}
-use Rattle.std.specs.Prelude.{Some, slice_get}
+use Rattle.std.proofs.Common.{◌≡◌, ℕ, ◌+◌, ◌-◌, ◌<◌, ◌≤◌, ◌^◌, false, List, [], ◌∷◌, ◌++◌, length, take, drop, refl, ap, sym, subst, ◌∙◌, arith, inl, inr, append-nil, length-append, length-drop}
+use Rattle.std.specs.Prelude.{slice_get}
 use Rattle.std.proofs.lemmas.List.{drop-append-le, length-take-le, take_all}
 use Rattle.std.proofs.lemmas.List.Elements.{All-cons, All-head, All-nil}
 use Rattle.std.proofs.Math.Seq.{drop-append_seam}
@@ -8,16 +8,17 @@ use Rattle.fugue_ids.specs.Identifiers.{Identifier}
 use Rattle.fugue_ids.specs.Runs.{run_from, start_behind}
 use Rattle.fugue_ids.specs.declared.limits.TheConstants.{MOST_OPERATIONS}
 use Rattle.fugue_ids.specs.declared.op.Op.{Op}
-use Rattle.fugue_ids.specs.declared.op.Op.TheVariants.{Delete}
 use Rattle.fugue_ids.specs.declared.run.RunStart.{RunStart}
-use Rattle.fugue_ids.proofs.ListLemmas.{all_behind}
+use Rattle.fugue_ids.proofs.ListLemmas.{all_behind, slice_get-seam}
 use Rattle.fugue_ids.proofs.RunLemmas.{length-typed, typed-append}
-use Rattle.op_runs.specs.Growing.{AddsDelete, AddsRun, IsAdded, IsLonger, IsReplaced, alone, with_more}
+use Rattle.op_runs.specs.Deletions.{deletes_by}
+use Rattle.op_runs.specs.Growing.{AddsDeletes, AddsRun, IsAdded, IsLonger, IsReplaced, forwards, with_more}
 use Rattle.op_runs.specs.Parts.{AreParts, GoesOn, IsOther, IsWhole, ops_of, other_ops}
 use Rattle.op_runs.specs.declared.part.Deletes.{Deletes}
 use Rattle.op_runs.specs.declared.part.Part.{Part}
 use Rattle.op_runs.specs.declared.part.Part.TheVariants.{Deleted, Other, Typed}
 use Rattle.op_runs.specs.declared.part.TypedPart.{TypedPart}
+use Rattle.op_runs.proofs.DeletionLemmas.{length-deletes}
 use Rattle.op_runs.proofs.PartLemmas.{BeginsAs, IsPushed, added_part, laid-last, replaced_part}
 
 -- A run
@@ -78,36 +79,49 @@ run_pushed l l' text o ps ps' fs fs' n run e a (inr (last, is, put)) at count so
     let r = replaced_part l l' text o ps ps' fs fs' n (Typed last) (Typed (with_more last (length text))) (run_from run.start text) e a put' b (omega (arith, len, room)) in
     record { are = subst (λ k. AreParts l' o ps' fs' (n + k)) len r.are; ops = r.ops }
 
--- A Delete
+-- Deletes
 
-longer_deletes : (l : List ℕ) (o : List Op) (d e : Deletes) (target : Identifier) → IsLonger d target e → BeginsAs l [] o (Deleted d) (Deleted e) (Delete target ∷ [])
-longer_deletes l o d e target m = record {
-  whole = (omega (arith, m.count_is), m.counters);
-  stands = λ a b k. k;
-  goes = λ before k. goes_same before k;
-  letters = refl;
-  others = refl;
-  ops = m.ops;
-  long = m.count_is;
-}
+longer_deletes : (l : List ℕ) (o : List Op) (d e : Deletes) (target : Identifier) (most : ℕ) → IsLonger d target most e → BeginsAs l [] o (Deleted d) (Deleted e) (deletes_by false target (e.count - d.count))
+longer_deletes l o d e target most m =
+    let some : d.count < e.count = m.some in
+    record {
+      whole = (omega (arith, some), m.counters);
+      stands = λ a b k. k;
+      goes = λ before k. goes_same before k;
+      letters = refl;
+      others = refl;
+      ops = m.ops;
+      long = omega (arith, some, length-deletes false target (e.count - d.count));
+    }
   where
     goes_same : (before : Part) → GoesOn before (Deleted e) → GoesOn before (Deleted d)
     goes_same (Typed q) k = k
     goes_same (Deleted q) k = subst (λ t. GoesOn (Deleted q) (Deleted (record { target = t; count = d.count; down = d.down }))) m.target_is k
     goes_same (Other j) k = k
 
-pub delete_pushed : (l : List ℕ) (o : List Op) (ps ps' : List Part) (fs fs' : List ℕ) (n : ℕ) (target : Identifier) → AreParts l o ps fs n → AddsDelete ps ps' fs fs' n target → IsWhole (Deleted (alone target)) → n + 1 ≤ MOST_OPERATIONS
-    → IsPushed l o ps' fs' (n + 1) (ops_of l o ps) (Delete target ∷ [])
-delete_pushed l o ps ps' fs fs' n target a (inl added) whole room =
-    added_part l l [] o o [] ps ps' fs fs' n (Deleted (alone target)) (sym (append-nil l)) (sym (append-nil o)) a added whole tt refl refl (All-nil IsOther) room
-delete_pushed l o ps ps' fs fs' n target a (inr (last, more, longer, put)) whole room =
-    replaced_part l l [] o ps ps' fs fs' n (Deleted last) (Deleted more) (Delete target ∷ []) (sym (append-nil l)) a put (longer_deletes l o last more target longer) room
+pub deletes_pushed : (l : List ℕ) (o : List Op) (ps ps' : List Part) (fs fs' : List ℕ) (n most k : ℕ) (target : Identifier) → AreParts l o ps fs n → AddsDeletes ps ps' fs fs' n target most k → 0 < most → target.counter + most ≤ 2 ^ 32
+    → n + most ≤ MOST_OPERATIONS → IsPushed l o ps' fs' (n + k) (ops_of l o ps) (deletes_by false target k)
+deletes_pushed l o ps ps' fs fs' n most k target a (inl (is, added)) some fits room =
+    subst (λ j. IsPushed l o ps' fs' (n + j) (ops_of l o ps) (deletes_by false target j)) (sym is)
+    (added_part l l [] o o [] ps ps' fs fs' n (Deleted (forwards target most)) (sym (append-nil l)) (sym (append-nil o)) a added (some, fits) tt refl refl (All-nil IsOther) room)
+deletes_pushed l o ps ps' fs fs' n most k target a (inr (last, more, longer, is, put)) some fits room =
+    let added = deletes_by false target (more.count - last.count) in
+    let len : length added ≡ more.count - last.count = length-deletes false target (more.count - last.count) in
+    let within : more.count ≤ last.count + most = longer.within in
+    let r = replaced_part l l [] o ps ps' fs fs' n (Deleted last) (Deleted more) added (sym (append-nil l)) a put (longer_deletes l o last more target most longer) (omega (arith, len, within, room)) in
+    subst (λ j. IsPushed l o ps' fs' (n + j) (ops_of l o ps) (deletes_by false target j)) (sym is)
+    (record { are = subst (λ j. AreParts l o ps' fs' (n + j)) len r.are; ops = r.ops })
+
+-- some came, and no more than were asked for
+pub some_pushed : (ps ps' : List Part) (fs fs' : List ℕ) (n most k : ℕ) (target : Identifier) → AddsDeletes ps ps' fs fs' n target most k → 0 < most → 0 < k
+some_pushed ps ps' fs fs' n most k target (inl (is, added)) some = omega (arith, is, some)
+some_pushed ps ps' fs fs' n most k target (inr (last, more, longer, is, put)) some = let s : last.count < more.count = longer.some in omega (arith, is, s)
+
+pub few_pushed : (ps ps' : List Part) (fs fs' : List ℕ) (n most k : ℕ) (target : Identifier) → AddsDeletes ps ps' fs fs' n target most k → k ≤ most
+few_pushed ps ps' fs fs' n most k target (inl (is, added)) = omega (arith, is)
+few_pushed ps ps' fs fs' n most k target (inr (last, more, longer, is, put)) = let w : more.count ≤ last.count + most = longer.within in omega (arith, is, w)
 
 -- A Section or a Note
-
-slice_get-seam : {X : Type 0} (xs : List X) (x : X) → slice_get (xs ++ x ∷ []) (length xs) ≡ Some x
-slice_get-seam [] x = refl
-slice_get-seam (y ∷ ys) x = slice_get-seam ys x
 
 none_goes : (last : Part) (k : ℕ) → GoesOn last (Other k) → ⊥
 none_goes (Typed r) k g = g

@@ -12,7 +12,7 @@ use Rattle.fugue_ids.specs.Runs.{id_behind, in_a_row, left_behind, next_id, run_
 use Rattle.fugue_ids.specs.declared.op.Op.{Op}
 use Rattle.fugue_ids.specs.declared.op.Op.TheVariants.{Delete, Text}
 use Rattle.fugue_ids.specs.declared.run.RunStart.{RunStart}
-use Rattle.fugue_ids.proofs.ListLemmas.{all_before, all_behind}
+use Rattle.fugue_ids.proofs.ListLemmas.{all_before, all_behind, slice_get-append}
 use Rattle.fugue_ids.proofs.OpLemmas.{op_eq-refl, op_eq-true}
 use Rattle.fugue_ids.proofs.RunLemmas.{left_one, none_behind, one_behind}
 use Rattle.op_runs.specs.Finding.{IsSpot}
@@ -22,7 +22,7 @@ use Rattle.op_runs.specs.declared.part.Part.{Part}
 use Rattle.op_runs.specs.declared.part.Part.TheVariants.{Deleted, Other, Typed}
 use Rattle.op_runs.specs.declared.part.TypedPart.{TypedPart}
 use Rattle.op_runs.proofs.FindLemmas.{delete_at, letter_at, ops_len, spot_parts}
-use Rattle.op_runs.proofs.PartLemmas.{has_some, part_has, slice_get-append}
+use Rattle.op_runs.proofs.PartLemmas.{has_some, part_has}
 use Rattle.op_runs.proofs.SliceLemmas.{typed_behind}
 
 -- Scalars

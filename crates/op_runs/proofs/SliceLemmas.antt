@@ -1,10 +1,10 @@
 -- The operations of parts and of slices, but for the first ones.
-use Rattle.std.proofs.Common.{◌≡◌, ℕ, ◌+◌, ◌-◌, ◌<◌, ◌≤◌, ◌^◌, true, false, Bool, List, [], ◌∷◌, ◌++◌, length, take, drop, get_or, refl, ap, sym, subst, ◌∙◌, arith, append_assoc, length-append, length-drop}
+use Rattle.std.proofs.Common.{◌≡◌, ℕ, suc, ◌+◌, ◌-◌, ◌<◌, ◌≤◌, ◌^◌, true, false, Bool, List, [], ◌∷◌, ◌++◌, length, take, drop, get_or, refl, ap, sym, subst, ◌∙◌, arith, append_assoc, length-append, length-drop}
 use Rattle.std.specs.Prelude.{Some, All, slice_get}
-use Rattle.std.proofs.lemmas.List.{drop-append-le, drop-take, length-take, length-take-le, take_all}
+use Rattle.std.proofs.lemmas.List.{drop-append-le, drop_all, drop-take, length-take, length-take-le, take_all}
 use Rattle.std.proofs.lemmas.List.Elements.{All-head, All-tail}
-use Rattle.std.proofs.lemmas.Option.{slice_get-get_or}
-use Rattle.std.proofs.Math.Seq.{drop-append-add, drop-append_seam, drop-drop}
+use Rattle.std.proofs.lemmas.Option.{get_or_from_slice_get, slice_get-get_or}
+use Rattle.std.proofs.Math.Seq.{drop-cons, drop-append-add, drop-append_seam, drop-drop}
 use Rattle.fugue_ids.specs.Identifiers.{Identifier}
 use Rattle.fugue_ids.specs.Runs.{run_from, start_behind}
 use Rattle.fugue_ids.specs.declared.op.Op.{Op}
@@ -101,6 +101,39 @@ module _ (letters : List ℕ) (others : List Op) (parts : List Part) (skip : ℕ
       begun : (ps : List Part) → All P ps → IsInFirst 0 ps
       begun [] s = refl
       begun (p ∷ ps) s = has_some (length letters) (length others) p (All-head P p ps s)
+
+  abbrev here_ops : List Op
+  here_ops = part_ops letters others first
+
+  one_more : skip + 1 ≡ suc skip
+  one_more = omega arith
+
+  -- what stands behind the first operation of the slice
+  behind_op : drop (skip + 1) (ops_of letters others parts) ++ plain ≡ drop (skip + 1) here_ops ++ (drop 0 (ops_of letters others rest) ++ plain)
+  behind_op =
+      ap (λ ps. drop (skip + 1) (ops_of letters others ps) ++ plain) is
+      ∙ ap (λ z. z ++ plain) (drop-append-le (skip + 1) here_ops (ops_of letters others rest) (omega (arith, skip_inside, len)))
+      ∙ append_assoc (drop (skip + 1) here_ops) (ops_of letters others rest) plain
+
+  module _ (op : Op) (op_is : Some op ≡ slice_get (part_ops letters others first) skip) where
+    first_of : drop skip here_ops ≡ op ∷ drop (skip + 1) here_ops
+    first_of =
+        drop-cons here_ops skip op (omega (arith, skip_inside, len))
+        ∙ (λ i. get_or_from_slice_get here_ops skip op op (sym op_is) i ∷ drop (sym one_more i) here_ops)
+
+    pub op_first : drop skip (ops_of letters others parts) ++ plain ≡ op ∷ (drop (skip + 1) (ops_of letters others parts) ++ plain)
+    op_first = parted ∙ ap (λ z. z ++ (drop 0 (ops_of letters others rest) ++ plain)) first_of ∙ ap (λ z. op ∷ z) (sym behind_op)
+
+    pub sliced_on : skip + 1 < part_len first → AreSliced letters others parts (skip + 1) plain (count - 1)
+    sliced_on h = record {
+      sound = a.sound;
+      in_first = subst (λ (ps : List Part). IsInFirst (skip + 1) ps) (sym is) h;
+      counted = omega (arith, a.counted, ap length op_first);
+    }
+
+    pub op_alone : part_len first - skip ≡ 1 → drop skip (ops_of letters others parts) ++ plain ≡ op ∷ (drop 0 (ops_of letters others rest) ++ plain)
+    op_alone e =
+        op_first ∙ ap (λ z. op ∷ z) (behind_op ∙ ap (λ z. z ++ (drop 0 (ops_of letters others rest) ++ plain)) (drop_all (skip + 1) here_ops (omega (arith, e, len))))
 
 -- The operations from a position on
 module _ (letters : List ℕ) (others : List Op) (ps : List Part) (position k offset : ℕ) (s : IsSpot ps position k offset) (all : All (IsSound (length letters) (length others)) ps) where

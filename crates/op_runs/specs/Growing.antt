@@ -2,7 +2,6 @@
 use Rattle.std.specs.Prelude.{◌≡◌, ℕ, ◌+◌, ◌⊎◌, ◌++◌, ◌∷◌, [], List, false, ◌-◌, ◌<◌, ◌≤◌, length, take}
 use Rattle.fugue_ids.specs.Identifiers.{Identifier}
 use Rattle.fugue_ids.specs.Runs.{start_behind}
-use Rattle.fugue_ids.specs.declared.op.Op.TheVariants.{Delete}
 use Rattle.op_runs.specs.Deletions.{CountersFit, deletes_by}
 use Rattle.op_runs.specs.Parts.{GoesOn, part_len}
 use Rattle.op_runs.specs.declared.part.Deletes.{Deletes}
@@ -15,12 +14,13 @@ pub record IsLast (parts : List Part) (last : Part) : Type 0 where
   pub front : List Part
   pub whole : parts ≡ front ++ last ∷ []
 
--- Deletes of neighbours with one more
-pub record IsLonger (part : Deletes) (target : Identifier) (more : Deletes) : Type 0 where
+-- Deletes of neighbours with more behind them: some of those forwards from a target on, at most so many
+pub record IsLonger (part : Deletes) (target : Identifier) (most : ℕ) (more : Deletes) : Type 0 where
   pub target_is : more.target ≡ part.target
-  pub count_is : more.count ≡ part.count + 1
+  pub some : part.count < more.count
+  pub within : more.count ≤ part.count + most
   pub counters : CountersFit more.down more.target more.count
-  pub ops : deletes_by more.down more.target more.count ≡ deletes_by part.down part.target part.count ++ Delete target ∷ []
+  pub ops : deletes_by more.down more.target more.count ≡ deletes_by part.down part.target part.count ++ deletes_by false target (more.count - part.count)
 
 -- a new part stands behind the others, and goes on with none
 pub record IsAdded (old new : List Part) (old_firsts new_firsts : List ℕ) (first : ℕ) (part : Part) : Type 0 where
@@ -44,15 +44,15 @@ AddsRun old new old_firsts new_firsts first run =
     IsAdded old new old_firsts new_firsts first (Typed run)
     ⊎ ((last : TypedPart) × (run.start ≡ start_behind last.start last.count) × IsReplaced old new old_firsts new_firsts (Typed last) (Typed (with_more last run.count)))
 
--- one Delete
-abbrev pub alone : Identifier → Deletes
-alone target = record { target = target; count = 1; down = false }
+-- Deletes of so many neighbours, forwards
+abbrev pub forwards : Identifier → ℕ → Deletes
+forwards target n = record { target = target; count = n; down = false }
 
--- a Delete comes behind the parts
-abbrev pub AddsDelete : (old new : List Part) (old_firsts new_firsts : List ℕ) (first : ℕ) → Identifier → Type 0
-AddsDelete old new old_firsts new_firsts first target =
-    IsAdded old new old_firsts new_firsts first (Deleted (alone target))
-    ⊎ ((last : Deletes) × (more : Deletes) × IsLonger last target more × IsReplaced old new old_firsts new_firsts (Deleted last) (Deleted more))
+-- Deletes of neighbours forwards from a target on, at most so many, come behind the parts: n of them
+abbrev pub AddsDeletes : (old new : List Part) (old_firsts new_firsts : List ℕ) (first : ℕ) → Identifier → (most n : ℕ) → Type 0
+AddsDeletes old new old_firsts new_firsts first target most n =
+    ((n ≡ most) × IsAdded old new old_firsts new_firsts first (Deleted (forwards target most)))
+    ⊎ ((last : Deletes) × (more : Deletes) × IsLonger last target most more × (n ≡ more.count - last.count) × IsReplaced old new old_firsts new_firsts (Deleted last) (Deleted more))
 
 -- the first so many operations of a part
 abbrev pub shortened : Part → ℕ → Part

@@ -1,9 +1,11 @@
-ghost use Rattle.std.specs.Prelude.{◌≡◌, ◌<◌, ◌≤◌, ◌+◌, ◌^◌, All, IfNone, IfSome, ℕ, Some, length, option_map, slice_get, slice_index};
+ghost use Rattle.std.specs.Prelude.{◌≡◌, ◌<◌, ◌≤◌, ◌+◌, ◌-◌, ◌^◌, All, IfNone, IfOk, IfSome, ℕ, Some, length, option_map, slice_get, slice_index};
+ghost use Rattle.fugue_ids.specs.Ops.{id_of, op_eq};
 ghost use Rattle.op_runs.specs.Finding.{IsFloor, IsSpot, all_len, op_of};
 ghost use Rattle.op_runs.specs.Parts.{IsSound, firsts_of, ops_of, part_len, part_ops};
 
-use crate::part::Part;
-use fugue_ids::{ElementId, Op, RunStart};
+use crate::part::{Part, last_of};
+use fugue_ids::{ElementId, NoMemory, Op, RunStart, read_text};
+use std::alloc::Global;
 
 /// An operation of a list.
 #[derive(Clone, Copy)]
@@ -14,6 +16,54 @@ pub enum OpRef<'a> {
     Deletion(ElementId),
     /// A Section or a Note.
     Whole(&'a Op),
+}
+
+impl<'a> OpRef<'a> {
+    /// The operation as it stands in a slice.
+    pub fn of(op: &'a Op) -> OpRef<'a>
+        ensures { op_of result ≡ op.now }
+    {
+        if let Some((start, ch)) = read_text(op) {
+            return OpRef::Letter(start, ch);
+        }
+        match op {
+            Op::Delete { target } => OpRef::Deletion(*target),
+            _ => OpRef::Whole(op),
+        }
+    }
+
+    /// Whether an operation is equal to it.
+    pub fn equals(&self, op: &Op) -> bool
+        ensures { result ≡ op_eq (op_of self.now) op.now }
+    {
+        match self {
+            OpRef::Letter(start, ch) => start.text(*ch) == *op,
+            OpRef::Deletion(target) => Op::Delete { target: *target } == *op,
+            OpRef::Whole(whole) => **whole == *op,
+        }
+    }
+
+    /// The identifier of its own: a Delete has none.
+    pub fn id(&self) -> Option<ElementId>
+        ensures { result ≡ id_of (op_of self.now) }
+    {
+        match self {
+            OpRef::Letter(start, _) => Some(start.id),
+            OpRef::Deletion(_) => None,
+            OpRef::Whole(whole) => whole.id(),
+        }
+    }
+
+    /// The same operation, with memory of its own.
+    pub fn copy_in(&self, alloc: Global) -> Result<Op, NoMemory>
+        ensures { IfOk result (λ op. op ≡ op_of self.now) }
+    {
+        match self {
+            OpRef::Letter(start, ch) => Ok(start.text(*ch)),
+            OpRef::Deletion(target) => Ok(Op::Delete { target: *target }),
+            OpRef::Whole(op) => op.clone_in(alloc),
+        }
+    }
 }
 
 /// Where an operation stands: which part has it, and which of the operations of that it is.
@@ -56,7 +106,7 @@ pub(crate) fn spot_of(parts: &[Part], firsts: &[u32], count: u32, position: usiz
 }
 
 /// The operation at an offset of a part.
-fn op_in<'a>(part: &Part, letters: &[char], others: &'a [Op], offset: usize) -> OpRef<'a>
+pub(crate) fn op_in<'a>(part: &Part, letters: &[char], others: &'a [Op], offset: usize) -> OpRef<'a>
     requires sound { IsSound (length letters.now) (length others.now) part.now }
     requires inside { offset < part_len part.now }
     ensures { Some (op_of result) ≡ slice_get (part_ops letters.now others.now part.now) offset }
@@ -84,6 +134,21 @@ pub(crate) fn op_at<'a>(
 {
     match spot_of(parts, firsts, count, position) {
         Some(spot) => Some(op_in(&parts[spot.part], letters, others, spot.offset)),
+        None => None,
+    }
+}
+
+/// The last operation, if there is one.
+pub(crate) fn last_op<'a>(parts: &[Part], letters: &[char], others: &'a [Op]) -> Option<OpRef<'a>>
+    requires { All (IsSound (length letters.now) (length others.now)) parts.now }
+    ensures { option_map op_of result ≡ slice_get (ops_of letters.now others.now parts.now)
+        (length (ops_of letters.now others.now parts.now) - 1) }
+{
+    match last_of(parts) {
+        Some(part) => {
+            let len = part.len();
+            Some(op_in(&part, letters, others, len - 1))
+        }
         None => None,
     }
 }

@@ -1,16 +1,17 @@
-ghost use Rattle.std.specs.Prelude.{◌≡◌, ◌<◌, ◌≤◌, ◌+◌, ◌^◌, ◌++◌, ◌∷◌, [], All, IfErr, OnErr, OnOk, drop, length, option_map, slice_get, take, ◌-◌};
+ghost use Rattle.std.specs.Prelude.{◌≡◌, ◌<◌, ◌≤◌, ◌+◌, ◌^◌, ◌++◌, ◌∷◌, [], All, IfErr, IfNone, IfOk, IfSome, IsSome, OnErr, Some, false, OnOk, drop, length, option_map, slice_get, take, ◌-◌};
 ghost use Rattle.fugue_ids.specs.Runs.{run_from};
+ghost use Rattle.fugue_ids.specs.declared.op.Op.{Op as AnyOp};
 ghost use Rattle.fugue_ids.specs.declared.op.Op.TheVariants.{Delete as DeleteOp};
+ghost use Rattle.op_runs.specs.Deletions.{deletes_by};
 ghost use Rattle.op_runs.specs.Entries.{IsParted};
 ghost use Rattle.op_runs.specs.Finding.{op_of};
-ghost use Rattle.op_runs.specs.Growing.{AddsDelete, AddsRun, IsLast, alone as alone_of};
+ghost use Rattle.op_runs.specs.Growing.{AddsDeletes, AddsRun, IsLast};
 ghost use Rattle.op_runs.specs.Parts.{IsOther, IsWhole, part_len};
 ghost use Rattle.op_runs.specs.Repeats.{same_front};
 ghost use Rattle.op_runs.specs.declared.part.Part.{Part};
-ghost use Rattle.op_runs.specs.declared.part.Part.TheVariants.{Deleted as DeletedVariant};
 
-use crate::find::{OpRef, op_at};
-use crate::part::{Part, TypedPart, add_part, alone, last_of, longer, set_last, take_off};
+use crate::find::{OpRef, last_op, op_at};
+use crate::part::{Deletes, Part, TypedPart, add_part, last_of, longer, set_last, take_off};
 use crate::repeat::repeats_at;
 use crate::slice::{OpSlice, slice_at};
 use fugue_ids::{ElementId, MOST_OPERATIONS, NoMemory, Op, RunStart, read_text};
@@ -77,28 +78,37 @@ fn add_run(
     add_part(parts, firsts, first, Part::Typed(run))
 }
 
-/// A Delete goes on with the last part, or is one more.
-fn add_delete(
+/// Deletes of neighbours, at most so many, go on with the last part, or are one more. The answer is how many came.
+fn add_deletes(
     parts: &mut Vec<Part>,
     firsts: &mut Vec<u32>,
     first: u32,
     target: ElementId,
-) -> Result<(), NoMemory>
+    most: u32,
+) -> Result<u32, NoMemory>
     requires whole { All IsWhole parts.old.items }
-    requires room { (last : Part) → IsLast parts.old.items last → part_len last < MOST_OPERATIONS }
-    ensures ok { OnOk result (AddsDelete parts.old.items parts.new.items firsts.old.items firsts.new.items first target) }
-    ensures whole { IsWhole (DeletedVariant (alone_of target)) }
+    requires some { 0 < most }
+    requires counters { target.counter + most ≤ 2 ^ 32 }
+    requires room { (last : Part) → IsLast parts.old.items last → part_len last + most ≤ MOST_OPERATIONS }
+    ensures ok { IfOk result
+        (λ n. AddsDeletes parts.old.items parts.new.items firsts.old.items firsts.new.items first target most n) }
     ensures err { OnErr result (parts.new.items ≡ parts.old.items) }
     ensures firsts_stay { OnErr result (firsts.new.items ≡ firsts.old.items) }
 {
-    let single = alone(target);
     if let Some(Part::Deleted(last)) = last_of(parts) {
-        if let Some(more) = longer(&last, target) {
+        if let Some(more) = longer(&last, target, most) {
+            let came = more.count - last.count;
             set_last(parts, Part::Deleted(more));
-            return Ok(());
+            return Ok(came);
         }
     }
-    add_part(parts, firsts, first, Part::Deleted(single))
+    let deletes = Deletes {
+        target,
+        count: most,
+        down: false,
+    };
+    add_part(parts, firsts, first, Part::Deleted(deletes))?;
+    Ok(most)
 }
 
 impl OpRuns {
@@ -143,6 +153,13 @@ impl OpRuns {
         )
     }
 
+    /// The last operation.
+    pub fn last(&self) -> Option<OpRef<'_>>
+        ensures { option_map op_of result ≡ slice_get self.now (length self.now - 1) }
+    {
+        last_op(&self.parts, &self.letters, &self.others)
+    }
+
     /// Texts that were typed in a row, behind all others. After want of memory all is as before.
     pub fn push_run(&mut self, start: RunStart, text: &[char]) -> Result<(), NoMemory>
         requires some { 0 < length text.now }
@@ -170,15 +187,55 @@ impl OpRuns {
         }
     }
 
+    /// The first of so many Deletes, and those of the others that can stand in one part with it. The answer is how many.
+    fn push_some_deletes(&mut self, first: ElementId, most: u32) -> Result<u32, NoMemory>
+        requires some { 0 < most }
+        requires counters { first.counter + most ≤ 2 ^ 32 }
+        requires room { length self.old + most ≤ MOST_OPERATIONS }
+        ensures some { IfOk result (λ n. 0 < n) }
+        ensures within { IfOk result (λ n. n ≤ most) }
+        ensures ok { IfOk result (λ n. self.new ≡ self.old ++ deletes_by false first n) }
+        ensures err { OnErr result (self.new ≡ self.old) }
+    {
+        let count = add_deletes(&mut self.parts, &mut self.firsts, self.count, first, most)?;
+        self.count += count;
+        Ok(count)
+    }
+
+    /// The Deletes of so many neighbours, from this identifier on, behind all others. After want of memory all is as
+    /// before.
+    pub fn push_deletes(&mut self, first: ElementId, count: u32) -> Result<(), NoMemory>
+        requires counters { first.counter + count ≤ 2 ^ 32 }
+        requires room { length self.old + count ≤ MOST_OPERATIONS }
+        ensures ok { OnOk result (self.new ≡ self.old ++ deletes_by false first count) }
+        ensures err { OnErr result (self.new ≡ self.old) }
+    {
+        let all = Deletes {
+            target: first,
+            count,
+            down: false,
+        };
+        let mut done = 0;
+        'pushed: while done < count {
+            let next = all.nth(done as usize);
+            let Ok(more) = self.push_some_deletes(next, count - done) else {
+                self.pop(done as usize);
+                return Err(NoMemory);
+            };
+            done += more;
+        }
+        Ok(())
+    }
+
     /// A Delete more.
     fn push_delete(&mut self, target: ElementId) -> Result<(), NoMemory>
         requires room { length self.old < MOST_OPERATIONS }
         ensures ok { OnOk result (self.new ≡ self.old ++ DeleteOp target ∷ []) }
         ensures err { OnErr result (self.new ≡ self.old) }
     {
-        add_delete(&mut self.parts, &mut self.firsts, self.count, target)?;
-        self.count += 1;
-        Ok(())
+        // That the counter fits is told where it is read.
+        let _counter = target.counter;
+        self.push_deletes(target, 1)
     }
 
     /// A Section or a Note more.
@@ -280,6 +337,25 @@ impl OpRuns {
         self.others.truncate(others);
         self.count -= count as u32;
         count
+    }
+
+    /// Takes the last operation off and hands it out, where that is a Section or a Note. It takes no memory.
+    pub fn take_last(&mut self) -> Option<Op>
+        ensures some { IfSome result (λ op. self.old ≡ self.new ++ op ∷ []) }
+        ensures none { IfNone result (self.new ≡ self.old) }
+        ensures other { (op : AnyOp) → Some op ≡ slice_get self.old (length self.old - 1) → IsOther op
+            → IsSome result }
+    {
+        let Some(last) = last_of(&self.parts) else {
+            return None;
+        };
+        if last.others_in() == 0 {
+            return None;
+        }
+        self.parts.pop();
+        self.firsts.pop();
+        self.count -= 1;
+        self.others.pop()
     }
 
     /// Takes so many operations off the end. It takes no memory.

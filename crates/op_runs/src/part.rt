@@ -1,7 +1,7 @@
 ghost use Rattle.std.specs.Prelude.{◌≡◌, ◌↔◌, ◌<◌, ◌≤◌, ◌+◌, ◌^◌, ◌++◌, ◌∷◌, [], IfNone, IfSome, IsSome, IsTrue, List, OnErr, OnOk, length};
 ghost use Rattle.fugue_ids.specs.Runs.{id_behind};
 ghost use Rattle.op_runs.specs.Deletions.{CountersFit, target_by};
-ghost use Rattle.op_runs.specs.Growing.{IsLast, IsLonger, TakesOff, alone as alone_of, letters_of, shortened};
+ghost use Rattle.op_runs.specs.Growing.{IsLast, IsLonger, TakesOff, letters_of, shortened};
 ghost use Rattle.op_runs.specs.Parts.{GoesOnBy, IsNextTarget, IsWhole, others_in, part_len};
 ghost use Rattle.op_runs.specs.declared.part.Part.{Part};
 ghost use Rattle.op_runs.specs.declared.part.Part.TheVariants.{Deleted as DeletedVariant};
@@ -139,35 +139,24 @@ fn direction(part: &Deletes, target: ElementId) -> Option<bool>
     None
 }
 
-/// The part with a Delete more, if that goes on with it.
-pub(crate) fn longer(part: &Deletes, target: ElementId) -> Option<Deletes>
+/// The part with Deletes more, where the first of them goes on with it: forwards all of so many, or backwards that one.
+pub(crate) fn longer(part: &Deletes, target: ElementId, most: u32) -> Option<Deletes>
     requires whole { IsWhole (DeletedVariant part.now) }
-    requires room { part.now.count < MOST_OPERATIONS }
-    ensures some { IfSome result (λ more. IsLonger part.now target more) }
+    requires some { 0 < most }
+    requires counters { target.counter + most ≤ 2 ^ 32 }
+    requires room { part.now.count + most ≤ MOST_OPERATIONS }
+    ensures some { IfSome result (λ more. IsLonger part.now target most more) }
     ensures none { IfNone result (IsNextTarget part.now target → ⊥) }
 {
-    match direction(part, target) {
-        Some(down) => Some(Deletes {
-            target: part.target,
-            count: part.count + 1,
-            down,
-        }),
-        None => None,
-    }
-}
-
-/// One Delete.
-pub(crate) fn alone(target: ElementId) -> Deletes
-    ensures is { result ≡ alone_of target }
-    ensures whole { IsWhole (DeletedVariant result) }
-{
-    // That the counter fits is told where it is read.
-    let _counter = target.counter;
-    Deletes {
-        target,
-        count: 1,
-        down: false,
-    }
+    let Some(down) = direction(part, target) else {
+        return None;
+    };
+    let count = if down { 1 } else { most };
+    Some(Deletes {
+        target: part.target,
+        count: part.count + count,
+        down,
+    })
 }
 
 /// The last part.

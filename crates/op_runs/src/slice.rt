@@ -1,8 +1,9 @@
-ghost use Rattle.std.specs.Prelude.{◌≡◌, ◌<◌, ◌++◌, [], All, IfNone, IfSome, drop, length};
+ghost use Rattle.std.specs.Prelude.{◌≡◌, ◌<◌, ◌++◌, ◌∷◌, [], All, IfNone, IfSome, drop, length};
+ghost use Rattle.op_runs.specs.Finding.{op_of};
 ghost use Rattle.op_runs.specs.Parts.{IsSound, firsts_of, ops_of, part_len, part_ops};
 ghost use Rattle.op_runs.specs.Slices.{HasCounters, IsInFirst, stretch_ops};
 
-use crate::find::spot_of;
+use crate::find::{OpRef, op_in, spot_of};
 use crate::part::{Deletes, Part};
 use fugue_ids::{Op, RunStart};
 use std::marker::Model;
@@ -169,5 +170,29 @@ impl<'a> OpSlice<'a> {
         self.plain = rest;
         self.count -= 1;
         Some(Stretch::Single(op))
+    }
+
+    /// Takes the first operation off.
+    pub fn next_op(&mut self) -> Option<OpRef<'a>>
+        ensures taken { IfSome result (λ op. self.old ≡ op_of op ∷ self.new) }
+        ensures none { IfNone result (self.old ≡ []) }
+    {
+        if let Some((first, rest)) = self.parts.split_first() {
+            let op = op_in(first, self.letters, self.others, self.skip);
+            self.count -= 1;
+            if first.len() - self.skip > 1 {
+                self.skip += 1;
+                return Some(op);
+            }
+            self.parts = rest;
+            self.skip = 0;
+            return Some(op);
+        }
+        let Some((op, rest)) = self.plain.split_first() else {
+            return None;
+        };
+        self.plain = rest;
+        self.count -= 1;
+        Some(OpRef::of(op))
     }
 }

@@ -16,7 +16,7 @@ unfoldable use Rattle.order_proof.specs.Chains.{beside_up}
 use Rattle.order_proof.specs.Chains.{chain_eq, is_rights}
 use Rattle.order_proof.specs.Positions.{IsAt, as_of, history_at}
 use Rattle.order_proof.proofs.PositionLemmas.{as_of-other, as_of-own}
-use Rattle.order_proof.proofs.WalkLemmas.{none, reversed-take}
+use Rattle.order_proof.proofs.WalkLemmas.{none, reverse-cons, reversed-take}
 
 -- the element is the newest, and has this left origin, or another one; or it is older
 abbrev above_it : List Op → Option Identifier → Option Identifier → Chain
@@ -53,9 +53,6 @@ parted (op ∷ older) left x e =
       | inl k ↦ beside-parted op older left x k (sym (ap (has_by left) (holder-own op older x k)) ∙ e)
       | inr k ↦ beside-other op older left x k ∙ parted older left x (sym (ap (has_by left) (holder-other op older x k)) ∙ e)
     ]
-
-reverse-cons : (x : Identifier) (c : Chain) → reverse (x ∷ c) ≡ reverse c ++ x ∷ []
-reverse-cons x c = reverse-append (x ∷ []) c
 
 -- what is beside a left origin, and the chain above it
 above_is : (older : List Op) (left : Option Identifier) → ((r : Identifier) → has_left older r left ≡ true → rights older r ≡ reverse (beside_up older left r))
@@ -154,14 +151,6 @@ module _ (ops : List Op) (n : ℕ) (left : Option Identifier) (x : Identifier) (
 
   pub climb_last : origin_eq (left_of e) left ≡ true → right_of e ≡ None → beside_up (history_at ops n) left x ≡ x ∷ []
   climb_last f q = at_newest ∙ beside-own e (history_at ops at) left x there.own f ∙ ap (λ o. x ∷ above_it (history_at ops at) left o) q
-
-pub not_true : (a : Bool) → not a ≡ true → a ≡ false
-not_true true e = absurd (false≢true e)
-not_true false e = refl
-
-pub not_false : (a : Bool) → not a ≡ false → a ≡ true
-not_false true e = refl
-not_false false e = absurd (false≢true (sym e))
 
 -- the same origin, as `==` compares
 pub origin_same : (o q : Option Identifier) → option_eq id_eq o q ≡ origin_eq o q

@@ -2,7 +2,7 @@
 use Rattle.std.proofs.Common.{Bool, List, [], ap, false, inl, inr, not, refl, subst, sym, true, ◌++◌, ◌&&◌, ◌∙◌, ◌∷◌, ◌≡◌, ◌≢◌, ◌↔◌}
 use Rattle.std.specs.Prelude.{None, Option, Some, if◌then◌else◌, is_none, is_some}
 use Rattle.std.specs.List.{Contains}
-use Rattle.std.proofs.lemmas.Bool.{and_from, and_parts, cases_Bool, false≢true}
+use Rattle.std.proofs.lemmas.Bool.{and_from, and_parts, cases_Bool, false≢true, not-true}
 use Rattle.std.proofs.lemmas.List.{append-nil, same_from_push}
 use Rattle.std.proofs.lemmas.List.Elements.{All-contains}
 use Rattle.fugue_ids.specs.Identifiers.{Identifier, id_eq, id_lt, origin_eq}
@@ -23,20 +23,10 @@ use Rattle.order_proof.specs.Certificates.{ByRightChains, ByRightOrigins, Certif
 use Rattle.order_proof.specs.Checks.{chains_decide, ends, goes_on, in_one_place, is_inner, origins_decide, place_holding, prefix_test, reason_test, rests_test, same_place, sibling_test, siblings_at, step_test, test}
 use Rattle.order_proof.specs.Chains.{is_down, is_empty, is_rights}
 use Rattle.order_proof.proofs.BesideLemmas.{rights_from, rights_to}
-use Rattle.order_proof.proofs.WalkLemmas.{walked}
-
--- two tests, the second behind the first
-if_parts : (a b : Bool) → (if a then b else false) ≡ true → (a ≡ true) × (b ≡ true)
-if_parts true b e = (refl, e)
-if_parts false b e = absurd (false≢true e)
+use Rattle.order_proof.proofs.WalkLemmas.{if_parts, walked}
 
 if_both : (a b : Bool) → a ≡ true → b ≡ true → (if a then b else false) ≡ true
 if_both a b e f = ap (λ z. if z then b else false) e ∙ f
-
--- a test that fails
-not_true : (a : Bool) → not a ≡ true → a ≡ false
-not_true true e = absurd (false≢true e)
-not_true false e = refl
 
 -- an option, by its tests
 none_from : (o : Option Identifier) → is_none o ≡ true → o ≡ None
@@ -89,7 +79,7 @@ module _ (h : List Op) (w : Lawful h) where
   origins_from c d (Later u v) e =
       let p = and_parts (origin_eq (right_at h c) (Some u)) (origin_eq (right_at h d) (Some v) && not (id_eq u v)) e in
       let q = and_parts (origin_eq (right_at h d) (Some v)) (not (id_eq u v)) p.1 in
-      (origin_eq-true (right_at h c) (Some u) p.0, origin_eq-true (right_at h d) (Some v) q.0, id_eq-false u v (not_true (id_eq u v) q.1))
+      (origin_eq-true (right_at h c) (Some u) p.0, origin_eq-true (right_at h d) (Some v) q.0, id_eq-false u v (not-true (id_eq u v) q.1))
   origins_from c d Tie e =
       let p = and_parts (origin_eq (right_at h c) (right_at h d)) (id_lt c d) e in
       (origin_eq-true (right_at h c) (right_at h d) p.0, p.1)
@@ -200,7 +190,7 @@ module _ (h : List Op) (w : Lawful h) where
           second = refl;
           whole_x = v;
           whole_y = z ∙ ap (λ o. chain_above next_left h o ++ b ∷ n) (sym (origin_eq-true (left_at h a) (left_at h b) t.0));
-          differ = id_eq-false a b (not_true (id_eq a b) s.0);
+          differ = id_eq-false a b (not-true (id_eq a b) s.0);
         };
         right_x = sym (rights_from h a right_x u.0);
         right_y = sym (rights_from h b right_y u.1);
@@ -344,7 +334,7 @@ module _ (h : List Op) (w : Lawful h) where
   valid_from [] e = absurd (false≢true e)
   valid_from (s ∷ []) e =
       let p = if_parts (step_test h s) (ends s.reason) e in
-      (step_from s p.0, not_true (is_later s.reason) p.1)
+      (step_from s p.0, not-true (is_later s.reason) p.1)
   valid_from (s ∷ t ∷ more) e =
       let p = if_parts (step_test h s) (if rests_test s.reason t then test h (t ∷ more) else false) e in
       let q = if_parts (rests_test s.reason t) (test h (t ∷ more)) p.1 in

@@ -20,6 +20,7 @@ use Rattle.order_proof.proofs.PositionLemmas.{as_of-other, as_of-own, new_id}
 use Rattle.order_proof.specs.Certificates.{Chain}
 use Rattle.order_proof.specs.Making.{common_count}
 use Rattle.order_proof.specs.Parting.{Passed, age, makes, nothing_passed, with_one, with_other}
+use Rattle.order_proof.proofs.WalkLemmas.{reverse-cons}
 unfoldable use Rattle.order_proof.specs.Parting.{passed_up}
 
 -- the turns of the way up
@@ -86,9 +87,6 @@ record IsSplit (h : List Op) (one other : Option Identifier) (passed : Passed) :
   one_is : above h one ≡ front ++ reverse passed.one
   other_is : above h other ≡ front ++ reverse passed.other
   apart : common_count (reverse passed.one) (reverse passed.other) ≡ 0
-
-reverse-cons : (m : Identifier) (ms : Chain) → reverse (m ∷ ms) ≡ reverse ms ++ m ∷ []
-reverse-cons m ms = reverse-append (m ∷ []) ms
 
 module _ (op : Op) (older : List Op) (w : Lawful (op ∷ older)) (x : Identifier) (own : is_own x op ≡ true) where
   -- what is made now is in no older chain

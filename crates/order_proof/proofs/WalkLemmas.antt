@@ -15,8 +15,12 @@ use Rattle.order_proof.specs.Chains.{ends_with, is_empty}
 use Rattle.order_proof.specs.Positions.{IsAt, as_of, history_at}
 use Rattle.order_proof.proofs.PositionLemmas.{as_of-other, as_of-own}
 
-reverse-cons : (m : Identifier) (ms : Chain) → reverse (m ∷ ms) ≡ reverse ms ++ m ∷ []
+pub reverse-cons : (m : Identifier) (ms : Chain) → reverse (m ∷ ms) ≡ reverse ms ++ m ∷ []
 reverse-cons m ms = reverse-append (m ∷ []) ms
+
+pub if_parts : (a b : Bool) → (if a then b else false) ≡ true → (a ≡ true) × (b ≡ true)
+if_parts true b e = (refl, e)
+if_parts false b e = absurd (false≢true e)
 
 lefts-none : (x : Identifier) → lefts [] x ≡ []
 unfolding chain
@@ -25,10 +29,6 @@ lefts-none x = refl
 -- what the walk tells above x's own operation
 abbrev above_test : List Op → Option Identifier → Chain → Bool
 above_test older o ms = elim o [ None ↦ is_empty ms | Some y ↦ ends_with older y ms ]
-
-if_parts : (a b : Bool) → (if a then b else false) ≡ true → (a ≡ true) × (b ≡ true)
-if_parts true b e = (refl, e)
-if_parts false b e = absurd (false≢true e)
 
 empty_from : (c : Chain) → is_empty c ≡ true → c ≡ []
 empty_from [] e = refl

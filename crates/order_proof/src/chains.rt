@@ -7,9 +7,9 @@ ghost use Rattle.order_proof.specs.Chains.{is_down as is_down_in, is_rights as i
 ghost use Rattle.order_proof.specs.Positions.{history_at};
 
 use crate::look_ups::left_at;
+use crate::origins::{left_of, right_of};
 use crate::positions::{Positions, find};
 use fugue_ids::ElementId;
-use origin_model::{left_of, right_of};
 use std::alloc::{AllocError, Global};
 
 /// The chain of right origins from x up, as long as elements have this left origin.
@@ -27,12 +27,12 @@ fn climb<P: Positions>(
     let mut current = x;
     let mut below = end;
     'scan: while let Some((at, op)) = find(held, below, current) {
-        if left_of(op) != left {
+        if left_of(&op) != left {
             return Ok(found);
         }
         found.push(current)?;
         below = at;
-        match right_of(op) {
+        match right_of(&op) {
             Some(next) => current = next,
             None => return Ok(found),
         }
@@ -70,7 +70,7 @@ fn ends_in<P: Positions>(held: &P, end: usize, x: ElementId, down: &[ElementId])
             return false;
         }
         below = at;
-        match left_of(op) {
+        match left_of(&op) {
             Some(next) => current = next,
             None => return k == 0,
         }
@@ -103,7 +103,7 @@ fn goes_up<P: Positions>(
     let mut below = end;
     let mut k = chain.len();
     'scan: while let Some((at, op)) = find(held, below, current) {
-        if left_of(op) != left {
+        if left_of(&op) != left {
             return k == 0;
         }
         if k == 0 || chain[k - 1] != current {
@@ -111,7 +111,7 @@ fn goes_up<P: Positions>(
         }
         k -= 1;
         below = at;
-        match right_of(op) {
+        match right_of(&op) {
             Some(next) => current = next,
             None => return k == 0,
         }

@@ -189,7 +189,7 @@ fn passes<P: Positions>(held: &P, end: usize, steps: &[Step]) -> bool
 pub fn check<P: Positions>(held: &P, proof: &Proof) -> bool
     ensures valid { (result ≡ true) ↔ IsValid (reverse (P.operations held.now)) proof.now }
 {
-    passes(held, held.operations().len(), proof.as_slice())
+    passes(held, held.count(), proof.as_slice())
 }
 
 /// Whether the text is that of a valid certificate.

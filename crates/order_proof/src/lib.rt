@@ -6,6 +6,7 @@ mod checking;
 mod laws;
 mod look_ups;
 mod making;
+mod origins;
 mod parting;
 mod positions;
 mod proof;

@@ -1,27 +1,20 @@
 //! Elements looked up among the first accepted operations.
 
 ghost use Rattle.std.specs.Prelude.{◌≡◌};
-ghost use Rattle.origin_model.specs.operations.History.{place};
 ghost use Rattle.origin_model.specs.order.Order.{left_at as left_origin, right_at as right_origin};
 ghost use Rattle.order_proof.specs.Checks.{place_holding as place_in};
 ghost use Rattle.order_proof.specs.Positions.{history_at};
 
+use crate::origins::{left_of, place_of, right_of};
 use crate::positions::{Positions, find};
-use fugue_ids::{ElementId, Op};
-use origin_model::{Place, element_of, left_of, right_of};
-
-fn place_of(op: &Op) -> Option<Place>
-    ensures { result ≡ place op.now }
-{
-    let (place, _) = element_of(op)?;
-    Some(place)
-}
+use fugue_ids::ElementId;
+use origin_model::Place;
 
 pub fn place_at<P: Positions>(held: &P, end: usize, x: ElementId) -> Option<Place>
     ensures { result ≡ place_in (history_at (P.operations held.now) end) x }
 {
     match find(held, end, x) {
-        Some((_, op)) => place_of(op),
+        Some((_, op)) => place_of(&op),
         None => None,
     }
 }
@@ -30,7 +23,7 @@ pub fn left_at<P: Positions>(held: &P, end: usize, x: ElementId) -> Option<Eleme
     ensures { result ≡ left_origin (history_at (P.operations held.now) end) x }
 {
     match find(held, end, x) {
-        Some((_, op)) => left_of(op),
+        Some((_, op)) => left_of(&op),
         None => None,
     }
 }
@@ -39,7 +32,7 @@ pub fn right_at<P: Positions>(held: &P, end: usize, x: ElementId) -> Option<Elem
     ensures { result ≡ right_origin (history_at (P.operations held.now) end) x }
 {
     match find(held, end, x) {
-        Some((_, op)) => right_of(op),
+        Some((_, op)) => right_of(&op),
         None => None,
     }
 }

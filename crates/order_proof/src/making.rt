@@ -184,7 +184,7 @@ fn make<P: Positions>(
 {
     let mut steps = Vec::new(alloc);
     let mut claim = (x, y);
-    let mut end = held.operations().len();
+    let mut end = held.count();
     'steps: while end > 0 {
         let step = make_step(alloc, held, end, claim.0, claim.1)?;
         let below = claim_below(&step);

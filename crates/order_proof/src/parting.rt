@@ -1,13 +1,15 @@
 //! Where the chains of left origins of two elements part.
 
 ghost use Rattle.std.specs.Prelude.{◌≡◌, ◌++◌, ◌∷◌, ◌⊎◌, ◌≢◌, ◌<◌, ◌≤◌, [], false, suc, length, IfOk, IfSome, IsNone, IsTrue, OnOk, Some};
+ghost use Rattle.op_runs.specs.Finding.{op_of};
 ghost use Rattle.origin_model.specs.operations.History.{left_of as left_origin};
 ghost use Rattle.order_proof.specs.Parting.{AreDowns, IsLeft, IsOneWay, IsPassed, age};
 ghost use Rattle.order_proof.specs.Positions.{history_at};
 
+use crate::origins::left_of;
 use crate::positions::{Positions, find};
-use fugue_ids::{ElementId, Op};
-use origin_model::left_of;
+use fugue_ids::ElementId;
+use op_runs::OpRef;
 use std::alloc::{AllocError, Global};
 
 /// A chain of left origins on the way up: the members that were passed, the lowest first, and the next one.
@@ -29,9 +31,9 @@ impl Ascent {
     }
 
     /// Passes a member, whose operation this is.
-    fn pass(&mut self, member: ElementId, op: &Op) -> Result<(), AllocError>
+    fn pass(&mut self, member: ElementId, op: &OpRef<'_>) -> Result<(), AllocError>
         ensures passed { OnOk result (self.new.passed.items ≡ self.old.passed.items ++ member ∷ []) }
-        ensures next { OnOk result (self.new.next ≡ left_origin op.now) }
+        ensures next { OnOk result (self.new.next ≡ left_origin (op_of op.now)) }
     {
         self.passed.push(member)?;
         self.next = left_of(op);
@@ -72,7 +74,7 @@ fn pass_newest<P: Positions>(
     if is_newer(held, below, rival, at) {
         return Ok(None);
     }
-    ascent.pass(member, op)?;
+    ascent.pass(member, &op)?;
     Ok(Some(at))
 }
 
@@ -110,7 +112,7 @@ pub fn downs_of<P: Positions>(
     ensures { IfOk result (λ (down_x, down_y). AreDowns (history_at (P.operations held.now) end) x y down_x.items down_y.items) }
 {
     // This call tells that the operations are lawful.
-    let _all = held.operations();
+    let _count = held.count();
     let mut one = Ascent::new(alloc, x);
     let mut other = Ascent::new(alloc, y);
     let mut below = end;

@@ -1,30 +1,30 @@
 -- The lemmas that proofs of other crates may cite.
 pub use Rattle.origin_model.proofs.operations.CauseLemmas.{becomes_ready, names_within, ready_absent}
 pub use Rattle.origin_model.proofs.operations.ElementLemmas.{element_id, element_own, element_stands, element_there, fits_element, none_elsewhere, one_place, place_eq-true, place_stands, stands_element, stands_place}
-pub use Rattle.origin_model.proofs.operations.LookupLemmas.{Fits, IsHeld, all_fit, cases_held, fit_each, found, has-append, has-holder, holder-has, holder-other, holder-own, holder_owns, holds-cons, holds-older, holds-other, holds-own, missing-held, own_id, right_at_held, right_by, when_ready}
-pub use Rattle.origin_model.proofs.operations.OneLookUpLemmas.{owns}
+pub use Rattle.origin_model.proofs.operations.LookupLemmas.{all_fit, cases_held, fit_each, Fits, found, has-append, has-holder, has-reverse, has_member, holder-has, holder-other, holder-own, holder_owns, holds-cons, holds-older, holds-other, holds-own, id_held-nil, IsHeld, missing-held, own_id, right_at_held, right_by, swap_or, when_ready}
+pub use Rattle.origin_model.proofs.operations.OneLookUpLemmas.{is_own-id}
 pub use Rattle.origin_model.proofs.operations.OwnIdLemmas.{lawful_own, other_ids}
 pub use Rattle.origin_model.proofs.operations.FoundedLemmas.{no_text_before, not_hidden_before, ready_is_new, same_nodes_same_order, section_first, shown_can_go, target_is_shown}
-pub use Rattle.origin_model.proofs.order.OrderLawLemmas.{Within-part, hidden-has, later_ops_keep_order, order_by_set, order_total, parts_keep_order}
-pub use Rattle.origin_model.proofs.order.OrderLemmas.{IsIn-held, further, lefts-in, order-none, order-some, order_bounded, right_at_in, rights-in}
-pub use Rattle.origin_model.proofs.order.OrderedListLemmas.{Ordered-agree, same_ordered}
+pub use Rattle.origin_model.proofs.order.OrderLawLemmas.{hidden-has, later_ops_keep_order, order_by_set, order_total, parts_keep_order, same-part, Within-part}
+pub use Rattle.origin_model.proofs.order.OrderLemmas.{further, IsIn-held, lefts-in, order-in, order-none, order-some, order_bounded, right_at_in, rights-in}
+pub use Rattle.origin_model.proofs.order.OrderedListLemmas.{count-no, count-yes, none_pass, Ordered-agree, same_ordered}
 pub use Rattle.origin_model.proofs.order.PositionLemmas.{index_end, member_lt, origin_before}
 pub use Rattle.origin_model.proofs.order.PrintedLemmas.{section_joins}
 pub use Rattle.origin_model.proofs.sides.DetachedLemmas.{absent_stays, found_without, nodes_stay}
 pub use Rattle.origin_model.proofs.sides.KeyedOrderLemmas.{adjacent, gap_at, gap_found, gap_within, key_found, key_held, keyed_at_gap, keyed_ids, keyed_joins, keys_fit, new_key_slot, order_once, part_bounds, part_least, siblings_fall, slot_held}
 pub use Rattle.origin_model.proofs.sides.NewKeyLemmas.{key-other, never_both, newest_key}
 pub use Rattle.origin_model.proofs.sides.NodeHistoryLemmas.{holder-nodes, nodes-lawful, nodes_lawful, op_of}
-pub use Rattle.origin_model.proofs.sides.NodeOrderLemmas.{IsByNodes, nodes-none, nodes_listed, order_by_nodes}
+pub use Rattle.origin_model.proofs.sides.NodeOrderLemmas.{count_alike, IsByNodes, nodes-none, nodes_listed, order_by_nodes}
 pub use Rattle.origin_model.specs.sides.Slot.{IsPlace}
 pub use Rattle.origin_model.proofs.taking.AcceptedFrontLemmas.{first_accepted}
 pub use Rattle.origin_model.proofs.taking.KeptLemmas.{answers-append, held-append, kept-append, kept-no, kept-yes, kept_suffice, nothing_settled, saved_suffice, stays_settled, tally-append}
 pub use Rattle.origin_model.proofs.taking.RefusedLemmas.{Refused, no_place_left, places-append, places-none, places-one, same_refused, taken_or_refused}
 pub use Rattle.origin_model.proofs.taking.SettlingLemmas.{IsEarliest, earliest-no, earliest-yes, earliest_found, passed_over, settle-settled, settles, within-none, within-some, without}
-pub use Rattle.origin_model.proofs.taking.ClosureLawLemmas.{covered_closed, nothing_covers}
+pub use Rattle.origin_model.proofs.taking.ClosureLawLemmas.{consistent_part, covered_closed, nothing_covers, part_at_end, part_in_front, parts_join}
 pub use Rattle.origin_model.proofs.taking.ClosureLemmas.{same_closed}
-pub use Rattle.origin_model.proofs.taking.TakingLemmas.{Covers, Covers-same, accept_covers, accepted_is_ready, fold_covers, has-moved}
+pub use Rattle.origin_model.proofs.taking.TakingLemmas.{accept_covers, accepted_by, accepted_is_ready, Covers, Covers-same, fold_covers, has-moved}
 pub use Rattle.origin_model.proofs.edits.NextCounterLemmas.{counters-append}
-pub use Rattle.origin_model.proofs.files.AppendLemmas.{Parts, batch_appended, from_parts, new_file_holds, same_to_gate, to_parts, with_batch}
+pub use Rattle.origin_model.proofs.files.AppendLemmas.{batch_appended, before_gate, from_parts, new_file_holds, Parts, same_to_gate, to_parts, with_batch}
 pub use Rattle.origin_model.proofs.files.BatchLemmas.{batch_of, behind_word, is_batch, length_is, one_grammar, same_batch, word_is}
 pub use Rattle.origin_model.proofs.frames.SingleLemmas.{IsSingle, framed_is, framed_of, single_of, singles_read}
 pub use Rattle.origin_model.proofs.frames.ItemLemmas.{bytes_of, item_framed, item_is_framed, ops_of, same_parts}
@@ -42,6 +42,7 @@ pub use Rattle.origin_model.proofs.order.ChainPartLemmas.{common}
 pub use Rattle.origin_model.proofs.order.ChainOrderLemmas.{chain_before-fork, chain_before-irrefl, chain_before-same}
 pub use Rattle.origin_model.proofs.order.ChainLemmas.{beside_is, chain-ends, chain-held, chain-other, chain-own, chain_above, never_none, same_chain}
 pub use Rattle.origin_model.proofs.order.ChainFrontLemmas.{has_left-at, left_at-is, left_by, lefts-above, lefts-prefix, rights-prefix}
-pub use Rattle.origin_model.proofs.order.ListPartLemmas.{heads}
-pub use Rattle.origin_model.proofs.order.PartLemmas.{Lawful-append, Within, Within-append, before_at, before_at-older, fork-by, fork_by, left_origin_held, lefts-at, lefts-within, right_origin_held, rights-at, rights-within}
+pub use Rattle.origin_model.proofs.order.ListPartLemmas.{empty_from, heads, not_nil}
+pub use Rattle.origin_model.proofs.order.PartLemmas.{before_at, before_at-older, fork-by, fork_by, IsIn-within, Lawful-append, left_origin_held, lefts-at, lefts-within, right_origin_held, rights-at, rights-within, Within, Within-append}
 pub use Rattle.origin_model.proofs.order.StrictOrderLemmas.{before_in-irrefl}
+pub use Rattle.origin_model.proofs.sides.KeyedBlockLemmas.{split_member}

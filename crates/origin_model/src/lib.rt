@@ -23,7 +23,7 @@ pub use laws::{
 };
 pub use operations::element::{element_of, left_of, right_of};
 pub use operations::lookup::find_holder;
-pub use operations::roles::fits_at;
+pub use operations::roles::{fits, fits_at};
 pub use operations::{
     Lookup, Named, Names, NoMemoryFor, Node, Place, Role, Verdict, names_of, verdict_in,
 };

@@ -8,9 +8,10 @@ ghost use Rattle.origin_model.specs.order.Printed.{shown as shown_on, manuscript
 
 use crate::operations::lookup::{Lookup, contains_op, find_holder};
 use crate::operations::named::verdict_in;
+use crate::operations::roles::fits;
 use crate::order::listing::{Listed, elements_in, list_newest};
 use crate::order::printing::{shown_in, write_manuscript};
-use crate::{NoMemoryFor, Place, Verdict};
+use crate::{NoMemoryFor, Place, Role, Verdict};
 use fugue_ids::{ElementId, Failed, NoMemory, Op, Out};
 use std::alloc::Global;
 use std::marker::Model;
@@ -44,12 +45,22 @@ impl Model for PlainReplica {
 impl Lookup for PlainReplica {
     ghost history = { λ replica. replica };
 
-    fn holder(&self, id: ElementId) -> Option<&Op> {
-        find_holder(&self.ops, id)
+    fn equals(&self, id: ElementId, op: &Op) -> Option<bool> {
+        match find_holder(&self.ops, id) {
+            Some(holder) => Some(*holder == *op),
+            None => None,
+        }
     }
 
     fn has_delete(&self, target: ElementId) -> bool {
         contains_op(&self.ops, &Op::Delete { target })
+    }
+
+    fn fits(&self, id: ElementId, role: Role) -> Option<bool> {
+        match find_holder(&self.ops, id) {
+            Some(holder) => Some(fits(role, holder)),
+            None => None,
+        }
     }
 }
 

@@ -12,10 +12,10 @@ use Rattle.outer_ports.specs.dock.Docks.{DockView, DockTells, ended_behind, out_
 use Rattle.outer_ports.specs.declared.dock.DockStep.{DockStep}
 use Rattle.outer_ports.specs.declared.dock.mem_dock.MemStep.{MemStep}
 use Rattle.std.proofs.lemmas.Bool.{cases_eq}
-use Rattle.fugue_ids.proofs.JoinLemmas.{write_tells}
+use Rattle.fugue_ids.proofs.JoinLemmas.{tells_more, write_tells}
 
 -- what is the same is told too
-same_tells : {X : Type 0} {old new : Option X} → new ≡ old → IsSome old → IsSome new
+pub same_tells : {X : Type 0} {old new : Option X} → new ≡ old → IsSome old → IsSome new
 same_tells {X} same tells = subst (λ (o : Option X). IsSome o) (sym same) tells
 
 map_tells : {X : Type 0} (f : X → X) (old new : Option X) → new ≡ option_map f old → IsSome old → IsSome new
@@ -96,10 +96,6 @@ take_tells (Err e) old new buf t tells = record {
   ended_at = same_tells t.ended_at tells.ended_at;
 }
 
-append_tells : (old new : Option (List ℕ)) (more : List ℕ) → new ≡ append_known old more → IsSome old → IsSome new
-append_tells None new more is tells = absurd (cc tells)
-append_tells (Some held) new more is tells = same_tells is refl
-
 behind_tells : (old new sent : Option (List ℕ)) → new ≡ ended_behind old sent → IsSome old → IsSome sent → IsSome new
 behind_tells None new sent is tells sends = absurd (cc tells)
 behind_tells (Some counts) new None is tells sends = absurd (cc sends)
@@ -116,7 +112,7 @@ end_tells {E} {T} result old new session e tells = record {
 }
   where
     ended_tells : (r : Result T E) → Ends {E = E} {T = T} old new r session → IsSome new.ended
-    ended_tells (Ok x) e = append_tells old.ended new.ended _ e.ended tells.ended
+    ended_tells (Ok x) e = tells_more old.ended new.ended _ e.ended tells.ended
     ended_tells (Err f) e = same_tells e.kept tells.ended
 
     at_tells : (r : Result T E) → Ends {E = E} {T = T} old new r session → IsSome new.ended_at

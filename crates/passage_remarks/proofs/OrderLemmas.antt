@@ -8,8 +8,9 @@ use Rattle.std.proofs.lemmas.List.Elements.{All-contains, All-cons, All-head, Al
 use Rattle.std.proofs.lemmas.List.Kept.{AllPairs-cons}
 use Rattle.fugue_ids.specs.Identifiers.{id_lt}
 use Rattle.fugue_ids.proofs.ListLemmas.{all_from_contains, all_pairs_head, all_pairs_nil, all_pairs_tail, contains_cases, contains_here, contains_none, contains_there}
-use Rattle.margin_notes.proofs.SortLemmas.{id_irrefl, id_other, id_trans}
+use Rattle.margin_notes.proofs.SortLemmas.{id_other}
 use Rattle.passage_remarks.specs.Remarks.{Remark, in_order, is_before, put_in_order}
+use Rattle.fugue_ids.proofs.OrderLemmas.{id_irrefl, id_trans}
 
 abbrev pub Before : Remark → Remark → Type 0
 Before a b = is_before a b ≡ true

@@ -132,10 +132,6 @@ passage_same (b ∷ more) = by (passage_same more) (written b)
         ∙ ap₂ (λ (c : ℕ) (l : List ℕ). c ∷ l) (sym i) same
     by same (plain differs other e) = ap passage_of (begins b (spelled more) _ e) ∙ plainly (spelled more) other ∙ ap (λ l. b ∷ l) same
 
--- a list that is not empty, by the test
-pub some_if : (n : ℕ) → nat_eq n 0 ≡ false → 0 < n
-some_if n is = elim (cases_Bool (nat_eq n 0)) [ inl e ↦ cc | inr e ↦ (let apart = eqb-false n 0 e in omega (arith, apart)) ]
-
 pub some_unless : (word : List ℕ) (b : Bool) → b ≡ nat_eq (length word) 0 → not b ≡ true → 0 < length word
 some_unless [] b e t = let f : false ≡ true = sym (ap not e) ∙ t in cc
 some_unless (c ∷ word) b e t = omega arith

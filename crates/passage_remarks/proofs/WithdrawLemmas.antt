@@ -19,7 +19,7 @@ use Rattle.origin_model.specs.edits.State.{State}
 use Rattle.origin_model.specs.operations.History.{accepted, holds}
 use Rattle.origin_model.specs.operations.Verdict.{verdict}
 use Rattle.origin_model.specs.taking.Taking.{Accepted, Again, Answer, Held, IsSettled, TooMany, answer, answer_by, is_again, taken}
-use Rattle.origin_model.proofs.SharedLemmas.{holds-older, holds-own, owns, ready_absent, shown_can_go}
+use Rattle.origin_model.proofs.SharedLemmas.{holds-older, holds-own, is_own-id, ready_absent, shown_can_go}
 use Rattle.origin_model.proofs.edits.EditIntakeLemmas.{not_waiting}
 use Rattle.origin_model.proofs.edits.FreshIdLemmas.{delete_unknown}
 use Rattle.origin_model.proofs.edits.UndecidedLemmas.{stays}
@@ -43,7 +43,7 @@ member (x ∷ rs) (suc n) r e = contains_there x rs r (member rs n r e)
 member_held : (h : List Op) (op : Op) (i : Identifier) → Contains h op → id_of op ≡ Some i → holds h i ≡ true
 member_held [] op i m e = absurd (contains_none op m)
 member_held (o ∷ h) op i m e =
-    elim (contains_cases o h op m) [ inl d ↦ holds-own o h i (owns o i (ap id_of d ∙ e)) | inr k ↦ holds-older o h i (member_held h op i k e) ]
+    elim (contains_cases o h op m) [ inl d ↦ holds-own o h i (is_own-id o i (ap id_of d ∙ e)) | inr k ↦ holds-older o h i (member_held h op i k e) ]
 
 -- the comment of a remark can be withdrawn
 pub can_go : (h : List Op) (n : ℕ) (r : Remark) → remark_numbered h n ≡ Some r → verdict h (Delete r.id) ≡ Ready

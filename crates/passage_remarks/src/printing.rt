@@ -16,7 +16,7 @@ use crate::listing::remark_entries;
 use crate::page::Page;
 use crate::pages::pages_of;
 use catalogue_notes::{ArrangeFault, outline, told};
-use fugue_ids::{Failed, Gather, Op, Out};
+use fugue_ids::{Failed, Gather, Out};
 use itoa::Buffer;
 use margin_notes::body_at;
 use outer_ports::Sink;
@@ -88,51 +88,51 @@ fn put_place<O: Out>(
 fn put_text<O: Out>(
     gather: &mut Gather,
     output: &mut O,
-    ops: &[Op],
-    replica: u32,
+    replica: &Replica,
+    author: u32,
     at: usize,
 ) -> Result<(), Failed>
     ensures { GathersText (O.seen output.old) (O.seen output.new) gather.old gather.new result
-        (text_told replica (body_of (slice_get ops.now at))) }
+        (text_told author (body_of (slice_get (reverse replica.now.held.history) at))) }
 {
     let mut buffer = Buffer::new();
-    let replica = buffer.format(replica).as_bytes();
-    let text = body_at(ops, at);
-    gather.put_pieces(output, &[replica, b" ", text, b"\n"])
+    let author = buffer.format(author).as_bytes();
+    let text = body_at(replica, at);
+    gather.put_pieces(output, &[author, b" ", text, b"\n"])
 }
 
 /// Puts the first line of a remark, whose passage begins at this cluster and has so many.
 fn put_head<O: Out>(
     gather: &mut Gather,
     output: &mut O,
-    ops: &[Op],
+    replica: &Replica,
     number: usize,
     entry: &Entry,
     first: usize,
     count: usize,
 ) -> Result<(), Failed>
     ensures { GathersText (O.seen output.old) (O.seen output.new) gather.old gather.new result
-        (head_line number (entry_remark ops.now entry.now) first count) }
+        (head_line number (entry_remark (reverse replica.now.held.history) entry.now) first count) }
 {
     put_place(gather, output, number, entry.place, first, count)?;
-    put_text(gather, output, ops, entry.id.replica, entry.at)
+    put_text(gather, output, replica, entry.id.replica, entry.at)
 }
 
 /// Puts a remark on the text of its section.
 fn put_remark<O: Out>(
     gather: &mut Gather,
     output: &mut O,
-    ops: &[Op],
+    replica: &Replica,
     page: &Page,
     number: usize,
     entry: &Entry,
 ) -> Result<(), Failed>
     ensures { GathersText (O.seen output.old) (O.seen output.new) gather.old gather.new result
-        (remark_told (clusters page.now) number (entry_remark ops.now entry.now)) }
+        (remark_told (clusters page.now) number (entry_remark (reverse replica.now.held.history) entry.now)) }
 {
     let first = page.first_cluster(entry.from);
     let count = page.cluster_count(entry.from, entry.to);
-    put_head(gather, output, ops, number, entry, first, count)?;
+    put_head(gather, output, replica, number, entry, first, count)?;
     put_passage(gather, output, count, page.cluster_text(first, count))
 }
 
@@ -151,11 +151,10 @@ fn put_remarks<O: Out>(
         (remarks_from replica.now.held.history 1
         (map (entry_remark (reverse replica.now.held.history)) entries.now)) }
 {
-    let ops = replica.accepted();
     'remarks: for (at, entry) in entries.iter().enumerate() {
         let place = entry.place - 1;
         let page = &pages[place];
-        put_remark(gather, output, ops, page, at + 1, entry)?;
+        put_remark(gather, output, replica, page, at + 1, entry)?;
     }
     Ok(())
 }

@@ -8,8 +8,8 @@ use Rattle.origin_model.specs.relay.Session.{Closing, Frame, Front, IsKind, Kind
 use Rattle.origin_model.proofs.SharedLemmas.{SomeKind, run_once, run_some, step_once, step_some}
 use Rattle.op_frame.proofs.FrontLemmas.{Front as Found, bad_there, front_of, frame_there, front_there}
 use Rattle.op_frame.proofs.ReadingLemmas.{begins_not_partial, frames_once}
-use Rattle.op_frame.proofs.SearchLemmas.{Decided, equal_decided}
 use Rattle.relay_core.specs.Laws.{EventsComeOnce}
+use Rattle.fugue_ids.proofs.DecideLemmas.{Decided, equal_decided}
 
 -- the bytes are the closing byte or not
 closing_decided : (bytes : List ℕ) → Decided (bytes ≡ closing)

@@ -1,41 +1,34 @@
 -- The log of a relay is one of operations, it only grows, and replies join.
-use Rattle.std.proofs.Common.{List, [], ap, append-nil, append_assoc, arith, drop, false, inl, inr, length, nat_eq, nat_lt, refl, subst, suc, sym, true, zero, ℕ, ◌++◌, ◌+◌, ◌<◌, ◌^◌, ◌∙◌, ◌∷◌, ◌≡◌, ◌≢◌, ◌≤◌}
+use Rattle.std.proofs.Common.{List, [], ap, append-nil, append_assoc, arith, drop, false, inl, inr, length, nat_eq, nat_lt, refl, subst, suc, sym, true, zero, ℕ, ◌++◌, ◌∙◌, ◌∷◌, ◌≡◌, ◌≢◌, ◌≤◌}
 use Rattle.std.specs.Prelude.{All, AllPairs, None, Option, Some, flat_map, if◌then◌else◌}
 use Rattle.std.specs.Cmp.Lexicographic.{pointwise}
 use Rattle.std.specs.FinMap as finite
-use Rattle.std.specs.Char.{IsScalar}
 use Rattle.std.specs.Int.{from_be_bytes, to_be_bytes, w32}
 use Rattle.std.proofs.lemmas.Bool.{and_from, cases_Bool, eq-eqb, or_parts, true≢false}
 use Rattle.std.proofs.lemmas.Grind.{flat_map-append}
 use Rattle.std.proofs.lemmas.List.{map-append}
 use Rattle.std.proofs.lemmas.List.Elements.{All-append, All-cons, All-head, All-nil, All-tail}
-use Rattle.fugue_ids.specs.Identifiers.{Identifier}
-use Rattle.fugue_ids.specs.Runs.{in_a_row, next_id}
 use Rattle.fugue_ids.specs.declared.op.Op.{Op}
 use Rattle.fugue_ids.specs.declared.op.Op.TheVariants.{Text}
-use Rattle.fugue_ids.proofs.ListLemmas.{all_before, all_pairs_append, all_pairs_nil}
+use Rattle.fugue_ids.proofs.ListLemmas.{all_before, all_pairs_append, all_pairs_nil, pointwise-same}
 use Rattle.origin_model.specs.declared.grammar.Grammar.TheVariants.{Version2}
 use Rattle.origin_model.specs.declared.relay.Event.{Event}
 use Rattle.origin_model.specs.declared.relay.Event.TheVariants.{Gone, Opened, Piece}
 use Rattle.origin_model.specs.declared.relay.Reply.{Reply}
-use Rattle.origin_model.specs.frames.Frames.{HasFrame, IsFrame, IsIdentifier, IsItem, IsOrigin, Item, Single, Typed, frame, item_ops}
+use Rattle.origin_model.specs.frames.Frames.{HasFrame, IsFrame, IsItem, Item, Single, Typed, frame, item_ops}
 use Rattle.origin_model.specs.relay.Relay.{Relay, RelayRuns, RelaySteps, Sessions, StepsPiece, new_relay, session_opened}
 use Rattle.origin_model.specs.relay.Session.{Closes, Closing, Frame, Front, Goes, IsKind, Kind, Neither, Next, SessionReading, Taken, TakesAll, TakesByte, TakesOne, at_cursor, greeted, greeting, is_logged, joined, session_goes_on, session_refused, told}
+use Rattle.op_frame.proofs.RunFrameLemmas.{run_frames}
 use Rattle.relay_core.specs.OpLogs.{IsLogOf, LogsAreOfOperations, LogsGrow, RepliesJoin}
 use Rattle.relay_core.specs.Texts.{with_op, with_ops}
 use Rattle.relay_core.proofs.JoiningLemmas.{all_join, all_or_refused, one_too_many}
-
--- a list is the same as itself, number by number
-same_numbers : (xs : List ℕ) → pointwise nat_eq xs xs ≡ true
-same_numbers [] = refl
-same_numbers (x ∷ xs) = and_from (nat_eq x x) (pointwise nat_eq xs xs) (eq-eqb x x refl) (same_numbers xs)
 
 -- a frame that a log lacks is none of its frames
 not_logged : (log : List (List ℕ)) (own : List ℕ) → is_logged log own ≡ false → All (λ f. f ≢ own) log
 not_logged [] own lacks = All-nil (λ f. f ≢ own)
 not_logged (f ∷ log) own lacks =
     let p = or_parts (pointwise nat_eq own f) (is_logged log own) lacks in
-    All-cons (λ g. g ≢ own) f log (λ e. true≢false (sym (ap (pointwise nat_eq own) e ∙ same_numbers own) ∙ p.0)) (not_logged log own p.1)
+    All-cons (λ g. g ≢ own) f log (λ e. true≢false (sym (ap (pointwise nat_eq own) e ∙ pointwise-same own) ∙ p.0)) (not_logged log own p.1)
 
 -- one operation more
 one_logged : (log : List (List ℕ)) (ops : List Op) (op : Op) → IsLogOf log ops → HasFrame op → (all : List Op) × IsLogOf (with_op log op) all
@@ -69,20 +62,11 @@ all_logged log ops [] is has = (ops, is)
 all_logged log ops (op ∷ new) is has =
     let one = one_logged log ops op is (All-head HasFrame op new has) in all_logged (with_op log op) one.0 new one.1 (All-tail HasFrame op new has)
 
--- the operations of a run have frames
-run_frames : (id section : Identifier) (left right : Option Identifier) (text : List ℕ) → 0 < id.replica → id.replica < 2 ^ 32 → id.counter + length text ≤ 2 ^ 32 → IsIdentifier section → IsOrigin left → IsOrigin right
-    → All IsScalar text → All HasFrame (in_a_row id section left right text)
-run_frames id section left right [] some fits few s l r scalars = All-nil HasFrame
-run_frames id section left right (ch ∷ text) some fits few s l r scalars =
-    let own : IsIdentifier id = record { some_replica = some; replica_fits = fits; counter_fits = omega (arith, few) } in
-    All-cons HasFrame (Text id section left right ch) (in_a_row (next_id id) section (Some id) right text) (own, s, l, r, All-head IsScalar ch text scalars)
-    (run_frames (next_id id) section (Some id) right text some fits (omega (arith, few)) s own r (All-tail IsScalar ch text scalars))
-
--- so have those of each frame
+-- the operations of each frame have frames
 item_frames : (item : Item) → IsItem Version2 item → All HasFrame (item_ops item)
 item_frames (Single op) is = All-cons HasFrame op [] is (All-nil HasFrame)
 item_frames (Typed run) is =
-    run_frames run.id run.section run.left run.right run.text is.id.some_replica is.id.replica_fits is.counters_fit is.section is.left is.right is.text.scalars
+    run_frames run.id run.section run.left run.right run.text is.id is.counters_fit is.section is.left is.right is.text.scalars
 
 frame_ops : (bytes : List ℕ) (ops : List Op) → IsFrame Version2 (record { bytes = bytes; ops = ops }) → All HasFrame ops
 frame_ops bytes ops is = subst (All HasFrame) (sym is.ops_are) (item_frames is.item is.is_item)

@@ -1,6 +1,6 @@
 -- Counts of faults on docks and wires that tell: they rise only where the dock or the wire is blamed.
 use Rattle.std.proofs.Common.{List, false, inl, inr, refl, subst, sym, true, ℕ, ◌∙◌, ◌≡◌}
-use Rattle.std.specs.Prelude.{Err, IsErr, IsSome, Ok, Option, Result}
+use Rattle.std.specs.Prelude.{Err, IsErr, IsSome, Ok, Result}
 use Rattle.std.proofs.lemmas.Bool.{cases_eq, false≢true}
 use Rattle.fugue_ids.proofs.JoinLemmas.{text_tells}
 use Rattle.outer_ports.proofs.SharedLemmas.{wire_write_tells}
@@ -8,6 +8,7 @@ use Rattle.outer_ports.specs.dock.Docks.{DockTells, DockView, out_to}
 use Rattle.outer_ports.specs.wire.Wires.{WireView, WireWrites}
 use Rattle.relay_sync.specs.Replies.{WireRisesFor}
 use Rattle.relay_sync.specs.Sending.{DockRisesFor, SendsText}
+use Rattle.outer_ports.proofs.TellLemmas.{same_tells}
 
 -- nothing was called
 pub dock_still : (P : Type 0) (u : DockView) → DockRisesFor P u u
@@ -27,9 +28,6 @@ dock_on Q u v w s t = dock_then ⊥ Q u v w (λ e. e) s t
 
 pub dock_calm : (Q : Type 0) (u v : DockView) → DockRisesFor ⊥ u v → DockRisesFor Q u v
 dock_calm Q u v s = dock_so ⊥ Q u v (λ e. absurd e) s
-
-same_tells : {X : Type 0} {old new : Option X} → new ≡ old → IsSome old → IsSome new
-same_tells {X} same tells = subst (λ (o : Option X). IsSome o) (sym same) tells
 
 sends_tell : {E T : Type 0} (result : Result T E) (u v : DockView) (session : ℕ) (text : List ℕ) → SendsText {E = E} {T = T} u v result session text → DockTells u → DockTells v
 sends_tell result u v session text s tells = record {

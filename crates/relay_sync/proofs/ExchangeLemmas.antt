@@ -1,5 +1,5 @@
 -- Who hears a relay's log from the start, after all have sent, accepts the closure of the union of what all of them kept.
-use Rattle.std.proofs.Common.{Bool, List, [], ap, append-nil, arith, false, inl, inr, length, nat_eq, refl, subst, sym, true, ℕ, ◌++◌, ◌∙◌, ◌∷◌, ◌≡◌, ◌≢◌, ◌≤◌}
+use Rattle.std.proofs.Common.{List, [], ap, append-nil, arith, false, inl, inr, length, nat_eq, refl, subst, sym, true, ℕ, ◌++◌, ◌∙◌, ◌∷◌, ◌≡◌, ◌≢◌, ◌≤◌}
 use Rattle.std.specs.Prelude.{All, map, reverse}
 use Rattle.std.specs.List.{filter}
 use Rattle.std.specs.Cmp.Lexicographic.{pointwise}
@@ -22,7 +22,7 @@ use Rattle.origin_model.specs.relay.Relay.{IsRelayState, Relay}
 use Rattle.origin_model.specs.relay.Session.{is_logged, reply_from}
 use Rattle.origin_model.specs.taking.Closure.{ClosureBySet, ClosureOfUnion, Consistent, Taker, WithinLimits, given_by, given_by_all, kept_by, kept_by_all, taker_state}
 use Rattle.origin_model.specs.taking.Taking.{Accepted, Again, Answer, Conflict, Full, Held, Stray, TooMany, Waits, answer, answer_counted, answers_from, closure, held, held_from, intake, intake_counted, no_counts, nothing_held, tally_from}
-use Rattle.origin_model.proofs.SharedLemmas.{Covers, fold_covers, has-append, kept_suffice, nothing_covers, nothing_settled}
+use Rattle.origin_model.proofs.SharedLemmas.{consistent_part, Covers, fold_covers, has-append, kept_suffice, nothing_covers, nothing_settled, part_at_end, part_in_front, parts_join}
 use Rattle.op_frame.proofs.ReadingLemmas.{same_front}
 use Rattle.relay_core.specs.OpLogs.{IsLogOf}
 use Rattle.relay_core.proofs.OpLogLemmas.{logs_are_of_operations}
@@ -32,10 +32,7 @@ use Rattle.relay_sync.specs.Outcomes.{Ended, ReadsReply}
 use Rattle.relay_sync.proofs.OutcomeLemmas.{reads_once}
 use Rattle.relay_sync.proofs.SentLemmas.{IsGathered, IsLogged, IsOfSent, IsTaken, gathered}
 use Rattle.relay_sync.proofs.TwoEndsLemmas.{reply_reads}
-
--- what follows both ways is the same test
-same_test : (a b : Bool) → (a ≡ true → b ≡ true) → (b ≡ true → a ≡ true) → a ≡ b
-same_test a b f g = grind (arith, f, g)
+use Rattle.std.specs.Cmp.{both_ways}
 
 -- what is so of each operation of a list is so of one that the list has
 of_each : (P : Op → Type 0) (ops : List Op) (x : Op) → All P ops → has_op ops x ≡ true → P x
@@ -162,18 +159,6 @@ taker_covers r k =
     (subst (λ l. Covers l (held r.hold r.most mine)) (append-nil mine)
     (fold_covers r.hold r.most mine mine [] nothing_held k (λ x m. subst (λ l. has_op l x ≡ true) (append-nil mine) m) nothing_covers alone.within_limits))
 
-part_of_part : (a b : List Op) → IsPartOf a b → Consistent b → Consistent a
-part_of_part a b f k x y i m n = k x y i (f x m) (f y n)
-
-in_front : (a b : List Op) → IsPartOf a (a ++ b)
-in_front a b x m = has-append a b x ∙ or_left (has_op a x) (has_op b x) m
-
-at_end : (a b : List Op) → IsPartOf b (a ++ b)
-at_end a b x m = has-append a b x ∙ or_right (has_op a x) (has_op b x) m
-
-both_parts : (a b c : List Op) → IsPartOf a c → IsPartOf b c → IsPartOf (a ++ b) c
-both_parts a b c f g x m = elim (or_cases (has_op a x) (has_op b x) (sym (has-append a b x) ∙ m)) [ inl j ↦ f x j | inr j ↦ g x j ]
-
 -- what a list has that was turned round, it had before
 has_back : (ops : List Op) (x : Op) → has_op (reverse ops) x ≡ true → has_op ops x ≡ true
 has_back [] x m = m
@@ -189,10 +174,10 @@ given_is_kept (r ∷ replicas) k x m =
     let mine : List Op = kept_by r in
     let rest : List Op = kept_by_all replicas in
     let s : Held = taker_state r in
-    let c : Covers mine s = taker_covers r (part_of_part mine (mine ++ rest) (in_front mine rest) k) in
-    let own : IsPartOf (given_by r) mine = both_parts (accepted s.history) s.waiting mine (λ x m. c.history_part x (has_back s.history x m)) c.waiting_part in
-    both_parts (given_by r) (given_by_all replicas) (mine ++ rest) (λ y n. in_front mine rest y (own y n))
-    (λ y n. at_end mine rest y (given_is_kept replicas (part_of_part rest (mine ++ rest) (at_end mine rest) k) y n)) x m
+    let c : Covers mine s = taker_covers r (consistent_part mine (mine ++ rest) (part_in_front mine rest) k) in
+    let own : IsPartOf (given_by r) mine = parts_join (accepted s.history) s.waiting mine (λ x m. c.history_part x (has_back s.history x m)) c.waiting_part in
+    parts_join (given_by r) (given_by_all replicas) (mine ++ rest) (λ y n. part_in_front mine rest y (own y n))
+    (λ y n. part_at_end mine rest y (given_is_kept replicas (consistent_part rest (mine ++ rest) (part_at_end mine rest) k) y n)) x m
 
 -- what a hearer took in is what was sent, and met no limit
 record Heard (sent begun : List Op) (r : Taker) (after : Held) : Type 0 where
@@ -226,13 +211,13 @@ module _ (limit : ℕ) (sendings : List Sending) (relay : Relay) (sent : IsSentT
 
   -- what was begun to be sent, the senders kept
   begun_kept : Consistent all → IsPartOf (given_by_all (beginners sendings)) all
-  begun_kept k x m = again x (given_is_kept (beginners sendings) (part_of_part (kept_by_all (beginners sendings)) all again k) x m)
+  begun_kept k x m = again x (given_is_kept (beginners sendings) (consistent_part (kept_by_all (beginners sendings)) all again k) x m)
 
   -- it has accepted the closure
   accepts : ClosureOfUnion → (r : Taker) (after : Held) → Consistent (kept_by r ++ all) → HearsLog relay.log r after → SameOps after.history (closure (kept_by r ++ all))
   accepts union r after k h =
       let t = heard r after h in
-      let kept : IsPartOf (given_by_all (beginners sendings)) all = begun_kept (part_of_part all (kept_by r ++ all) (at_end (kept_by r) all) k) in
+      let kept : IsPartOf (given_by_all (beginners sendings)) all = begun_kept (consistent_part all (kept_by r ++ all) (part_at_end (kept_by r) all) k) in
       subst (λ (s : Held). SameOps s.history (closure (kept_by r ++ all))) (sym t.after_is)
       (union r (senders sendings) t.ops t.all_sent (λ x m. kept x (t.no_other x m)) k t.within_limits)
 
@@ -240,22 +225,22 @@ module _ (limit : ℕ) (sendings : List Sending) (relay : Relay) (sent : IsSentT
   accepts_lawful : (r : Taker) (after : Held) → Consistent (kept_by r ++ all) → HearsLog relay.log r after → Lawful after.history
   accepts_lawful r after k h =
       let t = heard r after h in
-      let kept : IsPartOf (given_by_all (beginners sendings)) all = begun_kept (part_of_part all (kept_by r ++ all) (at_end (kept_by r) all) k) in
+      let kept : IsPartOf (given_by_all (beginners sendings)) all = begun_kept (consistent_part all (kept_by r ++ all) (part_at_end (kept_by r) all) k) in
       let part : IsPartOf (t.ops ++ kept_by r) (kept_by r ++ all) =
-      both_parts t.ops (kept_by r) (kept_by r ++ all) (λ x m. at_end (kept_by r) all x (kept x (t.no_other x m))) (in_front (kept_by r) all) in
+      parts_join t.ops (kept_by r) (kept_by r ++ all) (λ x m. part_at_end (kept_by r) all x (kept x (t.no_other x m))) (part_in_front (kept_by r) all) in
       let c = fold_covers r.hold r.most (kept_by r ++ all) t.ops (kept_by r) (taker_state r) k part
-      (taker_covers r (part_of_part (kept_by r) (kept_by r ++ all) (in_front (kept_by r) all) k)) t.within_limits in
+      (taker_covers r (consistent_part (kept_by r) (kept_by r ++ all) (part_in_front (kept_by r) all) k)) t.within_limits in
       subst (λ (s : Held). Lawful s.history) (sym t.after_is) c.lawful
 
   -- one that kept nothing else than the senders accepted the closure of what these kept
   module _ (union : ClosureOfUnion) (by_set : ClosureBySet) (k : Consistent all) (r : Taker) (part : IsPartOf (kept_by r) all) where
     both_consistent : Consistent (kept_by r ++ all)
-    both_consistent = part_of_part (kept_by r ++ all) all (both_parts (kept_by r) all all part (λ x m. m)) k
+    both_consistent = consistent_part (kept_by r ++ all) all (parts_join (kept_by r) all all part (λ x m. m)) k
 
     accepts_all : (after : Held) → HearsLog relay.log r after → SameOps after.history (closure all)
     accepts_all after h x =
         accepts union r after both_consistent h x
-        ∙ by_set (kept_by r ++ all) all both_consistent (λ y. same_test (has_op (kept_by r ++ all) y) (has_op all y) (both_parts (kept_by r) all all part (λ z m. m) y) (at_end (kept_by r) all y)) x
+        ∙ by_set (kept_by r ++ all) all both_consistent (λ y. both_ways (has_op (kept_by r ++ all) y) (has_op all y) (parts_join (kept_by r) all all part (λ z m. m) y) (part_at_end (kept_by r) all y)) x
 
 pub hearers_have_the_closure : ClosureOfUnion → HearersHaveTheClosure
 hearers_have_the_closure union limit sendings relay r after sent again k h = accepts limit sendings relay sent again union r after k h

@@ -13,11 +13,12 @@ use Rattle.origin_model.specs.relay.Session.{refusal_message}
 use Rattle.op_frame.specs.FrameFronts.{IsGrown}
 use Rattle.op_frame.specs.declared.grown.Grown.{Grown}
 use Rattle.op_frame.specs.declared.grown.Grown.TheVariants.{Bad}
-use Rattle.op_frame.proofs.ToldLemmas.{prepend_none, prepend_twice}
+use Rattle.op_frame.proofs.ToldLemmas.{prepend_none}
 use Rattle.outer_ports.specs.wire.Wires.{WireReads, WireView}
 use Rattle.relay_sync.specs.Replies.{End, Hears, IsBroken, IsCode, IsMessage, IsMessageFront, Message, Operations, Refusal, Stops, StopsIn, ending}
 use Rattle.relay_sync.specs.declared.syncing.SyncFault.{SyncFault}
 use Rattle.relay_sync.specs.declared.syncing.SyncFault.TheVariants.{BadReply, CutShort, NoMemory, RelayRefused, TooLong, TooMany, WireFault}
+use Rattle.fugue_ids.proofs.JoinLemmas.{prepend_twice}
 
 -- bytes behind bytes
 pub hears-append : (u v w : WireView) (a b : List ℕ) → Hears u v a → Hears v w b → Hears u w (a ++ b)

@@ -2,7 +2,7 @@
 use Rattle.std.proofs.Common.{[], List, ap, append_assoc, arith, get_or, inl, inr, length, length-append, refl, subst, sym, take, ℕ, ◌++◌, ◌<◌, ◌≤◌, ◌∙◌, ◌∷◌, ◌≡◌, ◌≢◌, ◌⊎◌}
 use Rattle.std.specs.Prelude.{All}
 use Rattle.std.specs.Int.{from_be_bytes, w32}
-use Rattle.std.proofs.lemmas.Bool.{cases_order}
+use Rattle.std.proofs.lemmas.Bool.{cases_lt}
 use Rattle.std.proofs.lemmas.List.{append-nil, take_all}
 use Rattle.std.proofs.lemmas.List.Elements.{All-head, All-tail}
 use Rattle.fugue_ids.specs.declared.limits.TheConstants.{STREAM_LIMIT}
@@ -17,10 +17,10 @@ use Rattle.op_frame.proofs.CodeLemmas.{same_fronts}
 use Rattle.op_frame.proofs.CourseLemmas.{comes_once, comes_some}
 use Rattle.op_frame.proofs.FrontLemmas.{Front, bad_there, front_of, front_there as part_there, frame_there}
 use Rattle.op_frame.proofs.ReadingLemmas.{begins_not_partial, framed_some, same_front, starts_more}
-use Rattle.op_frame.proofs.SearchLemmas.{Decided, both_decided, decided_by, equal_decided, less_decided}
 use Rattle.relay_sync.specs.Outcomes.{BeginsWith, IsNoMessage, EndsReply, EndsTaking, ReadsReply, ReplyComes, ReplyEnd, Ended, Refused as EndsRefused, Bad, Cut, TooLong, TooMany}
 use Rattle.relay_sync.specs.Replies.{End, IsCode, IsMessage, IsMessageFront, Message, Operations, Refusal, ending}
 use Rattle.relay_sync.proofs.HearingLemmas.{IsLead, code_behind, frame_front, leads, no_bytes, number_front, other_is_frame, other_is_partial, refusal_front}
+use Rattle.fugue_ids.proofs.DecideLemmas.{both_decided, Decided, decided_by, equal_decided, less_decided}
 
 -- at one place stands one message
 record SameMessage (m n : Message) (r s : List ℕ) : Type 0 where
@@ -121,13 +121,14 @@ abbrev front_end : {size limit : ℕ} → ℕ → (size ≤ limit) ⊎ (limit < 
 front_end place (inl fits) = Cut place
 front_end place (inr longer) = TooLong
 
+-- so many bytes are within the limit of a stream, or they are not
+fits_or_not : (size : ℕ) → (size ≤ STREAM_LIMIT) ⊎ (STREAM_LIMIT < size)
+fits_or_not size = elim (cases_lt STREAM_LIMIT size) [ inl longer ↦ inr longer | inr fits ↦ inl fits ]
+
 abbrev end_by : {size limit : ℕ} {bytes : List ℕ} → ℕ → (size ≤ limit) ⊎ (limit < size) → Stand bytes → ReplyEnd
 end_by place fits (message_there message p) = end_at message
 end_by place fits (front_there p) = front_end place fits
 end_by place fits (none_there p) = Bad place
-
-fits_or_not : (size limit : ℕ) → (size ≤ limit) ⊎ (limit < size)
-fits_or_not size limit = elim (cases_order size limit) [ inl same ↦ inl (omega (arith, same)) | inr (inl less) ↦ inl (omega (arith, less)) | inr (inr more) ↦ inr more ]
 
 module _ (size place : ℕ) (rest : List ℕ) where
   by_message : (message : Message) (fits : (size ≤ STREAM_LIMIT) ⊎ (STREAM_LIMIT < size)) (stand : Stand rest) → BeginsWith message rest → end_at message ≡ end_by place fits stand
@@ -220,7 +221,7 @@ reads_once bytes ops others end other p q =
     let size : ℕ = length bytes in
     let same = same_frames size p.rest q.rest p.found q.found (length (bytes_of p.found)) (length (bytes_of q.found)) end other p.are_frames q.are_frames p.ends q.ends (sym p.split ∙ q.split) in
     let moved = subst (λ (n : ℕ). EndsReply size n q.rest end) (ap length same.bytes) (subst (λ (l : List ℕ). EndsReply size (length (bytes_of p.found)) l end) same.rest p.ends) in
-    let fits = fits_or_not size STREAM_LIMIT in
+    let fits = fits_or_not size in
     let stand = stand_of q.rest in
     (p.ops_are ∙ same.ops ∙ sym q.ops_are, end_is size (length (bytes_of q.found)) q.rest end fits stand moved ∙ sym (end_is size (length (bytes_of q.found)) q.rest other fits stand q.ends))
 
@@ -279,7 +280,7 @@ module _ (hold most : ℕ) (start : Held) (bytes : List ℕ) where
 
   -- the frames of a reply, and the rest behind them
   reading : (ops : List Op) (end : StreamEnd) → Reads Version2 (take STREAM_LIMIT bytes) ops end → (other : ReplyEnd) × ReadsReply bytes ops other
-  reading ops end r = by_stand (stand_of r.rest) (fits_or_not (length bytes) STREAM_LIMIT)
+  reading ops end r = by_stand (stand_of r.rest) (fits_or_not (length bytes))
     where
       place : ℕ
       place = length (bytes_of r.found)

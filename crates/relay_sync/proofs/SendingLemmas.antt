@@ -72,7 +72,7 @@ front_none v w t = record { count = 0; within = omega arith; took = t }
 front_whole : (v w : OutView) (bytes : List ℕ) → Took v w bytes → TookFront v w bytes
 front_whole v w bytes t = record { count = length bytes; within = omega arith; took = subst (Took v w) (sym (take_all (length bytes) bytes (omega arith))) t }
 
-grows_none : {T : Type 0} (known : Option (List T)) → known ≡ option_map (λ xs. xs ++ []) known
+pub grows_none : {T : Type 0} (known : Option (List T)) → known ≡ option_map (λ xs. xs ++ []) known
 grows_none None = refl
 grows_none (Some xs) = ap Some (sym (append-nil xs))
 

@@ -7,7 +7,7 @@ use Rattle.std.proofs.Math.Seq.{take-append-add, take-append_seam}
 use Rattle.std.proofs.lemmas.List.{append-nil, map-append, take-append-le, take_all}
 use Rattle.std.proofs.lemmas.List.Concat.{flat_map-append}
 use Rattle.fugue_ids.specs.Outs.{OutView, spent, Took, TookFront}
-use Rattle.fugue_ids.proofs.JoinLemmas.{took_joins, took_none}
+use Rattle.fugue_ids.proofs.JoinLemmas.{append_known-twice, took_joins, took_none}
 use Rattle.origin_model.specs.declared.relay.Reply.{Reply}
 use Rattle.origin_model.specs.relay.Relay.{Relay, RelayRuns, RelaySteps}
 use Rattle.origin_model.proofs.SharedLemmas.{runs-append, step_runs}
@@ -17,16 +17,12 @@ use Rattle.relay_sync.specs.Sending.{GivesSteps, LastsFor, Replied, RepliedPartl
 use Rattle.relay_sync.specs.Serving.{Comes, ended_in, ended_with, GaveSteps, HasRoomFor, Lasts, NoneAfter, Serves, ServesPartly, ServingStops, Spends, ends_behind, Turn, TurnStops, bytes_to, closed_by, closed_in, count_over, event_of, over_after, replies_of, sent_to, steps_of}
 use Rattle.relay_sync.specs.declared.serving.ServeFault.{ServeFault}
 use Rattle.relay_sync.specs.declared.serving.ServeFault.TheVariants.{DockFault, NoMemory, TooLong}
-use Rattle.relay_sync.proofs.SendingLemmas.{ends_none, sure_is}
+use Rattle.relay_sync.proofs.SendingLemmas.{ends_none, grows_none, sure_is}
 
 -- a known list that grows twice
 grows_twice : {T : Type 0} (known : Option (List T)) (a b : List T) → option_map (λ xs. xs ++ b) (option_map (λ xs. xs ++ a) known) ≡ option_map (λ xs. xs ++ (a ++ b)) known
 grows_twice None a b = refl
 grows_twice (Some xs) a b = ap Some (append_assoc xs a b)
-
-grows_none : {T : Type 0} (known : Option (List T)) → known ≡ option_map (λ xs. xs ++ []) known
-grows_none None = refl
-grows_none (Some xs) = ap Some (sym (append-nil xs))
 
 comes-append : (a b c : Option (List MemStep)) (xs ys : List MemStep) → Comes a xs b → Comes b ys c → Comes a (xs ++ ys) c
 comes-append a b c [] ys h i = subst (λ s. Comes s ys c) h i
@@ -118,11 +114,6 @@ spends_none DockFault more x y other same = absurd (other refl)
 spends_none TooLong more x y other same = same
 spends_none NoMemory more x y other same = same
 
--- what a session was sent in two parts
-known_twice : (known : Option (List ℕ)) (a b : List ℕ) → append_known (append_known known a) b ≡ append_known known (a ++ b)
-known_twice None a b = refl
-known_twice (Some xs) a b = ap Some (append_assoc xs a b)
-
 known_none : (known : Option (List ℕ)) → known ≡ append_known known []
 known_none None = refl
 known_none (Some xs) = ap Some (sym (append-nil xs))
@@ -134,7 +125,7 @@ ended-append sent counts [] vs = λ i. ended_in (λ session. known_none (sent se
 ended-append sent counts (u ∷ us) vs =
     let now : ℕ → Option (List ℕ) = λ session. append_known (sent session) (bytes_to session u.reply) in
     let behind : Option (List ℕ) = ended_with now u.reply counts in
-    ended-append now behind us vs ∙ (λ i. ended_in (λ session. known_twice (sent session) (bytes_to session u.reply) (sent_to session us) i) (ended_in now behind us) vs)
+    ended-append now behind us vs ∙ (λ i. ended_in (λ session. append_known-twice (sent session) (bytes_to session u.reply) (sent_to session us) i) (ended_in now behind us) vs)
 
 -- nothing was served yet
 pub serves_none : (relay : Relay) (dock : DockView) → Serves relay relay dock dock []

@@ -8,13 +8,12 @@ use Rattle.std.proofs.lemmas.List.{drop-map, length-map, take-append-drop, take_
 use Rattle.std.proofs.lemmas.List.Elements.{All-append, All-head, All-tail}
 use Rattle.std.proofs.lemmas.List.Folds.{flat_map-map}
 use Rattle.std.proofs.lemmas.Nat.{from_be_bytes-to_be_bytes_4}
-use Rattle.fugue_ids.specs.Identifiers.{Identifier}
 use Rattle.fugue_ids.specs.declared.limits.TheConstants.{STREAM_LIMIT}
 use Rattle.fugue_ids.specs.declared.op.Op.{Op}
 use Rattle.fugue_ids.specs.declared.op.Op.TheVariants.{Delete, Note, Section, Text}
 use Rattle.fugue_ids.proofs.ListLemmas.{all_before, all_behind}
 use Rattle.origin_model.specs.declared.grammar.Grammar.TheVariants.{Version2}
-use Rattle.origin_model.specs.frames.Frames.{Framed, HasFrame, IsFrame, Reads, Whole, frame, id_bytes, single_frames}
+use Rattle.origin_model.specs.frames.Frames.{Framed, HasFrame, IsFrame, Reads, Whole, frame, single_frames}
 use Rattle.origin_model.specs.frames.Framings.{IsWritten, frames}
 use Rattle.origin_model.specs.operations.History.{accepted}
 use Rattle.origin_model.specs.relay.Session.{Closes, Goes, Taken, TakesAll, at_cursor, closing, is_logged, joined, refusal_message, reply_from, session_goes_on, session_refused, unread}
@@ -29,18 +28,14 @@ use Rattle.relay_core.proofs.OpLogLemmas.{logs_are_of_operations}
 use Rattle.relay_sync.specs.Outcomes.{Ended, ReadsReply}
 use Rattle.relay_sync.specs.Saying.{request_for}
 use Rattle.relay_sync.specs.TwoEnds.{IsBeyond, IsFull, IsReplied, RepliesAreRead, RequestsAreAnswered, sent_ops}
-
--- the names of a note, eight bytes each
-length-names : (named : List Identifier) → length (flat_map id_bytes named) ≡ 8 * length named
-length-names [] = refl
-length-names (i ∷ named) = omega (arith, length-names named)
+use Rattle.op_frame.proofs.FieldLemmas.{length-identifiers}
 
 -- the longest frame of one operation is that of a note with the most names and the longest body
 frame_short : (op : Op) → HasFrame op → length (frame op) ≤ 1061
 frame_short (Section i l r t) has = simp length-append (omega (arith, origin_short l, origin_short r, has.3.text.short))
 frame_short (Text i s l r c) has = simp length-append (omega (arith, origin_short l, origin_short r))
 frame_short (Delete i) has = omega arith
-frame_short (Note i ns c b) has = simp length-append (omega (arith, length-names ns, has.1.few, has.3.short))
+frame_short (Note i ns c b) has = simp length-append (omega (arith, length-identifiers ns, has.1.few, has.3.short))
 
 frames_short : (ops : List Op) → All HasFrame ops → length (single_frames ops) ≤ 1061 * length ops
 frames_short [] have = omega arith

@@ -5,6 +5,7 @@ ghost use Rattle.relay_sync.specs.Saying.{SaysText, SaysTo, request_for};
 
 use fugue_ids::{Failed, NoMemory};
 use op_frame::{CLOSING, GREETING, encode_all};
+use op_runs::OpSlice;
 use outer_ports::Wire;
 use replica_core::Replica;
 use std::alloc::Global;
@@ -19,7 +20,7 @@ pub(crate) fn request_of(alloc: Global, replica: &Replica, cursor: u32) -> Resul
     text.push(GREETING)?;
     text.extend_from_slice(&cursor.to_be_bytes())?;
     encode_all(accepted, &mut text)?;
-    encode_all(replica.waiting(), &mut text)?;
+    encode_all(OpSlice::of(replica.waiting()), &mut text)?;
     text.push(CLOSING)?;
     Ok(text)
 }

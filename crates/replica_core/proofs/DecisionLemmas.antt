@@ -1,14 +1,13 @@
 -- What a decision has to do with the answer to an operation.
-use Rattle.std.proofs.Common.{◌≡◌, refl, sym, ◌∙◌, ap, Bool, true, false, ◌||◌, nat_eq, ◌+◌, ℕ, length, List, arith}
+use Rattle.std.proofs.Common.{◌≡◌, refl, sym, ◌∙◌, ap, Bool, true, false, ◌||◌, nat_eq, ◌+◌, ℕ, length, arith}
 use Rattle.std.proofs.lemmas.Bool.{false≢true}
-use Rattle.std.proofs.lemmas.List.{length-reverse}
 use Rattle.std.specs.Prelude.{if◌then◌else◌, Option, Some, None, ◌↔◌}
 use Rattle.fugue_ids.specs.Identifiers.{Identifier}
 use Rattle.fugue_ids.specs.Ops.{id_of}
 use Rattle.fugue_ids.specs.declared.op.Op.{Op}
 use Rattle.causal_inbox.specs.declared.index.Found.{Found}
 use Rattle.causal_inbox.specs.declared.index.Found.TheVariants.{Same, Clash, Absent}
-use Rattle.origin_model.specs.operations.History.{has_op, accepted}
+use Rattle.origin_model.specs.operations.History.{has_op}
 use Rattle.origin_model.specs.operations.Verdict.{verdict, first_line, first_stray, first_missing, names, id_held}
 use Rattle.origin_model.specs.declared.operations.Verdict.{Verdict}
 use Rattle.origin_model.specs.declared.operations.Verdict.TheVariants.{Again as AgainOnHistory, Conflict as ConflictOnHistory, Stray as StrayOnHistory, Missing as MissingOnHistory, Ready as ReadyOnHistory}
@@ -67,16 +66,16 @@ answer_decided hold most s op found same clash absent =
     (sym (found_is (has_op s.waiting op) (id_held s.waiting (id_of op)) found same clash absent))
 
 -- the same, by what the calls say
-pub decision_by : (hold most : ℕ) (s : Held) (op : Op) (found : Found) (v : Verdict) (history waiting : List Op) (result : Decision)
+pub decision_by : (hold most : ℕ) (s : Held) (op : Op) (found : Found) (v : Verdict) (accepted_count waiting_count : ℕ) (result : Decision)
     → ((found ≡ Same) ↔ (has_op s.waiting op ≡ true))
     → ((found ≡ Clash) ↔ ((has_op s.waiting op ≡ false) × (id_held s.waiting (id_of op) ≡ true)))
     → ((found ≡ Absent) ↔ ((has_op s.waiting op ≡ false) × (id_held s.waiting (id_of op) ≡ false)))
-    → v ≡ verdict s.history op → history ≡ accepted s.history → waiting ≡ s.waiting
-    → result ≡ decided found v (nat_eq (length history + length waiting) most)
+    → v ≡ verdict s.history op → accepted_count ≡ length s.history → waiting_count ≡ length s.waiting
+    → result ≡ decided found v (nat_eq (accepted_count + waiting_count) most)
     → answer hold most s op ≡ answer_by_decision (nat_eq (length s.waiting) hold) result
-decision_by hold most s op found v history waiting result same clash absent is_verdict is_history is_waiting is_result =
-    let held : length history + length waiting ≡ length s.history + length s.waiting =
-    omega (arith, ap length is_history, length-reverse s.history, ap length is_waiting) in
+decision_by hold most s op found v accepted_count waiting_count result same clash absent is_verdict is_count is_waiting is_result =
+    let held : accepted_count + waiting_count ≡ length s.history + length s.waiting =
+    omega (arith, is_count, is_waiting) in
     answer_decided hold most s op found same clash absent
     ∙ ap (answer_by_decision (nat_eq (length s.waiting) hold))
     (ap (λ (w : Verdict). decided found w (nat_eq (length s.history + length s.waiting) most)) (sym is_verdict)
@@ -89,7 +88,7 @@ pub record IsNew (most : ℕ) (s : Held) (op : Op) : Type 0 where
   pub own_id : is_taken s op ≡ false
   pub below : nat_eq (length s.history + length s.waiting) most ≡ false
 
-not_most : (at_most at_hold : Bool) (v : Verdict) → is_kept (answer_by at_most at_hold v) ≡ true → at_most ≡ false
+pub not_most : (at_most at_hold : Bool) (v : Verdict) → is_kept (answer_by at_most at_hold v) ≡ true → at_most ≡ false
 not_most false at_hold v e = refl
 not_most true at_hold AgainOnHistory e = absurd (false≢true e)
 not_most true at_hold ConflictOnHistory e = absurd (false≢true e)

@@ -12,14 +12,13 @@ use Rattle.fugue_ids.proofs.RunLemmas.{none_behind, one_behind}
 use Rattle.origin_model.specs.edits.Edits.{ReadyInTurn, deletes_of, extended}
 use Rattle.origin_model.specs.edits.Effect.{Gains, StopsPartly, with_ops}
 use Rattle.origin_model.specs.edits.State.{State, Stands}
-use Rattle.origin_model.specs.operations.Verdict.{Lawful, verdict}
+use Rattle.origin_model.specs.operations.Verdict.{Lawful}
 use Rattle.origin_model.specs.order.Laws.{IsIn}
 use Rattle.origin_model.specs.order.Order.{order}
 use Rattle.origin_model.specs.order.Printed.{is_hidden, shown}
 use Rattle.origin_model.specs.taking.Taking.{IsSettled}
 use Rattle.origin_model.specs.declared.operations.Place.{Place}
 use Rattle.origin_model.specs.declared.operations.Place.TheVariants.{Section as within}
-use Rattle.origin_model.specs.declared.operations.Verdict.TheVariants.{Ready}
 use Rattle.origin_model.proofs.SharedLemmas.{order_total, target_is_shown}
 use Rattle.origin_model.proofs.edits.MadeLemmas.{extended-append}
 use Rattle.section_catalogue.specs.Changes.{Answer}
@@ -101,53 +100,6 @@ still_in (y ∷ ys) p h x i = still_in ys p (Delete y ∷ h) x (record { op = i.
 
 pub still_within : (ys : List Identifier) (s : Identifier) (h : List Op) (xs : List Identifier) → AreWithin s h xs → AreWithin s (extended h (deletes_of ys)) xs
 still_within ys s h xs all = All-weaker (λ x. IsIn (within s) h x) (λ x. IsIn (within s) (extended h (deletes_of ys)) x) (λ x i. still_in ys (within s) h x i) xs all
-
--- Deletes are pushed, as far as the one behind k: what is left leads to the whole, and as many can be taken back
-pub record IsDeleting (old now : List Op) (x : Identifier) (count k : ℕ) : Type 0 where
-  pub leads : extended now (deletes_from (id_behind x k) (count - k)) ≡ extended old (deletes_from x count)
-  pub ready : ReadyInTurn now (deletes_from (id_behind x k) (count - k))
-  pub back : drop k now ≡ old
-  pub enough : k ≤ length now
-  pub within : k ≤ count
-
-pub deleting : (old : List Op) (x : Identifier) (count : ℕ) → ReadyInTurn old (deletes_from x count) → IsDeleting old old x count 0
-deleting old x count ready =
-    let e : count - 0 ≡ count = omega arith in
-    let is : deletes_from (id_behind x 0) (count - 0) ≡ deletes_from x count = λ i. deletes_from (none_behind x i) (e i) in
-    record { leads = ap (extended old) is; ready = subst (ReadyInTurn old) (sym is) ready; back = refl; enough = omega arith; within = omega arith }
-
--- the next one, and those behind it
-next_delete : (x : Identifier) (count k : ℕ) → k < count → deletes_from (id_behind x k) (count - k) ≡ Delete (id_behind x k) ∷ deletes_from (id_behind x (k + 1)) (count - (k + 1))
-next_delete x count k less =
-    let e : count - k ≡ suc (count - (k + 1)) = omega (arith, less) in
-    let c : (x.counter + k) + 1 ≡ x.counter + (k + 1) = omega arith in
-    ap (deletes_from (id_behind x k)) e ∙ (λ i. Delete (id_behind x k) ∷ deletes_from (record { replica = x.replica; counter = c i }) (count - (k + 1)))
-
-module _ (old now : List Op) (x : Identifier) (count k : ℕ) (p : IsDeleting old now x count k) (less : k < count) where
-  in_turn : ReadyInTurn now (Delete (id_behind x k) ∷ deletes_from (id_behind x (k + 1)) (count - (k + 1)))
-  in_turn = subst (ReadyInTurn now) (next_delete x count k less) p.ready
-
-  module _ (target : Identifier) (is : target ≡ id_behind x k) where
-    pub delete_ready : verdict now (Delete target) ≡ Ready
-    delete_ready = ap (λ y. verdict now (Delete y)) is ∙ in_turn.0
-
-    pub deleted_on : (new : List Op) → new ≡ Delete target ∷ now → IsDeleting old new x count (k + 1)
-    deleted_on new pushed =
-        let next : new ≡ Delete (id_behind x k) ∷ now = pushed ∙ ap (λ y. Delete y ∷ now) is in
-        let up : suc k ≡ k + 1 = omega arith in
-        let rest = deletes_from (id_behind x (k + 1)) (count - (k + 1)) in
-        record {
-          leads = ap (λ h. extended h rest) next ∙ sym (ap (extended now) (next_delete x count k less)) ∙ p.leads;
-          ready = subst (λ h. ReadyInTurn h rest) (sym next) in_turn.1;
-          back = ap (λ n. drop n new) (sym up) ∙ ap (drop (suc k)) next ∙ p.back;
-          enough = omega (arith, p.enough, ap length next);
-          within = omega (arith, less);
-        }
-
-pub deleted_all : (old now : List Op) (x : Identifier) (count k : ℕ) → IsDeleting old now x count k → count ≤ k → now ≡ extended old (deletes_from x count)
-deleted_all old now x count k p all =
-    let e : count - k ≡ 0 = omega (arith, all) in
-    sym (ap (λ n. extended now (deletes_from (id_behind x k) n)) e) ∙ p.leads
 
 -- how many identifiers follow one another
 pub record IsRow (rest : List Identifier) (x : Identifier) (k count : ℕ) (last : Identifier) : Type 0 where

@@ -1,10 +1,9 @@
 -- Operations that are taken in one after another by one call.
-use Rattle.std.proofs.Common.{Bool, List, [], ap, append-nil, append_assoc, arith, drop, false, get_or, inl, inr, length, length-append, refl, subst, suc, sym, take, true, zero, ℕ, ◌++◌, ◌+◌, ◌-◌, ◌<◌, ◌^◌, ◌∙◌, ◌∷◌, ◌≡◌, ◌≢◌, ◌≤◌}
-use Rattle.std.specs.Prelude.{◌↔◌, All, Contains, None, Option, Some, flat_map, is_some, map, option_to_list}
-use Rattle.std.proofs.lemmas.Bool.{cases_lt, false_from_ne_true, true≢false}
+use Rattle.std.proofs.Common.{List, [], ap, append-nil, append_assoc, arith, drop, false, get_or, inl, length, length-append, refl, subst, suc, sym, take, true, zero, ℕ, ◌++◌, ◌+◌, ◌<◌, ◌^◌, ◌∙◌, ◌∷◌, ◌≡◌, ◌≢◌, ◌≤◌}
+use Rattle.std.specs.Prelude.{◌↔◌, All, Contains, Option, Some, flat_map, map, option_to_list}
+use Rattle.std.proofs.lemmas.Bool.{false_from_ne_true, true≢false}
 use Rattle.std.proofs.lemmas.List.Elements.{All-cons, All-head, All-nil, All-tail, All-weaker}
 use Rattle.fugue_ids.specs.Identifiers.{Identifier, id_eq}
-use Rattle.fugue_ids.specs.Ops.{id_of}
 use Rattle.fugue_ids.specs.Runs.{id_behind, ids_in_a_row, in_a_row, next_id, run_from, start_behind, text_by}
 use Rattle.fugue_ids.specs.declared.op.Op.{Op}
 use Rattle.fugue_ids.specs.declared.op.Op.TheVariants.{Text}
@@ -12,11 +11,9 @@ use Rattle.fugue_ids.specs.declared.run.RunStart.{RunStart}
 use Rattle.fugue_ids.proofs.IdentifierLemmas.{id_eq-refl, ne-id_eq}
 use Rattle.fugue_ids.proofs.ListLemmas.{all_before, all_behind, all_from_contains}
 use Rattle.fugue_ids.proofs.RunLemmas.{length-typed, none_behind, one_behind}
-use Rattle.causal_inbox.specs.Naming.{AreConcerned}
 use Rattle.origin_model.specs.declared.taking.Tally.{Tally}
-use Rattle.origin_model.specs.edits.Edits.{ReadyInTurn, extended}
 use Rattle.origin_model.specs.edits.Effect.{with_ops}
-use Rattle.origin_model.specs.edits.RunLaws.{CanGoIn, GoesIn}
+use Rattle.origin_model.specs.edits.RunLaws.{GoesIn}
 use Rattle.origin_model.specs.edits.State.{State, Stands}
 use Rattle.origin_model.specs.operations.Counters.{mentioned}
 use Rattle.origin_model.specs.operations.History.{has_op, holds, is_own}
@@ -29,7 +26,7 @@ use Rattle.origin_model.proofs.edits.FreshIdLemmas.{IsUnknown}
 use Rattle.origin_model.proofs.edits.RunLemmas.{runs_go_in_whole}
 use Rattle.replica_core.specs.Edits.{CanJoin}
 use Rattle.replica_core.specs.Feeding.{AreUntouched, GoesAtOnce, StopsFeeding, StopsKeeping, TakesInAll, TakesInSome}
-use Rattle.replica_core.specs.Keeping.{LeavesUnkept, TakesInKeeping}
+use Rattle.replica_core.specs.Keeping.{LeavesUnkept}
 use Rattle.replica_core.specs.Told.{Leaves, total}
 use Rattle.replica_core.specs.declared.keeping.FeedFault.{FeedFault}
 use Rattle.replica_core.specs.declared.keeping.FeedFault.TheVariants.{NoMemory as FedNoMemory, TooMany as FedTooMany}

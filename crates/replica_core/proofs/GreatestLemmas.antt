@@ -1,6 +1,6 @@
 -- The greatest counter of a replica: an identifier that a lawful history's operations have or name is one that it holds.
 use Rattle.std.proofs.Common.{Bool, ◌≡◌, ℕ, ◌≤◌, List, [], ◌∷◌, ◌++◌, true, refl, sym, ap, subst, ◌∙◌, inl, inr, nat_eq, arith, max}
-use Rattle.std.specs.Prelude.{◌⊎◌, Option, Some, None, is_some, option_to_list, All, Contains, filter, flat_map, map}
+use Rattle.std.specs.Prelude.{◌⊎◌, Option, Some, None, is_some, option_to_list, Contains, filter, flat_map, map}
 use Rattle.std.proofs.lemmas.Bool.{cases_Bool, eq-eqb, eqb-true, true≢false}
 use Rattle.std.proofs.lemmas.List.{append-nil}
 use Rattle.std.proofs.lemmas.List.Elements.{All-append, All-weaker, Contains-append_left, Contains-append_right, Contains-append_cases}
@@ -15,12 +15,13 @@ use Rattle.origin_model.specs.operations.History.{holder, holds, is_own}
 use Rattle.origin_model.specs.operations.Verdict.{Lawful, first_missing, names, verdict}
 use Rattle.origin_model.specs.declared.operations.Role.{Role}
 use Rattle.origin_model.specs.declared.operations.Verdict.TheVariants.{Ready}
-use Rattle.origin_model.proofs.SharedLemmas.{cases_held, holds-other, holds-own, missing-held, own_id, when_ready}
+use Rattle.origin_model.proofs.SharedLemmas.{cases_held, holds-older, holds-other, holds-own, missing-held, own_id, when_ready}
 use Rattle.replica_core.specs.Index.{IsIndex, position_of}
 use Rattle.std.specs.FinMap.{FinMap, get}
 use Rattle.stretch_map.specs.Rules.{IsGreatestIn}
 use Rattle.stretch_map.specs.declared.follows.Position.{Position}
 use Rattle.replica_core.proofs.IndexLemmas.{has_position, is_some-as}
+use Rattle.causal_inbox.proofs.GreatestLemmas.{greatest_of, no_member}
 
 -- where none is missing, each name is held
 names_held : (h : List Op) (ns : List (Identifier × Role)) (x : Identifier) → first_missing h ns ≡ None → Contains (map (λ named. named.0) ns) x → holds h x ≡ true
@@ -48,18 +49,15 @@ own_or_named op h x ready c =
     the_own None c = absurd (contains_none x c)
     the_own (Some i) c = elim (contains_cases i [] x c) [ inl same ↦ ap (λ j. Some j) same | inr none ↦ absurd (contains_none x none) ]
 
-holds_more : (op : Op) (h : List Op) (x : Identifier) → holds h x ≡ true → holds (op ∷ h) x ≡ true
-holds_more op h x held = elim (cases_Bool (is_own x op)) [ inl own ↦ holds-own op h x own | inr other ↦ holds-other op h x other ∙ held ]
-
 mentioned_held : (h : List Op) (x : Identifier) → Lawful h → Contains (flat_map mentioned h) x → holds h x ≡ true
 mentioned_held [] x lawful c = absurd (contains_none x c)
 mentioned_held (op ∷ h) x lawful c =
     elim (Contains-append_cases (mentioned op) (flat_map mentioned h) x c) [
       | inl newest ↦ elim (own_or_named op h x lawful.0 newest) [
         | inl own ↦ holds-own op h x (ap (λ o. is_own_id o) own ∙ id_eq-refl x)
-        | inr held ↦ holds_more op h x held
+        | inr held ↦ holds-older op h x held
       ]
-      | inr older ↦ holds_more op h x (mentioned_held h x lawful.1 older)
+      | inr older ↦ holds-older op h x (mentioned_held h x lawful.1 older)
     ]
   where
     is_own_id : Option Identifier → Bool
@@ -87,15 +85,6 @@ held_counter : (r n : ℕ) (h : List Op) → holds h (id_at r n) ≡ true → Co
 held_counter r n h held =
     contains_map (λ (id : Identifier). id.counter) (filter (λ id. nat_eq id.replica r) (flat_map mentioned h)) (id_at r n)
     (contains_filter (λ (id : Identifier). nat_eq id.replica r) (flat_map mentioned h) (id_at r n) (held_mentioned h (id_at r n) held) (eq-eqb r r refl))
-
--- a number that is a member, and no member above it
-pub greatest_of : (ns : List ℕ) (n : ℕ) → Contains ns n → All (λ m. m ≤ n) ns → IsGreatest ns (Some n)
-greatest_of [] n c b = absurd (contains_none n c)
-greatest_of (m ∷ ns) n c b = record { none = (λ e. cc, λ e. cc); member = c; bound = b }
-
-no_member : (ns : List ℕ) → ((n : ℕ) → Contains ns n → ⊥) → ns ≡ []
-no_member [] none = refl
-no_member (n ∷ ns) none = absurd (none n (contains_here n ns))
 
 -- the greatest counter with a position is the greatest that the operations of the history have or name
 pub greatest_held : (r : ℕ) (m t : FinMap id_cmp Position) (h : List Op) (greatest : Option ℕ) → IsIndex m t h → Lawful h

@@ -1,9 +1,9 @@
 -- What an index finds in a history, and what it is as the newest operation goes.
-use Rattle.std.proofs.Common.{Bool, List, [], ap, arith, false, inl, inr, length, refl, reverse, subst, suc, sym, true, zero, ℕ, ◌++◌, ◌<◌, ◌||◌, ◌∙◌, ◌∷◌, ◌≡◌, ◌≢◌, ◌+◌}
+use Rattle.std.proofs.Common.{Bool, List, [], ap, arith, false, inl, inr, length, refl, reverse, subst, suc, sym, true, ℕ, ◌++◌, ◌<◌, ◌||◌, ◌∙◌, ◌∷◌, ◌≡◌, ◌≢◌, ◌+◌}
 use Rattle.std.specs.Prelude.{None, Option, Some, cond, is_some, option_map, slice_get}
 use Rattle.std.specs.FinMap.{FinMap, get, get-insert, get-remove, insert, remove}
 use Rattle.std.specs.Ordering.{is_eq}
-use Rattle.std.proofs.lemmas.Bool.{cases_Bool, true≢false}
+use Rattle.std.proofs.lemmas.Bool.{cases_Bool}
 use Rattle.std.proofs.lemmas.List.{length-reverse, reverse-append, reverse-reverse}
 use Rattle.fugue_ids.specs.Identifiers.{Identifier, id_cmp, id_eq, origin_eq}
 use Rattle.fugue_ids.specs.Ops.{id_of, key_of, own_in, target_in}
@@ -24,14 +24,12 @@ use Rattle.stretch_map.specs.Rules.{AreFree, IsFollowed, later}
 use Rattle.stretch_map.specs.declared.follows.Position.{Position}
 use Rattle.fugue_ids.proofs.OrderLemmas.{id_cmp_total}
 use Rattle.fugue_ids.specs.Runs.{id_behind}
+use Rattle.fugue_ids.proofs.ListLemmas.{slice_get-append, slice_get-seam}
+use Rattle.fugue_ids.proofs.OptionLemmas.{is_some-false}
 
 -- a Ready operation is not there, and neither is its identifier
 pub is_new : (h : List Op) (op : Op) → verdict h op ≡ Ready → (has_op h op ≡ false) × (id_held h (id_of op) ≡ false)
 is_new h op e = (ready_absent h op e, (when_ready h op e).fresh)
-
-none_from : {X : Type 0} (o : Option X) → is_some o ≡ false → o ≡ None
-none_from None e = refl
-none_from (Some x) e = absurd (true≢false e)
 
 -- the newest operation has the position behind the others
 position-own : (test : Op → Bool) (op : Op) (h : List Op) → test op ≡ true → position_of test (op ∷ h) ≡ Some (length h)
@@ -136,10 +134,10 @@ module _ (op : Op) (i : Identifier) (h : List Op) where
       }
 
   free_own : key_of op ≡ Own i → verdict h op ≡ Ready → position_of (is_own i) h ≡ None
-  free_own key ready = none_from (position_of (is_own i) h) (has_position h i ∙ ap (λ k. id_held h (own_in k)) (sym key) ∙ (is_new h op ready).1)
+  free_own key ready = is_some-false (position_of (is_own i) h) (has_position h i ∙ ap (λ k. id_held h (own_in k)) (sym key) ∙ (is_new h op ready).1)
 
   free_target : key_of op ≡ Target i → verdict h op ≡ Ready → position_of (deletes i) h ≡ None
-  free_target key ready = none_from (position_of (deletes i) h) (has_target h i ∙ ap (has_op h) (sym (target_delete op i key)) ∙ (is_new h op ready).0)
+  free_target key ready = is_some-false (position_of (deletes i) h) (has_target h i ∙ ap (has_op h) (sym (target_delete op i key)) ∙ (is_new h op ready).0)
 
   -- the newest operation, which has an identifier, was taken out
   pub forgot_position : (m n t : FinMap id_cmp Position) → key_of op ≡ Own i → n ≡ remove m i → IsIndex m t (op ∷ h) → verdict h op ≡ Ready → IsIndex n t h
@@ -167,17 +165,6 @@ unnoted m t h op index ready = by_key (key_of op) refl
 
 some_same : {X : Type 0} (a b : X) → Some a ≡ Some b → a ≡ b
 some_same a b e = cc
-
--- a position of a front list
-get-front : {X : Type 0} (xs ys : List X) (k : ℕ) → k < length xs → slice_get (xs ++ ys) k ≡ slice_get xs k
-get-front [] ys k below = absurd (omega (arith, below))
-get-front (x ∷ xs) ys zero below = refl
-get-front (x ∷ xs) ys (suc k) below = get-front xs ys k (omega (arith, below))
-
--- the position behind a list
-get-behind : {X : Type 0} (xs : List X) (y : X) → slice_get (xs ++ y ∷ []) (length xs) ≡ Some y
-get-behind [] y = refl
-get-behind (x ∷ xs) y = get-behind xs y
 
 -- a position is below the number of operations
 position_below : (test : Op → Bool) (h : List Op) (k : ℕ) → position_of test h ≡ Some k → k < length h
@@ -220,12 +207,12 @@ held_at (op ∷ h) x k e =
           let d : length h ≡ k = some_same (length h) k (sym (position-own (is_own x) op h o) ∙ e) in
           ap (λ (l : List Op). slice_get l k) longer
           ∙ ap (slice_get (reverse h ++ op ∷ [])) (sym (length-reverse h ∙ d))
-          ∙ get-behind (reverse h) op
+          ∙ slice_get-seam (reverse h) op
           ∙ sym (holder-own op h x o)
       | inr o ↦
           let before : position_of (is_own x) h ≡ Some k = sym (position-other (is_own x) op h o) ∙ e in
           ap (λ (l : List Op). slice_get l k) longer
-          ∙ get-front (reverse h) (op ∷ []) k (subst (λ (n : ℕ). k < n) (sym (length-reverse h)) (position_below (is_own x) h k before))
+          ∙ slice_get-append (reverse h) (op ∷ []) k (subst (λ (n : ℕ). k < n) (sym (length-reverse h)) (position_below (is_own x) h k before))
           ∙ held_at h x k before
           ∙ sym (holder-other op h x o)
     ]
@@ -242,7 +229,7 @@ position_held m t ops x k index e =
 
 -- an identifier without a position is not held
 pub position_free : (m t : FinMap id_cmp Position) (h : List Op) (x : Identifier) → IsIndex m t h → None ≡ option_map (λ p. p.at) (get m x) → None ≡ holder h x
-position_free m t h x index e = sym (none_from (holder h x) (sym (has_position h x) ∙ sym (is_some-as (position_of (is_own x) h)) ∙ ap is_some (sym (index.positions_are x)) ∙ gone (get m x) e))
+position_free m t h x index e = sym (is_some-false (holder h x) (sym (has_position h x) ∙ sym (is_some-as (position_of (is_own x) h)) ∙ ap is_some (sym (index.positions_are x)) ∙ gone (get m x) e))
   where
     gone : (o : Option Position) → None ≡ option_map (λ p. p.at) o → is_some o ≡ false
     gone None d = refl
@@ -252,8 +239,13 @@ position_free m t h x index e = sym (none_from (holder h x) (sym (has_position h
 pub target_held : (m t : FinMap id_cmp Position) (h : List Op) (x : Identifier) → IsIndex m t h → is_some (get t x) ≡ has_op h (Delete x)
 target_held m t h x index = ap is_some (index.targets_are x) ∙ is_some-as (position_of (deletes x) h) ∙ has_target h x
 
+-- a position as a number is there where the position is
+pub is_some-at : (o : Option Position) → is_some (option_map (λ p. p.at) o) ≡ is_some o
+is_some-at None = refl
+is_some-at (Some p) = refl
+
 -- an identifier is held where it has a position
-held_by_position : (m t : FinMap id_cmp Position) (h : List Op) (x : Identifier) → IsIndex m t h → is_some (get m x) ≡ holds h x
+pub held_by_position : (m t : FinMap id_cmp Position) (h : List Op) (x : Identifier) → IsIndex m t h → is_some (get m x) ≡ holds h x
 held_by_position m t h x index = ap is_some (index.positions_are x) ∙ is_some-as (position_of (is_own x) h) ∙ has_position h x
 
 -- identifiers without positions are not held
@@ -261,4 +253,8 @@ pub free_unheld : (m t : FinMap id_cmp Position) (h : List Op) (first : Identifi
 free_unheld m t h first n index free k less = sym (held_by_position m t h (id_behind first k) index) ∙ ap is_some (free k less)
 
 pub unheld_free : (m t : FinMap id_cmp Position) (h : List Op) (first : Identifier) (n : ℕ) → IsIndex m t h → AreUnheld h first n → AreFree (get m) first n
-unheld_free m t h first n index unheld k less = none_from (get m (id_behind first k)) (held_by_position m t h (id_behind first k) index ∙ unheld k less)
+unheld_free m t h first n index unheld k less = is_some-false (get m (id_behind first k)) (held_by_position m t h (id_behind first k) index ∙ unheld k less)
+
+-- targets that no Delete names have no positions
+pub untargeted_free : (m t : FinMap id_cmp Position) (h : List Op) (first : Identifier) (n : ℕ) → IsIndex m t h → ((k : ℕ) → k < n → has_op h (Delete (id_behind first k)) ≡ false) → AreFree (get t) first n
+untargeted_free m t h first n index new k less = is_some-false (get t (id_behind first k)) (target_held m t h (id_behind first k) index ∙ new k less)

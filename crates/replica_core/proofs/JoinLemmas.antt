@@ -1,5 +1,5 @@
 -- What an operation of an edit leaves as it was, and operations that join one after another.
-use Rattle.std.proofs.Common.{◌≡◌, refl, sym, ◌∙◌, ap, ℕ, suc, ◌+◌, ◌++◌, ◌∷◌, ◌<◌, List, [], length, false, arith, length-append, take}
+use Rattle.std.proofs.Common.{◌≡◌, refl, sym, ◌∙◌, ap, suc, ◌+◌, ◌++◌, ◌∷◌, ◌<◌, List, [], length, false, arith, length-append, take}
 use Rattle.std.specs.Prelude.{All}
 use Rattle.std.proofs.lemmas.Bool.{ne_eqb}
 use Rattle.std.proofs.lemmas.List.{append-nil}

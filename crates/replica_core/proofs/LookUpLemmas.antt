@@ -12,7 +12,7 @@ use Rattle.section_catalogue.specs.Manuscript.{IsTextOf, StandsFor}
 use Rattle.section_catalogue.proofs.ShownLemmas.{look_ups_agree}
 
 -- what has an image is there
-some_from_map : {X Y : Type 0} (f : X → Y) (o : Option X) → IsSome (option_map f o) → IsSome o
+pub some_from_map : {X Y : Type 0} (f : X → Y) (o : Option X) → IsSome (option_map f o) → IsSome o
 some_from_map f None there = there
 some_from_map f (Some x) there = there
 

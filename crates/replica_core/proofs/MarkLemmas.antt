@@ -1,12 +1,13 @@
 -- The marks of the waiting operations: how many are set, and what they say of those that wait.
 use Rattle.std.proofs.Common.{◌≡◌, ◌<◌, ◌≤◌, refl, sym, ap, ◌∙◌, ◌+◌, ◌-◌, ℕ, suc, min, List, [], ◌∷◌, ◌++◌, length, Bool, true, false, not, ltb, set, take, drop, get_or, inl, inr, arith}
-use Rattle.std.specs.Prelude.{Option, Some, None, All, cond, count_by, position, remove}
+use Rattle.std.specs.Prelude.{Option, Some, None, All, cond, count_by, position, remove, slice_get}
+use Rattle.std.proofs.lemmas.Option.{get_or_from_slice_get, slice_get_within}
 use Rattle.std.specs.List.{position_or_len}
 use Rattle.std.proofs.lemmas.Bool.{cases_eq, cases_lt}
 use Rattle.std.proofs.lemmas.List.{get_or-set_other, get_or-set_same, get_or_append_left, length-map, length-set, map-append, take-map, drop-map}
 use Rattle.std.proofs.lemmas.List.Edits.{get_or-remove_above, get_or-remove_below, length-remove}
 use Rattle.std.proofs.lemmas.List.Elements.{All-nil, All-cons, All-head, All-tail, All-map}
-use Rattle.std.proofs.lemmas.List.Sums.{get_or-le-sum_by, sum_by-cons, sum_by-remove, sum_by-set, sum_by_push}
+use Rattle.std.proofs.lemmas.List.Sums.{count_by-le-length, get_or-le-sum_by, sum_by-cons, sum_by-remove, sum_by-set, sum_by_push}
 use Rattle.fugue_ids.specs.declared.op.Op.{Op}
 use Rattle.origin_model.specs.taking.Taking.{decided_on}
 use Rattle.replica_core.specs.Due.{IsClearBefore, due_marks}
@@ -126,3 +127,22 @@ marks_left h w older ops k marks left is leaves same rest =
     ∙ ap (λ (l : List Bool). remove l k) is
     ∙ marks_removed h w k
     ∙ (λ i. due_marks (sym same i) (sym rest i))
+
+-- where none is set, none is set in front of any
+pub all_clear : (marks : List Bool) (p : ℕ) → count_by (λ m. m) marks ≡ 0 → p < length marks → IsClearBefore p marks
+all_clear marks p none within k below = clear_if marks none k false (omega (arith, below, within))
+
+-- one for a mark that is set
+abbrev pub as_number : Bool → ℕ
+as_number mark = cond mark 1 0
+
+-- how many are set, after one of which it is known whether it was set
+pub recounted : (marks : List Bool) (p count : ℕ) (was mark : Bool) → slice_get marks p ≡ Some was → count ≡ count_by (λ m. m) marks
+    → (count_by (λ m. m) (set marks p mark) + as_number was ≡ count + as_number mark) × (as_number was ≤ count) × (count_by (λ m. m) (set marks p mark) ≤ length marks)
+recounted marks p count was mark there is =
+    let within : p < length marks = slice_get_within marks p was there in
+    let stood : as_number (get_or marks p false) ≡ as_number was = ap as_number (get_or_from_slice_get marks p was false there) in (
+      omega (arith, is, stood, counted_put marks p mark within),
+      omega (arith, is, stood, counted_at marks p within),
+      omega (arith, count_by-le-length (λ m. m) (set marks p mark), length-set marks p mark),
+    )

@@ -1,28 +1,34 @@
 -- The positions of a run that joins a history.
-use Rattle.std.proofs.Common.{◌≡◌, ◌∙◌, ◌||◌, ap, append-nil, arith, drop, get_or, inl, inr, length, refl, subst, suc, sym, take, true, false, zero, ℕ, ◌+◌, ◌<◌, ◌≤◌, ◌++◌, ◌∷◌, List, []}
-use Rattle.std.specs.Prelude.{All, Option, Some, reverse}
-use Rattle.std.proofs.lemmas.List.Elements.{All-push, All-weaker}
+use Rattle.std.proofs.Common.{[], ap, append-nil, arith, drop, false, get_or, inl, inr, length, length-append, List, refl, subst, suc, sym, take, true, zero, ℕ, ◌++◌, ◌+◌, ◌-◌, ◌<◌, ◌||◌, ◌∙◌, ◌∷◌, ◌≡◌, ◌≤◌}
+use Rattle.std.specs.Prelude.{All, if◌then◌else◌, None, Option, option_and_then, reverse, slice_get, Some}
+use Rattle.std.proofs.lemmas.List.Elements.{All-cons, All-nil, All-weaker}
 use Rattle.std.proofs.lemmas.List.{reverse-append}
-use Rattle.std.proofs.lemmas.Bool.{or_cases, or_left, or_right}
-use Rattle.fugue_ids.specs.Ops.{op_eq}
+use Rattle.std.proofs.lemmas.Bool.{cases_Bool, or_cases, or_left, or_right}
+use Rattle.fugue_ids.specs.Ops.{id_of, op_eq}
+use Rattle.std.proofs.Math.Seq.{take-append_seam}
 use Rattle.std.specs.FinMap.{FinMap, get}
 use Rattle.std.proofs.lemmas.Bool.{false_from_ne_true, true≢false}
 use Rattle.std.proofs.lemmas.List.{reverse-reverse}
 use Rattle.fugue_ids.specs.Identifiers.{Identifier, id_cmp}
 use Rattle.fugue_ids.specs.Runs.{id_behind, in_a_row, left_behind, next_id, run_from, start_behind, text_by}
 use Rattle.fugue_ids.specs.declared.op.Op.{Op}
-use Rattle.fugue_ids.specs.declared.op.Op.TheVariants.{Text}
+use Rattle.fugue_ids.specs.declared.op.Op.TheVariants.{Delete, Text}
 use Rattle.fugue_ids.specs.declared.run.RunStart.{RunStart}
-use Rattle.fugue_ids.proofs.RunLemmas.{length-typed, none_behind, one_behind, typed-append}
+use Rattle.fugue_ids.proofs.RunLemmas.{none_behind, one_behind, typed-append}
 use Rattle.origin_model.specs.edits.Edits.{ReadyInTurn, extended}
-use Rattle.origin_model.specs.operations.History.{accepted, has_op, holds}
+use Rattle.origin_model.specs.operations.History.{has_op, holds}
 use Rattle.origin_model.proofs.SharedLemmas.{has-append, holds-older}
 use Rattle.origin_model.proofs.edits.MadeLemmas.{extended-append, join_at_end}
 use Rattle.stretch_map.specs.Rules.{AreFree}
 use Rattle.stretch_map.specs.declared.follows.Position.{Position}
+use Rattle.op_runs.specs.Deletions.{deletes_by}
+use Rattle.op_runs.specs.Repeats.{same_front}
+use Rattle.replica_core.specs.Deleting.{deletes_from}
+use Rattle.replica_core.specs.Due.{newest_id}
 use Rattle.replica_core.specs.Index.{IsIndex, sections_and_notes, with_positions}
 use Rattle.replica_core.proofs.FeedingLemmas.{length-front, length-run}
-use Rattle.replica_core.proofs.IndexLemmas.{is_new, noted_position, unheld_free}
+use Rattle.replica_core.proofs.DeletingLemmas.{deletes_parted, length-from}
+use Rattle.replica_core.proofs.IndexLemmas.{is_new, noted_position, noted_target, unheld_free, untargeted_free}
 use Rattle.replica_core.proofs.RunLemmas.{length-extended}
 
 -- the identifiers of a run that is Ready in its turn are not held
@@ -88,41 +94,53 @@ run_noted m t h start text index =
     all [] = refl
     all (c ∷ text) = ap (λ z. c ∷ z) (all text)
 
+-- as many as came are taken back
+pub back_again : (ops run new old : List Op) (n : ℕ) → new ≡ ops ++ run → length run ≡ n → old ≡ take (length new - n) new → old ≡ ops
+back_again ops run new old n is len gone =
+    let k : length (ops ++ run) - n ≡ length ops = omega (arith, len, length-append ops run) in
+    gone ∙ (λ i. take (length (is i) - n) (is i)) ∙ ap (λ j. take j (ops ++ run)) k ∙ take-append_seam ops run
+
+-- Deletes of neighbours that are Ready in their turn are not there
+row_new : (k n : ℕ) (x : Identifier) (h : List Op) → ReadyInTurn h (deletes_from x n) → k < n → has_op h (Delete (id_behind x k)) ≡ false
+row_new k zero x h ready less = absurd (omega (arith, less))
+row_new zero (suc n) x h ready less = ap (λ y. has_op h (Delete y)) (none_behind x) ∙ (is_new h (Delete x) ready.0).0
+row_new (suc k) (suc n) x h ready less =
+    let later : has_op (Delete x ∷ h) (Delete (id_behind (next_id x) k)) ≡ false = row_new k n (next_id x) (Delete x ∷ h) ready.1 (omega (arith, less)) in
+    false_from_ne_true _ (λ t. true≢false (sym (or_right _ _ t) ∙ ap (λ y. has_op (Delete x ∷ h) (Delete y)) (sym (one_behind x k)) ∙ later))
+
+-- so their targets have no positions
+pub row_free : (m t : FinMap id_cmp Position) (h : List Op) (x : Identifier) (n : ℕ) → IsIndex m t h → ReadyInTurn h (deletes_from x n) → AreFree (get t) x n
+row_free m t h x n index ready = untargeted_free m t h x n index (λ k less. row_new k n x h ready less)
+
+-- none of them is a Section or a Note
+pub row_listed : (n : ℕ) (x : Identifier) (h : List Op) → sections_and_notes (extended h (deletes_from x n)) ≡ sections_and_notes h
+row_listed zero x h = refl
+row_listed (suc n) x h = row_listed n (next_id x) (Delete x ∷ h) ∙ append-nil (sections_and_notes h)
+
+-- their positions
+pub row_noted : (m t : FinMap id_cmp Position) (h : List Op) (x : Identifier) (n : ℕ) → IsIndex m t h → IsIndex m (with_positions x (length h) n t) (extended h (deletes_from x n))
+row_noted m t h x zero index = index
+row_noted m t h x (suc n) index =
+    let before : List Op = extended h (deletes_from x n) in
+    let last : Op = Delete (id_behind x n) in
+    let up : suc n ≡ n + 1 = omega arith in
+    let longer : extended h (deletes_from x (suc n)) ≡ last ∷ before =
+    ap (λ k. extended h (deletes_from x k)) up ∙ ap (extended h) (deletes_parted n 1 x) ∙ extended-append h (deletes_from x n) (last ∷ []) in
+    let len : length before ≡ length h + length (deletes_from x n) = length-extended (deletes_from x n) h in
+    subst (IsIndex m (with_positions x (length h) (suc n) t)) (sym longer)
+    (noted_target last (id_behind x n) before m (with_positions x (length h) n t) (with_positions x (length h) (suc n) t) (length h + n) refl refl
+    (row_noted m t h x n index) (omega (arith, len, length-from n x)))
+
+-- in a list of operations they are Deletes of neighbours forwards
+pub row_up : (n : ℕ) (x : Identifier) → deletes_by false x n ≡ deletes_from x n
+row_up zero x = refl
+row_up (suc n) x = ap (λ z. Delete x ∷ z) (row_up n (next_id x))
+
 -- operations that are appended to a list join the history that it is of
 pub appended_joins : (ops new run : List Op) → new ≡ ops ++ run → reverse new ≡ extended (reverse ops) run
 appended_joins ops new run is =
     let h : List Op = reverse ops in
     ap reverse (is ∙ ap (λ z. z ++ run) (sym (reverse-reverse ops)) ∙ sym (join_at_end h run)) ∙ reverse-reverse (extended h run)
-
--- one letter more of the front of a run
-one_longer : (start : RunStart) (text : List ℕ) (n ch : ℕ) → n < length text → ch ≡ get_or text n ch → run_from start (take (n + 1) text) ≡ run_from start (take n text) ++ text_by (start_behind start n) ch ∷ []
-one_longer start text n ch less is =
-    let front : List ℕ = take n text in
-    let len : length front ≡ n = length-front text n (omega (arith, less)) in
-    let up : n + 1 ≡ suc n = omega arith in
-    ap (λ k. run_from start (take k text)) up
-    ∙ ap (run_from start) (take_one text n ch less is)
-    ∙ typed-append start.id start.section start.left start.right front (ch ∷ [])
-    ∙ (λ i. run_from start front ++ in_a_row (id_behind start.id (len i)) start.section (left_behind start.left start.id (len i)) start.right (ch ∷ []))
-  where
-    take_one : (text : List ℕ) (n ch : ℕ) → n < length text → ch ≡ get_or text n ch → take (suc n) text ≡ take n text ++ ch ∷ []
-    take_one [] n ch less is = absurd (omega (arith, less))
-    take_one (c ∷ text) zero ch less is = ap (λ z. z ∷ []) (sym is)
-    take_one (c ∷ text) (suc n) ch less is = ap (λ z. c ∷ z) (take_one text n ch (omega (arith, less)) is)
-
--- a member is found
-member_found : (ops : List Op) (k : ℕ) (op other : Op) → k < length ops → op ≡ get_or ops k op → op_eq op other ≡ true → has_op ops other ≡ true
-member_found [] k op other less is same = absurd (omega (arith, less))
-member_found (o ∷ ops) zero op other less is same = or_left _ _ (ap (λ z. op_eq z other) (sym is) ∙ same)
-member_found (o ∷ ops) (suc k) op other less is same = or_right _ _ (member_found ops k op other (omega (arith, less)) is same)
-
--- letters at the front of a run are in the list, and one more
-pub letter_there : (ops : List Op) (start : RunStart) (text : List ℕ) (n k ch : ℕ) (op other : Op) → All (λ o. has_op ops o ≡ true) (run_from start (take n text)) → n < length text → ch ≡ get_or text n ch
-    → k < length ops → op ≡ get_or ops k op → other ≡ text_by (start_behind start n) ch → op_eq op other ≡ true → All (λ o. has_op ops o ≡ true) (run_from start (take (n + 1) text))
-letter_there ops start text n k ch op other there less is inside at that same =
-    subst (All (λ o. has_op ops o ≡ true)) (sym (one_longer start text n ch less is))
-    (All-push (λ o. has_op ops o ≡ true) (run_from start (take n text)) (text_by (start_behind start n) ch) there
-    (subst (λ o. has_op ops o ≡ true) that (member_found ops k op other inside at same)))
 
 -- what is in a list is in it the other way round
 turned_found : (ops : List Op) (op : Op) → has_op ops op ≡ true → has_op (reverse ops) op ≡ true
@@ -136,3 +154,95 @@ turned_found (o ∷ ops) op found =
 
 pub history_has : (ops more : List Op) → All (λ o. has_op ops o ≡ true) more → All (λ o. has_op (reverse ops) o ≡ true) more
 history_has ops more there = All-weaker (λ o. has_op ops o ≡ true) (λ o. has_op (reverse ops) o ≡ true) (turned_found ops) more there
+
+-- How far a list has the operations of another one
+
+front_within : (xs ys : List Op) → same_front xs ys ≤ length ys
+front_within [] ys = omega arith
+front_within (x ∷ xs) [] = omega arith
+front_within (x ∷ xs) (y ∷ ys) =
+    elim (cases_Bool (op_eq x y)) [
+      | inl e ↦ rw (e, same_front) (let r = front_within xs ys in omega (arith, r))
+      | inr e ↦ rw (e, same_front) (omega arith)
+    ]
+
+front_has : (xs ys : List Op) → All (λ o. has_op xs o ≡ true) (take (same_front xs ys) ys)
+front_has [] ys = All-nil (λ o. has_op [] o ≡ true)
+front_has (x ∷ xs) [] = All-nil (λ o. has_op (x ∷ xs) o ≡ true)
+front_has (x ∷ xs) (y ∷ ys) =
+    elim (cases_Bool (op_eq x y)) [
+      | inl e ↦ subst (λ b. All (λ o. has_op (x ∷ xs) o ≡ true) (take (if b then suc (same_front xs ys) else 0) (y ∷ ys))) (sym e)
+          (All-cons (λ o. has_op (x ∷ xs) o ≡ true) y (take (same_front xs ys) ys) (or_left _ _ e)
+          (All-weaker (λ o. has_op xs o ≡ true) (λ o. has_op (x ∷ xs) o ≡ true) (λ o there. or_right _ _ there) (take (same_front xs ys) ys) (front_has xs ys)))
+      | inr e ↦ subst (λ b. All (λ o. has_op (x ∷ xs) o ≡ true) (take (if b then suc (same_front xs ys) else 0) (y ∷ ys))) (sym e) (All-nil (λ o. has_op (x ∷ xs) o ≡ true))
+    ]
+
+-- what stands behind others in a list is in it
+behind_has : (k : ℕ) (ops : List Op) (op : Op) → has_op (drop k ops) op ≡ true → has_op ops op ≡ true
+behind_has zero ops op there = there
+behind_has (suc k) [] op there = there
+behind_has (suc k) (o ∷ ops) op there = or_right _ _ (behind_has k ops op there)
+
+-- the first letters of a run
+front_of_run : (start : RunStart) (text : List ℕ) (n : ℕ) → take n (run_from start text) ≡ run_from start (take n text)
+front_of_run start text n = in_row n start.id start.section start.left start.right text
+  where
+    in_row : (n : ℕ) (id s : Identifier) (l r : Option Identifier) (text : List ℕ) → take n (in_a_row id s l r text) ≡ in_a_row id s l r (take n text)
+    in_row zero id s l r text = refl
+    in_row (suc n) id s l r [] = refl
+    in_row (suc n) id s l r (c ∷ text) = ap (λ z. Text id s l r c ∷ z) (in_row n (next_id id) s (Some id) r text)
+
+-- the letters at the front of a run that the list has from a position on
+module _ (ops : List Op) (position : ℕ) (start : RunStart) (text : List ℕ) where
+  abbrev count : ℕ
+  count = same_front (drop position ops) (run_from start text)
+
+  pub repeated_within : count ≤ length text
+  repeated_within = omega (arith, front_within (drop position ops) (run_from start text), length-run start text)
+
+  pub repeated_there : All (λ o. has_op (reverse ops) o ≡ true) (run_from start (take count text))
+  repeated_there =
+      history_has ops (run_from start (take count text))
+      (subst (All (λ o. has_op ops o ≡ true)) (front_of_run start text count)
+      (All-weaker (λ o. has_op (drop position ops) o ≡ true) (λ o. has_op ops o ≡ true) (behind_has position ops) (take count (run_from start text)) (front_has (drop position ops) (run_from start text))))
+
+-- The last operation goes
+
+last_apart : (ops : List Op) (op : Op) → Some op ≡ slice_get ops (length ops - 1) → ops ≡ take (length ops - 1) ops ++ op ∷ []
+last_apart [] op is = cc
+last_apart (x ∷ ops) op is =
+    let n : length (x ∷ ops) - 1 ≡ length ops = omega arith in
+    at_end x ops (is ∙ ap (slice_get (x ∷ ops)) n) ∙ ap (λ k. take k (x ∷ ops) ++ op ∷ []) (sym n)
+  where
+    at_end : (x : Op) (ops : List Op) → Some op ≡ slice_get (x ∷ ops) (length ops) → x ∷ ops ≡ take (length ops) (x ∷ ops) ++ op ∷ []
+    at_end x [] is = let same : x ≡ op = cc in ap (λ z. z ∷ []) same
+    at_end x (y ∷ ops) is = ap (λ z. x ∷ z) (at_end y ops is)
+
+-- the history without its newest operation
+pub newest_apart : (ops new : List Op) (op : Op) → Some op ≡ slice_get ops (length ops - 1) → new ≡ take (length ops - 1) ops → reverse ops ≡ op ∷ reverse new
+newest_apart ops new op is gone =
+    ap reverse (last_apart ops op is) ∙ reverse-append (take (length ops - 1) ops) (op ∷ []) ∙ ap (λ z. op ∷ reverse z) (sym gone)
+
+-- the last operation is the newest
+pub newest_found : (ops : List Op) (found : Option Op) → found ≡ slice_get ops (length ops - 1) → found ≡ slice_get (reverse ops) 0
+newest_found ops (Some op) is = ap (λ h. slice_get h 0) (sym (newest_apart ops (take (length ops - 1) ops) op is refl))
+newest_found [] None is = refl
+newest_found (x ∷ ops) None is = let n : length (x ∷ ops) - 1 ≡ length ops = omega arith in absurd (some_last x ops (is ∙ ap (slice_get (x ∷ ops)) n))
+  where
+    some_last : (x : Op) (ops : List Op) → None ≡ slice_get (x ∷ ops) (length ops) → ⊥
+    some_last x [] e = cc
+    some_last x (y ∷ ops) e = some_last y ops e
+
+pub newest_last : (ops : List Op) (found : Option Op) → found ≡ slice_get ops (length ops - 1) → option_and_then id_of found ≡ newest_id (reverse ops)
+newest_last ops found is = ap (option_and_then id_of) (newest_found ops found is) ∙ of_first (reverse ops)
+  where
+    of_first : (h : List Op) → option_and_then id_of (slice_get h 0) ≡ newest_id h
+    of_first [] = refl
+    of_first (op ∷ h) = refl
+
+-- an operation stands behind a list: in the history it is the newest
+pub newest_behind : (ops new : List Op) (op : Op) → ops ≡ new ++ op ∷ [] → reverse ops ≡ op ∷ reverse new
+newest_behind ops new op is = ap reverse is ∙ reverse-append new (op ∷ [])
+
+pub last_found : (ops : List Op) (op : Op) → Some op ≡ slice_get (reverse ops) 0 → Some op ≡ slice_get ops (length ops - 1)
+last_found ops op is = is ∙ sym (newest_found ops (slice_get ops (length ops - 1)) refl)

@@ -1,23 +1,21 @@
 -- A run that joins a history, and operations that are taken back.
-use Rattle.std.proofs.Common.{◌≡◌, ◌∙◌, ◌++◌, ap, append-nil, append_assoc, arith, drop, get_or, length, refl, subst, suc, sym, zero, ℕ, ◌+◌, ◌-◌, ◌<◌, ◌≤◌, ◌∷◌, List, []}
+use Rattle.std.proofs.Common.{◌≡◌, ◌∙◌, ◌++◌, ap, append-nil, append_assoc, arith, drop, get_or, length, refl, suc, sym, zero, ℕ, ◌+◌, ◌-◌, ◌<◌, ◌≤◌, ◌∷◌, List, []}
 use Rattle.std.specs.Prelude.{Some}
 use Rattle.std.proofs.lemmas.List.{at_drop_all, at_drop_more}
 use Rattle.fugue_ids.specs.Identifiers.{Identifier}
 use Rattle.fugue_ids.specs.Runs.{id_behind, in_a_row, next_id, run_from, start_behind, text_by}
 use Rattle.fugue_ids.specs.declared.op.Op.{Op}
 use Rattle.fugue_ids.specs.declared.run.RunStart.{RunStart}
-use Rattle.fugue_ids.proofs.RunLemmas.{none_behind}
 use Rattle.origin_model.specs.edits.Edits.{ReadyInTurn, extended, id_at}
 use Rattle.origin_model.specs.edits.Effect.{Gains, with_ops}
 use Rattle.origin_model.proofs.edits.RunLemmas.{typed_is_run}
 use Rattle.origin_model.specs.edits.State.{State, Stands}
-use Rattle.origin_model.specs.operations.Verdict.{verdict}
 use Rattle.origin_model.specs.taking.Taking.{IsSettled}
-use Rattle.origin_model.specs.declared.operations.Verdict.TheVariants.{Ready}
 use Rattle.replica_core.specs.Due.{due_marks}
 use Rattle.replica_core.specs.Edits.{CanJoin, ComeInTurn, typed_at}
 use Rattle.replica_core.specs.declared.edits.planning.TextSpot.{TextSpot}
 use Rattle.replica_core.proofs.JoinLemmas.{first_can, gains, joined_marks, joined_stands}
+use Rattle.op_runs.proofs.EntryLemmas.{start_same}
 
 -- the newest operations are taken back: so many are left to go
 pub record IsPopping (old now : List Op) (count left : ℕ) : Type 0 where
@@ -39,10 +37,6 @@ popped_on old now new op count (suc left) some p is =
 pub not_empty : (old now : List Op) (count left : ℕ) → 0 < left → IsPopping old now count left → now ≡ [] → ⊥
 not_empty old now count left some p none = let within : left ≤ length now = p.within in omega (arith, some, within, ap length none)
 
--- nothing is behind the first
-pub behind_nothing : (start : RunStart) → start_behind start 0 ≡ start
-behind_nothing start = λ i. record { id = none_behind start.id i; section = start.section; left = start.left; right = start.right }
-
 -- the letter k, and the others
 run_at : (start : RunStart) (text : List ℕ) (k ch : ℕ) → k < length text → ch ≡ get_or text k ch
     → run_from (start_behind start k) (drop k text) ≡ text_by (start_behind start k) ch ∷ run_from (start_behind start (k + 1)) (drop (k + 1) text)
@@ -62,7 +56,7 @@ pub record IsAppending (old now : List Op) (start : RunStart) (text : List ℕ) 
 
 pub appending : (old : List Op) (start : RunStart) (text : List ℕ) (len room : ℕ) → len + length text ≤ room → IsAppending old old start text 0 0 len room
 appending old start text len room fits = record {
-  leads = λ i. old ++ run_from (behind_nothing start i) text;
+  leads = λ i. old ++ run_from (start_same start i) text;
   counted = refl;
   fits = omega (arith, fits);
 }

@@ -1,9 +1,11 @@
 -- A walk over the Sections and Notes alone. What holds before an operation, and is not changed by those between them, holds behind all.
-use Rattle.std.proofs.Common.{List, [], ap, append_assoc, arith, drop, false, get_or, inl, inr, length, refl, reverse, subst, suc, sym, take, ℕ, ◌+◌, ◌++◌, ◌<◌, ◌∙◌, ◌∷◌, ◌≡◌, ◌≤◌}
+use Rattle.std.proofs.Common.{Bool, List, [], ap, append_assoc, arith, drop, false, get_or, inl, inr, length, refl, reverse, subst, suc, sym, take, ℕ, ◌+◌, ◌++◌, ◌<◌, ◌∙◌, ◌∷◌, ◌≡◌, ◌≤◌}
 use Rattle.std.proofs.lemmas.Bool.{cases_Bool}
 use Rattle.std.proofs.lemmas.List.{append-nil, drop_more, length-drop, length-reverse, reverse-append, take_all, take_more, drop_all}
+use Rattle.std.proofs.lemmas.Option.{slice_get_read}
+use Rattle.std.specs.Prelude.{None, Option, Some, if◌then◌else◌, option_and_then, slice_get}
 use Rattle.fugue_ids.specs.declared.op.Op.{Op}
-use Rattle.replica_core.specs.Index.{is_section_or_note, position_if, sections_and_notes}
+use Rattle.replica_core.specs.Index.{if_section_or_note, is_section_or_note, position_if, section_or_note_at, sections_and_notes}
 
 -- what a list passed, the newest first: one more
 pub passed_more : {X : Type 0} → (xs : List X) (i : ℕ) (x : X) → i < length xs → x ≡ get_or xs i x → reverse (take (i + 1) xs) ≡ x ∷ reverse (take i xs)
@@ -50,7 +52,10 @@ pub record Walks (P : ℕ → Type 0) (ops : List Op) (positions : List ℕ) (k 
 
 -- the walk stands at the operation of the position p, which is the next one
 pub record StandsAt (P : ℕ → Type 0) (ops : List Op) (positions : List ℕ) (k p : ℕ) : Type 0 where
+  pub op : Op
   pub below : p < length ops
+  pub is : op ≡ get_or ops p op
+  pub there : slice_get ops p ≡ Some op
   pub holds : P p
   pub left : drop (k + 1) positions ≡ positions_from (suc p) (drop (suc p) ops)
 
@@ -95,8 +100,13 @@ module _ (P : ℕ → Type 0) (ops : List Op)
           | inl t ↦
               let both : p ∷ left ≡ i ∷ positions_from (suc i) rest = is ∙ ap (λ b. position_if b i ++ positions_from (suc i) rest) t in
               let same : p ≡ i = heads both in
+              let below : p < length ops = subst (λ j. j < length ops) (sym same) (more_there i op rest e) in
+              let at : op ≡ get_or ops p op = (here i op rest e).0 ∙ ap (λ j. get_or ops j op) (sym same) in
               record {
-                below = subst (λ j. j < length ops) (sym same) (more_there i op rest e);
+                op = op;
+                below = below;
+                is = at;
+                there = slice_get_read ops (length ops) p op refl below at;
                 holds = subst P (sym same) holds;
                 left = on ∙ tails both ∙ (λ j. positions_from (suc (sym same j)) (sym (here i op rest e).1 j)) ∙ ap (λ m. positions_from (suc p) (drop (suc m) ops)) (sym same);
               }
@@ -135,3 +145,35 @@ pub walk_goes_on : (P Q : ℕ → Type 0) (ops : List Op) (positions : List ℕ)
 walk_goes_on P Q ops positions k p s holds =
     let on : p + 1 ≡ suc p = omega arith in
     record { at = suc p; within = s.below; left = s.left; holds = subst Q on holds }
+
+-- what Sections and Notes alone say is read of the operation at a position
+pub read_at : {Y : Type 0} → (f : Op → Option Y) → ((op : Op) → is_section_or_note op ≡ false → f op ≡ None) → (ops : List Op) (position : ℕ)
+    → option_and_then f (section_or_note_at ops position) ≡ option_and_then f (slice_get ops position)
+read_at f none ops position = by (slice_get ops position)
+  where
+    by : (o : Option Op) → option_and_then f (option_and_then if_section_or_note o) ≡ option_and_then f o
+    by None = refl
+    by (Some op) =
+        let read : Bool → Option Op = λ b. if b then Some op else None in
+        elim (cases_Bool (is_section_or_note op)) [
+          | inl t ↦ ap (λ b. option_and_then f (read b)) t
+          | inr t ↦ ap (λ b. option_and_then f (read b)) t ∙ sym (none op t)
+        ]
+
+-- and of the operation that stands there
+pub read_there : {Y : Type 0} → (f : Op → Option Y) (ops : List Op) (position : ℕ) (op : Op) (o : Option Y) → slice_get ops position ≡ Some op
+    → o ≡ option_and_then f (slice_get ops position) → f op ≡ o
+read_there f ops position op o there e = sym (e ∙ ap (option_and_then f) there)
+
+-- the Section or Note that is found at a position stands there
+pub found_there : (ops : List Op) (position : ℕ) (op : Op) → Some op ≡ section_or_note_at ops position → slice_get ops position ≡ Some op
+found_there ops position op is = by (slice_get ops position) is
+  where
+    by : (o : Option Op) → Some op ≡ option_and_then if_section_or_note o → o ≡ Some op
+    by None e = cc
+    by (Some other) e =
+        let read : Bool → Option Op = λ b. if b then Some other else None in
+        elim (cases_Bool (is_section_or_note other)) [
+          | inl t ↦ sym (e ∙ ap read t)
+          | inr t ↦ let none : Some op ≡ None = e ∙ ap read t in cc
+        ]

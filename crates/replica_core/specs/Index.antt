@@ -1,5 +1,5 @@
 -- Where accepted operations are found: the positions of those with identifiers, of the Deletes by their targets, and of the Sections and Notes.
-use Rattle.std.specs.Prelude.{◌≡◌, ℕ, Bool, true, false, if◌then◌else◌, Option, Some, None, List, [], ◌∷◌, ◌++◌, length, option_map}
+use Rattle.std.specs.Prelude.{◌≡◌, ℕ, Bool, true, false, if◌then◌else◌, Option, Some, None, List, [], ◌∷◌, ◌++◌, length, option_map, option_and_then, slice_get}
 use Rattle.std.specs.FinMap.{FinMap, get}
 use Rattle.fugue_ids.specs.Identifiers.{Identifier, id_cmp}
 use Rattle.fugue_ids.specs.Ops.{key_of}
@@ -52,6 +52,13 @@ is_section_or_note (Section id left right title) = true
 is_section_or_note (Text id section left right ch) = false
 is_section_or_note (Delete target) = false
 is_section_or_note (Note id named code body) = true
+
+-- the Section or Note at a position of a list, if one stands there
+abbrev pub if_section_or_note : Op → Option Op
+if_section_or_note op = if is_section_or_note op then Some op else None
+
+abbrev pub section_or_note_at : List Op → ℕ → Option Op
+section_or_note_at ops position = option_and_then if_section_or_note (slice_get ops position)
 
 -- one position, or none
 abbrev pub position_if : Bool → ℕ → List ℕ

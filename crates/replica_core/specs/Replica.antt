@@ -14,3 +14,10 @@ pub record IsKept (s : State) (inbox : Waiting) (due : List Bool) : Type 0 where
   pub same_hold : inbox.hold ≡ s.hold
   pub stands : Stands s
   pub marks : due ≡ due_marks s.held.history s.held.waiting
+
+-- what it keeps between two calls: the waiting operations lie in one slice too
+pub record IsClosed (s : State) (inbox : Waiting) (due : List Bool) : Type 0 where
+  pub same_hold : inbox.hold ≡ s.hold
+  pub stands : Stands s
+  pub marks : due ≡ due_marks s.held.history s.held.waiting
+  pub closed : inbox.gaps ≡ 0

@@ -1,15 +1,18 @@
-ghost use Rattle.std.specs.Prelude.{◌≡◌, ◌<◌, ◌≤◌, ◌+◌, ◌^◌, ◌∷◌, [], length, option_map, slice_get, All, IfErr, IfSome, IsTrue, OnErr, OnOk, take, true, ◌↔◌};
+ghost use Rattle.std.specs.Prelude.{◌≡◌, ◌<◌, ◌≤◌, ◌+◌, ◌^◌, ◌∷◌, [], drop, length, option_map, slice_get, All, IfErr, IfSome, IsSome, IsTrue, OnErr, OnOk, take, true, ◌↔◌};
 ghost use Rattle.fugue_ids.specs.Outs.{WritesBytes};
 ghost use Rattle.fugue_ids.specs.Runs.{run_from};
 ghost use Rattle.fugue_ids.specs.declared.op.Op.TheVariants.{Delete as DeleteOf};
+ghost use Rattle.op_runs.specs.Finding.{op_of};
+ghost use Rattle.op_runs.specs.Parts.{IsOther};
 ghost use Rattle.origin_model.specs.edits.Edits.{ReadyInTurn, extended};
-ghost use Rattle.origin_model.specs.operations.History.{accepted as accepted_list, has_op, holds as holds_on};
+ghost use Rattle.origin_model.specs.operations.History.{accepted as accepted_list, has_op, holder as holder_on, holds as holds_on, place as place_in};
 ghost use Rattle.origin_model.specs.operations.Counters.{counters, IsGreatest};
 ghost use Rattle.origin_model.specs.order.Printed.{manuscript as manuscript_on, shown};
 ghost use Rattle.origin_model.specs.operations.Verdict.{verdict as verdict_on, Lawful};
 ghost use Rattle.origin_model.specs.declared.operations.Place.TheVariants.{Catalogue as catalogue};
 ghost use Rattle.origin_model.specs.declared.operations.Verdict.TheVariants.{Ready};
 ghost use Rattle.replica_core.specs.Deleting.{AreWithin, deletes_from, ids_from};
+ghost use Rattle.replica_core.specs.Due.{newest_id as newest_id_of};
 ghost use Rattle.replica_core.specs.Feeding.{AreUnheld};
 ghost use Rattle.replica_core.specs.Index.{has_key, position_of, sections_and_notes as positions_in};
 ghost use Rattle.section_catalogue.specs.Contents.{place_count};
@@ -18,6 +21,7 @@ ghost use Rattle.section_catalogue.specs.Manuscript.{GrowsBy, IsPlaceOf, IsReady
 use crate::history::History;
 use crate::look_ups::ShownSection;
 use fugue_ids::{ElementId, Failed, MOST_OPERATIONS, NoMemory, Op, OpKey, RunStart};
+use op_runs::{OpRef, OpSlice};
 use origin_model::{Lookup, NoMemoryFor, Role, Verdict, fits_at, verdict_in};
 use outer_ports::Sink;
 use section_catalogue::Manuscript;
@@ -44,23 +48,23 @@ impl Model for Accepted {
     ghost invariant = { λ accepted. StandsFor accepted.manuscript accepted.history };
 }
 
-/// Takes an operation that is Ready into the manuscript. After want of memory that is as before.
-fn take_in(manuscript: &mut Manuscript, op: &Op) -> Result<(), NoMemory>
-    requires ready { IsReadyOn manuscript.old op.now }
-    requires room { place_count manuscript.old op.now < MOST_OPERATIONS }
-    ensures ok { OnOk result (GrowsBy manuscript.old manuscript.new op.now) }
+/// Takes an operation that stands in a place and is Ready into the manuscript. After want of memory that is as before.
+fn take_in(manuscript: &mut Manuscript, op: &OpRef<'_>) -> Result<(), NoMemory>
+    requires placed { IsSome (place_in (op_of op.now)) }
+    requires ready { IsReadyOn manuscript.old (op_of op.now) }
+    requires room { place_count manuscript.old (op_of op.now) < MOST_OPERATIONS }
+    ensures ok { OnOk result (GrowsBy manuscript.old manuscript.new (op_of op.now)) }
     ensures err { OnErr result (Stays manuscript.old manuscript.new) }
 {
     match op {
-        Op::Section { .. } | Op::Text { .. } => manuscript.insert(op),
-        Op::Delete { target } => take_in_delete(manuscript, *target),
-        // A note stands in no place, so the manuscript stays as it is.
-        Op::Note { .. } => Ok(()),
+        OpRef::Letter(start, ch) => manuscript.insert(&start.text(*ch)),
+        OpRef::Deletion(_target) => Ok(()),
+        OpRef::Whole(op) => manuscript.insert(op),
     }
 }
 
-/// The same for the Delete of an element or a note: a note stands in no place, so nothing is hidden where one is
-/// withdrawn.
+/// Takes a Delete that is Ready into the manuscript: of an element, or of a note. A note stands in no place, so nothing is
+/// hidden where one is withdrawn. After want of memory the manuscript is as before.
 fn take_in_delete(manuscript: &mut Manuscript, target: ElementId) -> Result<(), NoMemory>
     requires { IsReadyOn manuscript.old (DeleteOf target) }
     ensures ok { OnOk result (GrowsBy manuscript.old manuscript.new (DeleteOf target)) }
@@ -75,8 +79,8 @@ fn take_in_delete(manuscript: &mut Manuscript, target: ElementId) -> Result<(), 
 impl Lookup for Accepted {
     ghost history = { λ accepted. accepted };
 
-    fn holder(&self, id: ElementId) -> Option<&Op> {
-        self.history.holder(id)
+    fn equals(&self, id: ElementId, op: &Op) -> Option<bool> {
+        self.history.equals(id, op)
     }
 
     fn has_delete(&self, target: ElementId) -> bool {
@@ -104,23 +108,46 @@ impl Accepted {
     }
 
     /// The accepted operations, the oldest first.
-    pub fn ops(&self) -> &[Op]
-        ensures accepted { result.now ≡ accepted_list self.now }
+    pub fn ops(&self) -> OpSlice<'_>
+        ensures accepted { result ≡ accepted_list self.now }
         ensures lawful { Lawful self.now }
     {
         self.history.ops()
     }
 
-    /// The accepted operations, the oldest first, without the manuscript that they make.
-    pub fn into_ops(self) -> Vec<Op>
-        ensures { result.items ≡ accepted_list self }
+    /// Those that were accepted behind so many others.
+    pub fn from(&self, position: usize) -> OpSlice<'_>
+        ensures { result ≡ drop position (accepted_list self.now) }
     {
-        let Accepted {
-            history,
-            manuscript,
-        } = self;
-        drop(manuscript);
-        history.into_ops()
+        self.history.from(position)
+    }
+
+    /// How many there are.
+    pub fn len(&self) -> usize
+        ensures { result ≡ length self.now }
+    {
+        self.history.len()
+    }
+
+    /// The one that was accepted behind so many others.
+    pub fn get(&self, position: usize) -> Option<OpRef<'_>>
+        ensures { option_map op_of result ≡ slice_get (accepted_list self.now) position }
+    {
+        self.history.get(position)
+    }
+
+    /// The one that has the identifier.
+    pub fn holder(&self, id: ElementId) -> Option<OpRef<'_>>
+        ensures { option_map op_of result ≡ holder_on self.now id }
+    {
+        self.history.holder(id)
+    }
+
+    /// The identifier of the newest one, where it has one of its own.
+    pub fn newest_id(&self) -> Option<ElementId>
+        ensures { result ≡ newest_id_of self.now }
+    {
+        self.history.newest_id()
     }
 
     /// What an operation is against the accepted ones.
@@ -134,7 +161,7 @@ impl Accepted {
     pub fn holds(&self, id: ElementId) -> bool
         ensures { result ≡ holds_on self.now id }
     {
-        self.history.holder(id).is_some()
+        self.history.holds(id)
     }
 
     /// Whether none of so many identifiers, from this one on, is held.
@@ -202,7 +229,6 @@ impl Accepted {
     }
 
     /// Takes in an operation that is Ready.
-    #[tactic(auto, using(section_catalogue::proofs::BoundLemmas::places_bounded))]
     pub fn accept(&mut self, op: Op) -> Result<(), NoMemoryFor>
         requires ready { verdict_on self.old op ≡ Ready }
         requires room { length self.old < MOST_OPERATIONS }
@@ -210,12 +236,75 @@ impl Accepted {
         ensures err { OnErr result (self.new ≡ self.old) }
         ensures op_back { IfErr result (λ e. e.op ≡ op) }
     {
-        self.history.push(op)?;
-        match take_in(&mut self.manuscript, self.history.newest()) {
+        match &op {
+            Op::Text {
+                id,
+                section,
+                left,
+                right,
+                ch,
+            } => {
+                let start = RunStart {
+                    id: *id,
+                    section: *section,
+                    left: *left,
+                    right: *right,
+                };
+                match self.accept_run(&start, &[*ch]) {
+                    Ok(()) => Ok(()),
+                    Err(NoMemory) => Err(NoMemoryFor { op }),
+                }
+            }
+            Op::Delete { target } => match self.accept_delete(*target) {
+                Ok(()) => Ok(()),
+                Err(NoMemory) => Err(NoMemoryFor { op }),
+            },
+            Op::Section { .. } => self.accept_section(op),
+            // A note stands in no place, so the manuscript stays as it is.
+            Op::Note { .. } => self.history.push(op),
+        }
+    }
+
+    /// Takes in a Delete that is Ready. After want of memory all is as before.
+    fn accept_delete(&mut self, target: ElementId) -> Result<(), NoMemory>
+        requires ready { verdict_on self.old (DeleteOf target) ≡ Ready }
+        requires room { length self.old < MOST_OPERATIONS }
+        ensures ok { OnOk result (self.new ≡ DeleteOf target ∷ self.old) }
+        ensures err { OnErr result (self.new ≡ self.old) }
+    {
+        // That the counter fits is told where it is read.
+        let _counter = target.counter;
+        self.history.push_deletes(target, 1)?;
+        match take_in_delete(&mut self.manuscript, target) {
             Ok(()) => Ok(()),
-            Err(NoMemory) => Err(NoMemoryFor {
-                op: self.history.pop(),
-            }),
+            Err(NoMemory) => {
+                self.history.pop_all(1);
+                Err(NoMemory)
+            }
+        }
+    }
+
+    /// Takes in a Section that is Ready.
+    #[tactic(auto, using(section_catalogue::proofs::BoundLemmas::places_bounded))]
+    fn accept_section(&mut self, op: Op) -> Result<(), NoMemoryFor>
+        requires other { IsOther op }
+        requires placed { IsSome (place_in op) }
+        requires ready { verdict_on self.old op ≡ Ready }
+        requires room { length self.old < MOST_OPERATIONS }
+        ensures ok { OnOk result (self.new ≡ op ∷ self.old) }
+        ensures err { OnErr result (self.new ≡ self.old) }
+        ensures op_back { IfErr result (λ e. e.op ≡ op) }
+    {
+        self.history.push(op)?;
+        let Some(newest) = self.history.newest() else {
+            return Ok(());
+        };
+        match take_in(&mut self.manuscript, &newest) {
+            Ok(()) => Ok(()),
+            Err(NoMemory) => {
+                let op = self.history.take_newest().unwrap();
+                Err(NoMemoryFor { op })
+            }
         }
     }
 
@@ -249,6 +338,7 @@ impl Accepted {
     ) -> Result<(), StoppedAfter>
         requires some { 0 < count }
         requires counters { first.counter + count ≤ 2 ^ 32 }
+        requires room { length self.old + count ≤ MOST_OPERATIONS }
         requires ready { ReadyInTurn self.old (deletes_from first count) }
         requires within { AreWithin section.now self.old (ids_from first count) }
         ensures ok { OnOk result (self.new ≡ extended self.old (deletes_from first count)) }

@@ -3,7 +3,7 @@ ghost use Rattle.std.specs.Prelude.{position as first_position, set as with_mark
 ghost use Rattle.std.specs.Prelude.{All};
 ghost use Rattle.replica_core.specs.Due.{IsClearBefore};
 
-use causal_inbox::Queue;
+use causal_inbox::Gapped;
 use fugue_ids::NoMemory;
 use std::alloc::Global;
 use std::marker::Model;
@@ -11,7 +11,7 @@ use std::marker::Model;
 /// Which of the waiting operations can leave: a mark for each of them, in their order.
 #[derive(Drop)]
 pub(crate) struct Due {
-    marks: Queue<bool>,
+    marks: Gapped<bool>,
     /// How many marks are set, so that nothing is looked through where none is.
     count: usize,
     /// How many marks in front are known not to be set, so that they are looked through once.
@@ -24,12 +24,12 @@ impl Model for Due {
 
     ghost Value = { List Bool };
 
-    ghost view = { λ due. due.marks };
+    ghost view = { λ due. due.marks.items };
 
     ghost invariant = { λ due. record {
-      counted : due.count ≡ count_by (λ mark. mark) due.marks;
-      front : IsClearBefore due.clear due.marks;
-      within : due.clear ≤ length due.marks;
+      counted : due.count ≡ count_by (λ mark. mark) due.marks.items;
+      front : IsClearBefore due.clear due.marks.items;
+      within : due.clear ≤ length due.marks.items;
     } };
 }
 
@@ -38,7 +38,7 @@ impl Due {
         ensures { result ≡ [] }
     {
         Due {
-            marks: Queue::new(alloc),
+            marks: Gapped::new(alloc),
             count: 0,
             clear: 0,
         }
@@ -59,7 +59,7 @@ impl Due {
         if self.is_clear() {
             return None;
         }
-        let position = first_behind(self.marks.as_slice(), self.clear)?;
+        let position = first_behind(&self.marks, self.clear)?;
         self.clear = position;
         Some(position)
     }
@@ -78,8 +78,14 @@ impl Due {
         requires { position < length self.old }
         ensures { self.new ≡ with_mark self.old position mark }
     {
-        self.count = count_with(self.marks.as_slice(), self.count, position, mark);
-        self.clear = clear_with(self.clear, position, mark);
+        // Where none is set, none is set in front of this one.
+        let clear = if self.count == 0 {
+            position
+        } else {
+            self.clear
+        };
+        self.count = count_with(&self.marks, self.count, position, mark);
+        self.clear = clear_with(clear, position, mark);
         self.marks.put(position, mark);
     }
 
@@ -88,7 +94,7 @@ impl Due {
         requires { position < length self.old }
         ensures { self.new ≡ remove self.old position }
     {
-        self.count = count_with(self.marks.as_slice(), self.count, position, false);
+        self.count = count_with(&self.marks, self.count, position, false);
         self.clear = clear_without(self.clear, position);
         self.marks.remove(position, false);
     }
@@ -102,15 +108,20 @@ fn first_set(marks: &[bool]) -> Option<usize>
 }
 
 /// The same, where none of the first `clear` is.
-fn first_behind(marks: &[bool], clear: usize) -> Option<usize>
-    requires within { clear ≤ length marks.now }
-    requires front { IsClearBefore clear marks.now }
-    ensures { result ≡ first_position (λ mark. mark) marks.now }
+fn first_behind(marks: &Gapped<bool>, clear: usize) -> Option<usize>
+    requires within { clear ≤ length marks.now.items }
+    requires front { IsClearBefore clear marks.now.items }
+    ensures { result ≡ first_position (λ mark. mark) marks.now.items }
 {
-    match first_set(&marks[clear..]) {
-        Some(position) => Some(clear + position),
-        None => None,
+    let mut passed = clear;
+    'stretches: while passed < marks.len() {
+        let stretch = marks.stretch(passed);
+        if let Some(position) = first_set(stretch) {
+            return Some(passed + position);
+        }
+        passed += stretch.len();
     }
+    None
 }
 
 /// How many marks in front are not set, after the one at the position is set or not.
@@ -129,11 +140,19 @@ fn clear_without(clear: usize, position: usize) -> usize
 }
 
 /// How many marks are set, after the one at the position is set or not.
-fn count_with(marks: &[bool], count: usize, position: usize, mark: bool) -> usize
-    requires within { position < length marks.now }
-    requires counted { count ≡ count_by (λ mark. mark) marks.now }
-    ensures { result ≡ count_by (λ mark. mark) (with_mark marks.now position mark) }
+fn count_with(marks: &Gapped<bool>, count: usize, position: usize, mark: bool) -> usize
+    requires within { position < length marks.now.items }
+    requires counted { count ≡ count_by (λ mark. mark) marks.now.items }
+    ensures { result ≡ count_by (λ mark. mark) (with_mark marks.now.items position mark) }
 {
-    let others = if marks[position] { count - 1 } else { count };
-    if mark { others + 1 } else { others }
+    // No more are set than there are, so that the count fits.
+    let _most = marks.len();
+    let was = *marks.get(position);
+    if was && !mark {
+        return count - 1;
+    }
+    if mark && !was {
+        return count + 1;
+    }
+    count
 }

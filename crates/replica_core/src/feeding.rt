@@ -11,9 +11,11 @@ ghost use Rattle.origin_model.specs.taking.Taking.{IsSettled, kept_from};
 ghost use Rattle.replica_core.specs.Feeding.{AreUntouched, GoesAtOnce, StopsFeeding, StopsKeeping, TakesInAll};
 ghost use Rattle.replica_core.specs.Told.{total};
 
+use crate::replica::Settling;
 use crate::{FeedFault, Replica};
 use fugue_ids::{ElementId, Op, RunStart};
 use origin_model::{Tally, Verdict};
+use std::mem::replace;
 
 impl Replica {
     /// Feeds the Texts of a run, one after another: those at once that nothing is asked of, the others each alone.
@@ -21,6 +23,53 @@ impl Replica {
     /// After a fault the Texts before some one stand, and that one left what `feed` says of its fault. Where memory was
     /// wanting for Texts that go in at once, that is the first of these.
     pub fn feed_run(
+        &mut self,
+        start: &RunStart,
+        text: &[char],
+        tally: &mut Tally,
+    ) -> Result<(), FeedFault>
+        requires settled { IsSettled self.old.held }
+        requires counters { start.now.id.counter + length text.now ≤ 2 ^ 32 }
+        requires counts_rise { total tally.old + length self.old.held.waiting + length text.now ≤ 2 ^ 31 }
+        ensures ok { OnOk result (TakesInAll self.old self.new (run_from start.now text.now) tally.old tally.new) }
+        ensures err { IfErr result
+            (λ fault. StopsFeeding (run_from start.now text.now) self.old self.new tally.old tally.new fault) }
+        ensures stands { Stands self.new }
+    {
+        let mut settling = self.open();
+        let fed = settling.feed_run(start, text, tally);
+        drop(replace(self, settling.close()));
+        fed
+    }
+
+    /// The same, and appends copies of those that were accepted or wait to `kept`, in order.
+    pub fn feed_run_keeping(
+        &mut self,
+        start: &RunStart,
+        text: &[char],
+        tally: &mut Tally,
+        kept: &mut Vec<Op>,
+    ) -> Result<(), FeedFault>
+        requires settled { IsSettled self.old.held }
+        requires counters { start.now.id.counter + length text.now ≤ 2 ^ 32 }
+        requires counts_rise { total tally.old + length self.old.held.waiting + length text.now ≤ 2 ^ 31 }
+        ensures ok { OnOk result (TakesInAll self.old self.new (run_from start.now text.now) tally.old tally.new) }
+        ensures kept { OnOk result (kept.new.items ≡ kept.old.items
+            ++ kept_from self.old.hold self.old.most self.old.held (run_from start.now text.now)) }
+        ensures err { IfErr result
+            (λ fault. StopsKeeping (run_from start.now text.now) self.old self.new tally.old tally.new
+            kept.old.items kept.new.items fault) }
+        ensures stands { Stands self.new }
+    {
+        let mut settling = self.open();
+        let fed = settling.feed_run_keeping(start, text, tally, kept);
+        drop(replace(self, settling.close()));
+        fed
+    }
+}
+
+impl Settling {
+    fn feed_run(
         &mut self,
         start: &RunStart,
         text: &[char],
@@ -46,8 +95,7 @@ impl Replica {
         Ok(())
     }
 
-    /// The same, and appends copies of those that were accepted or wait to `kept`, in order.
-    pub fn feed_run_keeping(
+    fn feed_run_keeping(
         &mut self,
         start: &RunStart,
         text: &[char],

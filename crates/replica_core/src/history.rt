@@ -1,26 +1,31 @@
-ghost use Rattle.std.specs.Prelude.{◌≡◌, ◌≢◌, ◌<◌, ◌≤◌, ◌+◌, ◌^◌, ◌∷◌, [], Some, OnErr, OnOk, IfErr, drop, length};
-ghost use Rattle.std.specs.Prelude.{option_copied, slice_get, All, IsTrue, take, true, ◌↔◌};
-ghost use Rattle.fugue_ids.specs.Runs.{id_behind as id_by, run_from};
+ghost use Rattle.std.specs.Prelude.{◌≡◌, ◌≢◌, ◌<◌, ◌≤◌, ◌+◌, ◌^◌, ◌∷◌, [], OnErr, OnOk, IfErr, IfNone, IfSome, IsSome, Some, drop, length};
+ghost use Rattle.std.specs.Prelude.{option_map, slice_get, All, IsTrue, take, true, ◌↔◌};
+ghost use Rattle.fugue_ids.specs.Runs.{run_from};
+ghost use Rattle.fugue_ids.specs.declared.limits.TheConstants.{MOST_OPERATIONS};
+ghost use Rattle.fugue_ids.specs.declared.op.Op.{Op as AnyOp};
+ghost use Rattle.op_runs.specs.Finding.{op_of};
+ghost use Rattle.op_runs.specs.Parts.{IsOther};
 ghost use Rattle.origin_model.specs.edits.Edits.{ReadyInTurn, extended};
-ghost use Rattle.origin_model.specs.operations.History.{accepted, has_op};
+ghost use Rattle.origin_model.specs.operations.History.{accepted, has_op, holder as holder_on, holds as holds_on};
 ghost use Rattle.origin_model.specs.operations.Counters.{counters, IsGreatest};
-ghost use Rattle.origin_model.specs.operations.Verdict.{verdict, Lawful};
+ghost use Rattle.origin_model.specs.operations.Verdict.{fits as fits_role, verdict, Lawful};
 ghost use Rattle.origin_model.specs.declared.operations.Verdict.TheVariants.{Ready};
 ghost use Rattle.replica_core.specs.Deleting.{deletes_from};
+ghost use Rattle.replica_core.specs.Due.{newest_id as newest_id_of};
 ghost use Rattle.replica_core.specs.Feeding.{AreUnheld};
 ghost use Rattle.replica_core.specs.Index.{has_key, position_of, sections_and_notes as positions_in};
 
-use crate::feeding::push_letters;
 use crate::index::Index;
 use fugue_ids::{ElementId, NoMemory, Op, OpKey, RunStart};
-use origin_model::{Lookup, NoMemoryFor};
+use op_runs::{OpRef, OpRuns, OpSlice};
+use origin_model::{Lookup, NoMemoryFor, Role, fits};
 use std::alloc::Global;
 use std::marker::Model;
 
 /// The accepted operations, with an index by which they are found. They are seen as the list of them, the newest first.
 #[derive(Drop)]
 pub(crate) struct History {
-    ops: Vec<Op>,
+    ops: OpRuns,
     index: Index,
 }
 
@@ -33,61 +38,45 @@ impl Model for History {
 
     ghost Value = { List Op };
 
-    ghost view = { λ history. reverse history.ops.items };
+    ghost view = { λ history. reverse history.ops };
 
     ghost invariant = { λ history. record {
-      lawful : Lawful (reverse history.ops.items);
-      indexed : IsIndex history.index.positions.values history.index.targets.values (reverse history.ops.items);
-      listed : history.index.sections_and_notes.items ≡ sections_and_notes (reverse history.ops.items);
+      lawful : Lawful (reverse history.ops);
+      indexed : IsIndex history.index.positions.values history.index.targets.values (reverse history.ops);
+      listed : history.index.sections_and_notes.items ≡ sections_and_notes (reverse history.ops);
     } };
 }
 
-fn op_at(ops: &[Op], position: usize) -> Option<&Op>
-    ensures { option_copied result ≡ slice_get ops.now position }
+/// Whether the operation fits the role.
+fn fits_ref(role: Role, op: &OpRef<'_>) -> bool
+    ensures { result ≡ fits_role role (op_of op.now) }
 {
-    ops.get(position)
-}
-
-/// How many Texts at the front of a run the list has from the position on.
-fn same_letters(ops: &[Op], position: usize, start: &RunStart, text: &[char]) -> usize
-    requires { start.now.id.counter + length text.now ≤ 2 ^ 32 }
-    ensures within { result ≤ length text.now }
-    ensures there { All (λ op. has_op ops.now op ≡ true) (run_from start.now (take result text.now)) }
-{
-    if position >= ops.len() {
-        return 0;
-    }
-    let most = text.len().min(ops.len() - position);
-    let mut count = 0;
-    'same: while count < most && ops[position + count] == start.nth(count).text(text[count]) {
-        count += 1;
-    }
-    count
-}
-
-/// The identifier n behind another one of the same replica.
-fn id_behind(id: ElementId, n: u32) -> ElementId
-    requires { id.counter + n < 2 ^ 32 }
-    ensures { result ≡ id_by id n }
-{
-    ElementId {
-        replica: id.replica,
-        counter: id.counter + n,
+    match op {
+        OpRef::Letter(start, ch) => fits(role, &start.text(*ch)),
+        OpRef::Deletion(target) => fits(role, &Op::Delete { target: *target }),
+        OpRef::Whole(op) => fits(role, op),
     }
 }
 
 impl Lookup for History {
     ghost history = { λ history. history };
 
-    fn holder(&self, id: ElementId) -> Option<&Op> {
-        match self.index.position(id) {
-            Some(position) => op_at(&self.ops, position),
+    fn equals(&self, id: ElementId, op: &Op) -> Option<bool> {
+        match self.holder(id) {
+            Some(holder) => Some(holder.equals(op)),
             None => None,
         }
     }
 
     fn has_delete(&self, target: ElementId) -> bool {
         self.index.is_target(target)
+    }
+
+    fn fits(&self, id: ElementId, role: Role) -> Option<bool> {
+        match self.holder(id) {
+            Some(holder) => Some(fits_ref(role, &holder)),
+            None => None,
+        }
     }
 }
 
@@ -96,26 +85,56 @@ impl History {
         ensures { result ≡ [] }
     {
         History {
-            ops: Vec::new(alloc),
+            ops: OpRuns::new(alloc),
             index: Index::new(alloc),
         }
     }
 
-    /// The operations, the oldest first.
-    pub fn ops(&self) -> &[Op]
-        ensures accepted { result.now ≡ accepted self.now }
-        ensures lawful { Lawful self.now }
+    /// How many operations there are.
+    pub fn len(&self) -> usize
+        ensures { result ≡ length self.now }
     {
-        self.ops.as_slice()
+        self.ops.len()
     }
 
-    /// The operations, the oldest first, without their index.
-    pub fn into_ops(self) -> Vec<Op>
-        ensures { result.items ≡ accepted self }
+    /// Those behind so many older ones.
+    pub fn from(&self, position: usize) -> OpSlice<'_>
+        ensures { result ≡ drop position (accepted self.now) }
     {
-        let History { ops, index } = self;
-        drop(index);
-        ops
+        self.ops.from(position)
+    }
+
+    /// The operations, the oldest first.
+    pub fn ops(&self) -> OpSlice<'_>
+        ensures accepted { result ≡ accepted self.now }
+        ensures lawful { Lawful self.now }
+    {
+        self.ops.from(0)
+    }
+
+    /// The operation behind so many older ones.
+    pub fn get(&self, position: usize) -> Option<OpRef<'_>>
+        ensures { option_map op_of result ≡ slice_get (accepted self.now) position }
+    {
+        self.ops.get(position)
+    }
+
+    /// The operation that has the identifier.
+    pub fn holder(&self, id: ElementId) -> Option<OpRef<'_>>
+        ensures held { option_map op_of result ≡ holder_on self.now id }
+        ensures lawful { Lawful self.now }
+    {
+        match self.index.position(id) {
+            Some(position) => self.ops.get(position),
+            None => None,
+        }
+    }
+
+    /// Whether an operation has the identifier.
+    pub fn holds(&self, id: ElementId) -> bool
+        ensures { result ≡ holds_on self.now id }
+    {
+        self.index.position(id).is_some()
     }
 
     /// How many operations are older than the one that is looked up by the key.
@@ -151,14 +170,15 @@ impl History {
             return 0;
         }
         match self.index.position(start.id) {
-            Some(position) => same_letters(&self.ops, position, start, text),
+            Some(position) => self.ops.repeats(position, start, text),
             None => 0,
         }
     }
 
     /// One operation more, which is Ready.
     pub fn push(&mut self, op: Op) -> Result<(), NoMemoryFor>
-        requires { verdict self.old op ≡ Ready }
+        requires ready { verdict self.old op ≡ Ready }
+        requires room { length self.old < MOST_OPERATIONS }
         ensures ok { OnOk result (self.new ≡ op ∷ self.old) }
         ensures err { OnErr result (self.new ≡ self.old) }
         ensures op_back { IfErr result (λ e. e.op ≡ op) }
@@ -169,7 +189,7 @@ impl History {
         match self.ops.push(op) {
             Ok(()) => Ok(()),
             Err(refused) => {
-                let op = refused.value;
+                let op = refused.op;
                 self.index.forget(&op);
                 Err(NoMemoryFor { op })
             }
@@ -180,7 +200,7 @@ impl History {
     /// as before.
     pub fn push_run(&mut self, start: &RunStart, text: &[char]) -> Result<(), NoMemory>
         requires counters { start.now.id.counter + length text.now ≤ 2 ^ 32 }
-        requires few { length text.now < 2 ^ 32 }
+        requires room { length self.old + length text.now ≤ MOST_OPERATIONS }
         requires ready { ReadyInTurn self.old (run_from start.now text.now) }
         ensures ok { OnOk result (self.new ≡ extended self.old (run_from start.now text.now)) }
         ensures err { OnErr result (self.new ≡ self.old) }
@@ -188,30 +208,33 @@ impl History {
         if text.is_empty() {
             return Ok(());
         }
-        self.ops.reserve(text.len())?;
-        self.index
-            .note_run(start.id, text.len() as u32, self.ops.len())?;
-        push_letters(&mut self.ops, start, text);
+        let position = self.ops.len();
+        self.ops.push_run(*start, text)?;
+        let Ok(()) = self.index.note_run(start.id, text.len() as u32, position) else {
+            self.ops.pop(text.len());
+            return Err(NoMemory);
+        };
         Ok(())
     }
 
-    /// The Deletes of so many identifiers from this one on, which are Ready in their turn. After want of memory all is as
-    /// before.
+    /// The Deletes of so many identifiers from this one on, which are Ready in their turn: their positions are noted as
+    /// one. After want of memory all is as before.
     pub fn push_deletes(&mut self, first: ElementId, count: u32) -> Result<(), NoMemory>
         requires counters { first.counter + count ≤ 2 ^ 32 }
+        requires room { length self.old + count ≤ MOST_OPERATIONS }
         requires ready { ReadyInTurn self.old (deletes_from first count) }
         ensures ok { OnOk result (self.new ≡ extended self.old (deletes_from first count)) }
         ensures err { OnErr result (self.new ≡ self.old) }
     {
-        let mut done = 0;
-        'deleted: while done < count {
-            let target = id_behind(first, done);
-            let Ok(()) = self.push(Op::Delete { target }) else {
-                self.pop_all(done as usize);
-                return Err(NoMemory);
-            };
-            done += 1;
+        if count == 0 {
+            return Ok(());
         }
+        let position = self.ops.len();
+        self.ops.push_deletes(first, count)?;
+        let Ok(()) = self.index.note_deletes(first, count, position) else {
+            self.ops.pop(count as usize);
+            return Err(NoMemory);
+        };
         Ok(())
     }
 
@@ -224,31 +247,55 @@ impl History {
         self.index.greatest(replica)
     }
 
-    pub fn newest(&self) -> &Op
-        requires { self.now ≢ [] }
-        ensures { slice_get self.now 0 ≡ Some result.now }
+    pub fn newest(&self) -> Option<OpRef<'_>>
+        ensures { option_map op_of result ≡ slice_get self.now 0 }
     {
-        self.ops.last().unwrap()
+        self.ops.last()
+    }
+
+    /// The identifier of the newest operation, where it has one of its own.
+    pub fn newest_id(&self) -> Option<ElementId>
+        ensures { result ≡ newest_id_of self.now }
+    {
+        match self.ops.last() {
+            Some(op) => op.id(),
+            None => None,
+        }
+    }
+
+    /// Takes the newest operation back and hands it out, where that is a Section or a Note. It takes no memory.
+    pub fn take_newest(&mut self) -> Option<Op>
+        ensures some { IfSome result (λ op. self.old ≡ op ∷ self.new) }
+        ensures none { IfNone result (self.new ≡ self.old) }
+        ensures other { (op : AnyOp) → Some op ≡ slice_get self.old 0 → IsOther op → IsSome result }
+    {
+        let Some(op) = self.ops.take_last() else {
+            return None;
+        };
+        self.index.forget(&op);
+        Some(op)
     }
 
     /// Takes the newest operation back.
-    pub fn pop(&mut self) -> Op
+    fn pop(&mut self)
         requires { self.old ≢ [] }
-        ensures { self.old ≡ result ∷ self.new }
+        ensures { self.new ≡ drop 1 self.old }
     {
-        let op = self.ops.pop().unwrap();
-        self.index.forget(&op);
-        op
+        let Some(newest) = self.ops.last() else {
+            return;
+        };
+        self.index.forget_found(&newest);
+        self.ops.pop(1);
     }
 
-    /// Takes the newest operations back, so many.
+    /// Takes the newest operations back, so many. It takes no memory.
     pub fn pop_all(&mut self, count: usize)
         requires { count ≤ length self.old }
         ensures { self.new ≡ drop count self.old }
     {
         let mut left = count;
         'popped: while left > 0 {
-            let _op = self.pop();
+            self.pop();
             left -= 1;
         }
     }

@@ -1,6 +1,7 @@
 ghost use Rattle.std.specs.Prelude.{◌≡◌, ◌<◌, ◌≤◌, ◌+◌, ◌^◌, ◌↔◌, ◌∷◌, ◌++◌, [], ℕ, List, is_some, length, option_map, IsTrue, OnOk, OnErr};
 ghost use Rattle.std.specs.FinMap.{get};
 ghost use Rattle.fugue_ids.specs.declared.op.Op.{Op as AnyOp};
+ghost use Rattle.op_runs.specs.Finding.{op_of};
 ghost use Rattle.origin_model.specs.operations.Verdict.{verdict};
 ghost use Rattle.origin_model.specs.declared.operations.Verdict.TheVariants.{Ready};
 ghost use Rattle.replica_core.specs.Index.{has_key, IsIndex, IsUnnoted, is_section_or_note as is_either, position_if, position_of, with_positions};
@@ -8,6 +9,7 @@ ghost use Rattle.replica_core.specs.Index.{sections_and_notes as positions_in};
 ghost use Rattle.stretch_map.specs.Rules.{AreFree, IsGreatestIn};
 
 use fugue_ids::{ElementId, NoMemory, Op, OpKey};
+use op_runs::OpRef;
 use std::alloc::Global;
 use stretch_map::{Position, StretchMap};
 
@@ -141,6 +143,28 @@ impl Index {
         self.positions.insert_run(first, count, position)
     }
 
+    /// The positions of the Deletes of so many neighbours, the first at that position: by one entry. After want of memory
+    /// all is as before.
+    pub fn note_deletes(
+        &mut self,
+        first: ElementId,
+        count: u32,
+        position: usize,
+    ) -> Result<(), NoMemory>
+        requires some { 0 < count }
+        requires counters { first.counter + count ≤ 2 ^ 32 }
+        requires positions { position + count < 2 ^ 64 }
+        requires free { AreFree (get self.old.targets.values) first count }
+        ensures ok { OnOk result (self.new.targets.values
+            ≡ with_positions first position count self.old.targets.values) }
+        ensures positions { self.new.positions ≡ self.old.positions }
+        ensures listed { self.new.sections_and_notes ≡ self.old.sections_and_notes }
+        ensures err { OnErr result (self.new ≡ self.old) }
+    {
+        let position = Position { at: position };
+        self.targets.insert_run(first, count, position)
+    }
+
     /// The newest operation less. This wants no memory, since no other one has the position behind it.
     pub fn forget(&mut self, op: &Op)
         ensures found { (h : List AnyOp) → IsIndex self.old.positions.values self.old.targets.values (op.now ∷ h)
@@ -151,6 +175,21 @@ impl Index {
     {
         self.unlist(op);
         self.remove(op);
+    }
+
+    /// The same of an operation as it stands in the list.
+    pub fn forget_found(&mut self, op: &OpRef<'_>)
+        ensures found { (h : List AnyOp) → IsIndex self.old.positions.values self.old.targets.values (op_of op.now ∷ h)
+            → verdict h (op_of op.now) ≡ Ready
+            → IsIndex self.new.positions.values self.new.targets.values h }
+        ensures listed { (h : List AnyOp) → self.old.sections_and_notes.items ≡ positions_in (op_of op.now ∷ h)
+            → self.new.sections_and_notes.items ≡ positions_in h }
+    {
+        match op {
+            OpRef::Letter(start, ch) => self.forget(&start.text(*ch)),
+            OpRef::Deletion(target) => self.forget(&Op::Delete { target: *target }),
+            OpRef::Whole(op) => self.forget(op),
+        }
     }
 
     /// The position of an operation, where that is a Section or a Note.

@@ -6,6 +6,7 @@ ghost use Rattle.replica_core.specs.Told.{StaysBelow};
 ghost use Rattle.replica_core.specs.Keeping.{TakesInKeeping, LeavesUnkept};
 
 use crate::Replica;
+use crate::replica::Settling;
 use fugue_ids::{NoMemory, Op};
 use origin_model::Tally;
 use std::alloc::Global;
@@ -37,6 +38,52 @@ impl Replica {
     /// one that is too many is told as that and not as want of memory. After a fault `kept` is as before.
     #[tactic(auto, using(crate::proofs::KeepingLemmas::full_keeps_none, crate::proofs::KeepingLemmas::room_for_one, crate::proofs::KeepingLemmas::kept_has_place))]
     pub fn feed_keeping(
+        &mut self,
+        op: Op,
+        tally: &mut Tally,
+        kept: &mut Vec<Op>,
+    ) -> Result<(), FeedFault>
+        requires settled { IsSettled self.old.held }
+        requires counts_rise { StaysBelow tally.old }
+        ensures ok { OnOk result (TakesInKeeping self.old self.new op tally.old tally.new kept.old.items kept.new.items) }
+        ensures too_many { (result ≡ Err (FeedFault.TooMany self.old.most))
+            ↔ (answer self.old.hold self.old.most self.old.held op ≡ TooMany) }
+        ensures err { IfErr result (λ fault. LeavesUnkept self.old self.new op tally.old tally.new fault) }
+        ensures unkept { OnErr result (kept.new.items ≡ kept.old.items) }
+        ensures stands { Stands self.new }
+    {
+        if self.room() == 0 {
+            self.feed(op, tally)?;
+            return Ok(());
+        }
+        let Ok(copy) = copy_for(self.alloc, &op, kept) else {
+            drop(op);
+            return Err(FeedFault::NoMemory);
+        };
+        match self.feed(op, tally) {
+            Ok(true) => {
+                push_reserved(kept, copy);
+                Ok(())
+            }
+            Ok(false) => {
+                drop(copy);
+                Ok(())
+            }
+            Err(fault) => {
+                drop(copy);
+                Err(fault)
+            }
+        }
+    }
+}
+
+impl Settling {
+    /// Feeds the operation, and appends a copy of it to `kept` where it was accepted or waits.
+    ///
+    /// The memory for the copy is taken first, but for where as many are held as may be: then nothing more is kept, and
+    /// one that is too many is told as that and not as want of memory. After a fault `kept` is as before.
+    #[tactic(auto, using(crate::proofs::KeepingLemmas::full_keeps_none, crate::proofs::KeepingLemmas::room_for_one, crate::proofs::KeepingLemmas::kept_has_place))]
+    pub(crate) fn feed_keeping(
         &mut self,
         op: Op,
         tally: &mut Tally,

@@ -1,10 +1,11 @@
 //! What a replica shows, and what it holds.
-ghost use Rattle.std.specs.Prelude.{◌≡◌, length, option_and_then, option_copied, option_map, slice_get, string_bytes, IfOk, IfSome};
+ghost use Rattle.std.specs.Prelude.{◌≡◌, drop, length, option_and_then, option_copied, option_map, slice_get, string_bytes, IfOk, IfSome};
 ghost use Rattle.std.specs.Str.{encode_utf8_all};
-ghost use Rattle.origin_model.specs.operations.History.{holder as holder_on, holds as holds_on};
+ghost use Rattle.op_runs.specs.Finding.{op_of};
+ghost use Rattle.origin_model.specs.operations.History.{accepted as accepted_list, holder as holder_on, holds as holds_on};
 ghost use Rattle.origin_model.specs.order.Printed.{is_withdrawn as withdrawn_in, shown, text as text_on};
 ghost use Rattle.origin_model.specs.declared.operations.Place.TheVariants.{Catalogue as catalogue, Section as within};
-ghost use Rattle.replica_core.specs.Index.{has_key, position_of, sections_and_notes as positions_in};
+ghost use Rattle.replica_core.specs.Index.{has_key, if_section_or_note, position_of, section_or_note_at, sections_and_notes as positions_in};
 ghost use Rattle.section_list.specs.Cells.{section_text as text_in};
 ghost use Rattle.section_catalogue.specs.Manuscript.{IsPlaceOf, IsTextOf, LookUpsAgree, StandsFor};
 ghost use Rattle.origin_model.specs.edits.Refusal.{section_shown};
@@ -12,6 +13,7 @@ ghost use Rattle.origin_model.specs.edits.State.{Stands};
 
 use crate::Replica;
 use fugue_ids::{ElementId, NoMemory, Op, OpKey};
+use op_runs::{OpRef, OpSlice};
 use origin_model::Lookup;
 use outer_ports::MemSink;
 use section_catalogue::Manuscript;
@@ -78,9 +80,37 @@ impl Replica {
         self.accepted.sections_and_notes()
     }
 
+    /// The Section or Note that was accepted behind so many operations: None where another operation stands there, or
+    /// none.
+    pub fn section_or_note(&self, position: usize) -> Option<&Op>
+        ensures found { option_copied result ≡ section_or_note_at (accepted_list self.now.held.history) position }
+        ensures stands { Stands self.now }
+    {
+        match self.accepted.get(position) {
+            Some(OpRef::Whole(op)) => section_or_note(op),
+            _ => None,
+        }
+    }
+
+    /// The operation that was accepted behind so many others.
+    pub fn operation(&self, position: usize) -> Option<OpRef<'_>>
+        ensures operation { option_map op_of result ≡ slice_get (accepted_list self.now.held.history) position }
+        ensures stands { Stands self.now }
+    {
+        self.accepted.get(position)
+    }
+
+    /// The operations that were accepted behind so many others, in order.
+    pub fn accepted_from(&self, position: usize) -> OpSlice<'_>
+        ensures operations { result ≡ drop position (accepted_list self.now.held.history) }
+        ensures stands { Stands self.now }
+    {
+        self.accepted.from(position)
+    }
+
     /// The accepted operation that has the identifier.
-    pub fn holder(&self, id: ElementId) -> Option<&Op>
-        ensures holder { option_copied result ≡ holder_on self.now.held.history id }
+    pub fn holder(&self, id: ElementId) -> Option<OpRef<'_>>
+        ensures holder { option_map op_of result ≡ holder_on self.now.held.history id }
         ensures stands { Stands self.now }
     {
         self.accepted.holder(id)
@@ -137,6 +167,16 @@ impl Replica {
             Some(section) => Ok(Some(shown_text(self.alloc, section.text)?)),
             None => Ok(None),
         }
+    }
+}
+
+/// The operation, where it is a Section or a Note.
+fn section_or_note(op: &Op) -> Option<&Op>
+    ensures { option_copied result ≡ if_section_or_note op.now }
+{
+    match op {
+        Op::Section { .. } | Op::Note { .. } => Some(op),
+        Op::Text { .. } | Op::Delete { .. } => None,
     }
 }
 

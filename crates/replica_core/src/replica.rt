@@ -21,12 +21,14 @@ mod settling;
 use crate::FeedFault;
 use crate::accepted::Accepted;
 use crate::due::Due;
-use crate::waking::{open_and_wake, wait};
+use crate::waking::{wait, wake};
 use causal_inbox::{Found, Inbox, PushFault};
 use fugue_ids::{ElementId, Failed, GREATEST_HOLD, MOST_OPERATIONS, NoMemory, Op, RunStart};
+use op_runs::OpSlice;
 use origin_model::{Tally, Verdict};
 use outer_ports::Sink;
 use section_list::StoppedAfter;
+pub(crate) use settling::Settling;
 use std::alloc::Global;
 use std::marker::Model;
 use std::mem::replace;
@@ -87,14 +89,14 @@ pub struct Replica {
 
 impl Model for Replica {
     ghost use Rattle.origin_model.specs.edits.State.{State};
-    ghost use Rattle.replica_core.specs.Replica.{IsKept, replica_state};
+    ghost use Rattle.replica_core.specs.Replica.{IsClosed, replica_state};
 
     ghost Value = { State };
 
     ghost view = { λ replica. replica_state replica.number replica.hold replica.most replica.accepted replica.inbox };
 
     ghost invariant = { λ replica.
-        IsKept (replica_state replica.number replica.hold replica.most replica.accepted replica.inbox) replica.inbox
+        IsClosed (replica_state replica.number replica.hold replica.most replica.accepted replica.inbox) replica.inbox
         replica.due };
 }
 
@@ -162,8 +164,8 @@ impl Replica {
     }
 
     /// The accepted operations, in the order in which they were accepted.
-    pub fn accepted(&self) -> &[Op]
-        ensures accepted { result.now ≡ accepted_list self.now.held.history }
+    pub fn accepted(&self) -> OpSlice<'_>
+        ensures accepted { result ≡ accepted_list self.now.held.history }
         ensures stands { Stands self.now }
     {
         self.accepted.ops()
@@ -176,31 +178,6 @@ impl Replica {
         ensures stands { Stands self.now }
     {
         self.inbox.ops()
-    }
-
-    /// All that the replica holds, in one list: the accepted operations in the order in which they were accepted, and
-    /// behind them the waiting ones in the order in which they came. The accepted ones are moved, the waiting ones are
-    /// copied, and the manuscript is dropped.
-    pub fn into_operations(self) -> Result<Vec<Op>, NoMemory>
-        ensures operations { IfOk result (λ ops. ops.items
-            ≡ accepted_list self.held.history ++ self.held.waiting) }
-        ensures stands { Stands self }
-    {
-        let Replica {
-            alloc,
-            accepted,
-            inbox,
-            due,
-            ..
-        } = self;
-        drop(due);
-        let mut ops = accepted.into_ops();
-        let copied = append_copies(alloc, &mut ops, inbox.ops());
-        drop(inbox);
-        match copied {
-            Ok(()) => Ok(ops),
-            Err(NoMemory) => Err(NoMemory),
-        }
     }
 
     /// Ends the replica. With `drop` each crate that ends one would prove anew how all its parts are dropped.
@@ -231,7 +208,7 @@ impl Replica {
         ensures room { result + held_count self.now ≡ self.now.most }
         ensures stands { Stands self.now }
     {
-        self.most as usize - self.accepted.ops().len() - self.inbox.ops().len()
+        self.most as usize - self.accepted.len() - self.inbox.len()
     }
 
     /// Accepts an operation that an edit makes. Nothing that waits is decided by it, so the marks stay.
@@ -290,7 +267,7 @@ impl Replica {
         ensures { answer self.now.hold self.now.most self.now.held op.now
             ≡ answer_by_decision (length self.now.held.waiting == self.now.hold) result }
     {
-        let held = self.accepted.ops().len() + self.inbox.ops().len();
+        let held = self.accepted.len() + self.inbox.len();
         let at_most = held == self.most as usize;
         decide(self.inbox.find(op), self.accepted.verdict(op), at_most)
     }
@@ -313,7 +290,7 @@ impl Replica {
             Decision::TooMany => Err(DeliverFault::TooMany(op, self.most)),
             Decision::Ready => match self.accepted.accept(op) {
                 Ok(()) => {
-                    open_and_wake(&mut self.inbox, &self.accepted, &mut self.due);
+                    wake(&self.inbox, &self.accepted, &mut self.due);
                     Ok(Taken::Accepted)
                 }
                 Err(refused) => Err(DeliverFault::NoMemory(refused.op)),
@@ -408,16 +385,6 @@ impl Replica {
         drop(replace(self, settling.close()));
         result
     }
-}
-
-/// Appends a copy of each of the others.
-fn append_copies(alloc: Global, ops: &mut Vec<Op>, others: &[Op]) -> Result<(), NoMemory>
-    ensures { OnOk result (ops.new.items ≡ ops.old.items ++ others.now) }
-{
-    'copies: for op in others {
-        ops.push(op.clone_in(alloc)?)?;
-    }
-    Ok(())
 }
 
 /// The greatest of two lists together, by those of each.

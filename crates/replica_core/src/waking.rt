@@ -4,30 +4,21 @@ ghost use Rattle.std.specs.Prelude.{◌≡◌, ◌≢◌, ◌<◌, ◌≤◌, �
 ghost use Rattle.std.specs.Prelude.{slice_get, AllPairs, OnOk, OnErr, IfErr};
 ghost use Rattle.causal_inbox.specs.Faults.{refused_op};
 ghost use Rattle.origin_model.specs.operations.History.{HaveOtherIds};
-ghost use Rattle.replica_core.specs.Due.{due_marks, newest_id as newest_id_of};
+ghost use Rattle.replica_core.specs.Due.{due_marks};
 
 use crate::accepted::Accepted;
 use crate::due::Due;
-use causal_inbox::{Inbox, OpenInbox, PushFault, is_decided};
-use fugue_ids::{ElementId, NoMemory, Op};
-
-fn newest_id(accepted: &Accepted) -> Option<ElementId>
-    ensures { result ≡ newest_id_of accepted.now }
-{
-    match accepted.ops().last() {
-        Some(op) => op.id(),
-        None => None,
-    }
-}
+use causal_inbox::{Inbox, PushFault, is_decided};
+use fugue_ids::{NoMemory, Op};
 
 /// Tries anew those that rest on the newest accepted operation: all others are decided as before.
-pub(crate) fn wake(inbox: &OpenInbox, accepted: &Accepted, due: &mut Due)
+pub(crate) fn wake(inbox: &Inbox, accepted: &Accepted, due: &mut Due)
     requires marks { due.old ≡ due_marks (drop 1 accepted.now) inbox.now.ops }
     requires once { AllPairs (λ a b. a ≢ b) (accepted.now ++ inbox.now.ops) }
     requires own_ids { AllPairs HaveOtherIds (accepted.now ++ inbox.now.ops) }
     ensures { due.new ≡ due_marks accepted.now inbox.now.ops }
 {
-    let Some(id) = newest_id(accepted) else {
+    let Some(id) = accepted.newest_id() else {
         return;
     };
     for k in 0..inbox.len() {
@@ -41,29 +32,14 @@ pub(crate) fn wake(inbox: &OpenInbox, accepted: &Accepted, due: &mut Due)
     }
 }
 
-/// Tries anew those in an inbox that is not open: nothing leaves it, so it closes as it was. Where nothing waits it is
-/// not opened.
-pub(crate) fn open_and_wake(inbox: &mut Inbox, accepted: &Accepted, due: &mut Due)
-    requires marks { due.old ≡ due_marks (drop 1 accepted.now) inbox.old.ops }
-    requires once { AllPairs (λ a b. a ≢ b) (accepted.now ++ inbox.old.ops) }
-    requires own_ids { AllPairs HaveOtherIds (accepted.now ++ inbox.old.ops) }
-    ensures marks { due.new ≡ due_marks accepted.now inbox.old.ops }
-    ensures inbox { inbox.new ≡ inbox.old }
-{
-    if inbox.ops().is_empty() {
-        return;
-    }
-    let open = inbox.open();
-    wake(&open, accepted, due);
-    *inbox = open.close();
-}
-
 /// One more waits, which cannot leave yet. After want of memory all is as before.
 pub(crate) fn wait(inbox: &mut Inbox, due: &mut Due, op: Op) -> Result<(), PushFault>
     ensures ok { OnOk result (inbox.new ≡ record inbox.old { ops = inbox.old.ops ++ op ∷ [] }) }
     ensures mark { OnOk result (due.new ≡ due.old ++ false ∷ []) }
     ensures full { (result ≡ Err (PushFault.Full op)) ↔ (length inbox.old.ops ≡ inbox.old.hold) }
-    ensures err { OnErr result (inbox.new ≡ inbox.old) }
+    ensures err { OnErr result (inbox.new.ops ≡ inbox.old.ops) }
+    ensures hold { inbox.new.hold ≡ inbox.old.hold }
+    ensures closed { inbox.old.gaps ≡ 0 → inbox.new.gaps ≡ 0 }
     ensures marks { OnErr result (due.new ≡ due.old) }
     ensures handed_back { IfErr result (λ fault. refused_op fault ≡ op) }
     ensures within { length inbox.new.ops ≤ inbox.new.hold }
@@ -72,8 +48,9 @@ pub(crate) fn wait(inbox: &mut Inbox, due: &mut Due, op: Op) -> Result<(), PushF
         Ok(()) => match due.push() {
             Ok(()) => Ok(()),
             Err(NoMemory) => {
-                let last = inbox.ops().len() - 1;
-                Err(PushFault::NoMemory(inbox.remove(last)))
+                let op = inbox.remove(inbox.len() - 1);
+                inbox.close();
+                Err(PushFault::NoMemory(op))
             }
         },
         Err(fault) => Err(fault),
@@ -81,11 +58,12 @@ pub(crate) fn wait(inbox: &mut Inbox, due: &mut Due, op: Op) -> Result<(), PushF
 }
 
 /// The operation at the position waits no longer. Those behind it close up.
-pub(crate) fn leave(inbox: &mut OpenInbox, due: &mut Due, position: usize) -> Op
+pub(crate) fn leave(inbox: &mut Inbox, due: &mut Due, position: usize) -> Op
     requires within { position < length inbox.old.ops }
     requires marks { length due.old ≡ length inbox.old.ops }
     ensures op { slice_get inbox.old.ops position ≡ Some result }
-    ensures rest { inbox.new ≡ record inbox.old { ops = remove inbox.old.ops position } }
+    ensures rest { inbox.new.ops ≡ remove inbox.old.ops position }
+    ensures hold { inbox.new.hold ≡ inbox.old.hold }
     ensures mark { due.new ≡ remove due.old position }
 {
     due.remove(position);

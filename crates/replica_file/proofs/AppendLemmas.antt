@@ -13,7 +13,7 @@ use Rattle.origin_model.specs.declared.files.TheConstants.{LONGEST_BATCH}
 use Rattle.origin_model.specs.files.Image.{Content, HasImage, Holds, last_slot, open_slot, open_slots}
 use Rattle.origin_model.specs.frames.Frames.{HasFrame, Whole}
 use Rattle.origin_model.specs.frames.Framings.{frames}
-use Rattle.origin_model.proofs.SharedLemmas.{Parts, ReadOnce, batch_appended, batch_of, framing_read, from_parts, image_once, is_batch, same_to_gate, to_parts, with_batch, written_framing}
+use Rattle.origin_model.proofs.SharedLemmas.{batch_appended, batch_of, before_gate, framing_read, from_parts, image_once, is_batch, Parts, ReadOnce, same_to_gate, to_parts, with_batch, written_framing}
 use Rattle.op_frame.proofs.ReadingLemmas.{reads_once}
 use Rattle.replica_file.specs.declared.load_file.End.{End}
 use Rattle.replica_file.specs.Append.{HasBatch, HoldsEither, behind_gate, next_end, content_with_ops}
@@ -32,13 +32,6 @@ at_offset : (bytes : List ℕ) (n byte : ℕ) → n < length bytes → get_or by
 at_offset bytes n byte inside is =
     sym (take-append-drop n bytes) ∙ ap (λ (l : List ℕ). take n bytes ++ l)
     (drop-cons bytes n 0 inside ∙ (λ i. is i ∷ drop (sym (add-one n) i) bytes))
-
--- what stands before the gate that ends the meaning
-before_gate : (bytes : List ℕ) (content : Content) (p : Parts bytes content) → take content.at bytes ≡ p.head ++ open_slots p.batches
-before_gate bytes content p =
-    let slots : List ℕ = open_slots p.batches in
-    let at : content.at ≡ length p.head + length slots = ap (λ (z : Content). z.at) p.content_is ∙ ap (λ (n : ℕ). n + length slots) (sym p.long) in
-    (λ i. take (at i) (p.split i)) ∙ take-append-add p.head (slots ++ p.gate ∷ p.rest) (length slots) ∙ ap (λ (z : List ℕ). p.head ++ z) (take-append_seam slots (p.gate ∷ p.rest))
 
 -- another gate that is not open ends the meaning at the same place
 other_gate : (before image : List ℕ) (content : Content) → HasImage before (Holds content) → content.at < length image → take content.at image ≡ take content.at before

@@ -65,7 +65,7 @@ abbrev count : Held → ℕ
 count s = length s.history + length s.waiting
 
 -- settling makes them no more
-within_few : (room : List Op) (s : Held) → count (settled_within room s) ≤ count s
+pub within_few : (room : List Op) (s : Held) → count (settled_within room s) ≤ count s
 within_few [] s = omega arith
 within_few (o ∷ room) s = by (settle_step s) refl (within_few room)
   where
@@ -81,7 +81,7 @@ within_few (o ∷ room) s = by (settle_step s) refl (within_few room)
           | inr more ↦ omega (arith, ap (λ (h : Held). count h) goes, few t, moves.shorter, more)
         ]
 
-settle_few : (s : Held) → count (settle s) ≤ count s
+pub settle_few : (s : Held) → count (settle s) ≤ count s
 unfolding settle
 settle_few s = within_few s.waiting s
 

@@ -4,7 +4,7 @@ use Rattle.std.specs.Prelude.{Option, Some, None, IfSome, Bool, true}
 use Rattle.std.proofs.Math.Seq.{take-add}
 use Rattle.std.proofs.lemmas.Grind.{flat_map-append}
 use Rattle.std.proofs.lemmas.List.Elements.{All-append, All-nil}
-use Rattle.std.proofs.lemmas.List.{length-take, drop-append-le, drop-take}
+use Rattle.std.proofs.lemmas.List.{drop-append-le, drop-take, length-take, nil_from_length}
 use Rattle.fugue_ids.specs.declared.op.Op.{Op}
 use Rattle.outer_ports.specs.disk.Moments.{History}
 use Rattle.origin_model.specs.declared.grammar.Grammar.{Grammar}
@@ -204,10 +204,6 @@ module _ (grammar : Grammar) (bytes : List ℕ) (at len taken : ℕ) (within : t
         (λ rest whole. record { taken = taken; pieces = pieces.pieces; are_pieces = pieces.are_pieces; rest_is = whole ∙ left_is }) lacks.wants;
   }
 
-none_left : (l : List ℕ) → length l ≡ 0 → l ≡ []
-none_left [] e = refl
-none_left (x ∷ l) e = absurd (omega (arith, e))
-
 pub frames_begin : (grammar : Grammar) (bytes : List ℕ) (at len : ℕ) (a : Bool) (r : State) → TakesSome grammar bytes at len 0 a r a r
 frames_begin grammar bytes at len a r = record { ops = []; inside = omega arith; starts = starts_none grammar (part_of bytes at len); feeds = feeds_none a r }
 
@@ -215,7 +211,7 @@ pub frames_over : (grammar : Grammar) (bytes : List ℕ) (at len taken : ℕ) (a
     → TakesFrames grammar bytes at len a r b s
 frames_over grammar bytes at len taken a b r s within all one =
     let long : length (part_of bytes at len) ≡ len = omega (arith, one.inside, within, all, length-take len (drop at bytes)) in
-    let none : drop taken (part_of bytes at len) ≡ [] = none_left (drop taken (part_of bytes at len)) (omega (arith, length-drop taken (part_of bytes at len), long, all)) in
+    let none : drop taken (part_of bytes at len) ≡ [] = nil_from_length (drop taken (part_of bytes at len)) (omega (arith, length-drop taken (part_of bytes at len), long, all)) in
     record {
       ops = one.ops;
       long = long;

@@ -11,7 +11,8 @@ ghost use Rattle.replica_file.specs.Gates.{LastsFor, gate_opened, spent_opening}
 use crate::End;
 use crate::batch::bytes_behind_gate;
 use crate::gate::write_behind;
-use fugue_ids::{Failed, NoMemory, Op};
+use fugue_ids::{Failed, NoMemory};
+use op_runs::OpSlice;
 use outer_ports::Disk;
 use std::alloc::Global;
 
@@ -54,37 +55,37 @@ pub fn append<H: Disk>(
     alloc: Global,
     disk: &mut H,
     end: End,
-    ops: &[Op],
+    ops: OpSlice<'_>,
 ) -> Result<End, AppendFault>
     requires reaches { IsWithinReach end }
     requires ends { IfSome (H.seen disk.old).past (λ h. EndsAt h.last end) }
-    ensures none { ops.now ≡ [] → (result ≡ Ok end) × (H.seen disk.new ≡ H.seen disk.old) }
+    ensures none { ops.entry ≡ [] → (result ≡ Ok end) × (H.seen disk.new ≡ H.seen disk.old) }
     ensures too_long { result ≢ Err AppendFault.NoMemory
-        → (result ≡ Err AppendFault.BatchTooLong) ↔ IsTooLong end ops.now }
+        → (result ≡ Err AppendFault.BatchTooLong) ↔ IsTooLong end ops.entry }
     ensures untouched { (result ≡ Err AppendFault.BatchTooLong) ⊎ (result ≡ Err AppendFault.NoMemory)
         → H.seen disk.new ≡ H.seen disk.old }
     ensures reaches { IfOk result IsWithinReach }
-    ensures end { ops.now ≢ [] → IfOk result (λ behind. behind ≡ next_end end ops.now) }
-    ensures calls { ops.now ≢ [] → OnOk result ((H.seen disk.new).past
-        ≡ gate_opened end.at (behind_gate ops.now) (H.seen disk.old).past) }
-    ensures room { ops.now ≢ [] → OnOk result ((H.seen disk.new).room
-        ≡ spent_opening (behind_gate ops.now) (H.seen disk.old).room) }
+    ensures end { ops.entry ≢ [] → IfOk result (λ behind. behind ≡ next_end end ops.entry) }
+    ensures calls { ops.entry ≢ [] → OnOk result ((H.seen disk.new).past
+        ≡ gate_opened end.at (behind_gate ops.entry) (H.seen disk.old).past) }
+    ensures room { ops.entry ≢ [] → OnOk result ((H.seen disk.new).room
+        ≡ spent_opening (behind_gate ops.entry) (H.seen disk.old).room) }
     ensures moments { IfSome (H.seen disk.old).past (λ h. (content : Content) → Means h.last content
-        → LeavesOnlyTo h (H.seen disk.new).past (HoldsEither content ops.now)) }
+        → LeavesOnlyTo h (H.seen disk.new).past (HoldsEither content ops.entry)) }
     ensures honest { IfSome (H.seen disk.old).past (λ h. IsHonest h.last)
         → IfSome (H.seen disk.new).past (λ k. IsHonest k.last) }
-    ensures appended { ops.now ≢ [] → OnOk result (IfSome (H.seen disk.old).past (λ h. (content : Content)
-        → Means h.last content → IfSome (H.seen disk.new).past (λ k. HasBatch content end ops.now k.last))) }
+    ensures appended { ops.entry ≢ [] → OnOk result (IfSome (H.seen disk.old).past (λ h. (content : Content)
+        → Means h.last content → IfSome (H.seen disk.new).past (λ k. HasBatch content end ops.entry k.last))) }
     ensures later { (H.seen disk.old).faults ≤ (H.seen disk.new).faults }
     ensures cause { result ≡ Err AppendFault.DiskFault → Rose (H.seen disk.old).faults (H.seen disk.new).faults }
     ensures sure { IfSome (H.seen disk.old).room (λ room.
-        LastsFor (behind_gate ops.now) room → result ≢ Err AppendFault.DiskFault) }
+        LastsFor (behind_gate ops.entry) room → result ≢ Err AppendFault.DiskFault) }
     ensures calm { IfSome (H.seen disk.old).room (λ room.
-        LastsFor (behind_gate ops.now) room → (H.seen disk.new).faults ≡ (H.seen disk.old).faults) }
+        LastsFor (behind_gate ops.entry) room → (H.seen disk.new).faults ≡ (H.seen disk.old).faults) }
     ensures calm_told { DiskTells (H.seen disk.old) → result ≢ Err AppendFault.DiskFault
         → (H.seen disk.new).faults ≡ (H.seen disk.old).faults }
 {
-    if ops.is_empty() {
+    if ops.len() == 0 {
         return Ok(end);
     }
     if end.slots == u32::MAX {

@@ -9,8 +9,9 @@ ghost use Rattle.replica_file.specs.Append.{behind_gate};
 
 use crate::AppendFault;
 use crate::gate::CLOSED;
-use fugue_ids::{NoMemory, Op};
+use fugue_ids::NoMemory;
 use op_frame::encode_all;
+use op_runs::OpSlice;
 use origin_model::{LONGEST_BATCH, TAG_UNIT};
 use std::alloc::Global;
 
@@ -18,12 +19,12 @@ use std::alloc::Global;
 pub(crate) const WORD: usize = 4;
 
 /// What is written behind the gate of a slot with these operations.
-pub(crate) fn bytes_behind_gate(alloc: Global, ops: &[Op]) -> Result<Vec<u8>, AppendFault>
-    ensures bytes { IfOk result (λ bytes. bytes.items ≡ behind_gate ops.now) }
-    ensures have_frames { OnOk result (All HasFrame ops.now) }
-    ensures short { OnOk result (length (frames ops.now) ≤ LONGEST_BATCH) }
+pub(crate) fn bytes_behind_gate(alloc: Global, ops: OpSlice<'_>) -> Result<Vec<u8>, AppendFault>
+    ensures bytes { IfOk result (λ bytes. bytes.items ≡ behind_gate ops.entry) }
+    ensures have_frames { OnOk result (All HasFrame ops.entry) }
+    ensures short { OnOk result (length (frames ops.entry) ≤ LONGEST_BATCH) }
     ensures too_long { result ≢ Err AppendFault.NoMemory
-        → (result ≡ Err AppendFault.BatchTooLong) ↔ (LONGEST_BATCH < length (frames ops.now)) }
+        → (result ≡ Err AppendFault.BatchTooLong) ↔ (LONGEST_BATCH < length (frames ops.entry)) }
     ensures no_disk { result ≢ Err AppendFault.DiskFault }
 {
     let mut bytes = without_word(alloc, ops)?;
@@ -45,9 +46,9 @@ fn put_word(bytes: &mut [u8], len: u32)
 }
 
 /// What is written behind the gate, but with 0 in the place of the word.
-fn without_word(alloc: Global, ops: &[Op]) -> Result<Vec<u8>, NoMemory>
-    ensures bytes { IfOk result (λ bytes. bytes.items ≡ (0 ∷ 0 ∷ 0 ∷ 0 ∷ []) ++ frames ops.now ++ 0 ∷ []) }
-    ensures have_frames { OnOk result (All HasFrame ops.now) }
+fn without_word(alloc: Global, ops: OpSlice<'_>) -> Result<Vec<u8>, NoMemory>
+    ensures bytes { IfOk result (λ bytes. bytes.items ≡ (0 ∷ 0 ∷ 0 ∷ 0 ∷ []) ++ frames ops.entry ++ 0 ∷ []) }
+    ensures have_frames { OnOk result (All HasFrame ops.entry) }
 {
     let mut bytes = Vec::new(alloc);
     bytes.extend_from_slice(&[0; WORD])?;

@@ -18,10 +18,11 @@ use Rattle.run_store.specs.declared.cell.Cell.{Cell}
 use Rattle.run_store.specs.declared.run.Run.{Run}
 use Rattle.run_store.specs.declared.run.Runs.{Runs}
 use Rattle.run_store.proofs.CellLemmas.{Others, index-at}
-use Rattle.run_store.proofs.HeadLemmas.{behind-id, behind-none, length-typed}
+use Rattle.run_store.proofs.HeadLemmas.{behind-id, length-typed}
 use Rattle.run_store.proofs.PlaceLemmas.{placed-at, stands-run}
 use Rattle.run_store.proofs.RunsLemmas.{cell_there, cells_before, cells_behind, kept-run, length-letters}
 use Rattle.run_store.proofs.VisibleLemmas.{hidden-typed, visible-append, visible-typed, visible-weight}
+use Rattle.fugue_ids.proofs.RunLemmas.{none_behind}
 
 -- before a cell that stands at the end of a front stands the front
 before_is : (x : Identifier) (front : List Cell) (c : Cell) (back : List Cell) → Others x front → c.id ≡ x → shown_before (front ++ c ∷ back) x ≡ length (cells_shown front)
@@ -70,7 +71,7 @@ weight-few r s run i stands held =
     let spot : IsSpot r.rope run.id run 0 = record {
       held = held;
       inside = (kept-run r s run.id run held).some;
-      is = sym (behind-id 0 (first_of run) ∙ behind-none run.id);
+      is = sym (behind-id 0 (first_of run) ∙ none_behind run.id);
     } in
     let front = take (index_of (cell_ids (cells_in r)) run.id) (cells_in r) in
     omega (

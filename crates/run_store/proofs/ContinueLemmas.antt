@@ -1,7 +1,7 @@
 -- A cell that continues a run.
 use Rattle.std.proofs.Common.{◌≡◌, ◌⊎◌, ℕ, suc, ◌+◌, ◌<◌, ◌≤◌, Bool, true, false, not, ap, arith, inl, inr, refl, subst, sym, ◌∙◌}
 use Rattle.std.specs.Prelude.{Some, if◌then◌else◌}
-use Rattle.std.proofs.lemmas.Bool.{and_parts}
+use Rattle.std.proofs.lemmas.Bool.{and_parts, cases_lt, not-true}
 use Rattle.fugue_ids.proofs.IdentifierLemmas.{id_eq-true, origin_eq-refl, origin_eq-true}
 use Rattle.fugue_ids.specs.Runs.{id_behind, next_id}
 use Rattle.node_rope.specs.Items.{value_under}
@@ -35,12 +35,8 @@ continued-is last h ch t =
       left = origin_eq-true h.left (Some last.id) a.0;
       id = id_eq-true h.id (next_id last.id) b.0;
       right = origin_eq-true h.right last.right d.0;
-      shown = unhidden last.hidden d.1;
+      shown = not-true last.hidden d.1;
     }
-  where
-    unhidden : (b : Bool) → not b ≡ true → b ≡ false
-    unhidden true e = sym e
-    unhidden false e = refl
 
 -- the same of an answer
 pub next-by : (b : Bool) (last k h : Head) → b ≡ is_continued (Some (lettered last 0)) h.id h.left h.right → b ≡ true → last ≡ k → IsNext k h
@@ -58,14 +54,11 @@ module _ (r : Runs) (s : AreRuns r) (run : Run) (o : ℕ) (v : value_under run.i
 
   -- it stands behind the last cell of the run
   pub next-last : suc o ≡ run.len
-  next-last = elim (cases_less (suc o) run.len) [
+  next-last = elim (cases_lt (suc o) run.len) [
     | inl more ↦ absurd (fresh-first (cells_in r) h count new (subst (Contains (cell_ids (cells_in r))) (sym id-is)
         (spot-held r s (id_behind run.id (suc o)) run (suc o) (record { held = v; inside = more; is = refl }))))
     | inr none ↦ omega (arith, l, none)
   ]
-    where
-      cases_less : (a b : ℕ) → (a < b) ⊎ (b ≤ a)
-      cases_less a b = grind arith
 
   left-cell : cell_of_origin (cells_in r) h.left ≡ Some (cell_there r.letters run o)
   left-cell = ap (cell_of_origin (cells_in r)) n.left ∙ cell-found r s last.id run o (record { held = v; inside = l; is = refl })

@@ -5,15 +5,13 @@ use Rattle.fugue_ids.specs.Identifiers.{Identifier}
 use Rattle.fugue_ids.specs.Runs.{id_behind}
 use Rattle.run_store.specs.Heads.{head_behind, lettered, next_head, typed_cells}
 use Rattle.run_store.specs.declared.cell.Head.{Head}
-
-pub behind-none : (x : Identifier) → id_behind x 0 ≡ x
-behind-none x = let e : x.counter + 0 ≡ x.counter = omega arith in λ i. record { replica = x.replica; counter = e i }
+use Rattle.fugue_ids.proofs.RunLemmas.{none_behind}
 
 -- one behind the next one is two behind
 pub behind-next : (n : ℕ) (h : Head) → head_behind n (next_head h) ≡ head_behind (suc n) h
 behind-next zero h =
     let d : suc h.key.depth ≡ h.key.depth + 1 = omega arith in
-    λ i. record { id = id_behind h.id 1; left = Some (sym (behind-none h.id) i); right = h.right; hidden = h.hidden; key = record { depth = d i; forest = 0 } }
+    λ i. record { id = id_behind h.id 1; left = Some (sym (none_behind h.id) i); right = h.right; hidden = h.hidden; key = record { depth = d i; forest = 0 } }
 behind-next (suc n) h =
     let c : (h.id.counter + 1) + suc n ≡ h.id.counter + suc (suc n) = omega arith in
     let b : (h.id.counter + 1) + n ≡ h.id.counter + suc n = omega arith in
@@ -34,7 +32,7 @@ behind-behind (suc m) n h =
     ap (head_behind n) (sym (behind-next m h)) ∙ behind-behind m n (next_head h) ∙ behind-next (m + n) h ∙ ap (λ k. head_behind k h) e
 
 pub behind-id : (n : ℕ) (h : Head) → (head_behind n h).id ≡ id_behind h.id n
-behind-id zero h = sym (behind-none h.id)
+behind-id zero h = sym (none_behind h.id)
 behind-id (suc n) h = refl
 
 pub behind-hidden : (n : ℕ) (h : Head) → (head_behind n h).hidden ≡ h.hidden

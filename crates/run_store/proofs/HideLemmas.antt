@@ -6,7 +6,7 @@ use Rattle.std.proofs.lemmas.List.{length-map, length-take-le, take-append-drop}
 use Rattle.std.proofs.lemmas.List.Elements.{All-cons, All-nil}
 use Rattle.fugue_ids.specs.Identifiers.{Identifier, id_eq}
 use Rattle.fugue_ids.specs.Runs.{id_behind}
-use Rattle.fugue_ids.proofs.RunLemmas.{one_behind}
+use Rattle.fugue_ids.proofs.RunLemmas.{none_behind, one_behind}
 use Rattle.node_rope.specs.Beside.{put_under}
 use Rattle.node_rope.specs.Items.{value_under}
 use Rattle.run_store.specs.Cells.{cell_hiding, cell_ids, cells_hiding, is_hidden_cell}
@@ -21,7 +21,7 @@ use Rattle.run_store.specs.declared.run.Runs.{Runs}
 use Rattle.run_store.proofs.CellLemmas.{hidden-at, hiding-at, others-back, others-front}
 use Rattle.run_store.proofs.CutLemmas.{cut-cells, cut-longer, cut-sound, cut_runs}
 use Rattle.run_store.proofs.EitherLemmas.{any-ok, either, kept-raised, on-ok, one-raised, raised-twice, where-err, where-ok}
-use Rattle.run_store.proofs.HeadLemmas.{behind-hidden, behind-none, typed-append}
+use Rattle.run_store.proofs.HeadLemmas.{behind-hidden, typed-append}
 use Rattle.run_store.proofs.PartLemmas.{all-between}
 use Rattle.run_store.proofs.RopeLemmas.{found, put-at}
 use Rattle.run_store.proofs.RunsLemmas.{Item, cell_there, cells-append, cells_before, cells_behind, kept-run, keys-apart, length-letters, located}
@@ -44,7 +44,7 @@ all-hiding (suc n) x cs = all-hiding n (id_behind x 1) (map (cell_hiding x) cs) 
 
 -- some are hidden, and then those behind them
 pub hiding-more : (m n : ℕ) (x : Identifier) (cs : List Cell) → cells_hiding (id_behind x m) n (cells_hiding x m cs) ≡ cells_hiding x (m + n) cs
-hiding-more zero n x cs = let e : n ≡ 0 + n = omega arith in λ i. cells_hiding (behind-none x i) (e i) cs
+hiding-more zero n x cs = let e : n ≡ 0 + n = omega arith in λ i. cells_hiding (none_behind x i) (e i) cs
 hiding-more (suc m) n x cs =
     let e : suc (m + n) ≡ suc m + n = omega arith in
     ap (λ y. cells_hiding y n (cells_hiding (id_behind x 1) m (map (cell_hiding x) cs))) (sym (one_behind x m))

@@ -19,14 +19,15 @@ use Rattle.run_store.specs.declared.run.Run.{Run}
 use Rattle.run_store.specs.declared.run.Runs.{Runs}
 use Rattle.run_store.proofs.CellLemmas.{index-at}
 use Rattle.run_store.proofs.GrowLemmas.{part-longer, set-stretch}
-use Rattle.run_store.proofs.HeadLemmas.{behind-none, length-typed}
+use Rattle.run_store.proofs.HeadLemmas.{length-typed}
 use Rattle.run_store.proofs.RunsLemmas.{IsPlaced, Item, cell_there, cells_before, cells_behind, length-letters}
+use Rattle.fugue_ids.proofs.RunLemmas.{none_behind}
 
 -- the identifiers of typed cells are those behind the first
 ids-typed : (h : Head) (text : List ℕ) (x : Identifier) → Contains (cell_ids (typed_cells h text)) x → (k : ℕ) × (k < length text) × (x ≡ id_behind h.id k)
 ids-typed h [] x m = absurd (contains_none x m)
 ids-typed h (c ∷ text) x m = elim (contains_cases h.id (cell_ids (typed_cells (next_head h) text)) x m) [
-  | inl e ↦ (0, omega arith, sym e ∙ sym (behind-none h.id))
+  | inl e ↦ (0, omega arith, sym e ∙ sym (none_behind h.id))
   | inr k ↦
       let w = ids-typed (next_head h) text x k in
       let e : (h.id.counter + 1) + w.0 ≡ h.id.counter + suc w.0 = omega arith in
@@ -101,7 +102,7 @@ length-inserted cs new k within =
 
 -- the first identifier of new cells is fresh
 pub fresh-first : (cs : List Cell) (h : Head) (n : ℕ) → IsNew cs h n → Contains (cell_ids cs) h.id → ⊥
-fresh-first cs h n new m = new.fresh 0 new.some (subst (Contains (cell_ids cs)) (sym (behind-none h.id)) m)
+fresh-first cs h n new m = new.fresh 0 new.some (subst (Contains (cell_ids cs)) (sym (none_behind h.id)) m)
 
 -- a new store whose cells are the old ones with new ones
 module _ (r : Runs) (s : AreRuns r) (h : Head) (text : List ℕ) (new : IsNew (cells_in r) h (length text)) where

@@ -15,6 +15,7 @@ use Rattle.run_store.proofs.FindLemmas.{spot-held}
 use Rattle.run_store.proofs.HeadLemmas.{length-typed}
 use Rattle.run_store.proofs.PlaceLemmas.{at-within, run-at, value-there}
 use Rattle.run_store.proofs.RunsLemmas.{Item, length-letters}
+use Rattle.std.proofs.lemmas.Bool.{cases_lt}
 
 module _ (r : Runs) (s : AreRuns r) where
   -- the end of all
@@ -102,14 +103,11 @@ module _ (r : Runs) (s : AreRuns r) where
           | inl z ↦ omega (arith, z.1, n)
           | inr x ↦
               let at = ap (slice_get r.rope) q ∙ x.1 in
-              elim (cases_below o p) [
+              elim (cases_lt o p) [
                 | inl l ↦ absurd (omega (arith, none x.0 at l, x.2, l))
                 | inr l ↦ omega (arith, l, n)
               ]
         ]
-      where
-        cases_below : (a c : ℕ) → (a < c) ⊎ (c ≤ a)
-        cases_below a c = grind arith
 
     -- the first cell of a run between
     pub some-half : (k : ℕ) → i < k → k < j → (x : Identifier) → IsInRun r.rope k 0 1 x → IsWithin (cell_ids (cells_in r)) low high x

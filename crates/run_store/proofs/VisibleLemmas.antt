@@ -9,7 +9,7 @@ use Rattle.std.proofs.lemmas.List.Elements.{All-head, All-tail, filter-append}
 use Rattle.std.proofs.lemmas.Option.{slice_get_past}
 use Rattle.fugue_ids.specs.Identifiers.{Identifier}
 use Rattle.fugue_ids.specs.declared.limits.TheConstants.{MOST_OPERATIONS}
-use Rattle.fugue_ids.proofs.ListLemmas.{all_before, all_behind}
+use Rattle.fugue_ids.proofs.ListLemmas.{all_before, all_behind, slice_get-behind}
 use Rattle.node_rope.specs.Items.{value_under}
 use Rattle.node_rope.specs.Places.{IsUnit, weight_sum}
 use Rattle.run_store.specs.Cells.{cell_ids, cells_shown}
@@ -43,10 +43,6 @@ pub get-typed : (h : Head) (ls : List ℕ) (o : ℕ) (cs : List Cell) → o < le
 get-typed h [] o cs l = absurd (omega (arith, l))
 get-typed h (x ∷ ls) zero cs l = refl
 get-typed h (x ∷ ls) (suc o) cs l = get-typed (next_head h) ls o cs (omega (arith, l)) ∙ ap (λ (k : Head). Some k.id) (behind-next o h)
-
-get-behind : {X : Type 0} (xs ys : List X) (o : ℕ) → slice_get (xs ++ ys) (length xs + o) ≡ slice_get ys o
-get-behind [] ys o = let e : 0 + o ≡ o = omega arith in ap (slice_get ys) e
-get-behind (x ∷ xs) ys o = let e : suc (length xs) + o ≡ suc (length xs + o) = omega arith in ap (slice_get (x ∷ (xs ++ ys))) e ∙ get-behind xs ys o
 
 module _ (L : List (List ℕ)) (n : ℕ) (few : n ≤ MOST_OPERATIONS) where
   visible-run : (x : Item) → IsRun L n x → length (cells_shown (cells_of L x.1)) ≡ visible_weight x.1
@@ -108,7 +104,7 @@ module _ (r : Runs) (s : AreRuns r) where
         shown.1,
         (λ i. slice_get (cell_ids (cells i)) (at i))
             ∙ ap (λ is. slice_get is (length (cell_ids V) + u)) (map-append (λ (z : Cell). z.id) V (typed_cells (first_of p.value) ls ++ B))
-            ∙ get-behind (cell_ids V) (cell_ids (typed_cells (first_of p.value) ls ++ B)) u
+            ∙ slice_get-behind (cell_ids V) (cell_ids (typed_cells (first_of p.value) ls ++ B)) u
             ∙ get-typed (first_of p.value) ls u B (omega (arith, shown.1, length-letters L r.count (k, p.value) this)),
       )
 

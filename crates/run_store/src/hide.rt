@@ -9,7 +9,7 @@ ghost use Rattle.run_store.specs.Runs.{AreRuns, cells_in, first_of, run_to as fr
 ghost use Rattle.run_store.specs.Stored.{IsRaised};
 
 use crate::find::Spot;
-use crate::parts::{id_behind, key_of, run_from, run_to};
+use crate::parts::{key_of, run_from, run_to};
 use crate::run::{Run, Runs};
 use crate::store::StoppedAfter;
 use fugue_ids::{ElementId, MOST_OPERATIONS, NoMemory};
@@ -129,7 +129,7 @@ impl Runs {
     {
         let mut done = 0;
         'parts: while done < count {
-            match self.hide_part(id_behind(first, done), count - done) {
+            match self.hide_part(first.behind(done), count - done) {
                 Ok(n) => done += n,
                 Err(NoMemory) => return Err(StoppedAfter { done }),
             }

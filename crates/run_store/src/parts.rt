@@ -2,22 +2,10 @@
 ghost use Rattle.std.specs.Prelude.{◌≡◌, ◌+◌, ◌<◌, ◌≤◌, ◌^◌};
 ghost use Rattle.run_store.specs.Heads.{head_behind};
 ghost use Rattle.run_store.specs.Runs.{first_of, run_from as rest_by, run_to as front_by};
-ghost use Rattle.fugue_ids.specs.Runs.{id_behind as id_by};
 
 use crate::cell::Head;
 use crate::run::{Origin, Run};
 use fugue_ids::{ElementId, Key};
-
-/// The identifier n behind another one of the same replica.
-pub(crate) fn id_behind(id: ElementId, n: u32) -> ElementId
-    requires { id.counter + n < 2 ^ 32 }
-    ensures { result ≡ id_by id n }
-{
-    ElementId {
-        replica: id.replica,
-        counter: id.counter + n,
-    }
-}
 
 /// The first cell of a run.
 pub(crate) fn first_cell(run: &Run) -> Head
@@ -42,8 +30,8 @@ pub(crate) fn cell_at(run: &Run, n: u32) -> Head
         return first_cell(run);
     }
     Head {
-        id: id_behind(run.id, n),
-        left: Some(id_behind(run.id, n - 1)),
+        id: run.id.behind(n),
+        left: Some(run.id.behind(n - 1)),
         right: run.right.id(),
         hidden: run.hidden,
         key: Key {

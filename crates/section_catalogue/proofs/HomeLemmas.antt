@@ -14,6 +14,7 @@ use Rattle.section_catalogue.specs.Changes.{IsFilled}
 use Rattle.section_catalogue.specs.Contents.{entry_at, places_of}
 use Rattle.section_catalogue.specs.declared.homes.Home.{Home}
 use Rattle.fugue_ids.proofs.OrderLemmas.{id_cmp_total}
+use Rattle.std.proofs.lemmas.List.{nil_from_length}
 
 by_test : (b : Bool) (h : Home) (o : Option Place) (p : Option Home) → o ≡ option_map (λ k. k.place) p → cond b (Some h.place) o ≡ option_map (λ k. k.place) (cond b (Some h) p)
 by_test true h o p e = refl
@@ -35,13 +36,8 @@ no_home m x e = gone (get m x) (sym (place-get m x) ∙ e)
     gone None d = refl
     gone (Some h) d = cc
 
--- no map has no places
-no_entries : {X : Type 0} (es : List X) → length es ≡ 0 → es ≡ []
-no_entries [] e = refl
-no_entries (x ∷ es) e = absurd (omega (arith, e))
-
 pub no_places : (m : FinMap id_cmp Home) → m ≡ empty → places_of m ≡ []
-no_places m e = ap places_of e ∙ ap (map (λ h. (h.0, h.1.place))) (no_entries (entries empty) (sym (len-entries empty) ∙ len-empty id_cmp Home))
+no_places m e = ap places_of e ∙ ap (map (λ h. (h.0, h.1.place))) (nil_from_length (entries empty) (sym (len-entries empty) ∙ len-empty id_cmp Home))
 
 -- one place more
 pub settled : (m n : FinMap id_cmp Home) (x : Identifier) (h : Home) → n ≡ insert m x h → IsReplaced (entry_at (places_of m)) (entry_at (places_of n)) x (Some h.place)

@@ -23,6 +23,7 @@ use Rattle.run_store.specs.NewCells.{cell_depth, depth_under, forest_beside, cel
 use Rattle.run_store.specs.declared.cell.Cell.{Cell as StoredCell}
 use Rattle.run_store.proofs.CellLemmas.{cell-none, others-absent}
 use Rattle.section_list.specs.Kept.{IsOfNode, KeepsNodes, node_of}
+use Rattle.fugue_ids.proofs.OptionLemmas.{is_some-false}
 
 -- the keys of cells that have those of their nodes
 keyed-each : (ns : List Node) (cs : List StoredCell) → All (IsOfNode ns) cs → keyed_cells cs ≡ keyed_in (as_ops ns) (cell_ids cs)
@@ -62,11 +63,6 @@ cell_origins c = (c.left, c.right)
 abbrev pub node_with : Identifier → Option Identifier × Option Identifier → Node
 node_with x o = record { id = x; left = o.0; right = o.1 }
 
--- what has no value is none
-no_value : {T : Type 0} (o : Option T) → is_some o ≡ false → o ≡ None
-no_value None e = refl
-no_value (Some v) e = absurd (true≢false e)
-
 -- a store with the nodes in order
 module _ (ns : List Node) (cs : List StoredCell) (k : KeepsNodes ns cs) where
   -- the nodes as a history
@@ -98,7 +94,7 @@ module _ (ns : List Node) (cs : List StoredCell) (k : KeepsNodes ns cs) where
             ∙ sym (ap (λ c. option_map (node_with x) (option_map cell_origins c)) f.found)
         | inr n ↦
             let none = others-absent x cs (λ m. true≢false (sym ((nodes_listed ns k.are_nodes x).1 (subst (λ t. Contains t x) k.in_order m)) ∙ n)) in
-            no_value (find_node ns x) n ∙ sym (ap (λ c. option_map (node_with x) (option_map cell_origins c)) (cell-none x cs none))
+            is_some-false (find_node ns x) n ∙ sym (ap (λ c. option_map (node_with x) (option_map cell_origins c)) (cell-none x cs none))
       ]
 
   -- the store holds the cell of each node, and no other

@@ -1,7 +1,7 @@
 -- Stored cells without origins and keys: what is read of them is the same.
-use Rattle.std.proofs.Common.{List, [], ap, false, length, not, refl, true, take, ℕ, ◌&&◌, ◌||◌, ◌∙◌, ◌∷◌, ◌≡◌, zero, suc}
+use Rattle.std.proofs.Common.{[], ap, false, length, List, not, refl, subst, suc, take, true, zero, ℕ, ◌&&◌, ◌||◌, ◌∙◌, ◌∷◌, ◌≡◌}
 use Rattle.std.specs.Prelude.{cond, if◌then◌else◌, map}
-use Rattle.std.specs.List.{insert}
+use Rattle.std.specs.List.{Contains, insert}
 use Rattle.std.proofs.lemmas.List.{length-map, take-map}
 use Rattle.fugue_ids.specs.Identifiers.{Identifier, id_eq}
 use Rattle.fugue_ids.specs.Listed.{index_of}
@@ -12,6 +12,7 @@ use Rattle.run_store.specs.declared.cell.Cell.{Cell as StoredCell}
 use Rattle.section_list.specs.Cells.{Cell, section_hiding, section_cell_ids, is_hidden_in_section, section_text, section_cells_shown, section_shown_before}
 use Rattle.section_list.specs.Kept.{plain}
 use Rattle.section_list.specs.SectionList.{Listing, with_run_hidden}
+use Rattle.fugue_ids.proofs.ListLemmas.{contains_filter_from, contains_map, contains_map_from}
 
 -- their identifiers
 pub plain_ids : (cs : List StoredCell) → section_cell_ids (map plain cs) ≡ stored_ids cs
@@ -76,3 +77,10 @@ plain_before cs x =
     ap (λ (k : ℕ). length (section_cells_shown (take k (map plain cs)))) (ap (λ ids. index_of ids x) (plain_ids cs))
     ∙ ap (λ (l : List Cell). length (section_cells_shown l)) (take-map plain (index_of (stored_ids cs) x) cs)
     ∙ plain_count (take (index_of (stored_ids cs) x) cs)
+
+-- what is visible is listed
+pub visible_listed : (cells : List Cell) (x : Identifier) → Contains (section_cell_ids (section_cells_shown cells)) x → Contains (section_cell_ids cells) x
+visible_listed cells x m =
+    let id : Cell → Identifier = λ c. c.id in
+    let c = contains_map_from id (section_cells_shown cells) x m in
+    subst (Contains (section_cell_ids cells)) c.2 (contains_map id cells c.0 (contains_filter_from (λ c. not c.hidden) cells c.0 c.1).0)

@@ -11,16 +11,13 @@ use Rattle.section_plan.specs.declared.pairs.Pairs.{Pairs}
 use Rattle.section_plan.specs.declared.part.Part.{Part}
 use Rattle.section_plan.proofs.LikenessLemmas.{empty_new, empty_old}
 use Rattle.section_plan.proofs.PairLemmas.{free_before, kept_both, part_free_before}
+use Rattle.fugue_ids.proofs.ListLemmas.{slice_get-seam}
 
 -- a member stands where it stood, when another one comes behind
 still_there : {A : Type 0} (xs : List A) (x y : A) (k : ℕ) → slice_get xs k ≡ Some y → slice_get (xs ++ x ∷ []) k ≡ Some y
 still_there [] x y k e = cc
 still_there (z ∷ xs) x y zero e = e
 still_there (z ∷ xs) x y (suc k) e = still_there xs x y k e
-
-stands_last : {A : Type 0} (xs : List A) (x : A) → slice_get (xs ++ x ∷ []) (length xs) ≡ Some x
-stands_last [] x = refl
-stands_last (z ∷ xs) x = stands_last xs x
 
 -- what stands there then stood there, or is the one that came
 came_last : {A : Type 0} (xs : List A) (x y : A) (k : ℕ) → slice_get (xs ++ x ∷ []) k ≡ Some y → (slice_get xs k ≡ Some y) ⊎ (x ≡ y)
@@ -37,7 +34,7 @@ texts_more p sections place texts s has l here reads back = record {
   reversed = λ k t e. elim (came_last texts s t k e) [ inl f ↦ has.reversed k t f | inr f ↦ ap (λ (u : Scalars). u.reversed.items) (sym f) ∙ (back ∙ ap (λ (u : Scalars). reverse u.list.items) f) ];
   all = λ i m free some.
       elim (cases_eq i place) [
-        | inl e ↦ (length texts, s, stands_last texts s, here ∙ sym e, reads ∙ ap (text_at sections) (sym e))
+        | inl e ↦ (length texts, s, slice_get-seam texts s, here ∙ sym e, reads ∙ ap (text_at sections) (sym e))
         | inr ne ↦ let h = has.all i (omega arith) free some in (h.0, h.1, still_there texts s h.1 h.0 h.2, h.3, h.4)
       ];
 }

@@ -23,6 +23,7 @@ use Rattle.sided_tree.specs.Elders.{is_elder}
 use Rattle.sided_tree.specs.SlotKeys.{IsSlotKey}
 use Rattle.fugue_ids.proofs.LowLemmas.{front_held, low_in}
 use Rattle.fugue_ids.proofs.PartedLemmas.{to_held}
+use Rattle.origin_model.proofs.edits.SplitLemmas.{end_in}
 
 -- what holds of all holds of those behind an element, and of those before one
 all_rest : (P : Keyed → Type 0) (x : Option Identifier) (es : List Keyed) → All P es → All P (rest_of x es)
@@ -61,11 +62,6 @@ no_low k (e ∷ es) g f l =
 -- the last that passes is a member
 passing_in : (G : Identifier → Bool) (xs : List Identifier) (e : Identifier) → last_passing G xs ≡ Some e → Contains xs e
 passing_in G xs e is = (contains_filter_from G xs e (end_in (filter G xs) e is)).0
-  where
-    end_in : (xs : List Identifier) (e : Identifier) → last_before xs ≡ Some e → Contains xs e
-    end_in [] e is = cc
-    end_in (x ∷ []) e is = let d : x ≡ e = cc in subst (Contains (x ∷ [])) d (contains_here x [])
-    end_in (x ∷ y ∷ xs) e is = contains_there x (y ∷ xs) e (end_in (y ∷ xs) e is)
 
 -- the last that passes in the part of a slot
 pub same_siblings : (G : Identifier → Bool) (es : List Keyed) (s : Slot) (k : Key) (from to : Option Identifier) (key : Key) → from ≡ part_from es s k → to ≡ part_to es s k → key ≡ child_key s k

@@ -19,6 +19,7 @@ use Rattle.stretch_map.specs.Stretches.{AreStretches, Covers, Has, IsLaid, IsLat
 use Rattle.stretch_map.specs.declared.stretches.Stretch.{Stretch}
 use Rattle.fugue_ids.proofs.OrderLemmas.{id_cmp_total}
 use Rattle.fugue_ids.specs.Runs.{id_behind}
+use Rattle.fugue_ids.proofs.OptionLemmas.{cases_number}
 
 -- what is found where the first entry is the one that is looked for
 find-own : {V : Type 0} (q k : Identifier) (v : V) (es : List (Identifier × V)) → k ≡ q → find id_cmp q ((k, v) ∷ es) ≡ Some v
@@ -57,9 +58,6 @@ past_run nth f v (suc n) q rest out =
 -- numbers are in order or the other way round
 pub cases_le : (a b : ℕ) → (a ≤ b) ⊎ (b < a)
 cases_le a b = grind arith
-
-pub cases_number : (a b : ℕ) → (a ≡ b) ⊎ (a ≢ b)
-cases_number a b = elim (cases_Bool (nat_eq a b)) [ inl e ↦ inl (eqb-true a b e) | inr e ↦ inr (λ d. true≢false (sym (eq-eqb a b d) ∙ e)) ]
 
 -- a stretch has an identifier or not
 pub cases_covers : {V : Type 0} (e : Entry V) (q : Identifier) → Covers e q ⊎ (Covers e q → ⊥)

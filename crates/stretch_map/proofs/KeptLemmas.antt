@@ -10,9 +10,10 @@ use Rattle.fugue_ids.proofs.IdentifierLemmas.{cases_id, id_at-other, nat_at-othe
 use Rattle.stretch_map.specs.Contents.{Entry, Latest, Layout}
 use Rattle.stretch_map.specs.Stretches.{AreStretches, Has, IsLaid, IsLatest, IsSame, KeepsEntry, KeptBecomes, LatestBecomes, kept_at, latest_at}
 use Rattle.stretch_map.specs.declared.stretches.Stretch.{Stretch}
-use Rattle.stretch_map.proofs.FoundLemmas.{cases_number, not_both, same_kept, same_latest}
+use Rattle.stretch_map.proofs.FoundLemmas.{not_both, same_kept, same_latest}
 use Rattle.stretch_map.proofs.LessenedLemmas.{Drops}
 use Rattle.stretch_map.proofs.SetLemmas.{Sets, value_stays}
+use Rattle.fugue_ids.proofs.OptionLemmas.{cases_number}
 
 -- one entry of the map of kept stretches changes
 pub kept_becomes : {V : Type 0} (m n : BTreeMap Identifier (Stretch V)) (at : Identifier) (o : Option (Stretch V)) → UpdatesBy id_cmp (id_cmp at) m n o → IsOrdered id_cmp n

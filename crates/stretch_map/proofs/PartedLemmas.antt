@@ -5,9 +5,10 @@ use Rattle.fugue_ids.proofs.IdentifierLemmas.{cases_id}
 use Rattle.fugue_ids.specs.Runs.{id_behind}
 use Rattle.stretch_map.specs.Contents.{Entry, Layout, value_in}
 use Rattle.stretch_map.specs.Stretches.{AreStretches, Covers, Has, IsReached, rest_behind, up_to}
-use Rattle.stretch_map.proofs.FoundLemmas.{cases_le, cases_number, same_has}
+use Rattle.stretch_map.proofs.FoundLemmas.{cases_le, same_has}
 use Rattle.stretch_map.proofs.LessenedLemmas.{Splits}
 use Rattle.stretch_map.proofs.SetLemmas.{value_stays}
+use Rattle.fugue_ids.proofs.OptionLemmas.{cases_number}
 
 module _ {V : Type 0} (nth : Identifier → V → ℕ → V) (reaches : Identifier → V → ℕ → Type 0)
     (adds : (first : Identifier) (value : V) (j k : ℕ) → nth (id_behind first j) (nth first value j) k ≡ nth first value (j + k))

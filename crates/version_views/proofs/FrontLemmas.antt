@@ -1,7 +1,8 @@
 -- What the operations that were accepted first hold and hide, by the positions among all.
 use Rattle.version_views.proofs.Words.{Bool, Delete, Identifier, Lawful, List, None, Note, Op, Option, Section, Some, Text, [], ap, arith, cases_Bool, deletes, false, holder, if◌then◌else◌, inl, inr, is_hidden, length, length-append, refl, subst, sym, take, true, true≢false, verdict, ℕ, ◌++◌, ◌-◌, ◌<◌, ◌∙◌, ◌∷◌, ◌≡◌, ◌≤◌}
 use Rattle.std.proofs.Common.{get_or, length-drop, reverse}
-use Rattle.std.specs.Prelude.{is_some, nat_lt}
+use Rattle.std.specs.Prelude.{is_some, nat_lt, slice_get}
+use Rattle.std.proofs.lemmas.Option.{slice_get_cases}
 use Rattle.std.proofs.lemmas.Bool.{le-ltb, lt-ltb, ltb-true}
 use Rattle.std.proofs.lemmas.List.{get_or_append_left, get_or_push, length-reverse, reverse-append}
 use Rattle.fugue_ids.proofs.IdentifierLemmas.{origin_eq-true}
@@ -13,6 +14,7 @@ use Rattle.replica_core.specs.Index.{position_of}
 use Rattle.replica_core.proofs.IndexLemmas.{has_position as own_position}
 use Rattle.version_views.specs.Views.{first_ops}
 use Rattle.version_views.proofs.ViewLemmas.{has_position, parts}
+use Rattle.fugue_ids.proofs.OptionLemmas.{is_some-false}
 
 -- one operation at most passes the test
 abbrev Once : (Op → Bool) → List Op → Type 0
@@ -64,15 +66,11 @@ holder_back x (op ∷ new) h once e =
       | inr o ↦ holder-other op (new ++ h) x o ∙ holder_back x new h once.1 e
     ]
 
-none_from : {X : Type 0} (o : Option X) → is_some o ≡ false → o ≡ None
-none_from None e = refl
-none_from (Some x) e = absurd (true≢false e)
-
 -- an identifier is had once
 once_own : (x : Identifier) (h : List Op) → Lawful h → Once (is_own x) h
 once_own x [] w = tt
 once_own x (op ∷ older) w =
-    (λ o. none_from (position_of (is_own x) older) (own_position older x ∙ ap (id_held older) (sym (own_id op x o)) ∙ (when_ready older op w.0).fresh), once_own x older w.1)
+    (λ o. is_some-false (position_of (is_own x) older) (own_position older x ∙ ap (id_held older) (sym (own_id op x o)) ∙ (when_ready older op w.0).fresh), once_own x older w.1)
 
 -- and deleted once
 not_yet : (x : Identifier) (op : Op) (older : List Op) → verdict older op ≡ Ready → deletes x op ≡ true → is_hidden older x ≡ false
@@ -86,7 +84,7 @@ not_yet x (Note id names code body) older r o = absurd (true≢false (sym o))
 
 once_deleted : (x : Identifier) (h : List Op) → Lawful h → Once (deletes x) h
 once_deleted x [] w = tt
-once_deleted x (op ∷ older) w = (λ o. none_from (position_of (deletes x) older) (has_position older x ∙ not_yet x op older w.0 o), once_deleted x older w.1)
+once_deleted x (op ∷ older) w = (λ o. is_some-false (position_of (deletes x) older) (has_position older x ∙ not_yet x op older w.0 o), once_deleted x older w.1)
 
 -- how many operations were accepted first
 length-first : (n : ℕ) (h : List Op) → n ≤ length h → length (first_ops n h) ≡ n
@@ -135,7 +133,15 @@ held_first n h x k op w l e below is =
     (held_at h x k op e is).1
     ∙ subst (λ whole. Once (is_own x) whole → holder whole x ≡ holder f x) (parts n h) (λ o. holder_back x (take (length h - n) h) f o has) once
 
+-- so it is what stands at the position
+pub get_first : (n : ℕ) (h : List Op) (x : Identifier) (k : ℕ) → Lawful h → n ≤ length h → position_of (is_own x) h ≡ Some k → k < n → slice_get (reverse h) k ≡ holder (first_ops n h) x
+get_first n h x k w l e below =
+    elim (slice_get_cases (reverse h) k).1 [
+      | inl s ↦ s.2 ∙ held_first n h x k s.0 w l e below (sym s.3)
+      | inr s ↦ absurd (omega (arith, s.0, l, below, length-reverse h))
+    ]
+
 -- one with a later position, or none, is not among them
 pub lacked_first : (n : ℕ) (h : List Op) (x : Identifier) → Lawful h → n ≤ length h → is_below n (position_of (is_own x) h) ≡ false → None ≡ holder (first_ops n h) x
 lacked_first n h x w l e =
-    sym (none_from (holder (first_ops n h) x) (sym (own_position (first_ops n h) x) ∙ sym (first_has (is_own x) n h l (once_own x h w)) ∙ e))
+    sym (is_some-false (holder (first_ops n h) x) (sym (own_position (first_ops n h) x) ∙ sym (first_has (is_own x) n h l (once_own x h w)) ∙ e))

@@ -1,68 +1,18 @@
 -- A front is made of the operations that were accepted first, one after another; and these stay the first.
-use Rattle.version_views.proofs.Words.{Identifier, Lawful, List, None, Op, Option, Some, [], ap, arith, drop, false, id_of, length, ne_eqb, refl, subst, sym, take, take-append-drop, verdict, ℕ, ◌++◌, ◌+◌, ◌-◌, ◌<◌, ◌∙◌, ◌∷◌, ◌≡◌, ◌≤◌}
-use Rattle.std.proofs.Common.{append_assoc, get_or, length-drop, length-take, reverse}
+use Rattle.version_views.proofs.Words.{Lawful, List, None, Op, Some, [], ap, arith, drop, length, refl, subst, sym, take, take-append-drop, ℕ, ◌+◌, ◌++◌, ◌-◌, ◌<◌, ◌∙◌, ◌∷◌, ◌≡◌, ◌≤◌}
+use Rattle.std.proofs.Common.{append_assoc, length-drop, length-take, reverse}
 use Rattle.std.proofs.lemmas.Bool.{le-ltb, lt-ltb}
-use Rattle.std.proofs.lemmas.List.{length-reverse, reverse-append, reverse-reverse, take_more}
-use Rattle.std.proofs.lemmas.List.Elements.{All-nil}
-use Rattle.origin_model.specs.declared.operations.Verdict.TheVariants.{Ready}
-use Rattle.origin_model.specs.edits.Edits.{extended}
-use Rattle.origin_model.specs.edits.Effect.{Gains}
+use Rattle.std.proofs.lemmas.List.{length-reverse, reverse-append, reverse-reverse}
+use Rattle.origin_model.specs.edits.Edits.{ReadyInTurn, extended}
+use Rattle.origin_model.specs.edits.Effect.{Gains, with_ops}
 use Rattle.origin_model.specs.edits.State.{State, Stands}
-use Rattle.origin_model.specs.operations.Verdict.{id_held}
-use Rattle.origin_model.specs.taking.Taking.{Accepted, Held, IsSettled, answer, held, held_from, nothing_held, taken}
+use Rattle.origin_model.specs.taking.Taking.{Held, held, held_from, nothing_held}
 use Rattle.origin_model.proofs.SharedLemmas.{Lawful-append, first_accepted, held-append}
-use Rattle.origin_model.proofs.edits.EditIntakeLemmas.{accepts, state_of}
+use Rattle.version_views.specs.Accepting.{CanAccept}
 use Rattle.version_views.specs.Fronts.{EditsGrow, FilesGrow, FirstStay, Grows, IntakesGrow, NotesGrow, PartsGrow, front_at, front_most, front_of}
 use Rattle.version_views.specs.Views.{first_ops}
+use Rattle.version_views.proofs.AcceptingLemmas.{from_nothing, ready_of}
 use Rattle.version_views.proofs.ViewLemmas.{first_stay, parts}
-
--- ---- one operation more
-none_held : (o : Option Identifier) → id_held [] o ≡ false
-none_held None = refl
-none_held (Some i) = refl
-
-settled_alone : (h : List Op) → IsSettled (state_of h [])
-settled_alone h = All-nil _
-
-pub quiet_settled : (s : Held) → s.waiting ≡ [] → IsSettled s
-quiet_settled s e = subst (λ w. IsSettled (state_of s.history w)) (sym e) (settled_alone s.history)
-
--- a Ready one is accepted where nothing waits and there is room
-accepted_alone : (hold most : ℕ) (h : List Op) (op : Op) → verdict h op ≡ Ready → length h < most → answer hold most (state_of h []) op ≡ Accepted
-accepted_alone hold most h op r l = accepts hold most h [] op (settled_alone h) r (none_held (id_of op)) (ne_eqb (length h + 0) most (λ e. omega (arith, e, l)))
-
-pub next_is : (s new : State) (op copy : Op) → s.held.waiting ≡ [] → verdict s.held.history op ≡ Ready → length s.held.history < s.most → copy ≡ op
-    → new ≡ record s { held = taken (answer s.hold s.most s.held copy) s.held copy } → new ≡ record s { held = record { history = op ∷ s.held.history; waiting = [] } }
-next_is s new op copy quiet ready room same is =
-    let alone : answer s.hold s.most (state_of s.held.history []) op ≡ Accepted = accepted_alone s.hold s.most s.held.history op ready room in
-    let a : answer s.hold s.most s.held copy ≡ Accepted = (λ i. answer s.hold s.most (state_of s.held.history (quiet i)) (same i)) ∙ alone in
-    is ∙ ap (λ z. record s { held = taken z s.held copy }) a ∙ (λ i. record s { held = state_of (same i ∷ s.held.history) (quiet i) })
-
--- ---- all of them
-last_at : (ops : List Op) (k : ℕ) (op : Op) → op ≡ get_or ops k op → k < length ops → reverse (take (k + 1) ops) ≡ op ∷ reverse (take k ops)
-last_at ops k op is l =
-    ap reverse (take_more ops k op l) ∙ reverse-append (take k ops) (get_or ops k op ∷ []) ∙ ap (λ x. x ∷ reverse (take k ops)) (sym is)
-
-pub ready_at : (ops : List Op) (k : ℕ) (op : Op) → Lawful (reverse ops) → op ≡ get_or ops k op → k < length ops → verdict (reverse (take k ops)) op ≡ Ready
-ready_at ops k op w is l =
-    let whole : reverse ops ≡ reverse (drop (k + 1) ops) ++ reverse (take (k + 1) ops) = ap reverse (sym (take-append-drop (k + 1) ops)) ∙ reverse-append (take (k + 1) ops) (drop (k + 1) ops) in
-    let lawful : Lawful (reverse (take (k + 1) ops)) = Lawful-append (reverse (drop (k + 1) ops)) (reverse (take (k + 1) ops)) (subst Lawful whole w) in
-    (subst Lawful (last_at ops k op is l) lawful).0
-
--- the front after the first k operations
-abbrev pub front_after : State → List Op → ℕ → State
-front_after s ops k = record s { held = record { history = reverse (take k ops); waiting = [] } }
-
-pub after_none : (s : State) (ops : List Op) → s.held ≡ nothing_held → s ≡ front_after s ops 0
-after_none s ops e = ap (λ h. record s { held = h }) e
-
-pub after_more : (s now new : State) (ops : List Op) (k : ℕ) (op : Op) → now ≡ front_after s ops k → op ≡ get_or ops k op → k < length ops
-    → new ≡ record now { held = record { history = op ∷ now.held.history; waiting = [] } } → new ≡ front_after s ops (k + 1)
-after_more s now new ops k op was is l e =
-    e ∙ ap (λ (t : State). record t { held = record { history = op ∷ t.held.history; waiting = [] } }) was ∙ ap (λ h. record s { held = record { history = h; waiting = [] } }) (sym (last_at ops k op is l))
-
-pub after_all : (s new : State) (ops : List Op) (k : ℕ) → new ≡ front_after s ops k → take k ops ≡ ops → new ≡ record s { held = record { history = reverse ops; waiting = [] } }
-after_all s new ops k was all = was ∙ ap (λ l. record s { held = record { history = reverse l; waiting = [] } }) all
 
 -- ---- the first ones of a history
 drop-all : (xs ys : List Op) → drop (length xs) (xs ++ ys) ≡ ys
@@ -88,9 +38,23 @@ pub first_fit : (n : ℕ) (s : State) → n ≤ length s.held.history → Stands
 first_fit n s l st = omega (arith, l, st.few, st.most_within.1, length-take n (reverse s.held.history), length-reverse s.held.history)
 
 pub front_is : (n : ℕ) (s begun new : State) → begun ≡ record (front_of n s) { held = nothing_held }
-    → new ≡ record begun { held = record { history = reverse (take n (reverse s.held.history)); waiting = [] } } → new ≡ front_of n s
+    → new ≡ with_ops begun (take n (reverse s.held.history)) → new ≡ front_of n s
 front_is n s begun new b e =
-    e ∙ ap (λ (t : State). record t { held = record { history = reverse (take n (reverse s.held.history)); waiting = [] } }) b ∙ ap (λ h. record (front_of n s) { held = record { history = h; waiting = [] } }) (first_taken n s.held.history)
+    let first : List Op = take n (reverse s.held.history) in
+    e ∙ ap (λ (t : State). with_ops t first) b ∙ ap (λ h. record (front_of n s) { held = record { history = h; waiting = [] } }) (from_nothing first ∙ first_taken n s.held.history)
+
+-- the replica that holds nothing yet can accept them
+pub first_can : (n : ℕ) (s begun : State) → n ≤ length s.held.history → Stands s → Stands begun → begun ≡ record (front_of n s) { held = nothing_held } → CanAccept begun (take n (reverse s.held.history))
+first_can n s begun l st stands b =
+    let first : List Op = take n (reverse s.held.history) in
+    let lawful : Lawful (extended [] first) = subst Lawful (sym (from_nothing first)) (first_lawful n s.held.history st.lawful) in
+    let room : 0 + length first ≤ front_most n s = omega (arith, first_fit n s l st) in
+    record {
+      stands = stands;
+      quiet = ap (λ (t : State). t.held.waiting) b;
+      ready = subst (λ (t : State). ReadyInTurn t.held.history first) (sym b) (ready_of [] first lawful);
+      room = subst (λ (t : State). length t.held.history + length first ≤ t.most) (sym b) room;
+    }
 
 pub some_front : (n : ℕ) (s new : State) → n ≤ length s.held.history → new ≡ front_of n s → Some new ≡ front_at n s
 some_front n s new l e = rw (le-ltb (length s.held.history) n l) (ap Some e)

@@ -6,6 +6,7 @@ pub mod GivenLemmas
 pub mod NamingLemmas
 pub mod LineLemmas
 pub mod FrontLemmas
+pub mod AcceptingLemmas
 pub mod FrontMakingLemmas
 pub mod WalkLemmas
 pub mod PartLemmas

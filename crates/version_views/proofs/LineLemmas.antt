@@ -1,12 +1,13 @@
 -- The lines of versions, one operation after the other, the oldest first.
 use Rattle.version_views.proofs.Words.{List, false, None, Op, Option, Some, [], ap, append-nil, arith, flat_map, length, option_map, option_to_list, refl, suc, sym, ℕ, ◌++◌, ◌+◌, ◌<◌, ◌∙◌, ◌∷◌, ◌≡◌}
+use Rattle.std.specs.Prelude.{slice_get}
 use Rattle.std.proofs.Common.{append_assoc, drop, drop-cons, get_or, reverse}
 use Rattle.std.proofs.lemmas.List.{length-reverse, reverse-append}
 use Rattle.std.proofs.lemmas.List.Concat.{flat_map-append}
 use Rattle.replica_core.specs.Index.{is_section_or_note}
 use Rattle.version_views.specs.Versions.{name_in, versions_up_to}
-use Rattle.version_views.proofs.VersionLemmas.{no_name}
-use Rattle.version_views.specs.Views.{line_in, version_line, versions_text}
+use Rattle.version_views.proofs.VersionLemmas.{name_there, no_name}
+use Rattle.version_views.specs.Views.{line_at, line_in, version_line, versions_text}
 
 -- the lines of some operations, of which the first has n before it
 abbrev pub lines_from : ℕ → List Op → List Op → ℕ → List ℕ
@@ -43,12 +44,19 @@ pub text_lines : (h : List Op) (r : ℕ) → versions_text h r ≡ lines_from r 
 text_lines h r = lines_are r h h
 
 -- the lines to come begin with that of the next operation
-pub next_line : (r : ℕ) (h ops : List Op) (n : ℕ) (op : Op) → n < length ops → op ≡ get_or ops n op
+next_line : (r : ℕ) (h ops : List Op) (n : ℕ) (op : Op) → n < length ops → op ≡ get_or ops n op
     → lines_from r h (drop n ops) n ≡ line_in r h n op ++ lines_from r h (drop (n + 1) ops) (n + 1)
 next_line r h ops n op below is =
     let e : suc n ≡ n + 1 = omega arith in
     ap (λ l. lines_from r h l n) (drop-cons ops n op below ∙ ap (λ (o : Op). o ∷ drop (suc n) ops) (sym is))
     ∙ ap (λ k. line_in r h n op ++ lines_from r h (drop k ops) (n + 1)) e
+
+-- that is the line of its position
+pub line_next : (r : ℕ) (h : List Op) (n : ℕ) (op : Op) → n < length (reverse h) → op ≡ get_or (reverse h) n op → slice_get (reverse h) n ≡ Some op
+    → lines_from r h (drop n (reverse h)) n ≡ line_at r h n ++ lines_from r h (drop (n + 1) (reverse h)) (n + 1)
+line_next r h n op below is there =
+    next_line r h (reverse h) n op below is
+    ∙ ap (λ (o : Option (List ℕ)). (elim o [ None ↦ [] | Some name ↦ version_line (record { name = name; count = n }) ]) ++ lines_from r h (drop (n + 1) (reverse h)) (n + 1)) (sym (name_there r h n op there))
 
 -- where it has none they are those behind it
 pub no_line : (r : ℕ) (h ops : List Op) (n : ℕ) (op : Op) → n < length ops → op ≡ get_or ops n op → is_section_or_note op ≡ false

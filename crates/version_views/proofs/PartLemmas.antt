@@ -59,11 +59,6 @@ view_parts n h w =
     let f : List Op = first_ops n h in
     parts_kept (is_shown f) (section_part f) (printed_section f) (section_kept f) (order catalogue h) ∙ ap (flat_map (printed_section f)) (sym (shown_first catalogue n h w))
 
--- a value is there where what is made of it is
-pub some_from_map : {X Y : Type 0} (f : X → Y) (o : Option X) → IsSome (option_map f o) → IsSome o
-some_from_map f None there = there
-some_from_map f (Some x) there = there
-
 -- what is not held is not shown
 pub none_shown : (h : List Op) (x : Identifier) → None ≡ holder h x → None ≡ shown_holder h x
 none_shown h x e = elim (is_hidden h x) as (λ (b : Bool). None ≡ (if b then None else holder h x)) [ true ↦ refl | false ↦ e ]

@@ -1,13 +1,14 @@
 -- The version with a name, found from the newest operation on, and what later operations leave of it.
 use Rattle.version_views.proofs.Words.{All, All-head, All-tail, All-weaker, Bool, Identifier, List, None, Op, Option, Some, [], ap, append-nil, arith, cases_Bool, deletes, eq-eqb, false, id_of, if◌then◌else◌, inl, inr, is_hidden, length, nat_eq, ne_eqb, not, option_map, option_to_list, pointwise, refl, sym, true, true≢false, ℕ, ◌&&◌, ◌++◌, ◌<◌, ◌∙◌, ◌∷◌, ◌≡◌, ◌||◌}
 use Rattle.std.proofs.Common.{get_or, reverse, ◌+◌}
-use Rattle.std.proofs.lemmas.Bool.{or_right}
+use Rattle.std.proofs.lemmas.Bool.{not-true, or_right}
+use Rattle.std.specs.Prelude.{option_and_then, slice_get}
 use Rattle.std.proofs.lemmas.List.{length-reverse, length-take-le}
 use Rattle.version_views.proofs.Words.{Delete, Note, Section, Text, take}
 use Rattle.replica_core.specs.Index.{is_section_or_note}
 use Rattle.replica_core.proofs.WalkLemmas.{passed_more}
 use Rattle.version_views.specs.Laws.{LaterOpsLeaveVersion, LaterOpsLeaveWritten, VersionIsWithin, leaves_version}
-use Rattle.version_views.specs.Versions.{Version, is_version, is_withdrawn, last_named, name_given, name_in, op_behind, version_with, versions_up_to, withdraws, withdraws_note}
+use Rattle.version_views.specs.Versions.{Version, is_version, is_version_at, is_withdrawn, last_named, name_given, name_in, name_in_at, op_behind, version_with, versions_up_to, withdraws, withdraws_note}
 use Rattle.version_views.specs.Views.{view}
 use Rattle.version_views.proofs.ViewLemmas.{later_ops_leave_view}
 
@@ -58,6 +59,13 @@ no_name r h (Note i ns c b) e = absurd (true≢false e)
 
 pub no_version : (r : ℕ) (h : List Op) (name : List ℕ) (op : Op) → is_section_or_note op ≡ false → is_version r h name op ≡ false
 no_version r h name op e = ap (λ (o : Option (List ℕ)). elim o [ None ↦ false | Some body ↦ pointwise nat_eq body name ]) (no_name r h op e)
+
+-- what is so of a position is so of the operation there
+pub name_there : (r : ℕ) (h : List Op) (n : ℕ) (op : Op) → slice_get (reverse h) n ≡ Some op → name_in_at r h n ≡ name_in r h op
+name_there r h n op e = ap (option_and_then (name_in r h)) e
+
+pub version_there : (r : ℕ) (h : List Op) (name : List ℕ) (n : ℕ) (op : Op) → slice_get (reverse h) n ≡ Some op → is_version_at r h name n ≡ is_version r h name op
+version_there r h name n op e = ap (λ (o : Option (List ℕ)). elim o [ None ↦ false | Some body ↦ pointwise nat_eq body name ]) (name_there r h n op e)
 
 -- one operation more
 pub newest_more : (r : ℕ) (history : List Op) (name : List ℕ) (ops : List Op) (i : ℕ) (op : Op) → i < length ops → op ≡ get_or ops i op
@@ -119,12 +127,8 @@ withdrawn_same new h op e =
     elim (id_of op) as (λ (o : Option Identifier). (elim o [ None ↦ true | Some i ↦ not (is_hidden new i) ]) ≡ true
     → (elim o [ None ↦ false | Some i ↦ is_hidden (new ++ h) i ]) ≡ (elim o [ None ↦ false | Some i ↦ is_hidden h i ])) [
       | None ↦ λ k. refl
-      | Some i ↦ λ k. hidden-append new h i ∙ ap (λ b. b || is_hidden h i) (not_true (is_hidden new i) k)
+      | Some i ↦ λ k. hidden-append new h i ∙ ap (λ b. b || is_hidden h i) (not-true (is_hidden new i) k)
     ] e
-  where
-    not_true : (b : Bool) → not b ≡ true → b ≡ false
-    not_true true k = cc
-    not_true false k = refl
 
 -- where the newest version of some operations is kept, it is found in a longer history too
 newest_stays : (r : ℕ) (new h : List Op) (name : List ℕ) (ops : List Op)

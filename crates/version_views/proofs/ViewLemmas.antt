@@ -1,7 +1,7 @@
 -- What the operations that were accepted first have, read off the lists of all.
 use Rattle.version_views.proofs.Words.{Bool, Identifier, Lawful, List, Op, [], ap, arith, drop, filter, holds, has_op, is_hidden, length, length-append, manuscript, not, order, refl, subst, sym, take, take-append-drop, true, ℕ, ◌++◌, ◌+◌, ◌-◌, ◌∙◌, ◌∷◌, ◌≡◌, ◌≤◌, false}
 use Rattle.fugue_ids.proofs.ListLemmas.{filter-both}
-use Rattle.origin_model.proofs.SharedLemmas.{Lawful-append, has-append, parts_keep_order}
+use Rattle.origin_model.proofs.SharedLemmas.{has-append, Lawful-append, part_at_end, parts_keep_order}
 use Rattle.std.proofs.Math.Seq.{drop-append-add}
 use Rattle.origin_model.specs.order.Laws.{IsPartOf}
 use Rattle.std.proofs.lemmas.Bool.{or_right}
@@ -11,13 +11,9 @@ use Rattle.origin_model.specs.order.Printed.{deletes}
 use Rattle.replica_core.specs.Index.{position_of}
 use Rattle.version_views.specs.Views.{first_ops}
 
--- the older operations are a part of all
-pub part_of : (new h : List Op) → IsPartOf h (new ++ h)
-part_of new h op e = has-append new h op ∙ or_right (has_op new op) (has_op h op) e
-
 -- the order of a lawful front is the order of the whole, filtered
 pub order_by_filter : OrderByFilter
-order_by_filter p new h w = (parts_keep_order p h (new ++ h) (Lawful-append new h w) w (λ op. part_of new h op)).same_order
+order_by_filter p new h w = (parts_keep_order p h (new ++ h) (Lawful-append new h w) w (λ op. part_at_end new h op)).same_order
 
 pub shown_by_filter : ShownByFilter
 shown_by_filter p new h w =

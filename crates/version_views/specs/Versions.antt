@@ -1,9 +1,10 @@
 -- Named versions of a file: notes of code 4 without names, made by the file's own replica. A history is newest first.
-use Rattle.std.specs.Prelude.{ℕ, nat_eq, Option, Some, None, Bool, false, if◌then◌else◌, ◌&&◌, List, [], ◌∷◌, ◌++◌, length, option_map, option_to_list}
+use Rattle.std.specs.Prelude.{ℕ, nat_eq, Option, Some, None, Bool, false, if◌then◌else◌, ◌&&◌, List, [], ◌∷◌, ◌++◌, length, option_and_then, option_map, option_to_list, slice_get}
 use Rattle.fugue_ids.specs.Ops.{id_of}
 use Rattle.fugue_ids.specs.Titles.{is_line}
 use Rattle.fugue_ids.specs.declared.op.Op.{Op}
 use Rattle.fugue_ids.specs.declared.op.Op.TheVariants.{Note}
+use Rattle.origin_model.specs.operations.History.{accepted}
 use Rattle.origin_model.specs.order.Printed.{deletes, is_withdrawn as note_withdrawn}
 use Rattle.version_views.specs.declared.limits.TheConstants.{LONGEST_NAME, VERSION_CODE}
 use lib.Pointwise.{pointwise}
@@ -30,6 +31,10 @@ is_withdrawn history op = elim (id_of op) [ None ↦ false | Some i ↦ note_wit
 abbrev pub name_in : ℕ → List Op → Op → Option (List ℕ)
 name_in r history op = if is_withdrawn history op then None else name_given r op
 
+-- that of the operation that has n before it
+abbrev pub name_in_at : ℕ → List Op → ℕ → Option (List ℕ)
+name_in_at r history n = option_and_then (name_in r history) (slice_get (accepted history) n)
+
 -- those of the oldest operations, where the whole history tells what is withdrawn
 abbrev pub versions_up_to : ℕ → List Op → List Op → List Version
 versions_up_to r history [] = []
@@ -54,6 +59,10 @@ version_with history r name = option_map (λ v. v.count) (last_named name (versi
 -- the operation is a version with this name
 abbrev pub is_version : ℕ → List Op → List ℕ → Op → Bool
 is_version r history name op = elim (name_in r history op) [ None ↦ false | Some body ↦ pointwise nat_eq body name ]
+
+-- so is that with n before it
+abbrev pub is_version_at : ℕ → List Op → List ℕ → ℕ → Bool
+is_version_at r history name n = elim (name_in_at r history n) [ None ↦ false | Some body ↦ pointwise nat_eq body name ]
 
 -- the operation that has n before it
 abbrev pub op_behind : List Op → ℕ → Option Op

@@ -5,7 +5,7 @@ use Rattle.fugue_ids.specs.Identifiers.{Identifier}
 use Rattle.fugue_ids.specs.declared.op.Op.{Op}
 use Rattle.origin_model.specs.operations.History.{holder}
 use Rattle.origin_model.specs.order.Printed.{is_hidden, manuscript, printed_section, scalar_of}
-use Rattle.version_views.specs.Versions.{Version, name_in, versions}
+use Rattle.version_views.specs.Versions.{Version, name_in, name_in_at, versions}
 
 -- the n operations that were accepted first
 abbrev pub first_ops : ℕ → List Op → List Op
@@ -34,6 +34,10 @@ version_line v = decimal v.count ++ 32 ∷ v.name ++ 10 ∷ []
 -- the line of the operation that has so many before it, where that is a version
 abbrev pub line_in : ℕ → List Op → ℕ → Op → List ℕ
 line_in r history count op = elim (name_in r history op) [ None ↦ [] | Some name ↦ version_line (record { name = name; count = count }) ]
+
+-- that of the operation with so many before it
+abbrev pub line_at : ℕ → List Op → ℕ → List ℕ
+line_at r history count = elim (name_in_at r history count) [ None ↦ [] | Some name ↦ version_line (record { name = name; count = count }) ]
 
 -- the lines of a file's versions
 abbrev pub versions_text : List Op → ℕ → List ℕ

@@ -1,13 +1,12 @@
 //! A replica as it was when it had accepted so many operations.
-ghost use Rattle.std.specs.Prelude.{◌≡◌, ◌↔◌, ◌<◌, ◌≤◌, ◌∷◌, [], IfOk, IfSome, None, Ok, OnOk, length, reverse};
+ghost use Rattle.std.specs.Prelude.{◌≡◌, ◌<◌, ◌≤◌, IfOk, IfSome, None, Ok, length};
 ghost use Rattle.fugue_ids.specs.declared.limits.TheConstants.{MOST_OPERATIONS as most_operations};
 ghost use Rattle.origin_model.specs.edits.State.{Stands};
-ghost use Rattle.origin_model.specs.operations.Verdict.{Lawful, verdict};
 ghost use Rattle.origin_model.specs.taking.Taking.{IsSettled, nothing_held};
-ghost use Rattle.origin_model.specs.declared.operations.Verdict.TheVariants.{Ready};
 ghost use Rattle.version_views.specs.Fronts.{front_at, front_most as front_most_of, front_of};
 
-use fugue_ids::{MOST_OPERATIONS, NoMemory, Op};
+use crate::accepting::accept_all;
+use fugue_ids::{MOST_OPERATIONS, NoMemory};
 use replica_core::Replica;
 use std::alloc::Global;
 
@@ -36,40 +35,6 @@ fn new_front(alloc: Global, replica: &Replica, count: usize) -> Replica
     }
 }
 
-/// Accepts a copy of the operation, which is Ready.
-fn accept_next(alloc: Global, front: &mut Replica, op: &Op) -> Result<(), NoMemory>
-    requires quiet { front.old.held.waiting ≡ [] }
-    requires ready { verdict front.old.held.history op.now ≡ Ready }
-    requires room { length front.old.held.history < front.old.most }
-    ensures ok { OnOk result (front.new ≡ record front.old {
-      held = record { history = op.now ∷ front.old.held.history; waiting = [] };
-    }) }
-    ensures stands { OnOk result (Stands front.new) }
-{
-    let copy = op.clone_in(alloc)?;
-    match front.deliver(copy) {
-        Ok(_) => Ok(()),
-        Err(_) => Err(NoMemory),
-    }
-}
-
-/// Accepts copies of the operations in order, by a replica that holds nothing yet.
-fn accept_all(alloc: Global, front: &mut Replica, ops: &[Op]) -> Result<(), NoMemory>
-    requires new { front.old.held ≡ nothing_held }
-    requires lawful { Lawful (reverse ops.now) }
-    requires room { length ops.now ≤ front.old.most }
-    requires stands { Stands front.old }
-    ensures ok { OnOk result (front.new ≡ record front.old {
-      held = record { history = reverse ops.now; waiting = [] };
-    }) }
-    ensures stands { OnOk result (Stands front.new) }
-{
-    'ops: for op in ops {
-        accept_next(alloc, front, op)?;
-    }
-    Ok(())
-}
-
 /// The replica as it was when it had accepted so many operations, with nothing pending. None is the answer where it
 /// did not accept so many.
 ///
@@ -89,7 +54,7 @@ pub fn front(alloc: Global, replica: &Replica, count: usize) -> Result<Option<Re
         return Ok(None);
     }
     let mut front = new_front(alloc, replica, count);
-    match accept_all(alloc, &mut front, &ops[..count]) {
+    match accept_all(alloc, &mut front, ops, count) {
         Ok(()) => Ok(Some(front)),
         Err(NoMemory) => {
             front.discard();

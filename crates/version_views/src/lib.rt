@@ -1,6 +1,7 @@
 //! Named versions of a manuscript, and what it said then.
 #![tactic(auto)]
 
+mod accepting;
 mod fronts;
 mod laws;
 mod limits;

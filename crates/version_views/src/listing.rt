@@ -1,7 +1,7 @@
 ghost use Rattle.std.specs.Prelude.{◌≡◌, option_map};
 ghost use Rattle.origin_model.specs.edits.State.{Stands};
 ghost use Rattle.version_views.specs.Versions.{is_name as is_name_of, is_withdrawn as withdrawn_in};
-ghost use Rattle.version_views.specs.Versions.{is_version, name_given, name_in, version_with};
+ghost use Rattle.version_views.specs.Versions.{is_version_at, name_given, name_in, name_in_at, version_with};
 
 use crate::{LONGEST_NAME, VERSION_CODE};
 use fugue_ids::{Op, is_line};
@@ -50,7 +50,7 @@ fn is_withdrawn(replica: &Replica, op: &Op) -> bool
 }
 
 /// The name of the version that an operation is.
-pub(crate) fn name_of<'a>(replica: &Replica, op: &'a Op) -> Option<&'a [u8]>
+fn name_of<'a>(replica: &Replica, op: &'a Op) -> Option<&'a [u8]>
     ensures { option_map (λ name. name.now) result ≡ name_in replica.now.number replica.now.held.history op.now }
 {
     match given_name(replica.number(), op) {
@@ -59,11 +59,22 @@ pub(crate) fn name_of<'a>(replica: &Replica, op: &'a Op) -> Option<&'a [u8]>
     }
 }
 
-/// Whether an operation is a version with the name.
-fn is_named(replica: &Replica, op: &Op, name: &str) -> bool
-    ensures { result ≡ is_version replica.now.number replica.now.held.history name.now op.now }
+/// The name of the version that the operation with so many before it is.
+pub(crate) fn name_at(replica: &Replica, count: usize) -> Option<&[u8]>
+    ensures { option_map (λ name. name.now) result
+        ≡ name_in_at replica.now.number replica.now.held.history count }
 {
-    match name_of(replica, op) {
+    match replica.section_or_note(count) {
+        Some(op) => name_of(replica, op),
+        None => None,
+    }
+}
+
+/// Whether the operation with so many before it is a version with the name.
+fn is_named(replica: &Replica, count: usize, name: &str) -> bool
+    ensures { result ≡ is_version_at replica.now.number replica.now.held.history name.now count }
+{
+    match name_at(replica, count) {
         Some(given) => given == name.as_bytes(),
         None => false,
     }
@@ -74,10 +85,9 @@ pub fn find_version(replica: &Replica, name: &str) -> Option<usize>
     ensures version { result ≡ version_with replica.now.held.history replica.now.number name.now }
     ensures stands { Stands replica.now }
 {
-    let ops = replica.accepted();
     let mut found = None;
     'walk: for count in replica.sections_and_notes() {
-        if is_named(replica, &ops[*count], name) {
+        if is_named(replica, *count, name) {
             found = Some(*count);
         }
     }

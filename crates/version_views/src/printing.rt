@@ -3,10 +3,10 @@ ghost use Rattle.std.specs.Prelude.{◌≡◌};
 ghost use Rattle.fugue_ids.specs.Gathers.{GathersText};
 ghost use Rattle.fugue_ids.specs.Outs.{WritesBytes};
 ghost use Rattle.origin_model.specs.edits.State.{Stands};
-ghost use Rattle.version_views.specs.Views.{line_in, version_line, versions_text};
+ghost use Rattle.version_views.specs.Views.{line_at, version_line, versions_text};
 
-use crate::listing::name_of;
-use fugue_ids::{Failed, Gather, Op, Out};
+use crate::listing::name_at;
+use fugue_ids::{Failed, Gather, Out};
 use itoa::Buffer;
 use outer_ports::Sink;
 use replica_core::Replica;
@@ -31,12 +31,11 @@ fn put_version<O: Out>(
     output: &mut O,
     replica: &Replica,
     count: usize,
-    op: &Op,
 ) -> Result<(), Failed>
     ensures { GathersText (O.seen output.old) (O.seen output.new) gather.old gather.new result
-        (line_in replica.now.number replica.now.held.history count op.now) }
+        (line_at replica.now.number replica.now.held.history count) }
 {
-    match name_of(replica, op) {
+    match name_at(replica, count) {
         Some(name) => put_line(gather, output, count, name),
         None => Ok(()),
     }
@@ -51,9 +50,8 @@ fn put_versions<O: Out>(
         (versions_text replica.now.held.history replica.now.number) }
     ensures stands { Stands replica.now }
 {
-    let ops = replica.accepted();
     'walk: for count in replica.sections_and_notes() {
-        put_version(gather, output, replica, *count, &ops[*count])?;
+        put_version(gather, output, replica, *count)?;
     }
     Ok(())
 }

@@ -5,6 +5,7 @@ ghost use Rattle.std.specs.Prelude.{flat_map, length, option_map, option_to_list
 ghost use Rattle.std.specs.Str.{encode_utf8_all};
 ghost use Rattle.fugue_ids.specs.Gathers.{GathersText};
 ghost use Rattle.fugue_ids.specs.Outs.{WritesBytes};
+ghost use Rattle.op_runs.specs.Finding.{op_of};
 ghost use Rattle.origin_model.specs.declared.operations.Place.TheVariants.{Catalogue as catalogue, Section as within};
 ghost use Rattle.origin_model.specs.edits.State.{Stands};
 ghost use Rattle.origin_model.specs.operations.History.{holder};
@@ -14,6 +15,7 @@ ghost use Rattle.section_list.specs.Cells.{section_cell_ids};
 ghost use Rattle.version_views.specs.Views.{first_ops, scalar_part, section_part, shown_holder, view};
 
 use fugue_ids::{ElementId, Failed, Gather, NoMemory, Op, OpKey, Out};
+use op_runs::OpRef;
 use outer_ports::Sink;
 use replica_core::Replica;
 use section_list::SectionList;
@@ -39,29 +41,38 @@ fn is_hidden(replica: &Replica, n: usize, id: ElementId) -> bool
 }
 
 /// The one of the first n operations that has the identifier.
-fn find_holder(replica: &Replica, n: usize, id: ElementId) -> Option<&Op>
+fn find_holder(replica: &Replica, n: usize, id: ElementId) -> Option<OpRef<'_>>
     requires { n ≤ length replica.now.held.history }
-    ensures { option_map (λ op. op.now) result ≡ holder (first_ops n replica.now.held.history) id }
+    ensures { option_map op_of result ≡ holder (first_ops n replica.now.held.history) id }
 {
     let at = replica.position(OpKey::Own(id))?;
-    if at < n {
-        Some(&replica.accepted()[at])
-    } else {
-        None
-    }
+    if at < n { replica.operation(at) } else { None }
 }
 
 /// The same, where none of them hides the element.
-fn find_shown(replica: &Replica, n: usize, id: ElementId) -> Option<&Op>
+fn find_shown(replica: &Replica, n: usize, id: ElementId) -> Option<OpRef<'_>>
     requires { n ≤ length replica.now.held.history }
-    ensures { option_map (λ op. op.now) result ≡ shown_holder (first_ops n replica.now.held.history) id }
+    ensures { option_map op_of result ≡ shown_holder (first_ops n replica.now.held.history) id }
 {
     // Most elements of an old view's lists are newer ones, for which this look-up is the only one.
-    let op = find_holder(replica, n, id)?;
+    let Some(op) = find_holder(replica, n, id) else {
+        return None;
+    };
     if is_hidden(replica, n, id) {
         None
     } else {
         Some(op)
+    }
+}
+
+/// The scalar of a Text.
+fn scalar_in(op: &OpRef<'_>) -> Option<char>
+    ensures { option_to_list result ≡ scalar_of (Some (op_of op.now)) }
+{
+    match op {
+        OpRef::Letter(_, ch) => Some(*ch),
+        OpRef::Whole(Op::Text { ch, .. }) => Some(*ch),
+        _ => None,
     }
 }
 
@@ -71,8 +82,8 @@ fn find_scalar(replica: &Replica, n: usize, id: ElementId) -> Option<char>
     ensures { option_to_list result ≡ scalar_of (shown_holder (first_ops n replica.now.held.history) id) }
 {
     match find_shown(replica, n, id) {
-        Some(Op::Text { ch, .. }) => Some(*ch),
-        _ => None,
+        Some(op) => scalar_in(&op),
+        None => None,
     }
 }
 
@@ -123,11 +134,11 @@ fn elements_of(replica: &Replica, section: ElementId) -> &SectionList
     list
 }
 
-fn title_in(op: &Op) -> &str
-    ensures { result.now ≡ encode_utf8_all (title_of (Some op.now)) }
+fn title_in<'a>(op: &OpRef<'a>) -> &'a str
+    ensures { result.now ≡ encode_utf8_all (title_of (Some (op_of op.now))) }
 {
     match op {
-        Op::Section { title, .. } => title.as_str(),
+        OpRef::Whole(Op::Section { title, .. }) => title.as_str(),
         _ => "",
     }
 }
@@ -147,7 +158,7 @@ fn put_section<O: Out>(
 {
     match find_shown(replica, n, section) {
         Some(op) => {
-            gather.put_heading(output, title_in(op))?;
+            gather.put_heading(output, title_in(&op))?;
             put_elements(gather, output, replica, n, elements_of(replica, section))?;
             gather.put(output, b"\n")
         }

@@ -2,6 +2,7 @@ use super::syncs::{UNCOUNTED, exchanged, replied};
 use crate::assertions::{equal, equal_at};
 use crate::frames::{S, stream};
 use op_frame::encode_all;
+use op_runs::OpSlice;
 use origin_model::Tally;
 use outer_ports::MemWire;
 use relay_sync::{SyncFault, Synced};
@@ -39,7 +40,7 @@ fn the_operations_of_a_run_are_taken_in_and_said(rt: HostRuntime) {
     drop(wire);
     let both = stream(&rt, &[S, RUN]);
     let mut bytes = Vec::new(rt.alloc());
-    encode_all(kept.as_slice(), &mut bytes).expect(&rt, "memory");
+    encode_all(OpSlice::of(kept.as_slice()), &mut bytes).expect(&rt, "memory");
     equal(&rt, bytes.as_slice(), both.as_slice());
     drop(bytes);
     drop(both);

@@ -5,8 +5,9 @@ use Rattle.origin_model.proofs.operations.ElementLemmas.{one_place}
 use Rattle.origin_model.proofs.operations.FoundedLemmas.{shown_can_go}
 use Rattle.origin_model.proofs.order.{IsIn-held, filter_no, filter_yes, order-member, order-none, order_total}
 use Rattle.origin_model.specs.edits.Edits.{Cut, DropSection, IsEdit, ReadyInTurn, cut_in, deletes_of, extended, made}
-use Rattle.origin_model.proofs.edits.SplitLemmas.{Distinct, is_shown, filter_all, get_split, not_yes}
+use Rattle.origin_model.proofs.edits.SplitLemmas.{Distinct, is_shown, filter_all, get_split}
 use Rattle.std.proofs.lemmas.List.Kept.{AllPairs-filter}
+use Rattle.std.proofs.lemmas.Bool.{not-true}
 
 -- all but x
 abbrev but : Identifier → Identifier → Bool
@@ -65,7 +66,7 @@ taking : (xs : List Identifier) (p : Place) (h : List Op) (a b : List Identifier
 taking [] p h a b w e = record { ready = tt; lawful = w; orders = λ q. refl; here = e; elsewhere = λ q n. refl }
 taking (x ∷ xs) p h a b w e =
     let there = contains_filter_from (is_shown h) (order p h) x (subst (λ l. Contains l x) (sym e) (contains_middle a x (xs ++ b))) in
-    let ready : verdict h (Delete x) ≡ Ready = shown_can_go h x (IsIn-held p h x (order-member p h x w there.0)) (not_yes (is_hidden h x) there.1) in
+    let ready : verdict h (Delete x) ≡ Ready = shown_can_go h x (IsIn-held p h x (order-member p h x w there.0)) (not-true (is_hidden h x) there.1) in
     let now : shown p (Delete x ∷ h) ≡ a ++ (xs ++ b) =
     shown_without p x h ∙ ap (filter (but x)) e ∙ filter_out a (xs ++ b) x (subst Distinct e (shown_distinct p h w)) in
     let rest = taking xs p (Delete x ∷ h) a b (ready, w) now in

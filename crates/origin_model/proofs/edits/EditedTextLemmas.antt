@@ -98,8 +98,8 @@ text_there p h ops at n ids t w e d =
     ∙ flat_agree (scalars_at (extended h ops)) (scalars_at h) (shown (within t) h) (same_scalars (within t) h ops w e.ready)
 
 -- another section is another place
-other : (t s : Identifier) → t ≢ s → within t ≢ within s
-other t s n e = let d : t ≡ s = cc e in n d
+pub other_place : (t s : Identifier) → t ≢ s → within t ≢ within s
+other_place t s n e = let d : t ≡ s = cc e in n d
 
 -- no section is the catalogue
 not_catalogue : (t : Identifier) → within t ≢ catalogue
@@ -108,7 +108,7 @@ not_catalogue t e = cc e
 -- an edit of what is shown is one of the text
 text_edit : (h ops : List Op) (s : Identifier) (at n : ℕ) (ids : List Identifier) (new : List ℕ) → Lawful h → IsEdit (within s) h ops at n ids → flat_map (scalars_at (extended h ops)) ids ≡ new → IsTextEdit h ops s at n new
 text_edit h ops s at n ids new w e k =
-    record { here = text_here h ops s at n ids new w e k; elsewhere = λ t d. text_there (within s) h ops at n ids t w e (other t s d) }
+    record { here = text_here h ops s at n ids new w e k; elsewhere = λ t d. text_there (within s) h ops at n ids t w e (other_place t s d) }
 
 -- the new elements have the scalars that were typed
 typed_scalars : (chs : List ℕ) (r c : ℕ) (s : Identifier) (l q : Option Identifier) (h : List Op) → ReadyInTurn h (typed r c s l q chs) → flat_map (scalars_at (extended h (typed r c s l q chs))) (typed_ids r c chs) ≡ chs

@@ -5,6 +5,9 @@ use Rattle.fugue_ids.proofs.ListLemmas.{all_from_filter}
 use Rattle.origin_model.specs.edits.Edits.{above_all, id_at, next_counter}
 use Rattle.origin_model.specs.operations.Counters.{counters, mentioned}
 use Rattle.origin_model.proofs.operations.LookupLemmas.{holds-other, own_id}
+use Rattle.std.proofs.Common.{cond, inl, inr}
+use Rattle.std.proofs.lemmas.Bool.{cases_lt, eqb-true, true≢false}
+use Rattle.std.proofs.lemmas.List.Elements.{All-tail}
 
 -- an identifier of the replica has a counter below c
 abbrev pub IsBelow : (r c : ℕ) → Identifier → Type 0
@@ -83,3 +86,29 @@ new_unknown r c n w op e b k = (
 -- a Delete has no identifier
 pub delete_unknown : (w : List Op) (x : Identifier) → IsUnknown w (Delete x)
 delete_unknown w x = (refl, all_from_contains (λ i. is_own i (Delete x) ≡ false) (flat_map mentioned w) (λ i m. refl))
+
+-- where each counter is below a number, so is what is next
+pub above_below : (ns : List ℕ) (c : ℕ) → All (λ m. m < c) ns → above_all ns ≤ c
+above_below [] c a = omega arith
+above_below (n ∷ ns) c a = omega (arith, All-head (λ m. m < c) n ns a, above_below ns c (All-tail (λ m. m < c) n ns a))
+
+pub counters_below : (r c : ℕ) (ids : List Identifier) → All (IsBelow r c) ids → All (λ m. m < c) (map (λ i. i.counter) (filter (λ i. nat_eq i.replica r) ids))
+counters_below r c [] a = All-nil (λ m. m < c)
+counters_below r c (i ∷ ids) a = by_test (nat_eq i.replica r) (All-head (IsBelow r c) i ids a) (counters_below r c ids (All-tail (IsBelow r c) i ids a))
+  where
+    rest : List Identifier
+    rest = filter (λ i. nat_eq i.replica r) ids
+
+    by_test : (b : Bool) → (b ≡ true → i.counter < c) → All (λ m. m < c) (map (λ i. i.counter) rest) → All (λ m. m < c) (map (λ i. i.counter) (cond b (i ∷ rest) rest))
+    by_test true f a = All-cons (λ m. m < c) i.counter (map (λ i. i.counter) rest) (f refl) a
+    by_test false f a = a
+
+-- what is held has a counter below
+pub held_below : (r c : ℕ) (h : List Op) (x : Identifier) → BelowAll r c h → holds h x ≡ true → IsBelow r c x
+held_below r c h x a k own =
+    elim (cases_lt x.counter c) [
+      | inl l ↦ l
+      | inr l ↦
+          let is : id_at r x.counter ≡ x = ap (λ n. id_at n x.counter) (sym (eqb-true x.replica r own)) in
+          absurd (true≢false (sym k ∙ ap (holds h) (sym is) ∙ none_from r c h a x.counter l))
+    ]

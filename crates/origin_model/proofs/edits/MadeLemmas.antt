@@ -91,3 +91,8 @@ cut_front r h w k j at n l =
       | None ↦ take-nil j
       | Some s ↦ deletes_front j n (drop at (shown (within s) h)) l
     ]
+
+-- the history in front of operations is lawful
+pub lawful_front : (ops h : List Op) → Lawful (extended h ops) → Lawful h
+lawful_front [] h w = w
+lawful_front (op ∷ ops) h w = (lawful_front ops (op ∷ h) w).1

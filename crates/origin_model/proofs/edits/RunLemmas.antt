@@ -19,19 +19,15 @@ use Rattle.origin_model.proofs.taking.SettlingLemmas.{settle-settled}
 use Rattle.origin_model.proofs.edits.EditIntakeLemmas.{Comes, accepts, comes, state_of, takes}
 use Rattle.origin_model.proofs.edits.FreshIdLemmas.{IsUnknown}
 use Rattle.origin_model.proofs.edits.LandsBehindLeafLemmas.{lands_behind_newest}
-use Rattle.origin_model.proofs.edits.MadeLemmas.{ready_lawful}
+use Rattle.origin_model.proofs.edits.MadeLemmas.{lawful_front, ready_lawful}
 use Rattle.origin_model.proofs.edits.PutLemmas.{new_op, text_here}
 use Rattle.origin_model.proofs.edits.UndecidedLemmas.{Undecided, all_stay}
 
 -- Longer histories
 
-lawful_before : (h ops : List Op) → Lawful (extended h ops) → Lawful h
-lawful_before h [] w = w
-lawful_before h (op ∷ ops) w = (lawful_before (op ∷ h) ops w).1
-
 within_extended : (h ops : List Op) → Lawful (extended h ops) → Within h (extended h ops)
 within_extended h [] w = λ i op e. e
-within_extended h (op ∷ ops) w = within-older op h (extended (op ∷ h) ops) (when_ready h op (lawful_before (op ∷ h) ops w).0) (within_extended (op ∷ h) ops w)
+within_extended h (op ∷ ops) w = within-older op h (extended (op ∷ h) ops) (when_ready h op (lawful_front ops (op ∷ h) w).0) (within_extended (op ∷ h) ops w)
 
 -- Where the elements stand
 
@@ -42,7 +38,7 @@ row_lands id s l r ch [] h front back w whole = whole ∙ sym (append_assoc fron
 row_lands id s l r ch (next ∷ text) h front back w whole =
     let first : Op = Text id s l r ch in
     let second : Op = Text (next_id id) s (Some id) r next in
-    let lawful = lawful_before (second ∷ first ∷ h) (in_a_row (next_id (next_id id)) s (Some (next_id id)) r text) w in
+    let lawful = lawful_front (in_a_row (next_id (next_id id)) s (Some (next_id id)) r text) (second ∷ first ∷ h) w in
     let behind : order (within s) (second ∷ first ∷ h) ≡ front ++ id ∷ next_id id ∷ back =
     lands_behind_newest (within s) second first h (next_id id) id front back lawful (text_here id s l r ch) (text_here (next_id id) s (Some id) r next) refl whole in
     row_lands (next_id id) s (Some id) r next text (first ∷ h) (front ++ id ∷ []) back w (behind ∙ sym (append_assoc front (id ∷ []) (next_id id ∷ back)))
@@ -177,7 +173,7 @@ module _ (start : RunStart) (ch : ℕ) (text : List ℕ) (h : List Op) (w : Lawf
   rest = in_a_row (next_id start.id) start.section (Some start.id) start.right text
 
   before : Lawful (first ∷ h)
-  before = lawful_before (first ∷ h) rest w
+  before = lawful_front rest (first ∷ h) w
 
   first_held : holds (first ∷ h) start.id ≡ true
   first_held = ap is_some (holder-own first h start.id (id_eq-refl start.id))

@@ -95,11 +95,6 @@ split_origin keep o at s = ends_origin s.front (filter keep o) at s.ends
 abbrev pub Distinct : List Identifier → Type 0
 Distinct xs = AllPairs (λ x y. x ≢ y) xs
 
--- what is not so
-pub not_yes : (b : Bool) → not b ≡ true → b ≡ false
-not_yes true e = sym e
-not_yes false e = refl
-
 -- behind the first member
 follow-own : (e : Identifier) (es : List Identifier) → following (e ∷ es) (Some e) ≡ first_after es
 follow-own e es = ap (λ b. if b then first_after es else following es (Some e)) (id_eq-refl e)
@@ -109,7 +104,7 @@ follow-other : (e l : Identifier) (es : List Identifier) → id_eq e l ≡ false
 follow-other e l es k = ap (λ b. if b then first_after es else following es (Some l)) k
 
 -- the last member is a member
-end_in : (xs : List Identifier) (l : Identifier) → last_before xs ≡ Some l → Contains xs l
+pub end_in : (xs : List Identifier) (l : Identifier) → last_before xs ≡ Some l → Contains xs l
 end_in xs l e = let s = end_split xs l e in subst (λ c. Contains c l) (sym s.1) (contains_middle s.0 l [])
 
 -- what follows the end of the front is the first of the rest

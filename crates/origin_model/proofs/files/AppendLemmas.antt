@@ -60,7 +60,7 @@ to_parts bytes content h =
     }
 
 -- the bytes up to the gate that ends the meaning
-before_gate : (bytes : List ℕ) (content : Content) (p : Parts bytes content) → take content.at bytes ≡ p.head ++ open_slots p.batches
+pub before_gate : (bytes : List ℕ) (content : Content) (p : Parts bytes content) → take content.at bytes ≡ p.head ++ open_slots p.batches
 before_gate bytes content p =
     let slots : List ℕ = open_slots p.batches in
     let at : content.at ≡ length p.head + length slots = ap (λ z. z.at) p.content_is ∙ ap (λ n. n + length slots) (sym p.long) in

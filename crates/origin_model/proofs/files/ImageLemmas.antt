@@ -6,15 +6,11 @@ use Rattle.origin_model.specs.files.Image.{BadBatch, Batch, Content, CutShort, E
 use Rattle.origin_model.specs.declared.grammar.Grammar.{Grammar}
 use Rattle.origin_model.specs.frames.Frames.{Reads, Whole}
 use Rattle.origin_model.proofs.files.BatchLemmas.{behind_word, length_is, one_grammar, same_batch, word_is}
+use Rattle.std.proofs.lemmas.List.{nil_from_length}
 
 -- bytes are read in one way
 abbrev pub ReadOnce : Type 0
 ReadOnce = (grammar : Grammar) (bytes : List ℕ) (ops others : List Op) → Reads grammar bytes ops Whole → Reads grammar bytes others Whole → ops ≡ others
-
--- a list as long as none is empty
-empty : (xs : List ℕ) → length xs ≡ 0 → xs ≡ []
-empty [] e = refl
-empty (x ∷ xs) e = absurd (omega (arith, e))
 
 -- how the open slots end: by another gate than 1, or by an open slot of this number that has no batch
 pub data Ends (slot : ℕ) (rest : List ℕ) : Type 0 where
@@ -32,7 +28,7 @@ no_fault slot b more bytes h n l e (NoFrames grammar tagged none) =
     (λ i. take ((ap (length_at 0) e ∙ length_is b (b.bytes ++ more) h) i) ((ap (drop 4) e ∙ behind_word b (b.bytes ++ more) h) i)) ∙ take-append_seam b.bytes more in
     let same : b.grammar ≡ grammar = one_grammar b.grammar grammar (sym h.tagged ∙ sym (ap word_tag (word_is b (b.bytes ++ more) h)) ∙ sym (ap (λ z. word_tag (number_at 0 z)) e) ∙ tagged) in
     none b.ops (subst (λ g. Reads g (take (length_at 0 bytes) (drop 4 bytes)) b.ops Whole) same (subst (λ z. Reads b.grammar z b.ops Whole) (sym whole) h.reads))
-no_fault slot b more bytes h n l e (NoGate k) = n (empty more (omega (arith, k, ap (length_at 0) e ∙ length_is b (b.bytes ++ more) h, ap length (ap (drop 4) e ∙ behind_word b (b.bytes ++ more) h), length-append b.bytes more)))
+no_fault slot b more bytes h n l e (NoGate k) = n (nil_from_length more (omega (arith, k, ap (length_at 0) e ∙ length_is b (b.bytes ++ more) h, ap length (ap (drop 4) e ∙ behind_word b (b.bytes ++ more) h), length-append b.bytes more)))
 no_fault slot b more bytes h n l e (LastSlot k) = omega (arith, k, l)
 
 -- no open slot with a byte behind it stands where the open slots end

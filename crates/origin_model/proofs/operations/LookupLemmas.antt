@@ -5,6 +5,8 @@ use Rattle.origin_model.specs.operations.History.{element, place}
 use Rattle.origin_model.proofs.operations.ElementLemmas.{element_names, home_names, role_in}
 use Rattle.origin_model.specs.declared.operations.Role.TheVariants.{Any}
 use Rattle.std.specs.Option.{option_or}
+use Rattle.std.specs.List.{Contains}
+use Rattle.fugue_ids.proofs.ListLemmas.{contains_cases, contains_none}
 
 -- an identifier that is the operation's own, as an equation
 pub own_id : (op : Op) (x : Identifier) → is_own x op ≡ true → id_of op ≡ Some x
@@ -284,3 +286,17 @@ has-reverse (o ∷ ops) x =
     ∙ ap (λ t. t || (op_eq o x || false)) (has-reverse ops x)
     ∙ swap_or (has_op ops x) (op_eq o x) false
     ∙ ap (λ t. op_eq o x || t) (or_none_right (has_op ops x))
+
+-- an empty history holds nothing
+pub id_held-nil : (o : Option Identifier) → id_held [] o ≡ false
+id_held-nil None = refl
+id_held-nil (Some i) = refl
+
+-- the members of a history are its operations
+pub has_member : (h : List Op) (op : Op) → Contains h op → has_op h op ≡ true
+has_member [] op m = absurd (contains_none op m)
+has_member (o ∷ h) op m =
+    elim (contains_cases o h op m) [
+      | inl e ↦ ap (λ t. t || has_op h op) (ap (op_eq o) (sym e) ∙ op_eq-refl o)
+      | inr k ↦ or_right (op_eq o op) (has_op h op) (has_member h op k)
+    ]

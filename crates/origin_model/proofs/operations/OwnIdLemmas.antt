@@ -3,6 +3,7 @@ use Rattle.origin_model.proofs.Words.{All, All-cons, All-nil, AllPairs, Identifi
 use Rattle.std.proofs.lemmas.List.Kept.{AllPairs-cons}
 use Rattle.origin_model.specs.operations.History.{HaveOtherIds}
 use Rattle.origin_model.proofs.operations.LookupLemmas.{holds-cons, when_ready}
+use Rattle.fugue_ids.proofs.IdentifierLemmas.{not_some}
 
 -- an identifier that is not held is no member's
 not_own : (i : Identifier) (ops : List Op) → holds ops i ≡ false → All (λ x. id_of x ≢ Some i) ops
@@ -12,10 +13,7 @@ not_own i (o ∷ ops) e =
     All-cons (λ x. id_of x ≢ Some i) o ops (λ own. true≢false (sym (ap (λ a. origin_eq a (Some i)) own ∙ id_eq-refl i) ∙ p.0)) (not_own i ops p.1)
 
 other_ids_at : (o : Option Identifier) (op : Op) (ops : List Op) → id_of op ≡ o → id_held ops o ≡ false → All (HaveOtherIds op) ops
-other_ids_at None op ops is e = λ k d below i own. absurd (no_id i (sym own ∙ is))
-  where
-    no_id : (i : Identifier) → Some i ≡ None → ⊥
-    no_id i e = cc
+other_ids_at None op ops is e = λ k d below i own. absurd (not_some i (sym own ∙ is))
 other_ids_at (Some i) op ops is e = λ k d below j own other. not_own i ops e k d below (other ∙ sym own ∙ is)
 
 -- an operation whose identifier is not held shares none with the members

@@ -156,7 +156,7 @@ before_at-older p [] x y w k l = refl
 before_at-older p (op ∷ older) x y w k l = before_in-older p op older w x y k l
 
 -- an element of the part is one of the whole
-IsIn-within : (p : Place) (s h : List Op) (x : Identifier) → Within s h → IsIn p s x → IsIn p h x
+pub IsIn-within : (p : Place) (s h : List Op) (x : Identifier) → Within s h → IsIn p s x → IsIn p h x
 IsIn-within p s h x f m = record { op = m.op; held = f x m.op m.held; place = m.place }
 
 -- an element of the part has the same right origin in the whole

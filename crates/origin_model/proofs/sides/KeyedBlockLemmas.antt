@@ -18,7 +18,7 @@ use Rattle.origin_model.proofs.sides.KeyedListLemmas.{deep_high, first_head, fla
 use Rattle.origin_model.proofs.sides.SpineLemmas.{IsFirstIn, IsLastIn}
 
 -- a member with what stands before it and behind it
-split_member : (xs : List Identifier) (x : Identifier) → Contains xs x → (front : List Identifier) × (back : List Identifier) × (xs ≡ front ++ x ∷ back)
+pub split_member : (xs : List Identifier) (x : Identifier) → Contains xs x → (front : List Identifier) × (back : List Identifier) × (xs ≡ front ++ x ∷ back)
 split_member xs x m = cut_member xs x m.0 m.1 m.2
 
 -- what is high has a greater key

@@ -105,7 +105,7 @@ module _ (p : Place) (h : List Op) (w : Lawful h) (o : List Identifier) where
       before_agree o o h t (IsIn p h) fork_alike (λ a m. (same p h a w m).lefts_same) (λ a m. (same p h a w m).rights_same) (λ a m. lefts-in p h a w m) (λ a m. rights-in p h a w m)
 
 -- tests that agree on the members count alike
-count_alike : (q r : Identifier → Bool) (es : List Identifier) → All (λ e. q e ≡ r e) es → count_by q es ≡ count_by r es
+pub count_alike : (q r : Identifier → Bool) (es : List Identifier) → All (λ e. q e ≡ r e) es → count_by q es ≡ count_by r es
 count_alike q r [] f = refl
 count_alike q r (e ∷ es) f =
     let here : q e ≡ r e = All-head (λ x. q x ≡ r x) e es f in

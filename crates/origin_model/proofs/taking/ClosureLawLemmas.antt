@@ -82,12 +82,16 @@ part_behind front a b f x m =
     ])
 
 -- the first of two lists is part of both
-part_in_front : (a b : List Op) → IsPartOf a (a ++ b)
+pub part_in_front : (a b : List Op) → IsPartOf a (a ++ b)
 part_in_front a b x m = has-append a b x ∙ or_left (has_op a x) (has_op b x) m
 
 -- the second of two lists is part of both
-part_at_end : (a b : List Op) → IsPartOf b (a ++ b)
+pub part_at_end : (a b : List Op) → IsPartOf b (a ++ b)
 part_at_end a b x m = has-append a b x ∙ or_right (has_op a x) (has_op b x) m
+
+-- two parts are a part together
+pub parts_join : (xs ys all : List Op) → IsPartOf xs all → IsPartOf ys all → IsPartOf (xs ++ ys) all
+parts_join xs ys all f g x m = elim (or_cases (has_op xs x) (has_op ys x) (sym (has-append xs ys x) ∙ m)) [ inl j ↦ f x j | inr j ↦ g x j ]
 
 -- an operation that a replica gives is accepted or waits
 has-given : (r : Taker) (x : Op) → has_op (given_by r) x ≡ is_again (taker_state r) x

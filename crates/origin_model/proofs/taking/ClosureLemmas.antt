@@ -6,6 +6,7 @@ use Rattle.origin_model.specs.taking.Taking.{closed_within, closure, first_ready
 use Rattle.origin_model.proofs.operations.LookupLemmas.{cases_held, found, holder-has, holder_owns, own_id, when_ready}
 use Rattle.origin_model.proofs.order.{Within-part}
 use Rattle.origin_model.proofs.operations.CauseLemmas.{becomes_ready, names_within, ready_absent}
+use Rattle.std.specs.Cmp.{both_ways}
 
 -- an identifier that is held is that of an operation of the history
 taken_by : (h : List Op) (o : Option Identifier) → id_held h o ≡ true → (i : Identifier) × (op : Op) × (o ≡ Some i) × (holder h i ≡ Some op)
@@ -157,12 +158,6 @@ closed-none o room ops h e = rw (e, closed_within)
 closed-some : (o : Op) (room ops h : List Op) (op : Op) → first_ready h ops ≡ Some op → closed_within (o ∷ room) ops h ≡ closed_within room ops (op ∷ h)
 closed-some o room ops h op e = rw (e, closed_within)
 
--- two tests that hold together are one
-pub same_bool : (a b : Bool) → (a ≡ true → b ≡ true) → (b ≡ true → a ≡ true) → a ≡ b
-same_bool true b f g = sym (f refl)
-same_bool false true f g = g refl
-same_bool false false f g = refl
-
 -- with room for all that lacks, the steps end so
 pub closed_is : (room ops h : List Op) → lacking h ops ≤ length room → Lawful h → IsPartOf h ops → IsClosed ops (closed_within room ops h)
 closed_is [] ops h l w f =
@@ -186,7 +181,7 @@ closure_is ops = closed_is ops ops [] (count_by-le-length (λ o. not (has_op [] 
 -- any two such histories have the same operations
 pub same_closed : (ops a b : List Op) → Consistent ops → IsClosed ops a → IsClosed ops b → SameOps a b
 same_closed ops a b k s t op =
-    same_bool _ _
+    both_ways _ _
     (maximal a b ops s.lawful t.lawful s.part t.part k t.saturated op)
     (maximal b a ops t.lawful s.lawful t.part s.part k s.saturated op)
 

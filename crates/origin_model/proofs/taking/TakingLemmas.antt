@@ -92,7 +92,7 @@ answer_cases false true v = inr (inr (inr (inl refl)))
 answer_cases false false v = inr (inr (inr (inr refl)))
 
 -- Accepted is answered by no other verdict than Ready
-accepted_by : (t f : Bool) (v : Verdict) → answer_by t f v ≡ Accepted → v ≡ Ready
+pub accepted_by : (t f : Bool) (v : Verdict) → answer_by t f v ≡ Accepted → v ≡ Ready
 accepted_by t f v e =
     elim (answer_cases t f v) [
       | inl q ↦ cc (q.2, e)

@@ -1,13 +1,13 @@
 //! Look-ups in accepted operations, and how a slice is searched, the newest operation of which is last.
 
 ghost use Rattle.std.specs.Prelude.{◌≡◌, List, reverse, option_copied, option_map};
+ghost use Rattle.fugue_ids.specs.Ops.{op_eq};
 ghost use Rattle.fugue_ids.specs.declared.op.Op.{Op as AnyOp};
 ghost use Rattle.fugue_ids.specs.declared.op.Op.TheVariants.{Delete};
 ghost use Rattle.origin_model.specs.operations.History.{has_op, holder as holder_in};
 ghost use Rattle.origin_model.specs.operations.Verdict.{fits as fits_role, Lawful};
 
 use crate::Role;
-use crate::operations::roles::fits;
 use fugue_ids::{ElementId, Op};
 
 /// Accepted operations in which others are looked up.
@@ -15,9 +15,9 @@ pub trait Lookup {
     /// The operations, the newest first.
     ghost history: { Self → List AnyOp };
 
-    /// The operation with this identifier of its own.
-    fn holder(&self, id: ElementId) -> Option<&Op>
-        ensures held { option_copied result ≡ holder_in (history self.now) id }
+    /// Whether the operation with this identifier of its own is equal to another one: None where there is none.
+    fn equals(&self, id: ElementId, op: &Op) -> Option<bool>
+        ensures held { result ≡ option_map (λ holder. op_eq holder op.now) (holder_in (history self.now) id) }
         ensures lawful { Lawful (history self.now) };
 
     /// Whether a Delete of this target is there.
@@ -27,13 +27,7 @@ pub trait Lookup {
     /// Whether the operation with this identifier fits the role: None where there is none. Those who know where an
     /// element stands need not read the operation.
     fn fits(&self, id: ElementId, role: Role) -> Option<bool>
-        ensures { result ≡ option_map (fits_role role) (holder_in (history self.now) id) }
-    {
-        match self.holder(id) {
-            Some(op) => Some(fits(role, op)),
-            None => None,
-        }
-    }
+        ensures { result ≡ option_map (fits_role role) (holder_in (history self.now) id) };
 }
 
 /// Whether an equal operation is among them.

@@ -1,6 +1,6 @@
 //! What an operation is against the accepted operations.
 ghost use Rattle.std.specs.Prelude.{◌≡◌, ◌∷◌, [], true, None};
-ghost use Rattle.fugue_ids.specs.Ops.{id_of, op_eq};
+ghost use Rattle.fugue_ids.specs.Ops.{id_of};
 ghost use Rattle.origin_model.specs.operations.History.{has_op};
 ghost use Rattle.origin_model.specs.operations.Verdict.{names, first_stray, first_missing, found_as};
 ghost use Rattle.origin_model.specs.operations.Verdict.{id_held, verdict as verdict_on};
@@ -88,14 +88,10 @@ fn name_faults<L: Lookup>(lookup: &L, op: &Op) -> NameFaults
 }
 
 /// What an operation is beside the one that has its identifier.
-fn beside(other: &Op, op: &Op) -> Found
-    ensures { result ≡ found_as (op_eq other.now op.now) true }
+fn beside(equal: bool) -> Found
+    ensures { result ≡ found_as equal true }
 {
-    if *other == *op {
-        Found::Same
-    } else {
-        Found::Clash
-    }
+    if equal { Found::Same } else { Found::Clash }
 }
 
 /// What is there of an operation, by one look-up: where its identifier is held, an equal one can only be the holder.
@@ -103,8 +99,8 @@ fn found_of<L: Lookup>(lookup: &L, op: &Op) -> Found
     ensures { result ≡ found_as (has_op (L.history lookup.now) op.now) (id_held (L.history lookup.now) (id_of op.now)) }
 {
     match op.key() {
-        OpKey::Own(id) => match lookup.holder(id) {
-            Some(other) => beside(other, op),
+        OpKey::Own(id) => match lookup.equals(id, op) {
+            Some(equal) => beside(equal),
             None => Found::Absent,
         },
         OpKey::Target(target) => {

@@ -9,7 +9,8 @@ use crate::operations::element::stands_at;
 use crate::{Place, Role};
 use fugue_ids::Op;
 
-pub(crate) fn fits(role: Role, op: &Op) -> bool
+/// Whether the operation stands where the role asks for it.
+pub fn fits(role: Role, op: &Op) -> bool
     ensures { result ≡ fits_role role op.now }
 {
     match role {

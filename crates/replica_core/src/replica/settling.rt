@@ -1,28 +1,35 @@
-ghost use Rattle.std.specs.Prelude.{◌≡◌, ◌<◌, ◌≤◌, ◌-◌, ◌^◌, IfOk, OnErr};
+ghost use Rattle.std.specs.Prelude.{◌≡◌, ◌↔◌, ◌<◌, ◌≤◌, ◌+◌, ◌-◌, ◌^◌, ◌==◌, length, IfErr, IfOk, OnErr, OnOk};
+ghost use Rattle.fugue_ids.specs.Runs.{run_from};
+ghost use Rattle.origin_model.specs.edits.Effect.{with_ops};
+ghost use Rattle.origin_model.specs.edits.Refusal.{held_count};
 ghost use Rattle.origin_model.specs.edits.State.{Stands};
-ghost use Rattle.replica_core.specs.Told.{IsTallied, JoinsNext, Settles, SettlesOrStops};
+ghost use Rattle.origin_model.specs.taking.Taking.{answer, intake, intake_counted, is_kept, taken, IsSettled, TooMany};
+ghost use Rattle.replica_core.specs.Decision.{answer_by_decision};
+ghost use Rattle.replica_core.specs.Edits.{CanJoin};
+ghost use Rattle.replica_core.specs.Told.{Answers, IsTallied, JoinsNext, Leaves, Settles, SettlesOrStops};
+ghost use Rattle.replica_core.specs.Told.{StaysBelow, total};
 
-use super::Replica;
-use crate::Settled;
+use super::{Decision, Replica, decide};
 use crate::accepted::Accepted;
 use crate::due::Due;
-use crate::waking::{leave, wake};
-use causal_inbox::OpenInbox;
-use fugue_ids::NoMemory;
+use crate::waking::{leave, wait, wake};
+use crate::{DeliverFault, FeedFault, Settled, Taken};
+use causal_inbox::{Inbox, PushFault};
+use fugue_ids::{NoMemory, Op, RunStart};
 use origin_model::{Tally, Verdict};
 use std::alloc::Global;
 use std::marker::Model;
 use std::mem::replace;
 
-/// A replica while it settles: its inbox is open, so that operations leave one after another.
+/// A replica while it settles or takes in a run: operations leave its inbox one after another, and gaps stay.
 #[derive(Drop)]
 pub(crate) struct Settling {
-    alloc: Global,
+    pub(crate) alloc: Global,
     number: u32,
     hold: u32,
     most: u32,
-    accepted: Accepted,
-    inbox: OpenInbox,
+    pub(crate) accepted: Accepted,
+    pub(crate) inbox: Inbox,
     due: Due,
 }
 
@@ -51,7 +58,7 @@ impl Replica {
             hold: self.hold,
             most: self.most,
             accepted: replace(&mut self.accepted, Accepted::new(self.alloc)),
-            inbox: self.inbox.open(),
+            inbox: replace(&mut self.inbox, Inbox::new(self.alloc, self.hold)),
             due: replace(&mut self.due, Due::new(self.alloc)),
         }
     }
@@ -61,13 +68,15 @@ impl Settling {
     pub fn close(self) -> Replica
         ensures { result ≡ self }
     {
+        let mut inbox = self.inbox;
+        inbox.close();
         Replica {
             alloc: self.alloc,
             number: self.number,
             hold: self.hold,
             most: self.most,
             accepted: self.accepted,
-            inbox: self.inbox.close(),
+            inbox,
             due: self.due,
         }
     }
@@ -134,6 +143,122 @@ impl Settling {
                 Ok(true)
             }
             None => Ok(false),
+        }
+    }
+
+    /// How many operations more may be accepted or wait.
+    pub(crate) fn room(&self) -> usize
+        ensures room { result + held_count self.now ≡ self.now.most }
+        ensures stands { Stands self.now }
+    {
+        self.most as usize - self.accepted.len() - self.inbox.len()
+    }
+
+    /// Accepts a run that an edit makes, by one call on the places. Nothing that waits is decided by it, so the marks
+    /// stay.
+    pub(crate) fn join_run(&mut self, start: &RunStart, text: &[char]) -> Result<(), NoMemory>
+        requires some { 0 < length text.now }
+        requires counters { start.now.id.counter + length text.now ≤ 2 ^ 32 }
+        requires can { CanJoin self.old (run_from start.now text.now) }
+        ensures ok { OnOk result (self.new ≡ with_ops self.old (run_from start.now text.now)) }
+        ensures err { OnErr result (self.new ≡ self.old) }
+        ensures settled { IsSettled self.new.held }
+        ensures stands { Stands self.new }
+    {
+        let Ok(()) = self.accepted.accept_run(start, text) else {
+            return Err(NoMemory);
+        };
+        Ok(())
+    }
+
+    fn decision_on(&self, op: &Op) -> Decision
+        ensures { answer self.now.hold self.now.most self.now.held op.now
+            ≡ answer_by_decision (length self.now.held.waiting == self.now.hold) result }
+    {
+        let held = self.accepted.len() + self.inbox.len();
+        let at_most = held == self.most as usize;
+        decide(self.inbox.find(op), self.accepted.verdict(op), at_most)
+    }
+
+    /// Takes one operation in and settles nothing. A refusal changes nothing and hands it back.
+    fn deliver(&mut self, op: Op) -> Result<Taken, DeliverFault>
+        requires { IsSettled self.old.held }
+        ensures answer { Answers self.old.hold self.old.most op
+            (answer self.old.hold self.old.most self.old.held op) result }
+        ensures ok { OnOk result (self.new ≡ record self.old {
+          held = taken (answer self.old.hold self.old.most self.old.held op) self.old.held op;
+        }) }
+        ensures err { OnErr result (self.new ≡ self.old) }
+        ensures stands { Stands self.new }
+    {
+        match self.decision_on(&op) {
+            Decision::Again => Ok(Taken::Again),
+            Decision::Conflict => Err(DeliverFault::Conflict(op)),
+            Decision::Stray(id) => Err(DeliverFault::Stray(op, id)),
+            Decision::TooMany => Err(DeliverFault::TooMany(op, self.most)),
+            Decision::Ready => match self.accepted.accept(op) {
+                Ok(()) => {
+                    wake(&self.inbox, &self.accepted, &mut self.due);
+                    Ok(Taken::Accepted)
+                }
+                Err(refused) => Err(DeliverFault::NoMemory(refused.op)),
+            },
+            Decision::Missing => match wait(&mut self.inbox, &mut self.due, op) {
+                Ok(()) => Ok(Taken::Waits),
+                Err(PushFault::Full(op)) => Err(DeliverFault::Full(op, self.hold)),
+                Err(PushFault::NoMemory(op)) => Err(DeliverFault::NoMemory(op)),
+            },
+        }
+    }
+
+    /// Delivers the operation, settles to the end and counts: the answer is whether it was accepted or waits.
+    ///
+    /// Refusals are counted and are no faults, but for one where as many are there as may.
+    pub(crate) fn feed(&mut self, op: Op, tally: &mut Tally) -> Result<bool, FeedFault>
+        requires settled { IsSettled self.old.held }
+        requires counts_rise { StaysBelow tally.old }
+        ensures held { OnOk result (self.new ≡ record self.old {
+          held = intake self.old.hold self.old.most self.old.held op;
+        }) }
+        ensures tally { OnOk result (tally.new
+            ≡ intake_counted self.old.hold self.old.most self.old.held op tally.old) }
+        ensures kept { IfOk result (λ kept. kept
+            ≡ is_kept (answer self.old.hold self.old.most self.old.held op)) }
+        ensures settled { OnOk result (IsSettled self.new.held) }
+        ensures once { OnOk result (total tally.new + length self.new.held.waiting
+            ≡ total tally.old + length self.old.held.waiting + 1) }
+        ensures too_many { (result ≡ Err (FeedFault.TooMany self.old.most))
+            ↔ (answer self.old.hold self.old.most self.old.held op ≡ TooMany) }
+        ensures err { IfErr result (λ fault. Leaves self.old self.new op tally.old tally.new fault) }
+        ensures stands { Stands self.new }
+    {
+        match self.deliver(op) {
+            Ok(Taken::Accepted) => {
+                tally.accepted += 1;
+                match self.settle(tally) {
+                    Ok(()) => Ok(true),
+                    Err(NoMemory) => Err(FeedFault::NoMemory),
+                }
+            }
+            Ok(Taken::Waits) => Ok(true),
+            Ok(Taken::Again) => {
+                tally.repeated += 1;
+                Ok(false)
+            }
+            Err(DeliverFault::Conflict(_op)) => {
+                tally.conflict += 1;
+                Ok(false)
+            }
+            Err(DeliverFault::Stray(_op, _id)) => {
+                tally.stray += 1;
+                Ok(false)
+            }
+            Err(DeliverFault::Full(_op, _hold)) => {
+                tally.full += 1;
+                Ok(false)
+            }
+            Err(DeliverFault::TooMany(_op, most)) => Err(FeedFault::TooMany(most)),
+            Err(DeliverFault::NoMemory(_op)) => Err(FeedFault::NoMemory),
         }
     }
 }

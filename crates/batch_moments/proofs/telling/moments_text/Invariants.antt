@@ -5,4 +5,7 @@ use Rattle.batch_moments.proofs.telling.moments_text.Given as goal
 
 -- what is written, and the lines that are left, are all lines
 abbrev pub invariant-moments : goal.invariant-moments
-invariant-moments l = l.text.items ++ flat_map line_text (lines_from l.from (drop l.moment-index l.moments) l.ops) ≡ flat_map line_text (lines l.moments l.ops)
+invariant-moments l = record {
+  left : l.text.items ++ flat_map line_text (lines_from l.from (drop l.moment-index l.moments) l.ops) ≡ flat_map line_text (lines l.moments l.ops);
+  rest : l.rest ≡ drop l.from l.ops;
+}

@@ -4,8 +4,9 @@ use Rattle.std.proofs.lemmas.Option.{none-some}
 use Rattle.fugue_ids.specs.Keyed.{IsReplaced}
 use Rattle.block_map.specs.Blocks.{IsBlockAt, value_at, value_within}
 use Rattle.block_map.specs.declared.block.Block.{Block}
-use Rattle.block_map.proofs.ChangeLemmas.{block_after, block_gone, block_replaced, blocks_changed, empty_block, empty_by_length, key_step, some_length, that_block, value_replaced}
+use Rattle.block_map.proofs.ChangeLemmas.{block_after, block_gone, block_replaced, blocks_changed, empty_block, key_step, some_length, that_block, value_replaced}
 use Rattle.block_map.proofs.blocks.take_out.Goals as goal
+use Rattle.std.proofs.lemmas.List.{nil_from_length}
 
 pub returns-then-is_empty-clause-blocks : goal.returns-then-is_empty-clause-blocks
 returns-then-is_empty-clause-blocks g c =
@@ -26,7 +27,7 @@ returns-then-is_empty-clause-taken g c =
     let n = c.remove-then-is_empty.new.self in
     let there = sym c.in-Some.ensures.value in
     let change = block_gone m (c.get_mut.follows.lender d) n key d ((c.get_mut.follows.holds d).3 (ap is_some there)) c.remove-then-is_empty.ensures.updates in
-    let none = empty_by_length d.counters.items (c.if-is_empty.ensures.0 refl) in
+    let none = nil_from_length d.counters.items (c.if-is_empty.ensures.0 refl) in
     value_replaced m n key None change c.args.id place.result.1 place.ensures.key place.ensures.counter None
     (record {
       here = refl;

@@ -1,8 +1,9 @@
 use Rattle.std.proofs.Common.{ap, refl, ◌∙◌}
 use Rattle.std.specs.Prelude.{slice_get}
 use Rattle.section_list.specs.Cells.{section_cell_ids, section_cells_shown}
-use Rattle.catalogue_notes.proofs.OutliningLemmas.{visible_listed, visible_place}
+use Rattle.catalogue_notes.proofs.OutliningLemmas.{visible_place}
 use Rattle.catalogue_notes.proofs.outlining.number_of.Goals as goal
+use Rattle.section_list.proofs.PlainLemmas.{visible_listed}
 
 pub returns-in-Some : goal.returns-in-Some
 returns-in-Some c =

@@ -7,4 +7,4 @@ use Rattle.catalogue_notes.proofs.LiftingLemmas.{Passed}
 use Rattle.catalogue_notes.proofs.retitles.retitles_of.Given as goal
 
 abbrev pub invariant-walk : goal.invariant-walk
-invariant-walk l = Walks (λ i. reverse l.bids.items ≡ map bid_of (retitles (Passed l.ops i))) l.ops l.at-items l.at-index
+invariant-walk l = Walks (λ i. reverse l.bids.items ≡ map bid_of (retitles (Passed (reverse l.replica.held.history) i))) (reverse l.replica.held.history) l.at-items l.at-index

@@ -1,10 +1,20 @@
-use Rattle.std.proofs.Common.{sym, ◌∙◌, ap, ℕ, length}
-use Rattle.std.specs.Prelude.{Result, Ok, Err}
-use Rattle.causal_inbox.proofs.AgeLemmas.{position_searched}
+use Rattle.std.proofs.Common.{arith, sym, ◌∙◌}
+use Rattle.std.proofs.lemmas.Option.{get_or_from_slice_get, slice_get_within}
+use Rattle.causal_inbox.proofs.AgeLemmas.{position_found, position_none}
 use Rattle.causal_inbox.proofs.index.position.Goals as goal
+use Rattle.causal_inbox.proofs.index.position.Goals.{else-first-len-via-then-first-len+else-get-age, else-first-len-via-else-first-len}
 
-pub returns-in-Ok : goal.returns-in-Ok
-returns-in-Ok c = sym (position_searched c.args.ages.now c.args.age c.binary_search.result c.requires c.binary_search.ensures.position ∙ ap (λ (r : Result ℕ ℕ). elim r [ Ok p ↦ p | Err p ↦ length c.args.ages.now ]) c.in-Ok.is)
+pub returns-then-get-age : goal.returns-then-get-age
+returns-then-get-age c =
+    let ages = c.args.ages.now.items in
+    let first = c.first_from-first.result in
+    sym (position_found ages first c.args.age c.requires (slice_get_within ages first c.get.result.now c.get.ensures)
+    (get_or_from_slice_get ages first c.get.result.now 0 c.get.ensures ∙ c.if-get-age.true))
 
-pub returns-in-Err : goal.returns-in-Err
-returns-in-Err c = sym (position_searched c.args.ages.now c.args.age c.binary_search.result c.requires c.binary_search.ensures.position ∙ ap (λ (r : Result ℕ ℕ). elim r [ Ok p ↦ p | Err p ↦ length c.args.ages.now ]) c.in-Err.is)
+pub returns : goal.returns
+returns c =
+    let ages = c.args.ages.now.items in
+    c.len-2.ensures ∙ sym (position_none ages c.args.age c.first_from-first.result c.requires c.first_from-first.ensures (elim c.else-first-len.branch [
+      | else-first-len-via-then-first-len+else-get-age w ↦ λ l e. w.if-get-age.false (sym (get_or_from_slice_get ages c.first_from-first.result w.get.result.now 0 w.get.ensures) ∙ e)
+      | else-first-len-via-else-first-len w ↦ λ l e. omega (arith, l, w.if-first-len.false, c.len.ensures)
+    ]))

@@ -2,8 +2,7 @@ use Rattle.std.proofs.Common.{ap, subst, sym, ◌∙◌}
 use Rattle.std.specs.Prelude.{IsSome, option_map}
 use Rattle.origin_model.specs.declared.operations.Place.TheVariants.{Catalogue as catalogue}
 use Rattle.origin_model.proofs.SharedLemmas.{order_total}
-use Rattle.replica_core.proofs.LookUpLemmas.{text_found}
-use Rattle.version_views.proofs.PartLemmas.{some_from_map}
+use Rattle.replica_core.proofs.LookUpLemmas.{some_from_map, text_found}
 use Rattle.change_marks.proofs.told.elements_of.Goals as goal
 
 pub unwrap-list-requires : goal.unwrap-list-requires

@@ -1,11 +1,8 @@
-use Rattle.std.proofs.Common.{ap, false, length, subst, sym, true, ◌∙◌, ◌≡◌}
-use Rattle.std.specs.Prelude.{Bool, ◌||◌, ◌≢◌}
+use Rattle.std.proofs.Common.{ap, length, subst, sym, ◌∙◌}
+use Rattle.std.specs.Prelude.{◌≢◌}
 use Rattle.std.specs.List.{AllPairs}
 use Rattle.origin_model.specs.declared.operations.Place.TheVariants.{Section as within}
-use Rattle.origin_model.specs.order.Order.{order}
-use Rattle.origin_model.specs.order.Printed.{shown}
 use Rattle.origin_model.proofs.SharedLemmas.{order_total}
-use Rattle.change_marks.specs.Changes.{IsLater}
 use Rattle.change_marks.proofs.CountLemmas.{counted_same}
 use Rattle.change_marks.proofs.told.is_changed.Goals as goal
 

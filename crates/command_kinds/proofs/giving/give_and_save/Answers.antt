@@ -22,8 +22,8 @@ returns-in_err-save-clause-given g c file holds =
     rw (p.1, p.2) (
       given.0,
       given_unsaved (g.T.Gives.giver c.args.giver.now file c.args.from.now c.give.new.from given.0) c.args.replica.now c.give.new.replica c.give.new.kept c.args.end
-          (change (g.H.Disk.seen c.args.home.now) (g.H.Disk.seen c.save.new.file)) c.in_ok-note.note c.to_save.result.now c.in_err-save.field-0.0
-          (c.to_save.ensures ∙ ap (λ k. to_save c.in_ok-note.note k c.give.new.replica c.give.new.kept) (ap length c.accepted-before.ensures.accepted)) given.1 c.in_err-save.ensures.meets,
+          (change (g.H.Disk.seen c.args.home.now) (g.H.Disk.seen c.save.new.file)) c.in_ok-note.note c.to_save.result c.in_err-save.field-0.0
+          (c.to_save.ensures ∙ ap (λ k. to_save c.in_ok-note.note k c.give.new.replica c.give.new.kept) (c.len-before.ensures ∙ ap length c.accepted.ensures.accepted)) given.1 c.in_err-save.ensures.meets,
     )
 
 pub returns-clause-given : goal.returns-clause-given
@@ -31,6 +31,6 @@ returns-clause-given g c file holds =
     let given = c.in_ok-note.ensures.gives file c.args.end holds in (
       given.0,
       given_saved (g.T.Gives.giver c.args.giver.now file c.args.from.now c.give.new.from given.0) c.args.replica.now c.give.new.replica c.give.new.kept c.args.end
-          (change (g.H.Disk.seen c.args.home.now) (g.H.Disk.seen c.save.new.file)) c.in_ok-note.note c.to_save.result.now _
-          (c.to_save.ensures ∙ ap (λ k. to_save c.in_ok-note.note k c.give.new.replica c.give.new.kept) (ap length c.accepted-before.ensures.accepted)) given.1 refl c.in_ok-save.ensures.meets,
+          (change (g.H.Disk.seen c.args.home.now) (g.H.Disk.seen c.save.new.file)) c.in_ok-note.note c.to_save.result _
+          (c.to_save.ensures ∙ ap (λ k. to_save c.in_ok-note.note k c.give.new.replica c.give.new.kept) (c.len-before.ensures ∙ ap length c.accepted.ensures.accepted)) given.1 refl c.in_ok-save.ensures.meets,
     )

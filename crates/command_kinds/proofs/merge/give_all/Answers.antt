@@ -24,15 +24,15 @@ returns-in_err-take_copies-2 c =
     rw (p.1, p.2) (record {
       gives = merge_gives_none fault c.args.replica.now c.take_copies-2.new.replica c.args.other.now c.take_copies-2.new.kept
           (fault_further fault c.args.replica.now c.take_copies.new.replica _ _ _ _ (rw c.accepted.ensures.accepted at c.in_ok-take_copies.ensures.ok)
-          (rw c.waiting.ensures.waiting at c.in_err-take_copies-2.ensures.err));
+          (rw (c.of-waiting.ensures, c.waiting.ensures.waiting) at c.in_err-take_copies-2.ensures.err));
     })
 
 pub returns : goal.returns
 returns c =
     let first = rw (c.accepted.ensures.accepted, fresh_counts _ c.default-tally.ensures) at c.in_ok-take_copies.ensures.ok in
-    let then = rw c.waiting.ensures.waiting at c.in_ok-take_copies-2.ensures.ok in
+    let then = rw (c.of-waiting.ensures, c.waiting.ensures.waiting) at c.in_ok-take_copies-2.ensures.ok in
     let one = rw (c.accepted.ensures.accepted, c.requires.none_kept) at c.in_ok-take_copies.ensures.kept in
-    let two = rw c.waiting.ensures.waiting at c.in_ok-take_copies-2.ensures.kept in
+    let two = rw (c.of-waiting.ensures, c.waiting.ensures.waiting) at c.in_ok-take_copies-2.ensures.kept in
     record {
       gives = merge_gives c.args.replica.now c.take_copies-2.new.replica c.args.other.now c.take_copies-2.new.tally c.take_copies-2.new.kept (takes_on _ _ _ _ _ _ _ _ first then)
           (both_kept c.args.replica.now c.take_copies.new.replica (accepted c.args.other.now.held.history) c.args.other.now.held.waiting (Some []) c.take_copies.new.kept c.take_copies-2.new.kept first.replica one two) c.of.result c.requires.ready.settled c.of.ensures;

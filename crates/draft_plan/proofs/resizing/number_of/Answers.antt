@@ -6,8 +6,9 @@ use Rattle.origin_model.specs.order.Printed.{shown}
 use Rattle.origin_model.proofs.SharedLemmas.{order_total}
 use Rattle.section_catalogue.specs.Manuscript.{IsPlaceOf}
 use Rattle.section_list.specs.Cells.{section_shown_before}
-use Rattle.catalogue_notes.proofs.OutliningLemmas.{visible_listed, visible_place}
+use Rattle.catalogue_notes.proofs.OutliningLemmas.{visible_place}
 use Rattle.draft_plan.proofs.resizing.number_of.Goals as goal
+use Rattle.section_list.proofs.PlainLemmas.{visible_listed}
 
 pub returns-in-Some : goal.returns-in-Some
 returns-in-Some c =

@@ -20,10 +20,10 @@ returns-in-Err-clause-err c =
 
 pub overflow_sub-result : goal.overflow_sub-result
 overflow_sub-result c =
-    omega (arith, walk_grows _ _ _ _ _ c.lines.invariant.walk, ap length c.accepted.ensures.accepted, ap length c.accepted-before.ensures.accepted)
+    omega (arith, walk_grows _ _ _ _ _ c.lines.invariant.walk, c.len.ensures, c.len-before.ensures, ap length c.accepted-2.ensures.accepted, ap length c.accepted.ensures.accepted)
 
 pub returns-clause-ok : goal.returns-clause-ok
 returns-clause-ok c =
     let counted = walk_grows _ _ _ _ _ c.lines.invariant.walk in
     walk_over _ _ _ _ _ (walk_at_end _ _ _ _ _ c.lines.invariant.walk c.in_default.is)
-    (omega (arith, counted, ap length c.accepted.ensures.accepted, ap length c.accepted-before.ensures.accepted))
+    (omega (arith, counted, c.len.ensures, c.len-before.ensures, ap length c.accepted-2.ensures.accepted, ap length c.accepted.ensures.accepted))

@@ -2,8 +2,9 @@ use Rattle.std.proofs.Common.{◌≡◌, ap, sym, ◌∙◌, List, ℕ, length, 
 use Rattle.std.specs.Io.KnownBytes.{prepend_known}
 use Rattle.std.proofs.lemmas.List.{length-take-le}
 use Rattle.outer_ports.proofs.CountLemmas.{count_so, count_then}
-use Rattle.edit_script.proofs.SourceLemmas.{placed_longer, prepend_twice}
+use Rattle.edit_script.proofs.SourceLemmas.{placed_longer}
 use Rattle.edit_script.proofs.script.fill.Goals as goal
+use Rattle.fugue_ids.proofs.JoinLemmas.{prepend_twice}
 
 pub reads-preserved : goal.reads-preserved
 reads-preserved g c =

@@ -4,8 +4,9 @@ use Rattle.std.specs.Str.{chars}
 use Rattle.std.proofs.lemmas.Bool.{eqb-true}
 use Rattle.std.proofs.lemmas.Str.{chars-nil, IsUtf8-string_bytes}
 use Rattle.edit_script.specs.Grammar.{escaped}
-use Rattle.edit_script.proofs.EscapeLemmas.{all_read, chars_push, escaped_some, some_if, stuck, written_next}
+use Rattle.edit_script.proofs.EscapeLemmas.{all_read, chars_push, escaped_some, stuck, written_next}
 use Rattle.edit_script.proofs.text.read_text.Goals as goal
+use Rattle.fugue_ids.proofs.OptionLemmas.{some_if}
 
 pub scalars-init : goal.scalars-init
 scalars-init c = (c.utf8.text, sym (ap (λ (l : List ℕ). flat_map escaped l ++ c.args.text.now) (ap chars c.in_ok-new.ensures.bytes ∙ chars-nil)))

@@ -69,7 +69,7 @@ returns-clause-gives g c kept =
     false≢true (sym c.if-is_same.false ∙ c.is_same.ensures.1 (e ∙ sym (c.written.ensures ∙ c.in_ok-shown.ensures.shown))) in
     let read = subst (IsTextRead input) (sym c.as_slice-draft.ensures.value) c.in_ok-text.ensures.text in
     let counted : c.section_counts-sections.result ≡ section_counts now.held.history (drop (length (accepted c.args.replica.now.held.history)) (accepted now.held.history)) =
-    c.section_counts-sections.ensures ∙ ap (λ l. section_counts now.held.history (drop (length l) (accepted now.held.history))) c.accepted-before.ensures.accepted in
+    c.section_counts-sections.ensures ∙ ap (λ l. section_counts now.held.history (drop l (accepted now.held.history))) (c.len-before.ensures ∙ ap length c.accepted.ensures.accepted) in
     rw counted
     (draft_gives (change (g.G.Disk.seen c.args.base.now) (g.G.Disk.seen c.check_base.new.base)) input
     c.args.replica.now now ok.0 c.as_slice-draft.result.now made.0 _ kept ok.1 (text_left input _ read) ok.2 read.short other made.1 made.2 made.3 c.requires.ready.settled made.4)

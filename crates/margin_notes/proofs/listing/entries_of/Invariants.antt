@@ -6,4 +6,4 @@ use Rattle.margin_notes.proofs.listing.entries_of.Given as goal
 
 -- the entries are those of the operations that were passed
 abbrev pub invariant-walk : goal.invariant-walk
-invariant-walk l = Walks (IsPutDown (line_in l.replica.held.history) (entry_line (reverse l.replica.held.history)) l.ops l.entries.items) l.ops l.at-items l.at-index
+invariant-walk l = Walks (IsPutDown (line_in l.replica.held.history) (entry_line (reverse l.replica.held.history)) (reverse l.replica.held.history) l.entries.items) (reverse l.replica.held.history) l.at-items l.at-index

@@ -1,12 +1,12 @@
 use Rattle.std.proofs.Common.{ap, subst, sym, true, ◌||◌, ◌∙◌, ◌≡◌}
 use Rattle.std.specs.Prelude.{Some}
-use Rattle.std.proofs.lemmas.Bool.{true≢false}
+use Rattle.std.proofs.lemmas.Bool.{not-false, true≢false}
 use Rattle.std.proofs.lemmas.Option.{same_Some}
 use Rattle.fugue_ids.specs.Identifiers.{Identifier, id_eq}
 use Rattle.fugue_ids.proofs.IdentifierLemmas.{id_eq-true}
 use Rattle.origin_model.specs.declared.operations.Place.TheVariants.{Section as within}
 use Rattle.origin_model.specs.order.Order.{before}
-use Rattle.margin_notes.proofs.EntryLemmas.{not_other, section_none, section_some}
+use Rattle.margin_notes.proofs.EntryLemmas.{section_none, section_some}
 use Rattle.margin_notes.proofs.PlaceLemmas.{text_is_in}
 use Rattle.margin_notes.proofs.placing.section_of.Goals as goal
 
@@ -14,7 +14,7 @@ pub returns-then-is_in_order : goal.returns-then-is_in_order
 returns-then-is_in_order c = λ h st k e.
     let s = c.in_ok-section.section in
     let a = c.args.anchors.now in
-    let same : c.in_ok-other.other ≡ s = id_eq-true c.in_ok-other.other s (not_other (id_eq c.in_ok-other.other s) (sym c.ne.ensures ∙ c.if-ne.false)) in
+    let same : c.in_ok-other.other ≡ s = id_eq-true c.in_ok-other.other s (not-false (id_eq c.in_ok-other.other s) (sym c.ne.ensures ∙ c.if-ne.false)) in
     let first = sym (c.in_ok-section.ensures h st) in
     let last = sym (c.in_ok-other.ensures h st) ∙ ap Some same in
     section_some h a k s e (record {

@@ -1,4 +1,4 @@
-use Rattle.std.proofs.Common.{List, arith, get_or, length, subst, ◌<◌, ◌≡◌}
+use Rattle.std.proofs.Common.{List, arith, get_or, length, reverse, subst, ◌<◌, ◌≡◌}
 use Rattle.std.specs.Prelude.{Err, Ok}
 use Rattle.std.proofs.lemmas.Result.{err_from_is_err_and}
 use Rattle.fugue_ids.specs.Gathers.{GathersText}
@@ -12,7 +12,7 @@ entries-init g c = gathers_none tt _ _
 
 pub entries-preserved : goal.entries-preserved
 entries-preserved g c =
-    let f = entry_bytes c.args.ops.now in
+    let f = entry_bytes (reverse c.args.replica.now.held.history) in
     let xs : List Entry = c.args.entries.now in
     let below : c.entries.entry-index < length xs = omega (arith, c.entries-test.true) in
     let is : c.entry-item.result ≡ get_or xs c.entries.entry-index c.entry-item.result = c.entry-item.is in
@@ -21,7 +21,7 @@ entries-preserved g c =
 
 pub returns-in_err-put_line : goal.returns-in_err-put_line
 returns-in_err-put_line g c =
-    let f = entry_bytes c.args.ops.now in
+    let f = entry_bytes (reverse c.args.replica.now.held.history) in
     let xs : List Entry = c.args.entries.now in
     let below : c.entries.entry-index < length xs = omega (arith, c.entries-test.true) in
     let is : c.entry-item.result ≡ get_or xs c.entries.entry-index c.entry-item.result = c.entry-item.is in

@@ -1,4 +1,4 @@
-use Rattle.std.proofs.Common.{ap, subst, ◌∙◌}
+use Rattle.std.proofs.Common.{ap, reverse, subst, ◌∙◌}
 use Rattle.std.specs.Prelude.{flat_map}
 use Rattle.margin_notes.specs.Listing.{WritesMargins, entry_bytes}
 use Rattle.margin_notes.proofs.SortedLemmas.{entries_write}
@@ -8,7 +8,6 @@ pub returns-clause-text : goal.returns-clause-text
 returns-clause-text g c =
     let h = c.args.replica.now.held.history in
     subst (WritesMargins (g.O.Out.seen c.args.output.now) (g.O.Out.seen c.write_lines.new.output) c.told.result)
-    (ap (flat_map (entry_bytes c.accepted.result.now)) c.as_slice.ensures.value
-    ∙ ap (λ ops. flat_map (entry_bytes ops) c.in_ok-entries.entries.items) c.accepted.ensures.accepted
+    (ap (flat_map (entry_bytes (reverse h))) c.as_slice.ensures.value
     ∙ entries_write h c.in_ok-entries.entries.items c.in_ok-entries.ensures.entries)
     (c.told.ensures _ _ _ c.write_lines.ensures)

@@ -10,5 +10,5 @@ six_parts o a b c d e f o1 o2 o3 o4 o5 o6 o7 p0 p1 p2 p3 p4 p5 p6 = rw (p6, p5, 
 pub returns-in-Text-clause-ok : goal.returns-in-Text-clause-ok
 returns-in-Text-clause-ok c =
     six_parts _ _ _ _ _ _ _ _ _ _ _ _ _ _ c.reserve.ensures.items c.put.ensures.items c.put_id.ensures.items c.put_id-in-Text.ensures.items
-    c.put_origin.ensures.items c.put_origin-in-Text.ensures.items c.put_scalar.ensures.items
+    c.put_origin.ensures.items c.put_origin-in-Text.ensures.items c.put_scalar.ensures.puts.items
     ∙ ap (λ (l : List ℕ). c.args.out.now.items ++ l) (sym (ap frame c.in-Text.is))

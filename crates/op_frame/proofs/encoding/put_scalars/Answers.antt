@@ -1,17 +1,17 @@
-use Rattle.std.proofs.Common.{List, ap, append_assoc, arith, map, subst, sym, take, ℕ, ◌++◌, ◌∙◌}
+use Rattle.std.proofs.Common.{List, ap, append_assoc, arith, subst, take, ℕ, ◌++◌, ◌∙◌}
 use Rattle.std.specs.Prelude.{flat_map}
+use Rattle.std.specs.Char.{IsScalar}
 use Rattle.std.proofs.lemmas.List.Elements.{All-more}
-use Rattle.origin_model.specs.frames.Frames.{HasFrame, scalar_bytes}
-use Rattle.origin_model.specs.frames.Framings.{scalar_in}
-use Rattle.op_frame.proofs.EncodingLemmas.{scalars_more}
+use Rattle.origin_model.specs.frames.Frames.{scalar_bytes}
+use Rattle.op_frame.proofs.RunFrameLemmas.{scalars_more}
 use Rattle.op_frame.proofs.encoding.put_scalars.Goals as goal
 
-pub loop-op-preserved : goal.loop-op-preserved
-loop-op-preserved c = record {
-  items = c.put_scalar.ensures.items ∙ (λ i. c.loop-op.invariant.items i ++ scalar_bytes (c.scalar.ensures i))
-      ∙ append_assoc c.args.out.now.items (flat_map scalar_bytes (map scalar_in (take c.loop-op.op-index c.args.ops.now))) (scalar_bytes (scalar_in c.op-item.result))
-      ∙ ap (λ (l : List ℕ). c.args.out.now.items ++ l) (sym (scalars_more c.args.ops.now c.loop-op.op-index c.op-item.result c.loop-op-test.true c.op-item.is));
-  len = omega (arith, c.put_scalar.ensures.len, c.loop-op.invariant.len);
-  capacity = omega (arith, c.put_scalar.ensures.capacity, c.loop-op.invariant.capacity);
-  have_frames = All-more HasFrame c.args.ops.now c.loop-op.op-index c.op-item.result c.loop-op-test.true c.loop-op.invariant.have_frames (subst HasFrame c.op-item.is c.has_frame.ensures);
+pub loop-ch-preserved : goal.loop-ch-preserved
+loop-ch-preserved c = record {
+  items = c.put_scalar.ensures.puts.items ∙ ap (λ (l : List ℕ). l ++ scalar_bytes c.ch-item.result) c.loop-ch.invariant.items
+      ∙ append_assoc c.args.out.now.items (flat_map scalar_bytes (take c.loop-ch.ch-index c.args.text.now)) (scalar_bytes c.ch-item.result)
+      ∙ ap (λ (l : List ℕ). c.args.out.now.items ++ l) (scalars_more c.args.text.now c.loop-ch.ch-index c.ch-item.result c.loop-ch-test.true c.ch-item.is);
+  len = omega (arith, c.put_scalar.ensures.puts.len, c.loop-ch.invariant.len);
+  capacity = omega (arith, c.put_scalar.ensures.puts.capacity, c.loop-ch.invariant.capacity);
+  scalars = All-more IsScalar c.args.text.now c.loop-ch.ch-index c.ch-item.result c.loop-ch-test.true c.loop-ch.invariant.scalars (subst IsScalar c.ch-item.is c.put_scalar.ensures.scalar);
 }

@@ -1,15 +1,18 @@
-use Rattle.std.proofs.Common.{List, ap, append_assoc, ℕ, ◌++◌, ◌∙◌}
-use Rattle.origin_model.specs.frames.Frames.{item_bytes}
-use Rattle.op_frame.proofs.EncodingLemmas.{all_have, frames_more}
+use Rattle.std.proofs.Common.{List, [], ap, append_assoc, sym, ◌++◌, ◌∙◌}
+use Rattle.fugue_ids.specs.declared.op.Op.{Op}
+use Rattle.op_runs.specs.Slices.{stretch_ops}
+use Rattle.op_frame.specs.OpenRuns.{open_ops}
+use Rattle.op_frame.proofs.OpenRunLemmas.{takes_then}
 use Rattle.op_frame.proofs.encodings.encode_stretches.Goals as goal
 
 pub stretches-preserved : goal.stretches-preserved
 stretches-preserved c =
-    let stretch = c.stretch_len-count.ensures.stretch in
+    let is = c.stretches.invariant in
+    let ops : List Op = stretch_ops c.in-Some.stretch in
     record {
-      done = c.stretches.invariant.done ++ item_bytes stretch.item;
-      items = c.in_ok-encode_stretch.ensures.ok stretch.item stretch.ops_are stretch.has_length ∙ ap (λ (l : List ℕ). l ++ item_bytes stretch.item) c.stretches.invariant.items
-          ∙ append_assoc c.args.out.now.items c.stretches.invariant.done (item_bytes stretch.item);
-      frames_are = frames_more c.args.ops.now c.stretches.rest.now c.stretches.invariant.done c.stretch_len-count.result c.stretch_len-count.ensures c.stretches.invariant.frames_are;
-      have_frames = λ rest. c.stretches.invariant.have_frames (all_have c.stretches.rest.now c.stretch_len-count.result c.in_ok-encode_stretch.ensures.have_frames rest);
+      done = is.done ++ ops;
+      whole = is.whole ∙ ap (λ (l : List Op). is.done ++ l) c.in-Some.ensures.taken ∙ sym (append_assoc is.done ops c.next_stretch.new.self);
+      takes = takes_then [] (open_ops c.stretches.run.start c.stretches.run.text.items) (open_ops c.take_stretch.new.run.start c.take_stretch.new.run.text.items) c.args.out.now.items c.stretches.out.items
+          c.take_stretch.new.out.items is.done ops is.takes c.in_ok-take_stretch.ensures.takes;
+      is_open = c.in_ok-take_stretch.ensures.is_open;
     }

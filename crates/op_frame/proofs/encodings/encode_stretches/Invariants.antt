@@ -1,15 +1,14 @@
-use Rattle.std.proofs.Common.{List, length, ℕ, ◌++◌, ◌≡◌}
-use Rattle.std.specs.Prelude.{All}
-use Rattle.origin_model.specs.frames.Frames.{HasFrame}
-use Rattle.origin_model.specs.frames.Framings.{frames}
+use Rattle.std.proofs.Common.{List, [], length, ◌++◌, ◌≡◌}
+use Rattle.fugue_ids.specs.declared.op.Op.{Op}
+use Rattle.op_frame.specs.OpenRuns.{IsOpen, TakesIn, open_ops}
 use Rattle.op_frame.proofs.encodings.encode_stretches.Given as goal
 
 abbrev pub invariant-stretches : goal.invariant-stretches
 invariant-stretches l = record {
-  done : List ℕ;
-  items : l.out.items ≡ l.fn.out.items ++ done;
-  frames_are : frames l.ops ≡ done ++ frames l.rest;
-  have_frames : All HasFrame l.rest → All HasFrame l.ops;
+  done : List Op;
+  whole : l.fn.ops ≡ done ++ l.rest;
+  takes : TakesIn [] (open_ops l.run.start l.run.text.items) l.fn.out.items l.out.items done;
+  is_open : IsOpen l.run.start l.run.text.items;
 }
 
 abbrev pub decreases-stretches : goal.decreases-stretches

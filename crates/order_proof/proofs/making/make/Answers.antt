@@ -1,4 +1,4 @@
-use Rattle.std.proofs.Common.{ap, arith, length, reverse, sym, take, ◌++◌, ◌-◌, ◌∙◌}
+use Rattle.std.proofs.Common.{ap, arith, reverse, sym, take, ◌++◌, ◌-◌, ◌∙◌}
 unfoldable use Rattle.order_proof.specs.Making.{certificate}
 use Rattle.order_proof.proofs.MadeLemmas.{after_none, after_some, spent}
 use Rattle.order_proof.specs.Positions.{history_at}
@@ -9,9 +9,9 @@ pub steps-init : goal.steps-init
 steps-init g c =
     let ops = g.P.Positions.operations c.args.held.now in
     record {
-      rest = ap (λ s. s ++ certificate (history_at ops (length c.operations-end.result.now)) c.args.x c.args.y) c.new-steps.ensures.items
-          ∙ ap (λ h. certificate h c.args.x c.args.y) (ap (λ l. history_at ops (length l)) c.operations-end.ensures.accepted ∙ sym (all_ops ops));
-      within = omega (arith, ap length c.operations-end.ensures.accepted);
+      rest = ap (λ s. s ++ certificate (history_at ops c.count-end.result) c.args.x c.args.y) c.new-steps.ensures.items
+          ∙ ap (λ h. certificate h c.args.x c.args.y) (ap (history_at ops) c.count-end.ensures.count ∙ sym (all_ops ops));
+      within = omega (arith, c.count-end.ensures.count);
     }
 
 pub steps-preserved : goal.steps-preserved

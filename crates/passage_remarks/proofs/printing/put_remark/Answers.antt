@@ -1,4 +1,4 @@
-use Rattle.std.proofs.Common.{List, arith, subst, ◌++◌, ◌≡◌, ℕ}
+use Rattle.std.proofs.Common.{List, arith, reverse, subst, ◌++◌, ◌≡◌, ℕ}
 use Rattle.std.specs.Prelude.{Err}
 use Rattle.std.proofs.lemmas.Result.{err_from_is_err_and}
 use Rattle.fugue_ids.specs.Gathers.{GathersText}
@@ -23,7 +23,7 @@ cluster_text-requires g c =
 pub returns-in_err-put_head : goal.returns-in_err-put_head
 returns-in_err-put_head g c =
     let cs = clusters c.args.page.now in
-    let r : Remark = entry_remark c.args.ops.now c.args.entry.now in
+    let r : Remark = entry_remark (reverse c.args.replica.now.held.history) c.args.entry.now in
     let first = c.first_cluster-first.result in
     let count = c.cluster_count-count.result in
     let p = err_from_is_err_and c.from_residual.result c.from_residual.ensures.1 in
@@ -34,7 +34,7 @@ returns-in_err-put_head g c =
 pub returns : goal.returns
 returns g c =
     let cs = clusters c.args.page.now in
-    let r : Remark = entry_remark c.args.ops.now c.args.entry.now in
+    let r : Remark = entry_remark (reverse c.args.replica.now.held.history) c.args.entry.now in
     let first = c.first_cluster-first.result in
     let count = c.cluster_count-count.result in
     subst (GathersText {T = Unit {0}} (g.O.Out.seen c.args.output.now) (g.O.Out.seen c.put_passage.new.output) c.args.gather.now c.put_passage.new.gather c.put_passage.result)

@@ -1,4 +1,4 @@
-use Rattle.std.proofs.Common.{List, arith, get_or, length, reverse, subst, sym, ◌+◌, ◌<◌, ◌∙◌, ◌≡◌, ℕ}
+use Rattle.std.proofs.Common.{List, ap, arith, get_or, length, reverse, subst, sym, ◌+◌, ◌<◌, ◌∙◌, ◌≡◌, ℕ}
 use Rattle.std.specs.Prelude.{Err, Ok}
 use Rattle.std.specs.Str.{encode_utf8_all}
 use Rattle.std.proofs.lemmas.Result.{err_from_is_err_and}
@@ -34,9 +34,9 @@ bounds-pages-place g c =
     (page_there h (entry_remark (reverse h) e) c.args.pages.now (encode_utf8_all (text h e.section)) c.requires.pages p).0
 
 -- what was told of an entry, by its page
-told : (h ops : List Op) (page : List ℕ) (n : ℕ) (e : Entry) → page ≡ encode_utf8_all (text h e.section) → ops ≡ reverse h
-    → remark_told (clusters page) n (entry_remark ops e) ≡ remark_told (clusters_of h e.section) n (entry_remark (reverse h) e)
-told h ops page n e p o = λ i. remark_told (clusters (p i)) n (entry_remark (o i) e)
+told : (h : List Op) (page : List ℕ) (n : ℕ) (e : Entry) → page ≡ encode_utf8_all (text h e.section)
+    → remark_told (clusters page) n (entry_remark (reverse h) e) ≡ remark_told (clusters_of h e.section) n (entry_remark (reverse h) e)
+told h page n e p = ap (λ z. remark_told (clusters z) n (entry_remark (reverse h) e)) p
 
 pub remarks-preserved : goal.remarks-preserved
 remarks-preserved g c =
@@ -50,7 +50,7 @@ remarks-preserved g c =
     let page_is = c.index-pages-place.is ∙ (page_there h (entry_remark (reverse h) e) c.args.pages.now page c.requires.pages p).1 in
     under_way_grows _ _ _ _ _ _ _ _ _ _ c.remarks.invariant (remarks_next h (entry_remark (reverse h)) xs i e below c.index-entries-at.is)
     (subst (GathersText {T = Unit {0}} (g.O.Out.seen c.remarks.output) (g.O.Out.seen c.put_remark.new.output) c.remarks.gather c.put_remark.new.gather (Ok tt))
-    (told h c.accepted-ops.result.now page (i + 1) e page_is c.accepted-ops.ensures.accepted) c.in_ok-put_remark.ensures)
+    (told h page (i + 1) e page_is) c.in_ok-put_remark.ensures)
 
 pub returns-in_err-put_remark : goal.returns-in_err-put_remark
 returns-in_err-put_remark g c =
@@ -65,7 +65,7 @@ returns-in_err-put_remark g c =
     let p = err_from_is_err_and c.from_residual.result c.from_residual.ensures.1 in
     rw p.1 (under_way_stops _ _ _ _ _ _ _ _ _ _ c.remarks.invariant (remarks_next h (entry_remark (reverse h)) xs i e below c.index-entries-at.is)
     (subst (GathersText {T = Unit {0}} (g.O.Out.seen c.remarks.output) (g.O.Out.seen c.put_remark.new.output) c.remarks.gather c.put_remark.new.gather (Err (record {})))
-    (told h c.accepted-ops.result.now page (i + 1) e page_is c.accepted-ops.ensures.accepted) c.in_err-put_remark.ensures))
+    (told h page (i + 1) e page_is) c.in_err-put_remark.ensures))
 
 pub returns : goal.returns
 returns g c =

@@ -1,7 +1,8 @@
 use Rattle.std.proofs.Common.{[], ◌++◌, ◌∙◌, ◌∷◌, refl, sym}
 use Rattle.std.proofs.lemmas.Bool.{eqb-true}
-use Rattle.passage_remarks.proofs.SpellingLemmas.{one_more, some_if, some_unless, spelled_some, spells, stuck, unless_some}
+use Rattle.passage_remarks.proofs.SpellingLemmas.{one_more, some_unless, spelled_some, spells, stuck, unless_some}
 use Rattle.passage_remarks.proofs.spelling.is_spelled.Goals as goal
+use Rattle.fugue_ids.proofs.OptionLemmas.{some_if}
 
 pub bytes-preserved : goal.bytes-preserved
 bytes-preserved c = (c.bytes.invariant.0 ++ c.in-Some._byte ∷ [], one_more _ c.bytes.invariant.0 c.bytes.rest.now c.in-Some.behind.now c.in-Some._byte c.bytes.invariant.1 c.in-Some.ensures.some)

@@ -1,15 +1,19 @@
-use Rattle.std.proofs.Common.{◌∙◌, ap, sym, ◌+◌, false}
-use Rattle.std.specs.Prelude.{option_map, position}
-use Rattle.std.proofs.lemmas.List.{take_rest}
-use Rattle.replica_core.proofs.PositionLemmas.{found_behind}
+use Rattle.std.proofs.Common.{arith, sym, ◌∙◌, false}
+use Rattle.replica_core.proofs.PositionLemmas.{none_before, part_fails, part_passes, part_within}
 use Rattle.replica_core.proofs.due.first_behind.Goals as goal
 
 pub returns-in-Some : goal.returns-in-Some
 returns-in-Some c =
-    ap (option_map (λ k. c.args.clear + k)) (sym c.in-Some.is ∙ c.first_set.ensures ∙ ap (position (λ mark. mark)) (take_rest c.args.marks.now c.args.clear))
-    ∙ found_behind (λ mark. mark) c.args.marks.now c.args.clear false c.requires.within c.requires.front
+    part_passes (λ mark. mark) c.args.marks.now.items c.stretch-stretch.result.now c.stretches.passed false c.stretches.invariant.within c.stretches.invariant.front c.stretch-stretch.ensures.items
+    c.in-Some.position (sym c.first_set.ensures ∙ c.in-Some.is)
 
-pub returns-in-None : goal.returns-in-None
-returns-in-None c =
-    ap (option_map (λ k. c.args.clear + k)) (sym c.in-None.is ∙ c.first_set.ensures ∙ ap (position (λ mark. mark)) (take_rest c.args.marks.now c.args.clear))
-    ∙ found_behind (λ mark. mark) c.args.marks.now c.args.clear false c.requires.within c.requires.front
+pub stretches-preserved : goal.stretches-preserved
+stretches-preserved c = record {
+  within = part_within (λ mark. mark) c.args.marks.now.items c.stretch-stretch.result.now c.stretches.passed false c.stretches.invariant.within c.stretches.invariant.front
+      c.stretch-stretch.ensures.items;
+  front = part_fails (λ mark. mark) c.args.marks.now.items c.stretch-stretch.result.now c.stretches.passed false c.stretches.invariant.within c.stretches.invariant.front
+      c.stretch-stretch.ensures.items (sym c.first_set.ensures ∙ c.in_default.is);
+}
+
+pub returns : goal.returns
+returns c = none_before (λ mark. mark) c.args.marks.now.items c.stretches.passed false (omega (arith, c.stretches-test.false, c.len.ensures)) c.stretches.invariant.front

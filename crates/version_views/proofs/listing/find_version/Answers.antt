@@ -5,7 +5,7 @@ use Rattle.fugue_ids.specs.declared.op.Op.{Op}
 use Rattle.replica_core.specs.Index.{is_section_or_note}
 use Rattle.replica_core.proofs.WalkLemmas.{passed_all, walk_begins, walk_comes, walk_ends, walk_goes_on}
 use Rattle.version_views.specs.Versions.{is_version}
-use Rattle.version_views.proofs.VersionLemmas.{last_is_newest, newest, newest_more, no_version}
+use Rattle.version_views.proofs.VersionLemmas.{last_is_newest, newest, newest_more, no_version, version_there}
 use Rattle.version_views.proofs.listing.find_version.Goals as goal
 use Rattle.version_views.proofs.listing.find_version.Goals.{then-is_named, else-is_named}
 
@@ -26,44 +26,37 @@ between r h name ops found i op below is other = passed r h name ops found i op 
 pub walk-init : goal.walk-init
 walk-init c =
     let h : List Op = c.args.replica.now.held.history in
-    walk_begins _ h c.accepted-ops.result.now c.sections_and_notes-count-items.result.now c.accepted-ops.ensures.accepted c.sections_and_notes-count-items.ensures.positions refl
-
-pub bounds-ops-count : goal.bounds-ops-count
-bounds-ops-count c =
-    let ops : List Op = c.accepted-ops.result.now in
-    let s = c.args.replica.now in
-    (walk_comes (P s.number s.held.history c.args.name.now ops c.walk.found) ops (between s.number s.held.history c.args.name.now ops c.walk.found) c.sections_and_notes-count-items.result.now c.walk.count-index c.walk-test.true c.walk.invariant).below
-
-pub offset_bounds-ops-count : goal.offset_bounds-ops-count
-offset_bounds-ops-count c = omega (arith, bounds-ops-count c, c.accepted-ops.ensures.stands.few, c.accepted-ops.ensures.stands.most_within.1)
+    walk_begins _ h (reverse h) c.sections_and_notes-count-items.result.now refl c.sections_and_notes-count-items.ensures.positions refl
 
 pub walk-preserved : goal.walk-preserved
 walk-preserved c =
-    let ops : List Op = c.accepted-ops.result.now in
     let s = c.args.replica.now in
+    let h : List Op = s.held.history in
+    let ops : List Op = reverse h in
     let name : List ℕ = c.args.name.now in
     let positions : List ℕ = c.sections_and_notes-count-items.result.now in
     let k : ℕ = c.walk.count-index in
     let p : ℕ = get_or positions k 0 in
-    let old = P s.number s.held.history name ops c.walk.found in
-    let at = walk_comes old ops (between s.number s.held.history name ops c.walk.found) positions k c.walk-test.true c.walk.invariant in
-    let more = newest_more s.number s.held.history name ops p c.index-ops-count.result at.below c.index-ops-count.is in
-    let pick : Bool → Option ℕ = λ b. if b then Some p else newest s.number s.held.history name (reverse (take p ops)) in
+    let old = P s.number h name ops c.walk.found in
+    let at = walk_comes old ops (between s.number h name ops c.walk.found) positions k c.walk-test.true c.walk.invariant in
+    let more = newest_more s.number h name ops p at.op at.below at.is in
+    let named = sym (version_there s.number h name p at.op at.there) ∙ sym c.is_named.ensures in
+    let pick : Bool → Option ℕ = λ b. if b then Some p else newest s.number h name (reverse (take p ops)) in
     elim c.if-is_named.branch [
       | then-is_named w ↦
-          walk_goes_on old (P s.number s.held.history name ops c.if-is_named.found) ops positions k p at
-          (w.found-is ∙ sym (more ∙ ap pick (sym c.is_named.ensures ∙ w.if-is_named.true)))
+          walk_goes_on old (P s.number h name ops c.if-is_named.found) ops positions k p at
+          (w.found-is ∙ sym (more ∙ ap pick (named ∙ w.if-is_named.true)))
       | else-is_named w ↦
-          walk_goes_on old (P s.number s.held.history name ops c.if-is_named.found) ops positions k p at
-          (w.found-is ∙ at.holds ∙ sym (more ∙ ap pick (sym c.is_named.ensures ∙ w.if-is_named.false)))
+          walk_goes_on old (P s.number h name ops c.if-is_named.found) ops positions k p at
+          (w.found-is ∙ at.holds ∙ sym (more ∙ ap pick (named ∙ w.if-is_named.false)))
     ]
 
 pub returns-clause-version : goal.returns-clause-version
 returns-clause-version c =
-    let ops : List Op = c.accepted-ops.result.now in
     let r = c.args.replica.now.number in
     let h : List Op = c.args.replica.now.held.history in
+    let ops : List Op = reverse h in
     let name : List ℕ = c.args.name.now in
     walk_ends (P r h name ops c.walk.found) ops (between r h name ops c.walk.found) c.sections_and_notes-count-items.result.now c.walk.count-index (omega (arith, c.walk-test.false)) c.walk.invariant
-    ∙ ap (newest r h name) (passed_all ops (length ops) (omega arith) ∙ ap reverse c.accepted-ops.ensures.accepted ∙ reverse-reverse h)
+    ∙ ap (newest r h name) (passed_all ops (length ops) (omega arith) ∙ reverse-reverse h)
     ∙ sym (last_is_newest r h name h)

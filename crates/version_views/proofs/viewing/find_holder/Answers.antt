@@ -1,6 +1,6 @@
-use Rattle.std.proofs.Common.{ap, get_or, sym, ◌∙◌}
+use Rattle.std.proofs.Common.{ap, sym, ◌∙◌}
 use Rattle.std.proofs.lemmas.Bool.{le-ltb}
-use Rattle.version_views.proofs.FrontLemmas.{held_first, is_below, lacked_first}
+use Rattle.version_views.proofs.FrontLemmas.{get_first, is_below, lacked_first}
 use Rattle.version_views.proofs.viewing.find_holder.Goals as goal
 
 pub returns-in_err-at : goal.returns-in_err-at
@@ -9,8 +9,8 @@ returns-in_err-at c =
 
 pub returns-then-at-n : goal.returns-then-at-n
 returns-then-at-n c =
-    held_first c.args.n c.args.replica.now.held.history c.args.id c.in_ok-at.at c.index-accepted-at.result c.position.ensures.stands.lawful c.requires (sym c.in_ok-at.ensures.position) c.if-at-n.true
-    (c.index-accepted-at.is ∙ ap (λ l. get_or l c.in_ok-at.at c.index-accepted-at.result) c.accepted.ensures.accepted)
+    c.operation.ensures.operation
+    ∙ get_first c.args.n c.args.replica.now.held.history c.args.id c.in_ok-at.at c.position.ensures.stands.lawful c.requires (sym c.in_ok-at.ensures.position) c.if-at-n.true
 
 pub returns-else-at-n : goal.returns-else-at-n
 returns-else-at-n c =

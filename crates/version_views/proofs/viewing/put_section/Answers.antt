@@ -5,6 +5,7 @@ use Rattle.std.specs.Str.{encode_utf8_all}
 use Rattle.std.proofs.lemmas.Result.{err_from_is_err_and}
 use Rattle.fugue_ids.specs.Gathers.{GathersText}
 use Rattle.fugue_ids.proofs.GatherLemmas.{gathers_join, gathers_none, gathers_stop}
+use Rattle.op_runs.specs.Finding.{op_of}
 use Rattle.origin_model.specs.declared.operations.Place.TheVariants.{Section as within}
 use Rattle.origin_model.specs.order.Printed.{printed_section, text}
 use Rattle.origin_model.proofs.SharedLemmas.{order_total}
@@ -24,7 +25,7 @@ returns-in_err-put_heading-in-Some g c =
     let body = encode_utf8_all (text f c.args.section) in
     let p = err_from_is_err_and c.from_residual.result c.from_residual.ensures.1 in
     rw p.1 (subst (GathersText {T = Unit {0}} (g.O.Out.seen c.args.output.now) (g.O.Out.seen c.put_heading.new.out) c.args.gather.now c.put_heading.new.self (Err (record {})))
-    (ap (λ t. (codes "# " ++ t ++ 10 ∷ []) ++ (body ++ 10 ∷ [])) c.title_in.ensures ∙ section_shown f c.args.section c.in-Some.op.now c.in-Some.ensures)
+    (ap (λ t. (codes "# " ++ t ++ 10 ∷ []) ++ (body ++ 10 ∷ [])) c.title_in.ensures ∙ section_shown f c.args.section (op_of c.in-Some.op) c.in-Some.ensures)
     (gathers_stop {T = Unit {0}} {S = Unit {0}} _ _ _ _ (codes "# " ++ title ++ 10 ∷ []) (body ++ 10 ∷ []) c.in_err-put_heading-in-Some.ensures))
 
 pub returns-in_err-put_elements-in-Some : goal.returns-in_err-put_elements-in-Some
@@ -35,7 +36,7 @@ returns-in_err-put_elements-in-Some g c =
     let body = flat_map (scalar_part (first_ops c.args.n h)) ids in
     let p = err_from_is_err_and c.from_residual-in_err-put_elements-in-Some.result c.from_residual-in_err-put_elements-in-Some.ensures.1 in
     rw p.1 (subst (GathersText {T = Unit {0}} (g.O.Out.seen c.args.output.now) (g.O.Out.seen c.put_elements.new.output) c.args.gather.now c.put_elements.new.gather (Err (record {})))
-    (section_put c.args.n h c.args.section c.in-Some.op.now title ids c.elements_of.ensures.stands.lawful c.title_in.ensures c.elements_of.ensures.elements c.in-Some.ensures)
+    (section_put c.args.n h c.args.section (op_of c.in-Some.op) title ids c.elements_of.ensures.stands.lawful c.title_in.ensures c.elements_of.ensures.elements c.in-Some.ensures)
     (gathers_join {T = Unit {0}} {S = Unit {0}} tt (Err (record {})) _ _ _ _ _ _ (codes "# " ++ title ++ 10 ∷ []) (body ++ 10 ∷ []) c.in_ok-put_heading-in-Some.ensures
     (gathers_stop {T = Unit {0}} {S = Unit {0}} _ _ _ _ body (10 ∷ []) c.in_err-put_elements-in-Some.ensures)))
 
@@ -46,7 +47,7 @@ returns-in_ok-put_elements-in-Some g c =
     let ids = section_cell_ids c.elements_of.result.now.cells in
     let body = flat_map (scalar_part (first_ops c.args.n h)) ids in
     subst (GathersText {T = Unit {0}} (g.O.Out.seen c.args.output.now) (g.O.Out.seen c.put.new.out) c.args.gather.now c.put.new.self c.put.result)
-    (section_put c.args.n h c.args.section c.in-Some.op.now title ids c.elements_of.ensures.stands.lawful c.title_in.ensures c.elements_of.ensures.elements c.in-Some.ensures)
+    (section_put c.args.n h c.args.section (op_of c.in-Some.op) title ids c.elements_of.ensures.stands.lawful c.title_in.ensures c.elements_of.ensures.elements c.in-Some.ensures)
     (gathers_join {T = Unit {0}} {S = Unit {0}} tt c.put.result _ _ _ _ _ _ (codes "# " ++ title ++ 10 ∷ []) (body ++ 10 ∷ []) c.in_ok-put_heading-in-Some.ensures
     (gathers_join {T = Unit {0}} {S = Unit {0}} tt c.put.result _ _ _ _ _ _ body (10 ∷ []) c.in_ok-put_elements-in-Some.ensures c.put.ensures))
 

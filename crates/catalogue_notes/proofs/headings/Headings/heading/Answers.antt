@@ -2,7 +2,6 @@ use Rattle.std.proofs.Common.{ap, subst, sym, true, ◌∙◌, ◌≡◌}
 use Rattle.std.specs.Str.{encode_utf8_all}
 use Rattle.catalogue_notes.specs.Arranged.{heading}
 use Rattle.catalogue_notes.specs.Lift.{is_section}
-use Rattle.catalogue_notes.specs.Printing.{title_of_op}
 use Rattle.catalogue_notes.proofs.PrintingLemmas.{heading_found}
 use Rattle.catalogue_notes.proofs.headings.Headings.heading.Goals as goal
 
@@ -10,6 +9,6 @@ pub returns : goal.returns
 returns c =
     let h = c.self.inside.replica.now.held.history in
     let s = c.args.section in
-    c.title_given.ensures ∙ ap title_of_op c.title_giver.ensures
+    c.title_of.ensures
     ∙ heading_found h c.self.inside.layout s c.self.invariant.0 c.self.invariant.1 (subst (λ l. is_section l s ≡ true) (sym c.self.view_is) c.requires)
     ∙ ap (λ l. encode_utf8_all (heading l s)) c.self.view_is

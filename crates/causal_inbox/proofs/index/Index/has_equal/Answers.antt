@@ -15,20 +15,20 @@ tried passes items list i answer read within is = subst (λ l. (i < length l) ×
 
 pub loop-age-preserved : goal.loop-age-preserved
 loop-age-preserved c =
-    let passes : ℕ → Bool = λ a. is_equal_at c.args.ops.now c.args.op.now (position_or_len (λ b. nat_eq b a) c.args.self.now.ages) in
+    let passes : ℕ → Bool = λ a. is_equal_at c.args.ops.now.items c.args.op.now (position_or_len (λ b. nat_eq b a) c.args.self.now.ages.items) in
     let list = ages_under c.args.self.now.lists (main_key c.args.op.now) in
     let t = tried passes _ list c.loop-age.age-index false (c.list_under-age-items.ensures ∙ ap (ages_under c.args.self.now.lists) c.main_key-key.ensures) c.loop-age-test.true
-    (ap (is_equal_at c.args.ops.now c.args.op.now) (sym (c.position.ensures ∙ ap (position_or_len _) c.as_slice.ensures)) ∙ sym c.equals_at.ensures ∙ c.if-equals_at.false) in
+    (ap (is_equal_at c.args.ops.now.items c.args.op.now) (sym c.position.ensures) ∙ sym c.equals_at.ensures ∙ c.if-equals_at.false) in
     list_any_more passes list c.loop-age.age-index 0 t.0 ∙ or_from _ _ c.loop-age.invariant t.1
 
 pub returns-then-equals_at : goal.returns-then-equals_at
 returns-then-equals_at c =
-    let passes : ℕ → Bool = λ a. is_equal_at c.args.ops.now c.args.op.now (position_or_len (λ b. nat_eq b a) c.args.self.now.ages) in
+    let passes : ℕ → Bool = λ a. is_equal_at c.args.ops.now.items c.args.op.now (position_or_len (λ b. nat_eq b a) c.args.self.now.ages.items) in
     let list = ages_under c.args.self.now.lists (main_key c.args.op.now) in
     let t = tried passes _ list c.loop-age.age-index true (c.list_under-age-items.ensures ∙ ap (ages_under c.args.self.now.lists) c.main_key-key.ensures) c.loop-age-test.true
-    (ap (is_equal_at c.args.ops.now c.args.op.now) (sym (c.position.ensures ∙ ap (position_or_len _) c.as_slice.ensures)) ∙ sym c.equals_at.ensures ∙ c.if-equals_at.true) in
+    (ap (is_equal_at c.args.ops.now.items c.args.op.now) (sym c.position.ensures) ∙ sym c.equals_at.ensures ∙ c.if-equals_at.true) in
     sym (list_any_at passes list c.loop-age.age-index 0 t.0 t.1) ∙ ap (list_any passes) (c.requires.listed (main_key c.args.op.now))
-    ∙ equal_found c.args.op.now c.args.ops.now c.args.self.now.ages c.requires.one_each c.requires.rise
+    ∙ equal_found c.args.op.now c.args.ops.now.items c.args.self.now.ages.items c.requires.one_each c.requires.rise
 
 pub returns : goal.returns
 returns c =
@@ -36,4 +36,4 @@ returns c =
     let read : c.list_under-age-items.result.now ≡ list = c.list_under-age-items.ensures ∙ ap (ages_under c.args.self.now.lists) c.main_key-key.ensures in
     let all : length list ≤ c.loop-age.age-index = omega (arith, c.loop-age-test.false, ap length read) in
     sym c.loop-age.invariant ∙ ap (list_any _) (take_all c.loop-age.age-index list all ∙ c.requires.listed (main_key c.args.op.now))
-    ∙ equal_found c.args.op.now c.args.ops.now c.args.self.now.ages c.requires.one_each c.requires.rise
+    ∙ equal_found c.args.op.now c.args.ops.now.items c.args.self.now.ages.items c.requires.one_each c.requires.rise

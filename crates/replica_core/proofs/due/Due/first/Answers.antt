@@ -1,4 +1,4 @@
-use Rattle.std.proofs.Common.{ap, arith, sym, ◌∙◌, ◌≡◌, Bool, List, false}
+use Rattle.std.proofs.Common.{arith, sym, ◌∙◌, ◌≡◌, Bool, List, false}
 use Rattle.std.specs.Prelude.{Some, position}
 use Rattle.std.proofs.lemmas.List.Quantifiers.{position-Some}
 use Rattle.replica_core.proofs.PositionLemmas.{none_found}
@@ -9,8 +9,8 @@ returns-then-is_clear-clause-first c = sym (none_found (λ mark. mark) c.args.se
 
 pub invariant_of-self : goal.invariant_of-self
 invariant_of-self c =
-    let marks : List Bool = c.self.inside.marks in
+    let marks : List Bool = c.self.inside.marks.items in
     let found : position (λ mark. mark) marks ≡ Some c.in_ok-position.position =
-    ap (position (λ mark. mark)) (sym c.as_slice.ensures) ∙ sym c.first_behind.ensures ∙ c.in_ok-position.was in
+    sym c.first_behind.ensures ∙ c.in_ok-position.was in
     let first = position-Some (λ mark. mark) marks c.in_ok-position.position false found in
     record { counted = c.self.invariant.counted; front = first.2; within = omega (arith, first.0) }

@@ -9,5 +9,5 @@ pub returns : goal.returns
 returns c =
     let index = c.self.inside.index in
     c.is_target.ensures
-    ∙ target_held index.positions.values index.targets.values (reverse c.self.inside.ops.items) c.args.target c.self.invariant.indexed
+    ∙ target_held index.positions.values index.targets.values (reverse c.self.inside.ops) c.args.target c.self.invariant.indexed
     ∙ ap (λ h. has_op h (Delete c.args.target)) c.self.view_is

@@ -10,5 +10,5 @@ returns c =
     let Holds : State → Type 0 = λ s. answer s.hold s.most s.held c.args.op.now ≡ answer_by_decision (nat_eq (length s.held.waiting) s.hold) c.decide.result in
     subst Holds c.self.view_is
     (decision_by c.self.inside.hold c.self.inside.most (record { history = c.self.inside.accepted; waiting = c.self.inside.inbox.ops })
-    c.args.op.now c.find.result c.verdict.result c.ops.result.now c.ops-2.result.now c.decide.result
-    c.find.ensures.same c.find.ensures.clash c.find.ensures.absent c.verdict.ensures c.ops.ensures.accepted c.ops-2.ensures.ops c.decide.ensures)
+    c.args.op.now c.find.result c.verdict.result c.len.result c.len-2.result c.decide.result
+    c.find.ensures.same c.find.ensures.clash c.find.ensures.absent c.verdict.ensures c.len.ensures c.len-2.ensures.len c.decide.ensures)

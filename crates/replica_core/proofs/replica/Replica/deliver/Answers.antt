@@ -19,40 +19,30 @@ accepts s now new op same answered is stands =
     let IsAccepted : State → Type 0 = λ x. answer x.hold x.most x.held op ≡ Accepted in
     stands_by_accept s new op (subst IsAccepted (sym same) answered) is stands
 
--- what is so after `open_and_wake`, which leaves the inbox as it was
-woken : (s now : State) (new : List Op) (op : Op) (before after : Waiting) → s ≡ now → before.ops ≡ s.held.waiting → after ≡ before
-    → answer now.hold now.most now.held op ≡ Accepted → new ≡ op ∷ s.held.history → Stands s
-    → Stands (record s { held = record { history = new; waiting = after.ops } })
-woken s now new op before after same waiting left answered is stands =
-    let ops_of : Waiting → List Op = λ i. i.ops in
-    subst (λ (w : List Op). Stands (record s { held = record { history = new; waiting = w } })) (sym (ap ops_of left ∙ waiting)) (accepts s now new op same answered is stands)
-
 pub accept-requires-clause-ready : goal.accept-requires-clause-ready
 accept-requires-clause-ready c =
     let i = c.self.inside in
     let s : State = replica_state i.number i.hold i.most i.accepted i.inbox in
     accepted_is_ready s.hold s.most s.held c.args.op (subst (λ (x : State). answer x.hold x.most x.held c.args.op ≡ Accepted) (sym c.self.view_is) c.in-Ready.ensures)
 
-pub open_and_wake-requires-clause-once : goal.open_and_wake-requires-clause-once
-open_and_wake-requires-clause-once c =
+pub wake-requires-clause-once : goal.wake-requires-clause-once
+wake-requires-clause-once c =
     (accepts _ c.args.self.now c.accept.new.self c.args.op c.self.view_is c.in-Ready.ensures c.in-Ok.ensures.ok c.self.invariant.stands).once
 
-pub open_and_wake-requires-clause-own_ids : goal.open_and_wake-requires-clause-own_ids
-open_and_wake-requires-clause-own_ids c =
+pub wake-requires-clause-own_ids : goal.wake-requires-clause-own_ids
+wake-requires-clause-own_ids c =
     (accepts _ c.args.self.now c.accept.new.self c.args.op c.self.view_is c.in-Ready.ensures c.in-Ok.ensures.ok c.self.invariant.stands).own_ids
 
 pub invariant_of-self : goal.invariant_of-self
 invariant_of-self c = record {
-  same_hold = ap (λ (i : Waiting). i.hold) c.open_and_wake.ensures.inbox ∙ c.self.invariant.same_hold;
-  stands = woken _ c.args.self.now c.accept.new.self c.args.op c.self.inside.inbox c.open_and_wake.new.inbox c.self.view_is refl c.open_and_wake.ensures.inbox
-      c.in-Ready.ensures c.in-Ok.ensures.ok c.self.invariant.stands;
-  marks = c.open_and_wake.ensures.marks ∙ ap (λ (i : Waiting). due_marks c.accept.new.self i.ops) (sym c.open_and_wake.ensures.inbox);
+  same_hold = c.self.invariant.same_hold;
+  stands = accepts _ c.args.self.now c.accept.new.self c.args.op c.self.view_is c.in-Ready.ensures c.in-Ok.ensures.ok c.self.invariant.stands;
+  marks = c.wake.ensures;
+  closed = c.self.invariant.closed;
 }
 
 pub returns-in-Ok-clause-stands : goal.returns-in-Ok-clause-stands
-returns-in-Ok-clause-stands c =
-    woken _ c.args.self.now c.accept.new.self c.args.op c.self.inside.inbox c.open_and_wake.new.inbox c.self.view_is refl c.open_and_wake.ensures.inbox
-    c.in-Ready.ensures c.in-Ok.ensures.ok c.self.invariant.stands
+returns-in-Ok-clause-stands c = accepts _ c.args.self.now c.accept.new.self c.args.op c.self.view_is c.in-Ready.ensures c.in-Ok.ensures.ok c.self.invariant.stands
 
 -- what is so after `wait`
 record Waited (s : State) (inbox : Waiting) (marks : List Bool) : Type 0 where
@@ -71,11 +61,11 @@ waited c =
     let comes : Comes s = subst Comes (sym c.self.view_is) c.in-Missing.ensures in
     let hold_of : Waiting → ℕ = λ i. i.hold in
     let ops_of : Waiting → List Op = λ i. i.ops in
-    let same : c.wait.new.inbox ≡ c.self.inside.inbox → c.wait.new.due ≡ c.self.inside.due → Waited s c.wait.new.inbox c.wait.new.due =
+    let same : c.wait.new.inbox.ops ≡ w → c.wait.new.due ≡ c.self.inside.due → Waited s c.wait.new.inbox c.wait.new.due =
     λ e d. record {
-      same_hold = ap hold_of e ∙ c.self.invariant.same_hold;
-      stands = stands_same s (record { history = h; waiting = c.wait.new.inbox.ops }) (ap (λ (i : Waiting). record { history = h; waiting = i.ops }) e) c.self.invariant.stands;
-      marks_right = d ∙ c.self.invariant.marks ∙ ap (due_marks h) (sym (ap ops_of e));
+      same_hold = c.wait.ensures.hold ∙ c.self.invariant.same_hold;
+      stands = stands_same s (record { history = h; waiting = c.wait.new.inbox.ops }) (ap (λ (ops : List Op). record { history = h; waiting = ops }) e) c.self.invariant.stands;
+      marks_right = d ∙ c.self.invariant.marks ∙ ap (due_marks h) (sym e);
     } in
     elim c.match-wait.branch [
       | in-Ok-wait v ↦ record {
@@ -92,7 +82,7 @@ waited c =
     ]
 
 pub invariant_of-self-in-Missing : goal.invariant_of-self-in-Missing
-invariant_of-self-in-Missing c = let p = waited c in record { same_hold = p.same_hold; stands = p.stands; marks = p.marks_right }
+invariant_of-self-in-Missing c = let p = waited c in record { same_hold = p.same_hold; stands = p.stands; marks = p.marks_right; closed = c.wait.ensures.closed c.self.invariant.closed }
 
 pub returns-after-wait-clause-stands : goal.returns-after-wait-clause-stands
 returns-after-wait-clause-stands c = (waited c).stands

@@ -12,6 +12,7 @@ invariant_of-self-2 c =
     let can : CanJoin s (c.args.op ∷ []) = subst (λ s. CanJoin s (c.args.op ∷ [])) (sym c.self.view_is) c.requires in
     record {
       same_hold = c.self.invariant.same_hold;
+      closed = c.self.invariant.closed;
       stands = joined_stands s c.args.op c.accept.new.self can c.self.invariant.stands c.in-Ok.ensures.ok;
       marks = c.self.invariant.marks ∙ joined_marks s c.args.op c.accept.new.self can c.in-Ok.ensures.ok;
     }

@@ -1,4 +1,4 @@
-use Rattle.std.proofs.Common.{ap, subst, sym, ◌∙◌, ◌≡◌}
+use Rattle.std.proofs.Common.{ap, arith, length, subst, sym, ◌+◌, ◌∙◌, ◌≡◌, ◌≤◌}
 use Rattle.std.specs.Prelude.{List}
 use Rattle.fugue_ids.specs.declared.op.Op.{Op}
 use Rattle.origin_model.specs.edits.Edits.{extended}
@@ -9,7 +9,7 @@ use Rattle.replica_core.specs.Deleting.{AreWithin, deletes_from, ids_from}
 use Rattle.replica_core.specs.Due.{due_marks}
 use Rattle.replica_core.specs.Edits.{CanJoin}
 use Rattle.replica_core.specs.Replica.{replica_state}
-use Rattle.replica_core.proofs.DeletingLemmas.{fewer_can}
+use Rattle.replica_core.proofs.DeletingLemmas.{fewer_can, length-from}
 use Rattle.replica_core.proofs.RunLemmas.{all_joined, ready_in_turn}
 use Rattle.replica_core.proofs.replica.Replica.join_deletes.Goals as goal
 
@@ -38,6 +38,7 @@ invariant_of-self c =
     let all = all_joined (deletes_from x k) s (fewer_can s x n k l can) c.self.invariant.stands in
     record {
       same_hold = c.self.invariant.same_hold;
+      closed = c.self.invariant.closed;
       stands = subst (λ h. Stands (replica_state i.number i.hold i.most h i.inbox)) (sym is) all.stands;
       marks = c.self.invariant.marks ∙ all.marks ∙ ap (λ h. due_marks h s.held.waiting) (sym is);
     })
@@ -65,3 +66,12 @@ returns-clause-stands c =
     however c.accept_deletes.result n (λ e. e.done) (λ k. now ≡ extended i.accepted (deletes_from x k)) (Stands (replica_state i.number i.hold i.most now i.inbox))
     c.accept_deletes.ensures.ok c.accept_deletes.ensures.err c.accept_deletes.ensures.fewer
     (λ k l is. subst (λ h. Stands (replica_state i.number i.hold i.most h i.inbox)) (sym is) (all_joined (deletes_from x k) s (fewer_can s x n k l can) c.self.invariant.stands).stands)
+
+pub accept_deletes-requires-clause-room : goal.accept_deletes-requires-clause-room
+accept_deletes-requires-clause-room c =
+    let i = c.self.inside in
+    let ops = deletes_from c.args.first c.args.count in
+    let s : State = replica_state i.number i.hold i.most i.accepted i.inbox in
+    let can : CanJoin s ops = subst (λ s. CanJoin s ops) (sym c.self.view_is) c.requires.can in
+    let room : length i.accepted + length i.inbox.ops + length ops ≤ i.most = can.room in
+    omega (arith, room, c.self.invariant.stands.most_within.1, length-from c.args.count c.args.first)

@@ -18,6 +18,7 @@ invariant_of-self-2 c =
     let all = all_joined ops s can c.self.invariant.stands in
     record {
       same_hold = c.self.invariant.same_hold;
+      closed = c.self.invariant.closed;
       stands = subst (λ h. Stands (replica_state i.number i.hold i.most h i.inbox)) (sym c.in-Ok.ensures.ok) all.stands;
       marks = c.self.invariant.marks ∙ all.marks ∙ ap (λ h. due_marks h s.held.waiting) (sym c.in-Ok.ensures.ok);
     }

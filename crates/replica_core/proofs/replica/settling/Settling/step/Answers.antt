@@ -1,7 +1,6 @@
 use Rattle.std.proofs.Common.{refl, sym, ◌∙◌, subst, ap, List, ◌∷◌, drop}
 use Rattle.std.specs.Prelude.{Some, Result, Ok, Err, OnErr}
 use Rattle.fugue_ids.specs.declared.op.Op.{Op}
-use Rattle.causal_inbox.specs.Waiting.{Waiting}
 use Rattle.origin_model.specs.taking.Taking.{Held, IsSettled}
 use Rattle.origin_model.specs.edits.State.{State}
 use Rattle.replica_core.specs.Replica.{replica_state}
@@ -61,7 +60,7 @@ joins c =
 pub wake-requires-clause-marks : goal.wake-requires-clause-marks
 wake-requires-clause-marks c =
     marks_left c.self.inside.accepted c.self.inside.inbox.ops (drop 1 c.accept.new.self) c.leave-op.new.inbox.ops c.in-Some.position c.first.new.self c.leave-op.new.due
-    (c.first.ensures.same ∙ c.self.invariant.marks) c.leave-op.ensures.mark (ap (λ (l : List Op). drop 1 l) c.in-Ok.ensures.ok) (ap (λ (i : Waiting). i.ops) c.leave-op.ensures.rest)
+    (c.first.ensures.same ∙ c.self.invariant.marks) c.leave-op.ensures.mark (ap (λ (l : List Op). drop 1 l) c.in-Ok.ensures.ok) c.leave-op.ensures.rest
 
 pub wake-requires-clause-once : goal.wake-requires-clause-once
 wake-requires-clause-once c = (joins c).stands.once
@@ -83,7 +82,7 @@ joined c =
 
 pub invariant_of-self-in-Ready : goal.invariant_of-self-in-Ready
 invariant_of-self-in-Ready c = record {
-  same_hold = ap (λ (i : Waiting). i.hold) c.leave-op.ensures.rest ∙ c.self.invariant.same_hold;
+  same_hold = c.leave-op.ensures.hold ∙ c.self.invariant.same_hold;
   stands = (joined c).stands;
   marks = c.wake.ensures;
 }
@@ -111,10 +110,10 @@ dropped c =
 
 pub invariant_of-self-in_default-verdict : goal.invariant_of-self-in_default-verdict
 invariant_of-self-in_default-verdict c = record {
-  same_hold = ap (λ (i : Waiting). i.hold) c.leave-op-in_default-verdict.ensures.rest ∙ c.self.invariant.same_hold;
+  same_hold = c.leave-op-in_default-verdict.ensures.hold ∙ c.self.invariant.same_hold;
   stands = (dropped c).stands;
   marks = marks_left c.self.inside.accepted c.self.inside.inbox.ops c.self.inside.accepted c.leave-op-in_default-verdict.new.inbox.ops c.in-Some.position c.first.new.self
-      c.leave-op-in_default-verdict.new.due (c.first.ensures.same ∙ c.self.invariant.marks) c.leave-op-in_default-verdict.ensures.mark refl (ap (λ (i : Waiting). i.ops) c.leave-op-in_default-verdict.ensures.rest);
+      c.leave-op-in_default-verdict.new.due (c.first.ensures.same ∙ c.self.invariant.marks) c.leave-op-in_default-verdict.ensures.mark refl c.leave-op-in_default-verdict.ensures.rest;
 }
 
 pub returns-in_default-verdict : goal.returns-in_default-verdict
