@@ -29,6 +29,7 @@ export class Section {
     this.found = [];
     this.runs = [];
     this.comments = [];
+    this.chosen = new Set();
     this.area = null;
     this.isComposing = false;
     this.build();
@@ -351,19 +352,20 @@ export class Section {
   }
 
   // Does `work`, which may open a dialog. By then a browser may forget what is selected, and others may change the
-  // text.
+  // text. A second dialog may open before the first one is over.
   async keepingSelection(work) {
-    this.chosen = { start: this.area.selectionStart, end: this.area.selectionEnd };
+    const chosen = { start: this.area.selectionStart, end: this.area.selectionEnd };
+    this.chosen.add(chosen);
     try {
       return await work();
     } finally {
-      this.area.setSelectionRange(this.chosen.start, this.chosen.end);
-      this.chosen = null;
+      this.chosen.delete(chosen);
+      this.area.setSelectionRange(chosen.start, chosen.end);
     }
   }
 
   moveMarks(list) {
-    if (this.chosen) this.chosen = movedMark(this.chosen, list);
+    for (const chosen of this.chosen) Object.assign(chosen, movedMark(chosen, list));
     const moved = (marks) => marks.map((mark) => movedMark(mark, list)).filter(({ start, end }) => start < end);
     this.marks = moved(this.marks);
     this.found = moved(this.found);

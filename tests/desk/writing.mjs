@@ -274,6 +274,7 @@ async function titlesThatComeIn(open) {
   await page.until(asked);
   check("a title that is refused is told", /needs a title/.test(await page.value(`${asked}.innerText`)));
   await page.pressButton("Cancel");
+  await pause(100);
   await select(page, 0, 0);
   await page.paste("Before.\n# Storm\n");
   await page.until(asked);
