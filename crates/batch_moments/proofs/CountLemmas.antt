@@ -12,7 +12,7 @@ use Rattle.std.proofs.lemmas.Bool.{cases_eq, ne_eqb}
 use Rattle.std.proofs.lemmas.List.Elements.{filter-append}
 use Rattle.fugue_ids.specs.declared.op.Op.{Op}
 use Rattle.fugue_ids.proofs.IdentifierLemmas.{nat_at-other, nat_at-same}
-use Rattle.batch_moments.specs.Counts.{count, is_delete, is_note, is_section, is_text_of, replicas, text_parts, told}
+use Rattle.batch_moments.specs.Counts.{count, is_delete, is_note, counts_section, counts_letter, replicas, text_parts, told_of_count}
 use Rattle.batch_moments.specs.Steps.{AreOf, HaveRoom, some_of}
 use Rattle.batch_moments.specs.declared.counting.Counts.{Counts}
 use Rattle.batch_moments.specs.declared.part.Part.{Part}
@@ -25,13 +25,13 @@ count_more is ops op =
     ∙ ap (λ n. count is ops + n) (elim (is op) as (λ (b : Bool). length (cond b (op ∷ []) []) ≡ cond b 1 0) [ true ↦ refl | false ↦ refl ])
 
 -- what is told of so many, by whether a count of them is kept
-told_none : (part : ℕ → Part) (n : ℕ) → some_of n ≡ None → told part n ≡ []
+told_none : (part : ℕ → Part) (n : ℕ) → some_of n ≡ None → told_of_count part n ≡ []
 told_none part n = elim (nat_eq n 0) as (λ (b : Bool). (if b then None else Some n) ≡ None → (if b then [] else part n ∷ []) ≡ []) [
   | true ↦ λ e. refl
   | false ↦ λ e. cc e
 ]
 
-told_some : (part : ℕ → Part) (n v : ℕ) → some_of n ≡ Some v → told part n ≡ part v ∷ []
+told_some : (part : ℕ → Part) (n v : ℕ) → some_of n ≡ Some v → told_of_count part n ≡ part v ∷ []
 told_some part n v = elim (nat_eq n 0) as (λ (b : Bool). (if b then None else Some n) ≡ Some v → (if b then [] else part n ∷ []) ≡ part v ∷ []) [
   | true ↦ λ e. cc e
   | false ↦ λ e. let same : n ≡ v = cc e in ap (λ (m : ℕ). part m ∷ []) same
@@ -68,7 +68,7 @@ as_part e = Texts e.0 e.1
 
 module _ (f : ℕ → ℕ) where
   abbrev told_of : ℕ → List Part
-  told_of r = told (Texts r) (f r)
+  told_of r = told_of_count (Texts r) (f r)
 
   -- what is kept at ascending numbers, of which each is one of k from a on, is what is told of those
   told_each : (a k : ℕ) (es : List (ℕ × ℕ)) → IsStrictlySortedBy nat_cmp (keys_of es) → AllByRecursion (λ y. a ≤ y) (keys_of es) → ((r : ℕ) → a ≤ r → r < a + k → at r es ≡ some_of (f r))
@@ -104,7 +104,7 @@ all_from_zero (y ∷ ys) = (omega arith, all_from_zero ys)
 pub entries_told : (counts : Counts) (ops : List Op) → IsOrdered nat_cmp counts.texts → AreOf ops counts → map as_part counts.texts.entries ≡ text_parts ops
 unfolding replicas
 entries_told counts ops ordered are =
-    told_each (λ r. count (is_text_of r) ops) 0 (2 ^ 32) counts.texts.entries ordered (all_from_zero (keys_of counts.texts.entries)) (λ r l u. are.texts r) (λ r l. are.beyond r l)
+    told_each (λ r. count (counts_letter r) ops) 0 (2 ^ 32) counts.texts.entries ordered (all_from_zero (keys_of counts.texts.entries)) (λ r l u. are.texts r) (λ r l. are.beyond r l)
 
 filter_short : (is : Op → Bool) (ops : List Op) → count is ops ≤ length ops
 filter_short is [] = omega arith
@@ -122,8 +122,8 @@ read_back n = elim (cases_eq n 0) [
 -- counts of so many operations can be one more
 pub have_room : (counts : Counts) (ops : List Op) → AreOf ops counts → length ops + 1 < 2 ^ 64 → HaveRoom counts
 have_room counts ops are short = record {
-  texts = λ r. let n : count_at (get nat_cmp counts.texts) r ≡ count (is_text_of r) ops = ap (λ o. unwrap_or o 0) (are.texts r) ∙ read_back (count (is_text_of r) ops) in omega (arith, n, filter_short (is_text_of r) ops, short);
+  texts = λ r. let n : count_at (get nat_cmp counts.texts) r ≡ count (counts_letter r) ops = ap (λ o. unwrap_or o 0) (are.texts r) ∙ read_back (count (counts_letter r) ops) in omega (arith, n, filter_short (counts_letter r) ops, short);
   deletes = omega (arith, are.deletes, filter_short is_delete ops, short);
-  sections = omega (arith, are.sections, filter_short is_section ops, short);
+  sections = omega (arith, are.sections, filter_short counts_section ops, short);
   notes = omega (arith, are.notes, filter_short is_note ops, short);
 }

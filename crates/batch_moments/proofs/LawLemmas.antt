@@ -8,15 +8,15 @@ use Rattle.std.proofs.lemmas.List.Elements.{filter-append}
 use Rattle.std.proofs.lemmas.List.Sums.{sum_by-append, sum_by-cons}
 use Rattle.std.proofs.Math.Seq.{drop-nil}
 use Rattle.fugue_ids.specs.declared.op.Op.{Op}
-use Rattle.batch_moments.specs.Counts.{count, is_delete, is_note, is_section, is_text_of, parts, replicas, text_parts, told}
+use Rattle.batch_moments.specs.Counts.{count, is_delete, is_note, counts_section, counts_letter, told_parts, replicas, text_parts, told_of_count}
 use Rattle.batch_moments.specs.Laws.{MomentsTellAll, deletes_told, notes_told, sections_told, sum_told, texts_told}
-use Rattle.batch_moments.specs.Lines.{Line, RiseTo, between, lines_from}
+use Rattle.batch_moments.specs.Lines.{Line, RiseTo, ops_between, lines_of_moments}
 use Rattle.batch_moments.specs.declared.part.Part.{Part}
 use Rattle.batch_moments.specs.declared.part.Part.TheVariants.{Texts, Deletes, Sections, Notes}
 use Rattle.std.proofs.Math.Nat.{add-zero, zero-add}
 
 -- what a part tells of so many, whatever is measured
-sum_of_told : (m : Part → ℕ) (part : ℕ → Part) (n : ℕ) → (n ≡ 0 → m (part n) ≡ 0) → sum_by m (told part n) ≡ m (part n)
+sum_of_told : (m : Part → ℕ) (part : ℕ → Part) (n : ℕ) → (n ≡ 0 → m (part n) ≡ 0) → sum_by m (told_of_count part n) ≡ m (part n)
 sum_of_told m part n none = elim (cases_eq n 0) [
   | inl e ↦ ap (λ (b : Bool). sum_by m (if b then [] else part n ∷ [])) (eq-eqb n 0 e) ∙ sym (none e)
   | inr apart ↦ ap (λ (b : Bool). sum_by m (if b then [] else part n ∷ [])) (ne_eqb n 0 apart) ∙ sum_by-cons m (part n) [] ∙ add-zero (m (part n))
@@ -24,10 +24,10 @@ sum_of_told m part n none = elim (cases_eq n 0) [
 
 module _ (m : Part → ℕ) (f : ℕ → ℕ) where
   abbrev parts_of_range : (a k : ℕ) → List Part
-  parts_of_range a k = flat_map (λ r. told (Texts r) (f r)) (range_with_len a k)
+  parts_of_range a k = flat_map (λ r. told_of_count (Texts r) (f r)) (range_with_len a k)
 
-  range_next : (a k : ℕ) → sum_by m (parts_of_range a (suc k)) ≡ sum_by m (told (Texts a) (f a)) + sum_by m (parts_of_range (a + 1) k)
-  range_next a k = sum_by-append m (told (Texts a) (f a)) (parts_of_range (a + 1) k)
+  range_next : (a k : ℕ) → sum_by m (parts_of_range a (suc k)) ≡ sum_by m (told_of_count (Texts a) (f a)) + sum_by m (parts_of_range (a + 1) k)
+  range_next a k = sum_by-append m (told_of_count (Texts a) (f a)) (parts_of_range (a + 1) k)
 
   -- a measure that counts no Text
   range_none : ((r n : ℕ) → m (Texts r n) ≡ 0) → (a k : ℕ) → sum_by m (parts_of_range a k) ≡ 0
@@ -35,7 +35,7 @@ module _ (m : Part → ℕ) (f : ℕ → ℕ) where
   range_none none a (suc k) = range_next a k ∙ (λ i. (sum_of_told m (Texts a) (f a) (λ e. none a (f a)) ∙ none a (f a)) i + range_none none (a + 1) k i)
 
 module _ (r : ℕ) (f : ℕ → ℕ) where
-  here : (a : ℕ) → sum_by (texts_told r) (told (Texts a) (f a)) ≡ (if nat_eq a r then f a else 0)
+  here : (a : ℕ) → sum_by (texts_told r) (told_of_count (Texts a) (f a)) ≡ (if nat_eq a r then f a else 0)
   here a = sum_of_told (texts_told r) (Texts a) (f a) (λ e. elim (nat_eq a r) as (λ (b : Bool). (if b then f a else 0) ≡ 0) [ true ↦ e | false ↦ refl ])
 
   range_beyond : (a k : ℕ) → r < a → sum_by (texts_told r) (parts_of_range (texts_told r) f a k) ≡ 0
@@ -53,59 +53,59 @@ module _ (r : ℕ) (f : ℕ → ℕ) where
   ]
 
 -- the parts of some operations, whatever is measured
-sum_of_parts : (m : Part → ℕ) (ops : List Op) → sum_by m (parts ops)
-    ≡ ((sum_by m (text_parts ops) + sum_by m (told Deletes (count is_delete ops))) + sum_by m (told Sections (count is_section ops))) + sum_by m (told Notes (count is_note ops))
+sum_of_parts : (m : Part → ℕ) (ops : List Op) → sum_by m (told_parts ops)
+    ≡ ((sum_by m (text_parts ops) + sum_by m (told_of_count Deletes (count is_delete ops))) + sum_by m (told_of_count Sections (count counts_section ops))) + sum_by m (told_of_count Notes (count is_note ops))
 sum_of_parts m ops =
-    sum_by-append m ((text_parts ops ++ told Deletes (count is_delete ops)) ++ told Sections (count is_section ops)) (told Notes (count is_note ops))
-    ∙ ap (λ n. n + sum_by m (told Notes (count is_note ops)))
-    (sum_by-append m (text_parts ops ++ told Deletes (count is_delete ops)) (told Sections (count is_section ops))
-    ∙ ap (λ n. n + sum_by m (told Sections (count is_section ops))) (sum_by-append m (text_parts ops) (told Deletes (count is_delete ops))))
+    sum_by-append m ((text_parts ops ++ told_of_count Deletes (count is_delete ops)) ++ told_of_count Sections (count counts_section ops)) (told_of_count Notes (count is_note ops))
+    ∙ ap (λ n. n + sum_by m (told_of_count Notes (count is_note ops)))
+    (sum_by-append m (text_parts ops ++ told_of_count Deletes (count is_delete ops)) (told_of_count Sections (count counts_section ops))
+    ∙ ap (λ n. n + sum_by m (told_of_count Sections (count counts_section ops))) (sum_by-append m (text_parts ops) (told_of_count Deletes (count is_delete ops))))
 
-in_text_parts : (r : ℕ) → 0 ≤ r → r < 0 + 2 ^ 32 → (ops : List Op) → sum_by (texts_told r) (text_parts ops) ≡ count (is_text_of r) ops
+in_text_parts : (r : ℕ) → 0 ≤ r → r < 0 + 2 ^ 32 → (ops : List Op) → sum_by (texts_told r) (text_parts ops) ≡ count (counts_letter r) ops
 unfolding replicas
-in_text_parts r l u ops = range_within r (λ q. count (is_text_of q) ops) 0 (2 ^ 32) l u
+in_text_parts r l u ops = range_within r (λ q. count (counts_letter q) ops) 0 (2 ^ 32) l u
 
-texts_in_parts : (r : ℕ) → r < 2 ^ 32 → (ops : List Op) → sum_by (texts_told r) (parts ops) ≡ count (is_text_of r) ops
+texts_in_parts : (r : ℕ) → r < 2 ^ 32 → (ops : List Op) → sum_by (texts_told r) (told_parts ops) ≡ count (counts_letter r) ops
 texts_in_parts r small ops = omega (
   arith,
   sum_of_parts (texts_told r) ops,
   in_text_parts r (omega arith) (omega (arith, small)) ops,
   sum_of_told (texts_told r) Deletes (count is_delete ops) (λ e. refl),
-  sum_of_told (texts_told r) Sections (count is_section ops) (λ e. refl),
+  sum_of_told (texts_told r) Sections (count counts_section ops) (λ e. refl),
   sum_of_told (texts_told r) Notes (count is_note ops) (λ e. refl),
 )
 
 no_texts : (m : Part → ℕ) (ops : List Op) → ((r n : ℕ) → m (Texts r n) ≡ 0) → sum_by m (text_parts ops) ≡ 0
 unfolding replicas
-no_texts m ops none = range_none m (λ q. count (is_text_of q) ops) none 0 (2 ^ 32)
+no_texts m ops none = range_none m (λ q. count (counts_letter q) ops) none 0 (2 ^ 32)
 
-deletes_in_parts : (ops : List Op) → sum_by deletes_told (parts ops) ≡ count is_delete ops
+deletes_in_parts : (ops : List Op) → sum_by deletes_told (told_parts ops) ≡ count is_delete ops
 deletes_in_parts ops = omega (
   arith,
   sum_of_parts deletes_told ops,
   no_texts deletes_told ops (λ r n. refl),
   sum_of_told deletes_told Deletes (count is_delete ops) (λ e. e),
-  sum_of_told deletes_told Sections (count is_section ops) (λ e. refl),
+  sum_of_told deletes_told Sections (count counts_section ops) (λ e. refl),
   sum_of_told deletes_told Notes (count is_note ops) (λ e. refl),
 )
 
-sections_in_parts : (ops : List Op) → sum_by sections_told (parts ops) ≡ count is_section ops
+sections_in_parts : (ops : List Op) → sum_by sections_told (told_parts ops) ≡ count counts_section ops
 sections_in_parts ops = omega (
   arith,
   sum_of_parts sections_told ops,
   no_texts sections_told ops (λ r n. refl),
   sum_of_told sections_told Deletes (count is_delete ops) (λ e. refl),
-  sum_of_told sections_told Sections (count is_section ops) (λ e. e),
+  sum_of_told sections_told Sections (count counts_section ops) (λ e. e),
   sum_of_told sections_told Notes (count is_note ops) (λ e. refl),
 )
 
-notes_in_parts : (ops : List Op) → sum_by notes_told (parts ops) ≡ count is_note ops
+notes_in_parts : (ops : List Op) → sum_by notes_told (told_parts ops) ≡ count is_note ops
 notes_in_parts ops = omega (
   arith,
   sum_of_parts notes_told ops,
   no_texts notes_told ops (λ r n. refl),
   sum_of_told notes_told Deletes (count is_delete ops) (λ e. refl),
-  sum_of_told notes_told Sections (count is_section ops) (λ e. refl),
+  sum_of_told notes_told Sections (count counts_section ops) (λ e. refl),
   sum_of_told notes_told Notes (count is_note ops) (λ e. e),
 )
 
@@ -119,24 +119,24 @@ drop_both n (suc m) [] = drop-nil n ∙ sym (drop-nil (suc m + n))
 drop_both n (suc m) (op ∷ ops) = drop_both n m ops ∙ ap (λ (k : ℕ). drop k (op ∷ ops)) {x = suc (m + n)} {y = suc m + n} (omega arith)
 
 -- where a measure tells of the operations of each line, the lines tell of all
-all_told : (m : Part → ℕ) (is : Op → Bool) → ((ops : List Op) → sum_by m (parts ops) ≡ count is ops) → (from : ℕ) (moments : List ℕ) (ops : List Op) → RiseTo from moments (length ops)
-    → sum_told m (lines_from from moments ops) ≡ count is (drop from ops)
+all_told : (m : Part → ℕ) (is : Op → Bool) → ((ops : List Op) → sum_by m (told_parts ops) ≡ count is ops) → (from : ℕ) (moments : List ℕ) (ops : List Op) → RiseTo from moments (length ops)
+    → sum_told m (lines_of_moments from moments ops) ≡ count is (drop from ops)
 all_told m is each from [] ops rise = ap (count is) (sym (drop_all from ops (omega (arith, rise))))
 all_told m is each from (moment ∷ moments) ops rise =
     let come : List Op = drop from ops in
     let later : drop (moment - from) come ≡ drop moment ops = drop_both (moment - from) from ops ∙ ap (λ (k : ℕ). drop k ops) {x = from + (moment - from)} {y = moment} (omega (arith, rise.0)) in
-    sum_by-append m (parts (between from moment ops)) (flat_map (λ (line : Line). line.parts) (lines_from moment moments ops))
-    ∙ (λ i. each (between from moment ops) i + (all_told m is each moment moments ops rise.1 ∙ ap (count is) (sym later)) i) ∙ sym (count_parts is (moment - from) come)
+    sum_by-append m (told_parts (ops_between from moment ops)) (flat_map (λ (line : Line). line.parts) (lines_of_moments moment moments ops))
+    ∙ (λ i. each (ops_between from moment ops) i + (all_told m is each moment moments ops rise.1 ∙ ap (count is) (sym later)) i) ∙ sym (count_parts is (moment - from) come)
 
-each_line : (from : ℕ) (moments : List ℕ) (ops : List Op) → map (λ (line : Line). line.moment) (lines_from from moments ops) ≡ moments
+each_line : (from : ℕ) (moments : List ℕ) (ops : List Op) → map (λ (line : Line). line.moment) (lines_of_moments from moments ops) ≡ moments
 each_line from [] ops = refl
 each_line from (moment ∷ moments) ops = ap (λ (l : List ℕ). moment ∷ l) (each_line moment moments ops)
 
 pub tell_all : MomentsTellAll
 tell_all moments ops rise = record {
   each = each_line 0 moments ops;
-  texts = λ r small. all_told (texts_told r) (is_text_of r) (texts_in_parts r small) 0 moments ops rise;
+  texts = λ r small. all_told (texts_told r) (counts_letter r) (texts_in_parts r small) 0 moments ops rise;
   deletes = all_told deletes_told is_delete deletes_in_parts 0 moments ops rise;
-  sections = all_told sections_told is_section sections_in_parts 0 moments ops rise;
+  sections = all_told sections_told counts_section sections_in_parts 0 moments ops rise;
   notes = all_told notes_told is_note notes_in_parts 0 moments ops rise;
 }

@@ -7,18 +7,21 @@ use Rattle.batch_moments.specs.declared.part.Part.{Part}
 use Rattle.batch_moments.specs.declared.part.Part.TheVariants.{Texts, Deletes, Sections, Notes}
 
 -- the operation is a Text that the replica made
-abbrev pub is_text_of : ℕ → Op → Bool
-is_text_of replica (Text id section left right ch) = nat_eq id.replica replica
-is_text_of replica _ = false
+abbrev pub counts_letter : ℕ → Op → Bool
+counts_letter replica (Text id section left right ch) = nat_eq id.replica replica
+counts_letter replica _ = false
 
+-- the operation is a Delete
 abbrev pub is_delete : Op → Bool
 is_delete (Delete target) = true
 is_delete _ = false
 
-abbrev pub is_section : Op → Bool
-is_section (Section id left right title) = true
-is_section _ = false
+-- the operation is a Section
+abbrev pub counts_section : Op → Bool
+counts_section (Section id left right title) = true
+counts_section _ = false
 
+-- the operation is a Note
 abbrev pub is_note : Op → Bool
 is_note (Note id names code body) = true
 is_note _ = false
@@ -28,8 +31,8 @@ abbrev pub count : (Op → Bool) → List Op → ℕ
 count is ops = length (filter is ops)
 
 -- what is told of so many: nothing where there are none
-abbrev pub told : (ℕ → Part) → ℕ → List Part
-told part n = if nat_eq n 0 then [] else part n ∷ []
+abbrev pub told_of_count : (ℕ → Part) → ℕ → List Part
+told_of_count part n = if nat_eq n 0 then [] else part n ∷ []
 
 -- the numbers that a replica may have, in ascending order
 unfoldable pub replicas : List ℕ
@@ -37,8 +40,8 @@ replicas = range_with_len 0 (2 ^ 32)
 
 -- how many Texts each replica made that made some, in ascending order of the replicas
 abbrev pub text_parts : List Op → List Part
-text_parts ops = flat_map (λ replica. told (Texts replica) (count (is_text_of replica) ops)) replicas
+text_parts ops = flat_map (λ replica. told_of_count (Texts replica) (count (counts_letter replica) ops)) replicas
 
 -- what is told of the operations
-abbrev pub parts : List Op → List Part
-parts ops = text_parts ops ++ told Deletes (count is_delete ops) ++ told Sections (count is_section ops) ++ told Notes (count is_note ops)
+abbrev pub told_parts : List Op → List Part
+told_parts ops = text_parts ops ++ told_of_count Deletes (count is_delete ops) ++ told_of_count Sections (count counts_section ops) ++ told_of_count Notes (count is_note ops)

@@ -2,7 +2,7 @@
 ghost use Rattle.std.specs.Prelude.{◌≡◌, ◌++◌, ◌∷◌, [], drop, nat_eq, if◌then◌else◌, List, OnOk, IfOk, take};
 ghost use Rattle.op_runs.specs.Finding.{op_of};
 ghost use Rattle.fugue_ids.specs.declared.op.Op.{Op as AnyOp};
-ghost use Rattle.batch_moments.specs.Counts.{parts as parts_told, text_parts as text_parts_of};
+ghost use Rattle.batch_moments.specs.Counts.{told_parts as parts_told, text_parts as text_parts_of};
 ghost use Rattle.batch_moments.specs.Steps.{AreOf, HasTextMore, HaveRoom};
 
 use crate::Part;
@@ -76,10 +76,10 @@ impl Counts {
         ensures rest { OnOk result (ops.new ≡ drop count ops.old) }
     {
         let mut counts = Counts::new(alloc);
-        let mut left = count.min(ops.len());
+        let mut left = count;
         'ops: while left > 0 {
             let Some(op) = ops.next_op() else {
-                unreachable!()
+                return Ok(counts);
             };
             counts.add(&op)?;
             left -= 1;

@@ -1,6 +1,6 @@
 //! The parts of a line, as text.
 ghost use Rattle.std.specs.Prelude.{◌≡◌, ◌++◌, codes, decimal, flat_map, OnOk};
-ghost use Rattle.batch_moments.specs.Lines.{joined, part_text};
+ghost use Rattle.batch_moments.specs.Lines.{with_commas, part_text};
 
 use fugue_ids::NoMemory;
 use itoa::Buffer;
@@ -61,7 +61,7 @@ fn put_next(text: &mut Vec<u8>, part: Part) -> Result<(), NoMemory>
 
 /// Appends the parts, with a comma between each two.
 pub(crate) fn put_parts(text: &mut Vec<u8>, parts: &[Part]) -> Result<(), NoMemory>
-    ensures { OnOk result (text.new.items ≡ text.old.items ++ joined parts.now) }
+    ensures { OnOk result (text.new.items ≡ text.old.items ++ with_commas parts.now) }
 {
     let Some((first, rest)) = parts.split_first() else {
         return Ok(());

@@ -1,6 +1,6 @@
 //! What came between moments, as lines.
 ghost use Rattle.std.specs.Prelude.{◌≡◌, ◌++◌, ◌-◌, IfOk, OnOk, drop, take};
-ghost use Rattle.batch_moments.specs.Counts.{parts};
+ghost use Rattle.batch_moments.specs.Counts.{told_parts};
 ghost use Rattle.batch_moments.specs.Lines.{line_text, moments_text as text_of};
 
 use crate::counting::parts_of;
@@ -19,7 +19,7 @@ fn put_line(
     count: usize,
 ) -> Result<(), NoMemory>
     ensures line { OnOk result (text.new.items
-        ≡ text.old.items ++ line_text (record { moment = moment; parts = parts (take count ops.old) })) }
+        ≡ text.old.items ++ line_text (record { moment = moment; parts = told_parts (take count ops.old) })) }
     ensures rest { OnOk result (ops.new ≡ drop count ops.old) }
 {
     let parts = parts_of(alloc, ops, count)?;
@@ -35,10 +35,10 @@ fn behind<'a>(ops: &OpSlice<'a>, count: usize) -> OpSlice<'a>
     ensures { result ≡ drop count ops.now }
 {
     let mut rest = ops.copy();
-    let mut left = count.min(rest.len());
+    let mut left = count;
     'passed: while left > 0 {
         let Some(_op) = rest.next_op() else {
-            unreachable!()
+            return rest;
         };
         left -= 1;
     }

@@ -6,7 +6,7 @@ use Rattle.std.proofs.lemmas.Option.{same_Some}
 use Rattle.fugue_ids.specs.Identifiers.{Identifier, id_cmp}
 use Rattle.fugue_ids.specs.Keyed.{IsReplaced}
 use Rattle.fugue_ids.proofs.IdentifierLemmas.{cases_id, id_at-other}
-use Rattle.block_map.specs.Blocks.{AreBlocks, IsBlockAt, block_of, value_at, value_in, value_within}
+use Rattle.block_map.specs.Blocks.{AreBlocks, IsBlockAt, block_of, value_at, block_value, value_within}
 use Rattle.block_map.specs.Columns.{value_beside}
 use Rattle.block_map.specs.declared.block.Block.{Block}
 
@@ -28,20 +28,20 @@ replaced_none f key w e = record { here = e; others = λ k apart. refl }
 
 module _ {V : Type 0} (m n : BTreeMap Identifier (Block V)) (key : Identifier) (o : Option (Block V)) (change : IsReplaced (get id_cmp m) (get id_cmp n) key o) where
   -- the values in another block
-  pub others_far : (q : Identifier) → block_of q ≢ key → value_in n q ≡ value_in m q
+  pub others_far : (q : Identifier) → block_of q ≢ key → block_value n q ≡ block_value m q
   others_far q far = ap (λ (b : Option (Block V)). value_within b q.counter) (change.others (block_of q) far)
 
   -- and in the block, where they are the same
-  pub near : (q : Identifier) → block_of q ≡ key → value_within o q.counter ≡ value_within (get id_cmp m key) q.counter → value_in n q ≡ value_in m q
+  pub near : (q : Identifier) → block_of q ≡ key → value_within o q.counter ≡ value_within (get id_cmp m key) q.counter → block_value n q ≡ block_value m q
   near q at same =
       ap (λ (k : Identifier). value_within (get id_cmp n k) q.counter) at ∙ ap (λ (b : Option (Block V)). value_within b q.counter) change.here ∙ same
       ∙ ap (λ (k : Identifier). value_within (get id_cmp m k) q.counter) (sym at)
 
   -- a change of a block's values is one of the map's
-  pub value_replaced : (id : Identifier) (c : ℕ) → key ≡ block_of id → c ≡ id.counter → (w : Option V) → IsReplaced (value_within (get id_cmp m key)) (value_within o) c w → IsReplaced (value_in m) (value_in n) id w
+  pub value_replaced : (id : Identifier) (c : ℕ) → key ≡ block_of id → c ≡ id.counter → (w : Option V) → IsReplaced (value_within (get id_cmp m key)) (value_within o) c w → IsReplaced (block_value m) (block_value n) id w
   value_replaced id c at is w r = record {
     here = ap (λ (k : Identifier). value_within (get id_cmp n k) id.counter) (sym at) ∙ ap (λ (b : Option (Block V)). value_within b id.counter) change.here ∙ ap (value_within o) (sym is) ∙ r.here;
-    others = λ q apart. elim (cases_id (block_of q) key) as (λ _. value_in n q ≡ value_in m q) [
+    others = λ q apart. elim (cases_id (block_of q) key) as (λ _. block_value n q ≡ block_value m q) [
       | inl own ↦ (
           let replica : q.replica ≡ id.replica = ap (λ (x : Identifier). x.replica) (own ∙ at) in
           near q own (r.others q.counter (λ e. apart (let counter : q.counter ≡ id.counter = e ∙ is in λ i. record { replica = replica i; counter = counter i }))))
@@ -50,8 +50,8 @@ module _ {V : Type 0} (m n : BTreeMap Identifier (Block V)) (key : Identifier) (
   }
 
   -- where the block keeps its values, so does the map
-  pub values_same : ((d : ℕ) → value_within o d ≡ value_within (get id_cmp m key) d) → (q : Identifier) → value_in n q ≡ value_in m q
-  values_same same q = elim (cases_id (block_of q) key) as (λ _. value_in n q ≡ value_in m q) [ inl own ↦ near q own (same q.counter) | inr far ↦ others_far q far ]
+  pub values_same : ((d : ℕ) → value_within o d ≡ value_within (get id_cmp m key) d) → (q : Identifier) → block_value n q ≡ block_value m q
+  values_same same q = elim (cases_id (block_of q) key) as (λ _. block_value n q ≡ block_value m q) [ inl own ↦ near q own (same q.counter) | inr far ↦ others_far q far ]
 
   -- the other blocks are as they were
   pub blocks_changed : AreBlocks m → ((b : Block V) → o ≡ Some b → IsBlockAt key b) → AreBlocks n

@@ -3,7 +3,7 @@ use Rattle.std.proofs.Common.{◌≡◌, ℕ, ◌-◌, ◌<◌, ◌≤◌, false
 use Rattle.std.specs.Ordering.{is_lt, nat_cmp}
 use Rattle.std.proofs.lemmas.Bool.Decides.{nat_tests}
 use Rattle.block_map.specs.Columns.{IsAscending, IsGapFor, value_beside}
-use Rattle.block_map.specs.Floors.{HasNone, IsGreatest}
+use Rattle.block_map.specs.Floors.{HasNone, IsGreatestKey}
 use Rattle.block_map.proofs.ColumnLemmas.{place_of_value, rises}
 use Rattle.fugue_ids.proofs.OptionLemmas.{none_unless}
 
@@ -17,12 +17,12 @@ none_then None p f = f p
 none_then (Some x) p f = tt
 
 -- a counter with a value is the greatest of those up to it
-pub greatest_itself : {V : Type 0} (f : ℕ → Option V) (c : ℕ) (v : V) → f c ≡ Some v → IsGreatest nat_cmp (λ d. d ≤ c) f (c, v)
+pub greatest_itself : {V : Type 0} (f : ℕ → Option V) (c : ℕ) (v : V) → f c ≡ Some v → IsGreatestKey nat_cmp (λ d. d ≤ c) f (c, v)
 greatest_itself f c v held = record { among = omega arith; held = held; greatest = λ d le h. not_less c d le }
 
 module _ {V : Type 0} (cs : List ℕ) (vs : List V) (up : IsAscending cs) (P : ℕ → Type 0) (at : ℕ) (before : (i : ℕ) → i < length cs → P (get_or cs i 0) → i < at) where
   -- where those for which P holds stand before a place, the entry before it is the greatest
-  pub greatest_before : at ≤ length cs → (e : ℕ × V) → 0 < at → get_or cs (at - 1) 0 ≡ e.0 → value_beside cs vs e.0 ≡ Some e.1 → P e.0 → IsGreatest nat_cmp P (value_beside cs vs) e
+  pub greatest_before : at ≤ length cs → (e : ℕ × V) → 0 < at → get_or cs (at - 1) 0 ≡ e.0 → value_beside cs vs e.0 ≡ Some e.1 → P e.0 → IsGreatestKey nat_cmp P (value_beside cs vs) e
   greatest_before le e some here held among = record {
     among = among;
     held = held;

@@ -7,8 +7,8 @@ use Rattle.std.specs.BTreeMap.Range.{IsLtBy}
 use Rattle.std.proofs.lemmas.Map.Keys.{ge_from_not_lt}
 use Rattle.fugue_ids.specs.Identifiers.{Identifier, id_cmp}
 use Rattle.fugue_ids.proofs.OrderLemmas.{IsBefore, at_most_cases, at_most_from_le, at_most_from_not_lt, before_from_lt, le_from_at_most, lt_from_before, not_lt_from_at_most}
-use Rattle.block_map.specs.Blocks.{AreBlocks, IsInBlockBefore, IsUpToInBlock, block_of, value_at, value_in, value_within, with_counter}
-use Rattle.block_map.specs.Floors.{HasNone, IsFloorKey, IsGreatest}
+use Rattle.block_map.specs.Blocks.{AreBlocks, IsInBlockBefore, IsUpToInBlock, block_of, value_at, block_value, value_within, with_counter}
+use Rattle.block_map.specs.Floors.{HasNone, IsFloorKey, IsGreatestKey}
 use Rattle.block_map.specs.declared.block.Block.{Block}
 use Rattle.block_map.proofs.ChangeLemmas.{no_value}
 use Rattle.block_map.proofs.OrderLemmas.{at_most_by_block, at_most_in_block, block_cases, counter_at_most}
@@ -27,12 +27,12 @@ entry_under key o = option_map (λ e. (with_counter key e.0, e.1)) o
 
 module _ {V : Type 0} (m : BTreeMap Identifier (Block V)) (are : AreBlocks m) where
   -- no block has no value
-  none_in : (q key : Identifier) → block_of q ≡ key → get id_cmp m key ≡ None → value_in m q ≡ None
+  none_in : (q key : Identifier) → block_of q ≡ key → get id_cmp m key ≡ None → block_value m q ≡ None
   none_in q key same e = ap (λ (o : Option (Block V)). value_within o q.counter) (ap (get id_cmp m) same ∙ e)
 
   module _ (key : Identifier) (b : Block V) (there : get id_cmp m key ≡ Some b) where
     -- the values of a block
-    found_in : (q : Identifier) → block_of q ≡ key → value_in m q ≡ value_at b q.counter
+    found_in : (q : Identifier) → block_of q ≡ key → block_value m q ≡ value_at b q.counter
     found_in q same = ap (λ (o : Option (Block V)). value_within o q.counter) (ap (get id_cmp m) same ∙ there)
 
     -- a counter that has a value belongs to the block
@@ -44,8 +44,8 @@ module _ {V : Type 0} (m : BTreeMap Identifier (Block V)) (are : AreBlocks m) wh
       up_to_counter q p = let h = counter_at_most q id p.0 (at_most_from_le q id p.1) in omega (arith, h, is)
 
       -- the floor of a counter in its block
-      entry_within : (o : Option (ℕ × V)) → IfNone o (HasNone (λ d. d ≤ c) (value_at b)) → IfSome o (IsGreatest nat_cmp (λ d. d ≤ c) (value_at b))
-          → IfNone (entry_under key o) (HasNone (IsUpToInBlock id) (value_in m)) × IfSome (entry_under key o) (IsGreatest id_cmp (IsUpToInBlock id) (value_in m))
+      entry_within : (o : Option (ℕ × V)) → IfNone o (HasNone (λ d. d ≤ c) (value_at b)) → IfSome o (IsGreatestKey nat_cmp (λ d. d ≤ c) (value_at b))
+          → IfNone (entry_under key o) (HasNone (IsUpToInBlock id) (block_value m)) × IfSome (entry_under key o) (IsGreatestKey id_cmp (IsUpToInBlock id) (block_value m))
       entry_within None n s = (λ q p. found_in q (p.0 ∙ sym at) ∙ n q.counter (up_to_counter q p), tt)
       entry_within (Some x) n s =
           let e = with_counter key x.0 in
@@ -63,8 +63,8 @@ module _ {V : Type 0} (m : BTreeMap Identifier (Block V)) (are : AreBlocks m) wh
 
     -- the last entry of the last block before a key
     entry_before : (bound : Identifier) → IsLtBy id_cmp key bound → ((q : Identifier) → IsLtBy id_cmp q bound → IsSome (get id_cmp m q) → is_lt (id_cmp key q) ≡ false) → (o : Option (ℕ × V))
-        → IfNone o (length b.counters.items ≡ 0) → IfSome o (IsGreatest nat_cmp (λ _. ⊤) (value_at b))
-        → IfNone (entry_under key o) (HasNone (IsInBlockBefore bound) (value_in m)) × IfSome (entry_under key o) (IsGreatest id_cmp (IsInBlockBefore bound) (value_in m))
+        → IfNone o (length b.counters.items ≡ 0) → IfSome o (IsGreatestKey nat_cmp (λ _. ⊤) (value_at b))
+        → IfNone (entry_under key o) (HasNone (IsInBlockBefore bound) (block_value m)) × IfSome (entry_under key o) (IsGreatestKey id_cmp (IsInBlockBefore bound) (block_value m))
     entry_before bound lt last None n s = let some = (are key b there).some in absurd (omega (arith, some, n))
     entry_before bound lt last (Some x) n s =
         let e = with_counter key x.0 in
@@ -82,25 +82,25 @@ module _ {V : Type 0} (m : BTreeMap Identifier (Block V)) (are : AreBlocks m) wh
 
   -- what the two searches answer
   pub within_some : (id key : Identifier) (c : ℕ) → key ≡ block_of id → c ≡ id.counter → (b : Block V) → get id_cmp m key ≡ Some b → (o : Option (ℕ × V)) → IfNone o (HasNone (λ d. d ≤ c) (value_at b))
-      → IfSome o (IsGreatest nat_cmp (λ d. d ≤ c) (value_at b)) → (r : Option (Identifier × V)) → r ≡ option_map (λ e. (with_counter key e.0, e.1)) o
-      → IfNone r (HasNone (IsUpToInBlock id) (value_in m)) × IfSome r (IsGreatest id_cmp (IsUpToInBlock id) (value_in m))
+      → IfSome o (IsGreatestKey nat_cmp (λ d. d ≤ c) (value_at b)) → (r : Option (Identifier × V)) → r ≡ option_map (λ e. (with_counter key e.0, e.1)) o
+      → IfNone r (HasNone (IsUpToInBlock id) (block_value m)) × IfSome r (IsGreatestKey id_cmp (IsUpToInBlock id) (block_value m))
   within_some id key c at is b there o n s r e =
-      subst (λ (z : Option (Identifier × V)). IfNone z (HasNone (IsUpToInBlock id) (value_in m)) × IfSome z (IsGreatest id_cmp (IsUpToInBlock id) (value_in m))) (sym e)
+      subst (λ (z : Option (Identifier × V)). IfNone z (HasNone (IsUpToInBlock id) (block_value m)) × IfSome z (IsGreatestKey id_cmp (IsUpToInBlock id) (block_value m))) (sym e)
       (entry_within key b there id c at is o n s)
 
   pub before_some : (bound key : Identifier) (b : Block V) → get id_cmp m key ≡ Some b → IsLtBy id_cmp key bound → ((q : Identifier) → IsLtBy id_cmp q bound → IsSome (get id_cmp m q) → is_lt (id_cmp key q) ≡ false)
-      → (o : Option (ℕ × V)) → IfNone o (length b.counters.items ≡ 0) → IfSome o (IsGreatest nat_cmp (λ _. ⊤) (value_at b)) → (r : Option (Identifier × V))
-      → r ≡ option_map (λ e. (with_counter key e.0, e.1)) o → IfNone r (HasNone (IsInBlockBefore bound) (value_in m)) × IfSome r (IsGreatest id_cmp (IsInBlockBefore bound) (value_in m))
+      → (o : Option (ℕ × V)) → IfNone o (length b.counters.items ≡ 0) → IfSome o (IsGreatestKey nat_cmp (λ _. ⊤) (value_at b)) → (r : Option (Identifier × V))
+      → r ≡ option_map (λ e. (with_counter key e.0, e.1)) o → IfNone r (HasNone (IsInBlockBefore bound) (block_value m)) × IfSome r (IsGreatestKey id_cmp (IsInBlockBefore bound) (block_value m))
   before_some bound key b there lt last o n s r e =
-      subst (λ (z : Option (Identifier × V)). IfNone z (HasNone (IsInBlockBefore bound) (value_in m)) × IfSome z (IsGreatest id_cmp (IsInBlockBefore bound) (value_in m))) (sym e)
+      subst (λ (z : Option (Identifier × V)). IfNone z (HasNone (IsInBlockBefore bound) (block_value m)) × IfSome z (IsGreatestKey id_cmp (IsInBlockBefore bound) (block_value m))) (sym e)
       (entry_before key b there bound lt last o n s)
 
-  pub before_none : (bound : Identifier) → ((q : Identifier) → IsLtBy id_cmp q bound → get id_cmp m q ≡ None) → HasNone (IsInBlockBefore bound) (value_in m)
+  pub before_none : (bound : Identifier) → ((q : Identifier) → IsLtBy id_cmp q bound → get id_cmp m q ≡ None) → HasNone (IsInBlockBefore bound) (block_value m)
   before_none bound none q p = none_in q (block_of q) refl (none (block_of q) p)
 
 module _ {V : Type 0} (f : Identifier → Option V) (id : Identifier) where
   -- what is found in the own block is the floor
-  pub floor_within : (x : Identifier × V) → IsGreatest id_cmp (IsUpToInBlock id) f x → IsFloorKey f id (Some x.0)
+  pub floor_within : (x : Identifier × V) → IsGreatestKey id_cmp (IsUpToInBlock id) f x → IsFloorKey f id (Some x.0)
   floor_within x g = (
     is_some_by (f x.0) x.1 g.held,
     g.among.1,
@@ -111,7 +111,7 @@ module _ {V : Type 0} (f : Identifier → Option V) (id : Identifier) where
   )
 
   -- and else what is found in the blocks before
-  pub floor_before : (key : Identifier) → key ≡ block_of id → HasNone (IsUpToInBlock id) f → (o : Option (Identifier × V)) → IfNone o (HasNone (IsInBlockBefore key) f) → IfSome o (IsGreatest id_cmp (IsInBlockBefore key) f)
+  pub floor_before : (key : Identifier) → key ≡ block_of id → HasNone (IsUpToInBlock id) f → (o : Option (Identifier × V)) → IfNone o (HasNone (IsInBlockBefore key) f) → IfSome o (IsGreatestKey id_cmp (IsInBlockBefore key) f)
       → IsFloorKey f id (option_map (λ x. x.0) o)
   floor_before key at own None n s = λ q le. elim (block_cases q id (at_most_from_le q id le)) [
     | inl k ↦ n q (subst (λ z. IsLtBy id_cmp (block_of q) z) (sym at) (lt_from_before (block_of q) (block_of id) k))
@@ -126,6 +126,6 @@ module _ {V : Type 0} (f : Identifier → Option V) (id : Identifier) where
     ],
   )
 
-  pub held_by : (P : Identifier → Type 0) (o : Option (Identifier × V)) → IfSome o (IsGreatest id_cmp P f) → IfSome o (λ x. f x.0 ≡ Some x.1)
+  pub held_by : (P : Identifier → Type 0) (o : Option (Identifier × V)) → IfSome o (IsGreatestKey id_cmp P f) → IfSome o (λ x. f x.0 ≡ Some x.1)
   held_by P None s = tt
   held_by P (Some x) s = s.held

@@ -7,7 +7,7 @@ use Rattle.std.proofs.lemmas.Bool.Decides.{nat_tests}
 use Rattle.fugue_ids.specs.Identifiers.{Identifier, id_cmp, id_eq}
 use Rattle.fugue_ids.specs.Keyed.{IsReplaced}
 use Rattle.fugue_ids.proofs.IdentifierLemmas.{cases_id, id_eq-true}
-use Rattle.block_map.specs.Blocks.{IsBlockAt, block_of, value_at, value_in, value_within}
+use Rattle.block_map.specs.Blocks.{IsBlockAt, block_of, value_at, block_value, value_within}
 use Rattle.block_map.specs.Columns.{IsAscending, IsPlaceOf, value_beside}
 use Rattle.block_map.specs.Renames.{IsRenamed}
 use Rattle.block_map.specs.declared.block.Block.{Block}
@@ -81,11 +81,11 @@ block_either key d b at long c e belongs false done kept = block_kept key d b at
 
 -- another counter in a block is another identifier in the map
 pub renamed_in_block : {V : Type 0} (m n : BTreeMap Identifier (Block V)) (key : Identifier) (o : Option (Block V)) → IsReplaced (get id_cmp m) (get id_cmp n) key o → (from to : Identifier) → block_of from ≡ key → block_of to ≡ key
-    → (c e : ℕ) → c ≡ from.counter → e ≡ to.counter → IsRenamed (value_within (get id_cmp m key)) (value_within o) c e → IsRenamed (value_in m) (value_in n) from to
+    → (c e : ℕ) → c ≡ from.counter → e ≡ to.counter → IsRenamed (value_within (get id_cmp m key)) (value_within o) c e → IsRenamed (block_value m) (block_value n) from to
 renamed_in_block {V} m n key o change from to is also c e old_counter new_counter within = record {
   here = at_key n to also ∙ new to.counter ∙ r.here ∙ sym (at_key m from is);
   gone = at_key n from is ∙ new from.counter ∙ r.gone;
-  others = λ q apart other. elim (cases_id (block_of q) key) as (λ _. value_in n q ≡ value_in m q) [
+  others = λ q apart other. elim (cases_id (block_of q) key) as (λ _. block_value n q ≡ block_value m q) [
     | inl own ↦ near m n key o change q own (r.others q.counter (λ e. apart (same_in_block q from own is e)) (λ e. other (same_in_block q to own also e)))
     | inr far ↦ others_far m n key o change q far
   ];
@@ -96,7 +96,7 @@ renamed_in_block {V} m n key o change from to is also c e old_counter new_counte
   r : AreRenamed from.counter to.counter
   r = subst (λ (x : ℕ). AreRenamed x to.counter) old_counter (subst (λ (y : ℕ). AreRenamed c y) new_counter within)
 
-  at_key : (x : BTreeMap Identifier (Block V)) (q : Identifier) → block_of q ≡ key → value_in x q ≡ value_within (get id_cmp x key) q.counter
+  at_key : (x : BTreeMap Identifier (Block V)) (q : Identifier) → block_of q ≡ key → block_value x q ≡ value_within (get id_cmp x key) q.counter
   at_key x q at = ap (λ (k : Identifier). value_within (get id_cmp x k) q.counter) at
 
   new : (c : ℕ) → value_within (get id_cmp n key) c ≡ value_within o c

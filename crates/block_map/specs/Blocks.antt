@@ -24,8 +24,8 @@ abbrev pub with_counter : Identifier → ℕ → Identifier
 with_counter id c = record { replica = id.replica; counter = c }
 
 -- the value that an identifier has in the blocks
-abbrev pub value_in : {V : Type 0} → BTreeMap Identifier (Block V) → Identifier → Option V
-value_in m id = value_within (get id_cmp m (block_of id)) id.counter
+abbrev pub block_value : {V : Type 0} → BTreeMap Identifier (Block V) → Identifier → Option V
+block_value m id = value_within (get id_cmp m (block_of id)) id.counter
 
 -- a block under its key has a value, and only such as belong there
 pub record IsBlockAt {V : Type 0} (key : Identifier) (b : Block V) : Type 0 where

@@ -10,7 +10,7 @@ abbrev pub HasNone : {K V : Type 0} → (K → Type 0) → (K → Option V) → 
 HasNone {K} P f = (k : K) → P k → f k ≡ None
 
 -- the greatest key for which P holds that has a value, with the value
-pub record IsGreatest {K V : Type 0} (cmp : K → K → Ordering) (P : K → Type 0) (f : K → Option V) (e : K × V) : Type 0 where
+pub record IsGreatestKey {K V : Type 0} (cmp : K → K → Ordering) (P : K → Type 0) (f : K → Option V) (e : K × V) : Type 0 where
   pub among : P e.0
   pub held : f e.0 ≡ Some e.1
   pub greatest : (k : K) → P k → IsSome (f k) → is_lt (cmp e.0 k) ≡ false

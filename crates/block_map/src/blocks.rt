@@ -3,9 +3,9 @@ ghost use Rattle.std.specs.Prelude.{◌≡◌, IfNone, IfSome, IsFalse, IsTrue, 
 ghost use Rattle.std.specs.BTreeMap.{IsUnchanged, get};
 ghost use Rattle.fugue_ids.specs.Identifiers.{Identifier, id_cmp};
 ghost use Rattle.fugue_ids.specs.Keyed.{IsReplaced};
-ghost use Rattle.block_map.specs.Blocks.{AreBlocks, IsInBlockBefore, IsUpToInBlock, block_of, value_in};
+ghost use Rattle.block_map.specs.Blocks.{AreBlocks, IsInBlockBefore, IsUpToInBlock, block_of, block_value};
 ghost use Rattle.block_map.specs.Blocks.{with_counter};
-ghost use Rattle.block_map.specs.Floors.{HasNone, IsFloorKey, IsGreatest};
+ghost use Rattle.block_map.specs.Floors.{HasNone, IsFloorKey, IsGreatestKey};
 ghost use Rattle.block_map.specs.Renames.{IsRenamed};
 
 use crate::block::Block;
@@ -30,7 +30,7 @@ pub(crate) fn value_of_id<V: Copy>(
     blocks: &BTreeMap<ElementId, Block<V>>,
     id: ElementId,
 ) -> Option<V>
-    ensures { result ≡ value_in blocks.now id }
+    ensures { result ≡ block_value blocks.now id }
 {
     let (key, counter) = place_of(id);
     match blocks.get(&key) {
@@ -49,7 +49,7 @@ fn begin<V: Copy>(
     requires blocks { AreBlocks blocks.old }
     requires none { get id_cmp blocks.old (block_of id) ≡ None }
     ensures blocks { AreBlocks blocks.new }
-    ensures ok { OnOk result (IsReplaced (value_in blocks.old) (value_in blocks.new) id (Some value)) }
+    ensures ok { OnOk result (IsReplaced (block_value blocks.old) (block_value blocks.new) id (Some value)) }
     ensures err { OnErr result (IsUnchanged blocks.old blocks.new) }
 {
     let (key, counter) = place_of(id);
@@ -68,9 +68,9 @@ pub(crate) fn put<V: Copy>(
 ) -> Result<(), NoMemory>
     requires { AreBlocks blocks.old }
     ensures blocks { AreBlocks blocks.new }
-    ensures ok { OnOk result (IsReplaced (value_in blocks.old) (value_in blocks.new) id (Some value)) }
-    ensures err { OnErr result ((q : Identifier) → value_in blocks.new q ≡ value_in blocks.old q) }
-    ensures absent { OnErr result (value_in blocks.old id ≡ None) }
+    ensures ok { OnOk result (IsReplaced (block_value blocks.old) (block_value blocks.new) id (Some value)) }
+    ensures err { OnErr result ((q : Identifier) → block_value blocks.new q ≡ block_value blocks.old q) }
+    ensures absent { OnErr result (block_value blocks.old id ≡ None) }
 {
     let (key, counter) = place_of(id);
     match blocks.get_mut(&key) {
@@ -83,7 +83,7 @@ pub(crate) fn put<V: Copy>(
 pub(crate) fn take_out<V: Copy>(blocks: &mut BTreeMap<ElementId, Block<V>>, id: ElementId)
     requires { AreBlocks blocks.old }
     ensures blocks { AreBlocks blocks.new }
-    ensures taken { IsReplaced (value_in blocks.old) (value_in blocks.new) id None }
+    ensures taken { IsReplaced (block_value blocks.old) (block_value blocks.new) id None }
 {
     let (key, counter) = place_of(id);
     let Some(block) = blocks.get_mut(&key) else {
@@ -103,10 +103,10 @@ fn rename_within<V: Copy>(
     to: ElementId,
 ) -> bool
     requires blocks { AreBlocks blocks.old }
-    requires fresh { value_in blocks.old to ≡ None }
+    requires fresh { block_value blocks.old to ≡ None }
     ensures blocks { AreBlocks blocks.new }
-    ensures renamed { IsTrue result → IsRenamed (value_in blocks.old) (value_in blocks.new) from to }
-    ensures refused { IsFalse result → (q : Identifier) → value_in blocks.new q ≡ value_in blocks.old q }
+    ensures renamed { IsTrue result → IsRenamed (block_value blocks.old) (block_value blocks.new) from to }
+    ensures refused { IsFalse result → (q : Identifier) → block_value blocks.new q ≡ block_value blocks.old q }
 {
     let (key, counter) = place_of(from);
     let (to_key, to_counter) = place_of(to);
@@ -128,11 +128,11 @@ pub(crate) fn rename<V: Copy>(
     value: V,
 ) -> Result<(), NoMemory>
     requires blocks { AreBlocks blocks.old }
-    requires held { value_in blocks.old from ≡ Some value }
-    requires fresh { value_in blocks.old to ≡ None }
+    requires held { block_value blocks.old from ≡ Some value }
+    requires fresh { block_value blocks.old to ≡ None }
     ensures blocks { AreBlocks blocks.new }
-    ensures ok { OnOk result (IsRenamed (value_in blocks.old) (value_in blocks.new) from to) }
-    ensures err { OnErr result ((q : Identifier) → value_in blocks.new q ≡ value_in blocks.old q) }
+    ensures ok { OnOk result (IsRenamed (block_value blocks.old) (block_value blocks.new) from to) }
+    ensures err { OnErr result ((q : Identifier) → block_value blocks.new q ≡ block_value blocks.old q) }
 {
     if rename_within(blocks, from, to) {
         return Ok(());
@@ -161,8 +161,8 @@ fn floor_within<V: Copy>(
     id: ElementId,
 ) -> Option<(ElementId, V)>
     requires { AreBlocks blocks.now }
-    ensures none { IfNone result (HasNone (IsUpToInBlock id) (value_in blocks.now)) }
-    ensures some { IfSome result (IsGreatest id_cmp (IsUpToInBlock id) (value_in blocks.now)) }
+    ensures none { IfNone result (HasNone (IsUpToInBlock id) (block_value blocks.now)) }
+    ensures some { IfSome result (IsGreatestKey id_cmp (IsUpToInBlock id) (block_value blocks.now)) }
 {
     let (key, counter) = place_of(id);
     match blocks.get(&key) {
@@ -177,8 +177,8 @@ fn last_before<V: Copy>(
     key: ElementId,
 ) -> Option<(ElementId, V)>
     requires { AreBlocks blocks.now }
-    ensures none { IfNone result (HasNone (IsInBlockBefore key) (value_in blocks.now)) }
-    ensures some { IfSome result (IsGreatest id_cmp (IsInBlockBefore key) (value_in blocks.now)) }
+    ensures none { IfNone result (HasNone (IsInBlockBefore key) (block_value blocks.now)) }
+    ensures some { IfSome result (IsGreatestKey id_cmp (IsInBlockBefore key) (block_value blocks.now)) }
 {
     match blocks.range(..key).next_back() {
         Some((last, block)) => named(*last, block.last()),
@@ -192,8 +192,8 @@ pub(crate) fn floor<V: Copy>(
     id: ElementId,
 ) -> Option<(ElementId, V)>
     requires { AreBlocks blocks.now }
-    ensures floor { IsFloorKey (value_in blocks.now) id (option_map (λ x. x.0) result) }
-    ensures value { IfSome result (λ x. value_in blocks.now x.0 ≡ Some x.1) }
+    ensures floor { IsFloorKey (block_value blocks.now) id (option_map (λ x. x.0) result) }
+    ensures value { IfSome result (λ x. block_value blocks.now x.0 ≡ Some x.1) }
 {
     match floor_within(blocks, id) {
         Some(found) => Some(found),

@@ -14,7 +14,7 @@ use Rattle.list_spec.specs.Worlds.{Event, World, after_events, world}
 use Rattle.list_spec.proofs.WorldLemmas.{events_further}
 use Rattle.bulk_world.specs.declared.making.TheConstants.{HOLD}
 use Rattle.fugue_ids.specs.declared.limits.TheConstants.{MOST_OPERATIONS}
-use Rattle.bulk_world.specs.Turns.{TurnsLead, all_turns, among, authors, bulk_world, delivers, events, hearing, made_over, two_begin, opening, turns}
+use Rattle.bulk_world.specs.Turns.{TurnsLead, all_turns, among, authors, bulk_world, delivers, events, hearing, made_over, two_begin, opening_turn, turns}
 use Rattle.bulk_world.specs.Summary.{summary, told_of}
 use Rattle.bulk_world.proofs.TurnLemmas.{IsTurned, numbered, turned}
 use Rattle.origin_model.proofs.SharedLemmas.{first_accepted}
@@ -28,7 +28,7 @@ the_section = Section (id_at 1 0) None None (codes "B")
 abbrev pub begun : World
 begun = among (the_section ∷ []) (two_begin 1) (two_begin 2)
 
-opens : world authors opening ≡ begun
+opens : world authors opening_turn ≡ begun
 unfolding order verdict settle
 opens = refl
 
@@ -36,14 +36,14 @@ opens = refl
 abbrev behind : World → (count seed : ℕ) → World
 behind w count seed = let t = turns w count 1 seed in after_events (after_events w t) (hearing w t)
 
-events_are : (seed count : ℕ) → events seed count ≡ opening ++ (all_turns seed count ++ hearing (world authors opening) (all_turns seed count))
+events_are : (seed count : ℕ) → events seed count ≡ opening_turn ++ (all_turns seed count ++ hearing (world authors opening_turn) (all_turns seed count))
 events_are seed count = refl
 
 bulk_is : (seed count : ℕ) → bulk_world seed count ≡ behind begun count seed
 bulk_is seed count =
     let t = all_turns seed count in
-    let h = hearing (world authors opening) t in
-    ap (world authors) (events_are seed count) ∙ events_further (record { replicas = authors; pool = [] }) opening (t ++ h) ∙ events_further (world authors opening) t h ∙ ap (λ w. behind w count seed) opens
+    let h = hearing (world authors opening_turn) t in
+    ap (world authors) (events_are seed count) ∙ events_further (record { replicas = authors; pool = [] }) opening_turn (t ++ h) ∙ events_further (world authors opening_turn) t h ∙ ap (λ w. behind w count seed) opens
 
 -- what two authors come to in so many turns
 module _ (seed count : ℕ) where

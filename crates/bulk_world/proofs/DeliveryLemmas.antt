@@ -4,23 +4,23 @@ use Rattle.std.specs.Prelude.{Err, Ok, Result}
 use Rattle.fugue_ids.specs.declared.op.Op.{Op}
 use Rattle.origin_model.specs.declared.taking.Tally.{Tally}
 use Rattle.origin_model.specs.edits.State.{State}
-use Rattle.origin_model.specs.taking.Taking.{IsSettled, TooMany as IsOneTooMany, answer, settle, taken}
+use Rattle.origin_model.specs.taking.Taking.{IsSettled, TooMany as IsOneTooMany, answer, settle, held_after}
 use Rattle.origin_model.proofs.SharedLemmas.{settle-settled}
-use Rattle.list_spec.specs.Worlds.{delivered}
+use Rattle.list_spec.specs.Worlds.{replica_after_delivery}
 use Rattle.replica_core.specs.Told.{StandsPartly}
 use Rattle.replica_core.specs.declared.keeping.FeedFault.{FeedFault}
 use Rattle.replica_core.specs.declared.keeping.FeedFault.TheVariants.{NoMemory, TooMany}
-use Rattle.bulk_world.specs.Deliveries.{CallsAreDeliveries, IsFeedCall, settled}
+use Rattle.bulk_world.specs.Deliveries.{CallsAreDeliveries, IsFeedCall, settled_replica}
 
 -- where there are too many, nothing changes
-nothing_delivered : (op : Op) (s : State) → IsSettled s.held → answer s.hold s.most s.held op ≡ IsOneTooMany → delivered op s ≡ s
-nothing_delivered op s z e = ap (λ h. record s { held = h }) (ap (λ a. settle (taken a s.held op)) e ∙ settle-settled s.held z)
+nothing_delivered : (op : Op) (s : State) → IsSettled s.held → answer s.hold s.most s.held op ≡ IsOneTooMany → replica_after_delivery op s ≡ s
+nothing_delivered op s z e = ap (λ h. record s { held = h }) (ap (λ a. settle (held_after a s.held op)) e ∙ settle-settled s.held z)
 
 -- what is left of settling leads to the delivery
 still_settles : (op : Op) (old new : State) (before after : Tally) → new ≡ record old { held = new.held }
-    → ((new ≡ old) × (after ≡ before)) ⊎ StandsPartly old.hold old.most old.held new.held op before after → (new ≡ old) ⊎ (settled new ≡ delivered op old)
+    → ((new ≡ old) × (after ≡ before)) ⊎ StandsPartly old.hold old.most old.held new.held op before after → (new ≡ old) ⊎ (settled_replica new ≡ replica_after_delivery op old)
 still_settles op old new before after others (inl same) = inl same.0
-still_settles op old new before after others (inr stands) = inr (ap settled others ∙ ap (λ h. record old { held = h }) stands.goes_on)
+still_settles op old new before after others (inr stands) = inr (ap settled_replica others ∙ ap (λ h. record old { held = h }) stands.goes_on)
 
 pub calls_are_deliveries : CallsAreDeliveries
 calls_are_deliveries op old new before after (Ok kept) z call = record { is = λ enough. call.held; partly = λ e. cc e }
@@ -32,5 +32,5 @@ calls_are_deliveries op old new before after (Err NoMemory) z call =
 
 -- the same of a copy of the operation, where memory is not wanting
 pub copy_delivered : (op copy : Op) (old new : State) (before after : Tally) (result : Result Bool FeedFault) → result ≢ Err NoMemory → copy ≡ op → IsSettled old.held → IsFeedCall copy old new before after result
-    → new ≡ delivered op old
-copy_delivered op copy old new before after result enough same z call = (calls_are_deliveries copy old new before after result z call).is enough ∙ ap (λ o. delivered o old) same
+    → new ≡ replica_after_delivery op old
+copy_delivered op copy old new before after result enough same z call = (calls_are_deliveries copy old new before after result z call).is enough ∙ ap (λ o. replica_after_delivery o old) same

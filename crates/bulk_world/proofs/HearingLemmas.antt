@@ -10,7 +10,7 @@ use Rattle.fugue_ids.proofs.OpLemmas.{op_eq-refl}
 use Rattle.origin_model.specs.operations.History.{has_op}
 use Rattle.origin_model.specs.taking.Taking.{Held, held_from, intake}
 use Rattle.origin_model.specs.edits.State.{State}
-use Rattle.list_spec.specs.Worlds.{Deliver, Edit, Event, Noting, World, after_event, after_events, after_making, changed, delivered, effect, made_at, note_effect, pooled}
+use Rattle.list_spec.specs.Worlds.{Deliver, Edit, Event, Noting, World, after_event, after_events, after_making, changed_world, replica_after_delivery, effect, made_at, note_effect, pool_with}
 use Rattle.list_spec.proofs.PoolLemmas.{pool_keeps}
 use Rattle.list_spec.proofs.WorldLemmas.{events_keep}
 use Rattle.bulk_world.specs.declared.making.TheConstants.{HOLD}
@@ -35,18 +35,18 @@ one_pooled pool op =
       | inr t ↦ subst (λ l. IsPooled l op) (sym (ap (λ b. if b then pool else op ∷ pool) t)) (or_left (op_eq op op) (has_op pool op) (op_eq-refl op))
     ]
 
-all_pooled : (pool ops : List Op) → All (IsPooled (pooled pool ops)) ops
+all_pooled : (pool ops : List Op) → All (IsPooled (pool_with pool ops)) ops
 all_pooled pool [] = All-nil (IsPooled pool)
 all_pooled pool (op ∷ ops) =
     let first : List Op = if has_op pool op then pool else op ∷ pool in
-    All-cons (IsPooled (pooled first ops)) op ops (pool_keeps first ops op (one_pooled pool op)) (all_pooled first ops)
+    All-cons (IsPooled (pool_with first ops)) op ops (pool_keeps first ops op (one_pooled pool op)) (all_pooled first ops)
 
 -- whatever was made at an event is in the pool behind it
 making_pooled : (n : ℕ) (w : World) (number : ℕ) (makes : State → List Op)
     → All (IsPooled (after_making w number makes).pool) (if nat_eq number n then made_at number makes w.replicas else [])
 making_pooled n w number makes =
     let made : List Op = made_at number makes w.replicas in
-    let P : Op → Type 0 = IsPooled (pooled w.pool made) in
+    let P : Op → Type 0 = IsPooled (pool_with w.pool made) in
     elim (nat_eq number n) as (λ b. All P (if b then made else [])) [ true ↦ all_pooled w.pool made | false ↦ All-nil P ]
 
 event_pooled : (n : ℕ) (w : World) (event : Event) → All (IsPooled (after_event w event).pool) (made_in n w event)
@@ -65,8 +65,8 @@ made_pooled n w (event ∷ events) =
 
 -- a delivery of what was made
 delivery : (pool : List Op) (op : Op) (n : ℕ) (one two : State) → IsPooled pool op
-    → after_event (among pool one two) (Deliver n op) ≡ record { replicas = changed n (delivered op) (one ∷ two ∷ []); pool = pool }
-delivery pool op n one two m = ap (λ b. if b then record { replicas = changed n (delivered op) (one ∷ two ∷ []); pool = pool } else among pool one two) m
+    → after_event (among pool one two) (Deliver n op) ≡ record { replicas = changed_world n (replica_after_delivery op) (one ∷ two ∷ []); pool = pool }
+delivery pool op n one two m = ap (λ b. if b then record { replicas = changed_world n (replica_after_delivery op) (one ∷ two ∷ []); pool = pool } else among pool one two) m
 
 -- replica 2 hears of operations that were made
 pub second_hears : (pool ops : List Op) (h k : Held) → All (IsPooled pool) ops

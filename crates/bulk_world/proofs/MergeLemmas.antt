@@ -13,8 +13,8 @@ use Rattle.origin_model.specs.declared.operations.Verdict.TheVariants.{Ready}
 use Rattle.origin_model.specs.operations.History.{has_op, holds}
 use Rattle.origin_model.specs.operations.Verdict.{Lawful, id_held, verdict}
 use Rattle.origin_model.specs.order.Laws.{SameOps}
-use Rattle.origin_model.specs.taking.Taking.{Accepted, Held, IsSettled, answer, held_from, intake, settle, taken}
-use Rattle.origin_model.specs.edits.Edits.{ReadyInTurn, extended, id_at}
+use Rattle.origin_model.specs.taking.Taking.{Accepted, Held, IsSettled, answer, held_from, intake, settle, held_after}
+use Rattle.origin_model.specs.edits.Edits.{ReadyInTurn, history_with, id_at}
 use Rattle.origin_model.proofs.SharedLemmas.{holds-other, id_held-nil, settle-settled, swap_or, when_ready}
 use Rattle.origin_model.proofs.edits.EditIntakeLemmas.{accepts}
 use Rattle.origin_model.proofs.edits.MadeLemmas.{ready_lawful}
@@ -56,7 +56,7 @@ or_moved true false c = refl
 or_moved false true c = refl
 or_moved false false c = refl
 
-pub has-extended : (h ops : List Op) (x : Op) → has_op (extended h ops) x ≡ (has_op ops x || has_op h x)
+pub has-extended : (h ops : List Op) (x : Op) → has_op (history_with h ops) x ≡ (has_op ops x || has_op h x)
 has-extended h [] x = refl
 has-extended h (op ∷ ops) x = has-extended (op ∷ h) ops x ∙ or_moved (op_eq op x) (has_op ops x) (has_op h x)
 
@@ -91,7 +91,7 @@ ready_beside r (op ∷ ops) h p k by ready new =
         (new_behind op h p ops (All-tail (IsAbsent (op ∷ h)) o ops a) (All-tail (IsAbsent p) o ops b))
 
 -- no identifier of another number comes
-holds_before : (m : ℕ) (h ops : List Op) (i : Identifier) → i.replica ≢ m → All (IsBy m) ops → holds (extended h ops) i ≡ true → holds h i ≡ true
+holds_before : (m : ℕ) (h ops : List Op) (i : Identifier) → i.replica ≢ m → All (IsBy m) ops → holds (history_with h ops) i ≡ true → holds h i ≡ true
 holds_before m h [] i d by e = e
 holds_before m h (op ∷ ops) i d by e =
     let k : holds (op ∷ h) i ≡ true = holds_before m (op ∷ h) ops i d (All-tail (IsBy m) op ops by) e in
@@ -105,11 +105,11 @@ none_waits : (h : List Op) → IsSettled (quiet h)
 none_waits h = All-nil _
 
 -- operations that are Ready in turn are accepted, where there is room
-pub all_accepted : (hold most : ℕ) (p ops : List Op) → ReadyInTurn p ops → length p + length ops ≤ most → held_from hold most (quiet p) ops ≡ quiet (extended p ops)
+pub all_accepted : (hold most : ℕ) (p ops : List Op) → ReadyInTurn p ops → length p + length ops ≤ most → held_from hold most (quiet p) ops ≡ quiet (history_with p ops)
 all_accepted hold most p [] r l = refl
 all_accepted hold most p (op ∷ ops) r l =
     let ok : answer hold most (quiet p) op ≡ Accepted = accepts hold most p [] op (none_waits p) r.0 (id_held-nil (id_of op)) (ne_eqb (length p + 0) most (λ e. omega (arith, e, l))) in
-    let next : intake hold most (quiet p) op ≡ quiet (op ∷ p) = ap (λ a. settle (taken a (quiet p) op)) ok ∙ settle-settled (quiet (op ∷ p)) (none_waits (op ∷ p)) in
+    let next : intake hold most (quiet p) op ≡ quiet (op ∷ p) = ap (λ a. settle (held_after a (quiet p) op)) ok ∙ settle-settled (quiet (op ∷ p)) (none_waits (op ∷ p)) in
     ap (λ s. held_from hold most s ops) next ∙ all_accepted hold most (op ∷ p) ops r.1 (omega (arith, l))
 
 -- what one author made behind a history
@@ -119,9 +119,9 @@ pub record IsWritten (n : ℕ) (h ops : List Op) : Type 0 where
   pub of : All (IsOf n) ops
 
 -- what one made comes behind what the other made
-pub comes_behind : (m n : ℕ) (h a b : List Op) → m ≢ n → Lawful h → IsWritten m h a → IsWritten n h b → ReadyInTurn (extended h a) b
+pub comes_behind : (m n : ℕ) (h a b : List Op) → m ≢ n → Lawful h → IsWritten m h a → IsWritten n h b → ReadyInTurn (history_with h a) b
 comes_behind m n h a b d w wa wb =
-    ready_beside n b h (extended h a)
+    ready_beside n b h (history_with h a)
     (record {
       lawful = ready_lawful h a w wa.ready;
       part = λ x k. has-extended h a x ∙ or_right (has_op a x) (has_op h x) k;
@@ -129,15 +129,15 @@ comes_behind m n h a b d w wa wb =
     })
     wb.by wb.ready (absent_all b (later_new h b wb.ready) wb.of)
   where
-    absent_all : (ops : List Op) → All (IsAbsent h) ops → All (IsOf n) ops → All (IsAbsent (extended h a)) ops
-    absent_all [] e f = All-nil (IsAbsent (extended h a))
+    absent_all : (ops : List Op) → All (IsAbsent h) ops → All (IsOf n) ops → All (IsAbsent (history_with h a)) ops
+    absent_all [] e f = All-nil (IsAbsent (history_with h a))
     absent_all (op ∷ ops) e f =
-        All-cons (IsAbsent (extended h a)) op ops
+        All-cons (IsAbsent (history_with h a)) op ops
         (has-extended h a op ∙ both_false (has_op a op) (has_op h op) (others_absent m n a op d wa.of (All-head (IsOf n) op ops f)) (All-head (IsAbsent h) op ops e))
         (absent_all ops (All-tail (IsAbsent h) op ops e) (All-tail (IsOf n) op ops f))
 
 -- both have the same operations then
-pub same_behind : (h a b : List Op) → SameOps (extended (extended h a) b) (extended (extended h b) a)
+pub same_behind : (h a b : List Op) → SameOps (history_with (history_with h a) b) (history_with (history_with h b) a)
 same_behind h a b x =
-    has-extended (extended h a) b x ∙ ap (λ k. has_op b x || k) (has-extended h a x) ∙ swap_or (has_op b x) (has_op a x) (has_op h x)
-    ∙ ap (λ k. has_op a x || k) (sym (has-extended h b x)) ∙ sym (has-extended (extended h b) a x)
+    has-extended (history_with h a) b x ∙ ap (λ k. has_op b x || k) (has-extended h a x) ∙ swap_or (has_op b x) (has_op a x) (has_op h x)
+    ∙ ap (λ k. has_op a x || k) (sym (has-extended h b x)) ∙ sym (has-extended (history_with h b) a x)

@@ -15,7 +15,7 @@ use Rattle.origin_model.specs.edits.State.{State}
 use Rattle.origin_model.specs.declared.edit_fault.EditFault.{EditFault}
 use Rattle.origin_model.specs.declared.edit_fault.EditFault.TheVariants.{NoMemory as no_memory}
 use Rattle.list_spec.specs.Calls.{IsEditCall}
-use Rattle.list_spec.specs.Worlds.{edited}
+use Rattle.list_spec.specs.Worlds.{replica_after_edit}
 use Rattle.bulk_world.proofs.TurnLemmas.{turn_is}
 use Rattle.bulk_world.specs.declared.making.TheConstants.{HOLD}
 use Rattle.fugue_ids.specs.declared.limits.TheConstants.{MOST_OPERATIONS}
@@ -27,7 +27,7 @@ unfolding encode
 title_is title e = encodes_same title (codes "B") e
 
 -- the section that the title makes
-added_one : edited (Add 0 (codes "B")) (author 1) ≡ two_begin 1
+added_one : replica_after_edit (Add 0 (codes "B")) (author 1) ≡ two_begin 1
 unfolding order
 added_one = refl
 
@@ -35,7 +35,7 @@ added_one = refl
 pub first_opens : (old new : State) (title : List ℕ) (made : Result ℕ EditFault) (answer : Result (Unit {0}) NoMemory) → old ≡ author 1 → title ≡ codes "B"
     → OnOk answer (made ≢ Err no_memory) → IsEditCall (Add 0 title) old new made → OnOk answer (new ≡ two_begin 1)
 first_opens old new title made (Ok done) o t enough call =
-    turn_is (Add 0 title) old new made (Ok done) enough call ∙ (λ i. edited (Add 0 (t i)) (o i)) ∙ added_one
+    turn_is (Add 0 title) old new made (Ok done) enough call ∙ (λ i. replica_after_edit (Add 0 (t i)) (o i)) ∙ added_one
 first_opens old new title made (Err fault) o t enough call = tt
 
 -- the second author hears of it

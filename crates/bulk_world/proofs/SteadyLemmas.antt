@@ -14,7 +14,7 @@ use Rattle.fugue_ids.specs.Ops.{id_of}
 use Rattle.origin_model.specs.declared.edit_fault.EditFault.TheVariants.{IdsSpent, TooMany}
 use Rattle.list_spec.proofs.PoolLemmas.{IsBy}
 use Rattle.origin_model.specs.declared.operations.Verdict.TheVariants.{Ready}
-use Rattle.origin_model.specs.operations.Counters.{counters, mentioned}
+use Rattle.origin_model.specs.operations.Counters.{counters, mentioned_ids}
 use Rattle.origin_model.specs.operations.History.{holder, holds}
 use Rattle.origin_model.specs.operations.Verdict.{Lawful, first_missing, names, verdict}
 use Rattle.origin_model.specs.order.Printed.{shown, text}
@@ -54,7 +54,7 @@ pub record IsSteady (n : ℕ) (h : List Op) : Type 0 where
   pub counters : next_counter n h [] ≤ length h
 
 next_within : (r c : ℕ) (h : List Op) → BelowAll r c h → next_counter r h [] ≤ c
-next_within r c h a = omega (arith, ap (λ l. above_all (counters r l)) (append-nil h), above_below (counters r h) c (counters_below r c (flat_map mentioned h) a))
+next_within r c h a = omega (arith, ap (λ l. above_all (counters r l)) (append-nil h), above_below (counters r h) c (counters_below r c (flat_map mentioned_ids h) a))
 
 -- what is named is held
 held_or_not : (h : List Op) (n : Identifier × Role) (ns : List (Identifier × Role)) (o : Option Op) → holder h n.0 ≡ o → first_missing h (n ∷ ns) ≡ None
@@ -81,7 +81,7 @@ names_below n h op ready =
 older_below : (n : ℕ) (h : List Op) → BelowAll n (suc (next_counter n h [])) h
 older_below n h =
     let c : ℕ = next_counter n h [] in
-    All-weaker (IsBelow n c) (IsBelow n (suc c)) (λ i b own. let l : i.counter < c = b own in omega (arith, l)) (flat_map mentioned h) (history_below n h [])
+    All-weaker (IsBelow n c) (IsBelow n (suc c)) (λ i b own. let l : i.counter < c = b own in omega (arith, l)) (flat_map mentioned_ids h) (history_below n h [])
 
 -- so the next counter rises by one at most
 counters_more : (n : ℕ) (h : List Op) (op : Op) → verdict h op ≡ Ready → All (IsBelow n (suc (next_counter n h []))) (option_to_list (id_of op)) → next_counter n h [] ≤ length h
@@ -89,7 +89,7 @@ counters_more : (n : ℕ) (h : List Op) (op : Op) → verdict h op ≡ Ready →
 counters_more n h op ready id l =
     let P : Identifier → Type 0 = IsBelow n (suc (next_counter n h [])) in
     let all : BelowAll n (suc (next_counter n h [])) (op ∷ h) =
-    All-append P (mentioned op) (flat_map mentioned h) (All-append P (option_to_list (id_of op)) (map (λ named. named.0) (names op)) id (names_below n h op ready)) (older_below n h) in
+    All-append P (mentioned_ids op) (flat_map mentioned_ids h) (All-append P (option_to_list (id_of op)) (map (λ named. named.0) (names op)) id (names_below n h op ready)) (older_below n h) in
     omega (arith, next_within n (suc (next_counter n h [])) (op ∷ h) all, l)
 
 -- what a turn makes: one operation, and the author goes on

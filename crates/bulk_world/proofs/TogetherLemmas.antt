@@ -11,11 +11,11 @@ use Rattle.origin_model.specs.order.Laws.{OrderBySet}
 use Rattle.origin_model.specs.order.Order.{order}
 use Rattle.origin_model.specs.order.Printed.{manuscript}
 use Rattle.origin_model.specs.taking.Taking.{held_from}
-use Rattle.origin_model.specs.edits.Edits.{extended}
+use Rattle.origin_model.specs.edits.Edits.{history_with}
 use Rattle.origin_model.proofs.edits.MadeLemmas.{extended_length, ready_lawful}
 use Rattle.origin_model.specs.edits.State.{State}
 use Rattle.origin_model.specs.edits.Effect.{with_ops}
-use Rattle.list_spec.specs.Worlds.{Event, World, after_event, effect, pooled}
+use Rattle.list_spec.specs.Worlds.{Event, World, after_event, effect, pool_with}
 use Rattle.list_spec.proofs.PoolLemmas.{IsBy}
 use Rattle.bulk_world.specs.Generator.{next}
 use Rattle.bulk_world.specs.Laws.{ComesTogether}
@@ -49,12 +49,12 @@ written (suc count) i x pool h k s t lh lk =
       | inl odd ↦ subst Written (sym (odd_turn i odd))
           (let step : IsOneStep 1 h (effect one_author (asked y one_author)) = one_step 1 h s (omega (arith, lh)) y in
           subst First (sym step.is)
-          (let rest = written count (suc i) y (pooled pool (step.op ∷ [])) (step.op ∷ h) k step.steady t (omega (arith, lh)) (omega (arith, lk)) in
+          (let rest = written count (suc i) y (pool_with pool (step.op ∷ [])) (step.op ∷ h) k step.steady t (omega (arith, lh)) (omega (arith, lk)) in
           record { first = one_more 1 h _ step.op step.ready step.by step.of rest.first; second = rest.second; counted = omega (arith, rest.counted) }))
       | inr even ↦ subst Written (sym (even_turn i even))
           (let step : IsOneStep 2 k (effect two_author (asked y two_author)) = one_step 2 k t (omega (arith, lk)) y in
           subst Second (sym step.is)
-          (let rest = written count (suc i) y (pooled pool (step.op ∷ [])) h (step.op ∷ k) s step.steady (omega (arith, lh)) (omega (arith, lk)) in
+          (let rest = written count (suc i) y (pool_with pool (step.op ∷ [])) h (step.op ∷ k) s step.steady (omega (arith, lh)) (omega (arith, lk)) in
           record { first = rest.first; second = one_more 2 k _ step.op step.ready step.by step.of rest.second; counted = omega (arith, rest.counted) }))
     ]
   where
@@ -76,12 +76,12 @@ written (suc count) i x pool h k s t lh lk =
     -- behind the operations of a turn of the first author, and of the second
     First : List Op → Type 0
     First ops =
-        let w : World = among (pooled pool (ops ++ [])) (with_ops one_author ops) two_author in
+        let w : World = among (pool_with pool (ops ++ [])) (with_ops one_author ops) two_author in
         AreWritten (suc count) h k ((ops ++ []) ++ made_over 1 w (turns w count (suc i) y)) (made_over 2 w (turns w count (suc i) y))
 
     Second : List Op → Type 0
     Second ops =
-        let w : World = among (pooled pool (ops ++ [])) one_author (with_ops two_author ops) in
+        let w : World = among (pool_with pool (ops ++ [])) one_author (with_ops two_author ops) in
         AreWritten (suc count) h k (made_over 1 w (turns w count (suc i) y)) ((ops ++ []) ++ made_over 2 w (turns w count (suc i) y))
 
 -- both begin steadily
@@ -105,29 +105,29 @@ module _ (by_set : OrderBySet) (seed count : ℕ) (few : count ≤ MOST_TURNS) w
   lawful = first_begins.lawful
 
   -- each accepts what the other made
-  first_all : one_hears seed count ≡ quiet (extended (extended section (made seed count 1)) (made seed count 2))
+  first_all : one_hears seed count ≡ quiet (history_with (history_with section (made seed count 1)) (made seed count 2))
   first_all =
       ap (λ (s : State). held_from HOLD MOST_OPERATIONS s.held (made seed count 2)) (after seed count).one_is
-      ∙ all_accepted HOLD MOST_OPERATIONS (extended section (made seed count 1)) (made seed count 2) (comes_behind 1 2 section (made seed count 1) (made seed count 2) (λ e. cc e) lawful both.first both.second)
+      ∙ all_accepted HOLD MOST_OPERATIONS (history_with section (made seed count 1)) (made seed count 2) (comes_behind 1 2 section (made seed count 1) (made seed count 2) (λ e. cc e) lawful both.first both.second)
       (omega (arith, few, both.counted, extended_length section (made seed count 1)))
 
-  second_all : two_hears seed count ≡ quiet (extended (extended section (made seed count 2)) (made seed count 1))
+  second_all : two_hears seed count ≡ quiet (history_with (history_with section (made seed count 2)) (made seed count 1))
   second_all =
       ap (λ (s : State). held_from HOLD MOST_OPERATIONS s.held (made seed count 1)) (after seed count).two_is
-      ∙ all_accepted HOLD MOST_OPERATIONS (extended section (made seed count 2)) (made seed count 1) (comes_behind 2 1 section (made seed count 2) (made seed count 1) (λ e. cc e) lawful both.second both.first)
+      ∙ all_accepted HOLD MOST_OPERATIONS (history_with section (made seed count 2)) (made seed count 1) (comes_behind 2 1 section (made seed count 2) (made seed count 1) (λ e. cc e) lawful both.second both.first)
       (omega (arith, few, both.counted, extended_length section (made seed count 2)))
 
   abbrev here : List Op
-  here = extended (extended section (made seed count 1)) (made seed count 2)
+  here = history_with (history_with section (made seed count 1)) (made seed count 2)
 
   abbrev there : List Op
-  there = extended (extended section (made seed count 2)) (made seed count 1)
+  there = history_with (history_with section (made seed count 2)) (made seed count 1)
 
   same_text : manuscript here ≡ manuscript there
   same_text =
       (by_set here there
-      (ready_lawful (extended section (made seed count 1)) (made seed count 2) (ready_lawful section (made seed count 1) lawful both.first.ready) (comes_behind 1 2 section (made seed count 1) (made seed count 2) (λ e. cc e) lawful both.first both.second))
-      (ready_lawful (extended section (made seed count 2)) (made seed count 1) (ready_lawful section (made seed count 2) lawful both.second.ready) (comes_behind 2 1 section (made seed count 2) (made seed count 1) (λ e. cc e) lawful both.second both.first))
+      (ready_lawful (history_with section (made seed count 1)) (made seed count 2) (ready_lawful section (made seed count 1) lawful both.first.ready) (comes_behind 1 2 section (made seed count 1) (made seed count 2) (λ e. cc e) lawful both.first both.second))
+      (ready_lawful (history_with section (made seed count 2)) (made seed count 1) (ready_lawful section (made seed count 2) lawful both.second.ready) (comes_behind 2 1 section (made seed count 2) (made seed count 1) (λ e. cc e) lawful both.second both.first))
       (same_behind section (made seed count 1) (made seed count 2))).same_manuscript
 
   told : summary (bulk_world seed count) ≡ told_of (quiet_author 1 here) (quiet_author 2 there)
@@ -140,4 +140,4 @@ module _ (by_set : OrderBySet) (seed count : ℕ) (few : count ≤ MOST_TURNS) w
   }
     where
       sized : length here ≡ count + 1
-      sized = omega (arith, both.counted, extended_length section (made seed count 1), extended_length (extended section (made seed count 1)) (made seed count 2))
+      sized = omega (arith, both.counted, extended_length section (made seed count 1), extended_length (history_with section (made seed count 1)) (made seed count 2))

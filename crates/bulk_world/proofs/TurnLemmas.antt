@@ -15,20 +15,20 @@ use Rattle.origin_model.specs.edits.Effect.{with_ops}
 use Rattle.origin_model.specs.declared.edit_fault.EditFault.{EditFault}
 use Rattle.origin_model.specs.declared.edit_fault.EditFault.TheVariants.{NoMemory}
 use Rattle.list_spec.specs.Calls.{IsEditCall}
-use Rattle.list_spec.specs.Worlds.{Edit, Event, World, after_event, after_events, edited, effect, pooled}
+use Rattle.list_spec.specs.Worlds.{Edit, Event, World, after_event, after_events, replica_after_edit, effect, pool_with}
 use Rattle.list_spec.proofs.CallLemmas.{calls_are_edits}
 use Rattle.bulk_world.specs.Generator.{drawn_command, next}
 use Rattle.bulk_world.specs.Turns.{IsAuthor, TurnsLead, among, author, first_text, made_over, numbered_replica, turn_of, turns}
 
 -- where memory is not wanting, the edit is that of the world, refused or not
-edit_is : (command : Command) (old new : State) (result : Result ℕ EditFault) → result ≢ Err NoMemory → IsEditCall command old new result → new ≡ edited command old
+edit_is : (command : Command) (old new : State) (result : Result ℕ EditFault) → result ≢ Err NoMemory → IsEditCall command old new result → new ≡ replica_after_edit command old
 edit_is command old new result enough call =
     let is = calls_are_edits command old new result call in
-    is.is ∙ ap (λ c. edited c old) (is.whole enough)
+    is.is ∙ ap (λ c. replica_after_edit c old) (is.whole enough)
 
 -- the same, by what is answered of the call
 pub turn_is : (command : Command) (old new : State) (made : Result ℕ EditFault) (answer : Result (Unit {0}) OutOfMemory) → OnOk answer (made ≢ Err NoMemory)
-    → IsEditCall command old new made → OnOk answer (new ≡ edited command old)
+    → IsEditCall command old new made → OnOk answer (new ≡ replica_after_edit command old)
 turn_is command old new made (Ok done) enough call = edit_is command old new made enough call
 turn_is command old new made (Err fault) enough call = tt
 
@@ -40,7 +40,7 @@ letter_text ch text utf8 is =
 
 -- a put of a text
 pub put_is : (at : ℕ) (text new : List ℕ) (old now : State) (made : Result ℕ EditFault) (answer : Result (Unit {0}) OutOfMemory) → OnOk answer (made ≢ Err NoMemory)
-    → text ≡ new → IsEditCall (Put 0 at text) old now made → OnOk answer (now ≡ edited (Put 0 at new) old)
+    → text ≡ new → IsEditCall (Put 0 at text) old now made → OnOk answer (now ≡ replica_after_edit (Put 0 at new) old)
 put_is at text new old now made answer enough is call = turn_is (Put 0 at new) old now made answer enough (subst (λ t. IsEditCall (Put 0 at t) old now made) is call)
 
 -- an author, with whatever it holds
@@ -71,22 +71,22 @@ LeadsBy n count i x one two one' two' =
 
 -- a turn of either, and then the others
 pub first_turn : (count i x : ℕ) (one two a b : State) → nat_eq (i % 2) 1 ≡ true → IsAuthor 1 one → IsAuthor 2 two
-    → TurnsLead count (suc i) (next x) (edited (asked (next x) one) one) two a b → TurnsLead (suc count) i x one two a b
+    → TurnsLead count (suc i) (next x) (replica_after_edit (asked (next x) one) one) two a b → TurnsLead (suc count) i x one two a b
 first_turn count i x one two a b odd f s leads =
     subst (λ n. LeadsBy n count i (next x) one two a b) (sym (odd_turn i odd))
-    (subst (λ t. LeadsBy 1 count i (next x) one t a b) (sym s) (subst (λ o. TurnsLead count (suc i) (next x) (edited (asked (next x) o) o) (numbered 2 two.held) a b → LeadsBy 1 count i (next x) o (numbered 2 two.held) a b) (sym f)
-    (λ l pool. l _) (subst (λ t. TurnsLead count (suc i) (next x) (edited (asked (next x) one) one) t a b) s leads)))
+    (subst (λ t. LeadsBy 1 count i (next x) one t a b) (sym s) (subst (λ o. TurnsLead count (suc i) (next x) (replica_after_edit (asked (next x) o) o) (numbered 2 two.held) a b → LeadsBy 1 count i (next x) o (numbered 2 two.held) a b) (sym f)
+    (λ l pool. l _) (subst (λ t. TurnsLead count (suc i) (next x) (replica_after_edit (asked (next x) one) one) t a b) s leads)))
 
 pub second_turn : (count i x : ℕ) (one two a b : State) → nat_eq (i % 2) 1 ≡ false → IsAuthor 1 one → IsAuthor 2 two
-    → TurnsLead count (suc i) (next x) one (edited (asked (next x) two) two) a b → TurnsLead (suc count) i x one two a b
+    → TurnsLead count (suc i) (next x) one (replica_after_edit (asked (next x) two) two) a b → TurnsLead (suc count) i x one two a b
 second_turn count i x one two a b even f s leads =
     subst (λ n. LeadsBy n count i (next x) one two a b) (sym (even_turn i even))
-    (subst (λ o. LeadsBy 2 count i (next x) o two a b) (sym f) (subst (λ t. TurnsLead count (suc i) (next x) (numbered 1 one.held) (edited (asked (next x) t) t) a b → LeadsBy 2 count i (next x) (numbered 1 one.held) t a b) (sym s)
-    (λ l pool. l _) (subst (λ o. TurnsLead count (suc i) (next x) o (edited (asked (next x) two) two) a b) f leads)))
+    (subst (λ o. LeadsBy 2 count i (next x) o two a b) (sym f) (subst (λ t. TurnsLead count (suc i) (next x) (numbered 1 one.held) (replica_after_edit (asked (next x) t) t) a b → LeadsBy 2 count i (next x) (numbered 1 one.held) t a b) (sym s)
+    (λ l pool. l _) (subst (λ o. TurnsLead count (suc i) (next x) o (replica_after_edit (asked (next x) two) two) a b) f leads)))
 
 -- an edit leaves an author an author
-pub still_author : (n : ℕ) (command : Command) (s : State) → IsAuthor n s → IsAuthor n (edited command s)
-still_author n command s is = ap (λ (a : State). record a { held = (edited command s).held }) is
+pub still_author : (n : ℕ) (command : Command) (s : State) → IsAuthor n s → IsAuthor n (replica_after_edit command s)
+still_author n command s is = ap (λ (a : State). record a { held = (replica_after_edit command s).held }) is
 
 -- what events leave in which authors edit: each gained what it made
 pub record IsTurned (pool : List Op) (one two : State) (events : List Event) : Type 0 where
@@ -111,12 +111,12 @@ turned (suc count) i x pool h k =
       | inl t ↦ subst Turned (sym (odd_turn i t))
           (let command = asked y one in
           let ops : List Op = effect one command in
-          let rest = turned count (suc i) y (pooled pool (ops ++ [])) (edited command one).held k in
+          let rest = turned count (suc i) y (pool_with pool (ops ++ [])) (replica_after_edit command one).held k in
           record { pool_after = rest.pool_after; one_after = rest.one_after; two_after = rest.two_after; is = rest.is; one_is = rest.one_is ∙ two_steps one ops _; two_is = rest.two_is })
       | inr t ↦ subst Turned (sym (even_turn i t))
           (let command = asked y two in
           let ops : List Op = effect two command in
-          let rest = turned count (suc i) y (pooled pool (ops ++ [])) h (edited command two).held in
+          let rest = turned count (suc i) y (pool_with pool (ops ++ [])) h (replica_after_edit command two).held in
           record { pool_after = rest.pool_after; one_after = rest.one_after; two_after = rest.two_after; is = rest.is; one_is = rest.one_is; two_is = rest.two_is ∙ two_steps two ops _ })
     ]
   where
@@ -150,24 +150,24 @@ none_left W count done x one two last whole = whole one two (by_count 0 (count -
 
 -- a turn of the first author
 pub first_on : (W : State → State → Type 0) (count done x y : ℕ) (one two new : State) → done < count → nat_eq ((done + 1) % 2) 1 ≡ true → IsAuthor 1 one → IsAuthor 2 two
-    → y ≡ next x → new ≡ edited (asked y one) one → Whole W count done x one two → Whole W count (done + 1) y new two
+    → y ≡ next x → new ≡ replica_after_edit (asked y one) one → Whole W count done x one two → Whole W count (done + 1) y new two
 first_on W count done x y one two new l odd f s ny nn whole a b leads =
     let c : ℕ = count - (done + 1) in
-    let now : TurnsLead c (suc (done + 1)) (next x) (edited (asked (next x) one) one) two a b =
-    subst (λ z. TurnsLead c (suc (done + 1)) z (edited (asked z one) one) two a b) ny (subst (λ n. TurnsLead c (suc (done + 1)) y n two a b) nn (subst (λ k. TurnsLead c k y new two a b) (omega arith) leads)) in
+    let now : TurnsLead c (suc (done + 1)) (next x) (replica_after_edit (asked (next x) one) one) two a b =
+    subst (λ z. TurnsLead c (suc (done + 1)) z (replica_after_edit (asked z one) one) two a b) ny (subst (λ n. TurnsLead c (suc (done + 1)) y n two a b) nn (subst (λ k. TurnsLead c k y new two a b) (omega arith) leads)) in
     whole a b (by_count (suc c) (count - done) (done + 1) x one two a b (omega (arith, l)) (first_turn c (done + 1) x one two a b odd f s now))
 
 -- a turn of the second author
 pub second_on : (W : State → State → Type 0) (count done x y : ℕ) (one two new : State) → done < count → nat_eq ((done + 1) % 2) 1 ≡ false → IsAuthor 1 one → IsAuthor 2 two
-    → y ≡ next x → new ≡ edited (asked y two) two → Whole W count done x one two → Whole W count (done + 1) y one new
+    → y ≡ next x → new ≡ replica_after_edit (asked y two) two → Whole W count done x one two → Whole W count (done + 1) y one new
 second_on W count done x y one two new l even f s ny nn whole a b leads =
     let c : ℕ = count - (done + 1) in
-    let now : TurnsLead c (suc (done + 1)) (next x) one (edited (asked (next x) two) two) a b =
-    subst (λ z. TurnsLead c (suc (done + 1)) z one (edited (asked z two) two) a b) ny (subst (λ n. TurnsLead c (suc (done + 1)) y one n a b) nn (subst (λ k. TurnsLead c k y one new a b) (omega arith) leads)) in
+    let now : TurnsLead c (suc (done + 1)) (next x) one (replica_after_edit (asked (next x) two) two) a b =
+    subst (λ z. TurnsLead c (suc (done + 1)) z one (replica_after_edit (asked z two) two) a b) ny (subst (λ n. TurnsLead c (suc (done + 1)) y one n a b) nn (subst (λ k. TurnsLead c k y one new a b) (omega arith) leads)) in
     whole a b (by_count (suc c) (count - done) (done + 1) x one two a b (omega (arith, l)) (second_turn c (done + 1) x one two a b even f s now))
 
 -- and it stays an author
-pub author_on : (n : ℕ) (command : Command) (s new : State) → IsAuthor n s → new ≡ edited command s → IsAuthor n new
+pub author_on : (n : ℕ) (command : Command) (s new : State) → IsAuthor n s → new ≡ replica_after_edit command s → IsAuthor n new
 author_on n command s new is e = subst (IsAuthor n) (sym e) (still_author n command s is)
 
 -- two settled authors on the way to what all turns lead to
@@ -179,7 +179,7 @@ pub record IsUnderWay (W : State → State → Type 0) (count done x : ℕ) (one
   pub second_settled : IsSettled two.held
 
 pub first_goes_on : (W : State → State → Type 0) (count done x y : ℕ) (one two new : State) → IsUnderWay W count done x one two → done < count → (done + 1) % 2 ≡ 1
-    → y ≡ next x → new ≡ edited (asked y one) one → IsSettled new.held → IsUnderWay W count (done + 1) y new two
+    → y ≡ next x → new ≡ replica_after_edit (asked y one) one → IsSettled new.held → IsUnderWay W count (done + 1) y new two
 first_goes_on W count done x y one two new u l odd ny nn settled =
     record {
       leads = first_on W count done x y one two new l (eq-eqb ((done + 1) % 2) 1 odd) u.first u.second ny nn u.leads;
@@ -190,7 +190,7 @@ first_goes_on W count done x y one two new u l odd ny nn settled =
     }
 
 pub second_goes_on : (W : State → State → Type 0) (count done x y : ℕ) (one two new : State) → IsUnderWay W count done x one two → done < count → ((done + 1) % 2 ≡ 1 → ⊥)
-    → y ≡ next x → new ≡ edited (asked y two) two → IsSettled new.held → IsUnderWay W count (done + 1) y one new
+    → y ≡ next x → new ≡ replica_after_edit (asked y two) two → IsSettled new.held → IsUnderWay W count (done + 1) y one new
 second_goes_on W count done x y one two new u l even ny nn settled =
     record {
       leads = second_on W count done x y one two new l (ne_eqb ((done + 1) % 2) 1 even) u.first u.second ny nn u.leads;

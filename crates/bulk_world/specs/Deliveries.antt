@@ -5,8 +5,8 @@ use Rattle.fugue_ids.specs.declared.op.Op.{Op}
 use Rattle.origin_model.specs.declared.taking.Tally.{Tally}
 use Rattle.origin_model.specs.edits.State.{State}
 use Rattle.origin_model.specs.taking.Taking.{IsSettled, TooMany as IsOneTooMany, answer, intake, settle}
-use Rattle.list_spec.specs.Worlds.{delivered}
-use Rattle.replica_core.specs.Told.{Leaves}
+use Rattle.list_spec.specs.Worlds.{replica_after_delivery}
+use Rattle.replica_core.specs.Told.{LeavesAfterFault}
 use Rattle.replica_core.specs.declared.keeping.FeedFault.{FeedFault}
 use Rattle.replica_core.specs.declared.keeping.FeedFault.TheVariants.{NoMemory, TooMany}
 
@@ -14,16 +14,16 @@ use Rattle.replica_core.specs.declared.keeping.FeedFault.TheVariants.{NoMemory, 
 pub record IsFeedCall (op : Op) (old new : State) (before after : Tally) (result : Result Bool FeedFault) : Type 0 where
   pub held : OnOk result (new ≡ record old { held = intake old.hold old.most old.held op })
   pub too_many : (result ≡ Err (TooMany old.most)) ↔ (answer old.hold old.most old.held op ≡ IsOneTooMany)
-  pub err : IfErr result (λ fault. Leaves old new op before after fault)
+  pub err : IfErr result (λ fault. LeavesAfterFault old new op before after fault)
 
 -- the replica with what waits settled to the end
-abbrev pub settled : State → State
-settled s = record s { held = settle s.held }
+abbrev pub settled_replica : State → State
+settled_replica s = record s { held = settle s.held }
 
 -- the call is a delivery of the world or, where memory was wanting, no event of it, or one whose settling is not over yet
 pub record IsDelivery (op : Op) (old new : State) (result : Result Bool FeedFault) : Type 0 where
-  pub is : result ≢ Err NoMemory → new ≡ delivered op old
-  pub partly : result ≡ Err NoMemory → (new ≡ old) ⊎ (settled new ≡ delivered op old)
+  pub is : result ≢ Err NoMemory → new ≡ replica_after_delivery op old
+  pub partly : result ≡ Err NoMemory → (new ≡ old) ⊎ (settled_replica new ≡ replica_after_delivery op old)
 
 -- every such call to a settled replica is a delivery
 abbrev pub CallsAreDeliveries : Type 0

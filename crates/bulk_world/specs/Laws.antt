@@ -10,5 +10,5 @@ pub record ComesTogether (seed count : ℕ) : Type 0 where
   pub equal : (summary (bulk_world seed count)).is_equal ≡ true
 
 -- so it is in every world that may be asked for: no limit is met
-abbrev pub MeetsNoLimit : Type 0
-MeetsNoLimit = (seed count : ℕ) → count ≤ MOST_TURNS → ComesTogether seed count
+abbrev pub WorldMeetsNoLimit : Type 0
+WorldMeetsNoLimit = (seed count : ℕ) → count ≤ MOST_TURNS → ComesTogether seed count

@@ -8,13 +8,13 @@ use Rattle.bulk_world.specs.declared.telling.Summary.{Summary}
 use lib.Pointwise.{pointwise}
 
 -- each scalar times its place, where the first has the place k
-abbrev pub weighed : ℕ → List ℕ → ℕ
-weighed k [] = 0
-weighed k (ch ∷ chs) = k * ch + weighed (suc k) chs
+abbrev pub weighted_scalars : ℕ → List ℕ → ℕ
+weighted_scalars k [] = 0
+weighted_scalars k (ch ∷ chs) = k * ch + weighted_scalars (suc k) chs
 
 -- the sum over all, by places from 1
 abbrev pub sum_of : List ℕ → ℕ
-sum_of chs = weighed 1 chs % 4294967296
+sum_of chs = weighted_scalars 1 chs % 4294967296
 
 -- two texts are as long as each other, and equal byte by byte
 abbrev pub are_same : List ℕ → List ℕ → Bool
@@ -38,6 +38,7 @@ summary w = told_of (numbered_replica 1 w.replicas) (numbered_replica 2 w.replic
 abbrev pub verdict_word : Bool → List ℕ
 verdict_word is_equal = if is_equal then codes "equal" else codes "different"
 
+-- LF
 abbrev line_end : List ℕ
 line_end = 10 ∷ []
 

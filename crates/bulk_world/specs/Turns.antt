@@ -16,6 +16,7 @@ use Rattle.fugue_ids.specs.declared.limits.TheConstants.{MOST_OPERATIONS}
 abbrev pub author : ℕ → State
 author number = record { number = number; hold = HOLD; most = MOST_OPERATIONS; held = nothing_held }
 
+-- the two authors, with nothing accepted
 abbrev pub authors : List State
 authors = author 1 ∷ author 2 ∷ []
 
@@ -34,6 +35,7 @@ made_in n w (Edit number command) = if nat_eq number n then made_at number (λ (
 made_in n w (Noting number named code body) = if nat_eq number n then made_at number (λ (s : State). note_effect s named code body) w.replicas else []
 made_in n w (Deliver number op) = []
 
+-- the operations that events make one after another at the replica n
 abbrev pub made_over : ℕ → World → List Event → List Op
 made_over n w [] = []
 made_over n w (event ∷ events) = made_in n w event ++ made_over n (after_event w event) events
@@ -46,8 +48,9 @@ delivers n ops = map (λ op. Deliver n op) ops
 abbrev pub first_section : List Event
 first_section = Edit 1 (Add 0 (codes "B")) ∷ []
 
-abbrev pub opening : List Event
-opening = first_section ++ delivers 2 (made_over 1 (world authors []) first_section)
+-- the first section, which both authors have before they part
+abbrev pub opening_turn : List Event
+opening_turn = first_section ++ delivers 2 (made_over 1 (world authors []) first_section)
 
 -- whose turn i is: that of replica 1 where i is odd
 abbrev pub turn_of : ℕ → ℕ
@@ -85,11 +88,11 @@ hearing w events = delivers 2 (made_over 1 w events) ++ delivers 1 (made_over 2 
 
 -- the turns that a seed leads to
 abbrev pub all_turns : (seed count : ℕ) → List Event
-all_turns seed count = turns (world authors opening) count 1 seed
+all_turns seed count = turns (world authors opening_turn) count 1 seed
 
 -- all that happens
 abbrev pub events : (seed count : ℕ) → List Event
-events seed count = opening ++ (all_turns seed count ++ hearing (world authors opening) (all_turns seed count))
+events seed count = opening_turn ++ (all_turns seed count ++ hearing (world authors opening_turn) (all_turns seed count))
 
 -- the world of a bulk manuscript
 abbrev pub bulk_world : (seed count : ℕ) → World

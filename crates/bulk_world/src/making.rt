@@ -4,7 +4,7 @@ ghost use Rattle.bulk_world.specs.Summary.{summary};
 ghost use Rattle.bulk_world.specs.Turns.{author, bulk_world, two_begin};
 ghost use Rattle.origin_model.specs.taking.Taking.{IsSettled, held_from, intake};
 ghost use Rattle.bulk_world.specs.Deliveries.{CallsAreDeliveries};
-ghost use Rattle.bulk_world.specs.Laws.{MeetsNoLimit};
+ghost use Rattle.bulk_world.specs.Laws.{WorldMeetsNoLimit};
 
 use crate::Summary;
 use crate::generator::unless_memory_wants;
@@ -152,7 +152,7 @@ fn hear_one(alloc: Global, replica: &mut Replica, op: &OpRef<'_>) -> Result<(), 
 /// No limit is met: each turn makes one operation, each author accepts all that the other made, and both end with the
 /// same manuscript. It does nothing when it runs.
 pub fn bulk_comes_together()
-    ensures { MeetsNoLimit }
+    ensures { WorldMeetsNoLimit }
 {
     order_by_set();
 }

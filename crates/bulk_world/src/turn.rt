@@ -2,7 +2,7 @@
 ghost use Rattle.std.specs.Prelude.{◌≡◌, [], ◌∷◌, length, OnOk};
 ghost use Rattle.origin_model.specs.edits.Edits.{Put, Cut};
 ghost use Rattle.origin_model.specs.taking.Taking.{IsSettled};
-ghost use Rattle.list_spec.specs.Worlds.{edited};
+ghost use Rattle.list_spec.specs.Worlds.{replica_after_edit};
 ghost use Rattle.bulk_world.specs.Edit.{command_for};
 ghost use Rattle.bulk_world.specs.Generator.{drawn_command};
 ghost use Rattle.bulk_world.specs.Turns.{IsAuthor, TurnsLead, first_text};
@@ -42,7 +42,7 @@ pub(crate) fn take_turns(
 /// One turn, by the number x.
 fn take_turn(replica: &mut Replica, x: u32) -> Result<(), NoMemory>
     requires { IsSettled replica.old.held }
-    ensures ok { OnOk result (replica.new ≡ edited (drawn_command x (length (first_text replica.old))) replica.old) }
+    ensures ok { OnOk result (replica.new ≡ replica_after_edit (drawn_command x (length (first_text replica.old))) replica.old) }
     ensures settled { IsSettled replica.new.held }
 {
     let shown = replica.text_len(0).unwrap_or(0);
@@ -55,7 +55,7 @@ fn take_turn(replica: &mut Replica, x: u32) -> Result<(), NoMemory>
 /// A refused edit changes nothing.
 fn put(replica: &mut Replica, at: usize, letter: char) -> Result<(), NoMemory>
     requires { IsSettled replica.old.held }
-    ensures ok { OnOk result (replica.new ≡ edited (Put 0 at (letter ∷ [])) replica.old) }
+    ensures ok { OnOk result (replica.new ≡ replica_after_edit (Put 0 at (letter ∷ [])) replica.old) }
     ensures settled { IsSettled replica.new.held }
 {
     let mut buffer = [0; 4];
@@ -66,7 +66,7 @@ fn put(replica: &mut Replica, at: usize, letter: char) -> Result<(), NoMemory>
 /// A refused edit changes nothing.
 fn cut(replica: &mut Replica, at: usize) -> Result<(), NoMemory>
     requires { IsSettled replica.old.held }
-    ensures ok { OnOk result (replica.new ≡ edited (Cut 0 at 1) replica.old) }
+    ensures ok { OnOk result (replica.new ≡ replica_after_edit (Cut 0 at 1) replica.old) }
     ensures settled { IsSettled replica.new.held }
 {
     unless_memory_wants(&replica.cut(0, at, 1))

@@ -28,7 +28,7 @@ use Rattle.catalogue_notes.specs.Arranged.{arranged, best, counts, heading, posi
 use Rattle.catalogue_notes.specs.Claims.{Move, Origins, Retitle, claim, move_in, retitle_in}
 use Rattle.catalogue_notes.specs.Laws.{MoveLands}
 use Rattle.catalogue_notes.specs.Lift.{as_section, greatest, is_section, is_valid_title, lift, moves, passing, retitles, stamp, stands}
-use Rattle.catalogue_notes.specs.Making.{left_for, move_body, move_names, moved, without}
+use Rattle.catalogue_notes.specs.Making.{left_of_move, move_body, move_names, moved_member, without_member}
 use Rattle.catalogue_notes.specs.declared.limits.TheConstants.{MOVE_CODE}
 use Rattle.catalogue_notes.proofs.ArrangedLemmas.{IsSection, apart, arranged_once, arranged_shown, move_test, position_by, position_in, shown_is, shown_once}
 use Rattle.catalogue_notes.proofs.ClaimLemmas.{beats-stamp, best-first, claims-none, claims-some}
@@ -199,12 +199,12 @@ put_in A B s j e = sym (λ i. take_at A B j e i ++ s ∷ drop_at A B j e i)
 
 -- where the left origin is the last of the front, the front has as many members as stand in front of the place
 pub front_length : (h : List Op) (s : Identifier) (k j : ℕ) (front back : List Identifier) → Lawful h → slice_get (arranged h) k ≡ Some s → j < length (arranged h)
-    → order catalogue (lift h) ≡ front ++ back → last_before front ≡ left_for h k j
+    → order catalogue (lift h) ≡ front ++ back → last_before front ≡ left_of_move h k j
     → length (filter (is_other s) (flat_map (sections_at h) front)) ≡ j
 front_length h s k zero front back w at below was ends = ap (λ z. length (filter (is_other s) (flat_map (sections_at h) z))) (end_none front ends)
 front_length h s k (suc i) front back w at below was ends =
     let F : Identifier → List Identifier = sections_at h in
-    let W : List Identifier = without (arranged h) k in
+    let W : List Identifier = without_member (arranged h) k in
     let out : filter (is_other s) (arranged h) ≡ W = filter_out (arranged h) k s (arranged_once h w) at in
     let t = get_some W i (omega (arith, below, length-out (arranged h) k s at)) in
     let ends' : last_before front ≡ Some (position h t.0) = ends ∙ ap (option_map (position h)) t.1 in
@@ -231,10 +231,10 @@ front_length h s k (suc i) front back w at below was ends =
     ap length one ∙ omega (arith, length-append X (t.0 ∷ []), place)
 
 -- the left origin is lifted
-left_stands : (h : List Op) (s : Identifier) (k j : ℕ) → Lawful h → slice_get (arranged h) k ≡ Some s → j < length (arranged h) → IfSome (left_for h k j) (λ l. Contains (order catalogue (lift h)) l)
+left_stands : (h : List Op) (s : Identifier) (k j : ℕ) → Lawful h → slice_get (arranged h) k ≡ Some s → j < length (arranged h) → IfSome (left_of_move h k j) (λ l. Contains (order catalogue (lift h)) l)
 left_stands h s k zero w at below = tt
 left_stands h s k (suc i) w at below =
-    let W : List Identifier = without (arranged h) k in
+    let W : List Identifier = without_member (arranged h) k in
     let out : filter (is_other s) (arranged h) ≡ W = filter_out (arranged h) k s (arranged_once h w) at in
     let t = get_some W i (omega (arith, below, length-out (arranged h) k s at)) in
     let in_W : Contains (filter (is_other s) (arranged h)) t.0 = subst (λ z. Contains z t.0) (sym out) (get_in W i t.0 t.1) in
@@ -254,7 +254,7 @@ if_some P o x p e = subst (λ o. IfSome o P) e p
 pub move_lands : MoveLands
 move_lands h id s k j w absent left_over at below =
     let new : holder h id ≡ None = none_there (holder h id) absent in
-    let l : Option Identifier = left_for h k j in
+    let l : Option Identifier = left_of_move h k j in
     let r : Option Identifier = following (order catalogue (lift h)) l in
     let n : ℕ = stamp h + 1 in
     let has_left = left_stands h s k j w at below in
@@ -262,7 +262,7 @@ move_lands h id s k j w absent left_over at below =
     let right_is : stands (lift h) r ≡ true = stands_in h r w (following_in (order catalogue (lift h)) l) in
     let here : Contains (shown catalogue h) s = arranged_shown h s (get_in (arranged h) k s at) in
     let later : stamp h < n = omega arith in
-    let e : Op = moved h id s k j in
+    let e : Op = moved_member h id s k j in
     let m : Move = claim id s n (record { left = l; right = r }) in
     let is_ready : verdict h e ≡ Ready = ready h id s n l r w new left_over later here left_is right_is in
     let is_lifted : lift (e ∷ h) ≡ as_section m ∷ lift h = lifted h id s n l r w new left_over later here left_is right_is in

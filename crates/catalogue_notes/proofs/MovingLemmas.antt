@@ -14,7 +14,7 @@ use Rattle.origin_model.specs.edits.Edits.{id_at, next_counter}
 use Rattle.origin_model.specs.edits.Effect.{Gains}
 use Rattle.origin_model.specs.edits.Noting.{AreHeld, IsNoted, RefusesNote, note_by, note_refusal}
 use Rattle.origin_model.specs.edits.Refusal.{held_count, next_of_own}
-use Rattle.origin_model.specs.edits.State.{Stands, State}
+use Rattle.origin_model.specs.edits.State.{IsSound, State}
 use Rattle.origin_model.specs.operations.History.{holds}
 use Rattle.origin_model.specs.operations.Verdict.{verdict}
 use Rattle.origin_model.proofs.edits.FreshIdLemmas.{history_below, none_from}
@@ -41,7 +41,7 @@ fresh s =
     none_from s.number c h (history_below s.number h s.held.waiting) c (le_refl c)
 
 -- the planned move lands
-pub plan_lands : (s : State) (k j : ℕ) (plan : Plan) (p : IsMovePlan s k j plan) → Stands s → IsMoved s.held.history (move_by s p.section k j) p.section k j
+pub plan_lands : (s : State) (k j : ℕ) (plan : Plan) (p : IsMovePlan s k j plan) → IsSound s → IsMoved s.held.history (move_by s p.section k j) p.section k j
 plan_lands s k j plan p st = move_lands s.held.history (id_at s.number (next_of_own s)) p.section k j st.lawful (fresh s) p.left_over p.placed p.place
 
 -- a note that is Ready names what is held
@@ -50,7 +50,7 @@ ready_held h id named code body r =
     let f = all_from_map anything (Fits h) named (joins h (Note id named code body) r).fit in
     are_held h named (All-weaker (λ i. Fits h (anything i)) (IsHeld h) (λ i k. (k.0, k.1)) named f)
 
-pub plan_held : (s : State) (k j : ℕ) (plan : Plan) → IsMovePlan s k j plan → Stands s → AreHeld s.held.history plan.names
+pub plan_held : (s : State) (k j : ℕ) (plan : Plan) → IsMovePlan s k j plan → IsSound s → AreHeld s.held.history plan.names
 plan_held s k j plan p st =
     let h : List Op = s.held.history in
     let m = plan_lands s k j plan p st in
@@ -58,7 +58,7 @@ plan_held s k j plan p st =
     (ready_held h (id_at s.number (next_of_own s)) (move_names p.section (origins_for h k j)) MOVE_CODE (move_body (stamp h + 1) (origins_for h k j)) m.ready)
 
 -- the planned move was made
-pub plan_made : (old new : State) (k j n : ℕ) (plan : Plan) → IsMovePlan old k j plan → Stands old → IsNoted old new plan.names MOVE_CODE plan.body n → IsMoveMade old new k j n
+pub plan_made : (old new : State) (k j n : ℕ) (plan : Plan) → IsMovePlan old k j plan → IsSound old → IsNoted old new plan.names MOVE_CODE plan.body n → IsMoveMade old new k j n
 plan_made old new k j n plan p st i = record {
   count = i.count;
   section = p.section;
@@ -109,6 +109,6 @@ note_refuses_err s fault r = record {
 }
 
 -- an answer, by its plan
-pub made_by_plan : (old new : State) (k j : ℕ) (plan : Plan) (r : Result ℕ MoveFault) → IsMovePlan old k j plan → Stands old → IfOk r (λ n. IsNoted old new plan.names MOVE_CODE plan.body n) → IfOk r (λ n. IsMoveMade old new k j n)
+pub made_by_plan : (old new : State) (k j : ℕ) (plan : Plan) (r : Result ℕ MoveFault) → IsMovePlan old k j plan → IsSound old → IfOk r (λ n. IsNoted old new plan.names MOVE_CODE plan.body n) → IfOk r (λ n. IsMoveMade old new k j n)
 made_by_plan old new k j plan (Ok n) p st i = plan_made old new k j n plan p st i
 made_by_plan old new k j plan (Err e) p st i = tt

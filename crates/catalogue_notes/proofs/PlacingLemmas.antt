@@ -16,7 +16,7 @@ use Rattle.catalogue_notes.specs.Arranged.{arranged, position, sections_at, winn
 use Rattle.catalogue_notes.specs.Claims.{Move}
 use Rattle.catalogue_notes.specs.Lift.{lift, moves}
 use Rattle.catalogue_notes.specs.Lifting.{IsLiftOf}
-use Rattle.catalogue_notes.specs.Placing.{AreApart, IsPlacing, bid_position, position_in}
+use Rattle.catalogue_notes.specs.Placing.{HaveOwnPositions, IsPlacing, bid_position, position_in}
 use Rattle.catalogue_notes.specs.Readings.{bid_of}
 use Rattle.catalogue_notes.specs.Winning.{winning_bid}
 use Rattle.catalogue_notes.specs.declared.reading.Bid.{Bid}
@@ -55,7 +55,7 @@ placing_none at sections placing k = record {
   placed = λ x s. (λ e. absurd (not_both (placing x) s (k x) e), λ m. absurd (contains_none s m.0));
 }
 
-pub placing_more : (at : Identifier → Identifier) (sections rest : List Identifier) (s : Identifier) (old new : Identifier → Option Identifier) → AreApart at sections → slice_get rest 0 ≡ Some s
+pub placing_more : (at : Identifier → Identifier) (sections rest : List Identifier) (s : Identifier) (old new : Identifier → Option Identifier) → HaveOwnPositions at sections → slice_get rest 0 ≡ Some s
     → new (at s) ≡ Some s → ((x : Identifier) → x ≢ at s → new x ≡ old x) → IsPlacingSome at sections rest old → IsPlacingSome at sections (drop 1 rest) new
 placing_more at sections rest s old new d first here others f =
     let front : List Identifier = f.front ++ s ∷ [] in
@@ -109,7 +109,7 @@ positions_are h list bids winners f is s = ap (bid_position s) (won_by h (moves 
     by_winner (Some m) = refl
 
 -- and so no two shown sections have one
-pub positions_apart : (h : List Op) (sections : List Identifier) (at : Identifier → Identifier) → Lawful h → sections ≡ shown catalogue h → ((s : Identifier) → at s ≡ position h s) → AreApart at sections
+pub positions_apart : (h : List Op) (sections : List Identifier) (at : Identifier → Identifier) → Lawful h → sections ≡ shown catalogue h → ((s : Identifier) → at s ≡ position h s) → HaveOwnPositions at sections
 positions_apart h sections at w is k s t m n e =
     let a : Contains (shown catalogue h) s = subst (λ z. Contains z s) is m in
     let b : Contains (shown catalogue h) t = subst (λ z. Contains z t) is n in

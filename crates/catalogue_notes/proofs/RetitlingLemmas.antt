@@ -16,7 +16,7 @@ use Rattle.origin_model.specs.edits.Edits.{id_at}
 use Rattle.origin_model.specs.edits.Noting.{AreHeld, IsNoted, note_by}
 use Rattle.origin_model.specs.edits.Effect.{Gains}
 use Rattle.origin_model.specs.edits.Refusal.{next_of_own}
-use Rattle.origin_model.specs.edits.State.{Stands, State}
+use Rattle.origin_model.specs.edits.State.{IsSound, State}
 use Rattle.origin_model.specs.operations.Verdict.{Lawful}
 use Rattle.catalogue_notes.specs.Arranged.{arranged, heading}
 use Rattle.catalogue_notes.specs.Claims.{is_title}
@@ -65,7 +65,7 @@ pub arranged_section : (h : List Op) (s : Identifier) → Lawful h → Contains 
 arranged_section h s w m = let f = shown_is h s w (arranged_shown h s m) in is_section-held h s f.0 f.1 f.2
 
 -- the planned retitle lands
-module _ (s : State) (k : ℕ) (title : List ℕ) (plan : Plan) (p : IsRetitlePlan s k title plan) (st : Stands s) where
+module _ (s : State) (k : ℕ) (title : List ℕ) (plan : Plan) (p : IsRetitlePlan s k title plan) (st : IsSound s) where
   pub retitle_plan_lands : IsRetitled s.held.history (retitle_by s p.section title) p.section title
   retitle_plan_lands =
       subst (IsRetitled s.held.history (retitle_by s p.section title) p.section) p.scalars

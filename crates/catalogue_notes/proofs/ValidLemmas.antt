@@ -15,7 +15,7 @@ use Rattle.origin_model.specs.order.Printed.{is_hidden}
 use Rattle.origin_model.proofs.SharedLemmas.{found, holder_owns, own_id}
 use Rattle.catalogue_notes.specs.Arranged.{beats, counts, winner}
 use Rattle.catalogue_notes.specs.Claims.{Claim, Move, Retitle, move_in, retitle_in}
-use Rattle.catalogue_notes.specs.Laws.{HasWinner, IsOrigin, IsValidMove, IsValidRetitle, IsWinner, Stays, ValidInWhole, Winners}
+use Rattle.catalogue_notes.specs.Laws.{HasWinner, IsOrigin, IsValidMove, IsValidRetitle, IsWinner, ClaimStays, ValidInWhole, Winners}
 use Rattle.catalogue_notes.specs.Lift.{as_section, is_section, is_valid_title, lift, lifted_of, moves, passing, retitles, stands}
 use Rattle.catalogue_notes.proofs.ArrangedLemmas.{found_move, lifts, move_found, move_test, one_move}
 use Rattle.catalogue_notes.proofs.ClaimLemmas.{beats-stamp, best_in, best_some, best_top, claim_found, found_claim, one_claim}
@@ -83,15 +83,15 @@ id_total a b h k = id_eq-true a b (grind (arith, nat_tests))
 
 -- which claim wins
 module _ {V : Type 0} (h : List Op) (s : Identifier) (cs : List (Claim V)) where
-  counts_from : (c : Claim V) → counts h s c ≡ true → Stays h s c
+  counts_from : (c : Claim V) → counts h s c ≡ true → ClaimStays h s c
   counts_from c k =
       let p = and_parts (id_eq c.section s) (not (is_hidden h c.id)) k in
       record { section = id_eq-true c.section s p.0; not_withdrawn = not-true (is_hidden h c.id) p.1 }
 
-  counts_to : (c : Claim V) → Stays h s c → counts h s c ≡ true
+  counts_to : (c : Claim V) → ClaimStays h s c → counts h s c ≡ true
   counts_to c k = and_from (id_eq c.section s) (not (is_hidden h c.id)) (eq-id_eq c.section s k.section) (ap not k.not_withdrawn)
 
-  not_beaten : (c : Claim V) → winner h s cs ≡ Some c → (d : Claim V) → Contains cs d → Stays h s d → beats d c ≡ false
+  not_beaten : (c : Claim V) → winner h s cs ≡ Some c → (d : Claim V) → Contains cs d → ClaimStays h s d → beats d c ≡ false
   not_beaten c k d m j = best_top (filter (counts h s) cs) c d k (contains_filter (counts h s) cs d m (counts_to d j))
 
   is_winner : (c : Claim V) → winner h s cs ≡ Some c → IsWinner h s cs c

@@ -14,6 +14,7 @@ use Rattle.catalogue_notes.specs.Lift.{lift, moves, retitles}
 abbrev pub beats : {V : Type 0} → Claim V → Claim V → Bool
 beats a b = nat_lt b.stamp a.stamp || (nat_eq b.stamp a.stamp && id_lt b.id a.id)
 
+-- the winner of a claim and the winner so far, if there is one
 abbrev pub better : {V : Type 0} → Claim V → Option (Claim V) → Claim V
 better c None = c
 better c (Some b) = if beats c b then c else b

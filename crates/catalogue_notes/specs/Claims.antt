@@ -25,6 +25,7 @@ pub record Origins : Type 0 where
 abbrev pub Move : Type 0
 Move = Claim Origins
 
+-- a claim of a title, in UTF-8
 abbrev pub Retitle : Type 0
 Retitle = Claim (List ℕ)
 
@@ -40,6 +41,7 @@ origins_of _ _ = None
 abbrev pub stamp_of : (a b c d : ℕ) → ℕ
 stamp_of a b c d = from_be_bytes w32 (a ∷ b ∷ c ∷ d ∷ [])
 
+-- a claim by its four parts
 abbrev pub claim : {V : Type 0} → (id section : Identifier) → (stamp : ℕ) → V → Claim V
 claim id section stamp value = record { id = id; section = section; stamp = stamp; value = value }
 

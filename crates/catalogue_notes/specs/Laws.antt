@@ -14,7 +14,7 @@ use Rattle.origin_model.specs.order.Printed.{is_withdrawn, shown}
 use Rattle.catalogue_notes.specs.Arranged.{arranged, arranged_text, heading, position, winner}
 use Rattle.catalogue_notes.specs.Claims.{Claim, Move, Retitle, is_title, move_in, retitle_in}
 use Rattle.catalogue_notes.specs.Lift.{is_section, lift, moves, retitles, stamp}
-use Rattle.catalogue_notes.specs.Making.{moved, retitled, without}
+use Rattle.catalogue_notes.specs.Making.{moved_member, retitled, without_member}
 
 -- what is lifted is a lawful list
 abbrev pub LiftIsLawful : Type 0
@@ -27,6 +27,7 @@ pub record IsArrangement (h : List Op) : Type 0 where
   pub in_order : AllPairs (λ s t. before catalogue (lift h) (position h s) (position h t) ≡ true) (arranged h)
   pub apart : (s t : Identifier) → Contains (arranged h) s → Contains (arranged h) t → position h s ≡ position h t → s ≡ t
 
+-- an arrangement lists each shown section once
 abbrev pub EachOnce : Type 0
 EachOnce = (h : List Op) → Lawful h → IsArrangement h
 
@@ -56,27 +57,29 @@ pub record ClaimsAre (h : List Op) : Type 0 where
   pub moves_are : (m : Move) → Contains (moves h) m ↔ IsValidMove h m
   pub retitles_are : (r : Retitle) → Contains (retitles h) r ↔ IsValidRetitle h r
 
+-- a claim is what its Note says wherever it stands in a lawful history
 abbrev pub ValidInWhole : Type 0
 ValidInWhole = (h : List Op) → Lawful h → ClaimsAre h
 
 -- a claim is on the section, and not withdrawn
-pub record Stays {V : Type 0} (h : List Op) (s : Identifier) (c : Claim V) : Type 0 where
+pub record ClaimStays {V : Type 0} (h : List Op) (s : Identifier) (c : Claim V) : Type 0 where
   pub section : c.section ≡ s
   pub not_withdrawn : is_withdrawn h c.id ≡ false
 
 -- the winner is a claim that stays, and no other one has a greater stamp, or the same stamp and a greater identifier
 pub record IsWinner {V : Type 0} (h : List Op) (s : Identifier) (cs : List (Claim V)) (c : Claim V) : Type 0 where
   pub member : Contains cs c
-  pub stays : Stays h s c
-  pub stamp : (d : Claim V) → Contains cs d → Stays h s d → d.stamp ≤ c.stamp
-  pub tie : (d : Claim V) → Contains cs d → Stays h s d → d.stamp ≡ c.stamp → id_lt c.id d.id ≡ false
+  pub stays : ClaimStays h s c
+  pub stamp : (d : Claim V) → Contains cs d → ClaimStays h s d → d.stamp ≤ c.stamp
+  pub tie : (d : Claim V) → Contains cs d → ClaimStays h s d → d.stamp ≡ c.stamp → id_lt c.id d.id ≡ false
 
 -- there is a winner exactly where a claim stays, and only one
 pub record HasWinner {V : Type 0} (h : List Op) (s : Identifier) (cs : List (Claim V)) : Type 0 where
   pub is : IfSome (winner h s cs) (λ c. IsWinner h s cs c)
-  pub none : (c : Claim V) → Contains cs c → Stays h s c → winner h s cs ≡ None → ⊥
+  pub none : (c : Claim V) → Contains cs c → ClaimStays h s c → winner h s cs ≡ None → ⊥
   pub one : (c d : Claim V) → IsWinner h s cs c → IsWinner h s cs d → c ≡ d
 
+-- a section has one winner among its moves, and one among its retitles
 abbrev pub Winners : Type 0
 Winners = (h : List Op) (s : Identifier) → Lawful h → HasWinner h s (moves h) × HasWinner h s (retitles h)
 
@@ -89,7 +92,7 @@ pub record AddsOne {V : Type 0} (section : Identifier) (old new : List (Claim V)
 -- the move is Ready, and after it member k of the arrangement stands at j, and the others as before; nothing else changed
 pub record IsMoved (h : List Op) (op : Op) (section : Identifier) (k j : ℕ) : Type 0 where
   pub ready : verdict h op ≡ Ready
-  pub lands : arranged (op ∷ h) ≡ insert (without (arranged h) k) j section
+  pub lands : arranged (op ∷ h) ≡ insert (without_member (arranged h) k) j section
   pub stamped : stamp (op ∷ h) ≡ stamp h + 1
   pub same_shown : shown catalogue (op ∷ h) ≡ shown catalogue h
   pub same_headings : (t : Identifier) → heading (op ∷ h) t ≡ heading h t
@@ -100,7 +103,7 @@ abbrev pub MoveLands : Type 0
 MoveLands =
     (h : List Op) (id s : Identifier) (k j : ℕ) → Lawful h → holds h id ≡ false → stamp h + 1 < 2 ^ 32
     → slice_get (arranged h) k ≡ Some s → j < length (arranged h)
-    → IsMoved h (moved h id s k j) s k j
+    → IsMoved h (moved_member h id s k j) s k j
 
 -- the retitle is Ready, and after it the section has the title, and the others have theirs; nothing else changed
 pub record IsRetitled (h : List Op) (op : Op) (section : Identifier) (title : List ℕ) : Type 0 where

@@ -16,6 +16,7 @@ use Rattle.catalogue_notes.specs.Readings.{bid_of}
 use Rattle.catalogue_notes.specs.declared.lifting.Lift.{Lift}
 use Rattle.catalogue_notes.specs.declared.reading.Bid.{Bid}
 
+-- an element of the catalogue by its three parts
 abbrev pub node_at : Identifier → (left right : Option Identifier) → Node
 node_at id left right = record { id = id; left = left; right = right }
 

@@ -14,16 +14,16 @@ use Rattle.catalogue_notes.specs.Lift.{lift, stamp}
 use Rattle.catalogue_notes.specs.declared.limits.TheConstants.{MOVE_CODE, RETITLE_CODE}
 
 -- the list without its member k
-abbrev pub without : List Identifier → ℕ → List Identifier
-without list k = take k list ++ drop (suc k) list
+abbrev pub without_member : List Identifier → ℕ → List Identifier
+without_member list k = take k list ++ drop (suc k) list
 
 -- the left origin of a move of member k to j: the position of the member in front of j, when k is taken out
-abbrev pub left_for : List Op → (k j : ℕ) → Option Identifier
-left_for h k j = option_map (position h) (in_front (without (arranged h) k) j)
+abbrev pub left_of_move : List Op → (k j : ℕ) → Option Identifier
+left_of_move h k j = option_map (position h) (in_front (without_member (arranged h) k) j)
 
 -- the origins of that move: the right one is the element that follows the left one, whatever it stands for
 abbrev pub origins_for : List Op → (k j : ℕ) → Origins
-origins_for h k j = record { left = left_for h k j; right = following (order catalogue (lift h)) (left_for h k j) }
+origins_for h k j = record { left = left_of_move h k j; right = following (order catalogue (lift h)) (left_of_move h k j) }
 
 -- the form tells which origins are given
 abbrev pub form_of : (left right : Option Identifier) → ℕ
@@ -36,6 +36,7 @@ form_of (Some l) (Some r) = 3
 abbrev pub move_names : Identifier → Origins → List Identifier
 move_names section o = section ∷ option_to_list o.left ++ option_to_list o.right
 
+-- the body of the Note of a move: its stamp, and the form of its origins
 abbrev pub move_body : ℕ → Origins → List ℕ
 move_body stamp o = to_be_bytes w32 stamp ++ form_of o.left o.right ∷ []
 
@@ -44,8 +45,8 @@ abbrev pub retitle_body : ℕ → List ℕ → List ℕ
 retitle_body stamp title = to_be_bytes w32 stamp ++ title
 
 -- the move of a section, which is member k, to j
-abbrev pub moved : List Op → (id section : Identifier) → (k j : ℕ) → Op
-moved h id section k j = Note id (move_names section (origins_for h k j)) MOVE_CODE (move_body (stamp h + 1) (origins_for h k j))
+abbrev pub moved_member : List Op → (id section : Identifier) → (k j : ℕ) → Op
+moved_member h id section k j = Note id (move_names section (origins_for h k j)) MOVE_CODE (move_body (stamp h + 1) (origins_for h k j))
 
 -- the retitle of a section
 abbrev pub retitled : List Op → (id section : Identifier) → List ℕ → Op

@@ -13,7 +13,7 @@ use Rattle.catalogue_notes.specs.Arranged.{arranged, heading}
 use Rattle.catalogue_notes.specs.Claims.{is_title}
 use Rattle.catalogue_notes.specs.Laws.{IsMoved, IsRetitled}
 use Rattle.catalogue_notes.specs.Lift.{stamp}
-use Rattle.catalogue_notes.specs.Making.{move_body, move_names, origins_for, retitle_body, without}
+use Rattle.catalogue_notes.specs.Making.{move_body, move_names, origins_for, retitle_body, without_member}
 use Rattle.catalogue_notes.specs.declared.limits.TheConstants.{MOVE_CODE, RETITLE_CODE}
 use Rattle.catalogue_notes.specs.declared.moving.MoveFault.{MoveFault}
 use Rattle.catalogue_notes.specs.declared.moving.Plan.{Plan}
@@ -83,7 +83,7 @@ pub record IsMoveMade (old new : State) (k j n : ℕ) : Type 0 where
   pub section : Identifier
   pub placed : section_placed old k ≡ Some section
   pub gained : Gains old new (move_by old section k j ∷ [])
-  pub lands : arranged new.held.history ≡ insert (without (arranged old.held.history) k) j section
+  pub lands : arranged new.held.history ≡ insert (without_member (arranged old.held.history) k) j section
   pub moved : IsMoved old.held.history (move_by old section k j) section k j
 
 -- the note of a retitle: the title goes in UTF-8

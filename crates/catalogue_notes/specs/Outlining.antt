@@ -14,6 +14,7 @@ pub record IsEntry (h : List Op) (e : Entry) : Type 0 where
   pub numbered : slice_get (shown catalogue h) e.number ≡ Some e.section
   pub headed : string_bytes e.heading ≡ encode_utf8_all (heading h e.section)
 
+-- the sections of entries, in order
 abbrev pub entry_sections : List Entry → List Identifier
 entry_sections entries = map (λ (e : Entry). e.section) entries
 

@@ -15,12 +15,13 @@ use Rattle.catalogue_notes.specs.declared.reading.Bid.{Bid}
 abbrev pub bid_position : Identifier → Option Bid → Identifier
 bid_position s o = elim o [ None ↦ s | Some b ↦ b.id ]
 
+-- where a section stands by the winning moves
 abbrev pub position_in : (Identifier → Option Bid) → Identifier → Identifier
 position_in winners s = bid_position s (winners s)
 
 -- no two of the sections have one position
-abbrev pub AreApart : (Identifier → Identifier) → List Identifier → Type 0
-AreApart at sections = (s t : Identifier) → Contains sections s → Contains sections t → at s ≡ at t → s ≡ t
+abbrev pub HaveOwnPositions : (Identifier → Identifier) → List Identifier → Type 0
+HaveOwnPositions at sections = (s t : Identifier) → Contains sections s → Contains sections t → at s ≡ at t → s ≡ t
 
 -- each section stands at its position, and nothing else does
 abbrev pub IsPlacing : (Identifier → Identifier) → List Identifier → (Identifier → Option Identifier) → Type 0

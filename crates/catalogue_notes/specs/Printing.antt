@@ -30,6 +30,7 @@ title_in (Text id section left right ch) = []
 title_in (Delete target) = []
 title_in (Note id named code body) = utf8_or_none (drop 4 body)
 
+-- the title that an operation says, where it is a Section or a retitle
 abbrev pub title_of_op : Option Op → List ℕ
 title_of_op None = []
 title_of_op (Some op) = title_in op

@@ -19,6 +19,7 @@ move_claim m = claim m.bid.id m.bid.section m.bid.stamp (read_origins m.gap)
 abbrev pub bid_of : {V : Type 0} → Claim V → Bid
 bid_of c = record { id = c.id; section = c.section; stamp = c.stamp }
 
+-- what a retitle says in the comparison of claims
 abbrev pub retitle_bid : Retitle → Bid
 retitle_bid r = bid_of r
 
@@ -27,5 +28,6 @@ abbrev pub known_bid : (Identifier → Bool) → Option Bid → Option Bid
 known_bid known None = None
 known_bid known (Some b) = if known b.section then Some b else None
 
+-- what an operation says in that comparison, where it retitles a known section
 abbrev pub known_retitle : (Identifier → Bool) → Op → Option Bid
 known_retitle known op = known_bid known (option_map retitle_bid (retitle_in op))

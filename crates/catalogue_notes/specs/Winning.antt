@@ -7,6 +7,7 @@ use Rattle.catalogue_notes.specs.declared.reading.Bid.{Bid}
 abbrev pub bid_wins : Bid → Bid → Bool
 bid_wins a b = nat_lt b.stamp a.stamp || (nat_eq b.stamp a.stamp && id_lt b.id a.id)
 
+-- the winner of two claims, where there is a second one
 abbrev pub better_bid : Bid → Option Bid → Bid
 better_bid a None = a
 better_bid a (Some b) = if bid_wins a b then a else b

@@ -3,12 +3,12 @@ ghost use Rattle.std.specs.Prelude.{◌≡◌, ◌↔◌, ◌<◌, Some, IfOk, O
 ghost use Rattle.std.specs.List.{Contains};
 ghost use Rattle.std.specs.BTreeMap.{get};
 ghost use Rattle.fugue_ids.specs.Identifiers.{Identifier, id_cmp};
-ghost use Rattle.origin_model.specs.edits.State.{Stands};
+ghost use Rattle.origin_model.specs.edits.State.{IsSound};
 ghost use Rattle.section_list.specs.Cells.{section_cell_ids, section_cells_shown};
 ghost use Rattle.catalogue_notes.specs.Arranging.{IsBehindNote};
 ghost use Rattle.catalogue_notes.specs.Lifting.{IsLiftOf};
-ghost use Rattle.catalogue_notes.specs.Making.{without};
-ghost use Rattle.catalogue_notes.specs.Placing.{AreApart, AreWinners, IsArranged, IsPlacing, bid_position, position_in};
+ghost use Rattle.catalogue_notes.specs.Making.{without_member};
+ghost use Rattle.catalogue_notes.specs.Placing.{HaveOwnPositions, AreWinners, IsArranged, IsPlacing, bid_position, position_in};
 
 use crate::lifting::{Lifted, lift_at};
 use crate::reading::Bid;
@@ -44,7 +44,7 @@ fn placing_of(
     winners: &BTreeMap<ElementId, Bid>,
     catalogue: &SectionList,
 ) -> Result<BTreeMap<ElementId, ElementId>, NoMemory>
-    requires { AreApart (position_in (get id_cmp winners.now)) (section_cell_ids (section_cells_shown catalogue.now.cells)) }
+    requires { HaveOwnPositions (position_in (get id_cmp winners.now)) (section_cell_ids (section_cells_shown catalogue.now.cells)) }
     ensures { IfOk result (λ placing. IsPlacing (position_in (get id_cmp winners.now))
         (section_cell_ids (section_cells_shown catalogue.now.cells)) (get id_cmp placing)) }
 {
@@ -79,7 +79,7 @@ impl Arrangement {
     /// That of the accepted operations.
     pub fn of(alloc: Global, replica: &Replica) -> Result<Arrangement, NoMemory>
         ensures arranged { IfOk result (λ a. IsArranged replica.now.held.history a) }
-        ensures stands { Stands replica.now }
+        ensures stands { IsSound replica.now }
     {
         let lifted = Lifted::of(alloc, replica)?;
         let winners = winners_among(alloc, replica, &lifted.moves)?;
@@ -118,7 +118,7 @@ impl Arrangement {
         requires section { k < length self.old.sections.items }
         requires place { j < length self.old.sections.items }
         ensures sections { (s : Identifier) → slice_get self.old.sections.items k ≡ Some s
-            → OnOk result (self.new.sections.items ≡ insert (without self.old.sections.items k) j s) }
+            → OnOk result (self.new.sections.items ≡ insert (without_member self.old.sections.items k) j s) }
         ensures lifted { self.new.lifted ≡ self.old.lifted }
         ensures winners { self.new.winners ≡ self.old.winners }
     {

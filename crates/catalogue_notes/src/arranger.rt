@@ -2,7 +2,7 @@
 ghost use Rattle.std.specs.Prelude.{◌≡◌, IfOk, List, None, OnErr};
 ghost use Rattle.fugue_ids.specs.declared.op.Op.{Op as OpOf};
 ghost use Rattle.origin_model.specs.edits.Noting.{ShowsAsBefore};
-ghost use Rattle.origin_model.specs.edits.State.{Stands};
+ghost use Rattle.origin_model.specs.edits.State.{IsSound};
 ghost use Rattle.origin_model.specs.taking.Taking.{IsSettled};
 ghost use Rattle.catalogue_notes.specs.Arranging.{Arranges, IsStamped};
 ghost use Rattle.catalogue_notes.specs.Moving.{IsMoveMade, IsRetitleMade, RefusesFor, TellsAbsence};
@@ -48,7 +48,7 @@ impl Arranger {
         ensures unmade { OnErr result (replica.new ≡ replica.old) }
         ensures arranges { Arranges replica.new.held.history self.new }
         ensures settled { IsSettled replica.new.held }
-        ensures stands { Stands replica.new }
+        ensures stands { IsSound replica.new }
     {
         find_place(replica, k, j)?;
         let mut found = self.take(alloc, replica)?;
@@ -76,7 +76,7 @@ impl Arranger {
         ensures unmade { OnErr result (replica.new ≡ replica.old) }
         ensures arranges { Arranges replica.new.held.history self.new }
         ensures settled { IsSettled replica.new.held }
-        ensures stands { Stands replica.new }
+        ensures stands { IsSound replica.new }
     {
         find_section(replica, k)?;
         let mut found = self.take(alloc, replica)?;

@@ -1,7 +1,7 @@
 //! The arranged sections of a replica, with look-ups of what their headings and positions are.
 ghost use Rattle.std.specs.Prelude.{◌≡◌, IfOk, true};
 ghost use Rattle.std.specs.Str.{encode_utf8_all};
-ghost use Rattle.origin_model.specs.edits.State.{Stands};
+ghost use Rattle.origin_model.specs.edits.State.{IsSound};
 ghost use Rattle.catalogue_notes.specs.Arranged.{arranged, heading as heading_in, position as position_in};
 ghost use Rattle.catalogue_notes.specs.Lift.{is_section as is_section_in};
 
@@ -40,7 +40,7 @@ impl<'a> Headings<'a> {
     /// Those of the accepted operations.
     pub fn of(alloc: Global, replica: &'a Replica) -> Result<Headings<'a>, NoMemory>
         ensures history { IfOk result (λ found. found ≡ replica.now.held.history) }
-        ensures stands { Stands replica.now }
+        ensures stands { IsSound replica.now }
     {
         let layout = Layout::of(alloc, replica)?;
         Ok(Headings { replica, layout })

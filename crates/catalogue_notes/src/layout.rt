@@ -3,7 +3,7 @@ ghost use Rattle.std.specs.Prelude.{◌≡◌, IfOk, option_map};
 ghost use Rattle.std.specs.BTreeMap.{get};
 ghost use Rattle.fugue_ids.specs.Identifiers.{id_cmp};
 ghost use Rattle.op_runs.specs.Finding.{op_of};
-ghost use Rattle.origin_model.specs.edits.State.{Stands};
+ghost use Rattle.origin_model.specs.edits.State.{IsSound};
 ghost use Rattle.origin_model.specs.operations.History.{holder};
 ghost use Rattle.catalogue_notes.specs.Printing.{IsLayout, title_giver as title_giver_in};
 
@@ -28,7 +28,7 @@ impl Layout {
     /// That of the accepted operations.
     pub(crate) fn of(alloc: Global, replica: &Replica) -> Result<Layout, NoMemory>
         ensures layout { IfOk result (λ l. IsLayout replica.now.held.history l) }
-        ensures stands { Stands replica.now }
+        ensures stands { IsSound replica.now }
     {
         let arrangement = Arrangement::of(alloc, replica)?;
         let bids = retitles_of(alloc, replica)?;

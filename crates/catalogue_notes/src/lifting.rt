@@ -1,6 +1,6 @@
 //! The elements that sections can stand at: those of Sections and of valid moves.
 ghost use Rattle.std.specs.Prelude.{◌≡◌, ◌<◌, ◌++◌, false, length, IfOk, OnOk, option_and_then, option_to_list, option_map, slice_get};
-ghost use Rattle.origin_model.specs.edits.State.{Stands};
+ghost use Rattle.origin_model.specs.edits.State.{IsSound};
 ghost use Rattle.origin_model.specs.operations.History.{accepted as accepted_list};
 ghost use Rattle.origin_model.specs.sides.Node.{has_origin, IsNew};
 ghost use Rattle.section_list.specs.SectionList.{IsInOrder, with_element};
@@ -109,7 +109,7 @@ impl Lifted {
     /// What is lifted of the accepted operations.
     pub(crate) fn of(alloc: Global, replica: &Replica) -> Result<Lifted, NoMemory>
         ensures lifted { IfOk result (λ lifted. IsLiftOf replica.now.held.history lifted.list lifted.moves.items) }
-        ensures stands { Stands replica.now }
+        ensures stands { IsSound replica.now }
     {
         let mut lifted = Lifted {
             list: SectionList::new(alloc),

@@ -7,7 +7,7 @@ ghost use Rattle.origin_model.specs.edits.Edits.{in_front};
 ghost use Rattle.origin_model.specs.edits.Landing.{following};
 ghost use Rattle.section_list.specs.Cells.{section_cell_ids};
 ghost use Rattle.catalogue_notes.specs.Lift.{stamp as stamp_on};
-ghost use Rattle.catalogue_notes.specs.Making.{form_of, move_body, move_names, origins_for, without};
+ghost use Rattle.catalogue_notes.specs.Making.{form_of, move_body, move_names, origins_for, without_member};
 ghost use Rattle.catalogue_notes.specs.Placing.{IsArranged, position_in};
 ghost use Rattle.catalogue_notes.specs.Readings.{read_origins};
 
@@ -37,7 +37,7 @@ fn left_for(arrangement: &Arrangement, k: usize, j: usize) -> Option<ElementId>
     requires section { k < length arrangement.now.sections.items }
     requires place { j < length arrangement.now.sections.items }
     ensures { result ≡ option_map (position_in (get id_cmp arrangement.now.winners))
-        (in_front (without arrangement.now.sections.items k) j) }
+        (in_front (without_member arrangement.now.sections.items k) j) }
 {
     if j == 0 {
         return None;

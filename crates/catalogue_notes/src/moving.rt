@@ -1,7 +1,7 @@
 //! A section moved: a note that says where it stands.
 ghost use Rattle.std.specs.Prelude.{◌≡◌, ◌≢◌, ◌+◌, ◌<◌, ◌^◌, IfErr, IfOk, None, Some, OnErr, OnOk};
 ghost use Rattle.origin_model.specs.edits.Noting.{AreHeld, IsNoted, ShowsAsBefore};
-ghost use Rattle.origin_model.specs.edits.State.{Stands};
+ghost use Rattle.origin_model.specs.edits.State.{IsSound};
 ghost use Rattle.origin_model.specs.taking.Taking.{IsSettled};
 ghost use Rattle.catalogue_notes.specs.Arranging.{IsStamped};
 ghost use Rattle.catalogue_notes.specs.Lift.{stamp};
@@ -66,7 +66,7 @@ pub(crate) struct Plan {
 pub(crate) fn find_section(replica: &Replica, k: usize) -> Result<(), MoveFault>
     ensures ok { OnOk result (section_cause replica.now k ≡ None) }
     ensures err { IfErr result (λ fault. section_cause replica.now k ≡ Some fault) }
-    ensures stands { Stands replica.now }
+    ensures stands { IsSound replica.now }
 {
     if k >= replica.section_count() {
         return Err(MoveFault::NoSection);
@@ -78,7 +78,7 @@ pub(crate) fn find_section(replica: &Replica, k: usize) -> Result<(), MoveFault>
 pub(crate) fn find_place(replica: &Replica, k: usize, j: usize) -> Result<(), MoveFault>
     ensures ok { OnOk result (place_cause replica.now k j ≡ None) }
     ensures err { IfErr result (λ fault. place_cause replica.now k j ≡ Some fault) }
-    ensures stands { Stands replica.now }
+    ensures stands { IsSound replica.now }
 {
     find_section(replica, k)?;
     if j >= replica.section_count() {
@@ -118,7 +118,7 @@ pub(crate) fn make(replica: &mut Replica, code: u8, plan: Plan) -> Result<u32, M
     ensures refused { NoteRefusesAs replica.old result }
     ensures unmade { OnErr result (replica.new ≡ replica.old) }
     ensures settled { IsSettled replica.new.held }
-    ensures stands { Stands replica.new }
+    ensures stands { IsSound replica.new }
 {
     match replica.note(plan.names, code, plan.body) {
         Ok(count) => Ok(count),
@@ -135,7 +135,7 @@ pub(crate) fn make_move(
     j: usize,
 ) -> Result<u32, MoveFault>
     requires settled { IsSettled replica.old.held }
-    requires stands { Stands replica.old }
+    requires stands { IsSound replica.old }
     requires place { place_cause replica.old k j ≡ None }
     requires found { IsStamped replica.old.held.history found.now }
     ensures made { IfOk result (λ n. IsMoveMade replica.old replica.new k j n) }
@@ -145,7 +145,7 @@ pub(crate) fn make_move(
     ensures unmade { OnErr result (replica.new ≡ replica.old) }
     ensures left_over { OnOk result (stamp replica.old.held.history + 1 < 2 ^ 32) }
     ensures settled { IsSettled replica.new.held }
-    ensures stands { Stands replica.new }
+    ensures stands { IsSound replica.new }
 {
     let plan = plan_move(alloc, replica, found, k, j)?;
     make(replica, MOVE_CODE, plan)
@@ -165,7 +165,7 @@ pub fn move_section(
     ensures refused { RefusesFor (move_refusal replica.old k j) result }
     ensures unmade { OnErr result (replica.new ≡ replica.old) }
     ensures settled { IsSettled replica.new.held }
-    ensures stands { Stands replica.new }
+    ensures stands { IsSound replica.new }
 {
     Arranger::new().move_section(alloc, replica, k, j)
 }

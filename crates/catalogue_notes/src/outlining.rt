@@ -2,9 +2,9 @@
 ghost use Rattle.std.specs.Prelude.{◌≡◌, ◌≢◌, IfOk, Some, slice_get, string_bytes};
 ghost use Rattle.std.specs.List.{AllPairs, Contains};
 ghost use Rattle.origin_model.specs.declared.operations.Place.TheVariants.{Catalogue as catalogue_place};
-ghost use Rattle.origin_model.specs.edits.State.{Stands};
+ghost use Rattle.origin_model.specs.edits.State.{IsSound};
 ghost use Rattle.origin_model.specs.operations.Verdict.{Lawful};
-ghost use Rattle.section_catalogue.specs.Manuscript.{IsPlaceOf};
+ghost use Rattle.section_catalogue.specs.Manuscript.{IsOrderedPlace};
 ghost use Rattle.section_list.specs.Cells.{section_cell_ids, section_cells_shown};
 ghost use Rattle.catalogue_notes.specs.Outlining.{IsOutline};
 ghost use Rattle.catalogue_notes.specs.Printing.{IsLayout, title_giver, title_of_op};
@@ -61,7 +61,7 @@ fn entries_of(
     layout: &Layout,
 ) -> Result<Vec<Entry>, NoMemory>
     requires lawful { Lawful replica.now.held.history }
-    requires catalogue { IsPlaceOf catalogue_place replica.now.held.history catalogue.now }
+    requires catalogue { IsOrderedPlace catalogue_place replica.now.held.history catalogue.now }
     requires layout { IsLayout replica.now.held.history layout.now }
     ensures { IfOk result (λ entries. IsOutline replica.now.held.history entries.items) }
 {
@@ -75,7 +75,7 @@ fn entries_of(
 /// The shown sections as they are arranged, each with its number and its heading.
 pub fn outline(alloc: Global, replica: &Replica) -> Result<Outline, NoMemory>
     ensures outline { IfOk result (λ found. IsOutline replica.now.held.history found) }
-    ensures stands { Stands replica.now }
+    ensures stands { IsSound replica.now }
 {
     let catalogue = replica.places().catalogue();
     let layout = Layout::of(alloc, replica)?;

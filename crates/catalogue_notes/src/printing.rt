@@ -3,7 +3,7 @@ ghost use Rattle.std.specs.Prelude.{◌≡◌, ◌++◌, ◌∷◌, List, [], �
 ghost use Rattle.fugue_ids.specs.Gathers.{GathersText};
 ghost use Rattle.fugue_ids.specs.Outs.{OutView, WritesBytes};
 ghost use Rattle.op_runs.specs.Finding.{op_of};
-ghost use Rattle.origin_model.specs.edits.State.{Stands};
+ghost use Rattle.origin_model.specs.edits.State.{IsSound};
 ghost use Rattle.catalogue_notes.specs.Arranged.{arranged_text};
 ghost use Rattle.catalogue_notes.specs.Printing.{WritesText, page, printed_by, title_giver, title_in as title_in_op, title_of_op, utf8_or_none};
 
@@ -180,7 +180,7 @@ pub fn write_arranged<O: Sink>(
 ) -> Result<(), ArrangeFault>
     ensures text { WritesText (O.seen output.old) (O.seen output.new) result
         (arranged_text replica.now.held.history) }
-    ensures stands { Stands replica.now }
+    ensures stands { IsSound replica.now }
 {
     let layout = Layout::of(alloc, replica)?;
     told(write_sections(output, replica, replica.places(), &layout))

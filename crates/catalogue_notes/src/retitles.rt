@@ -1,6 +1,6 @@
 //! The valid retitles of a history, and the greatest stamp.
 ghost use Rattle.std.specs.Prelude.{◌≡◌, IfOk, map, max, option_and_then, reverse, slice_get};
-ghost use Rattle.origin_model.specs.edits.State.{Stands};
+ghost use Rattle.origin_model.specs.edits.State.{IsSound};
 ghost use Rattle.origin_model.specs.operations.History.{accepted as accepted_list};
 ghost use Rattle.catalogue_notes.specs.Lift.{greatest, is_section as is_section_in, retitles};
 ghost use Rattle.catalogue_notes.specs.Readings.{bid_of, known_retitle};
@@ -38,7 +38,7 @@ fn retitle_at(replica: &Replica, at: usize) -> Option<Bid>
 /// The valid retitles, the oldest first.
 pub(crate) fn retitles_of(alloc: Global, replica: &Replica) -> Result<Vec<Bid>, NoMemory>
     ensures retitles { IfOk result (λ bids. reverse bids.items ≡ map bid_of (retitles replica.now.held.history)) }
-    ensures stands { Stands replica.now }
+    ensures stands { IsSound replica.now }
 {
     let mut bids = Vec::new(alloc);
     'walk: for at in replica.sections_and_notes() {

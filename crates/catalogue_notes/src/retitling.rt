@@ -2,7 +2,7 @@
 ghost use Rattle.std.specs.Prelude.{◌≡◌, ◌≢◌, ◌+◌, ◌<◌, ◌^◌, IfErr, IfOk, None, Some, OnErr, OnOk, true, [], ◌∷◌};
 ghost use Rattle.std.specs.Str.{chars, encode_utf8_all};
 ghost use Rattle.origin_model.specs.edits.Noting.{ShowsAsBefore};
-ghost use Rattle.origin_model.specs.edits.State.{Stands};
+ghost use Rattle.origin_model.specs.edits.State.{IsSound};
 ghost use Rattle.origin_model.specs.taking.Taking.{IsSettled};
 ghost use Rattle.catalogue_notes.specs.Arranging.{IsStamped};
 ghost use Rattle.catalogue_notes.specs.Claims.{is_title};
@@ -69,7 +69,7 @@ pub(crate) fn make_retitle(
     title: &Title,
 ) -> Result<u32, MoveFault>
     requires settled { IsSettled replica.old.held }
-    requires stands { Stands replica.old }
+    requires stands { IsSound replica.old }
     requires section { section_cause replica.old k ≡ None }
     requires found { IsStamped replica.old.held.history found.now }
     ensures made { IfOk result (λ n. IsRetitleMade replica.old replica.new k title.now n) }
@@ -79,7 +79,7 @@ pub(crate) fn make_retitle(
     ensures unmade { OnErr result (replica.new ≡ replica.old) }
     ensures left_over { OnOk result (stamp replica.old.held.history + 1 < 2 ^ 32) }
     ensures settled { IsSettled replica.new.held }
-    ensures stands { Stands replica.new }
+    ensures stands { IsSound replica.new }
 {
     let plan = plan_retitle(alloc, replica, found, k, title)?;
     make(replica, RETITLE_CODE, plan)
@@ -99,7 +99,7 @@ pub fn retitle(
     ensures refused { RefusesFor (retitle_refusal replica.old k) result }
     ensures unmade { OnErr result (replica.new ≡ replica.old) }
     ensures settled { IsSettled replica.new.held }
-    ensures stands { Stands replica.new }
+    ensures stands { IsSound replica.new }
 {
     Arranger::new().retitle(alloc, replica, k, title)
 }

@@ -1,7 +1,7 @@
 //! What a move or a retitle is made by.
 ghost use Rattle.std.specs.Prelude.{◌≡◌, ◌+◌, ◌<◌, ◌^◌, IfErr, IfOk, IfSome, List, OnOk, Some};
 ghost use Rattle.fugue_ids.specs.declared.op.Op.{Op as OpOf};
-ghost use Rattle.origin_model.specs.edits.State.{Stands, State as StateOf};
+ghost use Rattle.origin_model.specs.edits.State.{IsSound, State as StateOf};
 ghost use Rattle.catalogue_notes.specs.Arranging.{IsBehindMove, IsBehindRetitle, IsStamped};
 ghost use Rattle.catalogue_notes.specs.Lift.{stamp as stamp_on};
 ghost use Rattle.catalogue_notes.specs.Moving.{stamps_cause};
@@ -24,7 +24,7 @@ impl Stamped {
     /// That of the accepted operations.
     pub fn of(alloc: Global, replica: &Replica) -> Result<Stamped, NoMemory>
         ensures found { IfOk result (λ found. IsStamped replica.now.held.history found) }
-        ensures stands { Stands replica.now }
+        ensures stands { IsSound replica.now }
     {
         let arrangement = Arrangement::of(alloc, replica)?;
         let stamp = stamp_of(alloc, replica, &arrangement)?;
@@ -47,7 +47,7 @@ impl Stamped {
     /// The same behind a move of the section k to j. After want of memory it is of no use.
     pub fn take_move(&mut self, replica: &Replica, k: usize, j: usize) -> Result<(), NoMemory>
         requires behind { IsBehindMove replica.now self.old k j }
-        requires stands { Stands replica.now }
+        requires stands { IsSound replica.now }
         ensures { OnOk result (IsStamped replica.now.held.history self.new) }
     {
         self.arrangement.take_note(replica)?;
@@ -64,7 +64,7 @@ impl Stamped {
         title: &Title,
     ) -> Result<(), NoMemory>
         requires behind { IsBehindRetitle replica.now self.old k title.now }
-        requires stands { Stands replica.now }
+        requires stands { IsSound replica.now }
         ensures { OnOk result (IsStamped replica.now.held.history self.new) }
     {
         self.arrangement.take_note(replica)?;

@@ -11,9 +11,8 @@ use Rattle.std.proofs.lemmas.List.Elements.{All-get_or, All-head, All-tail, All-
 use Rattle.std.proofs.lemmas.List.Quantifiers.{all_pairs_push}
 use Rattle.std.proofs.lemmas.List.Sorted.{searched}
 use Rattle.std.proofs.lemmas.List.Sums.{position_or_len_is}
-use Rattle.std.proofs.Math.Seq.{get_or-append_seam}
 use Rattle.fugue_ids.proofs.ListLemmas.{all_pairs_head, all_pairs_tail, slice_get-seam}
-use Rattle.causal_inbox.specs.Index.{IsFirstFrom, with_age, dropped, is_last}
+use Rattle.causal_inbox.specs.Index.{IsFirstFrom, with_age, without_age, is_last}
 
 -- an age is added once
 pub added_twice : (a : ℕ) (ages : List ℕ) → with_age (with_age ages a) a ≡ with_age ages a
@@ -27,23 +26,23 @@ filter_all p [] all = refl
 filter_all p (x ∷ xs) all = rw (All-head (λ y. p y ≡ true) x xs all) (ap (λ l. x ∷ l) (filter_all p xs (All-tail (λ y. p y ≡ true) x xs all)))
 
 -- an age is dropped once
-pub dropped_twice : (a : ℕ) (ages : List ℕ) → dropped (dropped ages a) a ≡ dropped ages a
-dropped_twice a ages = filter_all (λ b. not (nat_eq b a)) (dropped ages a) (filter_passes (λ b. not (nat_eq b a)) ages)
+pub dropped_twice : (a : ℕ) (ages : List ℕ) → without_age (without_age ages a) a ≡ without_age ages a
+dropped_twice a ages = filter_all (λ b. not (nat_eq b a)) (without_age ages a) (filter_passes (λ b. not (nat_eq b a)) ages)
 
 -- an age that does not stand in a list leaves it as it is, where it is dropped
-dropped_apart : (a : ℕ) (ages : List ℕ) → All (λ b. b ≢ a) ages → dropped ages a ≡ ages
+dropped_apart : (a : ℕ) (ages : List ℕ) → All (λ b. b ≢ a) ages → without_age ages a ≡ ages
 dropped_apart a ages apart = filter_all (λ b. not (nat_eq b a)) ages (All-weaker (λ b. b ≢ a) (λ b. not (nat_eq b a) ≡ true) (λ b other. ap not (ne_eqb b a other)) ages apart)
 
 -- so does an age that is above all
-pub dropped_above : (a : ℕ) (ages : List ℕ) → All (λ b. b < a) ages → dropped ages a ≡ ages
+pub dropped_above : (a : ℕ) (ages : List ℕ) → All (λ b. b < a) ages → without_age ages a ≡ ages
 dropped_above a ages above = dropped_apart a ages (All-weaker (λ b. b < a) (λ b. b ≢ a) (λ b below same. omega (arith, below, same)) ages above)
 
 -- and one that is below all
-pub dropped_below : (a : ℕ) (ages : List ℕ) → All (λ b. a < b) ages → dropped ages a ≡ ages
+pub dropped_below : (a : ℕ) (ages : List ℕ) → All (λ b. a < b) ages → without_age ages a ≡ ages
 dropped_below a ages below = dropped_apart a ages (All-weaker (λ b. a < b) (λ b. b ≢ a) (λ b above same. omega (arith, above, same)) ages below)
 
 -- the age alone
-pub dropped_own : (a : ℕ) → dropped (a ∷ []) a ≡ []
+pub dropped_own : (a : ℕ) → without_age (a ∷ []) a ≡ []
 dropped_own a = rw (eq-eqb a a refl)
 
 -- an age that is added above all others stands behind them
@@ -55,9 +54,9 @@ added_above a (c ∷ ages) above =
     rw (slice_get-get_or (c ∷ ages) (length (c ∷ ages) - 1) 0 within, ne_eqb (get_or (c ∷ ages) (length (c ∷ ages) - 1) 0) a (λ same. omega (arith, last, same)))
 
 -- an age that was added goes again
-pub added_dropped : (a : ℕ) (ages : List ℕ) → All (λ b. b < a) ages → dropped (with_age ages a) a ≡ ages
+pub added_dropped : (a : ℕ) (ages : List ℕ) → All (λ b. b < a) ages → without_age (with_age ages a) a ≡ ages
 added_dropped a ages above =
-    ap (λ l. dropped l a) (added_above a ages above) ∙ filter-append (λ b. not (nat_eq b a)) ages (a ∷ [])
+    ap (λ l. without_age l a) (added_above a ages above) ∙ filter-append (λ b. not (nat_eq b a)) ages (a ∷ [])
     ∙ (λ i. dropped_above a ages above i ++ dropped_own a i) ∙ append-nil ages
 
 -- ages still rise with one above all
@@ -104,7 +103,7 @@ position_none ages a first r is other = position_or_len_is (λ b. nat_eq b a) ag
     ]
 
 -- without an age that was found
-dropped_found : (ages : List ℕ) (p a : ℕ) → AllPairs ◌<◌ ages → p < length ages → get_or ages p 0 ≡ a → dropped ages a ≡ remove ages p
+dropped_found : (ages : List ℕ) (p a : ℕ) → AllPairs ◌<◌ ages → p < length ages → get_or ages p 0 ≡ a → without_age ages a ≡ remove ages p
 dropped_found [] p a r within at = absurd (omega (arith, within))
 dropped_found (b ∷ ages) zero a r within at = rw (eq-eqb b a at) (dropped_below a ages (subst (λ d. All (λ c. d < c) ages) at (all_pairs_head ◌<◌ b ages r)))
 dropped_found (b ∷ ages) (suc p) a r within at =
@@ -113,9 +112,9 @@ dropped_found (b ∷ ages) (suc p) a r within at =
 
 -- without an age that is searched for
 pub dropped_searched : (ages list : List ℕ) (a : ℕ) (r : Result ℕ ℕ) → list ≡ ages → AllPairs ◌<◌ ages → IsBinarySearchResult (λ b. nat_cmp b a) list r
-    → dropped ages a ≡ elim r [ Ok p ↦ remove ages p | Err p ↦ ages ]
+    → without_age ages a ≡ elim r [ Ok p ↦ remove ages p | Err p ↦ ages ]
 dropped_searched ages list a r same rises found = by_answer r (subst (λ l. IsBinarySearchResult (λ b. nat_cmp b a) l r) same found)
   where
-    by_answer : (r : Result ℕ ℕ) → IsBinarySearchResult (λ b. nat_cmp b a) ages r → dropped ages a ≡ elim r [ Ok p ↦ remove ages p | Err p ↦ ages ]
+    by_answer : (r : Result ℕ ℕ) → IsBinarySearchResult (λ b. nat_cmp b a) ages r → without_age ages a ≡ elim r [ Ok p ↦ remove ages p | Err p ↦ ages ]
     by_answer (Ok p) s = let f = searched ages a (Ok p) s (rises_on ages rises) in dropped_found ages p a rises f.0 f.1
     by_answer (Err p) s = dropped_apart a ages (All-from_get_or (λ b. b ≢ a) ages 0 (unfound ages a p rises s))

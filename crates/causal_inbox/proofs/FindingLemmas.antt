@@ -11,7 +11,7 @@ use Rattle.fugue_ids.proofs.OpLemmas.{op_eq-true}
 use Rattle.origin_model.specs.operations.History.{has_op, holds}
 use Rattle.origin_model.proofs.SharedLemmas.{holds-cons}
 use Rattle.causal_inbox.specs.Index.{ages_with, is_equal, is_equal_at}
-use Rattle.causal_inbox.specs.Key.{has_key, main_key, own}
+use Rattle.causal_inbox.specs.Key.{has_key, main_key, own_key_of}
 use Rattle.causal_inbox.specs.declared.key.Key.{Key}
 use Rattle.causal_inbox.proofs.AgeLemmas.{position_found}
 use Rattle.causal_inbox.proofs.KeyLemmas.{key_eq-refl, keys_are}
@@ -44,9 +44,9 @@ some_age key (o ∷ ops) [] same = absurd (omega (arith, same))
 some_age key (o ∷ ops) (b ∷ ages) same = elim (cases_Bool (has_key key o)) [ inl e ↦ rw e | inr e ↦ rw e (some_age key ops ages (omega (arith, same))) ]
 
 -- an identifier is held where an age stands under it
-pub own_found : (i : Identifier) (ops : List Op) (ages : List ℕ) → length ages ≡ length ops → is_some (slice_get (ages_with (own i) ops ages) 0) ≡ holds ops i
-own_found i ops ages same = some_age (own i) ops ages same ∙ any_holds ops
+pub own_found : (i : Identifier) (ops : List Op) (ages : List ℕ) → length ages ≡ length ops → is_some (slice_get (ages_with (own_key_of i) ops ages) 0) ≡ holds ops i
+own_found i ops ages same = some_age (own_key_of i) ops ages same ∙ any_holds ops
   where
-    any_holds : (ops : List Op) → list_any (has_key (own i)) ops ≡ holds ops i
+    any_holds : (ops : List Op) → list_any (has_key (own_key_of i)) ops ≡ holds ops i
     any_holds [] = refl
-    any_holds (o ∷ ops) = ap (λ b. has_key (own i) o || b) (any_holds ops) ∙ sym (holds-cons o ops i)
+    any_holds (o ∷ ops) = ap (λ b. has_key (own_key_of i) o || b) (any_holds ops) ∙ sym (holds-cons o ops i)

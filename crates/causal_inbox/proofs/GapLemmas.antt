@@ -3,11 +3,11 @@ use Rattle.std.proofs.Common.{ap, arith, sym, List, ℕ, [], ◌∷◌, ◌++◌
 use Rattle.std.specs.List.{swap}
 use Rattle.std.proofs.lemmas.List.{append_assoc, drop-set, drop-set-lt, drop_more, length-set, take-set-le, take_more, take_more_set}
 use Rattle.std.proofs.lemmas.List.Edits.{swap_is}
-use Rattle.causal_inbox.specs.Gap.{around}
+use Rattle.causal_inbox.specs.Gap.{items_around_gap}
 
 -- the item behind the gap goes before it
 pub moved_on : {X : Type 0} (xs : List X) (at size : ℕ) → 0 < size → at + size < length xs
-    → around (swap xs at (at + size)) (at + 1) size ≡ around xs at size
+    → items_around_gap (swap xs at (at + size)) (at + 1) size ≡ items_around_gap xs at size
 moved_on [] at size some within = absurd (omega (arith, within))
 moved_on (d ∷ rest) at size some within =
     let xs : List _ = d ∷ rest in
@@ -20,14 +20,14 @@ moved_on (d ∷ rest) at size some within =
     let others : drop (at + 1 + size) new ≡ drop (at + size + 1) xs =
     drop-set-lt (at + 1 + size) mid (at + size) (get_or xs at d) (omega arith) ∙ drop-set-lt (at + 1 + size) xs at behind (omega arith)
     ∙ ap (λ n. drop n xs) {x = at + 1 + size} {y = at + size + 1} (omega arith) in
-    ap (λ l. around l (at + 1) size) (sym (swap_is xs at (at + size) d below within))
+    ap (λ l. items_around_gap l (at + 1) size) (sym (swap_is xs at (at + size) d below within))
     ∙ (λ i. front i ++ others i)
     ∙ append_assoc (take at xs) (behind ∷ []) (drop (at + size + 1) xs)
     ∙ ap (λ l. take at xs ++ l) (sym (drop_more xs (at + size) d within))
 
 -- the item before the gap goes behind it
 pub moved_back : {X : Type 0} (xs : List X) (at size : ℕ) → 0 < size → at + size < length xs
-    → around (swap xs at (at + size)) at size ≡ around xs (at + 1) size
+    → items_around_gap (swap xs at (at + size)) at size ≡ items_around_gap xs (at + 1) size
 moved_back [] at size some within = absurd (omega (arith, within))
 moved_back (d ∷ rest) at size some within =
     let xs : List _ = d ∷ rest in
@@ -39,7 +39,7 @@ moved_back (d ∷ rest) at size some within =
     let others : drop (at + size) (set mid (at + size) before) ≡ before ∷ drop (at + size + 1) xs =
     drop-set mid (at + size) before (omega (arith, within, length-set xs at (get_or xs (at + size) d)))
     ∙ ap (λ l. before ∷ l) (drop-set-lt (at + size + 1) xs at (get_or xs (at + size) d) (omega arith)) in
-    ap (λ l. around l at size) (sym (swap_is xs at (at + size) d below within))
+    ap (λ l. items_around_gap l at size) (sym (swap_is xs at (at + size) d below within))
     ∙ (λ i. front i ++ others i)
     ∙ sym (append_assoc (take at xs) (before ∷ []) (drop (at + size + 1) xs))
     ∙ (λ i. sym (take_more xs at d below) i ++ drop (at + size + 1) xs)

@@ -13,12 +13,12 @@ use Rattle.fugue_ids.specs.declared.op.Op.{Op}
 use Rattle.fugue_ids.specs.declared.op.Op.TheVariants.{Delete}
 use Rattle.fugue_ids.proofs.IdentifierLemmas.{eq-id_eq, id_eq-refl, id_eq-true, origin_eq-true}
 use Rattle.fugue_ids.proofs.ListLemmas.{all_from_contains, contains_cases, contains_filter, contains_filter_from, contains_here, contains_map, contains_map_from, contains_none}
-use Rattle.origin_model.specs.operations.Counters.{counters, mentioned, IsGreatest}
+use Rattle.origin_model.specs.operations.Counters.{counters, mentioned_ids, IsGreatest}
 use Rattle.origin_model.specs.operations.Verdict.{names}
 use Rattle.origin_model.specs.declared.operations.Role.{Role}
 use Rattle.causal_inbox.specs.Index.{IsAgeIndex}
 use Rattle.causal_inbox.specs.Greatest.{IsGreatestUnder}
-use Rattle.causal_inbox.specs.Key.{has_key, has_kind, named, own}
+use Rattle.causal_inbox.specs.Key.{has_key, has_kind, key_of_naming, own_key_of}
 use Rattle.causal_inbox.specs.Lists.{ages_under, key_cmp}
 use Rattle.causal_inbox.specs.declared.key.Key.{Key}
 use Rattle.causal_inbox.proofs.FindingLemmas.{some_age}
@@ -37,7 +37,7 @@ named_any i ns c =
     list_any-from_Any (λ n. id_eq n.0 i) ns (found.1.0, found.0, found.1.1, found.1.2, eq-id_eq found.0.0 i found.2)
 
 -- an operation that is found by a key has or names its identifier
-kind_mentioned : (kind : Kind) (i : Identifier) (op : Op) → has_kind kind i op ≡ true → Contains (mentioned op) i
+kind_mentioned : (kind : Kind) (i : Identifier) (op : Op) → has_kind kind i op ≡ true → Contains (mentioned_ids op) i
 kind_mentioned Own i op e =
     Contains-append_left (option_to_list (id_of op)) (map (λ n. n.0) (names op)) i (subst (λ o. Contains (option_to_list o) i) (sym (origin_eq-true (id_of op) (Some i) e)) (contains_here i []))
 kind_mentioned Named i op e = Contains-append_right (option_to_list (id_of op)) (map (λ n. n.0) (names op)) i (any_named i (names op) e)
@@ -45,7 +45,7 @@ kind_mentioned Target i (Delete t) e = subst (Contains (t ∷ [])) (id_eq-true t
 kind_mentioned Target i _ e = absurd (false≢true e)
 
 -- and what it has or names is the identifier of one of its keys
-mentioned_key : (i : Identifier) (op : Op) → Contains (mentioned op) i → (has_key (own i) op ≡ true) ⊎ (has_key (named i) op ≡ true)
+mentioned_key : (i : Identifier) (op : Op) → Contains (mentioned_ids op) i → (has_key (own_key_of i) op ≡ true) ⊎ (has_key (key_of_naming i) op ≡ true)
 mentioned_key i op c =
     elim (Contains-append_cases (option_to_list (id_of op)) (map (λ n. n.0) (names op)) i c) [
       | inl has ↦ inl (ap (λ o. origin_eq o (Some i)) (the_own (id_of op) has) ∙ id_eq-refl i)
@@ -56,16 +56,16 @@ mentioned_key i op c =
     the_own None c = absurd (contains_none i c)
     the_own (Some j) c = elim (contains_cases j [] i c) [ inl same ↦ ap (λ k. Some k) same | inr none ↦ absurd (contains_none i none) ]
 
-pub keys_mentioned : (key : Key) (ops : List Op) → list_any (has_key key) ops ≡ true → Contains (flat_map mentioned ops) key.id
+pub keys_mentioned : (key : Key) (ops : List Op) → list_any (has_key key) ops ≡ true → Contains (flat_map mentioned_ids ops) key.id
 keys_mentioned key [] e = cc
 keys_mentioned key (op ∷ ops) e = elim (or_cases (has_key key op) (list_any (has_key key) ops) e) [
-  | inl has ↦ Contains-append_left (mentioned op) (flat_map mentioned ops) key.id (kind_mentioned key.kind key.id op has)
-  | inr other ↦ Contains-append_right (mentioned op) (flat_map mentioned ops) key.id (keys_mentioned key ops other)
+  | inl has ↦ Contains-append_left (mentioned_ids op) (flat_map mentioned_ids ops) key.id (kind_mentioned key.kind key.id op has)
+  | inr other ↦ Contains-append_right (mentioned_ids op) (flat_map mentioned_ids ops) key.id (keys_mentioned key ops other)
 ]
 
-pub mentioned_keys : (i : Identifier) (ops : List Op) → Contains (flat_map mentioned ops) i → (list_any (has_key (own i)) ops ≡ true) ⊎ (list_any (has_key (named i)) ops ≡ true)
+pub mentioned_keys : (i : Identifier) (ops : List Op) → Contains (flat_map mentioned_ids ops) i → (list_any (has_key (own_key_of i)) ops ≡ true) ⊎ (list_any (has_key (key_of_naming i)) ops ≡ true)
 mentioned_keys i [] c = absurd (contains_none i c)
-mentioned_keys i (op ∷ ops) c = elim (Contains-append_cases (mentioned op) (flat_map mentioned ops) i c) [
+mentioned_keys i (op ∷ ops) c = elim (Contains-append_cases (mentioned_ids op) (flat_map mentioned_ids ops) i c) [
   | inl here ↦ elim (mentioned_key i op here) [ inl e ↦ inl (or_left _ _ e) | inr e ↦ inr (or_left _ _ e) ]
   | inr behind ↦ elim (mentioned_keys i ops behind) [ inl e ↦ inl (or_right _ _ e) | inr e ↦ inr (or_right _ _ e) ]
 ]
@@ -110,17 +110,17 @@ greatest_mentioned m r ops ages greatest none g index = by_greatest greatest g
     member : (n : ℕ) (k : KeyOf m r n) → Contains (counters r ops) n
     member n k =
         subst (Contains (counters r ops)) k.of_counter
-        (contains_map (λ id. id.counter) (filter (λ id. nat_eq id.replica r) (flat_map mentioned ops)) k.key.id
-        (contains_filter (λ id. nat_eq id.replica r) (flat_map mentioned ops) k.key.id
+        (contains_map (λ id. id.counter) (filter (λ id. nat_eq id.replica r) (flat_map mentioned_ids ops)) k.key.id
+        (contains_filter (λ id. nat_eq id.replica r) (flat_map mentioned_ids ops) k.key.id
         (keys_mentioned k.key ops (sym (entry k.key) ∙ k.there)) (eq-eqb k.key.id.replica r k.of_replica)))
 
     key_of : (n : ℕ) → Contains (counters r ops) n → KeyOf m r n
     key_of n c =
-        let found = contains_map_from (λ id. id.counter) (filter (λ id. nat_eq id.replica r) (flat_map mentioned ops)) n c in
-        let kept = contains_filter_from (λ id. nat_eq id.replica r) (flat_map mentioned ops) found.0 found.1 in
+        let found = contains_map_from (λ id. id.counter) (filter (λ id. nat_eq id.replica r) (flat_map mentioned_ids ops)) n c in
+        let kept = contains_filter_from (λ id. nat_eq id.replica r) (flat_map mentioned_ids ops) found.0 found.1 in
         elim (mentioned_keys found.0 ops kept.0) [
-          | inl e ↦ record { key = own found.0; of_replica = eqb-true found.0.replica r kept.1; of_counter = found.2; there = entry (own found.0) ∙ e }
-          | inr e ↦ record { key = named found.0; of_replica = eqb-true found.0.replica r kept.1; of_counter = found.2; there = entry (named found.0) ∙ e }
+          | inl e ↦ record { key = own_key_of found.0; of_replica = eqb-true found.0.replica r kept.1; of_counter = found.2; there = entry (own_key_of found.0) ∙ e }
+          | inr e ↦ record { key = key_of_naming found.0; of_replica = eqb-true found.0.replica r kept.1; of_counter = found.2; there = entry (key_of_naming found.0) ∙ e }
         ]
 
     none_there : (o : Option (List ℕ)) → o ≡ None → IsSome o → ⊥

@@ -14,7 +14,7 @@ use Rattle.std.proofs.lemmas.List.Quantifiers.{all_pairs_remove}
 use Rattle.std.proofs.Math.Seq.{drop-cons}
 use Rattle.fugue_ids.proofs.ListLemmas.{all_pairs_across, all_pairs_behind, all_pairs_head, all_pairs_nil, all_pairs_tail}
 use Rattle.fugue_ids.specs.declared.op.Op.{Op}
-use Rattle.causal_inbox.specs.Index.{IsAgeIndex, with_age, ages_with, dropped, positions_with}
+use Rattle.causal_inbox.specs.Index.{IsAgeIndex, with_age, ages_with, without_age, positions_with}
 use Rattle.causal_inbox.proofs.KeyLemmas.{AreKeys}
 use Rattle.causal_inbox.specs.Key.{has_key, is_among, key_eq}
 use Rattle.causal_inbox.specs.Lists.{AllRise, Changed, FrontAdded}
@@ -91,7 +91,7 @@ front_rises ops ages a keys old mid above front index key =
 
 -- an index is as before where what was added is dropped again
 pub index_undone : (ops : List Op) (ages : List ℕ) (a : ℕ) (keys : List Key) (old mid new : Key → List ℕ) → All (λ b. b < a) ages
-    → FrontAdded keys a old mid → Changed (is_among keys) (λ l. dropped l a) mid new → IsAgeIndex ops ages old → IsAgeIndex ops ages new
+    → FrontAdded keys a old mid → Changed (is_among keys) (λ l. without_age l a) mid new → IsAgeIndex ops ages old → IsAgeIndex ops ages new
 index_undone ops ages a keys old mid new above front changed index = record {
   one_each = index.one_each;
   rise = index.rise;
@@ -99,12 +99,12 @@ index_undone ops ages a keys old mid new above front changed index = record {
       let all : All (λ b. b < a) (old key) = subst (All (λ b. b < a)) (sym (index.listed key)) (ages_all (λ b. b < a) key ops ages above) in
       elim (cases_Bool (is_among keys key)) [
         | inl e ↦
-            changed key ∙ ap (λ b. if b then dropped (mid key) a else mid key) e ∙ ap (λ l. dropped l a) (front.front key)
-            ∙ cond_both (is_among (take front.count keys) key) (with_age (old key) a) (old key) (λ l. dropped l a ≡ old key)
+            changed key ∙ ap (λ b. if b then without_age (mid key) a else mid key) e ∙ ap (λ l. without_age l a) (front.front key)
+            ∙ cond_both (is_among (take front.count keys) key) (with_age (old key) a) (old key) (λ l. without_age l a ≡ old key)
             (λ _. added_dropped a (old key) all) (λ _. dropped_above a (old key) all)
             ∙ index.listed key
         | inr e ↦
-            changed key ∙ ap (λ b. if b then dropped (mid key) a else mid key) e
+            changed key ∙ ap (λ b. if b then without_age (mid key) a else mid key) e
             ∙ front.front key ∙ ap (λ b. if b then with_age (old key) a else old key) (front_among key front.count keys e) ∙ index.listed key
       ];
 }
@@ -117,7 +117,7 @@ parted_at xs i x is =
 
 -- the ages under a key with one operation less
 ages_removed : (key : Key) (op : Op) (a : ℕ) (ops : List Op) (ages : List ℕ) (p : ℕ) → length ages ≡ length ops → AllPairs ◌<◌ ages → slice_get ops p ≡ Some op → slice_get ages p ≡ Some a
-    → (if has_key key op then dropped (ages_with key ops ages) a else ages_with key ops ages) ≡ ages_with key (remove ops p) (remove ages p)
+    → (if has_key key op then without_age (ages_with key ops ages) a else ages_with key ops ages) ≡ ages_with key (remove ops p) (remove ages p)
 ages_removed key op a ops ages p same r is at =
     let long : length (take p ages) ≡ length (take p ops) =
     length-take-le p ages (omega (arith, slice_get_within ages p a at)) ∙ sym (length-take-le p ops (omega (arith, slice_get_within ops p op is))) in
@@ -131,23 +131,23 @@ ages_removed key op a ops ages p same r is at =
     (all_pairs_head ◌<◌ a (drop (suc p) ages) (all_pairs_behind ◌<◌ (take p ages) (a ∷ drop (suc p) ages) rises)) in
     let parts : ages_with key ops ages ≡ before ++ ages_with key (op ∷ drop (suc p) ops) (a ∷ drop (suc p) ages) =
     (λ i. ages_with key (parted_at ops p op is i) (parted_at ages p a at i)) ∙ ages-append key (take p ops) (op ∷ drop (suc p) ops) (take p ages) (a ∷ drop (suc p) ages) long in
-    let gone : dropped (before ++ a ∷ behind) a ≡ before ++ behind =
+    let gone : without_age (before ++ a ∷ behind) a ≡ before ++ behind =
     filter-append (λ b. not (nat_eq b a)) before (a ∷ behind) ∙ (λ i. dropped_above a before lower i ++ filter-append (λ b. not (nat_eq b a)) (a ∷ []) behind i)
     ∙ (λ i. before ++ (dropped_own a i ++ dropped_below a behind higher i)) in
     elim (cases_Bool (has_key key op)) [
-      | inl e ↦ rw e (ap (λ l. dropped l a) (rw e at parts) ∙ gone ∙ sym (ages-append key (take p ops) (drop (suc p) ops) (take p ages) (drop (suc p) ages) long))
+      | inl e ↦ rw e (ap (λ l. without_age l a) (rw e at parts) ∙ gone ∙ sym (ages-append key (take p ops) (drop (suc p) ops) (take p ages) (drop (suc p) ages) long))
       | inr e ↦ rw e ((rw e at parts) ∙ sym (ages-append key (take p ops) (drop (suc p) ops) (take p ages) (drop (suc p) ages) long))
     ]
 
 -- an index with one operation less
 pub index_removed : (ops : List Op) (op : Op) (ages : List ℕ) (p a : ℕ) (keys : List Key) (old new : Key → List ℕ) → slice_get ops p ≡ Some op → slice_get ages p ≡ Some a → AreKeys keys op
-    → Changed (is_among keys) (λ l. dropped l a) old new → IsAgeIndex ops ages old → IsAgeIndex (remove ops p) (remove ages p) new
+    → Changed (is_among keys) (λ l. without_age l a) old new → IsAgeIndex ops ages old → IsAgeIndex (remove ops p) (remove ages p) new
 index_removed ops op ages p a keys old new is at are changed index = record {
   one_each = omega (arith, length-remove ages p (slice_get_within ages p a at), length-remove ops p (slice_get_within ops p op is), index.one_each);
   rise = all_pairs_remove ◌<◌ ages p (slice_get_within ages p a at) index.rise;
   listed = λ (key : Key).
       changed key
-      ∙ (λ i. if are key i then dropped (index.listed key i) a else index.listed key i)
+      ∙ (λ i. if are key i then without_age (index.listed key i) a else index.listed key i)
       ∙ ages_removed key op a ops ages p index.one_each index.rise is at;
 }
 

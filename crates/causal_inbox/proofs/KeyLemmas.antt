@@ -15,7 +15,7 @@ use Rattle.origin_model.specs.operations.History.{is_own}
 use Rattle.origin_model.specs.operations.Verdict.{names}
 use Rattle.origin_model.specs.order.Printed.{deletes}
 use Rattle.origin_model.specs.declared.operations.Role.{Role}
-use Rattle.causal_inbox.specs.Key.{as_key, has_key, has_kind, is_among, key_eq, keys_of, kind_eq, main_key, name_key, named, own, target}
+use Rattle.causal_inbox.specs.Key.{as_key, has_key, has_kind, is_among, key_eq, keys_of, kind_eq, main_key, name_key, key_of_naming, own_key_of, key_of_target}
 use Rattle.causal_inbox.specs.Index.{with_age}
 use Rattle.causal_inbox.specs.Lists.{Changed, FrontAdded}
 use Rattle.fugue_ids.specs.Keyed.{IsReplaced}
@@ -99,15 +99,15 @@ AreKeys keys op = (key : Key) → is_among keys key ≡ has_key key op
 pub keys_are : (op : Op) → AreKeys (keys_of op) op
 keys_are op key = by_kind key.kind key.id
   where
-    its_own : (k : OpKey) (x : Identifier) → key_eq (as_key k) (own x) ≡ origin_eq (own_in k) (Some x)
+    its_own : (k : OpKey) (x : Identifier) → key_eq (as_key k) (own_key_of x) ≡ origin_eq (own_in k) (Some x)
     its_own (OwnKey i) x = and-true (id_eq i x)
     its_own (TargetKey i) x = and-false (id_eq i x)
 
-    its_target : (k : OpKey) (x : Identifier) → key_eq (as_key k) (target x) ≡ origin_eq (target_in k) (Some x)
+    its_target : (k : OpKey) (x : Identifier) → key_eq (as_key k) (key_of_target x) ≡ origin_eq (target_in k) (Some x)
     its_target (OwnKey i) x = and-false (id_eq i x)
     its_target (TargetKey i) x = and-true (id_eq i x)
 
-    never_named : (k : OpKey) (x : Identifier) → key_eq (as_key k) (named x) ≡ false
+    never_named : (k : OpKey) (x : Identifier) → key_eq (as_key k) (key_of_naming x) ≡ false
     never_named (OwnKey i) x = and-false (id_eq i x)
     never_named (TargetKey i) x = and-false (id_eq i x)
 
@@ -115,13 +115,13 @@ keys_are op key = by_kind key.kind key.id
     no_name [] key other = refl
     no_name (n ∷ ns) key other = λ i. (ap (λ k. id_eq n.0 key.id && k) other ∙ and-false (id_eq n.0 key.id)) i || no_name ns key other i
 
-    same_names : (ns : List (Identifier × Role)) (x : Identifier) → is_among (map name_key ns) (named x) ≡ list_any (λ n. id_eq n.0 x) ns
+    same_names : (ns : List (Identifier × Role)) (x : Identifier) → is_among (map name_key ns) (key_of_naming x) ≡ list_any (λ n. id_eq n.0 x) ns
     same_names [] x = refl
     same_names (n ∷ ns) x = λ i. and-true (id_eq n.0 x) i || same_names ns x i
 
     by_kind : (kind : Kind) (x : Identifier) → is_among (keys_of op) (record { id = x; kind = kind }) ≡ has_kind kind x op
-    by_kind Own x = (λ i. its_own (key_of op) x i || no_name (names op) (own x) refl i) ∙ or-false (is_own x op)
-    by_kind Target x = (λ i. its_target (key_of op) x i || no_name (names op) (target x) refl i) ∙ or-false (deletes x op)
+    by_kind Own x = (λ i. its_own (key_of op) x i || no_name (names op) (own_key_of x) refl i) ∙ or-false (is_own x op)
+    by_kind Target x = (λ i. its_target (key_of op) x i || no_name (names op) (key_of_target x) refl i) ∙ or-false (deletes x op)
     by_kind Named x = λ i. never_named (key_of op) x i || same_names (names op) x i
 
 names_next : (ns : List (Identifier × Role)) (k : ℕ) (d : Identifier × Role) → k < length ns → take (suc k) (map name_key ns) ≡ take k (map name_key ns) ++ name_key (get_or ns k d) ∷ []

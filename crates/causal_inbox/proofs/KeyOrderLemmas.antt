@@ -2,7 +2,7 @@
 use Rattle.std.proofs.Common.{ap, arith, refl, sym, true, false, ℕ, List, inl, inr, Bor, ◌≡◌, ◌∙◌, ◌≤◌, ◌+◌}
 use Rattle.std.proofs.lemmas.Grind.{common_steps}
 use Rattle.std.proofs.lemmas.Bool.{cases_Bool}
-use Rattle.std.specs.Prelude.{Option, Some, None, IsSome, is_some, option_map}
+use Rattle.std.specs.Prelude.{Option, Some, None, is_some, option_map}
 use Rattle.std.specs.BTreeMap.{BTreeMap, get}
 use Rattle.std.specs.Ordering.{is_eq, is_lt}
 use Rattle.std.specs.BTreeMap.Range.{IsRangeOf}
@@ -11,7 +11,7 @@ use Rattle.std.specs.declared.ops.Bound.TheVariants.{Excluded, Unbounded}
 use Rattle.std.specs.declared.cmp.Ordering.TheVariants.{Less}
 use Rattle.fugue_ids.specs.Keyed.{IsReplaced, IsReplacedBy}
 use Rattle.causal_inbox.specs.Greatest.{IsGreatestUnder, IsLastKey}
-use Rattle.causal_inbox.specs.Key.{own}
+use Rattle.causal_inbox.specs.Key.{own_key_of}
 use Rattle.causal_inbox.specs.Lists.{key_cmp}
 use Rattle.causal_inbox.specs.declared.key.Key.{Key}
 use Rattle.fugue_ids.proofs.OptionLemmas.{none_unless}
@@ -36,10 +36,10 @@ pub counters_rise : (a b : Key) → a.id.replica ≡ b.id.replica → is_lt (key
 counters_rise a b same e = grind (arith, common_steps)
 
 -- the first key of the next replica parts those of a replica and of lesser ones from the others
-pub within_first : (k : Key) (r : ℕ) → key_cmp k (own (record { replica = r + 1; counter = 0 })) ≡ Less → k.id.replica ≤ r
+pub within_first : (k : Key) (r : ℕ) → key_cmp k (own_key_of (record { replica = r + 1; counter = 0 })) ≡ Less → k.id.replica ≤ r
 within_first k r e = grind (arith, common_steps)
 
-pub before_first : (k : Key) (r : ℕ) → k.id.replica ≤ r → key_cmp k (own (record { replica = r + 1; counter = 0 })) ≡ Less
+pub before_first : (k : Key) (r : ℕ) → k.id.replica ≤ r → key_cmp k (own_key_of (record { replica = r + 1; counter = 0 })) ≡ Less
 before_first k r e = grind (arith, common_steps)
 
 -- the greatest counter by the last key
@@ -65,7 +65,7 @@ greatest_none m r l = record { none = λ e k at. l.none refl k (omega (arith, at
 
 -- the last key of a range that ends before the next replica
 pub last_in_range : (m : BTreeMap Key (List ℕ)) (r : ℕ) (seen left : List (Key × List ℕ)) (o : Option (Bor Key × Bor (List ℕ)))
-    → IsRangeOf key_cmp Unbounded (Excluded (own (record { replica = r + 1; counter = 0 }))) m seen → TakesLast deref_pair seen o left
+    → IsRangeOf key_cmp Unbounded (Excluded (own_key_of (record { replica = r + 1; counter = 0 }))) m seen → TakesLast deref_pair seen o left
     → IsLastKey m r (option_map (λ e. e.0.now) o)
 last_in_range m r seen left None range step = record { none = λ e k at. range.5 step.0 k (tt, before_first k r at); some = tt; within = tt; last = tt }
 last_in_range m r seen left (Some e) range step =

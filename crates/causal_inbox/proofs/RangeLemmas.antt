@@ -9,9 +9,9 @@ use Rattle.std.specs.BTreeMap.Range.{IsLeBy}
 use Rattle.fugue_ids.specs.Identifiers.{Identifier}
 use Rattle.fugue_ids.specs.Runs.{id_behind}
 use Rattle.fugue_ids.specs.declared.op.Op.{Op}
-use Rattle.origin_model.specs.operations.Counters.{mentioned}
+use Rattle.origin_model.specs.operations.Counters.{mentioned_ids}
 use Rattle.causal_inbox.specs.Index.{IsAgeIndex}
-use Rattle.causal_inbox.specs.Key.{has_key, named, own}
+use Rattle.causal_inbox.specs.Key.{has_key, key_of_naming, own_key_of}
 use Rattle.causal_inbox.specs.Keyed.{HasNoEmpty}
 use Rattle.causal_inbox.specs.Lists.{ages_under, key_cmp}
 use Rattle.causal_inbox.specs.Naming.{AreConcerned}
@@ -20,28 +20,28 @@ use Rattle.causal_inbox.specs.declared.key.Key.{Key}
 use Rattle.causal_inbox.proofs.GreatestLemmas.{entry_where, keys_mentioned, mentioned_keys}
 
 -- a key between those of two identifiers of one replica is of that replica, with a counter between theirs
-pub between_replica : (k : Key) (r m n : ℕ) → IsLeBy key_cmp (own (record { replica = r; counter = m })) k → IsLeBy key_cmp k (named (record { replica = r; counter = n })) → k.id.replica ≡ r
+pub between_replica : (k : Key) (r m n : ℕ) → IsLeBy key_cmp (own_key_of (record { replica = r; counter = m })) k → IsLeBy key_cmp k (key_of_naming (record { replica = r; counter = n })) → k.id.replica ≡ r
 between_replica k r m n a b = grind (arith, common_steps)
 
-pub between_from : (k : Key) (r m n : ℕ) → IsLeBy key_cmp (own (record { replica = r; counter = m })) k → IsLeBy key_cmp k (named (record { replica = r; counter = n })) → m ≤ k.id.counter
+pub between_from : (k : Key) (r m n : ℕ) → IsLeBy key_cmp (own_key_of (record { replica = r; counter = m })) k → IsLeBy key_cmp k (key_of_naming (record { replica = r; counter = n })) → m ≤ k.id.counter
 between_from k r m n a b = grind (arith, common_steps)
 
-pub between_to : (k : Key) (r m n : ℕ) → IsLeBy key_cmp (own (record { replica = r; counter = m })) k → IsLeBy key_cmp k (named (record { replica = r; counter = n })) → k.id.counter ≤ n
+pub between_to : (k : Key) (r m n : ℕ) → IsLeBy key_cmp (own_key_of (record { replica = r; counter = m })) k → IsLeBy key_cmp k (key_of_naming (record { replica = r; counter = n })) → k.id.counter ≤ n
 between_to k r m n a b = grind (arith, common_steps)
 
 -- and the keys of the identifiers between stand so
-pub stands_from : (k : Key) (r m : ℕ) → k.id.replica ≡ r → m ≤ k.id.counter → IsLeBy key_cmp (own (record { replica = r; counter = m })) k
+pub stands_from : (k : Key) (r m : ℕ) → k.id.replica ≡ r → m ≤ k.id.counter → IsLeBy key_cmp (own_key_of (record { replica = r; counter = m })) k
 stands_from k r m a b = grind (arith, common_steps)
 
-pub stands_to : (k : Key) (r n : ℕ) → k.id.replica ≡ r → k.id.counter ≤ n → IsLeBy key_cmp k (named (record { replica = r; counter = n }))
+pub stands_to : (k : Key) (r n : ℕ) → k.id.replica ≡ r → k.id.counter ≤ n → IsLeBy key_cmp k (key_of_naming (record { replica = r; counter = n }))
 stands_to k r n a b = grind (arith, common_steps)
 
 -- an entry between the first key and the last one
-pub from_entry : (m : BTreeMap Key (List ℕ)) (first : Identifier) (n : ℕ) (lo hi key : Key) → 0 < n → lo ≡ own first → hi ≡ named (record { replica = first.replica; counter = first.counter + (n - 1) })
+pub from_entry : (m : BTreeMap Key (List ℕ)) (first : Identifier) (n : ℕ) (lo hi key : Key) → 0 < n → lo ≡ own_key_of first → hi ≡ key_of_naming (record { replica = first.replica; counter = first.counter + (n - 1) })
     → IsLeBy key_cmp lo key → IsLeBy key_cmp key hi → IsSome (get key_cmp m key) → HasListFrom m first n
 from_entry m first n lo hi key some low high a b there =
-    let from : IsLeBy key_cmp (own first) key = subst (λ x. IsLeBy key_cmp x key) low a in
-    let to : IsLeBy key_cmp key (named (record { replica = first.replica; counter = first.counter + (n - 1) })) = subst (IsLeBy key_cmp key) high b in
+    let from : IsLeBy key_cmp (own_key_of first) key = subst (λ x. IsLeBy key_cmp x key) low a in
+    let to : IsLeBy key_cmp key (key_of_naming (record { replica = first.replica; counter = first.counter + (n - 1) })) = subst (IsLeBy key_cmp key) high b in
     let replica : key.id.replica ≡ first.replica = between_replica key first.replica first.counter (first.counter + (n - 1)) from to in
     let least : first.counter ≤ key.id.counter = between_from key first.replica first.counter (first.counter + (n - 1)) from to in
     let most : key.id.counter ≤ first.counter + (n - 1) = between_to key first.replica first.counter (first.counter + (n - 1)) from to in
@@ -55,7 +55,7 @@ from_entry m first n lo hi key some low high a b there =
     }
 
 -- no entry between them
-pub no_entry_from : (m : BTreeMap Key (List ℕ)) (first : Identifier) (n : ℕ) (lo hi : Key) → 0 < n → lo ≡ own first → hi ≡ named (record { replica = first.replica; counter = first.counter + (n - 1) })
+pub no_entry_from : (m : BTreeMap Key (List ℕ)) (first : Identifier) (n : ℕ) (lo hi : Key) → 0 < n → lo ≡ own_key_of first → hi ≡ key_of_naming (record { replica = first.replica; counter = first.counter + (n - 1) })
     → ((q : Key) → IsLeBy key_cmp lo q × IsLeBy key_cmp q hi → get key_cmp m q ≡ None) → HasListFrom m first n → ⊥
 no_entry_from m first n lo hi some low high none l =
     let replica : l.key.id.replica ≡ first.replica = ap (λ (i : Identifier). i.replica) l.of_one in
@@ -73,10 +73,10 @@ concerned m ops ages first n answer none index is = (λ yes. to (is.0 yes), λ c
     entry key = entry_where m ops ages key none index
 
     to : HasListFrom m first n → AreConcerned ops first n
-    to l = record { k = l.k; within = l.within; found = subst (Contains (flat_map mentioned ops)) l.of_one (keys_mentioned l.key ops (sym (entry l.key) ∙ l.there)) }
+    to l = record { k = l.k; within = l.within; found = subst (Contains (flat_map mentioned_ids ops)) l.of_one (keys_mentioned l.key ops (sym (entry l.key) ∙ l.there)) }
 
     from : AreConcerned ops first n → HasListFrom m first n
     from c = elim (mentioned_keys (id_behind first c.k) ops c.found) [
-      | inl e ↦ record { key = own (id_behind first c.k); k = c.k; within = c.within; of_one = refl; there = entry (own (id_behind first c.k)) ∙ e }
-      | inr e ↦ record { key = named (id_behind first c.k); k = c.k; within = c.within; of_one = refl; there = entry (named (id_behind first c.k)) ∙ e }
+      | inl e ↦ record { key = own_key_of (id_behind first c.k); k = c.k; within = c.within; of_one = refl; there = entry (own_key_of (id_behind first c.k)) ∙ e }
+      | inr e ↦ record { key = key_of_naming (id_behind first c.k); k = c.k; within = c.within; of_one = refl; there = entry (key_of_naming (id_behind first c.k)) ∙ e }
     ]

@@ -7,7 +7,7 @@ use Rattle.std.proofs.lemmas.List.{append-nil, drop-append-le, drop-drop, drop-s
 use Rattle.std.proofs.lemmas.List.Edits.{remove-append_right}
 use Rattle.std.proofs.lemmas.Option.{slice_get-get_or}
 use Rattle.std.proofs.Math.Seq.{drop-append-add, take-append-add}
-use Rattle.causal_inbox.specs.Gap.{AreGaps, around, between_gaps, gaps_before}
+use Rattle.causal_inbox.specs.Gap.{AreGaps, items_around_gap, between_gaps, gaps_before}
 
 -- a place below the gap passes none
 below : (gap : ℕ) (gaps : List ℕ) (q : ℕ) → q < gap → gaps_before (gap ∷ gaps) q ≡ 0
@@ -192,7 +192,7 @@ module _ {T : Type 0} (items : List T) where
 
 -- a gap of the size that moves up to the next one, and becomes longer by it
 pub joined : {T : Type 0} (xs ys : List T) (gone at size gap : ℕ) (gaps : List ℕ) → gone ≤ at → AreGaps (at + size) (gap ∷ gaps) (length xs) → length ys ≡ length xs
-    → around ys (gap - size) size ≡ around xs at size
+    → items_around_gap ys (gap - size) size ≡ items_around_gap xs at size
     → drop gone (take (gap - size) ys) ++ between_gaps ys (gap + 1) gaps ≡ drop gone (take at xs) ++ between_gaps xs (at + size) (gap ∷ gaps)
 joined xs ys gone at size gap gaps behind r same is =
     let end = gaps_end (gap + 1) gaps (length xs) r.1 in
@@ -202,10 +202,10 @@ joined xs ys gone at size gap gaps behind r same is =
     let long_new : length (take to ys) ≡ to = length-take-le to ys (omega (arith, same, end)) in
     let more : to ≡ length (take at xs) + (gap - (at + size)) = omega (arith, long, r.0) in
     let front : take to ys ≡ take at xs ++ passed =
-    sym (take_at (take to ys) (drop (to + size) ys) to long_new) ∙ ap (take to) is ∙ ap (λ n. take n (around xs at size)) more
+    sym (take_at (take to ys) (drop (to + size) ys) to long_new) ∙ ap (take to) is ∙ ap (λ n. take n (items_around_gap xs at size)) more
     ∙ take-append-add (take at xs) (drop (at + size) xs) (gap - (at + size)) in
     let rest : drop (to + size) ys ≡ drop gap xs =
-    sym (drop_at (take to ys) (drop (to + size) ys) to long_new) ∙ ap (drop to) is ∙ ap (λ n. drop n (around xs at size)) more
+    sym (drop_at (take to ys) (drop (to + size) ys) to long_new) ∙ ap (drop to) is ∙ ap (λ n. drop n (items_around_gap xs at size)) more
     ∙ drop-append-add (take at xs) (drop (at + size) xs) (gap - (at + size))
     ∙ drop-drop (gap - (at + size)) (at + size) xs ∙ ap (λ n. drop n xs) {x = at + size + (gap - (at + size))} {y = gap} (omega (arith, r.0)) in
     let behind_gap : drop (gap + 1) ys ≡ drop (gap + 1) xs =

@@ -2,8 +2,8 @@
 use Rattle.std.specs.Prelude.{ℕ, zero, suc, ◌+◌, ◌-◌, ◌<◌, ◌≤◌, List, [], ◌∷◌, ◌++◌, drop, take, length, nat_lt, if◌then◌else◌}
 
 -- the items before a gap of the size, which begins at `at`, and those behind it
-abbrev pub around : {T : Type 0} → List T → (at size : ℕ) → List T
-around items at size = take at items ++ drop (at + size) items
+abbrev pub items_around_gap : {T : Type 0} → List T → (at size : ℕ) → List T
+items_around_gap items at size = take at items ++ drop (at + size) items
 
 -- the items from the place on, without those in the gaps, each of which is one place
 abbrev pub between_gaps : {T : Type 0} → List T → (from : ℕ) → (gaps : List ℕ) → List T

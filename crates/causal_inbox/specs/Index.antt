@@ -22,8 +22,8 @@ abbrev pub with_age : List ℕ → ℕ → List ℕ
 with_age ages a = if is_last ages a then ages else ages ++ a ∷ []
 
 -- the list without the age
-abbrev pub dropped : List ℕ → ℕ → List ℕ
-dropped ages a = filter (λ b. not (nat_eq b a)) ages
+abbrev pub without_age : List ℕ → ℕ → List ℕ
+without_age ages a = filter (λ b. not (nat_eq b a)) ages
 
 -- an index of waiting operations: an age for each, and for each key the ages of those that have it
 pub record IsAgeIndex (ops : List Op) (ages : List ℕ) (at : Key → List ℕ) : Type 0 where

@@ -16,14 +16,16 @@ use Rattle.causal_inbox.specs.declared.key.Kind.{Kind}
 use Rattle.causal_inbox.specs.declared.key.Kind.TheVariants.{Own, Target, Named}
 
 -- the key of what makes an element or note, of what deletes it, and of what rests on it
-abbrev pub own : Identifier → Key
-own i = record { id = i; kind = Own }
+abbrev pub own_key_of : Identifier → Key
+own_key_of i = record { id = i; kind = Own }
 
-abbrev pub target : Identifier → Key
-target i = record { id = i; kind = Target }
+-- the key of the Delete of an element
+abbrev pub key_of_target : Identifier → Key
+key_of_target i = record { id = i; kind = Target }
 
-abbrev pub named : Identifier → Key
-named i = record { id = i; kind = Named }
+-- the key of those that name an identifier
+abbrev pub key_of_naming : Identifier → Key
+key_of_naming i = record { id = i; kind = Named }
 
 -- the same kind
 abbrev pub kind_eq : Kind → Kind → Bool
@@ -48,15 +50,16 @@ has_key key op = has_kind key.kind key.id op
 
 -- the key that equal operations share
 abbrev pub as_key : OpKey → Key
-as_key (OwnKey i) = own i
-as_key (TargetKey i) = target i
+as_key (OwnKey i) = own_key_of i
+as_key (TargetKey i) = key_of_target i
 
+-- the key by which equal operations meet
 abbrev pub main_key : Op → Key
 main_key op = as_key (key_of op)
 
 -- the key of a named identifier
 abbrev pub name_key : Identifier × Role → Key
-name_key n = named n.0
+name_key n = key_of_naming n.0
 
 -- the keys of an operation: the main one, and one for each identifier that it names
 abbrev pub keys_of : Op → List Key

@@ -1,4 +1,4 @@
--- An inbox, as contracts see it.
+-- An inbox, as contracts see it, and the same while many leave.
 use Rattle.std.specs.Prelude.{◌≤◌, ℕ, List, length}
 use Rattle.std.specs.BTreeMap.{BTreeMap}
 use Rattle.fugue_ids.specs.declared.op.Op.{Op}
@@ -7,12 +7,15 @@ use Rattle.causal_inbox.specs.Keyed.{HasNoEmpty}
 use Rattle.causal_inbox.specs.Lists.{ages_under, key_cmp}
 use Rattle.causal_inbox.specs.declared.key.Key.{Key}
 
+-- what waits, in the order in which it came, and how many may wait
 pub record Waiting : Type 0 where
-  -- what waits, in the order in which it came
   pub ops : List Op
-  -- how many may wait
   pub hold : ℕ
-  -- how many gaps are among what waits, where operations left
+
+-- the same, and how many gaps are among what waits, where operations left
+pub record OpenWaiting : Type 0 where
+  pub ops : List Op
+  pub hold : ℕ
   pub gaps : ℕ
 
 -- what waits is no more than may, and is found by the lists of ages

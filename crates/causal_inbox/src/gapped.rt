@@ -1,7 +1,7 @@
 ghost use Rattle.std.specs.Prelude.{◌≡◌, ◌<◌, ◌≤◌, ◌+◌, ◌++◌, ◌∷◌, [], Some, drop, get_or, take, length, insert};
 ghost use Rattle.std.specs.Prelude.{remove as without, set as with_item, slice_get, OnOk, OnErr, IfErr, IsTrue};
 ghost use Rattle.std.specs.Prelude.{vec_len, vec_capacity};
-ghost use Rattle.causal_inbox.specs.Gap.{AreGaps, AreGapsOfSome, around, between_gaps};
+ghost use Rattle.causal_inbox.specs.Gap.{AreGaps, AreGapsOfSome, items_around_gap, between_gaps};
 ghost use Rattle.causal_inbox.specs.Gap.{gaps_before as count_before};
 
 use crate::queue::drop_gone;
@@ -248,7 +248,7 @@ fn close_gaps<T: Drop>(items: &mut Vec<T>, gone: &mut usize, gaps: &mut Vec<usiz
 /// The gaps become one, which ends where the last of them does. The answer is where it begins.
 fn join_gaps<T>(items: &mut [T], gone: usize, gaps: &[usize]) -> usize
     requires { AreGaps gone gaps.now (length items.old) }
-    ensures items { drop gone (around items.new result (length gaps.now)) ≡ between_gaps items.old gone gaps.now }
+    ensures items { drop gone (items_around_gap items.new result (length gaps.now)) ≡ between_gaps items.old gone gaps.now }
     ensures behind_gone { gone ≤ result }
     ensures within { result + length gaps.now ≤ length items.new }
     ensures len { length items.new ≡ length items.old }
@@ -268,7 +268,7 @@ fn join_gaps<T>(items: &mut [T], gone: usize, gaps: &[usize]) -> usize
 fn close_gap<T: Drop>(items: &mut Vec<T>, gone: &mut usize, gap: usize, size: usize)
     requires behind_gone { gone.old ≤ gap }
     requires within { gap + size ≤ length items.old.items }
-    ensures items { drop gone.new items.new.items ≡ drop gone.old (around items.old.items gap size) }
+    ensures items { drop gone.new items.new.items ≡ drop gone.old (items_around_gap items.old.items gap size) }
     ensures within { gone.new ≤ length items.new.items }
 {
     let left = items.len() - size;
@@ -285,7 +285,7 @@ fn close_gap<T: Drop>(items: &mut Vec<T>, gone: &mut usize, gap: usize, size: us
 fn move_gap<T>(items: &mut [T], size: usize, from: usize, to: usize)
     requires from { from + size ≤ length items.old }
     requires to { to + size ≤ length items.old }
-    ensures items { around items.new to size ≡ around items.old from size }
+    ensures items { items_around_gap items.new to size ≡ items_around_gap items.old from size }
     ensures len { length items.new ≡ length items.old }
 {
     if size == 0 {

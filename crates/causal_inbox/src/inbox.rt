@@ -1,18 +1,15 @@
-ghost use Rattle.std.specs.Prelude.{◌≡◌, ◌↔◌, ◌<◌, ◌≤◌, ◌++◌, ◌∷◌, [], None, Some, true, false, length, position as first_position};
-ghost use Rattle.std.specs.Prelude.{remove as without, slice_get, OnOk, OnErr, IfErr, List, IsTrue, ◌+◌, ◌^◌};
+ghost use Rattle.std.specs.Prelude.{◌≡◌, ◌↔◌, ◌<◌, ◌≤◌, ◌++◌, ◌∷◌, [], Some, true, false, length, position as first_position};
+ghost use Rattle.std.specs.Prelude.{remove as without, slice_get, OnOk, OnErr, IfErr, List};
 ghost use Rattle.fugue_ids.specs.Ops.{id_of};
 ghost use Rattle.origin_model.specs.operations.History.{has_op};
 ghost use Rattle.origin_model.specs.operations.Verdict.{id_held, verdict, verdict as verdict_on};
 ghost use Rattle.origin_model.specs.taking.Taking.{is_decided as decides};
 ghost use Rattle.origin_model.specs.operations.Counters.{counters, IsGreatest};
 ghost use Rattle.causal_inbox.specs.Faults.{refused_op};
-ghost use Rattle.causal_inbox.specs.Naming.{AreConcerned, naming};
 ghost use Rattle.fugue_ids.specs.declared.op.Op.{Op as AnyOp};
 
-use crate::index::Index;
-use crate::key::named_key;
-use crate::{Found, Gapped};
-use fugue_ids::{ElementId, Op};
+use crate::{Found, OpenInbox};
+use fugue_ids::Op;
 use origin_model::{PlainReplica, Verdict};
 use std::alloc::Global;
 use std::marker::Model;
@@ -42,38 +39,33 @@ pub enum PushFault {
     NoMemory(Op),
 }
 
-/// The waiting operations, in the order in which they came, and how many may wait.
-///
-/// One that leaves moves no others: a gap stays, until the inbox is closed.
+/// The waiting operations, in the order in which they came, and how many may wait. They lie in one slice.
 #[derive(Drop)]
 pub struct Inbox {
-    ops: Gapped<Op>,
-    index: Index,
-    hold: u32,
+    inner: OpenInbox,
 }
 
 impl Model for Inbox {
-    ghost use Rattle.causal_inbox.specs.Waiting.{IsIndexed, Waiting};
+    ghost use Rattle.std.specs.Prelude.{◌≡◌};
+    ghost use Rattle.causal_inbox.specs.Waiting.{Waiting};
 
     ghost Value = { Waiting };
 
-    ghost view = { λ inbox. record { ops = inbox.ops.items; hold = inbox.hold; gaps = inbox.ops.gaps } };
+    ghost view = { λ inbox. record { ops = inbox.inner.ops; hold = inbox.inner.hold } };
 
-    ghost invariant = { λ inbox. IsIndexed inbox.ops.items inbox.hold inbox.index.ages.items inbox.index.lists };
+    ghost invariant = { λ inbox. inbox.inner.gaps ≡ 0 };
 }
 
 impl Inbox {
     pub fn new(alloc: Global, hold: u32) -> Inbox
-        ensures { result ≡ record { ops = []; hold = hold; gaps = 0 } }
+        ensures { result ≡ record { ops = []; hold = hold } }
     {
         Inbox {
-            ops: Gapped::new(alloc),
-            index: Index::new(alloc),
-            hold,
+            inner: OpenInbox::new(alloc, hold),
         }
     }
 
-    /// What waits already of the operation. Where nothing waits this is one comparison.
+    /// What waits already of the operation.
     pub fn find(&self, op: &Op) -> Found
         ensures same { (result ≡ Found.Same) ↔ (has_op self.now.ops op.now ≡ true) }
         ensures clash { (result ≡ Found.Clash)
@@ -81,16 +73,7 @@ impl Inbox {
         ensures absent { (result ≡ Found.Absent)
             ↔ ((has_op self.now.ops op.now ≡ false) × (id_held self.now.ops (id_of op.now) ≡ false)) }
     {
-        if self.ops.len() == 0 {
-            return Found::Absent;
-        }
-        if self.index.has_equal(&self.ops, op) {
-            Found::Same
-        } else if self.index.has_id(&self.ops, op.id()) {
-            Found::Clash
-        } else {
-            Found::Absent
-        }
+        self.inner.find(op)
     }
 
     /// One operation more, behind those that wait. A `PushFault` hands the operation back, and the inbox is as before.
@@ -101,56 +84,22 @@ impl Inbox {
         ensures handed_back { IfErr result (λ fault. refused_op fault ≡ op) }
         ensures within { length self.new.ops ≤ self.new.hold }
     {
-        if self.ops.len() >= self.hold as usize {
-            return Err(PushFault::Full(op));
-        }
-        let Ok(()) = self.index.add(&op) else {
-            return Err(PushFault::NoMemory(op));
-        };
-        match self.ops.push(op) {
-            Ok(()) => Ok(()),
-            Err(refused) => {
-                self.index.remove(&refused.value, self.ops.len());
-                Err(PushFault::NoMemory(refused.value))
-            }
-        }
+        self.inner.push(op)
     }
 
     /// The first place of an operation that can be accepted or is stray.
     pub fn next_decidable<F: Facts>(&self, facts: &F) -> Option<usize>
         ensures { result ≡ first_position (λ op. decides (verdict (F.history facts.now) op)) self.now.ops }
     {
-        'ops: for position in 0..self.ops.len() {
-            if is_decided(facts.verdict(self.ops.get(position))) {
+        'ops: for position in 0..self.inner.len() {
+            if is_decided(facts.verdict(self.inner.op_at(position))) {
                 return Some(position);
             }
         }
         None
     }
 
-    /// How many wait.
-    pub fn len(&self) -> usize
-        ensures len { result ≡ length self.now.ops }
-        ensures within { length self.now.ops ≤ self.now.hold }
-    {
-        self.ops.len()
-    }
-
-    pub fn op_at(&self, position: usize) -> &Op
-        requires { position < length self.now.ops }
-        ensures { slice_get self.now.ops position ≡ Some result.now }
-    {
-        self.ops.get(position)
-    }
-
-    /// The position of the operation that rests on the identifier behind k others that do.
-    pub fn nth_naming(&self, id: ElementId, k: usize) -> Option<usize>
-        ensures { result ≡ slice_get (naming id self.now.ops) k }
-    {
-        self.index.nth(&named_key(id), k)
-    }
-
-    /// One leaves, and those behind it come one position forward.
+    /// One leaves, and those behind it close up.
     pub fn remove(&mut self, position: usize) -> Op
         requires { position < length self.old.ops }
         ensures op { slice_get self.old.ops position ≡ Some result }
@@ -158,56 +107,23 @@ impl Inbox {
         ensures hold { self.new.hold ≡ self.old.hold }
         ensures within { length self.new.ops ≤ self.new.hold }
     {
-        let op = self.ops.remove(position, filler());
-        self.index.remove(&op, position);
+        let op = self.inner.remove(position);
+        self.inner.close();
         op
-    }
-
-    /// The operations lie in one slice again. Where none left, nothing moves.
-    pub fn close(&mut self)
-        ensures { self.new ≡ record self.old { gaps = 0 } }
-    {
-        self.ops.close();
     }
 
     /// The greatest counter of the replica among the identifiers that waiting operations have or name.
     pub fn greatest(&self, replica: u32) -> Option<u32>
         ensures { IsGreatest (counters replica self.now.ops) result }
     {
-        self.index.greatest(replica)
+        self.inner.greatest(replica)
     }
 
-    /// Whether something that waits has or names one of so many identifiers, from this one on. Where nothing waits this
-    /// is one comparison.
-    pub fn concerns(&self, first: ElementId, count: u32) -> bool
-        requires { first.counter + count ≤ 2 ^ 32 }
-        ensures { IsTrue result ↔ AreConcerned self.now.ops first count }
-    {
-        if self.ops.len() == 0 || count == 0 {
-            return false;
-        }
-        self.index.concerns(first, count)
-    }
-
-    /// The operations in one slice, where the inbox is closed.
     pub fn ops(&self) -> &[Op]
-        requires { self.now.gaps ≡ 0 }
         ensures ops { result.now ≡ self.now.ops }
         ensures within { length self.now.ops ≤ self.now.hold }
     {
-        self.ops.as_slice()
-    }
-}
-
-/// What lies in the place of an operation that left: it holds no memory.
-fn filler() -> Op
-    ensures { id_of result ≡ None }
-{
-    Op::Delete {
-        target: ElementId {
-            replica: 1,
-            counter: 0,
-        },
+        self.inner.ops()
     }
 }
 

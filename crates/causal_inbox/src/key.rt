@@ -1,7 +1,7 @@
 //! The keys of the index of waiting operations.
 
 ghost use Rattle.std.specs.Prelude.{◌≡◌};
-ghost use Rattle.causal_inbox.specs.Key.{main_key as main_key_of, named, own, target};
+ghost use Rattle.causal_inbox.specs.Key.{main_key as main_key_of, key_of_naming, own_key_of, key_of_target};
 
 use fugue_ids::{ElementId, Op, OpKey};
 
@@ -25,7 +25,7 @@ pub(crate) enum Kind {
 
 /// The key of what makes the element or note.
 pub(crate) fn own_key(id: ElementId) -> Key
-    ensures { result ≡ own id }
+    ensures { result ≡ own_key_of id }
 {
     Key {
         id,
@@ -35,7 +35,7 @@ pub(crate) fn own_key(id: ElementId) -> Key
 
 /// The key of what deletes the element or note.
 fn target_key(id: ElementId) -> Key
-    ensures { result ≡ target id }
+    ensures { result ≡ key_of_target id }
 {
     Key {
         id,
@@ -45,7 +45,7 @@ fn target_key(id: ElementId) -> Key
 
 /// The key of what rests on the element or note.
 pub(crate) fn named_key(id: ElementId) -> Key
-    ensures { result ≡ named id }
+    ensures { result ≡ key_of_naming id }
 {
     Key {
         id,

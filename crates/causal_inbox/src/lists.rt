@@ -1,7 +1,7 @@
 //! Lists of ages under keys.
 
 ghost use Rattle.std.specs.Prelude.{◌≡◌, slice_get, AllPairs, ◌<◌, OnOk, OnErr};
-ghost use Rattle.causal_inbox.specs.Index.{with_age, dropped};
+ghost use Rattle.causal_inbox.specs.Index.{with_age, without_age};
 ghost use Rattle.causal_inbox.specs.Key.{is_among, keys_of};
 ghost use Rattle.causal_inbox.specs.Lists.{AllRise, Changed, FrontAdded, ages_under, key_cmp};
 ghost use Rattle.causal_inbox.specs.Keyed.{HasNoEmpty};
@@ -42,7 +42,7 @@ fn add_under(lists: &mut Lists, alloc: Global, key: Key, age: u64) -> Result<(),
 fn drop_under(lists: &mut Lists, key: Key, age: u64)
     requires { AllPairs ◌<◌ (ages_under lists.old key) }
     ensures dropped { IsReplaced (ages_under lists.old) (ages_under lists.new) key
-        (dropped (ages_under lists.old key) age) }
+        (without_age (ages_under lists.old key) age) }
     ensures no_empty { HasNoEmpty key_cmp lists.old → HasNoEmpty key_cmp lists.new }
 {
     if let Ok(at) = list_under(lists, &key).binary_search(&age) {
@@ -68,7 +68,7 @@ pub(crate) fn add_age(lists: &mut Lists, alloc: Global, op: &Op, age: u64) -> Re
 /// The age under no key of the operation.
 pub(crate) fn drop_age(lists: &mut Lists, op: &Op, age: u64)
     requires { AllRise (ages_under lists.old) }
-    ensures dropped { Changed (is_among (keys_of op.now)) (λ ages. dropped ages age) (ages_under lists.old)
+    ensures dropped { Changed (is_among (keys_of op.now)) (λ ages. without_age ages age) (ages_under lists.old)
         (ages_under lists.new) }
     ensures no_empty { HasNoEmpty key_cmp lists.old → HasNoEmpty key_cmp lists.new }
 {

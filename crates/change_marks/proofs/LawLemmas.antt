@@ -21,9 +21,9 @@ use Rattle.catalogue_notes.proofs.PartLemmas.{parts_same}
 use Rattle.catalogue_notes.proofs.RetitlingLemmas.{arranged_section}
 use Rattle.version_views.specs.Laws.{is_shown}
 use Rattle.version_views.proofs.ViewLemmas.{shown_by_filter}
-use Rattle.change_marks.specs.Changes.{IsLater, arranges, changes_text, dropped_told, head, heading_bytes, is_changed, is_marked, is_moved, is_retitled, section_told, told}
+use Rattle.change_marks.specs.Changes.{IsLater, arranges, changes_text, dropped_told, head, heading_bytes, is_changed, is_marked, is_moved, is_retitled, section_told, change_text}
 use Rattle.change_marks.specs.Laws.{AllSinceTheBeginning, AuthorsTellAll, ChangesByFilter, NothingSinceNow, is_new, is_of_now, is_of_then, section_new}
-use Rattle.change_marks.specs.Marks.{letter, mark_of, marked_as, runs}
+use Rattle.change_marks.specs.Marks.{letter_of, mark_of, marked_as, runs}
 use Rattle.change_marks.specs.Steps.{is_changed_element}
 use Rattle.change_marks.specs.declared.mark.Mark.{Mark}
 use Rattle.change_marks.specs.declared.mark.Mark.TheVariants.{New}
@@ -59,7 +59,7 @@ both true b e = refl
 both false b e = e
 
 -- a letter of the moment is the same now
-same_letter : (f h : List Op) (x : Identifier) → Lawful h → IsLater f h → is_shown f x ≡ true → letter h x ≡ scalar_of (holder f x)
+same_letter : (f h : List Op) (x : Identifier) → Lawful h → IsLater f h → is_shown f x ≡ true → letter_of h x ≡ scalar_of (holder f x)
 same_letter f h x w l e =
     let held = found (holder f x) (both (holds f x) (not (is_hidden f x)) e) in
     ap scalar_of (holder_later f h x held.0 w l held.1) ∙ sym (ap scalar_of held.1)
@@ -71,11 +71,11 @@ changes_by_filter f h s w l =
     record {
       now =
           letters_by_elements is_of_now h key xs
-          ∙ ap (flat_map (letter h)) (filter_same (λ x. passes is_of_now (key x)) (λ x. not (is_hidden h x)) xs (λ x. now_marks (holds f x) (is_hidden f x) (is_hidden h x) x.replica (hidden_later f h x l)));
+          ∙ ap (flat_map (letter_of h)) (filter_same (λ x. passes is_of_now (key x)) (λ x. not (is_hidden h x)) xs (λ x. now_marks (holds f x) (is_hidden f x) (is_hidden h x) x.replica (hidden_later f h x l)));
       then =
           letters_by_elements is_of_then h key xs
-          ∙ ap (flat_map (letter h)) (filter_same (λ x. passes is_of_then (key x)) (is_shown f) xs (λ x. then_marks (holds f x) (is_hidden f x) (is_hidden h x) x.replica))
-          ∙ parts_same (letter h) (λ x. scalar_of (holder f x)) (filter (is_shown f) xs) (λ x m. same_letter f h x w l (contains_filter_from (is_shown f) xs x m).1)
+          ∙ ap (flat_map (letter_of h)) (filter_same (λ x. passes is_of_then (key x)) (is_shown f) xs (λ x. then_marks (holds f x) (is_hidden f x) (is_hidden h x) x.replica))
+          ∙ parts_same (letter_of h) (λ x. scalar_of (holder f x)) (filter (is_shown f) xs) (λ x m. same_letter f h x w l (contains_filter_from (is_shown f) xs x m).1)
           ∙ sym (ap (flat_map (λ x. scalar_of (holder f x))) (subst (λ whole. shown (within s) f ≡ filter (is_shown f) (order (within s) whole)) (sym l.whole) (shown_by_filter (within s) l.newer f (subst Lawful l.whole w))));
     }
 
@@ -114,7 +114,7 @@ pub nothing_since_now : NothingSinceNow
 unfolding changes_text
 nothing_since_now h w =
     let sections : flat_map (section_told h h) (arranged h) ≡ [] =
-    nothing_in (section_told h h) (arranged h) (λ s m. ap (λ (b : Bool). if b then told h (head h h s) (runs false h h s) else []) (unchanged h s w (arranged_section h s w m))) in
+    nothing_in (section_told h h) (arranged h) (λ s m. ap (λ (b : Bool). if b then change_text h (head h h s) (runs false h h s) else []) (unchanged h s w (arranged_section h s w m))) in
     let dropped : flat_map (dropped_told h h) (filter (λ s. not (arranges h s)) (arranged h)) ≡ [] =
     ap (flat_map (dropped_told h h)) (none_left (λ s. not (arranges h s)) (arranged h) (λ s m. ap not (has_from_contains (arranged h) s m))) in
     (λ i. sections i ++ dropped i)

@@ -6,21 +6,21 @@ use Rattle.std.proofs.lemmas.List.{append-nil, drop_all}
 use Rattle.fugue_ids.specs.declared.op.Op.{Op}
 use Rattle.std.proofs.lemmas.List.Sums.{sum_by-cons}
 use Rattle.fugue_ids.specs.Identifiers.{Identifier}
-use Rattle.change_marks.specs.Authors.{authors_from, line_of, passage_line, section_authors}
-use Rattle.change_marks.specs.Steps.{carried, count_in, line_before, lines_from, passage_behind}
-use Rattle.change_marks.specs.Stretches.{Stretch, by_replica, joined}
+use Rattle.change_marks.specs.Authors.{authors_from, author_line, passage_line, section_authors}
+use Rattle.change_marks.specs.Steps.{letters_before, count_in, line_before, passage_lines, passage_behind}
+use Rattle.change_marks.specs.Stretches.{Stretch, by_replica, joined_stretch}
 use Rattle.change_marks.specs.declared.passages.Passage.{Passage}
 
 -- the lines behind letters of an open passage, where these stretches are to come
 abbrev lines_behind : ℕ → ℕ → List (Stretch ℕ) → List ℕ
 lines_behind r n [] = passage_line r n
-lines_behind r n (s ∷ ss) = if nat_eq r s.key then passage_line r (n + length s.elements) ++ flat_map line_of ss else passage_line r n ++ flat_map line_of (s ∷ ss)
+lines_behind r n (s ∷ ss) = if nat_eq r s.key then passage_line r (n + length s.elements) ++ flat_map author_line ss else passage_line r n ++ flat_map author_line (s ∷ ss)
 
 -- a letter in front of stretches, by the first one that comes of it
 abbrev first_of_joined : ℕ → Identifier → List (Stretch ℕ) → Type 0
 first_of_joined n x ss =
-    (s : Stretch ℕ) × (rest : List (Stretch ℕ)) × (joined nat_eq x.replica x ss ≡ s ∷ rest) × (s.key ≡ x.replica)
-    × (lines_behind x.replica (n + 1) ss ≡ passage_line x.replica (n + length s.elements) ++ flat_map line_of rest)
+    (s : Stretch ℕ) × (rest : List (Stretch ℕ)) × (joined_stretch nat_eq x.replica x ss ≡ s ∷ rest) × (s.key ≡ x.replica)
+    × (lines_behind x.replica (n + 1) ss ≡ passage_line x.replica (n + length s.elements) ++ flat_map author_line rest)
 
 alone : Identifier → Stretch ℕ
 alone x = record { key = x.replica; elements = x ∷ [] }
@@ -30,7 +30,7 @@ unfolding alone
 joins_first n x [] = (alone x, [], refl, refl, sym (append-nil (passage_line x.replica (n + 1))))
 joins_first n x (s ∷ ss) =
     let after : Bool → List (Stretch ℕ) = λ b. if b then record { key = x.replica; elements = x ∷ s.elements } ∷ ss else record { key = x.replica; elements = x ∷ [] } ∷ s ∷ ss in
-    let lines : Bool → List ℕ = λ b. if b then passage_line x.replica (n + 1 + length s.elements) ++ flat_map line_of ss else passage_line x.replica (n + 1) ++ flat_map line_of (s ∷ ss) in
+    let lines : Bool → List ℕ = λ b. if b then passage_line x.replica (n + 1 + length s.elements) ++ flat_map author_line ss else passage_line x.replica (n + 1) ++ flat_map author_line (s ∷ ss) in
     let count : n + 1 + length s.elements ≡ n + suc (length s.elements) = omega arith in
     elim (cases_Bool (nat_eq x.replica s.key)) [
       | inl e ↦ (
@@ -38,44 +38,44 @@ joins_first n x (s ∷ ss) =
         ss,
         ap after e,
         refl,
-        ap lines e ∙ ap (λ k. passage_line x.replica k ++ flat_map line_of ss) count,
+        ap lines e ∙ ap (λ k. passage_line x.replica k ++ flat_map author_line ss) count,
       )
       | inr e ↦ (alone x, s ∷ ss, ap after e, refl, ap lines e)
     ]
 
 -- the line that a letter ends, and what comes behind the letter
-turned : (p : Passage) (x : Identifier) (ss : List (Stretch ℕ)) → line_before (Some p) x ++ lines_behind x.replica (carried (Some p) x + 1) ss ≡ lines_behind p.replica p.count (joined nat_eq x.replica x ss)
+turned : (p : Passage) (x : Identifier) (ss : List (Stretch ℕ)) → line_before (Some p) x ++ lines_behind x.replica (letters_before (Some p) x + 1) ss ≡ lines_behind p.replica p.count (joined_stretch nat_eq x.replica x ss)
 turned p x ss =
     let before : Bool → List ℕ = λ b. (if b then [] else passage_line p.replica p.count) ++ lines_behind x.replica ((if b then p.count else 0) + 1) ss in
     elim (cases_Bool (nat_eq p.replica x.replica)) [
       | inl e ↦
           let f = joins_first p.count x ss in
           let same : p.replica ≡ x.replica = eqb-true p.replica x.replica e in
-          let own : List ℕ = passage_line p.replica (p.count + length f.0.elements) ++ flat_map line_of f.1 in
-          let other : List ℕ = passage_line p.replica p.count ++ flat_map line_of (f.0 ∷ f.1) in
-          ap before e ∙ f.4 ∙ ap (λ r. passage_line r (p.count + length f.0.elements) ++ flat_map line_of f.1) (sym same)
+          let own : List ℕ = passage_line p.replica (p.count + length f.0.elements) ++ flat_map author_line f.1 in
+          let other : List ℕ = passage_line p.replica p.count ++ flat_map author_line (f.0 ∷ f.1) in
+          ap before e ∙ f.4 ∙ ap (λ r. passage_line r (p.count + length f.0.elements) ++ flat_map author_line f.1) (sym same)
           ∙ sym (ap (lines_behind p.replica p.count) f.2 ∙ ap (λ k. if nat_eq p.replica k then own else other) f.3 ∙ ap (λ b. if b then own else other) e)
       | inr e ↦
           let f = joins_first 0 x ss in
           let count : 0 + length f.0.elements ≡ length f.0.elements = omega arith in
-          let own : List ℕ = passage_line p.replica (p.count + length f.0.elements) ++ flat_map line_of f.1 in
-          let other : List ℕ = passage_line p.replica p.count ++ flat_map line_of (f.0 ∷ f.1) in
+          let own : List ℕ = passage_line p.replica (p.count + length f.0.elements) ++ flat_map author_line f.1 in
+          let other : List ℕ = passage_line p.replica p.count ++ flat_map author_line (f.0 ∷ f.1) in
           ap before e
-          ∙ ap (λ l. passage_line p.replica p.count ++ l) (f.4 ∙ (λ i. passage_line (sym f.3 i) (count i) ++ flat_map line_of f.1))
+          ∙ ap (λ l. passage_line p.replica p.count ++ l) (f.4 ∙ (λ i. passage_line (sym f.3 i) (count i) ++ flat_map author_line f.1))
           ∙ sym (ap (lines_behind p.replica p.count) f.2 ∙ ap (λ k. if nat_eq p.replica k then own else other) f.3 ∙ ap (λ b. if b then own else other) e)
     ]
 
-lines_of_open : (p : Passage) (xs : List Identifier) → lines_from (Some p) xs ≡ lines_behind p.replica p.count (by_replica xs)
+lines_of_open : (p : Passage) (xs : List Identifier) → passage_lines (Some p) xs ≡ lines_behind p.replica p.count (by_replica xs)
 lines_of_open p [] = refl
 lines_of_open p (x ∷ xs) = ap (λ l. line_before (Some p) x ++ l) (lines_of_open (passage_behind (Some p) x) xs) ∙ turned p x (by_replica xs)
 
 -- all lines are those of the runs
-pub lines_of_passages : (xs : List Identifier) → lines_from None xs ≡ flat_map line_of (by_replica xs)
+pub lines_of_passages : (xs : List Identifier) → passage_lines None xs ≡ flat_map author_line (by_replica xs)
 lines_of_passages [] = refl
 lines_of_passages (x ∷ xs) =
     let f = joins_first 0 x (by_replica xs) in
     let count : 0 + length f.0.elements ≡ length f.0.elements = omega arith in
-    lines_of_open (passage_behind None x) xs ∙ f.4 ∙ (λ i. passage_line (sym f.3 i) (count i) ++ flat_map line_of f.1) ∙ sym (ap (flat_map line_of) f.2)
+    lines_of_open (passage_behind None x) xs ∙ f.4 ∙ (λ i. passage_line (sym f.3 i) (count i) ++ flat_map author_line f.1) ∙ sym (ap (flat_map author_line) f.2)
 
 -- the letters that are to come begin with the one that was looked up
 pub first_is : (xs : List Identifier) (x : Identifier) → Some x ≡ slice_get xs 0 → xs ≡ x ∷ drop 1 xs
@@ -91,7 +91,7 @@ abbrev size : Stretch ℕ → ℕ
 size p = length p.elements
 
 -- the runs have all letters
-joined_size : (k : ℕ) (x : Identifier) (ss : List (Stretch ℕ)) → sum_by size (joined nat_eq k x ss) ≡ suc (sum_by size ss)
+joined_size : (k : ℕ) (x : Identifier) (ss : List (Stretch ℕ)) → sum_by size (joined_stretch nat_eq k x ss) ≡ suc (sum_by size ss)
 joined_size k x [] = refl
 joined_size k x (s ∷ ss) =
     let after : Bool → List (Stretch ℕ) = λ b. if b then record { key = k; elements = x ∷ s.elements } ∷ ss else record { key = k; elements = x ∷ [] } ∷ s ∷ ss in

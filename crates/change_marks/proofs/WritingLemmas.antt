@@ -15,7 +15,7 @@ use Rattle.section_catalogue.proofs.PrintingLemmas.{IsUnderWay}
 use Rattle.catalogue_notes.specs.Arranged.{arranged}
 use Rattle.catalogue_notes.proofs.PartLemmas.{parts_same}
 use Rattle.change_marks.specs.Changes.{IsLater, arranges, changes_text, dropped_sections, dropped_told, is_marked, section_told}
-use Rattle.change_marks.specs.Marks.{mark_eq, mark_of, marked, runs, told_mark}
+use Rattle.change_marks.specs.Marks.{mark_eq, mark_of, text_with_marks, runs, told_mark}
 use Rattle.change_marks.specs.Steps.{dropped_part}
 use Rattle.change_marks.specs.Stretches.{stretches}
 use Rattle.change_marks.proofs.LaterLemmas.{dropped_is_hidden}
@@ -29,8 +29,8 @@ under_way_last result u v w p q r whole rest last s e t =
 
 -- the runs of the elements that a list has
 pub runs_found : (is_dropped : Bool) (f f_is h h_is : List Op) (s : Identifier) (ids : List Identifier) → f_is ≡ f → h_is ≡ h → ids ≡ order (within s) h_is
-    → marked h_is (stretches mark_eq (told_mark is_dropped f_is h_is) ids) ≡ marked h (runs is_dropped f h s)
-runs_found d f f_is h h_is s ids a b e = ap (λ l. marked h_is (stretches mark_eq (told_mark d f_is h_is) l)) e ∙ (λ i. marked (b i) (runs d (a i) (b i) s))
+    → text_with_marks h_is (stretches mark_eq (told_mark is_dropped f_is h_is) ids) ≡ text_with_marks h (runs is_dropped f h s)
+runs_found d f f_is h h_is s ids a b e = ap (λ l. text_with_marks h_is (stretches mark_eq (told_mark d f_is h_is) l)) e ∙ (λ i. text_with_marks (b i) (runs d (a i) (b i) s))
 
 -- and whether one of them has marks around it
 pub marks_found : (f f_is h h_is : List Op) (s : Identifier) (ids : List Identifier) → f_is ≡ f → h_is ≡ h → ids ≡ order (within s) h_is

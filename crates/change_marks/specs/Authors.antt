@@ -15,8 +15,9 @@ passages h s = by_replica (shown (within s) h)
 abbrev pub passage_line : (replica count : ℕ) → List ℕ
 passage_line replica count = codes "  " ++ decimal replica ++ 32 ∷ decimal count ++ 10 ∷ []
 
-abbrev pub line_of : Stretch ℕ → List ℕ
-line_of passage = passage_line passage.key (length passage.elements)
+-- the line of a passage that one author wrote
+abbrev pub author_line : Stretch ℕ → List ℕ
+author_line passage = passage_line passage.key (length passage.elements)
 
 -- the place of a section, a space, its identifier, LF
 abbrev pub section_line : (place : ℕ) → Identifier → List ℕ
@@ -24,12 +25,13 @@ section_line place s = decimal place ++ 32 ∷ decimal s.replica ++ codes "." ++
 
 -- what is told of a section
 abbrev pub section_authors : List Op → (place : ℕ) → Identifier → List ℕ
-section_authors h place s = section_line place s ++ flat_map line_of (passages h s)
+section_authors h place s = section_line place s ++ flat_map author_line (passages h s)
 
 -- what is told of sections, of which the first stands at the place
 abbrev pub authors_from : List Op → (place : ℕ) → List Identifier → List ℕ
 authors_from h place [] = []
 authors_from h place (s ∷ ss) = section_authors h place s ++ authors_from h (suc place) ss
 
+-- the lines of the authors of all sections, as they are printed
 abbrev pub authors_text : List Op → List ℕ
 authors_text h = authors_from h 1 (arranged h)

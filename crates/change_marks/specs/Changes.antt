@@ -6,7 +6,7 @@ use Rattle.fugue_ids.specs.Identifiers.{Identifier, id_eq}
 use Rattle.fugue_ids.specs.declared.op.Op.{Op}
 use Rattle.catalogue_notes.specs.Arranged.{arranged, heading, position}
 use Rattle.catalogue_notes.specs.Lift.{is_section}
-use Rattle.change_marks.specs.Marks.{mark_eq, marked, runs}
+use Rattle.change_marks.specs.Marks.{mark_eq, text_with_marks, runs}
 use Rattle.change_marks.specs.Stretches.{Stretch}
 use Rattle.change_marks.specs.declared.mark.Mark.{Mark}
 use Rattle.change_marks.specs.declared.mark.Mark.TheVariants.{Kept}
@@ -30,18 +30,20 @@ abbrev pub is_moved : (f h : List Op) → Identifier → Bool
 is_moved f h s = not (id_eq (position f s) (position h s))
 
 -- the head of a section that f has not
-abbrev pub new_head : List Op → Identifier → List ℕ
-new_head h s = codes "{++" ++ heading_bytes h s ++ codes "++}{>>" ++ decimal s.replica ++ codes "<<}"
+abbrev pub head_of_new : List Op → Identifier → List ℕ
+head_of_new h s = codes "{++" ++ heading_bytes h s ++ codes "++}{>>" ++ decimal s.replica ++ codes "<<}"
 
 -- the old heading and the new one, where they differ
 abbrev pub titles : (f h : List Op) → Identifier → List ℕ
 titles f h s = if is_retitled f h s then codes "{--" ++ heading_bytes f s ++ codes "--}{++" ++ heading_bytes h s ++ codes "++}" else heading_bytes h s
 
+-- the mark of a section that was moved since
 abbrev pub moved_mark : (f h : List Op) → Identifier → List ℕ
 moved_mark f h s = if is_moved f h s then codes " {>>moved<<}" else []
 
+-- the head of a section's changes: its titles, or what says that it is new
 abbrev pub head : (f h : List Op) → Identifier → List ℕ
-head f h s = if is_section f s then titles f h s ++ moved_mark f h s else new_head h s
+head f h s = if is_section f s then titles f h s ++ moved_mark f h s else head_of_new h s
 
 -- the head has a mark
 abbrev pub head_is_marked : (f h : List Op) → Identifier → Bool
@@ -56,16 +58,16 @@ abbrev pub is_changed : (f h : List Op) → Identifier → Bool
 is_changed f h s = head_is_marked f h s || list_any is_marked (runs false f h s)
 
 -- a hash sign, a space, the head, LF, the runs, LF
-abbrev pub told : List Op → List ℕ → List (Stretch Mark) → List ℕ
-told h title rs = codes "# " ++ title ++ 10 ∷ marked h rs ++ 10 ∷ []
+abbrev pub change_text : List Op → List ℕ → List (Stretch Mark) → List ℕ
+change_text h title rs = codes "# " ++ title ++ 10 ∷ text_with_marks h rs ++ 10 ∷ []
 
 -- what is told of a section that h arranges
 abbrev pub section_told : (f h : List Op) → Identifier → List ℕ
-section_told f h s = if is_changed f h s then told h (head f h s) (runs false f h s) else []
+section_told f h s = if is_changed f h s then change_text h (head f h s) (runs false f h s) else []
 
 -- what is told of one that f arranges, and h does not
 abbrev pub dropped_told : (f h : List Op) → Identifier → List ℕ
-dropped_told f h s = told h (codes "{--" ++ heading_bytes f s ++ codes "--}") (runs true f h s)
+dropped_told f h s = change_text h (codes "{--" ++ heading_bytes f s ++ codes "--}") (runs true f h s)
 
 -- h arranges the section
 abbrev pub arranges : List Op → Identifier → Bool

@@ -51,22 +51,24 @@ opening Kept = []
 opening (New replica) = codes "{++"
 opening Gone = codes "{--"
 
-abbrev pub closing : Mark → List ℕ
-closing Kept = []
-closing (New replica) = codes "++}{>>" ++ decimal replica ++ codes "<<}"
-closing Gone = codes "--}"
+-- what ends a run of letters with this mark
+abbrev pub closing_mark : Mark → List ℕ
+closing_mark Kept = []
+closing_mark (New replica) = codes "++}{>>" ++ decimal replica ++ codes "<<}"
+closing_mark Gone = codes "--}"
 
 -- the letter of an element
-abbrev pub letter : List Op → Identifier → List ℕ
-letter h x = scalar_of (holder h x)
+abbrev pub letter_of : List Op → Identifier → List ℕ
+letter_of h x = scalar_of (holder h x)
 
 -- the letters of a run
-abbrev pub letters : List Op → Stretch Mark → List ℕ
-letters h run = flat_map (letter h) run.elements
+abbrev pub run_letters : List Op → Stretch Mark → List ℕ
+run_letters h run = flat_map (letter_of h) run.elements
 
 -- a run in its marks
 abbrev pub marked_run : List Op → Stretch Mark → List ℕ
-marked_run h run = opening run.key ++ encode_utf8_all (letters h run) ++ closing run.key
+marked_run h run = opening run.key ++ encode_utf8_all (run_letters h run) ++ closing_mark run.key
 
-abbrev pub marked : List Op → List (Stretch Mark) → List ℕ
-marked h rs = flat_map (marked_run h) rs
+-- the runs with their marks
+abbrev pub text_with_marks : List Op → List (Stretch Mark) → List ℕ
+text_with_marks h rs = flat_map (marked_run h) rs

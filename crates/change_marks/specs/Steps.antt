@@ -6,7 +6,7 @@ use Rattle.fugue_ids.specs.declared.op.Op.{Op}
 use Rattle.change_marks.specs.Authors.{passage_line}
 use Rattle.origin_model.specs.order.Printed.{is_hidden}
 use Rattle.change_marks.specs.Changes.{dropped_told}
-use Rattle.change_marks.specs.Marks.{closing, letter, mark_eq, opening}
+use Rattle.change_marks.specs.Marks.{closing_mark, letter_of, mark_eq, opening}
 use Rattle.change_marks.specs.declared.mark.Mark.{Mark}
 use Rattle.change_marks.specs.declared.mark.Mark.TheVariants.{Kept}
 use Rattle.change_marks.specs.declared.passages.Passage.{Passage}
@@ -19,16 +19,16 @@ is_open (Some begun) mark = mark_eq begun mark
 -- what ends the open run
 abbrev pub closing_of : Option Mark → List ℕ
 closing_of None = []
-closing_of (Some begun) = closing begun
+closing_of (Some begun) = closing_mark begun
 
 -- the end of the open run and the start of the next one, unless they have one mark
-abbrev pub turn : Option Mark → Mark → List ℕ
-turn begun mark = if is_open begun mark then [] else closing_of begun ++ opening mark
+abbrev pub turn_of_run : Option Mark → Mark → List ℕ
+turn_of_run begun mark = if is_open begun mark then [] else closing_of begun ++ opening mark
 
 -- what an element adds, by its mark
 abbrev pub element_part : List Op → Option Mark → Option Mark → Identifier → List ℕ
 element_part h begun None x = []
-element_part h begun (Some mark) x = turn begun mark ++ encode_utf8_all (letter h x)
+element_part h begun (Some mark) x = turn_of_run begun mark ++ encode_utf8_all (letter_of h x)
 
 -- the run that is open behind it
 abbrev pub open_behind : {K : Type 0} → Option K → Option K → Option K
@@ -46,9 +46,9 @@ passage_end None = []
 passage_end (Some p) = passage_line p.replica p.count
 
 -- the next letter is of the open passage
-abbrev pub goes_on : Option Passage → Identifier → Bool
-goes_on None x = false
-goes_on (Some p) x = nat_eq p.replica x.replica
+abbrev pub continues_passage : Option Passage → Identifier → Bool
+continues_passage None x = false
+continues_passage (Some p) x = nat_eq p.replica x.replica
 
 -- how many letters it has
 abbrev pub count_in : Option Passage → ℕ
@@ -56,21 +56,21 @@ count_in None = 0
 count_in (Some p) = p.count
 
 -- how many letters of the passage of a letter stand before it
-abbrev pub carried : Option Passage → Identifier → ℕ
-carried begun x = if goes_on begun x then count_in begun else 0
+abbrev pub letters_before : Option Passage → Identifier → ℕ
+letters_before begun x = if continues_passage begun x then count_in begun else 0
 
 -- the passage that is open behind a letter
 abbrev pub passage_behind : Option Passage → Identifier → Passage
-passage_behind begun x = record { replica = x.replica; count = carried begun x + 1 }
+passage_behind begun x = record { replica = x.replica; count = letters_before begun x + 1 }
 
 -- the line of a passage that a letter ends
 abbrev pub line_before : Option Passage → Identifier → List ℕ
-line_before begun x = if goes_on begun x then [] else passage_end begun
+line_before begun x = if continues_passage begun x then [] else passage_end begun
 
 -- the lines of letters, where a passage is begun
-abbrev pub lines_from : Option Passage → List Identifier → List ℕ
-lines_from begun [] = passage_end begun
-lines_from begun (x ∷ xs) = line_before begun x ++ lines_from (Some (passage_behind begun x)) xs
+abbrev pub passage_lines : Option Passage → List Identifier → List ℕ
+passage_lines begun [] = passage_end begun
+passage_lines begun (x ∷ xs) = line_before begun x ++ passage_lines (Some (passage_behind begun x)) xs
 
 -- the element is in a run that has marks around it
 abbrev pub is_changed_element : Option Mark → Bool

@@ -3,7 +3,7 @@ ghost use Rattle.std.specs.Prelude.{◌≡◌, Contains};
 ghost use Rattle.fugue_ids.specs.Gathers.{GathersText};
 ghost use Rattle.fugue_ids.specs.Outs.{WritesBytes};
 ghost use Rattle.origin_model.specs.declared.operations.Place.TheVariants.{Catalogue as catalogue, Section as within};
-ghost use Rattle.origin_model.specs.edits.State.{Stands};
+ghost use Rattle.origin_model.specs.edits.State.{IsSound};
 ghost use Rattle.origin_model.specs.order.Order.{order};
 ghost use Rattle.origin_model.specs.order.Printed.{shown};
 ghost use Rattle.section_list.specs.Cells.{section_cell_ids, section_cells_shown};
@@ -88,7 +88,7 @@ pub fn write_authors<O: Sink>(
     output: &mut O,
 ) -> Result<(), ArrangeFault>
     ensures text { WritesText (O.seen output.old) (O.seen output.new) result (authors_text replica.now.held.history) }
-    ensures stands { Stands replica.now }
+    ensures stands { IsSound replica.now }
 {
     let now = Headings::of(alloc, replica)?;
     told(write_sections(output, &now))

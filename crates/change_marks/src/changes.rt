@@ -2,7 +2,7 @@
 ghost use Rattle.std.specs.Prelude.{◌≡◌, ◌++◌, Contains, flat_map};
 ghost use Rattle.fugue_ids.specs.Gathers.{GathersText};
 ghost use Rattle.fugue_ids.specs.Outs.{WritesBytes};
-ghost use Rattle.origin_model.specs.edits.State.{Stands};
+ghost use Rattle.origin_model.specs.edits.State.{IsSound};
 ghost use Rattle.origin_model.specs.operations.Verdict.{Lawful};
 ghost use Rattle.catalogue_notes.specs.Arranged.{arranged};
 ghost use Rattle.catalogue_notes.specs.Printing.{WritesText};
@@ -101,7 +101,7 @@ pub fn write_changes<O: Sink>(
     requires { IsLater then.now.held.history now.now.held.history }
     ensures text { WritesText (O.seen output.old) (O.seen output.new) result
         (changes_text then.now.held.history now.now.held.history) }
-    ensures stands { Stands now.now }
+    ensures stands { IsSound now.now }
 {
     let new = Headings::of(alloc, now)?;
     let old = Headings::of(alloc, then)?;

@@ -3,7 +3,7 @@ ghost use Rattle.std.specs.Prelude.{◌≡◌, ◌++◌, ◌∷◌, [], codes, t
 ghost use Rattle.fugue_ids.specs.Gathers.{GathersText};
 ghost use Rattle.catalogue_notes.specs.Lift.{is_section};
 ghost use Rattle.change_marks.specs.Changes.{head, head_is_marked as marked_head, heading_bytes};
-ghost use Rattle.change_marks.specs.Changes.{is_moved as moved_in, is_retitled as retitled_in, moved_mark, new_head, titles};
+ghost use Rattle.change_marks.specs.Changes.{is_moved as moved_in, is_retitled as retitled_in, moved_mark, head_of_new, titles};
 
 use catalogue_notes::Headings;
 use fugue_ids::{ElementId, Failed, Gather, Out};
@@ -56,7 +56,7 @@ fn put_new_head<O: Out>(
 ) -> Result<(), Failed>
     requires { is_section now.now section ≡ true }
     ensures { GathersText (O.seen output.old) (O.seen output.new) gather.old gather.new result
-        (codes "# " ++ new_head now.now section ++ 10 ∷ []) }
+        (codes "# " ++ head_of_new now.now section ++ 10 ∷ []) }
 {
     let heading = now.heading(section).as_bytes();
     let mut number = Buffer::new();

@@ -4,8 +4,8 @@ ghost use Rattle.std.specs.Str.{encode_utf8_all};
 ghost use Rattle.fugue_ids.specs.Gathers.{GathersText};
 ghost use Rattle.op_runs.specs.Finding.{op_of};
 ghost use Rattle.origin_model.specs.order.Printed.{scalar_of};
-ghost use Rattle.change_marks.specs.Marks.{letter, opening};
-ghost use Rattle.change_marks.specs.Steps.{closing_of, is_open as is_open_as, turn};
+ghost use Rattle.change_marks.specs.Marks.{letter_of, opening};
+ghost use Rattle.change_marks.specs.Steps.{closing_of, is_open as is_open_as, turn_of_run};
 
 use crate::Mark;
 use fugue_ids::{ElementId, Failed, Gather, Op, Out};
@@ -61,7 +61,7 @@ fn put_turn<O: Out>(
     begun: Option<Mark>,
     mark: Mark,
 ) -> Result<(), Failed>
-    ensures { GathersText (O.seen output.old) (O.seen output.new) gather.old gather.new result (turn begun mark) }
+    ensures { GathersText (O.seen output.old) (O.seen output.new) gather.old gather.new result (turn_of_run begun mark) }
 {
     if is_open(begun, mark) {
         return gather.put(output, b"");
@@ -83,7 +83,7 @@ fn scalar_in(op: &OpRef<'_>) -> Option<char>
 
 /// The letter of an element.
 fn find_letter(replica: &Replica, id: ElementId) -> Option<char>
-    ensures { option_to_list result ≡ letter replica.now.held.history id }
+    ensures { option_to_list result ≡ letter_of replica.now.held.history id }
 {
     match replica.holder(id) {
         Some(op) => scalar_in(&op),
@@ -99,7 +99,7 @@ fn put_letter<O: Out>(
     id: ElementId,
 ) -> Result<(), Failed>
     ensures { GathersText (O.seen output.old) (O.seen output.new) gather.old gather.new result
-        (encode_utf8_all (letter replica.now.held.history id)) }
+        (encode_utf8_all (letter_of replica.now.held.history id)) }
 {
     match find_letter(replica, id) {
         Some(ch) => gather.put_scalar(output, ch),
@@ -117,7 +117,7 @@ pub(crate) fn put_marked<O: Out>(
     id: ElementId,
 ) -> Result<(), Failed>
     ensures { GathersText (O.seen output.old) (O.seen output.new) gather.old gather.new result
-        (turn begun mark ++ encode_utf8_all (letter replica.now.held.history id)) }
+        (turn_of_run begun mark ++ encode_utf8_all (letter_of replica.now.held.history id)) }
 {
     put_turn(gather, output, begun, mark)?;
     put_letter(gather, output, replica, id)

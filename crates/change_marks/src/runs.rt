@@ -4,7 +4,7 @@ ghost use Rattle.std.specs.List.{list_any};
 ghost use Rattle.fugue_ids.specs.Gathers.{GathersText};
 ghost use Rattle.section_list.specs.Cells.{section_cell_ids};
 ghost use Rattle.change_marks.specs.Changes.{is_marked};
-ghost use Rattle.change_marks.specs.Marks.{mark_eq, mark_of, marked, told_mark as told_in};
+ghost use Rattle.change_marks.specs.Marks.{mark_eq, mark_of, text_with_marks, told_mark as told_in};
 ghost use Rattle.change_marks.specs.Steps.{element_part, is_changed_element, open_behind};
 ghost use Rattle.change_marks.specs.Stretches.{stretches};
 
@@ -52,7 +52,7 @@ pub(crate) fn put_runs<O: Out>(
 ) -> Result<(), Failed>
     requires once { AllPairs (λ x y. x ≢ y) (section_cell_ids list.now.cells) }
     ensures { GathersText (O.seen output.old) (O.seen output.new) gather.old gather.new result
-        (marked replica.now.held.history
+        (text_with_marks replica.now.held.history
         (stretches mark_eq (told_in is_dropped front.now.held.history replica.now.held.history)
         (section_cell_ids list.now.cells))) }
 {

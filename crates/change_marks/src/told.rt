@@ -2,14 +2,14 @@
 ghost use Rattle.std.specs.Prelude.{◌≡◌, ◌++◌, ◌∷◌, [], Contains, length, true};
 ghost use Rattle.fugue_ids.specs.Gathers.{GathersText};
 ghost use Rattle.origin_model.specs.declared.operations.Place.TheVariants.{Catalogue as catalogue, Section as within};
-ghost use Rattle.origin_model.specs.edits.State.{Stands};
+ghost use Rattle.origin_model.specs.edits.State.{IsSound};
 ghost use Rattle.origin_model.specs.order.Order.{order};
 ghost use Rattle.section_list.specs.Cells.{section_cell_ids, section_cells_shown};
 ghost use Rattle.origin_model.specs.order.Printed.{shown};
 ghost use Rattle.catalogue_notes.specs.Arranged.{arranged};
 ghost use Rattle.catalogue_notes.specs.Lift.{is_section};
 ghost use Rattle.change_marks.specs.Changes.{IsLater, dropped_told, is_changed as changed_in, section_told};
-ghost use Rattle.change_marks.specs.Marks.{marked, runs};
+ghost use Rattle.change_marks.specs.Marks.{text_with_marks, runs};
 
 use crate::heads::{head_is_marked, put_dropped_head, put_head};
 use crate::runs::{has_marks, put_runs};
@@ -24,7 +24,7 @@ pub(crate) fn elements_of(replica: &Replica, section: ElementId) -> &SectionList
     ensures elements { section_cell_ids result.now.cells ≡ order (within section) replica.now.held.history }
     ensures shown { section_cell_ids (section_cells_shown result.now.cells)
         ≡ shown (within section) replica.now.held.history }
-    ensures stands { Stands replica.now }
+    ensures stands { IsSound replica.now }
 {
     let list = replica.places().section(section).unwrap();
     list
@@ -76,7 +76,7 @@ fn put_body<O: Out>(
 ) -> Result<(), Failed>
     requires { Contains (order catalogue now.now) section }
     ensures { GathersText (O.seen output.old) (O.seen output.new) gather.old gather.new result
-        (marked now.now (runs is_dropped then.now now.now section) ++ 10 ∷ []) }
+        (text_with_marks now.now (runs is_dropped then.now now.now section) ++ 10 ∷ []) }
 {
     let front = then.replica();
     let replica = now.replica();

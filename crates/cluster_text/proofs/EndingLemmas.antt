@@ -7,7 +7,7 @@ use Rattle.ucd_derived.specs.declared.IndicConjunctBreak.{IndicConjunctBreak}
 use Rattle.ucd_derived.specs.declared.IndicConjunctBreak.TheVariants as InCb
 use Rattle.unicode_segmentation.specs.Grapheme.{ends_in_half_flag, ends_in_linker, is_regional}
 use Rattle.cluster_text.specs.Borders.{closes, ends_whole, is_indicator, is_mark, onto}
-use Rattle.cluster_text.specs.Endings.{IsEnding, passed, stays_open}
+use Rattle.cluster_text.specs.Endings.{IsEnding, ending_with, stays_open}
 use Rattle.cluster_text.specs.declared.ending.Ending.{Ending}
 use Rattle.cluster_text.proofs.BorderLemmas.{nul_closes, onto-append}
 
@@ -21,7 +21,7 @@ stays_open-is InCb.Linker vs = refl
 stays_open-is InCb.Extend vs = refl
 stays_open-is _ vs = refl
 
-pub ending-next : (cs : List ℕ) (ending : Ending) (c : ℕ) → IsEnding cs ending → IsEnding (cs ++ c ∷ []) (passed ending c)
+pub ending-next : (cs : List ℕ) (ending : Ending) (c : ℕ) → IsEnding cs ending → IsEnding (cs ++ c ∷ []) (ending_with ending c)
 unfolding ends_in_half_flag
 ending-next cs ending c is =
     let behind : onto (cs ++ c ∷ []) [] ≡ c ∷ onto cs [] = onto-append cs (c ∷ []) [] in
@@ -35,8 +35,8 @@ ending-next cs ending c is =
       whole_is = ap₂ (λ a b. closes c || ((is_indicator c && not a) || (is_mark c && not b))) half conjunct ∙ ap ends_whole (sym behind);
     }
 
-pub ending-all : (cs : List ℕ) (ending : Ending) (ds : List ℕ) → IsEnding cs ending → IsEnding (cs ++ ds) (fold passed ending ds)
+pub ending-all : (cs : List ℕ) (ending : Ending) (ds : List ℕ) → IsEnding cs ending → IsEnding (cs ++ ds) (fold ending_with ending ds)
 ending-all cs ending [] is = subst (λ (es : List ℕ). IsEnding es ending) (sym (append-nil cs)) is
 ending-all cs ending (d ∷ ds) is =
-    subst (λ (es : List ℕ). IsEnding es (fold passed (passed ending d) ds)) (append_assoc cs (d ∷ []) ds)
-    (ending-all (cs ++ d ∷ []) (passed ending d) ds (ending-next cs ending d is))
+    subst (λ (es : List ℕ). IsEnding es (fold ending_with (ending_with ending d) ds)) (append_assoc cs (d ∷ []) ds)
+    (ending-all (cs ++ d ∷ []) (ending_with ending d) ds (ending-next cs ending d is))

@@ -5,7 +5,7 @@ use Rattle.std.proofs.lemmas.Str.{chars-append}
 use Rattle.std.specs.List.{fold}
 use Rattle.std.specs.Prelude.{string_bytes}
 use Rattle.std.specs.Str.{IsUtf8, chars}
-use Rattle.cluster_text.specs.Endings.{IsEnding, passed}
+use Rattle.cluster_text.specs.Endings.{IsEnding, ending_with}
 use Rattle.cluster_text.specs.Parts.{IsGathered, whole}
 use Rattle.cluster_text.specs.Trees.{IsAt}
 use Rattle.cluster_text.specs.declared.ending.Ending.{Ending}
@@ -39,6 +39,6 @@ module _ (parts : List Part) (old now : List ℕ) (from behind : ℕ) (way : IsG
         text_is = text;
       }
 
-pub ending-text : (text more : List ℕ) (ending : Ending) → IsUtf8 text → IsEnding (chars text) ending → IsEnding (chars (text ++ more)) (fold passed ending (chars more))
+pub ending-text : (text more : List ℕ) (ending : Ending) → IsUtf8 text → IsEnding (chars text) ending → IsEnding (chars (text ++ more)) (fold ending_with ending (chars more))
 ending-text text more ending utf8 ends =
-    subst (λ (cs : List ℕ). IsEnding cs (fold passed ending (chars more))) (sym (chars-append text more utf8)) (ending-all (chars text) ending (chars more) ends)
+    subst (λ (cs : List ℕ). IsEnding cs (fold ending_with ending (chars more))) (sym (chars-append text more utf8)) (ending-all (chars text) ending (chars more) ends)

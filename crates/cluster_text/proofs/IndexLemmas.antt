@@ -12,7 +12,7 @@ use Rattle.unicode_segmentation.specs.Grapheme.{is_grapheme_break}
 use Rattle.unicode_segmentation.specs.Segments.{cut, segments}
 use Rattle.cluster_text.specs.Borders.{first_opens, last_closes, stands_alone}
 use Rattle.cluster_text.specs.Clusters.{clusters, scalars, span}
-use Rattle.cluster_text.specs.Parts.{enclosed, inside, IsIndex, scalar_count, whole}
+use Rattle.cluster_text.specs.Parts.{between_nuls, inside, IsIndex, scalar_count, whole}
 use Rattle.cluster_text.specs.declared.part.Part.{Part}
 use Rattle.cluster_text.proofs.BorderLemmas.{closed_by_last, cut-enclosed, nul_closes, nul_opens}
 use Rattle.cluster_text.proofs.TextLemmas.{is_alone, last_closes-append, scalars-append, scalars-clusters, scalars-drop, scalars-take}
@@ -29,22 +29,22 @@ nul_chars : chars (0 ∷ []) ≡ 0 ∷ []
 nul_chars = chars_past_char (0 ∷ []) [] 0 nul_utf8 (sym (ap (λ t. t ++ []) (encode_ascii 0 (omega arith)))) ∙ ap (λ cs. 0 ∷ cs) chars-nil
 
 module _ (text : List ℕ) (utf8 : IsUtf8 text) where
-  pub enclosed_utf8 : IsUtf8 (enclosed text)
+  pub enclosed_utf8 : IsUtf8 (between_nuls text)
   enclosed_utf8 = IsUtf8-append (0 ∷ []) (text ++ 0 ∷ []) nul_utf8 (IsUtf8-append text (0 ∷ []) utf8 nul_utf8)
 
-  pub enclosed_chars : chars (enclosed text) ≡ 0 ∷ (chars text ++ 0 ∷ [])
+  pub enclosed_chars : chars (between_nuls text) ≡ 0 ∷ (chars text ++ 0 ∷ [])
   enclosed_chars =
       chars-append (0 ∷ []) (text ++ 0 ∷ []) nul_utf8
       ∙ ap₂ ◌++◌ nul_chars (chars-append text (0 ∷ []) utf8 ∙ ap (λ cs. chars text ++ cs) nul_chars)
 
-  pub enclosed_closes : last_closes (chars (enclosed text)) ≡ true
+  pub enclosed_closes : last_closes (chars (between_nuls text)) ≡ true
   enclosed_closes = ap last_closes enclosed_chars ∙ last_closes-append (0 ∷ chars text) (0 ∷ []) (omega arith) ∙ nul_closes
 
-  pub enclosed_alone : stands_alone (enclosed text) ≡ true
+  pub enclosed_alone : stands_alone (between_nuls text) ≡ true
   enclosed_alone =
-      is_alone (enclosed text) (ap first_opens enclosed_chars ∙ nul_opens) (closed_by_last (chars (enclosed text)) [] enclosed_closes)
+      is_alone (between_nuls text) (ap first_opens enclosed_chars ∙ nul_opens) (closed_by_last (chars (between_nuls text)) [] enclosed_closes)
 
-  pub enclosed_clusters : clusters (enclosed text) ≡ (0 ∷ []) ∷ (clusters text ++ (0 ∷ []) ∷ [])
+  pub enclosed_clusters : clusters (between_nuls text) ≡ (0 ∷ []) ∷ (clusters text ++ (0 ∷ []) ∷ [])
   unfolding segments
   enclosed_clusters =
       let pieces = cut (is_grapheme_break true) [] (chars text) [] in
@@ -54,14 +54,14 @@ module _ (text : List ℕ) (utf8 : IsUtf8 text) where
       ∙ ap (λ ps. encode_utf8_all (0 ∷ []) ∷ ps) (map-append encode_utf8_all pieces ((0 ∷ []) ∷ []))
       ∙ ap (λ t. t ∷ (map encode_utf8_all pieces ++ t ∷ [])) nul
 
-pub inside_is : (text : List ℕ) → inside (enclosed text) ≡ text
+pub inside_is : (text : List ℕ) → inside (between_nuls text) ≡ text
 inside_is text = take_at text (0 ∷ []) _ (omega (arith, length-append text (0 ∷ [])))
 
 -- parts of an enclosed text are an index
-pub index_is : (parts : List Part) (count : ℕ) (text : List ℕ) → whole parts ≡ enclosed text → IsUtf8 text → count ≡ scalar_count parts → IsIndex parts count
+pub index_is : (parts : List Part) (count : ℕ) (text : List ℕ) → whole parts ≡ between_nuls text → IsUtf8 text → count ≡ scalar_count parts → IsIndex parts count
 index_is parts count text is utf8 count_is =
     let inner : inside (whole parts) ≡ text = ap inside is ∙ inside_is text in
-    record { text_is = is ∙ ap enclosed (sym inner); utf8 = rw inner (is_utf8-from_IsUtf8 text utf8); count_is = count_is }
+    record { text_is = is ∙ ap between_nuls (sym inner); utf8 = rw inner (is_utf8-from_IsUtf8 text utf8); count_is = count_is }
 
 module _ (parts : List Part) (count : ℕ) (index : IsIndex parts count) where
   pub index_utf8 : IsUtf8 (inside (whole parts))
@@ -126,7 +126,7 @@ module _ (cs new : List ℕ) (at n : ℕ) (fits : at + n ≤ length cs) where
   pub splice_scalars : all_scalars cs ≡ true → all_scalars new ≡ true → all_scalars (splice cs at (at + n) new) ≡ true
   splice_scalars e f = scalars-append (take at cs) (new ++ drop (at + n) cs) (scalars-take at cs e) (scalars-append new (drop (at + n) cs) f (scalars-drop (at + n) cs e))
 
-encode_enclosed : (cs : List ℕ) → encode_utf8_all (0 ∷ (cs ++ 0 ∷ [])) ≡ enclosed (encode_utf8_all cs)
+encode_enclosed : (cs : List ℕ) → encode_utf8_all (0 ∷ (cs ++ 0 ∷ [])) ≡ between_nuls (encode_utf8_all cs)
 encode_enclosed cs =
     let nul = encode_ascii 0 (omega arith) in
     ap₂ ◌++◌ nul (encodes-append cs (0 ∷ []) ∙ ap (λ t. encode_utf8_all cs ++ (t ++ [])) nul)
@@ -139,7 +139,7 @@ module _ (parts changed : List Part) (count : ℕ) (index : IsIndex parts count)
   abbrev pub spliced : List ℕ
   spliced = splice (chars text) at (at + n) (chars new)
 
-  changed_is : whole changed ≡ enclosed (encode_utf8_all spliced)
+  changed_is : whole changed ≡ between_nuls (encode_utf8_all spliced)
   changed_is =
       is ∙ ap (λ t. encode_utf8_all (splice (chars t) (at + 1) (at + 1 + n) (chars new))) index.text_is
       ∙ ap (λ cs. encode_utf8_all (splice cs (at + 1) (at + 1 + n) (chars new))) (enclosed_chars text (index_utf8 parts count index))

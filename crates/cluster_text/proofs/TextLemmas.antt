@@ -12,7 +12,7 @@ use Rattle.unicode_segmentation.specs.Segments.{Rule, cut, segments}
 use Rattle.cluster_text.specs.Borders.{opens, first_opens, is_closed, last_closes, stands_alone}
 use Rattle.cluster_text.specs.Clusters.{clusters, scalars}
 use Rattle.cluster_text.specs.Cuts.{IsCut, IsPassed, IsWhole, SplitsAt}
-use Rattle.cluster_text.specs.Endings.{IsEnding, is_whole, passed}
+use Rattle.cluster_text.specs.Endings.{IsEnding, ends_cluster, ending_with}
 use Rattle.cluster_text.specs.declared.ending.Ending.{Ending}
 use Rattle.cluster_text.proofs.BorderLemmas.{closed-behind}
 use Rattle.cluster_text.proofs.CutLemmas.{attach}
@@ -189,7 +189,7 @@ module _ (text rest : List ℕ) (n : ℕ) (splits : SplitsAt text rest n) where
 pub passed-none : (text : List ℕ) (ending : Ending) → IsUtf8 text → IsEnding [] ending → IsPassed text text ending
 passed-none text ending utf8 ends = record { count = 0; splits = splits-none text utf8; ends = ends }
 
-pub passed-next : (text rest next : List ℕ) (ending : Ending) (c : ℕ) → IsPassed text rest ending → rest ≡ encode_utf8 c ++ next → IsPassed text next (passed ending c)
+pub passed-next : (text rest next : List ℕ) (ending : Ending) (c : ℕ) → IsPassed text rest ending → rest ≡ encode_utf8 c ++ next → IsPassed text next (ending_with ending c)
 passed-next text rest next ending c way is =
     let splits = way.splits in
     let taken = next_taken way.count (chars text) c (chars next) (sym splits.rest_is ∙ chars_past_char rest next c splits.utf8 is) in
@@ -208,7 +208,7 @@ cut_at_end text rest ending way none some =
     record { count = way.count; splits = way.splits; some = count_some text rest way.count way.splits (omega (arith, ap length none)); border = inl none }
 
 pub cut_at_border : (text rest next : List ℕ) (ending : Ending) (c : ℕ) → IsPassed text rest ending → length rest < length text → rest ≡ encode_utf8 c ++ next
-    → is_whole ending ≡ true → opens c ≡ true → IsCut text rest
+    → ends_cluster ending ≡ true → opens c ≡ true → IsCut text rest
 cut_at_border text rest next ending c way less is closed opening =
     record {
       count = way.count;

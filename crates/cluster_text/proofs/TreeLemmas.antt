@@ -8,7 +8,7 @@ use Rattle.std.specs.Prelude.{string_bytes}
 use Rattle.std.specs.Str.{chars}
 use Rattle.cluster_text.specs.Clusters.{clusters, scalars}
 use Rattle.cluster_text.specs.Parts.{IsSpot, scalar_count, whole}
-use Rattle.cluster_text.specs.Trees.{IsAt, capped, clusters_in, scalars_in}
+use Rattle.cluster_text.specs.Trees.{IsAt, capped_sum, clusters_in, count_scalars_in}
 use Rattle.cluster_text.specs.declared.part.Part.{Part}
 use Rattle.cluster_text.proofs.PartLemmas.{clusters-first, clusters-parts, length-le-scalar_count, scalar_count-append, scalar_count-first, scalar_count-none, whole-utf8}
 use Rattle.cluster_text.proofs.SingleLemmas.{few_clusters}
@@ -30,7 +30,7 @@ module _ {X : Type 0} (x : X) (ys : List X) where
       rw e (drop-past n zs (omega arith))
 
 -- the sums that a tree keeps are the counts of the text
-scalars_in-is : (parts : List Part) → scalars_in parts ≡ scalar_count parts
+scalars_in-is : (parts : List Part) → count_scalars_in parts ≡ scalar_count parts
 scalars_in-is [] = sym scalar_count-none
 scalars_in-is (part ∷ parts) =
     omega (arith, sum_by-cons (λ (p : Part). p.scalars) part parts, part.scalars_are, scalars_in-is parts, scalar_count-first part parts)
@@ -70,13 +70,13 @@ module _ (parts left : List Part) (part : Part) (right : List Part) (is : parts 
   -- ---- what the left side keeps
 
   module _ (few : scalar_count parts < 2 ^ 64) (n : ℕ) where
-    pub left_scalars : n ≡ capped (scalars_in left) → n ≡ scalar_count left
+    pub left_scalars : n ≡ capped_sum (count_scalars_in left) → n ≡ scalar_count left
     left_scalars kept = omega (arith, kept, scalars_in-is left, scalars_are, few)
 
-    pub left_parts : n ≡ capped (length left) → n ≡ length left
+    pub left_parts : n ≡ capped_sum (length left) → n ≡ length left
     left_parts kept = omega (arith, kept, length-le-scalar_count left, scalars_are, few)
 
-    pub left_clusters : n ≡ capped (clusters_in left) → n ≡ length (clusters (whole left))
+    pub left_clusters : n ≡ capped_sum (clusters_in left) → n ≡ length (clusters (whole left))
     left_clusters kept = omega (arith, kept, clusters_in-is left, few_clusters (whole left), scalars_are, few)
 
   -- ---- the part of a scalar

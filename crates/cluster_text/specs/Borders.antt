@@ -65,6 +65,7 @@ is_mark_class Extend = true
 is_mark_class SpacingMark = true
 is_mark_class _ = false
 
+-- the scalar joins what is in front of it
 abbrev pub is_mark : ℕ → Bool
 is_mark c = is_mark_class (grapheme_cluster_break c)
 

@@ -15,8 +15,8 @@ stays_open InCb.Extend before = before
 stays_open _ before = false
 
 -- the ending with one more character
-abbrev pub passed : Ending → ℕ → Ending
-passed ending c =
+abbrev pub ending_with : Ending → ℕ → Ending
+ending_with ending c =
     record {
       last = c;
       half = is_regional (grapheme_cluster_break c) && not ending.half;
@@ -24,11 +24,11 @@ passed ending c =
     }
 
 -- behind such an ending a cluster ends
-abbrev pub is_whole : Ending → Bool
-is_whole ending = closes ending.last || ((is_indicator ending.last && not ending.half) || (is_mark ending.last && not ending.conjunct))
+abbrev pub ends_cluster : Ending → Bool
+ends_cluster ending = closes ending.last || ((is_indicator ending.last && not ending.half) || (is_mark ending.last && not ending.conjunct))
 
 -- the characters end so
 pub record IsEnding (cs : List ℕ) (ending : Ending) : Type 0 where
   pub half_is : ending.half ≡ ends_in_half_flag (onto cs [])
   pub conjunct_is : ending.conjunct ≡ ends_in_linker (map indic_conjunct_break (onto cs []))
-  pub whole_is : is_whole ending ≡ is_closed cs
+  pub whole_is : ends_cluster ending ≡ is_closed cs

@@ -13,8 +13,8 @@ abbrev pub scalar_count : List Part → ℕ
 scalar_count parts = length (chars (whole parts))
 
 -- a text between two NULs: a cluster ends behind the first and before the last, whatever the text is
-abbrev pub enclosed : List ℕ → List ℕ
-enclosed text = 0 ∷ text ++ 0 ∷ []
+abbrev pub between_nuls : List ℕ → List ℕ
+between_nuls text = 0 ∷ text ++ 0 ∷ []
 
 -- what stands between the first and the last byte
 abbrev pub inside : List ℕ → List ℕ
@@ -22,7 +22,7 @@ inside bytes = take (length bytes - 2) (drop 1 bytes)
 
 -- the parts make up an enclosed text of so many scalars, the two NULs counted
 pub record IsIndex (parts : List Part) (count : ℕ) : Type 0 where
-  pub text_is : whole parts ≡ enclosed (inside (whole parts))
+  pub text_is : whole parts ≡ between_nuls (inside (whole parts))
   pub utf8 : is_utf8 (inside (whole parts)) ≡ true
   pub count_is : count ≡ scalar_count parts
 

@@ -3,7 +3,7 @@ ghost use Rattle.std.specs.Prelude.{◌≡◌, ◌&&◌, [], not};
 ghost use Rattle.std.specs.List.{fold};
 ghost use Rattle.std.specs.Str.{chars};
 ghost use Rattle.cluster_text.specs.Borders.{is_indicator as is_indicator_on, is_mark as is_mark_on};
-ghost use Rattle.cluster_text.specs.Endings.{IsEnding, is_whole, passed};
+ghost use Rattle.cluster_text.specs.Endings.{IsEnding, ends_cluster, ending_with};
 
 use crate::border::{closes, is_indicator, is_mark, is_regional, leaves_open};
 
@@ -30,7 +30,7 @@ impl Ending {
 
     /// That of a text with one more character.
     pub(crate) fn pass(self, next: char) -> Ending
-        ensures { result ≡ passed self next }
+        ensures { result ≡ ending_with self next }
     {
         let half = is_regional(next) && !self.half;
         Ending {
@@ -42,14 +42,14 @@ impl Ending {
 
     /// That of a text with another one behind it.
     pub(crate) fn pass_all(self, text: &str) -> Ending
-        ensures { result ≡ fold passed self (chars text.now) }
+        ensures { result ≡ fold ending_with self (chars text.now) }
     {
         text.chars().fold(self, |ending, next| ending.pass(next))
     }
 
     /// Whether a cluster ends behind the text, where no character that joins could go on with it.
     pub(crate) fn is_closed(self) -> bool
-        ensures { result ≡ is_whole self }
+        ensures { result ≡ ends_cluster self }
     {
         closes(self.last) || self.ends_flag() || self.ends_mark()
     }

@@ -2,7 +2,7 @@ ghost use Rattle.std.specs.Prelude.{◌≡◌, ◌↔◌, ◌<◌, ◌≤◌, �
 ghost use Rattle.std.specs.List.{splice as spliced};
 ghost use Rattle.std.specs.Str.{chars, IsUtf8};
 ghost use Rattle.cluster_text.specs.Clusters.{clusters as clusters_of, span as span_of};
-ghost use Rattle.cluster_text.specs.Parts.{enclosed};
+ghost use Rattle.cluster_text.specs.Parts.{between_nuls};
 
 use crate::cutting::cut_up;
 use crate::replacing::replace;
@@ -84,7 +84,7 @@ impl ClusterIndex {
 
 /// A text between two NULs, which join no cluster.
 fn enclose(alloc: Global, text: &str) -> Result<String, AllocError>
-    ensures { IfOk result (λ new. string_bytes new ≡ enclosed text.now) }
+    ensures { IfOk result (λ new. string_bytes new ≡ between_nuls text.now) }
 {
     let mut new = String::with_capacity(alloc, text.len() + 2)?;
     new.push('\0')?;

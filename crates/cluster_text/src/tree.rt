@@ -1,7 +1,7 @@
 //! Parts in a balanced tree.
 ghost use Rattle.std.specs.Prelude.{◌≡◌, ◌<◌, ◌≤◌, ◌^◌, ◌∷◌, ◌++◌, [], length, IfNone, IfSome, OnErr, OnOk};
 ghost use Rattle.std.specs.List.{splice as spliced};
-ghost use Rattle.cluster_text.specs.Trees.{capped, clusters_in, IsAt, scalars_in};
+ghost use Rattle.cluster_text.specs.Trees.{capped_sum, clusters_in, IsAt, count_scalars_in};
 
 use crate::balance::{concat, join, split};
 use crate::part::Part;
@@ -36,9 +36,9 @@ impl Model for Tree {
 
     ghost Value = { List Part };
 
-    ghost use Rattle.cluster_text.specs.Trees.{HasRightSums, parts_of};
+    ghost use Rattle.cluster_text.specs.Trees.{HasRightSums, parts_below};
 
-    ghost view = { λ tree. parts_of tree.root };
+    ghost view = { λ tree. parts_below tree.root };
 
     ghost invariant = { λ tree. HasRightSums tree.root };
 
@@ -58,7 +58,7 @@ impl Tree {
 
     /// How many parts there are.
     pub(crate) fn len(&self) -> usize
-        ensures { result ≡ capped (length self.now) }
+        ensures { result ≡ capped_sum (length self.now) }
     {
         match &self.root {
             Some(node) => node.parts,
@@ -67,7 +67,7 @@ impl Tree {
     }
 
     pub(crate) fn scalars(&self) -> usize
-        ensures { result ≡ capped (scalars_in self.now) }
+        ensures { result ≡ capped_sum (count_scalars_in self.now) }
     {
         match &self.root {
             Some(node) => node.scalars,
@@ -76,7 +76,7 @@ impl Tree {
     }
 
     pub(crate) fn clusters(&self) -> usize
-        ensures { result ≡ capped (clusters_in self.now) }
+        ensures { result ≡ capped_sum (clusters_in self.now) }
     {
         match &self.root {
             Some(node) => node.clusters,

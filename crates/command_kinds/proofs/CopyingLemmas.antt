@@ -12,7 +12,7 @@ use Rattle.fugue_ids.specs.Runs.{run_from, start_behind, text_by, text_in}
 use Rattle.fugue_ids.specs.declared.op.Op.{Op}
 use Rattle.fugue_ids.specs.declared.run.RunStart.{RunStart}
 use Rattle.origin_model.specs.declared.taking.Tally.{Tally}
-use Rattle.origin_model.specs.taking.Taking.{HasPlace, Held, IsSettled, TooMany, answer, held_from, kept_from}
+use Rattle.origin_model.specs.taking.Taking.{MeetsNoLimit, Held, IsSettled, TooMany, answer, held_from, kept_from}
 use Rattle.origin_model.specs.edits.State.{State}
 use Rattle.origin_model.proofs.SharedLemmas.{held-append, kept-append, places-append}
 use Rattle.op_frame.proofs.GatherLemmas.{run-append, text_is_by}
@@ -21,22 +21,22 @@ use Rattle.replica_core.specs.Told.{total}
 use Rattle.replica_core.specs.declared.keeping.FeedFault.{FeedFault}
 use Rattle.replica_core.specs.declared.keeping.FeedFault.TheVariants as feed_fault
 use Rattle.replica_core.proofs.FeedingLemmas.{takes_none_in, takes_on}
-use Rattle.command_kinds.specs.Intake.{FeedsNotAll, OneTooMany, copied}
+use Rattle.command_kinds.specs.Intake.{FeedsNotAll, OneTooMany, copies_of_kept}
 use Rattle.command_kinds.proofs.IntakeLemmas.{copied-append, copied-nil}
 
 -- what was kept of two lists, one behind the other
-pub both_kept : (start mid : State) (a b : List Op) (kept one two : Option (List Op)) → mid ≡ record start { held = held_from start.hold start.most start.held a } → one ≡ copied kept (kept_from start.hold start.most start.held a)
-    → two ≡ copied one (kept_from mid.hold mid.most mid.held b) → two ≡ copied kept (kept_from start.hold start.most start.held (a ++ b))
+pub both_kept : (start mid : State) (a b : List Op) (kept one two : Option (List Op)) → mid ≡ record start { held = held_from start.hold start.most start.held a } → one ≡ copies_of_kept kept (kept_from start.hold start.most start.held a)
+    → two ≡ copies_of_kept one (kept_from mid.hold mid.most mid.held b) → two ≡ copies_of_kept kept (kept_from start.hold start.most start.held (a ++ b))
 both_kept start mid a b kept one two mid_is one_is two_is =
-    two_is ∙ (λ i. let r : State = mid_is i in copied (one_is i) (kept_from r.hold r.most r.held b))
+    two_is ∙ (λ i. let r : State = mid_is i in copies_of_kept (one_is i) (kept_from r.hold r.most r.held b))
     ∙ copied-append kept (kept_from start.hold start.most start.held a) (kept_from start.hold start.most (held_from start.hold start.most start.held a) b)
-    ∙ ap (copied kept) (kept-append start.hold start.most start.held a b)
+    ∙ ap (copies_of_kept kept) (kept-append start.hold start.most start.held a b)
 
 -- one that finds no place is behind others that found theirs
 pub one_further : (replica now : State) (done ops : List Op) (before after : Tally) → TakesInAll replica now done before after → OneTooMany now ops → OneTooMany replica (done ++ ops)
 one_further replica now done ops before after taken one =
     let reached : Held = held_from replica.hold replica.most replica.held done in
-    let place : HasPlace replica.hold replica.most reached one.front = subst (λ (r : State). HasPlace r.hold r.most r.held one.front) taken.replica one.has_place in
+    let place : MeetsNoLimit replica.hold replica.most reached one.front = subst (λ (r : State). MeetsNoLimit r.hold r.most r.held one.front) taken.replica one.has_place in
     let refused : answer replica.hold replica.most (held_from replica.hold replica.most reached one.front) one.op ≡ TooMany
     = subst (λ (r : State). answer r.hold r.most (held_from r.hold r.most r.held one.front) one.op ≡ TooMany) taken.replica one.refused in
     record {
@@ -65,7 +65,7 @@ module _ (start : State) (counts : Tally) (kept : Option (List Op)) (ops : List 
     pub done : List Op
     pub parts : ops ≡ done ++ rest
     pub taken : TakesInAll start now done counts counts_now
-    pub kept_are : kept_now ≡ copied kept (kept_from start.hold start.most start.held done)
+    pub kept_are : kept_now ≡ copies_of_kept kept (kept_from start.hold start.most start.held done)
 
   pub copying_begun : IsSettled start.held → IsCopying start counts kept ops
   copying_begun settled = record { done = []; parts = refl; taken = takes_none_in start counts settled; kept_are = sym (copied-nil kept) }
@@ -77,7 +77,7 @@ module _ (start : State) (counts : Tally) (kept : Option (List Op)) (ops : List 
 
     module _ (front others : List Op) (split : rest ≡ front ++ others) where
       pub copying_on : (next : State) (counts_next : Tally) → TakesInAll now next front counts_now counts_next → (kept_next : Option (List Op))
-          → kept_next ≡ copied kept_now (kept_from now.hold now.most now.held front) → IsCopying next counts_next kept_next others
+          → kept_next ≡ copies_of_kept kept_now (kept_from now.hold now.most now.held front) → IsCopying next counts_next kept_next others
       copying_on next counts_next taken kept_next is = record {
         done = copying.done ++ front;
         parts = copying.parts ∙ ap (λ (l : List Op). copying.done ++ l) split ∙ sym (append_assoc copying.done front others);

@@ -5,12 +5,12 @@ use Rattle.std.proofs.lemmas.List.{append-nil}
 use Rattle.fugue_ids.specs.declared.op.Op.{Op}
 use Rattle.origin_model.specs.files.Image.{has_header}
 use Rattle.outer_ports.specs.disk.Disks.{DiskView}
-use Rattle.outer_ports.specs.disk.Moments.{History, LeavesOnly, LeavesOnlyTo, after, moments, stepped}
+use Rattle.outer_ports.specs.disk.Moments.{History, LeavesOnly, LeavesOnlyTo, after_moment, moments, history_after_step}
 use Rattle.outer_ports.specs.disk.States.{IsHonest, at_rest, durable}
 use Rattle.outer_ports.proofs.SharedLemmas.{honest_at_rest, image_at_rest, last_leaves, leaves_more, leaves_none}
 use Rattle.replica_file.proofs.AppendLemmas.{same_content}
 use Rattle.command_kinds.specs.Crashes.{IsFinished, IsSafe, NeverTorn, StaysSafe}
-use Rattle.command_kinds.specs.Files.{GainsAllOrNone, HasOps, HasOpsOr, Header, IsSaved, KeepsFile, new_file_header}
+use Rattle.command_kinds.specs.Files.{GainsAllOrNone, HasOps, HasOpsOr, Header, AreSavedOps, KeepsFile, new_file_header}
 use Rattle.command_kinds.specs.Changes.{Change}
 use Rattle.command_kinds.specs.declared.status.Status.{Status}
 
@@ -30,7 +30,7 @@ module _ (header : Header) (ops more : List Op) (h : History) (safe : IsSafe hea
   pub safe_filled : h.last.seen ≢ []
   safe_filled none = let header_there = subst (λ bytes. has_header bytes ≡ true) none has_one.1.holds.0 in cc header_there
 
-  pub settling_leaves : LeavesOnly h (stepped durable h) (HasOpsOr header ops more)
+  pub settling_leaves : LeavesOnly h (history_after_step durable h) (HasOpsOr header ops more)
   settling_leaves = leaves_more (HasOpsOr header ops more) h h durable (leaves_none (HasOpsOr header ops more) h)
       (λ image is. subst (HasOpsOr header ops more) (sym (image_at_rest h.last.seen image is)) (safe.leaves h.last.seen safe.honest))
 
@@ -39,19 +39,19 @@ module _ (header : Header) (ops more : List Op) (h : History) (safe : IsSafe hea
   settled_safe = subst (λ l. IsSafe header l [] (at_rest h.last.seen)) (sym (append-nil has_one.0)) (safe_at_rest header has_one.0 [] h.last.seen (inl has_one.1))
 
   -- nothing was given to be saved, and the file was loaded
-  kept_settled : (end : Status) → StaysSafe header ops more [] h (Some (stepped durable h)) end
+  kept_settled : (end : Status) → StaysSafe header ops more [] h (Some (history_after_step durable h)) end
   kept_settled end = record {
     had = has_one.0;
     has = has_one.1;
-    loaded = stepped durable h;
+    loaded = history_after_step durable h;
     loads = settling_leaves;
-    saves = leaves_none (HasOpsOr header has_one.0 []) (stepped durable h);
+    saves = leaves_none (HasOpsOr header has_one.0 []) (history_after_step durable h);
     finished = λ done. settled_safe;
     again = (has_one.0, [], safe_at_rest header has_one.0 [] h.last.seen (inl has_one.1));
   }
 
   -- it was not loaded
-  kept_still : (end : Status) → (IsFinished end → Some h ≡ Some (stepped durable h)) → StaysSafe header ops more [] h (Some h) end
+  kept_still : (end : Status) → (IsFinished end → Some h ≡ Some (history_after_step durable h)) → StaysSafe header ops more [] h (Some h) end
   kept_still end settled_so = record {
     had = has_one.0;
     has = has_one.1;
@@ -62,15 +62,15 @@ module _ (header : Header) (ops more : List Op) (h : History) (safe : IsSafe hea
     again = (ops, more, safe);
   }
 
-  kept_safe : (past : Option History) (end : Status) → (past ≡ Some (stepped durable h)) ⊎ (past ≡ Some h) → (IsFinished end → past ≡ Some (stepped durable h))
+  kept_safe : (past : Option History) (end : Status) → (past ≡ Some (history_after_step durable h)) ⊎ (past ≡ Some h) → (IsFinished end → past ≡ Some (history_after_step durable h))
       → StaysSafe header ops more [] h past end
   kept_safe past end (inl is) settled_so = subst (λ p. StaysSafe header ops more [] h p end) (sym is) (kept_settled end)
   kept_safe past end (inr is) settled_so = subst (λ p. StaysSafe header ops more [] h p end) (sym is) (kept_still end (λ done. sym is ∙ settled_so done))
 
 -- a file that is kept is not torn: where the command did all, it was loaded
-pub kept_never_torn : (file : Change DiskView) (end : Status) → KeepsFile file → (IsFinished end → file.new.past ≡ after durable file.old.past) → NeverTorn (λ gave. gave ≡ []) file end
+pub kept_never_torn : (file : Change DiskView) (end : Status) → KeepsFile file → (IsFinished end → file.new.past ≡ after_moment durable file.old.past) → NeverTorn (λ gave. gave ≡ []) file end
 kept_never_torn file end keeps settled_so header ops more h is safe =
-    let loaded : after durable file.old.past ≡ Some (stepped durable h) = ap (after durable) is in (
+    let loaded : after_moment durable file.old.past ≡ Some (history_after_step durable h) = ap (after_moment durable) is in (
       [],
       refl,
       kept_safe header ops more h safe file.new.past end
@@ -101,7 +101,7 @@ module _ (header : Header) (ops more : List Op) (h : History) (safe : IsSafe hea
   has_had : HasOps header had h.last.seen
   has_had = record { content = gains.content; holds = gains.holds; header_is = same_header; ops_are = refl }
 
-  safe_last : (past : Option History) → LeavesOnlyTo (stepped durable h) past (HasOpsOr header had gave) → IfSome past (λ k. IsHonest k.last)
+  safe_last : (past : Option History) → LeavesOnlyTo (history_after_step durable h) past (HasOpsOr header had gave) → IfSome past (λ k. IsHonest k.last)
       → IfSome past (λ k. (first : List Op) × (second : List Op) × IsSafe header first second k.last)
   safe_last None leaves honest = tt
   safe_last (Some k) leaves honest = (
@@ -109,18 +109,18 @@ module _ (header : Header) (ops more : List Op) (h : History) (safe : IsSafe hea
     gave,
     record {
       honest = honest;
-      leaves = last_leaves (HasOpsOr header had gave) (stepped durable h) k leaves (λ image is. inl (subst (HasOps header had) (sym (image_at_rest h.last.seen image is)) has_had));
+      leaves = last_leaves (HasOpsOr header had gave) (history_after_step durable h) k leaves (λ image is. inl (subst (HasOps header had) (sym (image_at_rest h.last.seen image is)) has_had));
     },
   )
 
   -- all of what was given, or none
   gains_safe : (end : Status) → (IsFinished end → IfSome new (λ k. IsSafe header (had ++ gave) [] k.last)) → StaysSafe header ops more gave h new end
   gains_safe end finished =
-      let leaves = subst (λ f. LeavesOnlyTo (stepped durable h) new (HasOpsOr f had gave)) same_header gains.gains in
+      let leaves = subst (λ f. LeavesOnlyTo (history_after_step durable h) new (HasOpsOr f had gave)) same_header gains.gains in
       record {
         had = had;
         has = has_had;
-        loaded = stepped durable h;
+        loaded = history_after_step durable h;
         loads = settling_leaves header ops more h safe;
         saves = leaves;
         finished = finished;
@@ -139,9 +139,9 @@ module _ (header : Header) (ops more : List Op) (h : History) (safe : IsSafe hea
 
 module _ (Gave : List Op → Type 0) (file : Change DiskView) (end : Status) where
   -- a file to which all was saved that was given
-  pub saved_never_torn : (gave : List Op) → Gave gave → IfSome file.old.past (λ h. IsSaved gave h file.new.past) → NeverTorn Gave file end
+  pub saved_never_torn : (gave : List Op) → Gave gave → IfSome file.old.past (λ h. AreSavedOps gave h file.new.past) → NeverTorn Gave file end
   saved_never_torn gave given saves header ops more h is safe =
-      let saved = subst (λ o. IfSome o (λ (h : History). IsSaved gave h file.new.past)) is saves in
+      let saved = subst (λ o. IfSome o (λ (h : History). AreSavedOps gave h file.new.past)) is saves in
       (gave, given, gains_safe header ops more h safe gave file.new.past saved.moments end (λ done. all_safe header ops more h safe gave file.new.past saved.moments saved.has saved.rests))
 
   -- one to which it was saved, or not, by a command that did not do all

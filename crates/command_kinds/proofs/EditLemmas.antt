@@ -7,7 +7,7 @@ use Rattle.fugue_ids.specs.declared.op.Op.{Op}
 use Rattle.outer_ports.specs.Sources.{KeepsCount, SourceView}
 use Rattle.origin_model.specs.operations.History.{accepted}
 use Rattle.origin_model.specs.taking.Taking.{IsSettled}
-use Rattle.origin_model.specs.edits.State.{State as Replica, Stands}
+use Rattle.origin_model.specs.edits.State.{State as Replica, IsSound}
 use Rattle.edit_script.proofs.OnceLemmas.{scripts_run_once}
 use Rattle.edit_script.proofs.TakenInLemmas.{all_find_place, scripts_are_taken_in}
 use Rattle.edit_script.specs.Scripts.{ScriptRuns, RunsWhole, ScriptStops}
@@ -15,7 +15,7 @@ use Rattle.edit_script.specs.declared.run.ScriptFault.TheVariants as script_faul
 use Rattle.edit_script.specs.declared.run.ScriptFault.{ScriptFault}
 use Rattle.command_kinds.specs.Edit.{RunsScript, ScriptGives, ScriptRefuses, made_outcome, script}
 use Rattle.command_kinds.specs.Findings.{Refuses, Does}
-use Rattle.command_kinds.specs.Giving.{GivesTo, IsNoted}
+use Rattle.command_kinds.specs.Giving.{GivesTo, ReportsOutcome}
 use Rattle.command_kinds.specs.Refusal.{script_refusal}
 use Rattle.command_kinds.specs.Counts.{made_line}
 use Rattle.command_kinds.specs.Saving.{GivesOnce, Outcome, Suffices}
@@ -81,12 +81,12 @@ module _ (replica last : Replica) (before after : SourceView) (n : ℕ) (run : S
   )
 
   -- and saved, it suffices
-  pub outcome_suffices : Stands replica → IsSettled replica.held → Suffices replica (made_outcome last run.2.ops)
+  pub outcome_suffices : IsSound replica → IsSettled replica.held → Suffices replica (made_outcome last run.2.ops)
   outcome_suffices stands settled =
       let taken = scripts_are_taken_in replica last run.0 n run.2.ops stands settled run.2 run.2.accepted_are in
       record { same_state = taken.state; place = all_find_place replica last run.2.ops settled taken }
 
-  pub has_made : IsNoted (made_outcome last run.2.ops) (note.Made n)
+  pub has_made : ReportsOutcome (made_outcome last run.2.ops) (note.Made n)
   has_made = record { line = ap made_line (sym run.2.count); status = refl }
 
 -- a script of which a front was read was left, with more behind it
@@ -109,7 +109,7 @@ gives_refusal replica last before after fault no_want no_fault stops = (
 )
 
 -- a script that ran gives what it made
-pub script_gives : (input : Change SourceView) (replica last : Replica) (n : ℕ) (run : ScriptRuns replica last input.old input.new n) → Stands replica → IsSettled replica.held → (kept : Option (List Op))
+pub script_gives : (input : Change SourceView) (replica last : Replica) (n : ℕ) (run : ScriptRuns replica last input.old input.new n) → IsSound replica → IsSettled replica.held → (kept : Option (List Op))
     → GivesTo (script input) replica last kept (Ok (note.Made n))
 script_gives input replica last n run stands settled kept =
     let made = has_made replica last input.old input.new n run in

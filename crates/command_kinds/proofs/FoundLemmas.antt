@@ -15,7 +15,7 @@ use Rattle.replica_file.specs.declared.load_file.LoadFault.TheVariants as load_f
 use Rattle.command_kinds.proofs.LawfulLemmas.{held_lawful}
 use Rattle.command_kinds.specs.Files.{FileHolds, FileRefuses}
 use Rattle.command_kinds.specs.Refusal.{load_refusal}
-use Rattle.command_kinds.specs.Changes.{IsTold}
+use Rattle.command_kinds.specs.Changes.{IsSpecified}
 use Rattle.command_kinds.specs.declared.refusal.Refusal.{Refusal}
 use Rattle.command_kinds.specs.declared.refusal.Refusal.TheVariants as refusal
 
@@ -27,10 +27,10 @@ record LeadsTo (disk : DiskView) (answer : Answer) : Type 0 where
   by_bytes : IsLoadByBytes answer
   is : IfSome disk.past (λ h. LoadAnswerIs MOST_OPERATIONS h.last.seen answer)
 
-by_the_bytes : (disk : DiskView) (answer : Answer) (told : IsTold disk) → LeadsTo disk answer → LoadAnswerIs MOST_OPERATIONS told.0.last.seen answer
+by_the_bytes : (disk : DiskView) (answer : Answer) (told : IsSpecified disk) → LeadsTo disk answer → LoadAnswerIs MOST_OPERATIONS told.0.last.seen answer
 by_the_bytes disk answer told leads = subst (λ o. IfSome o (λ (h : History). LoadAnswerIs MOST_OPERATIONS h.last.seen answer)) told.1 leads.is
 
-leads_once : (disk : DiskView) (a b : Answer) → IsTold disk → LeadsTo disk a → LeadsTo disk b → a ≡ b
+leads_once : (disk : DiskView) (a b : Answer) → IsSpecified disk → LeadsTo disk a → LeadsTo disk b → a ≡ b
 leads_once disk a b told one other =
     answers_once MOST_OPERATIONS told.0.last.seen a b one.by_bytes other.by_bytes (by_the_bytes disk a told one) (by_the_bytes disk b told other)
 
@@ -43,24 +43,24 @@ leads_to_refusal disk (refusal.BadBatch slot) refuses = (load_fault.BadBatch slo
 leads_to_refusal disk (refusal.TooMany count) refuses = (load_fault.TooMany count, record { by_bytes = tt; is = refuses }, refl)
 leads_to_refusal disk _ refuses = absurd refuses
 
-pub holds_once : (disk : DiskView) → IsTold disk → (loaded other : Replica × End) → FileHolds disk loaded.0 loaded.1 → FileHolds disk other.0 other.1 → loaded ≡ other
+pub holds_once : (disk : DiskView) → IsSpecified disk → (loaded other : Replica × End) → FileHolds disk loaded.0 loaded.1 → FileHolds disk other.0 other.1 → loaded ≡ other
 holds_once disk told loaded other holds holds' =
     cc (leads_once disk (Ok loaded) (Ok other) told (leads_to_replica disk loaded holds) (leads_to_replica disk other holds'))
 
-pub refuses_once : (disk : DiskView) → IsTold disk → (why other : Refusal) → FileRefuses disk why → FileRefuses disk other → why ≡ other
+pub refuses_once : (disk : DiskView) → IsSpecified disk → (why other : Refusal) → FileRefuses disk why → FileRefuses disk other → why ≡ other
 refuses_once disk told why other refuses refuses' =
     let one = leads_to_refusal disk why refuses in
     let two = leads_to_refusal disk other refuses' in
     let same = leads_once disk (Err one.0) (Err two.0) told one.1 two.1 in
     one.2 ∙ ap load_refusal (cc same) ∙ sym two.2
 
-pub holds_or_refuses : (disk : DiskView) → IsTold disk → (loaded : Replica × End) (why : Refusal) → FileHolds disk loaded.0 loaded.1 → FileRefuses disk why → ⊥
+pub holds_or_refuses : (disk : DiskView) → IsSpecified disk → (loaded : Replica × End) (why : Refusal) → FileHolds disk loaded.0 loaded.1 → FileRefuses disk why → ⊥
 holds_or_refuses disk told loaded why holds refuses =
     let one = leads_to_refusal disk why refuses in
     cc (leads_once disk (Ok loaded) (Err one.0) told (leads_to_replica disk loaded holds) one.1)
 
 -- what a file that is told holds is lawful
-pub loaded_lawful : (disk : DiskView) → IsTold disk → (replica : Replica) (at : End) → FileHolds disk replica at → Lawful replica.held.history
+pub loaded_lawful : (disk : DiskView) → IsSpecified disk → (replica : Replica) (at : End) → FileHolds disk replica at → Lawful replica.held.history
 loaded_lawful disk told replica at holds =
     let loads : Loads MOST_OPERATIONS told.0.last.seen replica at = subst (λ o. IfSome o (λ (h : History). Loads MOST_OPERATIONS h.last.seen replica at)) told.1 holds in
     subst (λ (r : Replica). Lawful r.held.history) (sym loads.replica_is) (held_lawful loads.content.hold MOST_OPERATIONS nothing_held loads.content.ops tt)

@@ -8,7 +8,7 @@ use Rattle.replica_file.specs.declared.load_file.End.{End}
 use Rattle.command_kinds.specs.Files.{FileHolds, FileRefuses}
 use Rattle.command_kinds.specs.Findings.{Finding, Refuses, Does}
 use Rattle.command_kinds.specs.Saving.{Giver, GivesOnce, Outcome, SavingFound}
-use Rattle.command_kinds.specs.Changes.{IsTold}
+use Rattle.command_kinds.specs.Changes.{IsSpecified}
 use Rattle.command_kinds.specs.declared.refusal.Refusal.{Refusal}
 use Rattle.command_kinds.specs.declared.refusal.Refusal.TheVariants as refusal
 use Rattle.command_kinds.proofs.FoundLemmas.{holds_once, holds_or_refuses, refuses_once}
@@ -40,7 +40,7 @@ module _ (giver : Giver) (once : GivesOnce giver) (gave : giver.Told) where
     given_once (Does outcome) (Refuses why) a (inr b) = absurd (long_or_not b.1 outcome b.2 a.0 b.3 a.1)
     given_once (Does one) (Does two) a b = ap Does (same_outcome one two a.0 b.0)
 
-  module _ (file : DiskView) (told : IsTold file) where
+  module _ (file : DiskView) (told : IsSpecified file) where
     -- the file is refused, or loaded and something given
     record IsRefused (found : Finding Outcome) : Type 0 where
       why : Refusal

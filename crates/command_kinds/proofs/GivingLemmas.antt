@@ -6,26 +6,31 @@ use Rattle.fugue_ids.specs.declared.op.Op.{Op}
 use Rattle.outer_ports.specs.disk.Disks.{DiskView}
 use Rattle.origin_model.specs.edits.State.{State as Replica}
 use Rattle.origin_model.specs.operations.History.{accepted}
-use Rattle.replica_file.specs.Append.{IsTooLong}
+use Rattle.replica_file.specs.Append.{AppendMeets, IsTooLong}
+use Rattle.replica_file.specs.declared.appending.AppendFault.{AppendFault}
+use Rattle.replica_file.specs.declared.appending.AppendFault.TheVariants as append_fault
 use Rattle.replica_file.specs.declared.load_file.End.{End}
+use Rattle.replica_file.specs.declared.load_file.LoadFault.{LoadFault}
+use Rattle.replica_file.specs.declared.load_file.LoadFault.TheVariants as load_fault
 use Rattle.command_kinds.specs.Counts.{is_done}
 use Rattle.command_kinds.specs.Crashes.{IsFinished}
-use Rattle.command_kinds.specs.Files.{AppendFailed, IsAppended, IsLoaded, LoadMeets, SaveMeets}
 use Rattle.command_kinds.specs.Giving.{GivenNoted, GivesTo, MayEnd, SavesNoted, note_line, note_status, to_save}
-use Rattle.command_kinds.specs.Printing.{NoteMeets}
+use Rattle.command_kinds.specs.Printing.{NoteMeets, NotesBlameless}
+use Rattle.command_kinds.specs.Refusal.{append_refusal, load_refusal}
 use Rattle.command_kinds.specs.Saving.{Giver, GivesOnce, SavesGiven}
-use Rattle.command_kinds.specs.Changes.{Change, StaysCalm, change, notes_room}
+use Rattle.command_kinds.specs.Changes.{Change, DiskBlameless, CountsNoFault, change, notes_room}
 use Rattle.command_kinds.specs.declared.counts.Note.{Note}
 use Rattle.command_kinds.specs.declared.counts.Note.TheVariants as note
 use Rattle.command_kinds.specs.declared.refusal.Refusal.{Refusal}
 use Rattle.command_kinds.specs.declared.refusal.Refusal.TheVariants as refusal
 use Rattle.command_kinds.specs.declared.status.Status.{Status}
+use Rattle.command_kinds.proofs.LoadedLemmas.{HasLoaded, HasNotLoaded, keeps_file, load_failed}
 use Rattle.command_kinds.proofs.SavesLemmas.{noted_saves}
 use Rattle.command_kinds.proofs.SavingLemmas.{given_comes}
 use Rattle.command_kinds.proofs.ShowLemmas.{done_or_partial}
 
 -- what was given to a loaded file was saved, or why not
-pub noted_comes : (giver : Giver) (a b c : DiskView) (replica : Replica) (end : End) → IsLoaded (change a b) replica end → (result : Result Note Refusal)
+pub noted_comes : (giver : Giver) (a b c : DiskView) (replica : Replica) (end : End) → HasLoaded (change a b) replica end → (result : Result Note Refusal)
     → GivenNoted giver replica end (change b c) result → SavesNoted giver (change a c) result
 noted_comes giver a b c replica end loaded (Ok note) did = (did.0, did.1, given_comes giver a b c replica end loaded (Ok did.0) did.2)
 noted_comes giver a b c replica end loaded (Err why) stopped = given_comes giver a b c replica end loaded (Err why) stopped
@@ -42,12 +47,13 @@ note_finished (note.Revised count sections) = inl refl
 
 -- all was done, and noted or not
 pub note_saves : (giver : Giver) → GivesOnce giver → (file : Change DiskView) (notes : Change OutView) (n : Note) (end : Status) → SavesNoted giver file (Ok n)
-    → NoteMeets (note_line n) (note_status n) notes.old notes.new end → StaysCalm notes_room notes.old notes.new → SavesGiven giver file notes end
-note_saves giver once file notes n end did noted calm =
+    → NoteMeets (note_line n) (note_status n) notes.old notes.new end → CountsNoFault notes_room notes.old notes.new
+    → DiskBlameless file end → NotesBlameless notes end → SavesGiven giver file notes end
+note_saves giver once file notes n end did noted calm file_blameless notes_blameless =
     noted_saves giver once file notes calm did.0 end did.2
     (subst IsFinished (sym did.1.status) (note_finished n))
     (subst (λ (s : Status). NoteMeets did.0.line s notes.old notes.new end) (sym did.1.status)
-    (subst (λ (line : List ℕ). NoteMeets line (note_status n) notes.old notes.new end) (sym did.1.line) noted))
+    (subst (λ (line : List ℕ). NoteMeets line (note_status n) notes.old notes.new end) (sym did.1.line) noted)) file_blameless notes_blameless
 
 -- nothing was given to a file that is loaded
 pub given_none : (giver : Giver) (before after : Replica) (kept : Option (List Op)) (end : End) (file : Change DiskView) (why : Refusal) → file.new ≡ file.old → GivesTo giver before after kept (Err why)
@@ -58,23 +64,26 @@ given_none giver before after kept end file refusal.Words same gave = gave
 given_none giver before after kept end file why same gave = (inl gave, same)
 
 -- what was given was not saved
-pub given_unsaved : (giver : Giver) (before after : Replica) (kept : Option (List Op)) (end : End) (file : Change DiskView) (n : Note) (ops : List Op) (why : Refusal)
-    → ops ≡ to_save n (length (accepted before.held.history)) after kept → GivesTo giver before after kept (Ok n) → SaveMeets end ops file (Err why) → GivenNoted giver before end file (Err why)
-given_unsaved giver before after kept end file n ops refusal.Outside is gave fails = inr (gave.outcome, gave.gives, subst (λ (l : List Op). AppendFailed end l file) (is ∙ gave.saved) fails)
-given_unsaved giver before after kept end file n ops refusal.NoMemory is gave fails = fails
-given_unsaved giver before after kept end file n ops refusal.BatchTooLong is gave fails =
-    (inr (refl, gave.outcome, gave.gives, subst (λ (l : List Op). IsTooLong end l) (is ∙ gave.saved) fails.0), fails.1)
-given_unsaved giver before after kept end file n ops _ is gave fails = absurd fails
+pub given_unsaved : (giver : Giver) (before after : Replica) (kept : Option (List Op)) (end : End) (file : Change DiskView) (n : Note) (ops : List Op) (fault : AppendFault)
+    → ops ≡ to_save n (length (accepted before.held.history)) after kept → GivesTo giver before after kept (Ok n) → AppendMeets end ops file.old file.new (Err fault)
+    → GivenNoted giver before end file (Err (append_refusal fault))
+given_unsaved giver before after kept end file n ops append_fault.DiskFault is gave meets =
+    inr (gave.outcome, gave.gives, subst (λ (l : List Op). AppendMeets end l file.old file.new (Err append_fault.DiskFault)) (is ∙ gave.saved) meets)
+given_unsaved giver before after kept end file n ops append_fault.NoMemory is gave meets = meets.untouched (inr refl)
+given_unsaved giver before after kept end file n ops append_fault.BatchTooLong is gave meets =
+    (inr (refl, gave.outcome, gave.gives, subst (λ (l : List Op). IsTooLong end l) (is ∙ gave.saved) ((meets.too_long (λ e. cc e)).0 refl)), meets.untouched (inl refl))
 
 -- or it was
-pub given_saved : (giver : Giver) (before after : Replica) (kept : Option (List Op)) (end : End) (file : Change DiskView) (n : Note) (ops : List Op) (done : Result (Unit {0}) Refusal)
-    → ops ≡ to_save n (length (accepted before.held.history)) after kept → GivesTo giver before after kept (Ok n) → done ≡ Ok tt → SaveMeets end ops file done → GivenNoted giver before end file (Ok n)
-given_saved giver before after kept end file n ops done is gave was saves =
-    (gave.outcome, gave.noted, (gave.gives, gave.suffices, subst (λ (l : List Op). IsAppended end l file) (is ∙ gave.saved) (subst (SaveMeets end ops file) was saves)))
+pub given_saved : (giver : Giver) (before after : Replica) (kept : Option (List Op)) (end : End) (file : Change DiskView) (n : Note) (ops : List Op) (last : End)
+    → ops ≡ to_save n (length (accepted before.held.history)) after kept → GivesTo giver before after kept (Ok n) → AppendMeets end ops file.old file.new (Ok last)
+    → GivenNoted giver before end file (Ok n)
+given_saved giver before after kept end file n ops last is gave meets =
+    (gave.outcome, gave.noted, (gave.gives, gave.suffices, (last, subst (λ (l : List Op). AppendMeets end l file.old file.new (Ok last)) (is ∙ gave.saved) meets)))
 
 -- a file that was not loaded
-pub load_stops : (giver : Giver) (file : Change DiskView) (why : Refusal) → LoadMeets file (Err why) → SavesNoted giver file (Err why)
-load_stops giver file refusal.Outside failed = inl failed
-load_stops giver file refusal.NoMemory keeps = keeps
-load_stops giver file refusal.Words never = absurd never.0
-load_stops giver file why meets = (inl meets.0, meets.1, inl meets.0)
+pub load_stops : (giver : Giver) (file : Change DiskView) (fault : LoadFault) → HasNotLoaded file fault → SavesNoted giver file (Err (load_refusal fault))
+load_stops giver file load_fault.DiskFault meets = inl (load_failed file meets)
+load_stops giver file load_fault.NoMemory meets = keeps_file file _ meets
+load_stops giver file load_fault.NotReplica meets = (inl meets.cause, keeps_file file _ meets, inl meets.cause)
+load_stops giver file (load_fault.BadBatch slot) meets = (inl meets.cause, keeps_file file _ meets, inl meets.cause)
+load_stops giver file (load_fault.TooMany count) meets = (inl meets.cause, keeps_file file _ meets, inl meets.cause)

@@ -7,16 +7,16 @@ use Rattle.outer_ports.specs.Sources.{SourceView}
 use Rattle.origin_model.specs.declared.grammar.Grammar.{Grammar}
 use Rattle.origin_model.specs.declared.grammar.Grammar.TheVariants.{Version2}
 use Rattle.origin_model.specs.declared.taking.Tally.{Tally}
-use Rattle.origin_model.specs.taking.Taking.{HasPlace, Held, TooMany as AnswersTooMany, answer, held_from, kept_from, no_counts, tally_from}
+use Rattle.origin_model.specs.taking.Taking.{MeetsNoLimit, Held, TooMany as AnswersTooMany, answer, held_from, kept_from, no_counts, tally_from}
 use Rattle.origin_model.proofs.SharedLemmas.{held-append, kept-append, places-append, places-none, tally-append}
 use Rattle.replica_core.specs.Feeding.{TakesInAll}
-use Rattle.op_frame.specs.Courses.{Comes, IntakeCourse, Whole, CutShort as IsCutShort, BadFrame as HasBadFrame, TooLong as IsTooLong, TooMany as HasTooMany}
+use Rattle.op_frame.specs.Courses.{Comes, IntakeOutcome, Whole, CutShort as IsCutShort, BadFrame as HasBadFrame, TooLong as IsTooLong, TooMany as HasTooMany}
 use Rattle.op_frame.specs.Readers.{Gave}
 use Rattle.op_frame.proofs.StreamLemmas.{gave_none}
 use Rattle.op_frame.proofs.CourseLemmas.{Fed, fed_whole, fed_cut, fed_bad, fed_long, fed_many}
 use Rattle.origin_model.specs.edits.State.{State}
 use Rattle.fugue_ids.specs.declared.limits.TheConstants.{STREAM_LIMIT}
-use Rattle.command_kinds.specs.Intake.{FindsNoPlace, StreamTaking, TakesSome, IntakeSteps, SourceComes, TakesIn, IntakeStopsFor, copied}
+use Rattle.command_kinds.specs.Intake.{FindsNoPlace, StreamTaking, TakesSome, IntakeSteps, SourceComes, TakesInStream, IntakeStopsFor, copies_of_kept}
 use Rattle.command_kinds.specs.declared.refusal.Refusal.{Refusal}
 use Rattle.command_kinds.specs.declared.refusal.Refusal.TheVariants as refusal
 
@@ -35,11 +35,11 @@ pub fresh_counts : (t : Tally) → (t.accepted ≡ 0) × ((t.repeated ≡ 0) × 
 fresh_counts t (accepted, (repeated, (conflict, (stray, full)))) =
     λ i. record { accepted = accepted i; repeated = repeated i; conflict = conflict i; stray = stray i; full = full i }
 
-pub copied-nil : (kept : Option (List Op)) → copied kept [] ≡ kept
+pub copied-nil : (kept : Option (List Op)) → copies_of_kept kept [] ≡ kept
 copied-nil None = refl
 copied-nil (Some ops) = ap Some (append-nil ops)
 
-pub copied-append : (kept : Option (List Op)) (a b : List Op) → copied (copied kept a) b ≡ copied kept (a ++ b)
+pub copied-append : (kept : Option (List Op)) (a b : List Op) → copies_of_kept (copies_of_kept kept a) b ≡ copies_of_kept kept (a ++ b)
 copied-append None a b = refl
 copied-append (Some ops) a b = ap Some (append_assoc ops a b)
 
@@ -47,10 +47,10 @@ copied-append (Some ops) a b = ap Some (append_assoc ops a b)
 pub record FedFrom (start : State) (kept : Option (List Op)) (told : Option (List ℕ)) (now : StreamTaking) (left : Option (List ℕ)) : Type 0 where
   pub ops : List Op
   pub gave : Gave told ops now.reader left
-  pub has_place : HasPlace start.hold start.most start.held ops
+  pub has_place : MeetsNoLimit start.hold start.most start.held ops
   pub replica_is : now.replica ≡ record start { held = held_from start.hold start.most start.held ops }
   pub counts_are : now.counts ≡ tally_from start.hold start.most start.held ops no_counts
-  pub kept_are : now.kept ≡ copied kept (kept_from start.hold start.most start.held ops)
+  pub kept_are : now.kept ≡ copies_of_kept kept (kept_from start.hold start.most start.held ops)
 
 -- nothing was read yet
 pub fed_nothing : (start : State) (told : Option (List ℕ)) (now : StreamTaking) → now.reader.todo ≡ [] → now.reader.unread ≡ [] → now.reader.offset ≡ 0 → now.replica ≡ start → now.counts ≡ no_counts
@@ -81,16 +81,16 @@ module _ (start : State) (kept : Option (List Op)) (told : Option (List ℕ)) (o
         has_place = places-append hold most start.held fed.ops some.ops fed.has_place taken.has_place;
         replica_is = taken.replica ∙ ap (λ (h : Held). record start { held = h }) (held-append hold most start.held fed.ops some.ops);
         counts_are = taken.counts ∙ ap (tally_from hold most held some.ops) fed.counts_are ∙ tally-append hold most start.held fed.ops some.ops no_counts;
-        kept_are = some.kept ∙ (λ i. let r : State = fed.replica_is i in copied (fed.kept_are i) (kept_from r.hold r.most r.held some.ops))
+        kept_are = some.kept ∙ (λ i. let r : State = fed.replica_is i in copies_of_kept (fed.kept_are i) (kept_from r.hold r.most r.held some.ops))
             ∙ copied-append kept (kept_from hold most start.held fed.ops) (kept_from hold most held some.ops)
-            ∙ ap (copied kept) (kept-append hold most start.held fed.ops some.ops);
+            ∙ ap (copies_of_kept kept) (kept-append hold most start.held fed.ops some.ops);
       }
 
   -- what the reader gave and the counts of it
   abbrev counted : Fed start.hold start.most start.held told old.reader before.left old.replica.held old.counts
   counted = record { ops = fed.ops; gave = fed.gave; has_place = fed.has_place; state_is = ap (λ (r : State). r.held) fed.replica_is; counts_are = fed.counts_are }
 
-  at_limit : (course : IntakeCourse) → old.reader.limit ≡ STREAM_LIMIT → old.reader.grammar ≡ Version2
+  at_limit : (course : IntakeOutcome) → old.reader.limit ≡ STREAM_LIMIT → old.reader.grammar ≡ Version2
       → IfSome told (λ bytes. Comes old.reader.grammar start.hold start.most start.held old.reader.limit bytes fed.ops course)
       → IfSome told (λ bytes. Comes Version2 start.hold start.most start.held STREAM_LIMIT bytes fed.ops course)
   at_limit course is runs came =
@@ -99,7 +99,7 @@ module _ (start : State) (kept : Option (List Op)) (told : Option (List ℕ)) (o
 
   -- the end was reached
   pub fed_over : (source last : SourceView) → source.left ≡ told → last.left ≡ after.left → old.reader.limit ≡ STREAM_LIMIT → old.reader.grammar ≡ Version2 → Ended old new before after
-      → TakesIn start source last new.replica new.counts kept new.kept
+      → TakesInStream start source last new.replica new.counts kept new.kept
   fed_over source last same same_last limit runs ended = record {
     ops = fed.ops;
     came = subst (λ o. IfSome o (λ bytes. Comes Version2 start.hold start.most start.held STREAM_LIMIT bytes fed.ops Whole)) (sym same)
@@ -121,7 +121,7 @@ module _ (start : State) (kept : Option (List Op)) (told : Option (List ℕ)) (o
           let most : ℕ = start.most in
           let at = finds.reached in
           let one = finds.one in
-          let place : HasPlace hold most reached one.front = subst (λ (r : State). HasPlace r.hold r.most r.held one.front) fed.replica_is one.has_place in
+          let place : MeetsNoLimit hold most reached one.front = subst (λ (r : State). MeetsNoLimit r.hold r.most r.held one.front) fed.replica_is one.has_place in
           let refused : answer hold most (held_from hold most reached one.front) one.op ≡ AnswersTooMany
           = subst (λ (r : State). answer r.hold r.most (held_from r.hold r.most r.held one.front) one.op ≡ AnswersTooMany) fed.replica_is one.refused in
           let ops : List Op = fed.ops ++ one.front in
@@ -141,7 +141,7 @@ module _ (start : State) (kept : Option (List Op)) (told : Option (List ℕ)) (o
                 (subst (λ n. IfSome told (λ bytes. Comes at.at.grammar hold most start.held n bytes ops HasTooMany)) (at.limit ∙ limit) many)),
           )
 
-      came : (course : IntakeCourse) → IfSome told (λ bytes. Comes old.reader.grammar start.hold start.most start.held old.reader.limit bytes fed.ops course) → (ops : List Op) × SourceComes start source ops course
+      came : (course : IntakeOutcome) → IfSome told (λ bytes. Comes old.reader.grammar start.hold start.most start.held old.reader.limit bytes fed.ops course) → (ops : List Op) × SourceComes start source ops course
       came course is = (fed.ops, subst (λ o. IfSome o (λ bytes. Comes Version2 start.hold start.most start.held STREAM_LIMIT bytes fed.ops course)) (sym same) (at_limit course limit runs is))
 
       by_cause : (why : Refusal) → IntakeSteps old new before after (Err why) → IntakeStopsFor why start source

@@ -6,7 +6,7 @@ use Rattle.origin_model.proofs.SharedLemmas.{accepted_by, earliest_found, within
 use Rattle.origin_model.specs.declared.operations.Verdict.{Verdict}
 use Rattle.origin_model.specs.declared.operations.Verdict.TheVariants.{Ready, Stray}
 use Rattle.origin_model.specs.operations.Verdict.{Lawful, verdict}
-use Rattle.origin_model.specs.taking.Taking.{Accepted, Again, Answer, Conflict, Held, answer, answer_by, held_from, intake, is_again, is_taken, joined, settle, settled_within, taken}
+use Rattle.origin_model.specs.taking.Taking.{Accepted, Again, Answer, Conflict, Held, answer, answer_by, held_from, intake, is_again, is_taken, joined, settle, settled_within, held_after}
 
 -- a Ready operation joins a history lawfully, and any other one leaves it
 joined_lawful : (v : Verdict) (op : Op) (h : List Op) → verdict h op ≡ v → Lawful h → Lawful (joined v op h)
@@ -32,11 +32,11 @@ answer_new true conflict a is = cc is
 answer_new false true a is = cc is
 answer_new false false a is = is
 
-taken_lawful : (hold most : ℕ) (s : Held) (op : Op) (a : Answer) → answer hold most s op ≡ a → Lawful s.history → Lawful (taken a s op).history
+taken_lawful : (hold most : ℕ) (s : Held) (op : Op) (a : Answer) → answer hold most s op ≡ a → Lawful s.history → Lawful (held_after a s op).history
 taken_lawful hold most s op Accepted is lawful = (accepted_by _ _ (verdict s.history op) (answer_new (is_again s op) (is_taken s op) _ is), lawful)
 taken_lawful hold most s op _ is lawful = lawful
 
 pub held_lawful : (hold most : ℕ) (s : Held) (ops : List Op) → Lawful s.history → Lawful (held_from hold most s ops).history
 held_lawful hold most s [] lawful = lawful
 held_lawful hold most s (op ∷ ops) lawful =
-    held_lawful hold most (intake hold most s op) ops (settle_lawful (taken (answer hold most s op) s op) (taken_lawful hold most s op (answer hold most s op) refl lawful))
+    held_lawful hold most (intake hold most s op) ops (settle_lawful (held_after (answer hold most s op) s op) (taken_lawful hold most s op (answer hold most s op) refl lawful))

@@ -8,7 +8,7 @@ pub mod FoundLemmas
 pub mod TextOutLemmas
 pub mod ReportLemmas
 pub mod CrashLemmas
-pub mod HomeFileLemmas
+pub mod LoadedLemmas
 pub mod EditLemmas
 pub mod SavedLemmas
 pub mod SavingLemmas

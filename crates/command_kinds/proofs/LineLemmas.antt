@@ -3,11 +3,11 @@ use Rattle.std.proofs.Common.{◌≤◌, arith, inl, inr, List, length, ℕ}
 use Rattle.std.specs.Prelude.{Result, Ok, Err}
 use Rattle.fugue_ids.specs.Outs.{OutView, WritesBytes}
 use Rattle.fugue_ids.specs.declared.out.Failed.{Failed}
-use Rattle.command_kinds.specs.Refusal.{Told}
+use Rattle.command_kinds.specs.Refusal.{Reported}
 use Rattle.command_kinds.specs.Changes.{notes_room}
 use Rattle.command_kinds.proofs.TextLemmas.{less_room, sure_of, text_has_no_room, whole_front}
 
-pub line_told : (result : Result (Unit {0}) Failed) (old new : OutView) (line : List ℕ) → WritesBytes old new result line → length line ≤ notes_room → Told old new line
+pub line_told : (result : Result (Unit {0}) Failed) (old new : OutView) (line : List ℕ) → WritesBytes old new result line → length line ≤ notes_room → Reported old new line
 line_told (Ok done) old new line wrote short = record {
   later = wrote.cause.later;
   whole = λ not. wrote.ok;

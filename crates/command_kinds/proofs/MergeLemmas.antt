@@ -4,7 +4,7 @@ use Rattle.std.specs.Prelude.{Err, None, Ok, Option, Result, Some}
 use Rattle.std.proofs.lemmas.List.{append-nil}
 use Rattle.fugue_ids.specs.declared.op.Op.{Op}
 use Rattle.origin_model.specs.declared.taking.Tally.{Tally}
-use Rattle.origin_model.specs.taking.Taking.{HasPlace, IsSettled, kept_from, no_counts}
+use Rattle.origin_model.specs.taking.Taking.{MeetsNoLimit, IsSettled, kept_from, no_counts}
 use Rattle.origin_model.proofs.SharedLemmas.{no_place_left}
 use Rattle.replica_core.specs.Feeding.{TakesInAll}
 use Rattle.origin_model.specs.edits.State.{State}
@@ -12,17 +12,20 @@ use Rattle.replica_core.specs.declared.keeping.FeedFault.{FeedFault}
 use Rattle.replica_core.specs.declared.keeping.FeedFault.TheVariants as feed_fault
 use Rattle.outer_ports.specs.disk.Disks.{DiskView}
 use Rattle.replica_file.specs.declared.load_file.End.{End}
-use Rattle.command_kinds.specs.Files.{FileHolds, FileRefuses, LoadMeets}
+use Rattle.replica_file.specs.declared.load_file.LoadFault.{LoadFault}
+use Rattle.replica_file.specs.declared.load_file.LoadFault.TheVariants as load_fault
+use Rattle.command_kinds.specs.Files.{FileHolds, FileRefuses}
 use Rattle.command_kinds.specs.Findings.{Does, Finding, Refuses}
-use Rattle.command_kinds.specs.Intake.{FeedsNotAll, OneTooMany, copied, ops_in}
-use Rattle.command_kinds.specs.Refusal.{feed_refusal}
+use Rattle.command_kinds.specs.Intake.{FeedsNotAll, OneTooMany, copies_of_kept, ops_in}
+use Rattle.command_kinds.specs.Refusal.{feed_refusal, load_refusal}
 use Rattle.command_kinds.specs.Saving.{GivesOnce, Outcome}
-use Rattle.command_kinds.specs.Take.{FileGives, HolderGives, IsOneTooMany, ReplicaGives, all_held_by, ops_of, other_file, taken_in}
-use Rattle.command_kinds.specs.Changes.{Change, IsTold}
+use Rattle.command_kinds.specs.Take.{FileGives, HolderGives, IsOneTooMany, ReplicaGives, all_held_by, all_held_ops, other_file, taken_in}
+use Rattle.command_kinds.specs.Changes.{Change, IsSpecified}
 use Rattle.command_kinds.specs.declared.counts.Counts.{Counts}
 use Rattle.command_kinds.specs.declared.refusal.Refusal.{Refusal}
 use Rattle.command_kinds.specs.declared.refusal.Refusal.TheVariants as refusal
 use Rattle.command_kinds.proofs.FoundLemmas.{holds_once, holds_or_refuses, refuses_once}
+use Rattle.command_kinds.proofs.LoadedLemmas.{HasNotLoaded, load_failed}
 use Rattle.command_kinds.proofs.TakeLemmas.{taken_gives}
 use Rattle.command_kinds.specs.Giving.{GivesTo}
 use Rattle.command_kinds.specs.declared.counts.Note.{Note}
@@ -34,21 +37,21 @@ use Rattle.command_kinds.specs.declared.counts.Note.TheVariants as note
 pub one_too_many : (replica : State) (ops more : List Op) → OneTooMany replica ops → IsOneTooMany replica (ops ++ more)
 one_too_many replica ops more one places =
     let all : ops ++ more ≡ one.front ++ one.op ∷ (one.more ++ more) = ap (λ (l : List Op). l ++ more) one.parts ∙ append_assoc one.front (one.op ∷ one.more) more in
-    no_place_left replica.hold replica.most replica.held one.front (one.more ++ more) one.op (subst (HasPlace replica.hold replica.most replica.held) all places) one.refused
+    no_place_left replica.hold replica.most replica.held one.front (one.more ++ more) one.op (subst (MeetsNoLimit replica.hold replica.most replica.held) all places) one.refused
 
 -- why what the other replica holds was not taken in
-pub merge_gives_none : (fault : FeedFault) (replica now other : State) (kept : Option (List Op)) → FeedsNotAll fault replica (ops_of other.held)
+pub merge_gives_none : (fault : FeedFault) (replica now other : State) (kept : Option (List Op)) → FeedsNotAll fault replica (all_held_ops other.held)
     → GivesTo (all_held_by other) replica now kept (Err (feed_refusal fault))
 merge_gives_none (feed_fault.TooMany limit) replica now other kept (most, one) =
-    (ap refusal.TooMany most, subst (IsOneTooMany replica) (append-nil (ops_of other.held)) (one_too_many replica (ops_of other.held) [] one))
+    (ap refusal.TooMany most, subst (IsOneTooMany replica) (append-nil (all_held_ops other.held)) (one_too_many replica (all_held_ops other.held) [] one))
 merge_gives_none feed_fault.NoMemory replica now other kept none = tt
 
 -- what the other replica holds was taken in
-pub merge_gives : (replica now other : State) (tally : Tally) (kept : Option (List Op)) → TakesInAll replica now (ops_of other.held) no_counts tally
-    → kept ≡ copied (Some []) (kept_from replica.hold replica.most replica.held (ops_of other.held)) → (counts : Counts) → IsSettled replica.held
+pub merge_gives : (replica now other : State) (tally : Tally) (kept : Option (List Op)) → TakesInAll replica now (all_held_ops other.held) no_counts tally
+    → kept ≡ copies_of_kept (Some []) (kept_from replica.hold replica.most replica.held (all_held_ops other.held)) → (counts : Counts) → IsSettled replica.held
     → counts ≡ record { tally = tally; waiting = length now.held.waiting; cursor = None } → GivesTo (all_held_by other) replica now kept (Ok (note.Counted counts))
 merge_gives replica now other tally kept taken kept_are counts settled is =
-    taken_gives (all_held_by other) replica now (ops_of other.held) None (taken.has_place, refl) settled kept (ap ops_in kept_are) counts
+    taken_gives (all_held_by other) replica now (all_held_ops other.held) None (taken.has_place, refl) settled kept (ap ops_in kept_are) counts
     (is ∙ (λ i. record { tally = taken.counts i; waiting = length (taken.replica i).held.waiting; cursor = None }))
 
 -- what the replica of the other file gives is what this file gives
@@ -64,7 +67,7 @@ module _ (guest : Change DiskView) (other replica : State) (other_end : End) (ho
   holder_gives now kept (Err why) gives = inr (by_holder (Refuses why) gives)
 
 -- another file that is told gives one thing
-module _ (guest : Change DiskView) (told : IsTold guest.old) (replica : State) where
+module _ (guest : Change DiskView) (told : IsSpecified guest.old) (replica : State) where
   same_holder : (one two : Finding Outcome) (h : HolderGives guest.old replica one) (k : HolderGives guest.old replica two) → h.0 ≡ k.0
   same_holder one two h k = ap (λ (l : State × End). l.0) (holds_once guest.old told (h.0, h.1) (k.0, k.1) h.2 k.2)
 
@@ -73,7 +76,7 @@ module _ (guest : Change DiskView) (told : IsTold guest.old) (replica : State) w
 
   not_here : (why : Refusal) (outcome : Outcome) → HolderGives guest.old replica (Refuses why) → HolderGives guest.old replica (Does outcome) → ⊥
   not_here why outcome h k =
-      h.3.1 (subst (λ (o : State). HasPlace replica.hold replica.most replica.held (ops_of o.held)) (sym (same_holder (Refuses why) (Does outcome) h k)) k.3.0)
+      h.3.1 (subst (λ (o : State). MeetsNoLimit replica.hold replica.most replica.held (all_held_ops o.held)) (sym (same_holder (Refuses why) (Does outcome) h k)) k.3.0)
 
   gives_once : (one two : Finding Outcome) → FileGives guest.old replica one → FileGives guest.old replica two → one ≡ two
   gives_once (Refuses why) (Refuses other) (inl p) (inl q) = ap Refuses (refuses_once guest.old told why other p q)
@@ -83,14 +86,16 @@ module _ (guest : Change DiskView) (told : IsTold guest.old) (replica : State) w
   gives_once (Refuses why) (Does outcome) refuses k = elim refuses [ inl p ↦ absurd (not_both why (Does outcome) p k) | inr h ↦ absurd (not_here why outcome h k) ]
   gives_once (Does outcome) (Refuses why) h refuses = elim refuses [ inl p ↦ absurd (not_both why (Does outcome) p h) | inr k ↦ absurd (not_here why outcome k h) ]
   gives_once (Does outcome) (Does other) h k =
-      ap Does (h.3.1 ∙ ap (λ (o : State). taken_in replica (ops_of o.held)) (same_holder (Does outcome) (Does other) h k) ∙ sym k.3.1)
+      ap Does (h.3.1 ∙ ap (λ (o : State). taken_in replica (all_held_ops o.held)) (same_holder (Does outcome) (Does other) h k) ∙ sym k.3.1)
 
 pub file_once : (guest : Change DiskView) → GivesOnce (other_file guest)
 file_once guest told replica one two gives others = gives_once guest told replica one two gives others
 
 -- another file that was not loaded gives its refusal
-pub file_gives_none : (guest : Change DiskView) (replica now : State) (kept : Option (List Op)) (why : Refusal) → LoadMeets guest (Err why) → GivesTo (other_file guest) replica now kept (Err why)
-file_gives_none guest replica now kept refusal.Outside failed = (failed.rose, failed.no_room)
-file_gives_none guest replica now kept refusal.NoMemory keeps = tt
-file_gives_none guest replica now kept refusal.Words never = absurd never.0
-file_gives_none guest replica now kept why meets = inl meets.0
+pub file_gives_none : (guest : Change DiskView) (replica now : State) (kept : Option (List Op)) (fault : LoadFault) → HasNotLoaded guest fault
+    → GivesTo (other_file guest) replica now kept (Err (load_refusal fault))
+file_gives_none guest replica now kept load_fault.DiskFault meets = let failed = load_failed guest meets in (failed.rose, failed.no_room)
+file_gives_none guest replica now kept load_fault.NoMemory meets = tt
+file_gives_none guest replica now kept load_fault.NotReplica meets = inl meets.cause
+file_gives_none guest replica now kept (load_fault.BadBatch slot) meets = inl meets.cause
+file_gives_none guest replica now kept (load_fault.TooMany count) meets = inl meets.cause

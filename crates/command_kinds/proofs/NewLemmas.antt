@@ -1,14 +1,13 @@
 -- What `new` does, from what making a file does.
 use Rattle.std.proofs.Common.{◌≡◌, ◌≢◌, ℕ, List, [], ◌∷◌, refl, ap, sym, subst, ◌∙◌, inl, inr, arith}
 use Rattle.std.specs.Prelude.{◌↔◌, Option, Some, None, Result, Ok, Err, IfSome, option_map}
-use Rattle.fugue_ids.specs.Causes.{Rose}
 use Rattle.fugue_ids.specs.Outs.{OutView}
 use Rattle.origin_model.specs.files.Image.{HasImage, Holds, new_file}
 use Rattle.outer_ports.proofs.SharedLemmas.{image_at_rest, leaves_none}
-use Rattle.outer_ports.specs.disk.Disks.{DiskTells, DiskView, RoomView}
-use Rattle.outer_ports.specs.disk.Moments.{History, LeavesOnlyTo, MayHaveWritten, MayLeave, after}
-use Rattle.outer_ports.specs.disk.States.{State, at_rest, durable, wrote}
-use Rattle.replica_file.specs.Create.{LastsToCreate, nothing_yet}
+use Rattle.outer_ports.specs.disk.Disks.{DiskView}
+use Rattle.outer_ports.specs.disk.Moments.{History, LeavesOnlyTo, MayLeave, after_moment}
+use Rattle.outer_ports.specs.disk.States.{DiskState, at_rest, durable, wrote}
+use Rattle.replica_file.specs.Create.{CreateMeets, LastsToCreate, nothing_yet}
 use Rattle.replica_file.specs.declared.creating.CreateFault.{CreateFault}
 use Rattle.replica_file.specs.declared.creating.CreateFault.TheVariants.{NotEmpty, DiskFault}
 use Rattle.command_kinds.proofs.CrashLemmas.{empty_never_torn, still_never_torn}
@@ -16,16 +15,13 @@ use Rattle.command_kinds.proofs.TextLemmas.{told_blameless}
 use Rattle.command_kinds.specs.Crashes.{IsSafe}
 use Rattle.command_kinds.specs.Files.{bytes_of}
 use Rattle.command_kinds.specs.New.{Creates, KeepsFilled}
-use Rattle.command_kinds.specs.Refusal.{create_refusal, refusal_line, status_of, Told}
+use Rattle.command_kinds.specs.Refusal.{create_refusal, refusal_line, status_of, Reported}
 use Rattle.command_kinds.specs.Changes.{HasDiskRoom, change}
 use Rattle.command_kinds.specs.declared.refusal.Refusal.TheVariants as refusal
 use Rattle.command_kinds.specs.declared.status.Status.TheVariants as status
 
-abbrev pub Answer : Type 0
-Answer = Result (Unit {0}) CreateFault
-
 -- what was found: a file is not empty exactly where that is answered, but for a fault
-abbrev pub Finds : Answer → Option History → Type 0
+abbrev Finds : Result (Unit {0}) CreateFault → Option History → Type 0
 Finds answer past = IfSome past (λ h. answer ≢ Err DiskFault → (answer ≡ Err NotEmpty) ↔ (h.last.seen ≢ []))
 
 empty_of : (bytes : List ℕ) → ((bytes ≢ []) → ⊥) → bytes ≡ []
@@ -44,11 +40,11 @@ same_bytes : (P : List ℕ → Type 0) (past : Option History) (bytes : List ℕ
 same_bytes P None bytes has is = cc is
 same_bytes P (Some h) bytes has is = subst P (cc is) has
 
-new_bytes : (replica hold : ℕ) (old new : Option History) → new ≡ after durable (after (wrote 0 (new_file replica hold)) old) → IfSome new (λ k. k.last ≡ at_rest (new_file replica hold))
+new_bytes : (replica hold : ℕ) (old new : Option History) → new ≡ after_moment durable (after_moment (wrote 0 (new_file replica hold)) old) → IfSome new (λ k. k.last ≡ at_rest (new_file replica hold))
     → bytes_of new ≡ option_map (λ bytes. new_file replica hold) (bytes_of old)
 new_bytes replica hold None new calls made = ap bytes_of calls
 new_bytes replica hold (Some h) new calls made =
-    ap bytes_of calls ∙ ap (λ (s : State). Some s.seen) (subst (λ past. IfSome past (λ k. k.last ≡ at_rest (new_file replica hold))) calls made)
+    ap bytes_of calls ∙ ap (λ (s : DiskState). Some s.seen) (subst (λ past. IfSome past (λ k. k.last ≡ at_rest (new_file replica hold))) calls made)
 
 -- a new file is safe: whatever a crash leaves, it holds no operation
 new_is_safe : (replica hold : ℕ) → HasImage (new_file replica hold) (Holds (nothing_yet replica hold)) → IsSafe (record { replica = replica; hold = hold }) [] [] (at_rest (new_file replica hold))
@@ -85,74 +81,57 @@ still_leaves (Some h) new stays = λ filled. subst (λ past. LeavesOnlyTo h past
 keeps_filled : (old new : DiskView) → Stays old.past new.past → KeepsFilled (change old new)
 keeps_filled old new stays = record { past = stays; moments = still_leaves old.past new.past stays }
 
-empty_stays : (old new : Option History) → IfSome old (λ h. h.last.seen ≡ []) → Stays old new
-empty_stays None new empty = tt
-empty_stays (Some h) new empty = λ filled. absurd (filled empty)
+pub created : (replica hold : ℕ) (old new : DiskView) (notes : OutView) (x : Unit {0}) → CreateMeets replica hold old new (Ok x)
+    → Creates replica hold (change old new) (change notes notes) status.Done
+created replica hold old new notes x meets =
+    let empty = found_empty x old.past meets.not_empty in
+    record {
+      meets = record {
+        empty = empty;
+        made = new_bytes replica hold old.past new.past meets.made.calls meets.made.at_rest;
+        at_rest = meets.made.at_rest;
+        safe = safe_where replica hold new.past meets.made.holds meets.made.at_rest;
+        noted = refl;
+      };
+      decided = record { empty = λ is. inl refl; not_empty = λ bytes is filled. absurd (empty_only old empty bytes is filled) };
+      filled = keeps_filled old new meets.overwrites_none;
+      crash = empty_never_torn (λ gave. gave ≡ []) (change old new) status.Done empty;
+      home_calm = by_room (new.faults ≡ old.faults) old meets.faults.calm;
+      notes_calm = λ has. refl;
+      never_outside = λ has is. cc is;
+      home_blameless = λ tells not. meets.faults.calm_told tells (λ is. cc is);
+      notes_blameless = λ tells not. inl refl;
+    }
 
-pub created : (replica hold : ℕ) (old new : DiskView) (notes : OutView) (x : Unit {0}) → Finds (Ok x) old.past
-    → new.past ≡ after durable (after (wrote 0 (new_file replica hold)) old.past) → IfSome new.past (λ k. k.last ≡ at_rest (new_file replica hold))
-    → HasImage (new_file replica hold) (Holds (nothing_yet replica hold)) → IfSome old.room (λ room. LastsToCreate room → new.faults ≡ old.faults)
-    → (DiskTells old → new.faults ≡ old.faults) → Creates replica hold (change old new) (change notes notes) status.Done
-created replica hold old new notes x found calls made holds calm exact = record {
-  meets = record {
-    empty = found_empty x old.past found;
-    made = new_bytes replica hold old.past new.past calls made;
-    at_rest = made;
-    safe = safe_where replica hold new.past holds made;
-    noted = refl;
-  };
-  decided = record { empty = λ is. inl refl; not_empty = λ bytes is filled. absurd (empty_only old (found_empty x old.past found) bytes is filled) };
-  filled = keeps_filled old new (empty_stays old.past new.past (found_empty x old.past found));
-  crash = empty_never_torn (λ gave. gave ≡ []) (change old new) status.Done (found_empty x old.past found);
-  home_calm = by_room (new.faults ≡ old.faults) old calm;
-  notes_calm = λ has. refl;
-  never_outside = λ has is. cc is;
-  home_blameless = λ tells not. exact tells;
-  notes_blameless = λ tells not. inl refl;
-}
-
-found_not_empty : (replica hold : ℕ) (old new : DiskView) (notes notes' : OutView) → Finds (Err NotEmpty) old.past → new.past ≡ old.past → Stays old.past new.past
-    → IfSome old.room (λ room. LastsToCreate room → new.faults ≡ old.faults) → (DiskTells old → new.faults ≡ old.faults) → Told notes notes' (refusal_line refusal.NotEmpty)
-    → Creates replica hold (change old new) (change notes notes') status.BadFile
-found_not_empty replica hold old new notes notes' found kept stays calm exact told = record {
-  meets = record { found = found_filled old.past found; kept = kept; noted = told };
-  decided = record { empty = λ is. absurd (same_bytes (λ b. b ≢ []) old.past [] (found_filled old.past found) is refl); not_empty = λ bytes is filled. inl refl };
-  filled = keeps_filled old new stays;
-  crash = still_never_torn (change old new) status.BadFile (λ done. elim done [ inl is ↦ cc is | inr is ↦ cc is ]) stays;
-  home_calm = by_room (new.faults ≡ old.faults) old calm;
-  notes_calm = told.calm;
-  never_outside = λ has is. cc is;
-  home_blameless = λ tells not. exact tells;
-  notes_blameless = told_blameless refusal.NotEmpty (change notes notes') told;
-}
-
-failed : (replica hold : ℕ) (old new : DiskView) (notes notes' : OutView) → MayHaveWritten 0 14 old.past new.past → Stays old.past new.past → Rose old.faults new.faults → IfSome old.room (λ room. LastsToCreate room → ⊥)
-    → IfSome old.room (λ room. LastsToCreate room → new.faults ≡ old.faults) → Told notes notes' (refusal_line refusal.Outside)
-    → Creates replica hold (change old new) (change notes notes') status.OutsideFault
-failed replica hold old new notes notes' torn stays rose sure calm told = record {
-  meets = record { torn = torn; rose = rose; no_room = by_room ⊥ old sure; noted = told };
-  decided = record { empty = λ is. inr (refl, rose); not_empty = λ bytes is filled. inr (refl, rose) };
-  filled = keeps_filled old new stays;
-  crash = still_never_torn (change old new) status.OutsideFault (λ done. elim done [ inl is ↦ cc is | inr is ↦ cc is ]) stays;
-  home_calm = by_room (new.faults ≡ old.faults) old calm;
-  notes_calm = told.calm;
-  never_outside = λ has is. by_room ⊥ old sure has;
-  home_blameless = λ tells not. absurd (not refl);
-  notes_blameless = λ tells not. absurd (not refl);
-}
-
-never_failed : (room : Option RoomView) (answer : Answer) → answer ≡ Err DiskFault → IfSome room (λ r. LastsToCreate r → answer ≢ Err DiskFault) → IfSome room (λ r. LastsToCreate r → ⊥)
-never_failed None answer is sure = sure
-never_failed (Some r) answer is sure = λ lasts. sure lasts is
+abbrev failed : Result (Unit {0}) CreateFault
+failed = Err DiskFault
 
 -- a file was not made, and why was told
-pub not_created : (replica hold : ℕ) (old new : DiskView) (notes notes' : OutView) (fault : CreateFault) (answer : Answer) → answer ≡ Err fault → Finds answer old.past
-    → (answer ≡ Err NotEmpty → (new.past ≡ old.past) × (new.room ≡ old.room)) → Stays old.past new.past → MayHaveWritten 0 14 old.past new.past
-    → (answer ≡ Err DiskFault → Rose old.faults new.faults) → IfSome old.room (λ room. LastsToCreate room → answer ≢ Err DiskFault)
-    → IfSome old.room (λ room. LastsToCreate room → new.faults ≡ old.faults) → (DiskTells old → answer ≢ Err DiskFault → new.faults ≡ old.faults)
-    → Told notes notes' (refusal_line (create_refusal fault))
-    → Creates replica hold (change old new) (change notes notes') (status_of (create_refusal fault))
-not_created replica hold old new notes notes' NotEmpty answer is found kept stays torn rose sure calm exact told =
-    found_not_empty replica hold old new notes notes' (subst (λ a. Finds a old.past) is found) (kept is).0 stays calm (λ tells. exact tells (λ failed. let other = sym is ∙ failed in cc other)) told
-not_created replica hold old new notes notes' DiskFault answer is found kept stays torn rose sure calm exact told =
-    failed replica hold old new notes notes' torn stays (rose is) (never_failed old.room answer is sure) calm told
+pub not_created : (replica hold : ℕ) (old new : DiskView) (notes notes' : OutView) (fault : CreateFault) → CreateMeets replica hold old new (Err fault)
+    → Reported notes notes' (refusal_line (create_refusal fault)) → Creates replica hold (change old new) (change notes notes') (status_of (create_refusal fault))
+not_created replica hold old new notes notes' NotEmpty meets told =
+    let filled = found_filled old.past meets.not_empty in
+    record {
+      meets = record { found = filled; kept = (meets.kept refl).0; noted = told };
+      decided = record { empty = λ is. absurd (same_bytes (λ b. b ≢ []) old.past [] filled is refl); not_empty = λ bytes is some. inl refl };
+      filled = keeps_filled old new meets.overwrites_none;
+      crash = still_never_torn (change old new) status.BadFile (λ done. elim done [ inl is ↦ cc is | inr is ↦ cc is ]) meets.overwrites_none;
+      home_calm = by_room (new.faults ≡ old.faults) old meets.faults.calm;
+      notes_calm = told.calm;
+      never_outside = λ has is. cc is;
+      home_blameless = λ tells not. meets.faults.calm_told tells (λ is. cc is);
+      notes_blameless = told_blameless refusal.NotEmpty (change notes notes') told;
+    }
+not_created replica hold old new notes notes' DiskFault meets told =
+    let no_room : HasDiskRoom 14 old → ⊥ = λ has. by_room (failed ≡ failed → ⊥) old meets.faults.sure has refl in
+    record {
+      meets = record { torn = meets.torn; rose = meets.faults.rose refl; no_room = no_room; noted = told };
+      decided = record { empty = λ is. inr (refl, meets.faults.rose refl); not_empty = λ bytes is filled. inr (refl, meets.faults.rose refl) };
+      filled = keeps_filled old new meets.overwrites_none;
+      crash = still_never_torn (change old new) status.OutsideFault (λ done. elim done [ inl is ↦ cc is | inr is ↦ cc is ]) meets.overwrites_none;
+      home_calm = by_room (new.faults ≡ old.faults) old meets.faults.calm;
+      notes_calm = told.calm;
+      never_outside = λ has is. no_room has;
+      home_blameless = λ tells not. absurd (not refl);
+      notes_blameless = λ tells not. absurd (not refl);
+    }

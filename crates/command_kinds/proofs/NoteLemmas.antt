@@ -6,7 +6,7 @@ use Rattle.fugue_ids.specs.declared.op.Op.{Op}
 use Rattle.origin_model.specs.declared.operations.Verdict.TheVariants.{Ready}
 use Rattle.origin_model.specs.edits.Effect.{Gains}
 use Rattle.origin_model.specs.edits.Noting.{note_by}
-use Rattle.origin_model.specs.edits.State.{State as Replica, Stands}
+use Rattle.origin_model.specs.edits.State.{State as Replica, IsSound}
 use Rattle.origin_model.specs.operations.History.{accepted}
 use Rattle.origin_model.specs.operations.Verdict.{verdict}
 use Rattle.origin_model.specs.taking.Taking.{IsSettled}
@@ -28,7 +28,7 @@ use Rattle.command_kinds.specs.declared.refusal.Refusal.TheVariants as refusal
 module _ (note_on : NoteOn) (old new : Replica) (op : Op) (found_is : note_on old ≡ Does op) (ready : verdict old.held.history op ≡ Ready) (unknown : IsUnknown old.held.waiting op)
     (fits : length old.held.history + length old.held.waiting + 1 ≤ old.most) (gained : Gains old new (op ∷ []))
   where
-    pub op_suffices : Stands old → IsSettled old.held → Suffices old (made_outcome new (op ∷ []))
+    pub op_suffices : IsSound old → IsSettled old.held → Suffices old (made_outcome new (op ∷ []))
     op_suffices stands settled =
         let h = old.held in
         let turn = comes (op ∷ []) h.history h.waiting settled (ready, tt) (All-cons (IsUnknown h.waiting) op [] unknown (All-nil (IsUnknown h.waiting))) in
@@ -36,7 +36,7 @@ module _ (note_on : NoteOn) (old new : Replica) (op : Op) (found_is : note_on ol
         let are : AreTakenIn old new (op ∷ []) = record { state = taken.state ∙ ap (λ (s : Replica). s.held) (sym gained.others); all_kept = taken.all_kept } in
         record { same_state = are.state; place = all_find_place old new (op ∷ []) settled are }
 
-    pub op_gives : Stands old → IsSettled old.held → (kept : Option (List Op)) → GivesTo (note_giver note_on) old new kept (Ok (note.Made 1))
+    pub op_gives : IsSound old → IsSettled old.held → (kept : Option (List Op)) → GivesTo (note_giver note_on) old new kept (Ok (note.Made 1))
     op_gives stands settled kept =
         record {
           outcome = made_outcome new (op ∷ []);
@@ -46,7 +46,7 @@ module _ (note_on : NoteOn) (old new : Replica) (op : Op) (found_is : note_on ol
           noted = record { line = refl; status = refl };
         }
 
-pub note_gives : (note_on : NoteOn) (old new : Replica) → MadeNote (note_on old) old new → Stands old → IsSettled old.held → (kept : Option (List Op)) → GivesTo (note_giver note_on) old new kept (Ok (note.Made 1))
+pub note_gives : (note_on : NoteOn) (old new : Replica) → MadeNote (note_on old) old new → IsSound old → IsSettled old.held → (kept : Option (List Op)) → GivesTo (note_giver note_on) old new kept (Ok (note.Made 1))
 note_gives note_on old new made =
     let h = old.held in
     op_gives note_on old new (note_by old made.named made.code made.body) made.found_is made.ready (noted_unknown old.number h.history h.waiting made.named made.code made.body) (note_fits old made.allowed) made.gained

@@ -1,18 +1,18 @@
 -- What a command that saves does, by how it came to save, and how the notes took its line.
 use Rattle.std.proofs.Common.{◌≡◌, ◌≢◌, inl, inr, refl, sym, subst, ◌∙◌}
 use Rattle.std.specs.Prelude.{◌⊎◌, Ok, Err}
-use Rattle.fugue_ids.specs.Causes.{Rose}
+use Rattle.fugue_ids.specs.Causes.{Faulted}
 use Rattle.fugue_ids.specs.Outs.{OutView}
 use Rattle.outer_ports.specs.disk.Disks.{DiskView}
-use Rattle.outer_ports.specs.disk.Moments.{after}
+use Rattle.outer_ports.specs.disk.Moments.{after_moment}
 use Rattle.outer_ports.specs.disk.States.{durable}
 use Rattle.command_kinds.specs.Crashes.{IsFinished, NeverTorn}
 use Rattle.command_kinds.specs.Files.{FileRefuses, KeepsFile, LoadFailed}
 use Rattle.command_kinds.specs.Findings.{Finding, Refuses, Does, IsDecided}
-use Rattle.command_kinds.specs.Printing.{NoteMeets}
-use Rattle.command_kinds.specs.Refusal.{refusal_line, status_of, Told}
-use Rattle.command_kinds.specs.Saving.{ComesToSave, FileIsRefused, Gave, Giver, GivesOnce, GivingFailed, IsDone, Outcome, SaveFailed, SavesGiven, SavingFound, SavingMeets, SomeFails, Stopped, StopsSaving, outcome_status, room_needed}
-use Rattle.command_kinds.specs.Changes.{Change, DiskStaysCalm, HasDiskRoom, HasRoom, IsTold, StaysCalm, notes_room}
+use Rattle.command_kinds.specs.Printing.{NoteMeets, NotesBlameless}
+use Rattle.command_kinds.specs.Refusal.{refusal_line, status_of, Reported}
+use Rattle.command_kinds.specs.Saving.{ComesToSave, FileIsRefused, GaveOutcome, Giver, GivesOnce, GivingFailed, IsDone, Outcome, SaveFailed, SavesGiven, SavingFound, SavingMeets, SomeFails, Stopped, StopsSaving, outcome_status, room_needed}
+use Rattle.command_kinds.specs.Changes.{Change, DiskBlameless, DiskCountsNoFault, HasDiskRoom, HasRoom, IsSpecified, CountsNoFault, notes_room}
 use Rattle.command_kinds.specs.declared.refusal.Refusal.{Refusal}
 use Rattle.command_kinds.specs.declared.refusal.Refusal.TheVariants as refusal
 use Rattle.command_kinds.specs.declared.status.Status.{Status}
@@ -21,6 +21,7 @@ use Rattle.command_kinds.proofs.CrashLemmas.{failed_never_torn, saved_never_torn
 use Rattle.command_kinds.proofs.FoundLemmas.{holds_or_refuses, refuses_once}
 use Rattle.command_kinds.proofs.GivenLemmas.{found_once}
 use Rattle.command_kinds.proofs.SavedLemmas.{some_room}
+use Rattle.command_kinds.proofs.TextLemmas.{told_blameless}
 
 -- a command that did all ends in no outside fault
 finished_inside : (end : Status) → IsFinished end → end ≢ status.OutsideFault
@@ -35,7 +36,7 @@ needed_room (Does outcome) disk has = some_room outcome.saved disk has
 module _ (giver : Giver) (once : GivesOnce giver) (file : Change DiskView) where
   -- what is found where the file and the giver are told
   abbrev Finds : (Finding Outcome → Type 0) → Type 0
-  Finds P = IsTold file.old → giver.Told → (found : Finding Outcome) → SavingFound giver file.old found → P found
+  Finds P = IsSpecified file.old → giver.Told → (found : Finding Outcome) → SavingFound giver file.old found → P found
 
   one_finding : (P : Finding Outcome → Type 0) (is : Finding Outcome) → SavingFound giver file.old is → P is → Finds P
   one_finding P is so p told gave found other = subst P (found_once giver once gave file.old told is found so other) p
@@ -55,7 +56,7 @@ module _ (giver : Giver) (once : GivesOnce giver) (file : Change DiskView) where
   abbrev Causes : Refusal → Type 0
   Causes why = ((why ≡ refusal.Outside) × SomeFailed) ⊎ ((why ≡ refusal.NoMemory) × KeepsFile file) ⊎ IsFound why
 
-  found_so : (why : Refusal) → SavingFound giver file.old (Refuses why) × KeepsFile file × (FileRefuses file.old why ⊎ (file.new.past ≡ after durable file.old.past)) → status_of why ≢ status.OutsideFault → (IsFinished (status_of why) → ⊥) → Causes why
+  found_so : (why : Refusal) → SavingFound giver file.old (Refuses why) × KeepsFile file × (FileRefuses file.old why ⊎ (file.new.past ≡ after_moment durable file.old.past)) → status_of why ≢ status.OutsideFault → (IsFinished (status_of why) → ⊥) → Causes why
   found_so why stops inside not_done = inr (inr (record { found = stops.0; keeps = stops.1; inside = inside; not_done = not_done }))
 
   -- a status that is neither Done nor Partial
@@ -80,31 +81,31 @@ module _ (giver : Giver) (once : GivesOnce giver) (file : Change DiskView) where
   failed_room (inr (inr save)) told gave found so sure has =
       one_finding (λ f. HasDiskRoom (room_needed f) file.old → ⊥) (Does save.outcome) (failed_found save) save.no_room told gave found so has
 
-  failed_calm : SomeFailed → Finds (λ found. DiskStaysCalm (room_needed found) file)
+  failed_calm : SomeFailed → Finds (λ found. DiskCountsNoFault (room_needed found) file)
   failed_calm (inl load) told gave found so has = absurd (load.no_room (needed_room found file.old has))
   failed_calm (inr (inl giving)) told gave found so has = giving.keeps.calm (needed_room found file.old has)
   failed_calm (inr (inr save)) told gave found so has =
       absurd (one_finding (λ f. HasDiskRoom (room_needed f) file.old → ⊥) (Does save.outcome) (failed_found save) save.no_room told gave found so has)
 
-  failed_rose : SomeFailed → Rose file.old.faults file.new.faults ⊎ giver.Failed
+  failed_rose : SomeFailed → Faulted file.old.faults file.new.faults ⊎ giver.Failed
   failed_rose (inl load) = inl load.rose
   failed_rose (inr (inl giving)) = inr giving.failed
   failed_rose (inr (inr save)) = inl save.rose
 
   -- where the file is refused, the call that failed was on the file
-  refused_rose : SomeFailed → IsTold file.old → (why : Refusal) → FileRefuses file.old why → Rose file.old.faults file.new.faults
+  refused_rose : SomeFailed → IsSpecified file.old → (why : Refusal) → FileRefuses file.old why → Faulted file.old.faults file.new.faults
   refused_rose (inl load) told why cause = load.rose
   refused_rose (inr (inl giving)) told why cause = absurd (holds_or_refuses file.old told (giving.replica, giving.end) why giving.holds cause)
   refused_rose (inr (inr save)) told why cause = save.rose
 
   -- no crash tears the file
-  failed_crash : (end : Status) → (IsFinished end → ⊥) → SomeFailed → NeverTorn (Gave giver file.old end) file end
-  failed_crash end not_done (inl load) = stopped_never_torn (Gave giver file.old end) file end (inl (not_done, refl)) not_done load.keeps
-  failed_crash end not_done (inr (inl giving)) = stopped_never_torn (Gave giver file.old end) file end (inl (not_done, refl)) not_done giving.keeps
+  failed_crash : (end : Status) → (IsFinished end → ⊥) → SomeFailed → NeverTorn (GaveOutcome giver file.old end) file end
+  failed_crash end not_done (inl load) = stopped_never_torn (GaveOutcome giver file.old end) file end (inl (not_done, refl)) not_done load.keeps
+  failed_crash end not_done (inr (inl giving)) = stopped_never_torn (GaveOutcome giver file.old end) file end (inl (not_done, refl)) not_done giving.keeps
   failed_crash end not_done (inr (inr save)) =
-      failed_never_torn (Gave giver file.old end) file end save.outcome.saved (inr (save.replica, save.end, save.holds, save.outcome, save.gives, refl)) not_done save.moments
+      failed_never_torn (GaveOutcome giver file.old end) file end save.outcome.saved (inr (save.replica, save.end, save.holds, save.outcome, save.gives, refl)) not_done save.moments
 
-  module _ (notes : Change OutView) (calm : StaysCalm notes_room notes.old notes.new) where
+  module _ (notes : Change OutView) (calm : CountsNoFault notes_room notes.old notes.new) where
     module _ (outcome : Outcome) (end : Status) (done : IsDone giver file outcome) (finished : IsFinished outcome.status) (noted : NoteMeets outcome.line outcome.status notes.old notes.new end) where
       done_found : SavingFound giver file.old (Does outcome)
       done_found = (done.replica, done.end, done.holds, done.gives, done.fits)
@@ -115,52 +116,53 @@ module _ (giver : Giver) (once : GivesOnce giver) (file : Change DiskView) where
           | inl is ↦ subst (SavingMeets giver file notes) (sym (took.end_is ∙ is)) (record { outcome = outcome; done = done; noted = took.took; end_is = sym is })
           | inr is ↦ subst (SavingMeets giver file notes) (sym (took.end_is ∙ is)) (record { outcome = outcome; done = done; noted = took.took; end_is = sym is })
         ]
-        | inr failed ↦ subst (SavingMeets giver file notes) (sym failed.end_is)
-            (inr (record { outcome = outcome; done = done; noted = failed.took; rose = failed.rose; no_room = failed.no_room }))
+        | inr failed ↦ subst (SavingMeets giver file notes) (sym failed.1) (inr (record { outcome = outcome; done = done; failed = failed.0 }))
       ]
 
       done_inside : HasRoom notes_room notes.old → end ≢ status.OutsideFault
-      done_inside has = elim noted [ inl took ↦ λ fault. finished_inside outcome.status finished (sym took.end_is ∙ fault) | inr failed ↦ absurd (failed.no_room has) ]
+      done_inside has = elim noted [ inl took ↦ λ fault. finished_inside outcome.status finished (sym took.end_is ∙ fault) | inr failed ↦ absurd (failed.0.no_room has) ]
 
       done_decided : IsDecided outcome.status (SomeFails giver file notes (Does outcome)) end
-      done_decided = elim noted [ inl took ↦ inl took.end_is | inr failed ↦ inr (inr (failed.end_is, inr (inr failed.rose))) ]
+      done_decided = elim noted [ inl took ↦ inl took.end_is | inr failed ↦ inr (inr (failed.1, inr (inr failed.0.rose))) ]
 
     -- all was done, and noted or not
     pub noted_saves : (outcome : Outcome) (end : Status) → ComesToSave giver file (Ok outcome) → IsFinished outcome.status → NoteMeets outcome.line outcome.status notes.old notes.new end
-        → SavesGiven giver file notes end
-    noted_saves outcome end done finished noted = record {
+        → DiskBlameless file end → NotesBlameless notes end → SavesGiven giver file notes end
+    noted_saves outcome end done finished noted file_blameless notes_blameless = record {
       meets = done_meets outcome end done finished noted;
-      crash = saved_never_torn (Gave giver file.old end) file end outcome.saved (inr (done.replica, done.end, done.holds, outcome, done.gives, refl)) done.saves;
-      calm = record { file_calm = one_finding (λ found. DiskStaysCalm (room_needed found) file) (Does outcome) (done_found outcome end done finished noted) done.calm; notes_calm = calm };
+      crash = saved_never_torn (GaveOutcome giver file.old end) file end outcome.saved (inr (done.replica, done.end, done.holds, outcome, done.gives, refl)) done.saves;
+      calm = record { file_calm = one_finding (λ found. DiskCountsNoFault (room_needed found) file) (Does outcome) (done_found outcome end done finished noted) done.calm; notes_calm = calm };
       never_outside = λ told gave found so sure room has. done_inside outcome end done finished noted has;
       decided = one_finding (λ found. IsDecided (outcome_status found) (SomeFails giver file notes found) end)
           (Does outcome) (done_found outcome end done finished noted) (done_decided outcome end done finished noted);
       refused = λ told why cause. absurd (holds_or_refuses file.old told (done.replica, done.end) why done.holds cause);
+      file_blameless = file_blameless;
+      notes_blameless = notes_blameless;
     }
 
-    module _ (why : Refusal) (stops : StopsSaving giver file why) (told_so : Told notes.old notes.new (refusal_line why)) where
+    module _ (why : Refusal) (stops : StopsSaving giver file why) (told_so : Reported notes.old notes.new (refusal_line why)) where
       abbrev stopped : (end : Status) → end ≡ status_of why → Stopped giver file notes end
       stopped end is = record { why = why; stops = stops; noted = told_so; end_is = is }
 
-    stopped_meets : (why : Refusal) → StopsSaving giver file why → Told notes.old notes.new (refusal_line why) → SavingMeets giver file notes (status_of why)
+    stopped_meets : (why : Refusal) → StopsSaving giver file why → Reported notes.old notes.new (refusal_line why) → SavingMeets giver file notes (status_of why)
     stopped_meets refusal.Words stops noted = absurd stops
     stopped_meets refusal.Outside stops noted = inl (stopped refusal.Outside stops noted status.OutsideFault refl)
     stopped_meets why stops noted = stopped why stops noted (status_of why) refl
 
     -- the rest follows from the cause
     record Follows (end : Status) : Type 0 where
-      crash : NeverTorn (Gave giver file.old end) file end
-      file_calm : Finds (λ found. DiskStaysCalm (room_needed found) file)
+      crash : NeverTorn (GaveOutcome giver file.old end) file end
+      file_calm : Finds (λ found. DiskCountsNoFault (room_needed found) file)
       inside : Finds (λ found. giver.Sure → HasDiskRoom (room_needed found) file.old → end ≢ status.OutsideFault)
       decided : Finds (λ found. IsDecided (outcome_status found) (SomeFails giver file notes found) end)
       refused : FileIsRefused file end
 
     -- what is found of a file that is refused is that refusal
-    same_refusal : IsTold file.old → (found why : Refusal) → SavingFound giver file.old (Refuses found) → FileRefuses file.old why → found ≡ why
+    same_refusal : IsSpecified file.old → (found why : Refusal) → SavingFound giver file.old (Refuses found) → FileRefuses file.old why → found ≡ why
     same_refusal told found why (inl cause) other = refuses_once file.old told found why cause other
     same_refusal told found why (inr rest) other = absurd (holds_or_refuses file.old told (rest.0, rest.1) why rest.2 other)
 
-    kept_calm : KeepsFile file → Finds (λ found. DiskStaysCalm (room_needed found) file)
+    kept_calm : KeepsFile file → Finds (λ found. DiskCountsNoFault (room_needed found) file)
     kept_calm keeps told gave found so has = keeps.calm (needed_room found file.old has)
 
     failed_fails : SomeFailed → (found : Finding Outcome) → SomeFails giver file notes found
@@ -178,7 +180,7 @@ module _ (giver : Giver) (once : GivesOnce giver) (file : Change DiskView) where
 
     memory_follows : KeepsFile file → Follows status.NoMemory
     memory_follows keeps = record {
-      crash = let not_done = not_finished status.NoMemory (λ e. cc e) (λ e. cc e) in stopped_never_torn (Gave giver file.old status.NoMemory) file status.NoMemory (inl (not_done, refl)) not_done keeps;
+      crash = let not_done = not_finished status.NoMemory (λ e. cc e) (λ e. cc e) in stopped_never_torn (GaveOutcome giver file.old status.NoMemory) file status.NoMemory (inl (not_done, refl)) not_done keeps;
       file_calm = kept_calm keeps;
       inside = λ told gave found so sure has e. cc e;
       decided = λ told gave found so. inr (inl refl);
@@ -187,7 +189,7 @@ module _ (giver : Giver) (once : GivesOnce giver) (file : Change DiskView) where
 
     found_follows : (why : Refusal) → IsFound why → Follows (status_of why)
     found_follows why is = record {
-      crash = stopped_never_torn (Gave giver file.old (status_of why)) file (status_of why) (inl (is.not_done, refl)) is.not_done is.keeps;
+      crash = stopped_never_torn (GaveOutcome giver file.old (status_of why)) file (status_of why) (inl (is.not_done, refl)) is.not_done is.keeps;
       file_calm = kept_calm is.keeps;
       inside = λ told gave found so sure has. is.inside;
       decided = one_finding (λ found. IsDecided (outcome_status found) (SomeFails giver file notes found) (status_of why))
@@ -201,8 +203,9 @@ module _ (giver : Giver) (once : GivesOnce giver) (file : Change DiskView) where
     follows why (inr (inr is)) = found_follows why is
 
     -- it stopped, and the notes were told why
-    pub told_saves : (why : Refusal) → ComesToSave giver file (Err why) → Told notes.old notes.new (refusal_line why) → SavesGiven giver file notes (status_of why)
-    told_saves why stops noted =
+    pub told_saves : (why : Refusal) → ComesToSave giver file (Err why) → Reported notes.old notes.new (refusal_line why) → DiskBlameless file (status_of why)
+        → SavesGiven giver file notes (status_of why)
+    told_saves why stops noted file_blameless =
         let rest = follows why (causes why stops) in
         record {
           meets = stopped_meets why stops noted;
@@ -211,4 +214,6 @@ module _ (giver : Giver) (once : GivesOnce giver) (file : Change DiskView) where
           never_outside = λ told gave found so sure room has. rest.inside told gave found so sure room;
           decided = rest.decided;
           refused = rest.refused;
+          file_blameless = file_blameless;
+          notes_blameless = told_blameless why notes noted;
         }

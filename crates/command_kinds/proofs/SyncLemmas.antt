@@ -2,7 +2,7 @@
 use Rattle.std.proofs.Common.{List, [], ap, arith, inl, inr, length, length-append, refl, subst, sym, ℕ, ◌+◌, ◌++◌, ◌<◌, ◌^◌, ◌∙◌, ◌∷◌, ◌≡◌, ◌≢◌, ◌≤◌}
 use Rattle.std.specs.Prelude.{Err, IfSome, None, Ok, Option, Some, decimal}
 use Rattle.std.proofs.lemmas.Fmt.{length-decimal-le}
-use Rattle.fugue_ids.specs.Causes.{Rose}
+use Rattle.fugue_ids.specs.Causes.{Faulted}
 use Rattle.fugue_ids.specs.Outs.{Took}
 use Rattle.fugue_ids.specs.declared.op.Op.{Op}
 use Rattle.origin_model.specs.declared.taking.Tally.{Tally}
@@ -11,7 +11,7 @@ use Rattle.outer_ports.specs.disk.Disks.{DiskView}
 use Rattle.outer_ports.specs.wire.Wires.{WireView, out_of}
 use Rattle.relay_sync.specs.Outcomes.{Bad, Cut, Ended, HeardTo, HeardUpTo, Refused, ReplyComes, ReplyEnd, TooLong, TooMany}
 use Rattle.relay_sync.specs.Saying.{request_for}
-use Rattle.relay_sync.specs.Syncing.{SyncFails, Fits, Syncs}
+use Rattle.relay_sync.specs.Syncing.{SyncFails, FitsReply, SyncsReplica}
 use Rattle.relay_sync.specs.declared.syncing.SyncFault.{SyncFault}
 use Rattle.relay_sync.specs.declared.syncing.SyncFault.TheVariants as sync_fault
 use Rattle.relay_sync.proofs.OutcomeLemmas.{reply_comes_once}
@@ -45,9 +45,9 @@ still_said : (old asked new : WireView) (text : List ℕ) → Took (out_of old) 
 still_said old asked new text took said room = record { written = said ∙ took.written; room = room ∙ took.room }
 
 module _ (port cursor : ℕ) (old new : WireView) (before after : OpsTaking) (done : Type 0)
-    (calm : Fits (length (request_for cursor before.replica.held)) old → new.faults ≡ old.faults) where
+    (calm : FitsReply (length (request_for cursor before.replica.held)) old → new.faults ≡ old.faults) where
   -- the replica spoke and heard the reply
-  pub speaks_whole : (count : ℕ) → Syncs old new before after port cursor count → Speaks port cursor before.replica.held (change old new) done
+  pub speaks_whole : (count : ℕ) → SyncsReplica old new before after port cursor count → Speaks port cursor before.replica.held (change old new) done
   speaks_whole count s =
       let took = still_said old s.asked new (request_for cursor before.replica.held) s.asks.said s.hears.hears.said s.hears.hears.room in
       record {
@@ -87,7 +87,7 @@ cause_ops (Some bytes) before after end heard = (heard.ops, heard.comes)
 -- an exchange that stopped gives its refusal
 pub reply_gives_none : (fault : SyncFault) (port cursor : ℕ) (replica now : Replica) (kept : List Op) (after last : OpsTaking) (end : End) (home : DiskView) (wire : Change WireView) (kept_after : Option (List Op))
     → FileHolds home replica end → SyncFails fault wire.old wire.new (taking_begun replica kept) after port cursor → HeardUpTo fault wire.old.left (taking_begun replica kept) last
-    → (fault ≡ sync_fault.WireFault → Rose wire.old.faults wire.new.faults) → (Fits (length (request_for cursor replica.held)) wire.old → fault ≢ sync_fault.WireFault)
+    → (fault ≡ sync_fault.WireFault → Faulted wire.old.faults wire.new.faults) → (FitsReply (length (request_for cursor replica.held)) wire.old → fault ≢ sync_fault.WireFault)
     → GivesTo (reply cursor home wire) replica now kept_after (Err (sync_refusal fault))
 reply_gives_none sync_fault.WireFault port cursor replica now kept after last end home wire kept_after holds fails heard rose sure = (rose refl, λ fits. sure (fits replica end holds) refl)
 reply_gives_none (sync_fault.BadReply k) port cursor replica now kept after last end home wire kept_after holds fails heard rose sure = cause_ops wire.old.left (taking_begun replica kept) last (Bad k) heard

@@ -9,12 +9,12 @@ use Rattle.origin_model.specs.declared.taking.Tally.{Tally}
 use Rattle.origin_model.specs.taking.Taking.{Answer, Full, IsSettled, TooMany as AnswersTooMany, answers_from, kept_from}
 use Rattle.origin_model.proofs.SharedLemmas.{kept_suffice}
 use Rattle.outer_ports.specs.Sources.{KeepsCount, SourceView}
-use Rattle.op_frame.specs.Courses.{BadFrame, Comes, IntakeCourse, CutShort, TooLong, TooMany, Whole}
+use Rattle.op_frame.specs.Courses.{BadFrame, Comes, IntakeOutcome, CutShort, TooLong, TooMany, Whole}
 use Rattle.op_frame.proofs.CourseLemmas.{comes_once}
 use Rattle.origin_model.specs.edits.State.{State as Replica}
 use Rattle.command_kinds.specs.Findings.{Finding, Refuses, Does}
-use Rattle.command_kinds.specs.Giving.{GivesTo, IsNoted}
-use Rattle.command_kinds.specs.Intake.{IntakeStopsFor, SourceComes, TakesIn, copied, ops_in}
+use Rattle.command_kinds.specs.Giving.{GivesTo, ReportsOutcome}
+use Rattle.command_kinds.specs.Intake.{IntakeStopsFor, SourceComes, TakesInStream, copies_of_kept, ops_in}
 use Rattle.command_kinds.specs.Saving.{Giver, GivesOnce, Outcome, Suffices}
 use Rattle.command_kinds.specs.Take.{StreamGives, counts_in, noted_in, stream, taken_in, waiting_in}
 use Rattle.command_kinds.specs.Changes.{Change}
@@ -43,11 +43,11 @@ taken_gives giver replica now ops cursor gives settled kept kept_are counts is =
   gives = gives;
   suffices = taken_suffices replica ops cursor settled;
   saved = kept_are;
-  noted = subst (λ (c : Counts). IsNoted (noted_in replica ops cursor) (note.Counted c)) (sym is) (record { line = refl; status = refl });
+  noted = subst (λ (c : Counts). ReportsOutcome (noted_in replica ops cursor) (note.Counted c)) (sym is) (record { line = refl; status = refl });
 }
 
 -- what a stream gives that comes to an end
-abbrev stream_finding : Replica → List Op → IntakeCourse → Finding Outcome
+abbrev stream_finding : Replica → List Op → IntakeOutcome → Finding Outcome
 stream_finding replica ops Whole = Does (taken_in replica ops)
 stream_finding replica ops (CutShort k) = Refuses (refusal.CutShort k)
 stream_finding replica ops (BadFrame k) = Refuses (refusal.BadFrame k)
@@ -57,7 +57,7 @@ stream_finding replica ops TooMany = Refuses (refusal.TooMany replica.most)
 -- the end to which a stream came
 record ComesTo (input : SourceView) (replica : Replica) (finding : Finding Outcome) : Type 0 where
   ops : List Op
-  course : IntakeCourse
+  course : IntakeOutcome
   came : SourceComes replica input ops course
   finding_is : finding ≡ stream_finding replica ops course
 
@@ -78,15 +78,15 @@ stream_once input told replica one two gives others =
     let same = comes_once Version2 replica.hold replica.most replica.held STREAM_LIMIT told.0 a.ops b.ops a.course b.course (by_bytes a.ops a.course a.came) (by_bytes b.ops b.course b.came) in
     a.finding_is ∙ (λ i. stream_finding replica (same.0 i) (same.1 i)) ∙ sym b.finding_is
   where
-    by_bytes : (ops : List Op) (course : IntakeCourse) → SourceComes replica input.old ops course → Comes Version2 replica.hold replica.most replica.held STREAM_LIMIT told.0 ops course
+    by_bytes : (ops : List Op) (course : IntakeOutcome) → SourceComes replica input.old ops course → Comes Version2 replica.hold replica.most replica.held STREAM_LIMIT told.0 ops course
     by_bytes ops course came = subst (λ o. IfSome o (λ bytes. Comes Version2 replica.hold replica.most replica.held STREAM_LIMIT bytes ops course)) told.1 came
 
 -- a stream that was taken in gives its outcome
-pub stream_gives : (input : Change SourceView) (replica now : Replica) (tally : Tally) (kept kept_after : Option (List Op)) → kept ≡ Some [] → TakesIn replica input.old input.new now tally kept kept_after
+pub stream_gives : (input : Change SourceView) (replica now : Replica) (tally : Tally) (kept kept_after : Option (List Op)) → kept ≡ Some [] → TakesInStream replica input.old input.new now tally kept kept_after
     → (counts : Counts) → IsSettled replica.held → counts ≡ record { tally = tally; waiting = length now.held.waiting; cursor = None } → GivesTo (stream input) replica now kept_after (Ok (note.Counted counts))
 stream_gives input replica now tally kept kept_after none taken counts settled is =
     taken_gives (stream input) replica now taken.ops None (taken.ops, taken.came, refl) settled kept_after
-    (ap ops_in (taken.kept_are ∙ ap (λ (k : Option (List Op)). copied k (taken_in replica taken.ops).saved) none)) counts
+    (ap ops_in (taken.kept_are ∙ ap (λ (k : Option (List Op)). copies_of_kept k (taken_in replica taken.ops).saved) none)) counts
     (is ∙ (λ i. record { tally = taken.counts_are i; waiting = length (taken.replica_is i).held.waiting; cursor = None }))
 
 -- a stream that stopped gives its refusal

@@ -6,7 +6,7 @@ use Rattle.fugue_ids.proofs.JoinLemmas.{took_joins}
 use Rattle.fugue_ids.specs.Outs.{OutView, IsSure, Took, TookFront, WritesBytes}
 use Rattle.fugue_ids.specs.declared.out.Failed.{Failed}
 use Rattle.command_kinds.specs.Printing.{NoteMeets, NotesBlameless}
-use Rattle.command_kinds.specs.Refusal.{Told, TookFronts, refusal_line, status_of}
+use Rattle.command_kinds.specs.Refusal.{Reported, TookFronts, refusal_line, status_of}
 use Rattle.command_kinds.specs.Changes.{Change, HasRoom, notes_room}
 use Rattle.command_kinds.specs.declared.refusal.Refusal.{Refusal}
 use Rattle.command_kinds.specs.declared.refusal.Refusal.TheVariants as refusal
@@ -28,7 +28,7 @@ pub whole_front : (old new : OutView) (text : List ℕ) → Took old new text �
 whole_front old new text took = record { count = length text; within = omega arith; took = subst (Took old new) (sym (take_all (length text) text (omega arith))) took }
 
 -- the notes' count rose only where the refusal's line was not written
-pub told_blameless : (why : Refusal) (notes : Change OutView) → Told notes.old notes.new (refusal_line why) → NotesBlameless notes (status_of why)
+pub told_blameless : (why : Refusal) (notes : Change OutView) → Reported notes.old notes.new (refusal_line why) → NotesBlameless notes (status_of why)
 told_blameless why notes told tells not =
     elim (told.exact tells) [ inl same ↦ inl same | inr rose ↦ inr (record { why = why; end_is = refl; front = told.front; rose = rose }) ]
 
@@ -44,10 +44,12 @@ fronts_joined old mid new first second a b = record {
 
 -- a line of notes did not go out whole, and the fault was told
 pub not_noted : (e : Failed) (old mid new : OutView) (line : List ℕ) (status end : Status) → WritesBytes {E = Failed} {T = Unit {0}} old mid (Err e) line → length line ≤ notes_room
-    → Told mid new (refusal_line refusal.Outside) → end ≡ status_of refusal.Outside → NoteMeets line status old new end
-not_noted e old mid new line status end wrote short told is = inr (record {
-  took = fronts_joined old mid new line (refusal_line refusal.Outside) wrote.err told.front;
-  rose = omega (arith, wrote.cause.failed, told.later);
-  no_room = text_has_no_room e old mid line notes_room wrote short;
-  end_is = is;
-})
+    → Reported mid new (refusal_line refusal.Outside) → end ≡ status_of refusal.Outside → NoteMeets line status old new end
+not_noted e old mid new line status end wrote short told is = inr (
+  record {
+    took = fronts_joined old mid new line (refusal_line refusal.Outside) wrote.err told.front;
+    rose = omega (arith, wrote.cause.failed, told.later);
+    no_room = text_has_no_room e old mid line notes_room wrote short;
+  },
+  is,
+)

@@ -19,6 +19,7 @@ pub record Change (V : Type 0) : Type 0 where
   pub old : V
   pub new : V
 
+-- an object before and after a call
 abbrev pub change : {V : Type 0} → V → V → Change V
 change old new = record { old = old; new = new }
 
@@ -29,8 +30,8 @@ pub record HasRoom (bytes : ℕ) (out : OutView) : Type 0 where
   pub fits : bytes ≤ room
 
 -- where so many bytes fit, no fault is counted
-abbrev pub StaysCalm : (bytes : ℕ) → OutView → OutView → Type 0
-StaysCalm bytes old new = HasRoom bytes old → new.faults ≡ old.faults
+abbrev pub CountsNoFault : (bytes : ℕ) → OutView → OutView → Type 0
+CountsNoFault bytes old new = HasRoom bytes old → new.faults ≡ old.faults
 
 -- the room that notes need
 abbrev pub notes_room : ℕ
@@ -44,23 +45,26 @@ pub record HasDiskRoom (count : ℕ) (disk : DiskView) : Type 0 where
   pub calls_fit : count ≤ room.calls
 
 -- where so much fits, no fault is counted
-abbrev pub DiskStaysCalm : (count : ℕ) → Change DiskView → Type 0
-DiskStaysCalm count disk = HasDiskRoom count disk.old → disk.new.faults ≡ disk.old.faults
+abbrev pub DiskCountsNoFault : (count : ℕ) → Change DiskView → Type 0
+DiskCountsNoFault count disk = HasDiskRoom count disk.old → disk.new.faults ≡ disk.old.faults
 
 -- what stands on the disk is told
-abbrev pub IsTold : DiskView → Type 0
-IsTold disk = (h : History) × (disk.past ≡ Some h)
+abbrev pub IsSpecified : DiskView → Type 0
+IsSpecified disk = (h : History) × (disk.past ≡ Some h)
 
 -- Each object's count of faults rises with an outside fault alone, where the object tells: no call that failed is made once
 -- more, and none is told as another fault.
 abbrev pub SourceBlameless : Change SourceView → Status → Type 0
 SourceBlameless source end = SourceTells source.old → end ≢ OutsideFault → source.new.faults ≡ source.old.faults
 
+-- an output that tells its faults had none, unless the status says so
 abbrev pub OutBlameless : Change OutView → Status → Type 0
 OutBlameless out end = OutTells out.old → end ≢ OutsideFault → out.new.faults ≡ out.old.faults
 
+-- a disk that tells its faults had none, unless the status says so
 abbrev pub DiskBlameless : Change DiskView → Status → Type 0
 DiskBlameless disk end = DiskTells disk.old → end ≢ OutsideFault → disk.new.faults ≡ disk.old.faults
 
+-- a wire that tells its faults had none, unless the status says so
 abbrev pub WireBlameless : Change WireView → Status → Type 0
 WireBlameless wire end = WireTells wire.old → end ≢ OutsideFault → wire.new.faults ≡ wire.old.faults

@@ -5,6 +5,7 @@ use Rattle.command_kinds.specs.declared.counts.SectionCounts.{SectionCounts}
 use Rattle.command_kinds.specs.declared.status.Status.{Status}
 use Rattle.command_kinds.specs.declared.status.Status.TheVariants.{Done, Partial}
 
+-- the line of counts that ends the taking in of a stream
 abbrev pub counts_line : Tally → ℕ → List ℕ
 counts_line tally waiting =
     flat_map (λ piece. piece) (

@@ -3,7 +3,7 @@ use Rattle.std.specs.Prelude.{◌≡◌, ◌⊎◌, ℕ, List, [], ◌++◌, Opt
 use Rattle.fugue_ids.specs.declared.op.Op.{Op}
 use Rattle.outer_ports.specs.disk.Disks.{DiskView}
 use Rattle.outer_ports.specs.disk.Moments.{History, LeavesOnly, LeavesOnlyTo}
-use Rattle.outer_ports.specs.disk.States.{State, IsHonest, IsCrashImage}
+use Rattle.outer_ports.specs.disk.States.{DiskState, IsHonest, IsCrashImage}
 use Rattle.command_kinds.specs.Files.{HasOps, HasOpsOr, Header}
 use Rattle.command_kinds.specs.Changes.{Change}
 use Rattle.command_kinds.specs.declared.status.Status.{Status}
@@ -14,7 +14,7 @@ abbrev pub IsFinished : Status → Type 0
 IsFinished end = (end ≡ Done) ⊎ (end ≡ Partial)
 
 -- whatever a crash leaves, it has this header, and one list of operations or this with another behind it; a read gives such a one too
-pub record IsSafe (header : Header) (ops more : List Op) (s : State) : Type 0 where
+pub record IsSafe (header : Header) (ops more : List Op) (s : DiskState) : Type 0 where
   pub honest : IsHonest s
   pub leaves : (image : List ℕ) → IsCrashImage s image → HasOpsOr header ops more image
 

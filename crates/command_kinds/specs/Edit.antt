@@ -1,12 +1,12 @@
 -- The command `edit`: a script is run on a file's replica, and what it made is saved.
 use Rattle.std.specs.Prelude.{◌≡◌, ◌≢◌, ◌⊎◌, ℕ, ◌<◌, ◌≤◌, List, ◌++◌, length, true, Some, IfSome}
-use Rattle.fugue_ids.specs.Causes.{Rose}
+use Rattle.fugue_ids.specs.Causes.{Faulted}
 use Rattle.fugue_ids.specs.declared.op.Op.{Op}
 use Rattle.origin_model.specs.operations.History.{accepted}
 use Rattle.edit_script.specs.declared.run.ScriptFault.{ScriptFault}
 use Rattle.edit_script.specs.declared.run.ScriptFault.TheVariants as script_fault
 use Rattle.edit_script.specs.declared.script.TheConstants.{LONGEST_SCRIPT}
-use Rattle.edit_script.specs.Scripts.{RunsWhole, StopsAt}
+use Rattle.edit_script.specs.Scripts.{RunsWhole, StopsAtLine}
 use Rattle.outer_ports.specs.Sources.{SourceView}
 use Rattle.origin_model.specs.edits.State.{State as Replica}
 use Rattle.command_kinds.specs.Counts.{made_line}
@@ -39,25 +39,26 @@ pub record HasFaultyLine (replica : Replica) (script : List ℕ) (why : Refusal)
   -- want of memory is no line's fault
   pub no_want : fault ≢ script_fault.NoMemory
   pub last : Replica
-  pub stops : StopsAt replica last script fault
+  pub stops : StopsAtLine replica last script fault
 
 -- the script is the cause of this refusal: it is longer than its limit, or has a faulty line
 abbrev pub ScriptRefuses : Replica → List ℕ → Refusal → Type 0
 ScriptRefuses replica script why = ((why ≡ refusal.TooLong) × (LONGEST_SCRIPT < length script)) ⊎ HasFaultyLine replica script why
 
 -- the script is all that the source has left, where that is told
-abbrev pub IsLeft : SourceView → List ℕ → Type 0
-IsLeft input script = IfSome input.left (λ bytes. bytes ≡ script)
+abbrev pub IsLeftScript : SourceView → List ℕ → Type 0
+IsLeftScript input script = IfSome input.left (λ bytes. bytes ≡ script)
 
 -- what a script gives: that of one script, also where the source tells none
 abbrev pub ScriptGives : SourceView → Replica → Finding Outcome → Type 0
-ScriptGives input replica (Refuses why) = (script : List ℕ) × IsLeft input script × ScriptRefuses replica script why
-ScriptGives input replica (Does outcome) = (script : List ℕ) × IsLeft input script × RunsScript replica script outcome
+ScriptGives input replica (Refuses why) = (script : List ℕ) × IsLeftScript input script × ScriptRefuses replica script why
+ScriptGives input replica (Does outcome) = (script : List ℕ) × IsLeftScript input script × RunsScript replica script outcome
 
+-- a script that is read from a source, as what gives the operations
 abbrev pub script : Change SourceView → Giver
 script input = record {
   Gives = ScriptGives input.old;
   Told = (bytes : List ℕ) × (input.old.left ≡ Some bytes);
-  Failed = Rose input.old.faults input.new.faults;
+  Failed = Faulted input.old.faults input.new.faults;
   Sure = input.old.sure ≡ true;
 }

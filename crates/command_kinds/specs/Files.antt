@@ -1,23 +1,19 @@
 -- The file of a replica: what a command finds in it, and what it leaves there.
-use Rattle.std.specs.Prelude.{◌≡◌, ◌≢◌, ◌⊎◌, ℕ, ◌≤◌, List, [], ◌++◌, Option, Result, Ok, Err, IfSome, option_map}
-use Rattle.fugue_ids.specs.Causes.{Rose}
+use Rattle.std.specs.Prelude.{◌≡◌, ◌⊎◌, ℕ, List, ◌++◌, Option, Err, IfSome, option_map}
+use Rattle.fugue_ids.specs.Causes.{Faulted}
 use Rattle.fugue_ids.specs.declared.limits.TheConstants.{MOST_OPERATIONS}
 use Rattle.fugue_ids.specs.declared.op.Op.{Op}
 use Rattle.origin_model.specs.files.Image.{Content, HasImage, Holds}
-use Rattle.outer_ports.specs.disk.Disks.{DiskView, spent}
-use Rattle.outer_ports.specs.disk.Moments.{History, LeavesOnly, LeavesOnlyTo, MayLeave, after, stepped}
+use Rattle.outer_ports.specs.disk.Disks.{DiskView}
+use Rattle.outer_ports.specs.disk.Moments.{History, LeavesOnly, LeavesOnlyTo, MayLeave, after_moment, history_after_step}
 use Rattle.outer_ports.specs.disk.States.{IsHonest, at_rest, durable}
 use Rattle.origin_model.specs.edits.State.{State as Replica}
-use Rattle.replica_file.specs.Append.{HasBatch, HoldsEither, IsTooLong, behind_gate}
-use Rattle.replica_file.specs.Ends.{EndsAt, Means, IsWithinReach}
-use Rattle.replica_file.specs.Gates.{LastsFor, gate_opened}
 use Rattle.replica_file.specs.Load.{LoadAnswerIs, Loads}
-use Rattle.replica_file.specs.Loading.{IsReady}
 use Rattle.replica_file.specs.declared.load_file.End.{End}
 use Rattle.replica_file.specs.declared.load_file.LoadFault.TheVariants as load_fault
-use Rattle.command_kinds.specs.Changes.{Change, DiskBlameless, DiskStaysCalm, HasDiskRoom}
+use Rattle.command_kinds.specs.Changes.{Change, DiskBlameless, DiskCountsNoFault, HasDiskRoom}
 use Rattle.command_kinds.specs.declared.refusal.Refusal.{Refusal}
-use Rattle.command_kinds.specs.declared.refusal.Refusal.TheVariants.{NotReplica, BadBatch, BatchTooLong, NoMemory, Outside, TooMany}
+use Rattle.command_kinds.specs.declared.refusal.Refusal.TheVariants.{NotReplica, BadBatch, TooMany}
 use Rattle.command_kinds.specs.declared.status.Status.{Status}
 
 -- the file, where it is told, is loaded as this replica, and its meaning ends there
@@ -38,70 +34,27 @@ bytes_of past = option_map (λ (h : History). h.last.seen) past
 -- The bytes are as at entry, a crash leaves nothing but what it could leave then, and a sure file that has room for a sync counts no fault.
 pub record KeepsFile (file : Change DiskView) : Type 0 where
   pub bytes : bytes_of file.new.past ≡ bytes_of file.old.past
-  pub past : (file.new.past ≡ after durable file.old.past) ⊎ (file.new.past ≡ file.old.past)
+  pub past : (file.new.past ≡ after_moment durable file.old.past) ⊎ (file.new.past ≡ file.old.past)
   pub moments : IfSome file.old.past (λ h. LeavesOnlyTo h file.new.past (MayLeave h))
-  pub calm : DiskStaysCalm 1 file
+  pub calm : DiskCountsNoFault 1 file
 
 -- a file that was only read is left so
 pub record LeavesFile (file : Change DiskView) (end : Status) : Type 0 where
   pub keeps : KeepsFile file
   pub blameless : DiskBlameless file end
 
--- the file was loaded, and a batch can be appended at the end of its meaning
-pub record IsLoaded (file : Change DiskView) (replica : Replica) (end : End) : Type 0 where
-  pub holds : FileHolds file.old replica end
-  pub ready : IsReady replica
-  pub reaches : IsWithinReach end
-  pub ends : IfSome file.new.past (λ h. EndsAt h.last end)
-  pub synced : file.new.past ≡ after durable file.old.past
-  pub keeps : KeepsFile file
-  pub room : file.new.room ≡ spent 0 file.old.room
-  pub later : file.old.faults ≤ file.new.faults
-
 -- a call on the file failed while it was loaded
 pub record LoadFailed (file : Change DiskView) : Type 0 where
-  pub rose : Rose file.old.faults file.new.faults
+  pub rose : Faulted file.old.faults file.new.faults
   pub no_room : HasDiskRoom 1 file.old → ⊥
   pub keeps : KeepsFile file
-
--- what loading comes to
-abbrev pub LoadMeets : Change DiskView → Result (Replica × End) Refusal → Type 0
-LoadMeets file (Ok loaded) = IsLoaded file loaded.0 loaded.1
-LoadMeets file (Err Outside) = LoadFailed file
-LoadMeets file (Err NoMemory) = KeepsFile file
-LoadMeets file (Err why) = FileRefuses file.old why × KeepsFile file
-
--- the operations were appended as one batch, or there were none
-pub record IsAppended (end : End) (ops : List Op) (file : Change DiskView) : Type 0 where
-  pub fits : IsTooLong end ops → ⊥
-  pub none : ops ≡ [] → file.new ≡ file.old
-  pub calls : ops ≢ [] → file.new.past ≡ gate_opened end.at (behind_gate ops) file.old.past
-  pub moments : IfSome file.old.past (λ h. (content : Content) → Means h.last content → LeavesOnlyTo h file.new.past (HoldsEither content ops))
-  pub appended : ops ≢ [] → IfSome file.old.past (λ h. (content : Content) → Means h.last content → IfSome file.new.past (λ k. HasBatch content end ops k.last))
-  pub calm : IfSome file.old.room (λ room. LastsFor (behind_gate ops) room → file.new.faults ≡ file.old.faults)
-
--- a call failed while they were appended
-pub record AppendFailed (end : End) (ops : List Op) (file : Change DiskView) : Type 0 where
-  pub fits : IsTooLong end ops → ⊥
-  pub some : ops ≢ []
-  pub moments : IfSome file.old.past (λ h. (content : Content) → Means h.last content → LeavesOnlyTo h file.new.past (HoldsEither content ops))
-  pub honest : IfSome file.old.past (λ h. IsHonest h.last) → IfSome file.new.past (λ k. IsHonest k.last)
-  pub rose : Rose file.old.faults file.new.faults
-  pub no_room : IfSome file.old.room (λ room. LastsFor (behind_gate ops) room → ⊥)
-
--- what appending comes to
-abbrev pub SaveMeets : End → List Op → Change DiskView → Result (Unit {0}) Refusal → Type 0
-SaveMeets end ops file (Ok done) = IsAppended end ops file
-SaveMeets end ops file (Err Outside) = AppendFailed end ops file
-SaveMeets end ops file (Err NoMemory) = file.new ≡ file.old
-SaveMeets end ops file (Err BatchTooLong) = IsTooLong end ops × (file.new ≡ file.old)
-SaveMeets end ops file (Err why) = ⊥
 
 -- what a file's header says
 pub record Header : Type 0 where
   pub replica : ℕ
   pub hold : ℕ
 
+-- the header of a file with this content: its replica and its hold
 abbrev pub new_file_header : Content → Header
 new_file_header content = record { replica = content.replica; hold = content.hold }
 
@@ -120,12 +73,12 @@ HasOpsOr header ops more bytes = HasOps header ops bytes ⊎ HasOps header (ops 
 pub record GainsAllOrNone (ops : List Op) (h : History) (new : Option History) : Type 0 where
   pub content : Content
   pub holds : HasImage h.last.seen (Holds content)
-  pub loads : LeavesOnly h (stepped durable h) (MayLeave h)
-  pub gains : LeavesOnlyTo (stepped durable h) new (HasOpsOr (new_file_header content) content.ops ops)
+  pub loads : LeavesOnly h (history_after_step durable h) (MayLeave h)
+  pub gains : LeavesOnlyTo (history_after_step durable h) new (HasOpsOr (new_file_header content) content.ops ops)
   pub honest : IfSome new (λ k. IsHonest k.last)
 
 -- The operations were saved behind those of the file: a read gives all of them, and a crash leaves nothing else.
-pub record IsSaved (ops : List Op) (h : History) (new : Option History) : Type 0 where
+pub record AreSavedOps (ops : List Op) (h : History) (new : Option History) : Type 0 where
   pub moments : GainsAllOrNone ops h new
   pub has : IfSome new (λ k. HasOps (new_file_header moments.content) (moments.content.ops ++ ops) k.last.seen)
   pub rests : IfSome new (λ k. k.last ≡ at_rest k.last.seen)

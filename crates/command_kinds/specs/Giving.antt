@@ -24,6 +24,7 @@ note_line (note.Counted counts) = counts_text counts.tally counts.waiting counts
 note_line (note.Made count) = made_line count
 note_line (note.Revised count sections) = revised_text count sections
 
+-- the status of a command that ends with this line
 abbrev pub note_status : Note → Status
 note_status (note.Counted counts) = status_by counts.tally counts.waiting
 note_status (note.Made count) = status.Done
@@ -36,7 +37,7 @@ to_save (note.Made count) before after kept = drop before (accepted after.held.h
 to_save (note.Revised count sections) before after kept = drop (length (accepted after.held.history) - count) (accepted after.held.history)
 
 -- a note tells of an outcome
-pub record IsNoted (outcome : Outcome) (note : Note) : Type 0 where
+pub record ReportsOutcome (outcome : Outcome) (note : Note) : Type 0 where
   pub line : outcome.line ≡ note_line note
   pub status : outcome.status ≡ note_status note
 
@@ -46,7 +47,7 @@ pub record IsGiven (giver : Giver) (before after : Replica) (kept : Option (List
   pub gives : giver.Gives before (Does outcome)
   pub suffices : Suffices before outcome
   pub saved : to_save note (length (accepted before.held.history)) after kept ≡ outcome.saved
-  pub noted : IsNoted outcome note
+  pub noted : ReportsOutcome outcome note
 
 -- what a giver gave to a replica, or why it gave nothing
 abbrev pub GivesTo : Giver → (before after : Replica) → (kept : Option (List Op)) → Result Note Refusal → Type 0
@@ -63,10 +64,10 @@ pub record MayEnd (answer : Result Note Refusal) (end : Status) : Type 0 where
 
 -- what was given to a file that is loaded, as its note tells it
 abbrev pub GivenNoted : Giver → Replica → End → Change DiskView → Result Note Refusal → Type 0
-GivenNoted giver replica end file (Ok note) = (outcome : Outcome) × IsNoted outcome note × GivenMeets giver replica end file (Ok outcome)
+GivenNoted giver replica end file (Ok note) = (outcome : Outcome) × ReportsOutcome outcome note × GivenMeets giver replica end file (Ok outcome)
 GivenNoted giver replica end file (Err why) = GivenMeets giver replica end file (Err why)
 
 -- what was given and saved, as its note tells it
 abbrev pub SavesNoted : Giver → Change DiskView → Result Note Refusal → Type 0
-SavesNoted giver file (Ok note) = (outcome : Outcome) × IsNoted outcome note × ComesToSave giver file (Ok outcome)
+SavesNoted giver file (Ok note) = (outcome : Outcome) × ReportsOutcome outcome note × ComesToSave giver file (Ok outcome)
 SavesNoted giver file (Err why) = ComesToSave giver file (Err why)

@@ -3,11 +3,11 @@ use Rattle.std.specs.Prelude.{◌≡◌, ◌+◌, ◌*◌, ◌≤◌, List, [], 
 use Rattle.fugue_ids.specs.declared.op.Op.{Op}
 use Rattle.outer_ports.specs.Sources.{SourceView}
 use Rattle.origin_model.specs.declared.grammar.Grammar.TheVariants.{Version2}
-use Rattle.origin_model.specs.taking.Taking.{HasPlace, TooMany as AnswersTooMany, IsSettled, answer, held_from, kept_from, tally_from, no_counts}
+use Rattle.origin_model.specs.taking.Taking.{MeetsNoLimit, TooMany as AnswersTooMany, IsSettled, answer, held_from, kept_from, tally_from, no_counts}
 use Rattle.origin_model.specs.declared.taking.Tally.{Tally}
-use Rattle.op_frame.specs.Courses.{Comes, IntakeCourse, Whole, CutShort as IsCutShort, BadFrame as HasBadFrame, TooLong as IsTooLong, TooMany as HasTooMany}
+use Rattle.op_frame.specs.Courses.{Comes, IntakeOutcome, Whole, CutShort as IsCutShort, BadFrame as HasBadFrame, TooLong as IsTooLong, TooMany as HasTooMany}
 use Rattle.op_frame.specs.Readers.{FrameReading, Nexts}
-use Rattle.op_frame.specs.NextRuns.{GivesMany, IsReached}
+use Rattle.op_frame.specs.NextRuns.{GivesMany, IsReachedRun}
 use Rattle.op_frame.specs.declared.fault.FrameFault.TheVariants as frame_fault
 use Rattle.replica_core.specs.declared.keeping.FeedFault.{FeedFault}
 use Rattle.replica_core.specs.declared.keeping.FeedFault.TheVariants as feed_fault
@@ -19,9 +19,10 @@ use Rattle.command_kinds.specs.declared.refusal.Refusal.{Refusal}
 use Rattle.command_kinds.specs.declared.refusal.Refusal.TheVariants.{BadFrame, CutShort, TooLong, TooMany, Outside, NoMemory}
 
 -- copies of the operations that were kept, and these behind them: none, where they are forgotten
-abbrev pub copied : Option (List Op) → List Op → Option (List Op)
-copied kept ops = option_map (λ before. before ++ ops) kept
+abbrev pub copies_of_kept : Option (List Op) → List Op → Option (List Op)
+copies_of_kept kept ops = option_map (λ before. before ++ ops) kept
 
+-- the operations, where there are some
 abbrev pub ops_in : Option (List Op) → List Op
 ops_in None = []
 ops_in (Some ops) = ops
@@ -37,7 +38,7 @@ pub record OneTooMany (replica : State) (ops : List Op) : Type 0 where
   pub op : Op
   pub more : List Op
   pub parts : ops ≡ front ++ op ∷ more
-  pub has_place : HasPlace replica.hold replica.most replica.held front
+  pub has_place : MeetsNoLimit replica.hold replica.most replica.held front
   pub refused : answer replica.hold replica.most (held_from replica.hold replica.most replica.held front) op ≡ AnswersTooMany
 
 -- why operations were not all taken in
@@ -66,14 +67,14 @@ pub record TakesSome (old new : StreamTaking) (before after : SourceView) : Type
   pub ops : List Op
   pub gives : GivesMany old.reader new.reader before after ops
   pub taken : TakesInAll old.replica new.replica ops old.counts new.counts
-  pub kept : new.kept ≡ copied old.kept (kept_from old.replica.hold old.replica.most old.replica.held ops)
+  pub kept : new.kept ≡ copies_of_kept old.kept (kept_from old.replica.hold old.replica.most old.replica.held ops)
   pub ready : IsReady new
 
 -- operations were read, and one of them found no place
 pub record FindsNoPlace (old : StreamTaking) (before after : SourceView) : Type 0 where
   pub ops : List Op
   pub one : OneTooMany old.replica ops
-  pub reached : IsReached old.reader before after one.front one.op
+  pub reached : IsReachedRun old.reader before after one.front one.op
 
 -- one step, by its answer: whether there were operations
 abbrev pub IntakeSteps : StreamTaking → StreamTaking → SourceView → SourceView → Result Bool Refusal → Type 0
@@ -88,17 +89,17 @@ IntakeSteps old new before after (Err NoMemory) = Unit {0}
 IntakeSteps old new before after (Err _) = ⊥
 
 -- the source, where it is told, comes to this end
-abbrev pub SourceComes : State → SourceView → List Op → IntakeCourse → Type 0
+abbrev pub SourceComes : State → SourceView → List Op → IntakeOutcome → Type 0
 SourceComes start old ops course = IfSome old.left (λ bytes. Comes Version2 start.hold start.most start.held STREAM_LIMIT bytes ops course)
 
 -- the source came to its end, and the replica took its operations in
-pub record TakesIn (start : State) (old new : SourceView) (replica : State) (counts : Tally) (kept kept_after : Option (List Op)) : Type 0 where
+pub record TakesInStream (start : State) (old new : SourceView) (replica : State) (counts : Tally) (kept kept_after : Option (List Op)) : Type 0 where
   pub ops : List Op
   pub came : SourceComes start old ops Whole
   pub read : IfSome new.left (λ bytes. bytes ≡ [])
   pub replica_is : replica ≡ record start { held = held_from start.hold start.most start.held ops }
   pub counts_are : counts ≡ tally_from start.hold start.most start.held ops no_counts
-  pub kept_are : kept_after ≡ copied kept (kept_from start.hold start.most start.held ops)
+  pub kept_are : kept_after ≡ copies_of_kept kept (kept_from start.hold start.most start.held ops)
 
 -- the cause of a refusal of the stream
 abbrev pub IntakeStopsFor : Refusal → State → SourceView → Type 0

@@ -1,6 +1,6 @@
 -- What `new` does at each of its ends.
 use Rattle.std.specs.Prelude.{◌≡◌, ◌≢◌, ◌⊎◌, ℕ, List, [], Some, IfSome, option_map}
-use Rattle.fugue_ids.specs.Causes.{Rose}
+use Rattle.fugue_ids.specs.Causes.{Faulted}
 use Rattle.fugue_ids.specs.Outs.{OutView}
 use Rattle.origin_model.specs.files.Image.{new_file}
 use Rattle.outer_ports.specs.disk.Disks.{DiskView}
@@ -9,8 +9,8 @@ use Rattle.outer_ports.specs.disk.States.{at_rest}
 use Rattle.command_kinds.specs.Crashes.{IsSafe, NeverTorn}
 use Rattle.command_kinds.specs.Files.{bytes_of}
 use Rattle.command_kinds.specs.Printing.{NotesBlameless}
-use Rattle.command_kinds.specs.Refusal.{refusal_line, Told}
-use Rattle.command_kinds.specs.Changes.{Change, DiskBlameless, DiskStaysCalm, HasDiskRoom, StaysCalm, notes_room}
+use Rattle.command_kinds.specs.Refusal.{refusal_line, Reported}
+use Rattle.command_kinds.specs.Changes.{Change, DiskBlameless, DiskCountsNoFault, HasDiskRoom, CountsNoFault, notes_room}
 use Rattle.command_kinds.specs.declared.refusal.Refusal.TheVariants as refusal
 use Rattle.command_kinds.specs.declared.status.Status.{Status}
 use Rattle.command_kinds.specs.declared.status.Status.TheVariants as status
@@ -27,14 +27,14 @@ pub record Created (replica hold : ℕ) (home : Change DiskView) (notes : Change
 pub record FoundNotEmpty (home : Change DiskView) (notes : Change OutView) : Type 0 where
   pub found : IfSome home.old.past (λ h. h.last.seen ≢ [])
   pub kept : home.new.past ≡ home.old.past
-  pub noted : Told notes.old notes.new (refusal_line refusal.NotEmpty)
+  pub noted : Reported notes.old notes.new (refusal_line refusal.NotEmpty)
 
 -- a call failed: nothing was written, or the range of the 14 bytes may hold anything
 pub record NotCreated (home : Change DiskView) (notes : Change OutView) : Type 0 where
   pub torn : MayHaveWritten 0 14 home.old.past home.new.past
-  pub rose : Rose home.old.faults home.new.faults
+  pub rose : Faulted home.old.faults home.new.faults
   pub no_room : HasDiskRoom 14 home.old → ⊥
-  pub noted : Told notes.old notes.new (refusal_line refusal.Outside)
+  pub noted : Reported notes.old notes.new (refusal_line refusal.Outside)
 
 -- what was done, for each way in which the command may end: it takes no memory
 abbrev pub NewMeets : (replica hold : ℕ) → Change DiskView → Change OutView → Status → Type 0
@@ -45,9 +45,9 @@ NewMeets replica hold home notes _ = ⊥
 
 -- the file's length decides the status, but for faults
 pub record NewIsDecided (home : Change DiskView) (end : Status) : Type 0 where
-  pub empty : bytes_of home.old.past ≡ Some [] → (end ≡ status.Done) ⊎ ((end ≡ status.OutsideFault) × Rose home.old.faults home.new.faults)
+  pub empty : bytes_of home.old.past ≡ Some [] → (end ≡ status.Done) ⊎ ((end ≡ status.OutsideFault) × Faulted home.old.faults home.new.faults)
   pub not_empty : (bytes : List ℕ) → bytes_of home.old.past ≡ Some bytes → bytes ≢ []
-      → (end ≡ status.BadFile) ⊎ ((end ≡ status.OutsideFault) × Rose home.old.faults home.new.faults)
+      → (end ≡ status.BadFile) ⊎ ((end ≡ status.OutsideFault) × Faulted home.old.faults home.new.faults)
 
 -- A file that had bytes is as it was, whatever the answer: no crash left of it what it could not leave at entry.
 pub record KeepsFilled (home : Change DiskView) : Type 0 where
@@ -61,8 +61,8 @@ pub record Creates (replica hold : ℕ) (home : Change DiskView) (notes : Change
   pub filled : KeepsFilled home
   pub crash : NeverTorn (λ gave. gave ≡ []) home end
   -- sure objects with room count no fault
-  pub home_calm : DiskStaysCalm 14 home
-  pub notes_calm : StaysCalm notes_room notes.old notes.new
+  pub home_calm : DiskCountsNoFault 14 home
+  pub notes_calm : CountsNoFault notes_room notes.old notes.new
   pub never_outside : HasDiskRoom 14 home.old → end ≢ status.OutsideFault
   pub home_blameless : DiskBlameless home end
   pub notes_blameless : NotesBlameless notes end

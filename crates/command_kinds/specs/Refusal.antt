@@ -1,6 +1,6 @@
 -- What a refusal answers, and the line that it writes to the notes.
 use Rattle.std.specs.Prelude.{◌≡◌, ◌⊎◌, ℕ, ◌≤◌, List, [], ◌∷◌, ◌++◌, length, take, drop, replicate, codes, decimal}
-use Rattle.fugue_ids.specs.Causes.{Rose}
+use Rattle.fugue_ids.specs.Causes.{Faulted}
 use Rattle.fugue_ids.specs.Outs.{OutTells, OutView, Took, TookFront}
 use Rattle.op_frame.specs.declared.fault.FrameFault.{FrameFault}
 use Rattle.op_frame.specs.declared.fault.FrameFault.TheVariants as frame_fault
@@ -18,7 +18,7 @@ use Rattle.replica_file.specs.declared.creating.CreateFault.{CreateFault}
 use Rattle.replica_file.specs.declared.creating.CreateFault.TheVariants as create_fault
 use Rattle.replica_file.specs.declared.load_file.LoadFault.{LoadFault}
 use Rattle.replica_file.specs.declared.load_file.LoadFault.TheVariants as load_fault
-use Rattle.command_kinds.specs.Changes.{HasRoom, StaysCalm, notes_room}
+use Rattle.command_kinds.specs.Changes.{HasRoom, CountsNoFault, notes_room}
 use Rattle.command_kinds.specs.declared.refusal.Detail.{Detail}
 use Rattle.command_kinds.specs.declared.refusal.Detail.TheVariants.{Nothing, Number, Times, Name}
 use Rattle.command_kinds.specs.declared.refusal.Refusal.{Refusal}
@@ -34,6 +34,7 @@ pub record Row : Type 0 where
   pub words : List ℕ
   pub detail : Detail
 
+-- a row of the table of refusals
 abbrev row : Status → List ℕ → Detail → Row
 row status words detail = record { status = status; words = words; detail = detail }
 
@@ -41,6 +42,7 @@ row status words detail = record { status = status; words = words; detail = deta
 abbrev pub name_bytes : VersionName → List ℕ
 name_bytes kept = take kept.length kept.bytes
 
+-- a version's name as it is kept: with zeros behind it, and its length
 abbrev pub kept_name : List ℕ → VersionName
 kept_name name = record { bytes = name ++ drop (length name) (replicate LONGEST_NAME 0); length = length name }
 
@@ -79,15 +81,19 @@ row_of (NoVersion name) = row status.BadInput (codes "no version ") (Name name)
 row_of Outside = row status.OutsideFault (codes "outside fault") Nothing
 row_of NoMemory = row status.NoMemory (codes "no memory") Nothing
 
+-- the status of a refusal
 abbrev pub status_of : Refusal → Status
 status_of refusal = (row_of refusal).status
 
+-- the words of a refusal
 abbrev pub words_of : Refusal → List ℕ
 words_of refusal = (row_of refusal).words
 
+-- what a refusal says behind its words
 abbrev pub detail_of : Refusal → Detail
 detail_of refusal = (row_of refusal).detail
 
+-- what a refusal says behind its words, as it is written
 abbrev pub detail_text : Detail → List ℕ
 detail_text Nothing = []
 detail_text (Number n) = decimal n
@@ -127,6 +133,7 @@ abbrev pub create_refusal : CreateFault → Refusal
 create_refusal create_fault.NotEmpty = NotEmpty
 create_refusal create_fault.DiskFault = Outside
 
+-- the refusal of a file that does not load
 abbrev pub load_refusal : LoadFault → Refusal
 load_refusal load_fault.NotReplica = NotReplica
 load_refusal (load_fault.BadBatch slot) = BadBatch slot
@@ -134,6 +141,7 @@ load_refusal load_fault.DiskFault = Outside
 load_refusal (load_fault.TooMany count) = TooMany count
 load_refusal load_fault.NoMemory = NoMemory
 
+-- the refusal of operations that were not appended
 abbrev pub append_refusal : AppendFault → Refusal
 append_refusal append_fault.BatchTooLong = BatchTooLong
 append_refusal append_fault.DiskFault = Outside
@@ -156,14 +164,14 @@ serve_refusal serve_fault.TooLong = TooLong
 serve_refusal serve_fault.NoMemory = NoMemory
 
 -- a line was written as far as the object took it: whole, unless its count of faults rose
-pub record Told (old new : OutView) (line : List ℕ) : Type 0 where
+pub record Reported (old new : OutView) (line : List ℕ) : Type 0 where
   pub later : old.faults ≤ new.faults
-  pub whole : (Rose old.faults new.faults → ⊥) → Took old new line
+  pub whole : (Faulted old.faults new.faults → ⊥) → Took old new line
   pub front : TookFront old new line
   pub sure : HasRoom (length line) old → (new.faults ≡ old.faults) × Took old new line
-  pub calm : StaysCalm notes_room old new
+  pub calm : CountsNoFault notes_room old new
   -- an object that tells counts a fault only where the line is not whole
-  pub exact : OutTells old → (new.faults ≡ old.faults) ⊎ Rose old.faults new.faults
+  pub exact : OutTells old → (new.faults ≡ old.faults) ⊎ Faulted old.faults new.faults
 
 -- a front of one line went out, behind it a front of another, and nothing else
 pub record TookFronts (old new : OutView) (first second : List ℕ) : Type 0 where

@@ -1,22 +1,22 @@
 -- The commands that report: each writes a text of what a file's replica holds to the output.
 use Rattle.std.specs.Prelude.{◌≡◌, ◌≢◌, ◌⊎◌, ℕ, List, [], ◌++◌, length}
-use Rattle.fugue_ids.specs.Causes.{Rose}
+use Rattle.fugue_ids.specs.Causes.{Faulted}
 use Rattle.fugue_ids.specs.Outs.{OutView}
 use Rattle.origin_model.specs.frames.Framings.{frames}
 use Rattle.origin_model.specs.operations.History.{accepted}
 use Rattle.origin_model.specs.order.Printed.{manuscript}
 use Rattle.outer_ports.specs.disk.Disks.{DiskView}
-use Rattle.outer_ports.specs.disk.Moments.{after}
+use Rattle.outer_ports.specs.disk.Moments.{after_moment}
 use Rattle.outer_ports.specs.disk.States.{durable}
 use Rattle.origin_model.specs.edits.State.{State as Replica}
 use Rattle.replica_file.specs.declared.load_file.End.{End}
 use Rattle.command_kinds.specs.Crashes.{NeverTorn}
-use Rattle.command_kinds.specs.Files.{FileHolds, FileRefuses, KeepsFile}
+use Rattle.command_kinds.specs.Files.{FileHolds, FileRefuses, KeepsFile, LoadFailed}
 use Rattle.command_kinds.specs.Findings.{Finding, Refuses, Does, IsDecided}
-use Rattle.command_kinds.specs.Printing.{NotesBlameless}
+use Rattle.command_kinds.specs.Printing.{NotesBlameless, TextFailed}
 use Rattle.command_kinds.specs.Refusal.{status_of}
-use Rattle.command_kinds.specs.TextOut.{TextFailed, WroteNothing, WroteText}
-use Rattle.command_kinds.specs.Changes.{Change, DiskBlameless, DiskStaysCalm, HasDiskRoom, HasRoom, IsTold, OutBlameless, StaysCalm, notes_room}
+use Rattle.command_kinds.specs.TextOut.{WroteNothing, WroteText}
+use Rattle.command_kinds.specs.Changes.{Change, DiskBlameless, DiskCountsNoFault, HasDiskRoom, HasRoom, IsSpecified, OutBlameless, CountsNoFault, notes_room}
 use Rattle.command_kinds.specs.declared.refusal.Refusal.{Refusal}
 use Rattle.command_kinds.specs.declared.refusal.Refusal.TheVariants as refusal
 use Rattle.command_kinds.specs.declared.status.Status.{Status}
@@ -40,6 +40,7 @@ abbrev pub bytes_found : Finding (List ℕ) → List ℕ
 bytes_found (Refuses why) = []
 bytes_found (Does bytes) = bytes
 
+-- the status of a report
 abbrev pub status_found : Finding (List ℕ) → Status
 status_found (Refuses why) = status_of why
 status_found (Does bytes) = status.Done
@@ -48,21 +49,20 @@ status_found (Does bytes) = status.Done
 pub record WroteHeld (tells : Telling) (file : Change DiskView) (Wrote : List ℕ → Type 0) : Type 0 where
   pub bytes : List ℕ
   pub found : TextFound tells file.old (Does bytes)
-  pub synced : file.new.past ≡ after durable file.old.past
+  pub synced : file.new.past ≡ after_moment durable file.old.past
   pub came : Wrote bytes
 
 -- the file was refused, or what it holds: then it was loaded, which settles it
 pub record FileRefused (tells : Telling) (file : Change DiskView) (output notes : Change OutView) (end : Status) : Type 0 where
   pub why : Refusal
   pub found : TextFound tells file.old (Refuses why)
-  pub synced : FileRefuses file.old why ⊎ (file.new.past ≡ after durable file.old.past)
+  pub synced : FileRefuses file.old why ⊎ (file.new.past ≡ after_moment durable file.old.past)
   pub end_is : end ≡ status_of why
   pub nothing : WroteNothing output notes why
 
 -- the file was not read
 pub record FileFailed (file : Change DiskView) (output notes : Change OutView) : Type 0 where
-  pub rose : Rose file.old.faults file.new.faults
-  pub no_room : HasDiskRoom 1 file.old → ⊥
+  pub failed : LoadFailed file
   pub nothing : WroteNothing output notes refusal.Outside
 
 -- what was done, for each way in which the command may end
@@ -77,26 +77,26 @@ ReportMeets tells file output notes status.Usage = ⊥
 ReportMeets tells file output notes status.Partial = ⊥
 
 -- sure objects with room count no fault, however the command ends
-pub record ReportStaysCalm (tells : Telling) (file : Change DiskView) (output notes : Change OutView) : Type 0 where
-  pub file_calm : DiskStaysCalm 1 file
-  pub output_calm : IsTold file.old → (found : Finding (List ℕ)) → TextFound tells file.old found → StaysCalm (length (bytes_found found)) output.old output.new
-  pub notes_calm : StaysCalm notes_room notes.old notes.new
+pub record ReportCountsNoFault (tells : Telling) (file : Change DiskView) (output notes : Change OutView) : Type 0 where
+  pub file_calm : DiskCountsNoFault 1 file
+  pub output_calm : IsSpecified file.old → (found : Finding (List ℕ)) → TextFound tells file.old found → CountsNoFault (length (bytes_found found)) output.old output.new
+  pub notes_calm : CountsNoFault notes_room notes.old notes.new
 
 -- and where all are sure and have room, no outside fault comes
 abbrev pub ReportNeverOutside : (tells : Telling) → Change DiskView → (output notes : Change OutView) → Status → Type 0
 ReportNeverOutside tells file output notes end =
-    IsTold file.old → (found : Finding (List ℕ)) → TextFound tells file.old found → HasDiskRoom 1 file.old → HasRoom (length (bytes_found found)) output.old
+    IsSpecified file.old → (found : Finding (List ℕ)) → TextFound tells file.old found → HasDiskRoom 1 file.old → HasRoom (length (bytes_found found)) output.old
     → end ≢ status.OutsideFault
 
 -- A call that failed. One on the output counts only where there is a text to write.
 abbrev pub SomeFails : (file : Change DiskView) (output : Change OutView) → Finding (List ℕ) → Type 0
-SomeFails file output (Refuses why) = Rose file.old.faults file.new.faults
-SomeFails file output (Does bytes) = Rose file.old.faults file.new.faults ⊎ Rose output.old.faults output.new.faults
+SomeFails file output (Refuses why) = Faulted file.old.faults file.new.faults
+SomeFails file output (Does bytes) = Faulted file.old.faults file.new.faults ⊎ Faulted output.old.faults output.new.faults
 
 -- the file decides the status, but for want of memory and faults
 abbrev pub FileDecides : (tells : Telling) → Change DiskView → (output : Change OutView) → Status → Type 0
 FileDecides tells file output end =
-    IsTold file.old → (found : Finding (List ℕ)) → TextFound tells file.old found
+    IsSpecified file.old → (found : Finding (List ℕ)) → TextFound tells file.old found
     → IsDecided (status_found found) (SomeFails file output found) end
 
 -- a command that reports
@@ -104,7 +104,7 @@ pub record Reports (tells : Telling) (file : Change DiskView) (output notes : Ch
   pub meets : ReportMeets tells file output notes end
   pub keeps : KeepsFile file
   pub crash : NeverTorn (λ gave. gave ≡ []) file end
-  pub calm : ReportStaysCalm tells file output notes
+  pub calm : ReportCountsNoFault tells file output notes
   pub never_outside : ReportNeverOutside tells file output notes end
   pub decides : FileDecides tells file output end
   pub file_blameless : DiskBlameless file end
@@ -115,6 +115,7 @@ pub record Reports (tells : Telling) (file : Change DiskView) (output notes : Ch
 abbrev pub printed_of : Replica → List ℕ
 printed_of replica = manuscript replica.held.history
 
+-- `print` reports the manuscript
 abbrev pub print_tells : Telling
 print_tells replica found = found ≡ Does (printed_of replica)
 
@@ -122,5 +123,6 @@ print_tells replica found = found ≡ Does (printed_of replica)
 abbrev pub frames_held : Replica → List ℕ
 frames_held replica = frames (accepted replica.held.history) ++ frames replica.held.waiting
 
+-- `send` reports frames of all that the replica holds
 abbrev pub send_tells : Telling
 send_tells replica found = found ≡ Does (frames_held replica)

@@ -1,24 +1,25 @@
 -- The commands that load a file, take something in, and save what came of it in one batch.
 use Rattle.std.specs.Prelude.{◌≡◌, ◌≢◌, ◌⊎◌, ℕ, ◌+◌, List, [], ◌∷◌, length, true, Result, Ok, Err, IfSome}
-use Rattle.fugue_ids.specs.Causes.{Rose}
+use Rattle.fugue_ids.specs.Causes.{Faulted}
 use Rattle.fugue_ids.specs.Outs.{OutView, Took}
 use Rattle.fugue_ids.specs.declared.op.Op.{Op}
 use Rattle.origin_model.specs.frames.Framings.{frames}
-use Rattle.origin_model.specs.taking.Taking.{HasPlace, Held, held_from}
+use Rattle.origin_model.specs.taking.Taking.{MeetsNoLimit, Held, held_from}
 use Rattle.outer_ports.specs.Sources.{SourceView}
 use Rattle.outer_ports.specs.disk.Disks.{DiskView}
-use Rattle.outer_ports.specs.disk.Moments.{after}
+use Rattle.outer_ports.specs.disk.Moments.{after_moment}
 use Rattle.outer_ports.specs.disk.States.{durable}
 use Rattle.origin_model.specs.edits.State.{State as Replica}
-use Rattle.replica_file.specs.Append.{IsTooLong, behind_gate}
+use Rattle.replica_file.specs.Append.{AppendMeets, IsTooLong, behind_gate}
 use Rattle.replica_file.specs.Gates.{gate_opened}
+use Rattle.replica_file.specs.declared.appending.AppendFault.TheVariants as append_fault
 use Rattle.replica_file.specs.declared.load_file.End.{End}
 use Rattle.command_kinds.specs.Crashes.{IsFinished, NeverTorn}
-use Rattle.command_kinds.specs.Files.{AppendFailed, FileHolds, FileRefuses, GainsAllOrNone, IsAppended, IsSaved, KeepsFile, LoadFailed}
+use Rattle.command_kinds.specs.Files.{FileHolds, FileRefuses, GainsAllOrNone, AreSavedOps, KeepsFile, LoadFailed}
 use Rattle.command_kinds.specs.Findings.{Finding, Refuses, Does, IsDecided}
-use Rattle.command_kinds.specs.Printing.{NotesBlameless}
-use Rattle.command_kinds.specs.Refusal.{refusal_line, status_of, Told, TookFronts}
-use Rattle.command_kinds.specs.Changes.{Change, DiskBlameless, DiskStaysCalm, HasDiskRoom, HasRoom, IsTold, SourceBlameless, StaysCalm, change, notes_room}
+use Rattle.command_kinds.specs.Printing.{NotNoted, NotesBlameless}
+use Rattle.command_kinds.specs.Refusal.{refusal_line, status_of, Reported}
+use Rattle.command_kinds.specs.Changes.{Change, DiskBlameless, DiskCountsNoFault, HasDiskRoom, HasRoom, IsSpecified, SourceBlameless, CountsNoFault, change, notes_room}
 use Rattle.command_kinds.specs.declared.refusal.Refusal.{Refusal}
 use Rattle.command_kinds.specs.declared.refusal.Refusal.TheVariants as refusal
 use Rattle.command_kinds.specs.declared.status.Status.{Status}
@@ -59,6 +60,7 @@ SavingFound giver file (Refuses why) =
 SavingFound giver file (Does outcome) =
     (replica : Replica) × (end : End) × FileHolds file replica end × giver.Gives replica (Does outcome) × (IsTooLong end outcome.saved → ⊥)
 
+-- the status of what a command found
 abbrev pub outcome_status : Finding Outcome → Status
 outcome_status (Refuses why) = status_of why
 outcome_status (Does outcome) = outcome.status
@@ -68,6 +70,7 @@ abbrev pub room_to_save : List Op → ℕ
 room_to_save [] = 1
 room_to_save (op ∷ ops) = length (frames (op ∷ ops)) + 6
 
+-- the room, in bytes and calls, that a file needs for what a command found to save
 abbrev pub room_needed : Finding Outcome → ℕ
 room_needed (Refuses why) = 1
 room_needed (Does outcome) = room_to_save outcome.saved
@@ -79,12 +82,12 @@ pub record IsDone (giver : Giver) (file : Change DiskView) (outcome : Outcome) :
   pub holds : FileHolds file.old replica end
   pub gives : giver.Gives replica (Does outcome)
   pub fits : IsTooLong end outcome.saved → ⊥
-  pub saves : IfSome file.old.past (λ h. IsSaved outcome.saved h file.new.past)
+  pub saves : IfSome file.old.past (λ h. AreSavedOps outcome.saved h file.new.past)
   -- the file was settled, and then one batch was appended where its meaning ends, or none
-  pub none : outcome.saved ≡ [] → file.new.past ≡ after durable file.old.past
-  pub batch : outcome.saved ≢ [] → file.new.past ≡ gate_opened end.at (behind_gate outcome.saved) (after durable file.old.past)
+  pub none : outcome.saved ≡ [] → file.new.past ≡ after_moment durable file.old.past
+  pub batch : outcome.saved ≢ [] → file.new.past ≡ gate_opened end.at (behind_gate outcome.saved) (after_moment durable file.old.past)
   pub later : (last : End) × FileHolds file.new (record replica { held = outcome.held }) last
-  pub calm : DiskStaysCalm (room_to_save outcome.saved) file
+  pub calm : DiskCountsNoFault (room_to_save outcome.saved) file
 
 -- a call on the file failed while it gained the operations: it has all of them or none
 pub record SaveFailed (giver : Giver) (file : Change DiskView) : Type 0 where
@@ -95,7 +98,7 @@ pub record SaveFailed (giver : Giver) (file : Change DiskView) : Type 0 where
   pub gives : giver.Gives replica (Does outcome)
   pub fits : IsTooLong end outcome.saved → ⊥
   pub moments : IfSome file.old.past (λ h. GainsAllOrNone outcome.saved h file.new.past)
-  pub rose : Rose file.old.faults file.new.faults
+  pub rose : Faulted file.old.faults file.new.faults
   pub no_room : HasDiskRoom (room_to_save outcome.saved) file.old → ⊥
 
 -- a call on the giver failed, behind the loading of the file, which settles it
@@ -103,7 +106,7 @@ pub record GivingFailed (giver : Giver) (file : Change DiskView) : Type 0 where
   pub replica : Replica
   pub end : End
   pub holds : FileHolds file.old replica end
-  pub synced : file.new.past ≡ after durable file.old.past
+  pub synced : file.new.past ≡ after_moment durable file.old.past
   pub failed : giver.Failed
   pub not_sure : giver.Sure → ⊥
   pub keeps : KeepsFile file
@@ -114,7 +117,7 @@ StopsSaving giver file refusal.Outside = LoadFailed file ⊎ GivingFailed giver 
 StopsSaving giver file refusal.NoMemory = KeepsFile file
 StopsSaving giver file refusal.Words = ⊥
 StopsSaving giver file why =
-    SavingFound giver file.old (Refuses why) × KeepsFile file × (FileRefuses file.old why ⊎ (file.new.past ≡ after durable file.old.past))
+    SavingFound giver file.old (Refuses why) × KeepsFile file × (FileRefuses file.old why ⊎ (file.new.past ≡ after_moment durable file.old.past))
 
 -- the outcome, or why it did not come
 abbrev pub ComesToSave : Giver → Change DiskView → Result Outcome Refusal → Type 0
@@ -124,13 +127,15 @@ ComesToSave giver file (Err why) = StopsSaving giver file why
 -- a replica that takes in the outcome's operations too comes to its state
 pub record Suffices (replica : Replica) (outcome : Outcome) : Type 0 where
   pub same_state : held_from replica.hold replica.most replica.held outcome.saved ≡ outcome.held
-  pub place : HasPlace replica.hold replica.most replica.held outcome.saved
+  pub place : MeetsNoLimit replica.hold replica.most replica.held outcome.saved
 
 -- what was given to a file that is loaded: the outcome, whose operations were appended, or why it stopped
 abbrev pub GivenMeets : Giver → Replica → End → Change DiskView → Result Outcome Refusal → Type 0
-GivenMeets giver replica end file (Ok outcome) = giver.Gives replica (Does outcome) × Suffices replica outcome × IsAppended end outcome.saved file
+GivenMeets giver replica end file (Ok outcome) =
+    giver.Gives replica (Does outcome) × Suffices replica outcome × ((last : End) × AppendMeets end outcome.saved file.old file.new (Ok last))
 GivenMeets giver replica end file (Err refusal.Outside) =
-    (giver.Failed × (giver.Sure → ⊥) × (file.new ≡ file.old)) ⊎ ((outcome : Outcome) × giver.Gives replica (Does outcome) × AppendFailed end outcome.saved file)
+    (giver.Failed × (giver.Sure → ⊥) × (file.new ≡ file.old))
+    ⊎ ((outcome : Outcome) × giver.Gives replica (Does outcome) × AppendMeets end outcome.saved file.old file.new (Err append_fault.DiskFault))
 GivenMeets giver replica end file (Err refusal.NoMemory) = file.new ≡ file.old
 GivenMeets giver replica end file (Err refusal.Words) = ⊥
 GivenMeets giver replica end file (Err why) =
@@ -139,79 +144,74 @@ GivenMeets giver replica end file (Err why) =
     × (file.new ≡ file.old)
 
 -- all was done and noted
-pub record Finished (giver : Giver) (file : Change DiskView) (notes : Change OutView) (end : Status) : Type 0 where
+pub record FinishedSaving (giver : Giver) (file : Change DiskView) (notes : Change OutView) (end : Status) : Type 0 where
   pub outcome : Outcome
   pub done : IsDone giver file outcome
   pub noted : Took notes.old notes.new outcome.line
   pub end_is : end ≡ outcome.status
 
--- all was saved, and the notes failed: they hold a front of the line, and then one of the fault's
-pub record NotesFailed (giver : Giver) (file : Change DiskView) (notes : Change OutView) : Type 0 where
+-- all was saved, and the notes failed
+pub record NotesFailedSaving (giver : Giver) (file : Change DiskView) (notes : Change OutView) : Type 0 where
   pub outcome : Outcome
   pub done : IsDone giver file outcome
-  pub noted : TookFronts notes.old notes.new outcome.line (refusal_line refusal.Outside)
-  pub rose : Rose notes.old.faults notes.new.faults
-  pub no_room : HasRoom notes_room notes.old → ⊥
+  pub failed : NotNoted outcome.line notes.old notes.new
 
 -- it stopped, and the notes got the refusal's line
 pub record Stopped (giver : Giver) (file : Change DiskView) (notes : Change OutView) (end : Status) : Type 0 where
   pub why : Refusal
   pub stops : StopsSaving giver file why
-  pub noted : Told notes.old notes.new (refusal_line why)
+  pub noted : Reported notes.old notes.new (refusal_line why)
   pub end_is : end ≡ status_of why
 
 -- what was done, for each way in which the command may end
 abbrev pub SavingMeets : Giver → Change DiskView → Change OutView → Status → Type 0
-SavingMeets giver file notes status.Done = Finished giver file notes status.Done
-SavingMeets giver file notes status.Partial = Finished giver file notes status.Partial
+SavingMeets giver file notes status.Done = FinishedSaving giver file notes status.Done
+SavingMeets giver file notes status.Partial = FinishedSaving giver file notes status.Partial
 SavingMeets giver file notes status.Usage = ⊥
-SavingMeets giver file notes status.OutsideFault = Stopped giver file notes status.OutsideFault ⊎ NotesFailed giver file notes
+SavingMeets giver file notes status.OutsideFault = Stopped giver file notes status.OutsideFault ⊎ NotesFailedSaving giver file notes
 SavingMeets giver file notes end = Stopped giver file notes end
 
 -- sure objects with room count no fault, however the command ends
-pub record SavingStaysCalm (giver : Giver) (file : Change DiskView) (notes : Change OutView) : Type 0 where
-  pub file_calm : IsTold file.old → giver.Told → (found : Finding Outcome) → SavingFound giver file.old found → DiskStaysCalm (room_needed found) file
-  pub notes_calm : StaysCalm notes_room notes.old notes.new
+pub record SavingCountsNoFault (giver : Giver) (file : Change DiskView) (notes : Change OutView) : Type 0 where
+  pub file_calm : IsSpecified file.old → giver.Told → (found : Finding Outcome) → SavingFound giver file.old found → DiskCountsNoFault (room_needed found) file
+  pub notes_calm : CountsNoFault notes_room notes.old notes.new
 
 -- and where all are sure and have room, no outside fault comes
 abbrev pub SavingNeverOutside : Giver → Change DiskView → Change OutView → Status → Type 0
 SavingNeverOutside giver file notes end =
-    IsTold file.old → giver.Told → (found : Finding Outcome) → SavingFound giver file.old found
+    IsSpecified file.old → giver.Told → (found : Finding Outcome) → SavingFound giver file.old found
     → giver.Sure → HasDiskRoom (room_needed found) file.old → HasRoom notes_room notes.old → end ≢ status.OutsideFault
 
 -- A call that failed. One on the notes counts only where all was done: a refusal that is not noted keeps its status.
 abbrev pub SomeFails : Giver → Change DiskView → Change OutView → Finding Outcome → Type 0
-SomeFails giver file notes (Refuses why) = Rose file.old.faults file.new.faults ⊎ giver.Failed
-SomeFails giver file notes (Does outcome) = Rose file.old.faults file.new.faults ⊎ giver.Failed ⊎ Rose notes.old.faults notes.new.faults
+SomeFails giver file notes (Refuses why) = Faulted file.old.faults file.new.faults ⊎ giver.Failed
+SomeFails giver file notes (Does outcome) = Faulted file.old.faults file.new.faults ⊎ giver.Failed ⊎ Faulted notes.old.faults notes.new.faults
 
 -- the file and the giver decide the status, but for want of memory and faults
 abbrev pub SavingIsDecided : Giver → Change DiskView → Change OutView → Status → Type 0
 SavingIsDecided giver file notes end =
-    IsTold file.old → giver.Told → (found : Finding Outcome) → SavingFound giver file.old found
+    IsSpecified file.old → giver.Told → (found : Finding Outcome) → SavingFound giver file.old found
     → IsDecided (outcome_status found) (SomeFails giver file notes found) end
 
 -- a file that is the cause of a refusal decides it alone, whatever the giver does, which comes behind it
 abbrev pub FileIsRefused : Change DiskView → Status → Type 0
 FileIsRefused file end =
-    IsTold file.old → (why : Refusal) → FileRefuses file.old why → IsDecided (status_of why) (Rose file.old.faults file.new.faults) end
+    IsSpecified file.old → (why : Refusal) → FileRefuses file.old why → IsDecided (status_of why) (Faulted file.old.faults file.new.faults) end
 
 -- what a command gave to be saved: the outcome's operations, or nothing where it did not do all
-abbrev pub Gave : Giver → DiskView → Status → List Op → Type 0
-Gave giver file end ops =
+abbrev pub GaveOutcome : Giver → DiskView → Status → List Op → Type 0
+GaveOutcome giver file end ops =
     ((IsFinished end → ⊥) × (ops ≡ []))
     ⊎ ((replica : Replica) × (end : End) × FileHolds file replica end × (outcome : Outcome) × giver.Gives replica (Does outcome) × (ops ≡ outcome.saved))
 
 -- a command that loads a file and saves what it was given
 pub record SavesGiven (giver : Giver) (file : Change DiskView) (notes : Change OutView) (end : Status) : Type 0 where
   pub meets : SavingMeets giver file notes end
-  pub crash : NeverTorn (Gave giver file.old end) file end
-  pub calm : SavingStaysCalm giver file notes
+  pub crash : NeverTorn (GaveOutcome giver file.old end) file end
+  pub calm : SavingCountsNoFault giver file notes
   pub never_outside : SavingNeverOutside giver file notes end
   pub decided : SavingIsDecided giver file notes end
   pub refused : FileIsRefused file end
-
--- the file and the notes count no fault that is not told, where they tell
-pub record SavingBlameless (file : Change DiskView) (notes : Change OutView) (end : Status) : Type 0 where
   pub file_blameless : DiskBlameless file end
   pub notes_blameless : NotesBlameless notes end
 

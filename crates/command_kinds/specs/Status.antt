@@ -3,6 +3,7 @@ use Rattle.std.specs.Prelude.{ℕ}
 use Rattle.command_kinds.specs.declared.status.Status.{Status}
 use Rattle.command_kinds.specs.declared.status.Status.TheVariants.{Done, Usage, BadInput, Partial, OutsideFault, NoMemory, BadFile, Limit}
 
+-- the exit code of a status
 abbrev pub exit_code : Status → ℕ
 exit_code Done = 0
 exit_code Usage = 1

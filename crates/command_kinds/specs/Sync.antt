@@ -1,6 +1,6 @@
 -- The command `sync`: a file's replica tells a relay all that it holds, takes in what the relay answers, and saves what was kept.
 use Rattle.std.specs.Prelude.{◌≡◌, ◌⊎◌, ℕ, List, length, Some, IfSome}
-use Rattle.fugue_ids.specs.Causes.{Rose}
+use Rattle.fugue_ids.specs.Causes.{Faulted}
 use Rattle.fugue_ids.specs.Outs.{Took, TookFront}
 use Rattle.fugue_ids.specs.declared.op.Op.{Op}
 use Rattle.origin_model.specs.taking.Taking.{Held}
@@ -8,7 +8,7 @@ use Rattle.outer_ports.specs.disk.Disks.{DiskView}
 use Rattle.outer_ports.specs.wire.Wires.{DialsOnce, WireView, out_of}
 use Rattle.relay_sync.specs.Outcomes.{Bad, Cut, Ended, Refused, ReplyComes, ReplyEnd, TooLong, TooMany}
 use Rattle.relay_sync.specs.Saying.{SaysToNoOther, request_for}
-use Rattle.relay_sync.specs.Syncing.{Fits, HearsNoFurther}
+use Rattle.relay_sync.specs.Syncing.{FitsReply, HearsNoFurther}
 use Rattle.origin_model.specs.edits.State.{State as Replica}
 use Rattle.replica_file.specs.declared.load_file.End.{End}
 use Rattle.command_kinds.specs.Crashes.{IsFinished}
@@ -44,8 +44,8 @@ abbrev pub reply : (cursor : ℕ) → DiskView → Change WireView → Giver
 reply cursor home wire = record {
   Gives = ReplyGives wire.old;
   Told = (bytes : List ℕ) × (wire.old.left ≡ Some bytes);
-  Failed = Rose wire.old.faults wire.new.faults;
-  Sure = (replica : Replica) (end : End) → FileHolds home replica end → Fits (length (request_for cursor replica.held)) wire.old;
+  Failed = Faulted wire.old.faults wire.new.faults;
+  Sure = (replica : Replica) (end : End) → FileHolds home replica end → FitsReply (length (request_for cursor replica.held)) wire.old;
 }
 
 -- A front of what is held was said, to nobody but the port, which was dialled once and before the first byte was said; all
@@ -57,7 +57,7 @@ pub record Speaks (port cursor : ℕ) (held : Held) (wire : Change WireView) (do
   pub whole : done → Took (out_of wire.old) (out_of wire.new) (request_for cursor held)
   pub dialled : done → DialsOnce wire.old wire.new port
   pub heard : done → HearsNoFurther wire.old.left wire.new.left
-  pub calm : Fits (length (request_for cursor held)) wire.old → wire.new.faults ≡ wire.old.faults
+  pub calm : FitsReply (length (request_for cursor held)) wire.old → wire.new.faults ≡ wire.old.faults
 
 -- the replica of the file spoke, or nothing was said at all
 abbrev pub SpeaksFor : (port cursor : ℕ) → DiskView → Change WireView → (done : Type 0) → Type 0

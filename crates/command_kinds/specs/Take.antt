@@ -1,9 +1,9 @@
 -- The commands that take operations into a file: `take` those of the input, and `merge` those of another file.
 use Rattle.std.specs.Prelude.{◌≡◌, ◌⊎◌, ℕ, List, ◌++◌, length, true, Option, Some, None}
-use Rattle.fugue_ids.specs.Causes.{Rose}
+use Rattle.fugue_ids.specs.Causes.{Faulted}
 use Rattle.fugue_ids.specs.declared.op.Op.{Op}
 use Rattle.origin_model.specs.operations.History.{accepted}
-use Rattle.origin_model.specs.taking.Taking.{HasPlace, Held, held_from, kept_from, no_counts, tally_from}
+use Rattle.origin_model.specs.taking.Taking.{MeetsNoLimit, Held, held_from, kept_from, no_counts, tally_from}
 use Rattle.origin_model.specs.declared.taking.Tally.{Tally}
 use Rattle.op_frame.specs.Courses.{Whole, CutShort, BadFrame, TooLong, TooMany}
 use Rattle.outer_ports.specs.Sources.{SourceView}
@@ -15,7 +15,7 @@ use Rattle.command_kinds.specs.Files.{FileHolds, FileRefuses}
 use Rattle.command_kinds.specs.Findings.{Finding, Refuses, Does}
 use Rattle.command_kinds.specs.Intake.{SourceComes}
 use Rattle.command_kinds.specs.Saving.{Giver, Outcome}
-use Rattle.command_kinds.specs.Changes.{Change, HasDiskRoom, IsTold}
+use Rattle.command_kinds.specs.Changes.{Change, HasDiskRoom, IsSpecified}
 use Rattle.command_kinds.specs.declared.refusal.Refusal.{Refusal}
 use Rattle.command_kinds.specs.declared.refusal.Refusal.TheVariants as refusal
 
@@ -23,6 +23,7 @@ use Rattle.command_kinds.specs.declared.refusal.Refusal.TheVariants as refusal
 abbrev pub counts_in : Replica → List Op → Tally
 counts_in replica ops = tally_from replica.hold replica.most replica.held ops no_counts
 
+-- how many operations wait in the replica after these were taken in
 abbrev pub waiting_in : Replica → List Op → ℕ
 waiting_in replica ops = length (held_from replica.hold replica.most replica.held ops).waiting
 
@@ -35,6 +36,7 @@ noted_in replica ops cursor = record {
   status = status_by (counts_in replica ops) (waiting_in replica ops);
 }
 
+-- the outcome of taking operations in that came from no relay
 abbrev pub taken_in : Replica → List Op → Outcome
 taken_in replica ops = noted_in replica ops None
 
@@ -51,26 +53,27 @@ abbrev pub StreamGives : SourceView → Replica → Finding Outcome → Type 0
 StreamGives input replica (Refuses why) = StreamRefuses replica input why
 StreamGives input replica (Does outcome) = (ops : List Op) × SourceComes replica input ops Whole × (outcome ≡ taken_in replica ops)
 
+-- a stream that is read from a source, as what gives the operations
 abbrev pub stream : Change SourceView → Giver
 stream input = record {
   Gives = StreamGives input.old;
   Told = (bytes : List ℕ) × (input.old.left ≡ Some bytes);
-  Failed = Rose input.old.faults input.new.faults;
+  Failed = Faulted input.old.faults input.new.faults;
   Sure = input.old.sure ≡ true;
 }
 
 -- all that a replica holds: the accepted operations in order, and then the waiting ones
-abbrev pub ops_of : Held → List Op
-ops_of held = accepted held.history ++ held.waiting
+abbrev pub all_held_ops : Held → List Op
+all_held_ops held = accepted held.history ++ held.waiting
 
 -- one of the operations is one too many
 abbrev pub IsOneTooMany : Replica → List Op → Type 0
-IsOneTooMany replica ops = HasPlace replica.hold replica.most replica.held ops → ⊥
+IsOneTooMany replica ops = MeetsNoLimit replica.hold replica.most replica.held ops → ⊥
 
 -- what another replica gives: all that it holds is taken in, or one of it is one too many
 abbrev pub ReplicaGives : (other : Replica) → Replica → Finding Outcome → Type 0
-ReplicaGives other replica (Refuses why) = (why ≡ refusal.TooMany replica.most) × IsOneTooMany replica (ops_of other.held)
-ReplicaGives other replica (Does outcome) = HasPlace replica.hold replica.most replica.held (ops_of other.held) × (outcome ≡ taken_in replica (ops_of other.held))
+ReplicaGives other replica (Refuses why) = (why ≡ refusal.TooMany replica.most) × IsOneTooMany replica (all_held_ops other.held)
+ReplicaGives other replica (Does outcome) = MeetsNoLimit replica.hold replica.most replica.held (all_held_ops other.held) × (outcome ≡ taken_in replica (all_held_ops other.held))
 
 -- the file holds a replica that gives this
 abbrev pub HolderGives : DiskView → Replica → Finding Outcome → Type 0
@@ -85,10 +88,11 @@ FileGives guest replica (Does outcome) = HolderGives guest replica (Does outcome
 abbrev pub all_held_by : (other : Replica) → Giver
 all_held_by other = record { Gives = ReplicaGives other; Told = Unit {0}; Failed = ⊥; Sure = Unit {0} }
 
+-- another manuscript's file, as what gives the operations
 abbrev pub other_file : Change DiskView → Giver
 other_file guest = record {
   Gives = FileGives guest.old;
-  Told = IsTold guest.old;
-  Failed = Rose guest.old.faults guest.new.faults;
+  Told = IsSpecified guest.old;
+  Failed = Faulted guest.old.faults guest.new.faults;
   Sure = HasDiskRoom 1 guest.old;
 }

@@ -1,21 +1,14 @@
 -- A text that goes to the output: what came of it, and how a command ends that writes no more than that.
 use Rattle.std.specs.Prelude.{◌≡◌, ◌≢◌, ◌⊎◌, ℕ, List, length, Result, Ok, Err}
-use Rattle.fugue_ids.specs.Causes.{Rose}
-use Rattle.fugue_ids.specs.Outs.{OutTells, OutView, Took, TookFront}
+use Rattle.fugue_ids.specs.Outs.{OutTells, OutView, Took}
 use Rattle.command_kinds.specs.Findings.{Finding, Refuses, Does}
-use Rattle.command_kinds.specs.Printing.{NotesBlameless}
-use Rattle.command_kinds.specs.Refusal.{refusal_line, status_of, Told}
-use Rattle.command_kinds.specs.Changes.{Change, HasRoom, OutBlameless, StaysCalm, notes_room}
+use Rattle.command_kinds.specs.Printing.{NotesBlameless, TextFailed, WroteFront}
+use Rattle.command_kinds.specs.Refusal.{refusal_line, status_of, Reported}
+use Rattle.command_kinds.specs.Changes.{Change, OutBlameless, CountsNoFault, notes_room}
 use Rattle.command_kinds.specs.declared.refusal.Refusal.{Refusal}
 use Rattle.command_kinds.specs.declared.refusal.Refusal.TheVariants as refusal
 use Rattle.command_kinds.specs.declared.status.Status.{Status}
 use Rattle.command_kinds.specs.declared.status.Status.TheVariants as status
-
--- the output failed: a front of the text went out
-pub record WroteFront (bytes : List ℕ) (output : Change OutView) : Type 0 where
-  pub wrote : TookFront output.old output.new bytes
-  pub rose : Rose output.old.faults output.new.faults
-  pub no_room : HasRoom (length bytes) output.old → ⊥
 
 -- what came of a text: it went out, or the output failed, or memory was wanting, and nothing went out
 abbrev pub TextComes : (bytes : List ℕ) → Change OutView → Result (Unit {0}) Refusal → Type 0
@@ -27,7 +20,7 @@ TextComes bytes output (Err _) = ⊥
 -- the call that writes a text: a sure output that has room for it counts no fault, and one that tells none but where it failed
 pub record GoesOut (bytes : List ℕ) (output : Change OutView) (result : Result (Unit {0}) Refusal) : Type 0 where
   pub comes : TextComes bytes output result
-  pub calm : StaysCalm (length bytes) output.old output.new
+  pub calm : CountsNoFault (length bytes) output.old output.new
   pub told : OutTells output.old → result ≢ Err refusal.Outside → output.new.faults ≡ output.old.faults
 
 -- the text went out, and nothing was noted
@@ -35,15 +28,10 @@ pub record WroteText (bytes : List ℕ) (output notes : Change OutView) : Type 0
   pub wrote : Took output.old output.new bytes
   pub noted : notes.new ≡ notes.old
 
--- the output failed, and that was told
-pub record TextFailed (bytes : List ℕ) (output notes : Change OutView) : Type 0 where
-  pub front : WroteFront bytes output
-  pub noted : Told notes.old notes.new (refusal_line refusal.Outside)
-
 -- nothing went out, and the notes got the refusal's line
 pub record WroteNothing (output notes : Change OutView) (why : Refusal) : Type 0 where
   pub wrote : output.new ≡ output.old
-  pub noted : Told notes.old notes.new (refusal_line why)
+  pub noted : Reported notes.old notes.new (refusal_line why)
 
 -- what was done, for each way in which a command may end that writes a text
 abbrev pub TextMeets : (bytes : List ℕ) → (output notes : Change OutView) → Status → Type 0
@@ -55,8 +43,8 @@ TextMeets bytes output notes _ = ⊥
 -- a command that writes a text, and notes but why it did not
 pub record WritesOut (bytes : List ℕ) (output notes : Change OutView) (end : Status) : Type 0 where
   pub meets : TextMeets bytes output notes end
-  pub output_calm : StaysCalm (length bytes) output.old output.new
-  pub notes_calm : StaysCalm notes_room notes.old notes.new
+  pub output_calm : CountsNoFault (length bytes) output.old output.new
+  pub notes_calm : CountsNoFault notes_room notes.old notes.new
   pub output_blameless : OutBlameless output end
   pub notes_blameless : NotesBlameless notes end
 
@@ -76,7 +64,7 @@ pub record NoTextWritten (tells : Finding (List ℕ) → Type 0) (output notes :
   pub why : Refusal
   pub cause : HasNoText tells why
   pub wrote : output.new ≡ output.old
-  pub noted : Told notes.old notes.new (refusal_line why)
+  pub noted : Reported notes.old notes.new (refusal_line why)
   pub end_is : end ≡ status_of why
 
 -- what is told was written, or nothing

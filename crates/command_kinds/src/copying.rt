@@ -5,7 +5,7 @@ ghost use Rattle.op_runs.specs.Slices.{HasCounters, stretch_ops};
 ghost use Rattle.origin_model.specs.taking.Taking.{IsSettled, kept_from};
 ghost use Rattle.replica_core.specs.Feeding.{TakesInAll};
 ghost use Rattle.replica_core.specs.Told.{total};
-ghost use Rattle.command_kinds.specs.Intake.{FeedsNotAll, copied};
+ghost use Rattle.command_kinds.specs.Intake.{FeedsNotAll, copies_of_kept};
 
 use crate::kept::Kept;
 use fugue_ids::{Op, read_text};
@@ -27,7 +27,7 @@ pub(crate) fn take_copies(
     requires counts_rise { total tally.old + length replica.old.held.waiting + length ops ≤ 2 ^ 31 }
     ensures ok { OnOk result (TakesInAll replica.old replica.new ops.entry tally.old tally.new) }
     ensures kept { OnOk result (kept.new
-        ≡ copied kept.old (kept_from replica.old.hold replica.old.most replica.old.held ops.entry)) }
+        ≡ copies_of_kept kept.old (kept_from replica.old.hold replica.old.most replica.old.held ops.entry)) }
     ensures err { IfErr result (λ fault. FeedsNotAll fault replica.old ops.entry) }
 {
     let mut rest = ops;
@@ -50,7 +50,7 @@ fn take_stretch(
     requires counts_rise { total tally.old + length replica.old.held.waiting + length (stretch_ops stretch.now) ≤ 2 ^ 31 }
     ensures ok { OnOk result (TakesInAll replica.old replica.new (stretch_ops stretch.now) tally.old tally.new) }
     ensures kept { OnOk result (kept.new
-        ≡ copied kept.old (kept_from replica.old.hold replica.old.most replica.old.held (stretch_ops stretch.now))) }
+        ≡ copies_of_kept kept.old (kept_from replica.old.hold replica.old.most replica.old.held (stretch_ops stretch.now))) }
     ensures err { IfErr result (λ fault. FeedsNotAll fault replica.old (stretch_ops stretch.now)) }
 {
     match stretch {
@@ -71,7 +71,7 @@ fn take_one(
     requires counts_rise { total tally.old + length replica.old.held.waiting + 1 ≤ 2 ^ 31 }
     ensures ok { OnOk result (TakesInAll replica.old replica.new (op.now ∷ []) tally.old tally.new) }
     ensures kept { OnOk result (kept.new
-        ≡ copied kept.old (kept_from replica.old.hold replica.old.most replica.old.held (op.now ∷ []))) }
+        ≡ copies_of_kept kept.old (kept_from replica.old.hold replica.old.most replica.old.held (op.now ∷ []))) }
     ensures err { IfErr result (λ fault. FeedsNotAll fault replica.old (op.now ∷ [])) }
 {
     match read_text(op) {
@@ -95,7 +95,7 @@ fn take_deletes(
     ensures ok { OnOk result
         (TakesInAll replica.old replica.new (deletes_by deletes.now.down deletes.now.target deletes.now.count) tally.old tally.new) }
     ensures kept { OnOk result (kept.new
-        ≡ copied kept.old (kept_from replica.old.hold replica.old.most replica.old.held (deletes_by deletes.now.down deletes.now.target deletes.now.count))) }
+        ≡ copies_of_kept kept.old (kept_from replica.old.hold replica.old.most replica.old.held (deletes_by deletes.now.down deletes.now.target deletes.now.count))) }
     ensures err { IfErr result (λ fault. FeedsNotAll fault replica.old (deletes_by deletes.now.down deletes.now.target deletes.now.count)) }
 {
     let count = deletes.count as usize;

@@ -3,16 +3,16 @@ ghost use Rattle.std.specs.Prelude.{◌≡◌, ◌≢◌, ◌-◌, [], drop, len
 ghost use Rattle.origin_model.specs.operations.History.{accepted};
 ghost use Rattle.outer_ports.specs.disk.Disks.{DiskTells, DiskView};
 ghost use Rattle.replica_file.specs.declared.load_file.End.{End as FileEnd};
-ghost use Rattle.replica_file.specs.Ends.{EndsAt, IsWithinReach};
-ghost use Rattle.replica_file.specs.Loading.{IsReady};
+ghost use Rattle.replica_file.specs.Ends.{EndsAtGate, IsWithinReach};
+ghost use Rattle.replica_file.specs.Loading.{CanTake};
 ghost use Rattle.command_kinds.specs.Crashes.{IsFinished};
 ghost use Rattle.command_kinds.specs.Files.{FileHolds, FileRefuses};
 ghost use Rattle.command_kinds.specs.Giving.{GivenNoted, GivesTo, MayEnd, SavesNoted};
 ghost use Rattle.command_kinds.specs.Giving.{note_line, note_status, to_save as ops_to_save};
 ghost use Rattle.command_kinds.specs.Printing.{NoteMeets, NotesBlameless};
 ghost use Rattle.command_kinds.specs.Findings.{Finding};
-ghost use Rattle.command_kinds.specs.Saving.{Giver, GivesOnce, Outcome, SavesGiven, SavingBlameless};
-ghost use Rattle.command_kinds.specs.Changes.{IsTold, StaysCalm, change, notes_room};
+ghost use Rattle.command_kinds.specs.Saving.{Giver, GivesOnce, Outcome, SavesGiven};
+ghost use Rattle.command_kinds.specs.Changes.{IsSpecified, CountsNoFault, change, notes_room};
 ghost use Rattle.command_kinds.specs.declared.refusal.Refusal.{Refusal as AnyRefusal};
 ghost use Rattle.command_kinds.specs.declared.refusal.Refusal.TheVariants.{Outside};
 ghost use Rattle.command_kinds.specs.declared.status.Status.{Status as AnyStatus};
@@ -20,14 +20,14 @@ ghost use Rattle.command_kinds.specs.declared.status.Status.{Status as AnyStatus
 use crate::Status;
 use crate::counts::Note;
 use crate::edit::{note_made, note_revised};
-use crate::home_file::{load_file, save};
 use crate::kept::Kept;
 use crate::printing::note as note_counts;
 use crate::refusal::{Refusal, tell};
+use fugue_ids::MOST_OPERATIONS;
 use op_runs::OpSlice;
 use outer_ports::{Disk, Sink};
 use replica_core::Replica;
-use replica_file::End;
+use replica_file::{End, append, load};
 use std::alloc::Global;
 
 /// What a command gives to the replica of its home file, from an object of the outside.
@@ -47,7 +47,7 @@ pub trait Gives<F> {
         replica: &mut Replica,
         kept: &mut Kept,
     ) -> Result<Note, Refusal>
-        requires ready { IsReady replica.old }
+        requires ready { CanTake replica.old }
         requires none_kept { kept.old ≡ Some [] }
         ensures gives { (home : DiskView) (last : FileEnd) → FileHolds home replica.old last
             → (course : Finding Outcome)
@@ -74,10 +74,8 @@ pub fn save_given<F, T: Gives<F>, H: Disk, N: Sink>(
     ensures saves { (course : Finding Outcome)
         × SavesGiven (T.giver giver.now (H.seen home.old) from.old from.new course)
         (change (H.seen home.old) (H.seen home.new)) (change (N.seen notes.old) (N.seen notes.new)) result }
-    ensures blameless { SavingBlameless (change (H.seen home.old) (H.seen home.new))
-        (change (N.seen notes.old) (N.seen notes.new)) result }
     ensures leaves { T.Leaves giver.now (H.seen home.old) from.old from.new result }
-    ensures unused { IsTold (H.seen home.old) → (why : AnyRefusal) → FileRefuses (H.seen home.old) why
+    ensures unused { IsSpecified (H.seen home.old) → (why : AnyRefusal) → FileRefuses (H.seen home.old) why
         → from.new ≡ from.old }
 {
     giver.laws();
@@ -101,11 +99,11 @@ fn load_and_save<F, T: Gives<F>, H: Disk>(
         → (H.seen home.new).faults ≡ (H.seen home.old).faults }
     ensures leaves { (end : AnyStatus) → MayEnd result end
         → T.Leaves giver.now (H.seen home.old) from.old from.new end }
-    ensures unused { IsTold (H.seen home.old) → (why : AnyRefusal) → FileRefuses (H.seen home.old) why
+    ensures unused { IsSpecified (H.seen home.old) → (why : AnyRefusal) → FileRefuses (H.seen home.old) why
         → from.new ≡ from.old }
 {
     giver.laws();
-    let (mut replica, end) = load_file(alloc, home)?;
+    let (mut replica, end) = load(alloc, home, MOST_OPERATIONS)?;
     let mut kept = Kept::copied(alloc);
     let saved = give_and_save(alloc, giver, from, &mut replica, end, home, &mut kept);
     replica.discard();
@@ -122,9 +120,9 @@ fn give_and_save<F, T: Gives<F>, H: Disk>(
     home: &mut H,
     kept: &mut Kept,
 ) -> Result<Note, Refusal>
-    requires ready { IsReady replica.old }
+    requires ready { CanTake replica.old }
     requires reaches { IsWithinReach end }
-    requires ends { IfSome (H.seen home.old).past (λ h. EndsAt h.last end) }
+    requires ends { IfSome (H.seen home.old).past (λ h. EndsAtGate h.last end) }
     requires none_kept { kept.old ≡ Some [] }
     ensures given { (file : DiskView) → FileHolds file replica.old end → (course : Finding Outcome)
         × GivenNoted (T.giver giver.now file from.old from.new course) replica.old end
@@ -136,7 +134,7 @@ fn give_and_save<F, T: Gives<F>, H: Disk>(
 {
     let before = replica.accepted().len();
     let note = giver.give(alloc, from, replica, kept)?;
-    save(alloc, home, end, to_save(&note, before, replica, kept))?;
+    append(alloc, home, end, to_save(&note, before, replica, kept))?;
     Ok(note)
 }
 
@@ -161,7 +159,7 @@ pub fn last_of(replica: &Replica, count: u32) -> OpSlice<'_>
 
 fn note_down<N: Sink>(note: &Note, notes: &mut N) -> Status
     ensures meets { NoteMeets (note_line note.now) (note_status note.now) (N.seen notes.old) (N.seen notes.new) result }
-    ensures calm { StaysCalm notes_room (N.seen notes.old) (N.seen notes.new) }
+    ensures calm { CountsNoFault notes_room (N.seen notes.old) (N.seen notes.new) }
     ensures blameless { NotesBlameless (change (N.seen notes.old) (N.seen notes.new)) result }
 {
     match note {

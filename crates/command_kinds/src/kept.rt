@@ -1,13 +1,14 @@
 ghost use Rattle.std.specs.Prelude.{◌≡◌, ◌≢◌, ◌+◌, ◌^◌, ◌≤◌, ◌∷◌, [], length, Some, None, IfErr, OnOk, option_map};
 ghost use Rattle.fugue_ids.specs.Runs.{run_from};
+ghost use Rattle.op_runs.specs.Deletions.{deletes_up};
 ghost use Rattle.origin_model.specs.taking.Taking.{IsSettled, TooMany as AnswersTooMany, answer};
 ghost use Rattle.origin_model.specs.taking.Taking.{intake, intake_counted, kept_from};
-ghost use Rattle.op_frame.specs.NextRuns.{IsSound, ops_given};
+ghost use Rattle.op_frame.specs.NextRuns.{AreSoundRuns, ops_given};
 ghost use Rattle.replica_core.specs.Feeding.{TakesInAll};
 ghost use Rattle.replica_core.specs.Told.{StaysBelow, total};
-ghost use Rattle.command_kinds.specs.Intake.{FeedsNot, FeedsNotAll, copied, ops_in};
+ghost use Rattle.command_kinds.specs.Intake.{FeedsNot, FeedsNotAll, copies_of_kept, ops_in};
 
-use fugue_ids::{Op, RunStart};
+use fugue_ids::{ElementId, Op, RunStart};
 use op_frame::NextOps;
 use origin_model::Tally;
 use replica_core::{FeedFault, Replica};
@@ -73,17 +74,18 @@ impl Kept {
         tally: &mut Tally,
     ) -> Result<(), FeedFault>
         requires settled { IsSettled replica.old.held }
-        requires sound { IsSound next text.now }
+        requires sound { AreSoundRuns next text.now }
         requires counts_rise { total tally.old + length replica.old.held.waiting + length (ops_given next text.now)
             ≤ 2 ^ 31 }
         ensures ok { OnOk result
             (TakesInAll replica.old replica.new (ops_given next text.now) tally.old tally.new) }
-        ensures kept { OnOk result (self.new ≡ copied self.old
+        ensures kept { OnOk result (self.new ≡ copies_of_kept self.old
             (kept_from replica.old.hold replica.old.most replica.old.held (ops_given next text.now))) }
         ensures err { IfErr result (λ fault. FeedsNotAll fault replica.old (ops_given next text.now)) }
     {
         match next {
             NextOps::Run(start) => self.feed_run(replica, &start, text, tally),
+            NextOps::Deletes(first, count) => self.feed_deletes(replica, first, count, tally),
             NextOps::Single(op) => self.feed(replica, op, tally),
         }
     }
@@ -100,13 +102,36 @@ impl Kept {
         requires counts_rise { total tally.old + length replica.old.held.waiting + length text.now ≤ 2 ^ 31 }
         ensures ok { OnOk result
             (TakesInAll replica.old replica.new (run_from start.now text.now) tally.old tally.new) }
-        ensures kept { OnOk result (self.new ≡ copied self.old
+        ensures kept { OnOk result (self.new ≡ copies_of_kept self.old
             (kept_from replica.old.hold replica.old.most replica.old.held (run_from start.now text.now))) }
         ensures err { IfErr result (λ fault. FeedsNotAll fault replica.old (run_from start.now text.now)) }
     {
         match &mut self.ops {
             Some(ops) => replica.feed_run_keeping(start, text, tally, ops),
             None => replica.feed_run(start, text, tally),
+        }
+    }
+
+    /// Feeds the Deletes of so many identifiers to the replica, from this one on, and copies those that it keeps.
+    fn feed_deletes(
+        &mut self,
+        replica: &mut Replica,
+        first: ElementId,
+        count: u32,
+        tally: &mut Tally,
+    ) -> Result<(), FeedFault>
+        requires settled { IsSettled replica.old.held }
+        requires counters { first.counter + count ≤ 2 ^ 32 }
+        requires counts_rise { total tally.old + length replica.old.held.waiting + count ≤ 2 ^ 31 }
+        ensures ok { OnOk result
+            (TakesInAll replica.old replica.new (deletes_up first count) tally.old tally.new) }
+        ensures kept { OnOk result (self.new ≡ copies_of_kept self.old
+            (kept_from replica.old.hold replica.old.most replica.old.held (deletes_up first count))) }
+        ensures err { IfErr result (λ fault. FeedsNotAll fault replica.old (deletes_up first count)) }
+    {
+        match &mut self.ops {
+            Some(ops) => replica.feed_deletes_keeping(first, count, tally, ops),
+            None => replica.feed_deletes(first, count, tally),
         }
     }
 
@@ -122,7 +147,7 @@ impl Kept {
         ensures counts { OnOk result (tally.new
             ≡ intake_counted replica.old.hold replica.old.most replica.old.held op tally.old) }
         ensures kept { OnOk result (self.new
-            ≡ copied self.old (kept_from replica.old.hold replica.old.most replica.old.held (op ∷ []))) }
+            ≡ copies_of_kept self.old (kept_from replica.old.hold replica.old.most replica.old.held (op ∷ []))) }
         ensures settled { OnOk result (IsSettled replica.new.held) }
         ensures once { OnOk result (total tally.new + length replica.new.held.waiting
             ≡ total tally.old + length replica.old.held.waiting + 1) }

@@ -1,6 +1,6 @@
 //! The command `merge`: what another file holds is taken in.
 ghost use Rattle.std.specs.Prelude.{◌≡◌, [], Some};
-ghost use Rattle.replica_file.specs.Loading.{IsReady};
+ghost use Rattle.replica_file.specs.Loading.{CanTake};
 ghost use Rattle.command_kinds.specs.Files.{LeavesFile};
 ghost use Rattle.command_kinds.specs.Giving.{GivesTo};
 ghost use Rattle.command_kinds.specs.Take.{all_held_by, other_file};
@@ -9,13 +9,14 @@ ghost use Rattle.command_kinds.specs.Changes.{change};
 use crate::copying::take_copies;
 use crate::counts::{Counts, Note};
 use crate::giving::Gives;
-use crate::home_file::load_file;
 use crate::kept::Kept;
 use crate::refusal::Refusal;
+use fugue_ids::MOST_OPERATIONS;
 use op_runs::OpSlice;
 use origin_model::Tally;
 use outer_ports::Disk;
 use replica_core::Replica;
+use replica_file::load;
 use std::alloc::Global;
 
 /// What the replica of another file holds.
@@ -33,7 +34,7 @@ impl<G: Disk> Gives<G> for OtherFile {
         replica: &mut Replica,
         kept: &mut Kept,
     ) -> Result<Note, Refusal> {
-        let (other, _) = load_file(alloc, from)?;
+        let (other, _) = load(alloc, from, MOST_OPERATIONS)?;
         let given = give_all(alloc, &other, replica, kept);
         other.discard();
         given
@@ -49,7 +50,7 @@ fn give_all(
     replica: &mut Replica,
     kept: &mut Kept,
 ) -> Result<Note, Refusal>
-    requires ready { IsReady replica.old }
+    requires ready { CanTake replica.old }
     requires none_kept { kept.old ≡ Some [] }
     ensures gives { GivesTo (all_held_by other.now) replica.old replica.new kept.new result }
 {

@@ -1,9 +1,9 @@
 //! The commands that make a note: one call on the replica of the home file makes it, and it is saved.
 ghost use Rattle.std.specs.Prelude.{◌≡◌, OnErr};
 ghost use Rattle.command_kinds.specs.Notes.{NoteComes, NoteOn, note_giver};
-ghost use Rattle.command_kinds.specs.Saving.{SavesGiven, SavingBlameless};
+ghost use Rattle.command_kinds.specs.Saving.{SavesGiven};
 ghost use Rattle.command_kinds.specs.Changes.{change};
-ghost use Rattle.replica_file.specs.Loading.{IsReady};
+ghost use Rattle.replica_file.specs.Loading.{CanTake};
 
 use crate::Status;
 use crate::counts::Note;
@@ -21,7 +21,7 @@ pub trait MakesNote {
 
     /// Makes the note. After a refusal none is made.
     fn make(&self, alloc: Global, replica: &mut Replica) -> Result<(), Refusal>
-        requires { IsReady replica.old }
+        requires { CanTake replica.old }
         ensures comes { NoteComes (note_on self.now replica.old) replica.old replica.new result }
         ensures unmade { OnErr result (replica.new ≡ replica.old) };
 }
@@ -58,9 +58,7 @@ pub fn save_note<T: MakesNote, H: Disk, N: Sink>(
     home: &mut H,
     notes: &mut N,
 ) -> Status
-    ensures saves { SavesGiven (note_giver (T.note_on maker.now)) (change (H.seen home.old) (H.seen home.new))
-        (change (N.seen notes.old) (N.seen notes.new)) result }
-    ensures blameless { SavingBlameless (change (H.seen home.old) (H.seen home.new))
+    ensures { SavesGiven (note_giver (T.note_on maker.now)) (change (H.seen home.old) (H.seen home.new))
         (change (N.seen notes.old) (N.seen notes.new)) result }
 {
     save_given(alloc, &Noting { maker }, &mut (), home, notes)

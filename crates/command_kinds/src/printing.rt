@@ -3,7 +3,7 @@ ghost use Rattle.fugue_ids.specs.Outs.{OutView, WritesBytes};
 ghost use Rattle.origin_model.specs.order.Printed.{manuscript};
 ghost use Rattle.command_kinds.specs.Counts.{counts_text, status_by};
 ghost use Rattle.command_kinds.specs.Printing.{NoteMeets, NotesBlameless, PrintMeets};
-ghost use Rattle.command_kinds.specs.Changes.{OutBlameless, StaysCalm, change, notes_room};
+ghost use Rattle.command_kinds.specs.Changes.{OutBlameless, CountsNoFault, change, notes_room};
 
 use crate::Status;
 use crate::counts::{Counts, status_of, write_counts};
@@ -22,8 +22,8 @@ pub(crate) fn print<O: Sink, N: Sink>(
 ) -> Status
     ensures meets { PrintMeets replica.now.held tally (O.seen output.old) (O.seen output.new)
         (N.seen notes.old) (N.seen notes.new) result }
-    ensures output { StaysCalm (length (manuscript replica.now.held.history)) (O.seen output.old) (O.seen output.new) }
-    ensures notes { StaysCalm notes_room (N.seen notes.old) (N.seen notes.new) }
+    ensures output { CountsNoFault (length (manuscript replica.now.held.history)) (O.seen output.old) (O.seen output.new) }
+    ensures notes { CountsNoFault notes_room (N.seen notes.old) (N.seen notes.new) }
     ensures output_blameless { OutBlameless (change (O.seen output.old) (O.seen output.new)) result }
     ensures notes_blameless { NotesBlameless (change (N.seen notes.old) (N.seen notes.new)) result }
 {
@@ -37,7 +37,7 @@ pub(crate) fn print<O: Sink, N: Sink>(
 pub(crate) fn note<N: Sink>(counts: &Counts, notes: &mut N) -> Status
     ensures meets { NoteMeets (counts_text counts.now.tally counts.now.waiting counts.now.cursor)
         (status_by counts.now.tally counts.now.waiting) (N.seen notes.old) (N.seen notes.new) result }
-    ensures calm { StaysCalm notes_room (N.seen notes.old) (N.seen notes.new) }
+    ensures calm { CountsNoFault notes_room (N.seen notes.old) (N.seen notes.new) }
     ensures blameless { NotesBlameless (change (N.seen notes.old) (N.seen notes.new)) result }
 {
     let written = write_counts(notes, counts);
@@ -49,7 +49,7 @@ pub fn noted<N: Sink>(written: Result<(), Failed>, status: Status, notes: &mut N
     ensures meets { (before : OutView) (line : List ℕ) → WritesBytes before (N.seen notes.old) written line
         → length line ≤ notes_room → NoteMeets line status before (N.seen notes.new) result }
     ensures calm { (before : OutView) (line : List ℕ) → WritesBytes before (N.seen notes.old) written line
-        → length line ≤ notes_room → StaysCalm notes_room before (N.seen notes.new) }
+        → length line ≤ notes_room → CountsNoFault notes_room before (N.seen notes.new) }
     ensures blameless { (before : OutView) (line : List ℕ) → WritesBytes before (N.seen notes.old) written line
         → NotesBlameless (change before (N.seen notes.new)) result }
 {

@@ -2,7 +2,7 @@ ghost use Rattle.std.specs.Prelude.{◌≡◌, ◌≤◌, length};
 ghost use Rattle.fugue_ids.specs.Outs.{WritesBytes};
 ghost use Rattle.command_kinds.specs.Refusal.{append_refusal, create_refusal, feed_refusal, frame_refusal};
 ghost use Rattle.command_kinds.specs.Refusal.{load_refusal, script_refusal, serve_refusal, sync_refusal};
-ghost use Rattle.command_kinds.specs.Refusal.{detail_of, refusal_line, status_of, words_of, Told};
+ghost use Rattle.command_kinds.specs.Refusal.{detail_of, refusal_line, status_of, words_of, Reported};
 ghost use Rattle.command_kinds.specs.Changes.{notes_room};
 ghost use Rattle.command_kinds.specs.declared.refusal.Refusal.TheVariants.{NoMemory as NoMemoryFound};
 
@@ -294,7 +294,7 @@ impl From<NoMemory> for Refusal {
 /// Writes the refusal's line to the notes, as far as they take it, and answers its status.
 pub fn tell<N: Out>(notes: &mut N, refusal: Refusal) -> Status
     ensures status { result ≡ status_of refusal }
-    ensures told { Told (N.seen notes.old) (N.seen notes.new) (refusal_line refusal) }
+    ensures told { Reported (N.seen notes.old) (N.seen notes.new) (refusal_line refusal) }
 {
     let Row(status, ..) = refusal.row();
     let _ = write_line(notes, refusal);

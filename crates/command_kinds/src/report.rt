@@ -7,11 +7,12 @@ ghost use Rattle.command_kinds.specs.TextOut.{ReportGoesOut, WritesReport};
 ghost use Rattle.command_kinds.specs.Changes.{change};
 
 use crate::Status;
-use crate::home_file::load_file;
 use crate::refusal::{Refusal, tell};
 use crate::text_out::ended;
+use fugue_ids::MOST_OPERATIONS;
 use outer_ports::{Disk, Sink};
 use replica_core::Replica;
+use replica_file::load;
 use std::alloc::Global;
 
 /// Whether a text was written, or why there is none.
@@ -45,13 +46,13 @@ pub fn write_report<R: Report, O: Sink, N: Sink, H: Disk>(
         (change (O.seen output.old) (O.seen output.new)) (change (N.seen notes.old) (N.seen notes.new)) result }
 {
     what.laws();
-    match load_file(alloc, home) {
+    match load(alloc, home, MOST_OPERATIONS) {
         Ok((replica, _)) => {
             let status = write_held(alloc, what, &replica, output, notes);
             replica.discard();
             status
         }
-        Err(why) => tell(notes, why),
+        Err(fault) => tell(notes, Refusal::from(fault)),
     }
 }
 

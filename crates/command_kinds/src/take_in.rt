@@ -2,7 +2,7 @@ ghost use Rattle.std.specs.Prelude.{◌≡◌, ◌≤◌, length, IfOk, IfErr, I
 ghost use Rattle.fugue_ids.specs.declared.limits.TheConstants.{GREATEST_HOLD};
 ghost use Rattle.outer_ports.specs.Sources.{KeepsCount};
 ghost use Rattle.origin_model.specs.taking.Taking.{IsSettled};
-ghost use Rattle.command_kinds.specs.Intake.{IsReady, IntakeSteps, TakesIn, IntakeStopsFor};
+ghost use Rattle.command_kinds.specs.Intake.{IsReady, IntakeSteps, TakesInStream, IntakeStopsFor};
 ghost use Rattle.command_kinds.specs.declared.refusal.Refusal.TheVariants.{Outside};
 
 use crate::kept::Kept;
@@ -57,7 +57,7 @@ pub(crate) fn take_in<S: Source>(
     requires settled { IsSettled replica.old.held }
     requires few { length replica.old.held.waiting ≤ GREATEST_HOLD }
     ensures ok { IfOk result
-        (λ tally. TakesIn replica.old (S.seen source.old) (S.seen source.new) replica.new tally kept.old kept.new) }
+        (λ tally. TakesInStream replica.old (S.seen source.old) (S.seen source.new) replica.new tally kept.old kept.new) }
     ensures err { IfErr result (λ why. IntakeStopsFor why replica.old (S.seen source.old)) }
     ensures count { KeepsCount (S.seen source.old) (S.seen source.new) (IsErrOf result Outside) }
 {

@@ -1,7 +1,7 @@
 //! A text that goes to the output, and how a command ends that writes no more than that.
 ghost use Rattle.std.specs.Prelude.{◌≡◌, List, ℕ, IfErr};
 ghost use Rattle.fugue_ids.specs.Outs.{OutView, WritesBytes};
-ghost use Rattle.command_kinds.specs.Refusal.{refusal_line, status_of, Told};
+ghost use Rattle.command_kinds.specs.Refusal.{refusal_line, status_of, Reported};
 ghost use Rattle.command_kinds.specs.TextOut.{GoesOut, WritesOut};
 ghost use Rattle.command_kinds.specs.Changes.{Change, change};
 
@@ -26,7 +26,7 @@ pub fn ended<N: Sink>(gone: Result<(), Refusal>, notes: &mut N) -> Status
     ensures out { (bytes : List ℕ) (output : Change OutView) → GoesOut bytes output gone
         → WritesOut bytes output (change (N.seen notes.old) (N.seen notes.new)) result }
     ensures told { IfErr gone (λ why. (result ≡ status_of why)
-        × Told (N.seen notes.old) (N.seen notes.new) (refusal_line why)) }
+        × Reported (N.seen notes.old) (N.seen notes.new) (refusal_line why)) }
 {
     match gone {
         Ok(()) => Status::Done,

@@ -5,9 +5,8 @@
 use crate::files::has_bytes;
 use crate::memory::{list, sure_disk, sure_sink};
 use manuscript_cli::{Status, run};
-use outer_ports::{
-    Disk, Dock, FileDisk, MemDock, MemSink, MemSource, MemWire, Sink, Source, SureSource, Wire,
-};
+use memory_ports::{MemDock, MemSource, MemWire};
+use outer_ports::{Disk, Dock, FileDisk, MemSink, Sink, Source, SureSource, Wire};
 use std::hash::{BuildHasherDefault, FoldHasher};
 use std::process::Abort;
 

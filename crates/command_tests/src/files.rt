@@ -1,13 +1,14 @@
 ghost use Rattle.std.specs.Prelude.{◌<◌, ◌≤◌, IfSome, IfOk};
 ghost use Rattle.fugue_ids.specs.declared.limits.TheConstants.{MOST_OPERATIONS as most_operations};
-ghost use Rattle.replica_file.specs.Ends.{EndsAt, IsWithinReach};
+ghost use Rattle.replica_file.specs.Ends.{EndsAtGate, IsWithinReach};
 
 use crate::assertions::{equal, equal_at, holds_at};
 use crate::frames::{NEW, OLD, PRINTED, SAVED};
 use crate::memory::{list, sure_disk};
 use fugue_ids::{ElementId, MOST_OPERATIONS, Op, Title};
+use memory_ports::{MemDisk, Pick};
 use op_runs::OpSlice;
-use outer_ports::{Disk, MemDisk, MemSink, Pick};
+use outer_ports::{Disk, MemSink};
 use replica_file::{CreateFault, End, LoadFault, append, create, load};
 use std::alloc::Global;
 use std::process::Abort;
@@ -65,7 +66,7 @@ pub(crate) fn has_bytes<H: Disk>(disk: &mut H, wanted: &[u8]) -> bool {
 fn counted<H: Disk>(alloc: Global, disk: &mut H, most: u32) -> Result<(usize, End), LoadFault>
     requires some { 0 < most }
     requires within { most ≤ most_operations }
-    ensures ends { IfOk result (λ found. IfSome (H.seen disk.new).past (λ h. EndsAt h.last found.1)) }
+    ensures ends { IfOk result (λ found. IfSome (H.seen disk.new).past (λ h. EndsAtGate h.last found.1)) }
     ensures reaches { IfOk result (λ found. IsWithinReach found.1) }
 {
     match load(alloc, disk, most) {

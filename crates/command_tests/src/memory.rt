@@ -2,7 +2,7 @@
 
 ghost use Rattle.std.specs.Prelude.{◌≡◌};
 
-use outer_ports::{SureDisk, SureSink};
+use memory_ports::{SureDisk, SureSink};
 use std::process::Abort;
 
 pub(crate) fn list<T: Copy + Drop>(rt: &(impl Abort + AllocGlobal), items: &[T]) -> Vec<T>

@@ -3,7 +3,8 @@
 use crate::assertions::{equal_at, holds_at};
 use crate::memory::list;
 use edit_script::{ScriptFault, run_script};
-use outer_ports::{MemSink, MemSource};
+use memory_ports::MemSource;
+use outer_ports::MemSink;
 use replica_core::Replica;
 use std::process::Abort;
 

@@ -1,7 +1,7 @@
 //! What comes at a dock in memory, as tables tell it.
 
 ghost use Rattle.std.specs.Prelude.{All};
-ghost use Rattle.outer_ports.specs.dock.Steps.{HasBytes};
+ghost use Rattle.outer_ports.specs.dock.Steps.{BringsSome};
 
 use crate::memory::list;
 use fugue_ids::ByteList;
@@ -21,7 +21,7 @@ pub(crate) enum Coming<'a> {
 
 /// These steps, but for those that say nothing.
 pub(crate) fn steps(rt: &(impl Abort + AllocGlobal), all: &[Coming]) -> Vec<MemStep>
-    ensures { All HasBytes result.items }
+    ensures { All BringsSome result.items }
 {
     let mut steps = Vec::new(rt.alloc());
     for coming in all {
@@ -31,8 +31,8 @@ pub(crate) fn steps(rt: &(impl Abort + AllocGlobal), all: &[Coming]) -> Vec<MemS
 }
 
 fn push(rt: &(impl Abort + AllocGlobal), steps: &mut Vec<MemStep>, coming: Coming)
-    requires { All HasBytes steps.old.items }
-    ensures { All HasBytes steps.new.items }
+    requires { All BringsSome steps.old.items }
+    ensures { All BringsSome steps.new.items }
 {
     match coming {
         Coming::Opens(session) => steps.push(MemStep::Opened(session)).expect(rt, "memory"),

@@ -11,7 +11,7 @@ use Rattle.fugue_ids.specs.declared.op.Op.TheVariants.{Delete, Note, Section, Te
 use Rattle.fugue_ids.proofs.IdentifierLemmas.{id_eq-true, ne-id_eq}
 use Rattle.fugue_ids.proofs.ListLemmas.{all_from_contains, contains_filter_from}
 use Rattle.origin_model.specs.declared.operations.Place.TheVariants.{Catalogue as catalogue, Section as within}
-use Rattle.origin_model.specs.edits.Edits.{Cut, Put, ReadyInTurn, cut_in, deletes_of, extended, id_at, left_for, made, next_counter, put_in, right_for, typed}
+use Rattle.origin_model.specs.edits.Edits.{Cut, Put, ReadyInTurn, cut_in, deletes_of, history_with, id_at, left_for, made, next_counter, put_in, right_for, typed_texts}
 use Rattle.origin_model.specs.operations.History.{element_of, holder, is_own}
 use Rattle.origin_model.specs.operations.Verdict.{Lawful}
 use Rattle.origin_model.specs.order.Laws.{IsIn}
@@ -73,15 +73,15 @@ untitled (Text id section left right ch) k = refl
 untitled (Delete target) k = refl
 untitled (Note id named code body) k = absurd k
 
-same_lift : (ops h : List Op) → All IsOfText ops → lift (extended h ops) ≡ lift h
+same_lift : (ops h : List Op) → All IsOfText ops → lift (history_with h ops) ≡ lift h
 same_lift [] h k = refl
 same_lift (op ∷ ops) h k = same_lift ops (op ∷ h) (All-tail IsOfText op ops k) ∙ one_lift h op (All-head IsOfText op ops k)
 
-same_moves : (ops h : List Op) → All IsOfText ops → moves (extended h ops) ≡ moves h
+same_moves : (ops h : List Op) → All IsOfText ops → moves (history_with h ops) ≡ moves h
 same_moves [] h k = refl
 same_moves (op ∷ ops) h k = same_moves ops (op ∷ h) (All-tail IsOfText op ops k) ∙ one_moves h op (All-head IsOfText op ops k)
 
-same_retitles : (ops h : List Op) → All IsOfText ops → retitles (extended h ops) ≡ retitles h
+same_retitles : (ops h : List Op) → All IsOfText ops → retitles (history_with h ops) ≡ retitles h
 same_retitles [] h k = refl
 same_retitles (op ∷ ops) h k = same_retitles ops (op ∷ h) (All-tail IsOfText op ops k) ∙ one_retitles h op (All-head IsOfText op ops k)
 
@@ -91,7 +91,7 @@ own_id (Text id section left right ch) t k = (id, refl, id_eq-true id t k)
 own_id (Delete target) t k = absurd (false≢true k)
 own_id (Note id named code body) t k = (id, refl, id_eq-true id t k)
 
-same_titles : (ops h : List Op) (t : Identifier) → All IsOfText ops → ReadyInTurn h ops → title_of (holder (extended h ops) t) ≡ title_of (holder h t)
+same_titles : (ops h : List Op) (t : Identifier) → All IsOfText ops → ReadyInTurn h ops → title_of (holder (history_with h ops) t) ≡ title_of (holder h t)
 same_titles [] h t k r = refl
 same_titles (op ∷ ops) h t k r =
     same_titles ops (op ∷ h) t (All-tail IsOfText op ops k) r.1
@@ -103,12 +103,12 @@ same_titles (op ∷ ops) h t k r =
       | inr other ↦ ap title_of (holder-other op h t other)
     ]
 
-same_hidden : (ops h : List Op) (x : Identifier) → All (λ op. deletes x op ≡ false) ops → is_hidden (extended h ops) x ≡ is_hidden h x
+same_hidden : (ops h : List Op) (x : Identifier) → All (λ op. deletes x op ≡ false) ops → is_hidden (history_with h ops) x ≡ is_hidden h x
 same_hidden [] h x k = refl
 same_hidden (op ∷ ops) h x k =
     same_hidden ops (op ∷ h) x (All-tail (λ op. deletes x op ≡ false) op ops k) ∙ ap (λ b. b || is_hidden h x) (All-head (λ op. deletes x op ≡ false) op ops k)
 
-longer : (ops h : List Op) → length h ≤ length (extended h ops)
+longer : (ops h : List Op) → length h ≤ length (history_with h ops)
 longer [] h = omega arith
 longer (op ∷ ops) h = omega (arith, longer ops (op ∷ h))
 
@@ -127,34 +127,34 @@ no_text-title s (Note id named code body) r k = refl
 
 module _ (s : Identifier) (h ops : List Op) (w : Lawful h) (a : AreOfText s h ops) where
   -- the same claims count, where none of them is deleted
-  same_winner : {V : Type 0} (cs : List (Claim V)) (t : Identifier) → ((c : Claim V) → Contains cs c → is_hidden (extended h ops) c.id ≡ is_hidden h c.id)
-      → winner (extended h ops) t cs ≡ winner h t cs
+  same_winner : {V : Type 0} (cs : List (Claim V)) (t : Identifier) → ((c : Claim V) → Contains cs c → is_hidden (history_with h ops) c.id ≡ is_hidden h c.id)
+      → winner (history_with h ops) t cs ≡ winner h t cs
   same_winner cs t stays =
-      ap best (filter_same (counts (extended h ops) t) (counts h t) cs (λ c m. ap (λ b. id_eq c.section t && not b) (stays c m)))
+      ap best (filter_same (counts (history_with h ops) t) (counts h t) cs (λ c m. ap (λ b. id_eq c.section t && not b) (stays c m)))
 
-  move_stays : (c : Move) → Contains (moves h) c → is_hidden (extended h ops) c.id ≡ is_hidden h c.id
+  move_stays : (c : Move) → Contains (moves h) c → is_hidden (history_with h ops) c.id ≡ is_hidden h c.id
   move_stays c m =
       let f = move_found h c w m in
       same_hidden ops h c.id (a.spare c.id f.0 f.1 (no_text-move s f.0 c (passing_from (move_test h) (move_in f.0) c f.2).0))
 
-  title_stays : (c : Retitle) → Contains (retitles h) c → is_hidden (extended h ops) c.id ≡ is_hidden h c.id
+  title_stays : (c : Retitle) → Contains (retitles h) c → is_hidden (history_with h ops) c.id ≡ is_hidden h c.id
   title_stays c m =
       let f = claim_found retitle_in is_valid_title (λ e r k. (title_shape e r k).own) title-kept h c w m in
       same_hidden ops h c.id (a.spare c.id f.0 f.1 (no_text-title s f.0 c (passing_from (is_valid_title h) (retitle_in f.0) c f.2).0))
 
-  same_mover : (t : Identifier) → winner (extended h ops) t (moves (extended h ops)) ≡ winner h t (moves h)
-  same_mover t = ap (winner (extended h ops) t) (same_moves ops h a.kind) ∙ same_winner (moves h) t move_stays
+  same_mover : (t : Identifier) → winner (history_with h ops) t (moves (history_with h ops)) ≡ winner h t (moves h)
+  same_mover t = ap (winner (history_with h ops) t) (same_moves ops h a.kind) ∙ same_winner (moves h) t move_stays
 
-  same_titler : (t : Identifier) → winner (extended h ops) t (retitles (extended h ops)) ≡ winner h t (retitles h)
-  same_titler t = ap (winner (extended h ops) t) (same_retitles ops h a.kind) ∙ same_winner (retitles h) t title_stays
+  same_titler : (t : Identifier) → winner (history_with h ops) t (retitles (history_with h ops)) ≡ winner h t (retitles h)
+  same_titler t = ap (winner (history_with h ops) t) (same_retitles ops h a.kind) ∙ same_winner (retitles h) t title_stays
 
-  same_stamp : stamp (extended h ops) ≡ stamp h
+  same_stamp : stamp (history_with h ops) ≡ stamp h
   same_stamp i = max (greatest (map (λ (m : Move). m.stamp) (same_moves ops h a.kind i))) (greatest (map (λ (r : Retitle). r.stamp) (same_retitles ops h a.kind i)))
 
-  same_arranged : shown catalogue (extended h ops) ≡ shown catalogue h → arranged (extended h ops) ≡ arranged h
+  same_arranged : shown catalogue (history_with h ops) ≡ shown catalogue h → arranged (history_with h ops) ≡ arranged h
   same_arranged same i = flat_map (λ x. filter (λ t. id_eq (position_by t (same_mover t i)) x) (same i)) (order catalogue (same_lift ops h a.kind i))
 
-  moves_stay : arranged (extended h ops) ≡ arranged h → MovesStay h (extended h ops)
+  moves_stay : arranged (history_with h ops) ≡ arranged h → MovesStay h (history_with h ops)
   moves_stay same = record {
     grew = longer ops h;
     lifted = same_lift ops h a.kind;
@@ -164,7 +164,7 @@ module _ (s : Identifier) (h ops : List Op) (w : Lawful h) (a : AreOfText s h op
     withdrawn = move_stays;
   }
 
-  keeps : shown catalogue (extended h ops) ≡ shown catalogue h → KeepsArrangement h (extended h ops)
+  keeps : shown catalogue (history_with h ops) ≡ shown catalogue h → KeepsArrangement h (history_with h ops)
   keeps same = record {
     sections = same;
     arranged_as = same_arranged same;
@@ -172,19 +172,19 @@ module _ (s : Identifier) (h ops : List Op) (w : Lawful h) (a : AreOfText s h op
     retitled = same_retitles ops h a.kind;
     stamps = same_stamp;
     moved = same_moves ops h a.kind;
-    arranges = arranges_still h (extended h ops) (moves_stay (same_arranged same));
+    arranges = arranges_still h (history_with h ops) (moves_stay (same_arranged same));
   }
 
 -- texts that are typed
-typed_kind : (chs : List ℕ) (r c : ℕ) (s : Identifier) (left right : Option Identifier) → All IsOfText (typed r c s left right chs)
+typed_kind : (chs : List ℕ) (r c : ℕ) (s : Identifier) (left right : Option Identifier) → All IsOfText (typed_texts r c s left right chs)
 typed_kind [] r c s left right = All-nil IsOfText
 typed_kind (ch ∷ chs) r c s left right =
-    All-cons IsOfText (Text (id_at r c) s left right ch) (typed r (suc c) s (Some (id_at r c)) right chs) tt (typed_kind chs r (suc c) s (Some (id_at r c)) right)
+    All-cons IsOfText (Text (id_at r c) s left right ch) (typed_texts r (suc c) s (Some (id_at r c)) right chs) tt (typed_kind chs r (suc c) s (Some (id_at r c)) right)
 
-typed_spare : (chs : List ℕ) (r c : ℕ) (s x : Identifier) (left right : Option Identifier) → All (λ op. deletes x op ≡ false) (typed r c s left right chs)
+typed_spare : (chs : List ℕ) (r c : ℕ) (s x : Identifier) (left right : Option Identifier) → All (λ op. deletes x op ≡ false) (typed_texts r c s left right chs)
 typed_spare [] r c s x left right = All-nil (λ op. deletes x op ≡ false)
 typed_spare (ch ∷ chs) r c s x left right =
-    All-cons (λ op. deletes x op ≡ false) (Text (id_at r c) s left right ch) (typed r (suc c) s (Some (id_at r c)) right chs) refl
+    All-cons (λ op. deletes x op ≡ false) (Text (id_at r c) s left right ch) (typed_texts r (suc c) s (Some (id_at r c)) right chs) refl
     (typed_spare chs r (suc c) s x (Some (id_at r c)) right)
 
 -- Deletes
@@ -207,7 +207,7 @@ shown_other h s x f w held none =
     not_both (element_of (within s) f) y none (ap (element_of (within s)) (sym same) ∙ k.place))
 
 pub put_keeps : (r : ℕ) (h w : List Op) (k at : ℕ) (new : List ℕ) (s : Identifier) → Lawful h → slice_get (shown catalogue h) k ≡ Some s → at ≤ length (shown (within s) h)
-    → KeepsArrangement h (extended h (made r h w (Put k at new)))
+    → KeepsArrangement h (history_with h (made r h w (Put k at new)))
 put_keeps r h w k at new s v e l =
     let ops : List Op = made r h w (Put k at new) in
     let is : ops ≡ put_in r h w s at new = put_made r h w k s at new e in
@@ -222,7 +222,7 @@ put_keeps r h w k at new s v e l =
     }) (edit.elsewhere catalogue (λ d. cc d))
 
 pub cut_keeps : (r : ℕ) (h w : List Op) (k at n : ℕ) (s : Identifier) → Lawful h → slice_get (shown catalogue h) k ≡ Some s
-    → KeepsArrangement h (extended h (made r h w (Cut k at n)))
+    → KeepsArrangement h (history_with h (made r h w (Cut k at n)))
 cut_keeps r h w k at n s v e =
     let ops : List Op = made r h w (Cut k at n) in
     let xs : List Identifier = shown (within s) h in

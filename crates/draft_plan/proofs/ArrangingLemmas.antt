@@ -17,8 +17,8 @@ use Rattle.origin_model.proofs.edits.SplitLemmas.{get_in}
 use Rattle.catalogue_notes.proofs.PartLemmas.{Distinct, get_some, within_length}
 use Rattle.section_plan.specs.Matching.{section_of}
 use Rattle.section_plan.specs.declared.pairs.Pairs.{Pairs}
-use Rattle.section_plan.specs.Orders.{ArePlaced, IsOrder, IsPlaced, moved}
-use Rattle.section_plan.specs.Rises.{IsChosen, IsRise, value_at}
+use Rattle.section_plan.specs.Orders.{ArePlaced, IsOrder, IsPartPlaced, moved_place}
+use Rattle.section_plan.specs.Rises.{IsChosen, IsRise, rise_value}
 use Rattle.draft_plan.specs.Arranging.{ArePlacesTo, IsOrderOf, PutsPlace}
 use Rattle.draft_plan.specs.Resizing.{AreDistinct}
 use Rattle.draft_plan.proofs.ResizingLemmas.{places_once}
@@ -55,20 +55,20 @@ stays_placed order pairs places stays is at rise a b l m p q =
           absurd (omega arith)
     ]
   where
-    stays_of : (k : ℕ) → IsPlaced stays 0 (get_or order k 0) → IsChosen stays (get_or order k 0)
+    stays_of : (k : ℕ) → IsPartPlaced stays 0 (get_or order k 0) → IsChosen stays (get_or order k 0)
     stays_of k (inl n) = absurd (omega arith)
     stays_of k (inr e) = e
 
-    by : (k : ℕ) → k < length order → (o : Option ℕ) → value_at places (get_or order k 0) ≡ o → IsSome (value_at places (get_or order k 0)) → value_at places (get_or order k 0) ≡ Some k
+    by : (k : ℕ) → k < length order → (o : Option ℕ) → rise_value places (get_or order k 0) ≡ o → IsSome (rise_value places (get_or order k 0)) → rise_value places (get_or order k 0) ≡ Some k
     by k n None e some = let f : false ≡ true = subst IsSome e some in cc
     by k n (Some x) e some = let there = (at.each (get_or order k 0) x).0 e in let same = is.once x k there.0 n there.1 in e ∙ ap Some same
 
-    chosen : (k : ℕ) → k < length order → IsPlaced stays 0 (get_or order k 0) → value_at places (get_or order k 0) ≡ Some k
-    chosen k n p = by k n (value_at places (get_or order k 0)) refl (rise.have (get_or order k 0) (stays_of k p))
+    chosen : (k : ℕ) → k < length order → IsPartPlaced stays 0 (get_or order k 0) → rise_value places (get_or order k 0) ≡ Some k
+    chosen k n p = by k n (rise_value places (get_or order k 0)) refl (rise.have (get_or order k 0) (stays_of k p))
 
 -- a member that moved, in both lists
 moved_at : (xs : List Identifier) (order : List ℕ) (from to k part : ℕ) (y d : Identifier) → length order ≡ length xs → from < length xs → to < length xs → k < length xs
-    → (k ≡ to) ⊎ ((j : ℕ) × (j < length xs) × (get_or (insert (remove xs from) to y) k d ≡ get_or xs j d) × (get_or (moved order from to part) k 0 ≡ get_or order j 0))
+    → (k ≡ to) ⊎ ((j : ℕ) × (j < length xs) × (get_or (insert (remove xs from) to y) k d ≡ get_or xs j d) × (get_or (moved_place order from to part) k 0 ≡ get_or order j 0))
 moved_at xs order from to k part y d long f t l =
     let xs_mid = length-remove xs from f in
     let order_mid = length-remove order from (omega (arith, long)) in
@@ -84,20 +84,20 @@ moved_at xs order from to k part y d long f t l =
         | inr ne ↦
             let e : k ≡ k - 1 + 1 = omega arith in
             let x = ap (λ n. get_or (insert (remove xs from) to y) n d) e ∙ get_or-insert_above (remove xs from) to y d (k - 1) (omega arith) most in
-            let o = ap (λ n. get_or (moved order from to part) n 0) e ∙ get_or-insert_above (remove order from) to part 0 (k - 1) (omega arith) order_most in
+            let o = ap (λ n. get_or (moved_place order from to part) n 0) e ∙ get_or-insert_above (remove order from) to part 0 (k - 1) (omega arith) order_most in
             inr (mid (k - 1) (omega arith) x o)
       ]
     ]
   where
-    mid : (j : ℕ) → j + 1 < length xs → get_or (insert (remove xs from) to y) k d ≡ get_or (remove xs from) j d → get_or (moved order from to part) k 0 ≡ get_or (remove order from) j 0
-        → (j : ℕ) × (j < length xs) × (get_or (insert (remove xs from) to y) k d ≡ get_or xs j d) × (get_or (moved order from to part) k 0 ≡ get_or order j 0)
+    mid : (j : ℕ) → j + 1 < length xs → get_or (insert (remove xs from) to y) k d ≡ get_or (remove xs from) j d → get_or (moved_place order from to part) k 0 ≡ get_or (remove order from) j 0
+        → (j : ℕ) × (j < length xs) × (get_or (insert (remove xs from) to y) k d ≡ get_or xs j d) × (get_or (moved_place order from to part) k 0 ≡ get_or order j 0)
     mid j m x o = elim (cases_lt j from) [
       | inl a ↦ (j, omega arith, x ∙ get_or-remove_below xs from d j a f, o ∙ get_or-remove_below order from 0 j a (omega (arith, long)))
       | inr a ↦ (j + 1, m, x ∙ get_or-remove_above xs from d j a f, o ∙ get_or-remove_above order from 0 j a (omega (arith, long)))
     ]
 
 pub order_moved : (ts xs : List Identifier) (order : List ℕ) (from to part : ℕ) (y : Identifier) → IsOrderOf ts xs order → slice_get xs from ≡ Some y → get_or order from 0 ≡ part → to < length xs
-    → IsOrderOf ts (insert (remove xs from) to y) (moved order from to part)
+    → IsOrderOf ts (insert (remove xs from) to y) (moved_place order from to part)
 order_moved ts xs order from to part y is at stands t = record {
   long = lengths;
   each = λ k s e. each k s e;
@@ -112,7 +112,7 @@ order_moved ts xs order from to part y is at stands t = record {
     xs_long : length (insert (remove xs from) to y) ≡ length xs
     xs_long = let m = length-remove xs from (got xs from y at).0 in length-insert (remove xs from) to y (omega (arith, m)) ∙ m
 
-    lengths : length (moved order from to part) ≡ length (insert (remove xs from) to y)
+    lengths : length (moved_place order from to part) ≡ length (insert (remove xs from) to y)
     lengths =
         let m = length-remove xs from (got xs from y at).0 in
         let n = length-remove order from (let l = (got xs from y at).0 in omega (arith, is.long)) in
@@ -120,7 +120,7 @@ order_moved ts xs order from to part y is at stands t = record {
         let b = length-insert (remove order from) to part (omega (arith, n, is.long)) in
         omega (arith, a, b, m, n, is.long)
 
-    each : (k : ℕ) (s : Identifier) → slice_get (insert (remove xs from) to y) k ≡ Some s → slice_get ts (get_or (moved order from to part) k 0) ≡ Some s
+    each : (k : ℕ) (s : Identifier) → slice_get (insert (remove xs from) to y) k ≡ Some s → slice_get ts (get_or (moved_place order from to part) k 0) ≡ Some s
     each k s e =
         let l = (got xs from y at).0 in
         let m = length-remove xs from l in
@@ -131,7 +131,7 @@ order_moved ts xs order from to part y is at stands t = record {
           | inl same ↦
               let here = ap (λ z. get_or (insert (remove xs from) to y) z s) (sym same) ∙ there.1 in
               let y_is : y ≡ s = sym (get_or-insert_at (remove xs from) to y s (omega (arith, m))) ∙ here in
-              let rank : get_or (moved order from to part) k 0 ≡ get_or order from 0 = ap (λ z. get_or (moved order from to part) z 0) same ∙ (get_or-insert_at (remove order from) to part 0 (omega (arith, n, is.long)) ∙ sym stands) in
+              let rank : get_or (moved_place order from to part) k 0 ≡ get_or order from 0 = ap (λ z. get_or (moved_place order from to part) z 0) same ∙ (get_or-insert_at (remove order from) to part 0 (omega (arith, n, is.long)) ∙ sym stands) in
               ap (slice_get ts) rank ∙ (is.each from y at ∙ ap Some y_is)
           | inr j ↦
               let was : slice_get xs j.0 ≡ Some s = slice_get-get_or xs j.0 s j.1 ∙ ap Some (sym j.2 ∙ there.1) in
@@ -172,8 +172,8 @@ places_more order pairs old new part place is was put l here some = record {
   long = put.long ∙ was.long;
   each = λ q x. elim (cases_eq q part) [
     | inl e ↦ (
-      (λ v. let same : place ≡ x = same_Some place x (sym (put.here within) ∙ (ap (value_at new) (sym e) ∙ v)) in (omega (arith, same), ap (λ n. get_or order n 0) (sym same) ∙ (here ∙ sym e), subst (λ n. IsSome (section_of pairs n)) (sym e) some)),
-      λ t. let same : x ≡ place = is.once x place (omega (arith, t.0, l)) l (t.1 ∙ (e ∙ sym here)) in ap (value_at new) e ∙ (put.here within ∙ ap Some (sym same)),
+      (λ v. let same : place ≡ x = same_Some place x (sym (put.here within) ∙ (ap (rise_value new) (sym e) ∙ v)) in (omega (arith, same), ap (λ n. get_or order n 0) (sym same) ∙ (here ∙ sym e), subst (λ n. IsSome (section_of pairs n)) (sym e) some)),
+      λ t. let same : x ≡ place = is.once x place (omega (arith, t.0, l)) l (t.1 ∙ (e ∙ sym here)) in ap (rise_value new) e ∙ (put.here within ∙ ap Some (sym same)),
     )
     | inr ne ↦ (
       (λ v. let t = (was.each q x).0 (sym (put.others q ne) ∙ v) in (omega (arith, t.0), t.1, t.2)),

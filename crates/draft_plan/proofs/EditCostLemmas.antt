@@ -11,11 +11,11 @@ use Rattle.origin_model.specs.declared.edit_fault.EditFault.{EditFault}
 use Rattle.origin_model.specs.declared.edit_fault.EditFault.TheVariants as edit
 use Rattle.origin_model.specs.declared.operations.Place.TheVariants.{Catalogue as catalogue, Section as within}
 use Rattle.origin_model.specs.declared.operations.Verdict.TheVariants.{Ready}
-use Rattle.origin_model.specs.edits.Edits.{Add, Command, Cut, DropSection, Put, extended, left_for, right_for}
+use Rattle.origin_model.specs.edits.Edits.{Add, Command, Cut, DropSection, Put, history_with, left_for, right_for}
 use Rattle.origin_model.specs.edits.Effect.{Gains, IsMade, Lands}
 use Rattle.origin_model.specs.edits.Noting.{ShowsAsBefore}
 use Rattle.origin_model.specs.edits.Refusal.{RefusesExactly, held_count, in_range, in_section, made_by, next_of_own, refusal_message, refused_elements, refused_ops, section_shown, shown_count}
-use Rattle.origin_model.specs.edits.State.{Stands, State}
+use Rattle.origin_model.specs.edits.State.{IsSound, State}
 use Rattle.origin_model.specs.operations.Verdict.{Lawful, verdict}
 use Rattle.origin_model.specs.order.Printed.{shown}
 use Rattle.origin_model.proofs.edits.AllowedLemmas.{allowed}
@@ -89,13 +89,13 @@ own_below (DropSection k) s e =
     subst (All (MakesBelow s.number (next_of_own s + 0))) (sym (drop_made s.number s.held.history s.held.waiting k x.0 x.1)) (deletes_below (x.0 ∷ []) s.number (next_of_own s + 0))
 
 -- and leaves the stamp
-edit_stamp : (command : Command) (s : State) → Lawful s.held.history → refusal_message s command ≡ None → stamp (extended s.held.history (made_by s command)) ≡ stamp s.held.history
+edit_stamp : (command : Command) (s : State) → Lawful s.held.history → refusal_message s command ≡ None → stamp (history_with s.held.history (made_by s command)) ≡ stamp s.held.history
 edit_stamp (Put k at new) s w e = let x = put_there s k at new e in (put_keeps s.number s.held.history s.held.waiting k at new x.0 w x.1 x.2).stamps
 edit_stamp (Cut k at n) s w e = let x = cut_there s k at n e in (cut_keeps s.number s.held.history s.held.waiting k at n x.0 w x.1).stamps
 edit_stamp (Add at title) s w e = quiet_stamp _ s.held.history refl refl
 edit_stamp (DropSection k) s w e =
     let x = drop_there s k e in
-    ap (λ ops. stamp (extended s.held.history ops)) (drop_made s.number s.held.history s.held.waiting k x.0 x.1) ∙ quiet_stamp (Delete x.0) s.held.history refl refl
+    ap (λ ops. stamp (history_with s.held.history ops)) (drop_made s.number s.held.history s.held.waiting k x.0 x.1) ∙ quiet_stamp (Delete x.0) s.held.history refl refl
 
 -- an edit that was made
 pub edit_costs : (old new : State) (command : Command) (n : ℕ) → Lawful old.held.history → RefusesExactly old command (Ok n) → IsMade old new command n → Costs old new (cost n (minted command) 0) (Ok n)
@@ -123,7 +123,7 @@ cause_lacks (DropSection k) s c why few a b l m e = by (section_shown s k) e
     by None e = absurd (a (sym (same_Some edit.NoSection why e)))
     by (Some x) e = lacks_ops s 1 c why few l e
 
-pub edit_lacks : (command : Command) (s : State) (c : Cost) (why : EditFault) → Stands s → asked command ≤ c.operations → minted command ≤ c.counters → RefusesExactly s command (Err why) → LacksRoom s c (fault.Edit why)
+pub edit_lacks : (command : Command) (s : State) (c : Cost) (why : EditFault) → IsSound s → asked command ≤ c.operations → minted command ≤ c.counters → RefusesExactly s command (Err why) → LacksRoom s c (fault.Edit why)
 edit_lacks command s c edit.NoSection st l m exact = tt
 edit_lacks command s c edit.OutOfRange st l m exact = tt
 edit_lacks command s c edit.NoMemory st l m exact = tt
@@ -158,11 +158,11 @@ behind_absence true true rest why n p e = e
 behind_absence true false rest why n p e = absurd (p (sym (same_Some moving.NoPlace why e)))
 behind_absence false b rest why n p e = absurd (n (sym (same_Some moving.NoSection why e)))
 
-move_cause : (s : State) (k j : ℕ) (why : MoveFault) → Stands s → why ≢ moving.NoSection → why ≢ moving.NoPlace → move_refusal s k j ≡ Some why → LacksRoom s note_cost (fault.Move why)
+move_cause : (s : State) (k j : ℕ) (why : MoveFault) → IsSound s → why ≢ moving.NoSection → why ≢ moving.NoPlace → move_refusal s k j ≡ Some why → LacksRoom s note_cost (fault.Move why)
 move_cause s k j why st n p e =
     lacks_note s why (behind_absence (nat_lt k (length (arranged s.held.history))) (nat_lt j (length (arranged s.held.history))) (note_cause s) why n p e) st.few
 
-pub move_lacks : (s : State) (k j : ℕ) (why : MoveFault) → Stands s → RefusesFor (move_refusal s k j) (Err why) → LacksRoom s note_cost (fault.Move why)
+pub move_lacks : (s : State) (k j : ℕ) (why : MoveFault) → IsSound s → RefusesFor (move_refusal s k j) (Err why) → LacksRoom s note_cost (fault.Move why)
 move_lacks s k j moving.NoSection st r = tt
 move_lacks s k j moving.NoPlace st r = tt
 move_lacks s k j moving.NoMemory st r = tt
@@ -170,14 +170,14 @@ move_lacks s k j moving.StampsSpent st r = move_cause s k j moving.StampsSpent s
 move_lacks s k j (moving.IdsSpent n) st r = move_cause s k j (moving.IdsSpent n) st (λ e. cc e) (λ e. cc e) (r.only (moving.IdsSpent n) (λ e. cc e) refl)
 move_lacks s k j (moving.TooMany n) st r = move_cause s k j (moving.TooMany n) st (λ e. cc e) (λ e. cc e) (r.only (moving.TooMany n) (λ e. cc e) refl)
 
-retitle_cause : (s : State) (k : ℕ) (why : MoveFault) → Stands s → why ≢ moving.NoSection → retitle_refusal s k ≡ Some why → LacksRoom s note_cost (fault.Move why)
+retitle_cause : (s : State) (k : ℕ) (why : MoveFault) → IsSound s → why ≢ moving.NoSection → retitle_refusal s k ≡ Some why → LacksRoom s note_cost (fault.Move why)
 retitle_cause s k why st n e = by (nat_lt k (length (arranged s.held.history))) e
   where
     by : (b : Bool) → option_or (cond b None (Some moving.NoSection)) (note_cause s) ≡ Some why → LacksRoom s note_cost (fault.Move why)
     by true e = lacks_note s why e st.few
     by false e = absurd (n (sym (same_Some moving.NoSection why e)))
 
-pub retitle_lacks : (s : State) (k : ℕ) (why : MoveFault) → Stands s → RefusesFor (retitle_refusal s k) (Err why) → LacksRoom s note_cost (fault.Move why)
+pub retitle_lacks : (s : State) (k : ℕ) (why : MoveFault) → IsSound s → RefusesFor (retitle_refusal s k) (Err why) → LacksRoom s note_cost (fault.Move why)
 retitle_lacks s k moving.NoSection st r = tt
 retitle_lacks s k moving.NoPlace st r = tt
 retitle_lacks s k moving.NoMemory st r = tt

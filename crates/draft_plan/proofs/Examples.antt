@@ -3,7 +3,7 @@ use Rattle.std.proofs.Common.{List, [], refl, ℕ, ◌++◌, ◌∷◌, ◌≡�
 use Rattle.std.specs.Prelude.{codes, Ok, Err, true, false}
 use Rattle.std.specs.Str.{chars, is_utf8}
 use lib.Utf8.{encode}
-use Rattle.draft_plan.specs.Drafts.{Part, closed, form, has_heading, lines, parts}
+use Rattle.draft_plan.specs.Drafts.{Part, with_last_line_end, form, has_heading, draft_lines, parts}
 
 abbrev part : List ℕ → List ℕ → Part
 part title text = record { title = title; text = text }
@@ -15,7 +15,7 @@ printed = codes "# A\none two\n# B\nthree\n"
 -- as printed, and without the last LF
 printed_parts :
     (parts printed ≡ Ok (part (codes "A") (codes "one two") ∷ part (codes "B") (codes "three") ∷ []))
-    × (parts (codes "# A\none two\n# B\nthree") ≡ parts printed) × (closed (codes "# A\none two\n# B\nthree") ≡ printed)
+    × (parts (codes "# A\none two\n# B\nthree") ≡ parts printed) × (with_last_line_end (codes "# A\none two\n# B\nthree") ≡ printed)
     × (form (part (codes "A") (codes "one two") ∷ part (codes "B") (codes "three") ∷ []) ≡ printed)
 unfolding is_utf8 chars encode
 printed_parts = (refl, refl, refl, refl)
@@ -38,13 +38,13 @@ unfolding is_utf8 chars encode
 bad_lines = (refl, refl, refl, refl, refl)
 
 -- the empty draft has no parts, and is no line
-nothing : (parts [] ≡ Ok []) × (lines [] ≡ []) × (closed [] ≡ []) × (form [] ≡ [])
+nothing : (parts [] ≡ Ok []) × (draft_lines [] ≡ []) × (with_last_line_end [] ≡ []) × (form [] ≡ [])
 nothing = (refl, refl, refl, refl)
 
 -- a text that ends in LF has an empty last line, and one of one empty line is empty
 empty_lines :
     (parts (codes "# A\none\n\n") ≡ Ok (part (codes "A") (codes "one\n") ∷ [])) × (parts (codes "# A\n\n") ≡ Ok (part (codes "A") [] ∷ []))
-    × (lines (codes "# A\none\n\n") ≡ codes "# A" ∷ codes "one" ∷ [] ∷ [])
+    × (draft_lines (codes "# A\none\n\n") ≡ codes "# A" ∷ codes "one" ∷ [] ∷ [])
 unfolding is_utf8 chars encode
 empty_lines = (refl, refl, refl)
 

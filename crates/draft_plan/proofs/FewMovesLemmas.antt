@@ -20,16 +20,16 @@ use Rattle.origin_model.proofs.edits.SplitLemmas.{get_in}
 use Rattle.catalogue_notes.specs.Arranged.{arranged}
 use Rattle.catalogue_notes.specs.Claims.{Move}
 use Rattle.catalogue_notes.specs.Lift.{moves}
-use Rattle.catalogue_notes.specs.Making.{without}
+use Rattle.catalogue_notes.specs.Making.{without_member}
 use Rattle.catalogue_notes.proofs.ArrangedLemmas.{arranged_once, arranged_shown, shown_arranged}
 use Rattle.catalogue_notes.proofs.KeptOrderLemmas.{positions_keep_order}
 use Rattle.catalogue_notes.proofs.PartLemmas.{filter-filter, filter_full, filter_no, filter_out, filter_same, filter_yes, get_some, is_other}
 use Rattle.section_plan.specs.Matching.{section_of}
 use Rattle.section_plan.specs.Orders.{IsOrder}
-use Rattle.section_plan.specs.Rises.{IsChosen, IsRise, chosen_count, value_at}
+use Rattle.section_plan.specs.Rises.{IsChosen, IsRise, chosen_count, rise_value}
 use Rattle.section_plan.specs.declared.pairs.Pairs.{Pairs}
 use Rattle.draft_plan.specs.Arranging.{AreStaying, ArrangesFew, IsOrderOf, IsSectionMoved, MovesFewTo, MovesPart}
-use Rattle.draft_plan.specs.Keeping.{MovesFew, has_no_move, is_among, stays_unmoved}
+use Rattle.draft_plan.specs.Keeping.{MovesFew, has_no_move, is_one_of, stays_unmoved}
 use Rattle.draft_plan.specs.Plans.{MovesNoMore, PlansMoves, move_count, sum_below}
 use Rattle.draft_plan.specs.Resizing.{AreDistinct}
 use Rattle.draft_plan.specs.Revision.{HasOneMore, moves_of}
@@ -111,7 +111,7 @@ module _ (start mid new : List Op) (stays : List Bool) (ts : List Identifier) (p
     split : (xs : List Identifier) → filter U xs ≡ filter (is_other s) (filter V xs)
     split xs = filter_same U (λ t. is_other s t && V t) xs (λ t k. by_other t) ∙ sym (filter-filter (is_other s) V xs)
 
-    without_it : filter U (arranged mid) ≡ filter U (without (arranged mid) m.from)
+    without_it : filter U (arranged mid) ≡ filter U (without_member (arranged mid) m.from)
     without_it =
         sym (filter-filter U (is_other s) (arranged mid) ∙ filter_same (λ t. U t && is_other s t) U (arranged mid) (λ t k. and_other t))
         ∙ ap (filter U) (filter_out (arranged mid) m.from s (arranged_once mid w) m.stood)
@@ -122,7 +122,7 @@ module _ (start mid new : List Op) (stays : List Bool) (ts : List Identifier) (p
         ∙ ap (filter (is_other s)) was.order
         ∙ sym (split (arranged mid))
         ∙ without_it
-        ∙ sym (ap (filter U) m.lands ∙ filter_put U (without (arranged mid) m.from) m.to s moved_here)
+        ∙ sym (ap (filter U) m.lands ∙ filter_put U (without_member (arranged mid) m.from) m.to s moved_here)
 
     few_moved : MovesFewTo start new stays ts (part + 1)
     few_moved = record {
@@ -185,9 +185,9 @@ module _ (old : List Op) (pairs : Pairs) (ts : List Identifier) (order : List �
     most = let l = st.longest.longest (map chosen ts) rise in omega (arith, l, flag_count chosen ts)
 
   matched : (j : ℕ) → IsChosen stays j → IsSome (section_of pairs j)
-  matched j c = by (value_at st.places j) refl (st.longest.rise.have j c)
+  matched j c = by (rise_value st.places j) refl (st.longest.rise.have j c)
     where
-      by : (o : Option ℕ) → value_at st.places j ≡ o → IsSome (value_at st.places j) → IsSome (section_of pairs j)
+      by : (o : Option ℕ) → rise_value st.places j ≡ o → IsSome (rise_value st.places j) → IsSome (section_of pairs j)
       by None e some = let f : false ≡ true = subst IsSome e some in cc
       by (Some x) e some = ((st.places_are.each j x).0 e).2
 
@@ -202,14 +202,14 @@ module _ (old : List Op) (pairs : Pairs) (ts : List Identifier) (order : List �
   arranges_few new part few all = record { stays = stays; long = long_stays ∙ long; few = subst (MovesFewTo old new stays ts) all few; matched = matched; most = most }
 
 -- a section that is one of these is found among them
-among_to : (xs : List Identifier) (s : Identifier) → Contains xs s → is_among xs s ≡ true
+among_to : (xs : List Identifier) (s : Identifier) → Contains xs s → is_one_of xs s ≡ true
 among_to [] s m = absurd (contains_none s m)
 among_to (x ∷ xs) s m = elim (contains_cases x xs s m) [
-  | inl e ↦ ap (λ b. b || is_among xs s) (eq-id_eq s x (sym e))
+  | inl e ↦ ap (λ b. b || is_one_of xs s) (eq-id_eq s x (sym e))
   | inr k ↦ ap (λ b. id_eq s x || b) (among_to xs s k) ∙ or-true (id_eq s x)
 ]
 
-among_from : (xs : List Identifier) (s : Identifier) → is_among xs s ≡ true → Contains xs s
+among_from : (xs : List Identifier) (s : Identifier) → is_one_of xs s ≡ true → Contains xs s
 among_from xs s e = Contains-from_any id_eq-true s xs e
 
 -- sections were dropped and added, and then moved
@@ -228,11 +228,11 @@ module _ (h0 h1 h2 : List Op) (pairs : Pairs) (ts : List Identifier) (v : Lawful
   Unmoved = stays_unmoved h0 h2
 
   abbrev W : Identifier → Bool
-  W s = is_among (arranged h0) s && is_among (arranged h2) s
+  W s = is_one_of (arranged h0) s && is_one_of (arranged h2) s
 
   both : (s : Identifier) → Unmoved s ≡ true → Contains (arranged h0) s × Contains (arranged h2) s
   both s u =
-      let p = and_parts (is_among (arranged h0) s) (is_among (arranged h2) s) (and_parts (W s) (has_no_move h0 h2 s) u).0 in
+      let p = and_parts (is_one_of (arranged h0) s) (is_one_of (arranged h2) s) (and_parts (W s) (has_no_move h0 h2 s) u).0 in
       (among_from (arranged h0) s p.0, among_from (arranged h2) s p.1)
 
   same_moves : (s : Identifier) → has_no_move h0 h2 s ≡ has_no_move h1 h2 s
@@ -250,7 +250,7 @@ module _ (h0 h1 h2 : List Op) (pairs : Pairs) (ts : List Identifier) (v : Lawful
   stays_there : (j : ℕ) (s : Identifier) → IsChosen few.stays j → slice_get ts j ≡ Some s → Unmoved s ≡ true
   stays_there j s c at =
       and_from (W s) (has_no_move h0 h2 s)
-      (and_from (is_among (arranged h0) s) (is_among (arranged h2) s) (among_to (arranged h0) s (by (section_of pairs j) refl (few.matched j c))) (among_to (arranged h2) s (subst (λ l. Contains l s) (sym arr) (get_in ts j s at))))
+      (and_from (is_one_of (arranged h0) s) (is_one_of (arranged h2) s) (among_to (arranged h0) s (by (section_of pairs j) refl (few.matched j c))) (among_to (arranged h2) s (subst (λ l. Contains l s) (sym arr) (get_in ts j s at))))
       (same_moves s ∙ eq-eqb (length (moves_of h2 s)) (length (moves_of h1 s)) (ap length (few.few.kept j s c at)))
     where
       by : (o : Option ℕ) → section_of pairs j ≡ o → IsSome (section_of pairs j) → Contains (arranged h0) s
@@ -292,7 +292,7 @@ module _ (h0 h1 h2 : List Op) (pairs : Pairs) (ts : List Identifier) (v : Lawful
 
 -- those that stay unmoved, by the moves and the arrangement behind
 abbrev unmoved_by : List Op → List Move → List Identifier → Identifier → Bool
-unmoved_by o ms xs s = (is_among (arranged o) s && is_among xs s) && nat_eq (length (filter (λ (m : Move). id_eq m.section s) ms)) (length (moves_of o s))
+unmoved_by o ms xs s = (is_one_of (arranged o) s && is_one_of xs s) && nat_eq (length (filter (λ (m : Move). id_eq m.section s) ms)) (length (moves_of o s))
 
 -- and nothing was moved or rearranged later
 pub few_still : (o m n : List Op) → arranged n ≡ arranged m → moves n ≡ moves m → MovesFew o m → MovesFew o n
@@ -317,7 +317,7 @@ few_none o = record {
       let full : filter (stays_unmoved o o) xs ≡ xs =
       filter_full (stays_unmoved o o) xs (λ s m.
       let there = among_to xs s m in
-      and_from (is_among xs s && is_among xs s) (has_no_move o o s) (and_from (is_among xs s) (is_among xs s) there there) (eq-eqb (length (moves_of o s)) (length (moves_of o s)) refl)) in
+      and_from (is_one_of xs s && is_one_of xs s) (has_no_move o o s) (and_from (is_one_of xs s) (is_one_of xs s) there there) (eq-eqb (length (moves_of o s)) (length (moves_of o s)) refl)) in
       omega (arith, ap length full, length-filter chosen xs, count_by-le-length chosen xs);
 }
 

@@ -15,7 +15,7 @@ use Rattle.origin_model.specs.declared.operations.Place.TheVariants.{Section as 
 use Rattle.origin_model.specs.edits.Edits.{Cut, Put}
 use Rattle.origin_model.specs.edits.Effect.{IsMade}
 use Rattle.origin_model.specs.edits.Refusal.{RefusesExactly}
-use Rattle.origin_model.specs.edits.State.{Stands, State}
+use Rattle.origin_model.specs.edits.State.{IsSound, State}
 use Rattle.origin_model.specs.operations.History.{holds}
 use Rattle.origin_model.specs.operations.Verdict.{Lawful}
 use Rattle.origin_model.specs.order.Order.{order}
@@ -25,7 +25,7 @@ use Rattle.origin_model.proofs.SharedLemmas.{no_text_before, order_by_nodes}
 use Rattle.origin_model.proofs.edits.AllowedLemmas.{allowed}
 use Rattle.origin_model.proofs.edits.EditedTextLemmas.{text_length}
 use Rattle.origin_model.proofs.edits.RefusalLemmas.{cut_count, put_count}
-use Rattle.text_diff.specs.Hunks.{Transforms, TransformsFrom, start_of}
+use Rattle.text_diff.specs.Hunks.{Transforms, TransformsFrom, hunk_start}
 use Rattle.text_diff.specs.Kept.{KeepsLines}
 use Rattle.text_diff.specs.Seams.{KeepsWords}
 use Rattle.text_diff.specs.Tight.{IsTight}
@@ -33,7 +33,7 @@ use Rattle.text_diff.specs.declared.hunk.Hunk.{Hunk}
 use Rattle.catalogue_notes.specs.Arranged.{arranged}
 use Rattle.catalogue_notes.proofs.ArrangedLemmas.{arranged_once, arranged_shown, shown_arranged}
 use Rattle.draft_plan.specs.Drafts.{Part}
-use Rattle.draft_plan.specs.Limits.{AreChosen, Cost, Costs, CostsText, LacksRoom, SameTexts, by_edit, cost, hunk_cost, hunks_cost, letters, letters_of, part_letters, plus, put_size, revision_cost}
+use Rattle.draft_plan.specs.Limits.{AreChosen, Cost, Costs, CostsText, LacksRoom, SameTexts, by_edit, cost, hunk_cost, hunks_cost, letters_from, shown_letters, part_letters, plus, put_size, revision_cost}
 use Rattle.draft_plan.specs.Shaping.{IsReshaped}
 use Rattle.draft_plan.specs.declared.fault.ReviseFault.{ReviseFault}
 use Rattle.draft_plan.specs.declared.fault.ReviseFault.TheVariants as fault
@@ -66,11 +66,11 @@ pub put_long : (at n : ℕ) (new chs : List ℕ) → at + n ≤ length new → c
 put_long at n new chs l e = ap length e ∙ length-take-le n (drop at new) (omega (arith, l, length-drop at new))
 
 -- one whose cut was refused
-pub cut_lacks : (s : State) (k : ℕ) (h : Hunk) (why : EditFault) → Stands s → RefusesExactly s (Cut k h.old_at h.old_len) (Err why) → LacksRoom s (hunk_cost h) (fault.Edit why)
+pub cut_lacks : (s : State) (k : ℕ) (h : Hunk) (why : EditFault) → IsSound s → RefusesExactly s (Cut k h.old_at h.old_len) (Err why) → LacksRoom s (hunk_cost h) (fault.Edit why)
 cut_lacks s k h why st exact = edit_lacks (Cut k h.old_at h.old_len) s (hunk_cost h) why st (omega arith) (omega arith) exact
 
 -- or its put
-pub put_lacks : (old mid : State) (k cut : ℕ) (h : Hunk) (chs : List ℕ) (why : EditFault) → Stands mid → Costs old mid (cost h.old_len 0 0) (Ok cut) → length chs ≡ h.new_len → RefusesExactly mid (Put k h.old_at chs) (Err why)
+pub put_lacks : (old mid : State) (k cut : ℕ) (h : Hunk) (chs : List ℕ) (why : EditFault) → IsSound mid → Costs old mid (cost h.old_len 0 0) (Ok cut) → length chs ≡ h.new_len → RefusesExactly mid (Put k h.old_at chs) (Err why)
     → LacksRoom old (hunk_cost h) (fault.Edit why)
 put_lacks old mid k cut h chs why st first long exact =
     costs_stop old mid (cost h.old_len 0 0) (cost h.new_len h.new_len 0) (hunk_cost h) cut (fault.Edit why) (up (omega arith) (omega arith) (omega arith)) first
@@ -113,7 +113,7 @@ module _ (old mid : State) (hs : List Hunk) (left n : ℕ) (some : 0 < left) (fi
       (costs_stop old mid (hunks_cost (drop left hs)) (hunk_cost h) (hunks_cost (h ∷ drop left hs)) n why (one_more h (drop left hs)) first lacks))
 
 -- hunks put no more letters than there are (a point is written as where a hunk begins)
-put_from : (old new : List ℕ) (least : ℕ) (p : Hunk) (hs : List Hunk) (q : Hunk) → TransformsFrom nat_eq old new least (start_of p) hs (start_of q) → put_size hs + p.new_at ≤ q.new_at
+put_from : (old new : List ℕ) (least : ℕ) (p : Hunk) (hs : List Hunk) (q : Hunk) → TransformsFrom nat_eq old new least (hunk_start p) hs (hunk_start q) → put_size hs + p.new_at ≤ q.new_at
 put_from old new least p [] q t = omega (arith, t.order, t.as_many)
 put_from old new least p (h ∷ hs) q t =
     let rest = put_from old new 1 (record { old_at = h.old_at + h.old_len; old_len = 0; new_at = h.new_at + h.new_len; new_len = 0 }) hs q t.3 in
@@ -156,7 +156,7 @@ chosen_within old new hs a = record { operations = size_within old new hs a.tran
 
 -- what it costs at most that sections get the titles and texts of parts
 abbrev pub filling_cost : List Op → List Identifier → List Part → Cost
-filling_cost h sections parts = cost (letters_of h sections + part_letters parts + length parts) (part_letters parts + length parts) (length parts)
+filling_cost h sections parts = cost (shown_letters h sections + part_letters parts + length parts) (part_letters parts + length parts) (length parts)
 
 -- a list without the member at a place
 without_at : (f : Identifier → ℕ) (ys : List Identifier) (k : ℕ) (x : Identifier) → k < length ys → get_or ys k x ≡ x
@@ -198,18 +198,18 @@ no_letters : (o : List Op) (s : Identifier) → Lawful o → holds o s ≡ false
 no_letters o s w new = omega (arith, text_length o s w, ap length (nothing_shown o s w new))
 
 -- where texts stay, and what came is new, the sections show no more letters than before
-pub letters_shaped : (old mid : State) (n : ℕ) → Lawful old.held.history → Lawful mid.held.history → IsReshaped old mid n → SameTexts old.held.history mid.held.history → letters mid.held.history ≤ letters old.held.history
+pub letters_shaped : (old mid : State) (n : ℕ) → Lawful old.held.history → Lawful mid.held.history → IsReshaped old mid n → SameTexts old.held.history mid.held.history → letters_from mid.held.history ≤ letters_from old.held.history
 letters_shaped old mid n w v shaped same =
     let h : List Op = old.held.history in
     let g : List Op = mid.held.history in
     let each : (s : Identifier) → length (text g s) ≡ length (text h s) = λ s. omega (arith, text_length g s v, text_length h s w, ap length (same s)) in
-    let as_before : letters_of g (arranged g) ≡ letters_of h (arranged g) = (λ i. sum_by (λ s. each s i) (arranged g)) in
+    let as_before : shown_letters g (arranged g) ≡ shown_letters h (arranged g) = (λ i. sum_by (λ s. each s i) (arranged g)) in
     let within_old = sum_within (λ s. length (text h s)) (arranged g) (arranged h) (arranged_once g v) (λ s m.
     elim (shaped.keeps.came s (arranged_shown g s m)) [ inl k ↦ inl (shown_arranged h s w k) | inr k ↦ inr (no_letters h s w k) ]) in
     omega (arith, as_before, within_old)
 
 -- a manuscript whose sections were added, dropped and moved, and then filled
-module _ (old : State) (ps : List Part) (g : List Op) (e : ℕ) (count : e ≡ length (arranged old.held.history)) (fewer : letters g ≤ letters old.held.history) where
+module _ (old : State) (ps : List Part) (g : List Op) (e : ℕ) (count : e ≡ length (arranged old.held.history)) (fewer : letters_from g ≤ letters_from old.held.history) where
   abbrev shaping : Cost
   shaping = cost (e + 2 * length ps) (2 * length ps) (length ps)
 

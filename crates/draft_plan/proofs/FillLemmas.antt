@@ -35,7 +35,7 @@ use Rattle.draft_plan.specs.Drafts.{Part}
 use Rattle.draft_plan.specs.Needed.{InHeading, InText, MakesOnly}
 use Rattle.draft_plan.specs.Plain.{arranged_part}
 use Rattle.draft_plan.specs.Revision.{HasOneMore, StopsAtLimit, retitles_of}
-use Rattle.draft_plan.specs.Shaping.{ChangesOnly, IsFilled, IsHeadedBy, SameSection}
+use Rattle.draft_plan.specs.Shaping.{ChangesOnly, IsFilledIn, IsHeadedBy, SameSection}
 use Rattle.draft_plan.specs.Texts.{CountsHunks, EditsText, IsRevised, KeepsCommon, KeepsElements, StopsRevising}
 use Rattle.draft_plan.proofs.ChangeLemmas.{changed_retitle, stops_note, stops_weaker}
 use Rattle.draft_plan.proofs.KeptLemmas.{common_earlier}
@@ -211,7 +211,7 @@ module _ (old mid new : State) (k n m : ℕ) (x : Identifier) (title bytes : Lis
       let next = unchanged (ap encode_utf8_all hd.reads ∙ ap (λ (p : Part). p.text) e) in
       (omega (arith, first.0, next.0), next.1 ∙ first.1)
 
-  pub section_filled : IsFilled old new x part (n + m)
+  pub section_filled : IsFilledIn old new x part (n + m)
   section_filled =
       let titled : encode_utf8_all (heading new.held.history x) ≡ title = ap encode_utf8_all (r.keeps.headings x) ∙ hd.headed in
       let written : encode_utf8_all (text new.held.history x) ≡ bytes = ap encode_utf8_all r.here ∙ encodes-chars bytes tx.utf8 in

@@ -12,8 +12,8 @@ use Rattle.std.proofs.lemmas.List.Splits.{join_with_byte-slice_split, length-sli
 use Rattle.std.proofs.lemmas.Str.{IsUtf8-append, IsUtf8-encode, IsUtf8-from_is_utf8, IsUtf8-nil, encode_ascii, inside_one, is_utf8-from_IsUtf8}
 use Rattle.fugue_ids.specs.Titles.{ends_line, has_line_end}
 use Rattle.catalogue_notes.specs.Claims.{is_title}
-use Rattle.draft_plan.specs.Drafts.{Part, before_heading, first_bad, form, is_bad, is_bad_at, is_heading, lines, part_form, part_of, parts_of, pieces, title_of}
-use Rattle.draft_plan.specs.Laws.{FormOfParts, IsPart, PartsOfForm, ended, ends_part, filled}
+use Rattle.draft_plan.specs.Drafts.{Part, before_heading, first_bad, form, is_bad, is_bad_at, is_heading, draft_lines, part_form, part_under, parts_of, pieces, heading_of}
+use Rattle.draft_plan.specs.Laws.{FormOfParts, IsPart, PartsOfForm, ended_lines, ends_part, with_empty_lines}
 use Rattle.draft_plan.proofs.LineLemmas.{IsLine, closed_ended, line_split, pieces_closed, pieces_split, split_lines}
 use Rattle.draft_plan.proofs.PartLemmas.{AreGood, ArePlain, before_all, heading_first, parts_plain, title_utf8}
 
@@ -90,8 +90,8 @@ good_lines : (ls : List (List ℕ)) → All IsUtf8 ls → ArePlain ls → AreGoo
 good_lines [] u h = All-nil (λ l. is_bad l ≡ false)
 good_lines (l ∷ ls) u h =
     let utf8 = not_from_true (is_utf8 l) (is_utf8-from_IsUtf8 l (All-head IsUtf8 l ls u)) in
-    let plain = and_left (is_heading l) (not (is_title (title_of l))) (All-head (λ l. is_heading l ≡ false) l ls h) in
-    All-cons (λ l. is_bad l ≡ false) l ls (or_from (not (is_utf8 l)) (is_heading l && not (is_title (title_of l))) utf8 plain)
+    let plain = and_left (is_heading l) (not (is_title (heading_of l))) (All-head (λ l. is_heading l ≡ false) l ls h) in
+    All-cons (λ l. is_bad l ≡ false) l ls (or_from (not (is_utf8 l)) (is_heading l && not (is_title (heading_of l))) utf8 plain)
     (good_lines ls (All-tail IsUtf8 l ls u) (All-tail (λ l. is_heading l ≡ false) l ls h))
 
 sign_utf8 : is_utf8 (codes "# ") ≡ true
@@ -157,11 +157,11 @@ parts_of_form ps h =
     ap read (pieces_closed (form ps)) ∙ ap (λ o. told o (parts_of (pieces (form ps)))) (none_bad_first (pieces (form ps)) f.at_heading f.good) ∙ ap Ok f.parts
 
 -- lines, joined by LF, with LF behind them
-join_block : (b : List ℕ) (bs : List (List ℕ)) → join_with_byte 10 (b ∷ bs) ++ 10 ∷ [] ≡ ended (b ∷ bs)
+join_block : (b : List ℕ) (bs : List (List ℕ)) → join_with_byte 10 (b ∷ bs) ++ 10 ∷ [] ≡ ended_lines (b ∷ bs)
 join_block b [] = sym (append-nil (b ++ 10 ∷ []))
-join_block b (c ∷ bs) = append_assoc b (10 ∷ join_with_byte 10 (c ∷ bs)) (10 ∷ []) ∙ ap (λ l. b ++ 10 ∷ l) (join_block c bs) ∙ sym (append_assoc b (10 ∷ []) (ended (c ∷ bs)))
+join_block b (c ∷ bs) = append_assoc b (10 ∷ join_with_byte 10 (c ∷ bs)) (10 ∷ []) ∙ ap (λ l. b ++ 10 ∷ l) (join_block c bs) ∙ sym (append_assoc b (10 ∷ []) (ended_lines (c ∷ bs)))
 
-heading_is : (line : List ℕ) → is_heading line ≡ true → line ≡ codes "# " ++ title_of line
+heading_is : (line : List ℕ) → is_heading line ≡ true → line ≡ codes "# " ++ heading_of line
 heading_is [] e = absurd (both_ways false refl e)
 heading_is (a ∷ []) e = absurd (both_ways (nat_eq 35 a && false) (and_right (nat_eq 35 a) false refl) e)
 heading_is (a ∷ b ∷ line) e =
@@ -171,47 +171,47 @@ heading_is (a ∷ b ∷ line) e =
     (λ j. first j ∷ second j ∷ line)
 
 part_line : (l : List ℕ) (b : List (List ℕ)) (rest : List ℕ) → is_heading l ≡ true
-    → part_form (record { title = title_of l; text = join_with_byte 10 b }) ++ rest ≡ (l ++ 10 ∷ []) ++ ((join_with_byte 10 b ++ 10 ∷ []) ++ rest)
+    → part_form (record { title = heading_of l; text = join_with_byte 10 b }) ++ rest ≡ (l ++ 10 ∷ []) ++ ((join_with_byte 10 b ++ 10 ∷ []) ++ rest)
 part_line l b rest e =
-    part_whole (record { title = title_of l; text = join_with_byte 10 b }) rest
+    part_whole (record { title = heading_of l; text = join_with_byte 10 b }) rest
     ∙ ap (λ (h : List ℕ). h ++ 10 ∷ (join_with_byte 10 b ++ 10 ∷ rest)) (sym (heading_is l e))
     ∙ ap (λ (t : List ℕ). l ++ 10 ∷ t) (sym (append_assoc (join_with_byte 10 b) (10 ∷ []) rest))
     ∙ sym (append_assoc l (10 ∷ []) ((join_with_byte 10 b ++ 10 ∷ []) ++ rest))
 
 -- the lines up to the next heading, and the form of the parts behind them
-reform_heading : (l : List ℕ) (ls : List (List ℕ)) → is_heading l ≡ true → ended (filled ls) ≡ ended (before_heading ls) ++ form (parts_of ls)
-    → ended (filled (l ∷ ls)) ≡ form (parts_of (l ∷ ls))
+reform_heading : (l : List ℕ) (ls : List (List ℕ)) → is_heading l ≡ true → ended_lines (with_empty_lines ls) ≡ ended_lines (before_heading ls) ++ form (parts_of ls)
+    → ended_lines (with_empty_lines (l ∷ ls)) ≡ form (parts_of (l ∷ ls))
 reform_heading l [] e more = rw e (sym (part_line l [] [] e))
 reform_heading l (k ∷ ls) e more =
     elim (cases_Bool (is_heading k)) [
       | inl t ↦
           let none : before_heading (k ∷ ls) ≡ [] = before_all [] (k ∷ ls) (All-nil (λ l. is_heading l ≡ false)) t in
-          let one : ended (filled (k ∷ ls)) ≡ form (parts_of (k ∷ ls)) = more ∙ ap (λ b. ended b ++ form (parts_of (k ∷ ls))) none in
-          ap (λ t. ended (cond t (l ∷ [] ∷ filled (k ∷ ls)) (l ∷ filled (k ∷ ls)))) (and_from (is_heading l) (is_heading k) e t)
+          let one : ended_lines (with_empty_lines (k ∷ ls)) ≡ form (parts_of (k ∷ ls)) = more ∙ ap (λ b. ended_lines b ++ form (parts_of (k ∷ ls))) none in
+          ap (λ t. ended_lines (cond t (l ∷ [] ∷ with_empty_lines (k ∷ ls)) (l ∷ with_empty_lines (k ∷ ls)))) (and_from (is_heading l) (is_heading k) e t)
           ∙ ap (λ m. (l ++ 10 ∷ []) ++ ((10 ∷ []) ++ m)) one
           ∙ sym (part_line l [] (form (parts_of (k ∷ ls))) e)
-          ∙ ap (λ b. part_form (record { title = title_of l; text = join_with_byte 10 b }) ++ form (parts_of (k ∷ ls))) (sym none)
-          ∙ ap form (sym (ap (λ t. cond t (part_of l (k ∷ ls) ∷ parts_of (k ∷ ls)) (parts_of (k ∷ ls))) e))
+          ∙ ap (λ b. part_form (record { title = heading_of l; text = join_with_byte 10 b }) ++ form (parts_of (k ∷ ls))) (sym none)
+          ∙ ap form (sym (ap (λ t. cond t (part_under l (k ∷ ls) ∷ parts_of (k ∷ ls)) (parts_of (k ∷ ls))) e))
       | inr n ↦
           let some : before_heading (k ∷ ls) ≡ k ∷ before_heading ls = ap (λ t. cond t [] (k ∷ before_heading ls)) n in
-          ap (λ t. ended (cond t (l ∷ [] ∷ filled (k ∷ ls)) (l ∷ filled (k ∷ ls)))) (and_right (is_heading l) (is_heading k) n)
-          ∙ ap (λ m. (l ++ 10 ∷ []) ++ m) (more ∙ ap (λ b. ended b ++ form (parts_of (k ∷ ls))) some ∙ ap (λ b. b ++ form (parts_of (k ∷ ls))) (sym (join_block k (before_heading ls))))
+          ap (λ t. ended_lines (cond t (l ∷ [] ∷ with_empty_lines (k ∷ ls)) (l ∷ with_empty_lines (k ∷ ls)))) (and_right (is_heading l) (is_heading k) n)
+          ∙ ap (λ m. (l ++ 10 ∷ []) ++ m) (more ∙ ap (λ b. ended_lines b ++ form (parts_of (k ∷ ls))) some ∙ ap (λ b. b ++ form (parts_of (k ∷ ls))) (sym (join_block k (before_heading ls))))
           ∙ sym (part_line l (k ∷ before_heading ls) (form (parts_of (k ∷ ls))) e)
-          ∙ ap (λ b. part_form (record { title = title_of l; text = join_with_byte 10 b }) ++ form (parts_of (k ∷ ls))) (sym some)
-          ∙ ap form (sym (ap (λ t. cond t (part_of l (k ∷ ls) ∷ parts_of (k ∷ ls)) (parts_of (k ∷ ls))) e))
+          ∙ ap (λ b. part_form (record { title = heading_of l; text = join_with_byte 10 b }) ++ form (parts_of (k ∷ ls))) (sym some)
+          ∙ ap form (sym (ap (λ t. cond t (part_under l (k ∷ ls) ∷ parts_of (k ∷ ls)) (parts_of (k ∷ ls))) e))
     ]
 
-reform : (ls : List (List ℕ)) → ended (filled ls) ≡ ended (before_heading ls) ++ form (parts_of ls)
+reform : (ls : List (List ℕ)) → ended_lines (with_empty_lines ls) ≡ ended_lines (before_heading ls) ++ form (parts_of ls)
 reform [] = refl
 reform (l ∷ ls) =
     elim (cases_Bool (is_heading l)) [
-      | inl e ↦ reform_heading l ls e (reform ls) ∙ ap (λ b. ended b ++ form (parts_of (l ∷ ls))) (sym (ap (λ t. cond t [] (l ∷ before_heading ls)) e))
+      | inl e ↦ reform_heading l ls e (reform ls) ∙ ap (λ b. ended_lines b ++ form (parts_of (l ∷ ls))) (sym (ap (λ t. cond t [] (l ∷ before_heading ls)) e))
       | inr e ↦
-          ap (λ t. ended (cond t (l ∷ [] ∷ filled ls) (l ∷ filled ls))) (and_left (is_heading l) (ends_part ls) e)
+          ap (λ t. ended_lines (cond t (l ∷ [] ∷ with_empty_lines ls) (l ∷ with_empty_lines ls))) (and_left (is_heading l) (ends_part ls) e)
           ∙ ap (λ m. (l ++ 10 ∷ []) ++ m) (reform ls)
-          ∙ sym (append_assoc (l ++ 10 ∷ []) (ended (before_heading ls)) (form (parts_of ls)))
-          ∙ ap (λ b. ended b ++ form (parts_of ls)) (sym (ap (λ t. cond t [] (l ∷ before_heading ls)) e))
-          ∙ ap (λ ps. ended (before_heading (l ∷ ls)) ++ form ps) (sym (ap (λ t. cond t (part_of l ls ∷ parts_of ls) (parts_of ls)) e))
+          ∙ sym (append_assoc (l ++ 10 ∷ []) (ended_lines (before_heading ls)) (form (parts_of ls)))
+          ∙ ap (λ b. ended_lines b ++ form (parts_of ls)) (sym (ap (λ t. cond t [] (l ∷ before_heading ls)) e))
+          ∙ ap (λ ps. ended_lines (before_heading (l ∷ ls)) ++ form ps) (sym (ap (λ t. cond t (part_under l ls ∷ parts_of ls) (parts_of ls)) e))
     ]
 
 told_ok : (o : Option ℕ) (ps qs : List Part) → told o ps ≡ Ok qs → (o ≡ None) × (ps ≡ qs)
@@ -220,9 +220,9 @@ told_ok (Some line) ps qs e = cc
 
 pub form_of_parts : FormOfParts
 form_of_parts d ps h =
-    let is = told_ok (first_bad 1 (lines d)) (parts_of (lines d)) ps h in
-    let none : before_heading (lines d) ≡ [] = before_all [] (lines d) (All-nil (λ l. is_heading l ≡ false)) (heading_first (lines d) is.0) in
+    let is = told_ok (first_bad 1 (draft_lines d)) (parts_of (draft_lines d)) ps h in
+    let none : before_heading (draft_lines d) ≡ [] = before_all [] (draft_lines d) (All-nil (λ l. is_heading l ≡ false)) (heading_first (draft_lines d) is.0) in
     record {
       draft = closed_ended d;
-      form_is = ap form (sym is.1) ∙ ap (λ b. ended b ++ form (parts_of (lines d))) (sym none) ∙ sym (reform (lines d));
+      form_is = ap form (sym is.1) ∙ ap (λ b. ended_lines b ++ form (parts_of (draft_lines d))) (sym none) ∙ sym (reform (draft_lines d));
     }

@@ -11,7 +11,7 @@ use Rattle.origin_model.specs.operations.Verdict.{Lawful}
 use Rattle.origin_model.proofs.edits.SplitLemmas.{get_in}
 use Rattle.catalogue_notes.specs.Arranged.{arranged}
 use Rattle.catalogue_notes.proofs.PartLemmas.{get_some}
-use Rattle.section_plan.specs.Matching.{is_keyed, is_nothing, key_at, no_part, part_at, part_of, section_of, text_at}
+use Rattle.section_plan.specs.Matching.{is_keyed, is_nothing, key_at, no_part, part_at, part_of, section_of, text_at_place}
 use Rattle.section_plan.specs.Likeness.{alike}
 use Rattle.section_plan.specs.declared.keys.Key.TheVariants.{Text, Title}
 use Rattle.section_plan.specs.declared.pairs.Pairs.{Pairs}
@@ -115,7 +115,7 @@ module _ (o n : List Op) (parts : List ReadPart) (p : Pairs) (is : IsMatched o p
       let y = seen_at parts n j.0 t now j.1 in
       let none = is.alike i.0 j.0 x.within y.within (free_section i.0 s gone i.1 (part_of p i.0) refl) (free_part j.0 t came j.1 (section_of p j.0) refl) in
       ap (λ (q : Part). alike (chars q.text) (chars (arranged_part n t).text)) (sym x.seen)
-      ∙ ap (λ (q : Part). alike (text_at is.sections i.0) (chars q.text)) (sym y.seen)
+      ∙ ap (λ (q : Part). alike (text_at_place is.sections i.0) (chars q.text)) (sym y.seen)
       ∙ none
 
   pub kept_sections : MovesFew o n → KeepsSections o n

@@ -13,11 +13,11 @@ use Rattle.fugue_ids.specs.declared.op.Op.TheVariants.{Delete, Text}
 use Rattle.origin_model.specs.declared.edit_fault.EditFault.{EditFault}
 use Rattle.origin_model.specs.declared.edit_fault.EditFault.TheVariants as edit
 use Rattle.origin_model.specs.declared.operations.Role.{Role}
-use Rattle.origin_model.specs.edits.Edits.{ReadyInTurn, above_all, deletes_of, extended, id_at, typed}
+use Rattle.origin_model.specs.edits.Edits.{ReadyInTurn, above_all, deletes_of, history_with, id_at, typed_texts}
 use Rattle.origin_model.specs.edits.Effect.{Gains}
 use Rattle.origin_model.specs.edits.Refusal.{held_count, in_range, in_section, next_of_own, refused_elements, refused_ops}
 use Rattle.origin_model.specs.edits.State.{State}
-use Rattle.origin_model.specs.operations.Counters.{counters, mentioned}
+use Rattle.origin_model.specs.operations.Counters.{counters, mentioned_ids}
 use Rattle.origin_model.specs.operations.History.{holds}
 use Rattle.origin_model.specs.operations.Verdict.{names}
 use Rattle.origin_model.proofs.SharedLemmas.{Fits}
@@ -37,7 +37,7 @@ abbrev pub MakesBelow : (r c : ℕ) → Op → Type 0
 MakesBelow r c op = All (IsBelow r c) (option_to_list (id_of op))
 
 -- operations that join in turn, and make no counter from c on, leave all below
-joined_below : (ops h : List Op) (r c : ℕ) → BelowAll r c h → ReadyInTurn h ops → All (MakesBelow r c) ops → BelowAll r c (extended h ops)
+joined_below : (ops h : List Op) (r c : ℕ) → BelowAll r c h → ReadyInTurn h ops → All (MakesBelow r c) ops → BelowAll r c (history_with h ops)
 joined_below [] h r c a ready own = a
 joined_below (op ∷ ops) h r c a ready own =
     let P : Identifier → Type 0 = IsBelow r c in
@@ -45,7 +45,7 @@ joined_below (op ∷ ops) h r c a ready own =
     All-map P (λ (named : Identifier × Role). named.0) (names op)
     (All-weaker (Fits h) (λ (named : Identifier × Role). P named.0) (λ named k. held_below r c h named.0 a (ap is_some k.1)) (names op) (joins h op ready.0).fit) in
     joined_below ops (op ∷ h) r c
-    (All-append P (mentioned op) (flat_map mentioned h) (All-append P (option_to_list (id_of op)) (map (λ named. named.0) (names op)) (All-head (MakesBelow r c) op ops own) named) a)
+    (All-append P (mentioned_ids op) (flat_map mentioned_ids h) (All-append P (option_to_list (id_of op)) (map (λ named. named.0) (names op)) (All-head (MakesBelow r c) op ops own) named) a)
     ready.1 (All-tail (MakesBelow r c) op ops own)
 
 -- the next counter behind operations that join, of which each makes a counter below that
@@ -58,13 +58,13 @@ next_joined old new ops k g ready own =
     let n : ℕ = next_of_own old in
     let P : Identifier → Type 0 = IsBelow r (n + k) in
     let more : (i : Identifier) → IsBelow r n i → IsBelow r (n + k) i = λ i b own. let l : i.counter < n = b own in omega (arith, l) in
-    let front : BelowAll r (n + k) (extended h ops) =
-    joined_below ops h r (n + k) (All-weaker (IsBelow r n) P more (flat_map mentioned h) (history_below r h w)) ready own in
-    let rest : BelowAll r (n + k) w = All-weaker (IsBelow r n) P more (flat_map mentioned w) (waiting_below r h w) in
-    let all : BelowAll r (n + k) (extended h ops ++ w) =
-    subst (All P) (sym (flat_map-append mentioned (extended h ops) w)) (All-append P (flat_map mentioned (extended h ops)) (flat_map mentioned w) front rest) in
-    let next : above_all (counters r (extended h ops ++ w)) ≤ n + k =
-    above_below (counters r (extended h ops ++ w)) (n + k) (counters_below r (n + k) (flat_map mentioned (extended h ops ++ w)) all) in
+    let front : BelowAll r (n + k) (history_with h ops) =
+    joined_below ops h r (n + k) (All-weaker (IsBelow r n) P more (flat_map mentioned_ids h) (history_below r h w)) ready own in
+    let rest : BelowAll r (n + k) w = All-weaker (IsBelow r n) P more (flat_map mentioned_ids w) (waiting_below r h w) in
+    let all : BelowAll r (n + k) (history_with h ops ++ w) =
+    subst (All P) (sym (flat_map-append mentioned_ids (history_with h ops) w)) (All-append P (flat_map mentioned_ids (history_with h ops)) (flat_map mentioned_ids w) front rest) in
+    let next : above_all (counters r (history_with h ops ++ w)) ≤ n + k =
+    above_below (counters r (history_with h ops ++ w)) (n + k) (counters_below r (n + k) (flat_map mentioned_ids (history_with h ops ++ w)) all) in
     subst (λ (s : State). next_of_own s ≤ n + k) (sym g.others) next
 
 -- what operations take that join
@@ -214,10 +214,10 @@ lacks_note s why e few =
     by false false false f g h e = absurd (none-some why e)
 
 -- texts that are typed make counters up to their number
-pub typed_below : (chs : List ℕ) (r c d : ℕ) (s : Identifier) (left right : Option Identifier) → c + length chs ≤ d → All (MakesBelow r d) (typed r c s left right chs)
+pub typed_below : (chs : List ℕ) (r c d : ℕ) (s : Identifier) (left right : Option Identifier) → c + length chs ≤ d → All (MakesBelow r d) (typed_texts r c s left right chs)
 typed_below [] r c d s left right l = All-nil (MakesBelow r d)
 typed_below (ch ∷ chs) r c d s left right l =
-    All-cons (MakesBelow r d) (Text (id_at r c) s left right ch) (typed r (suc c) s (Some (id_at r c)) right chs) (own_id_below r c d (omega (arith, l)))
+    All-cons (MakesBelow r d) (Text (id_at r c) s left right ch) (typed_texts r (suc c) s (Some (id_at r c)) right chs) (own_id_below r c d (omega (arith, l)))
     (typed_below chs r (suc c) d s (Some (id_at r c)) right (omega (arith, l)))
   where
     own_id_below : (r c d : ℕ) → c < d → All (IsBelow r d) (id_at r c ∷ [])

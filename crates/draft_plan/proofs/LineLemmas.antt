@@ -9,8 +9,8 @@ use Rattle.std.proofs.lemmas.List.Quantifiers.{position-Some}
 use Rattle.std.proofs.lemmas.List.Splits.{join_with_byte-slice_split, length-slice_split, slice_split_none}
 use Rattle.std.proofs.lemmas.List.Sums.{prefix_len_passes}
 use Rattle.std.proofs.lemmas.Option.{none-some}
-use Rattle.draft_plan.specs.Drafts.{add_byte, closed, ends_in_line_feed, is_heading, lines, pieces}
-use Rattle.draft_plan.specs.Laws.{ended, ends_part}
+use Rattle.draft_plan.specs.Drafts.{add_byte, with_last_line_end, ends_in_line_feed, is_heading, draft_lines, pieces}
+use Rattle.draft_plan.specs.Laws.{ended_lines, ends_part}
 use Rattle.draft_plan.specs.Readings.{IsFirstLine}
 
 -- no byte of the line is LF
@@ -56,7 +56,7 @@ pieces_end b [] e = rw e refl
 pieces_end b (c ∷ bs) e = ap (add_byte b) (pieces_end c bs e)
 
 -- the LF that closes a draft begins no line
-pub pieces_closed : (d : List ℕ) → lines d ≡ pieces d
+pub pieces_closed : (d : List ℕ) → draft_lines d ≡ pieces d
 pieces_closed [] = refl
 pieces_closed (b ∷ bs) =
     elim (cases_Bool (ends_in_line_feed (b ∷ bs))) [
@@ -76,18 +76,18 @@ some_pieces b ls =
       | inr e ↦ rw e (some_first b ls)
     ]
 
-ended_first : (b : ℕ) (ls : List (List ℕ)) → 0 < length ls → ended (onto_first b ls) ≡ b ∷ ended ls
+ended_first : (b : ℕ) (ls : List (List ℕ)) → 0 < length ls → ended_lines (onto_first b ls) ≡ b ∷ ended_lines ls
 ended_first b [] h = absurd (omega (arith, h))
 ended_first b (l ∷ ls) h = refl
 
-ended_byte : (b : ℕ) (ls : List (List ℕ)) → 0 < length ls → ended (add_byte b ls) ≡ b ∷ ended ls
+ended_byte : (b : ℕ) (ls : List (List ℕ)) → 0 < length ls → ended_lines (add_byte b ls) ≡ b ∷ ended_lines ls
 ended_byte b ls h =
     elim (cases_Bool (nat_eq b 10)) [
-      | inl e ↦ rw e (ap (λ c. c ∷ ended ls) (sym (eqb-true b 10 e)))
+      | inl e ↦ rw e (ap (λ c. c ∷ ended_lines ls) (sym (eqb-true b 10 e)))
       | inr e ↦ rw e (ended_first b ls h)
     ]
 
-ended_pieces : (b : ℕ) (bs : List ℕ) → ends_in_line_feed (b ∷ bs) ≡ true → ended (pieces (b ∷ bs)) ≡ b ∷ bs
+ended_pieces : (b : ℕ) (bs : List ℕ) → ends_in_line_feed (b ∷ bs) ≡ true → ended_lines (pieces (b ∷ bs)) ≡ b ∷ bs
 ended_pieces b [] e = rw e (ap (λ c. c ∷ []) (sym (eqb-true b 10 e)))
 ended_pieces b (c ∷ bs) e = ended_byte b (pieces (c ∷ bs)) (some_pieces c (pieces bs)) ∙ ap (λ l. b ∷ l) (ended_pieces c bs e)
 
@@ -96,7 +96,7 @@ ends_closed b [] = refl
 ends_closed b (c ∷ bs) = ends_closed c bs
 
 -- a closed draft is its lines, with LF behind each
-pub closed_ended : (d : List ℕ) → closed d ≡ ended (lines d)
+pub closed_ended : (d : List ℕ) → with_last_line_end d ≡ ended_lines (draft_lines d)
 closed_ended [] = refl
 closed_ended (b ∷ bs) =
     elim (cases_Bool (ends_in_line_feed (b ∷ bs))) [

@@ -4,9 +4,9 @@ use Rattle.std.specs.List.{All}
 use Rattle.std.proofs.lemmas.List.{length-reverse}
 use Rattle.fugue_ids.specs.declared.limits.TheConstants.{MOST_OPERATIONS}
 use Rattle.fugue_ids.specs.declared.op.Op.{Op}
-use Rattle.origin_model.specs.edits.State.{Stands, State}
+use Rattle.origin_model.specs.edits.State.{IsSound, State}
 use Rattle.origin_model.specs.operations.History.{accepted}
-use Rattle.draft_plan.specs.Changes.{Change, Changed, all_made, made_of}
+use Rattle.draft_plan.specs.Changes.{PlanChange, ArePlanned, all_made, made_of}
 use Rattle.draft_plan.specs.Revision.{Makes, StopsAtLimit}
 use Rattle.draft_plan.specs.declared.fault.ReviseFault.{ReviseFault}
 use Rattle.draft_plan.proofs.ChangeLemmas.{changed_join, changed_none, count_join, count_one, stops_after}
@@ -15,7 +15,7 @@ use Rattle.draft_plan.proofs.ChangeLemmas.{changed_join, changed_none, count_joi
 pub makes_none : (s : State) → Makes s s 0
 makes_none s = record { changes = []; changed = changed_none s; count = refl }
 
-pub makes_one : (old new : State) (c : Change) (n : ℕ) → Changed old new (c ∷ []) → n ≡ length (made_of old c) → Makes old new n
+pub makes_one : (old new : State) (c : PlanChange) (n : ℕ) → ArePlanned old new (c ∷ []) → n ≡ length (made_of old c) → Makes old new n
 makes_one old new c n changed count = record { changes = c ∷ []; changed = changed; count = count ∙ sym (count_one old c) }
 
 pub makes_join : (old mid new : State) (n m : ℕ) → Makes old mid n → Makes mid new m → Makes old new (n + m)
@@ -26,7 +26,7 @@ makes_join old mid new n m first next = record {
 }
 
 -- so many operations there are
-pub makes_few : (old new : State) (n : ℕ) → Makes old new n → Stands new → n ≤ MOST_OPERATIONS
+pub makes_few : (old new : State) (n : ℕ) → Makes old new n → IsSound new → n ≤ MOST_OPERATIONS
 makes_few old new n m st =
     let ops : List Op = all_made old m.changes in
     let long : length (accepted new.held.history) ≡ length (accepted old.held.history) + length ops =
@@ -34,10 +34,10 @@ makes_few old new n m st =
     omega (arith, long, m.count, length-reverse new.held.history, st.few, st.most_within.1)
 
 -- changes of any kind
-abbrev pub AnyChange : Change → Type 0
+abbrev pub AnyChange : PlanChange → Type 0
 AnyChange c = Unit {0}
 
-any_changes : (cs : List Change) → All AnyChange cs
+any_changes : (cs : List PlanChange) → All AnyChange cs
 any_changes cs = λ k d within. tt
 
 -- changes were made, and then one stopped

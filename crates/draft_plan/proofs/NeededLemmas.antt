@@ -11,7 +11,7 @@ use Rattle.fugue_ids.specs.declared.op.Op.TheVariants.{Delete, Note, Section, Te
 use Rattle.fugue_ids.proofs.IdentifierLemmas.{id_eq-true}
 use Rattle.fugue_ids.proofs.ListLemmas.{all_from_contains}
 use Rattle.origin_model.specs.declared.operations.Place.TheVariants.{Catalogue as catalogue, Section as within}
-use Rattle.origin_model.specs.edits.Edits.{Cut, Put, deletes_of, id_at, left_for, made, next_counter, right_for, typed}
+use Rattle.origin_model.specs.edits.Edits.{Cut, Put, deletes_of, id_at, left_for, made, next_counter, right_for, typed_texts}
 use Rattle.origin_model.specs.edits.Effect.{Gains}
 use Rattle.origin_model.specs.edits.State.{State}
 use Rattle.origin_model.specs.operations.History.{element_of, holder, holds, is_own}
@@ -56,10 +56,10 @@ pub only_one : (Kind : Op → Type 0) (old new : State) (op : Op) → Gains old 
 only_one Kind old new op gained k = (op ∷ [], gained, All-cons Kind op [] k (All-nil Kind))
 
 -- texts that are typed
-typed_in : (chs : List ℕ) (r c : ℕ) (s : Identifier) (left right : Option Identifier) (xs : List Identifier) → All (InText s xs) (typed r c s left right chs)
+typed_in : (chs : List ℕ) (r c : ℕ) (s : Identifier) (left right : Option Identifier) (xs : List Identifier) → All (InText s xs) (typed_texts r c s left right chs)
 typed_in [] r c s left right xs = All-nil (InText s xs)
 typed_in (ch ∷ chs) r c s left right xs =
-    All-cons (InText s xs) (Text (id_at r c) s left right ch) (typed r (suc c) s (Some (id_at r c)) right chs) refl (typed_in chs r (suc c) s (Some (id_at r c)) right xs)
+    All-cons (InText s xs) (Text (id_at r c) s left right ch) (typed_texts r (suc c) s (Some (id_at r c)) right chs) refl (typed_in chs r (suc c) s (Some (id_at r c)) right xs)
 
 pub put_in_text : (r : ℕ) (h w : List Op) (k at : ℕ) (new : List ℕ) (s : Identifier) (xs : List Identifier) → slice_get (shown catalogue h) k ≡ Some s
     → All (InText s xs) (made r h w (Put k at new))

@@ -12,7 +12,7 @@ use Rattle.fugue_ids.proofs.IdentifierLemmas.{id_eq-refl, id_eq-true}
 use Rattle.fugue_ids.proofs.ListLemmas.{contains_cases, contains_filter, contains_filter_from, contains_here, contains_none, contains_there}
 use Rattle.origin_model.specs.declared.operations.Place.{Place}
 use Rattle.origin_model.specs.declared.operations.Place.TheVariants.{Catalogue as catalogue, Section as within}
-use Rattle.origin_model.specs.edits.Edits.{extended}
+use Rattle.origin_model.specs.edits.Edits.{history_with}
 use Rattle.origin_model.specs.edits.State.{State}
 use Rattle.origin_model.specs.operations.History.{element_of, holder, holds}
 use Rattle.origin_model.specs.operations.Verdict.{Lawful}
@@ -30,12 +30,12 @@ use Rattle.draft_plan.proofs.SectionLemmas.{shown_held}
 use Rattle.origin_model.proofs.edits.MadeLemmas.{lawful_front}
 
 -- what is held stays held
-stays_held : (ops h : List Op) (x : Identifier) (f : Op) → Lawful (extended h ops) → holder h x ≡ Some f → holder (extended h ops) x ≡ Some f
+stays_held : (ops h : List Op) (x : Identifier) (f : Op) → Lawful (history_with h ops) → holder h x ≡ Some f → holder (history_with h ops) x ≡ Some f
 stays_held [] h x f w e = e
 stays_held (op ∷ ops) h x f w e = stays_held ops (op ∷ h) x f w (holder-kept op f h x (joins h op (lawful_front ops (op ∷ h) w).0) e)
 
 -- an operation that was made was new, and is held
-made_held : (ops h : List Op) (op : Op) (x : Identifier) → Lawful (extended h ops) → Contains ops op → id_of op ≡ Some x → (holder h x ≡ None) × (holder (extended h ops) x ≡ Some op)
+made_held : (ops h : List Op) (op : Op) (x : Identifier) → Lawful (history_with h ops) → Contains ops op → id_of op ≡ Some x → (holder h x ≡ None) × (holder (history_with h ops) x ≡ Some op)
 made_held [] h op x w m e = absurd (contains_none op m)
 made_held (next ∷ ops) h op x w m e =
     let j = joins h next (lawful_front ops (next ∷ h) w).0 in
@@ -56,7 +56,7 @@ the_delete (Delete target) x k = ap Delete (id_eq-true target x k)
 the_delete (Note id named code body) x k = absurd (false≢true k)
 
 -- what is hidden behind operations was hidden in front of them, or one of them is its Delete
-hidden_by : (ops h : List Op) (x : Identifier) → is_hidden (extended h ops) x ≡ true → (is_hidden h x ≡ true) ⊎ Contains ops (Delete x)
+hidden_by : (ops h : List Op) (x : Identifier) → is_hidden (history_with h ops) x ≡ true → (is_hidden h x ≡ true) ⊎ Contains ops (Delete x)
 hidden_by [] h x k = inl k
 hidden_by (op ∷ ops) h x k =
     elim (hidden_by ops (op ∷ h) x k) [
@@ -82,10 +82,10 @@ module _ (old new : State) (w : Lawful old.held.history) (v : Lawful new.held.hi
   abbrev ops : List Op
   ops = only.0
 
-  is : g ≡ extended h ops
+  is : g ≡ history_with h ops
   is = ap (λ (s : State). s.held.history) only.1.others
 
-  lawful : Lawful (extended h ops)
+  lawful : Lawful (history_with h ops)
   lawful = subst Lawful is v
 
   each : (op : Op) → Contains ops op → InRevision h g op

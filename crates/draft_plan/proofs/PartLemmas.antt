@@ -10,7 +10,7 @@ use Rattle.std.proofs.lemmas.List.Elements.{All-append, All-cons, All-head, All-
 use Rattle.std.proofs.lemmas.Option.{none-some}
 use Rattle.std.proofs.lemmas.Str.{IsUtf8-append, IsUtf8-encode, IsUtf8-from_is_utf8, IsUtf8-nil}
 use Rattle.catalogue_notes.specs.Claims.{is_title}
-use Rattle.draft_plan.specs.Drafts.{Part, before_heading, first_bad, is_bad, is_bad_at, is_heading, lines, part_of, parts_of, pieces, title_of}
+use Rattle.draft_plan.specs.Drafts.{Part, before_heading, first_bad, is_bad, is_bad_at, is_heading, draft_lines, part_under, parts_of, pieces, heading_of}
 use Rattle.draft_plan.specs.Laws.{ends_part}
 use Rattle.draft_plan.specs.Readings.{IsFirstLine, IsFirstText, IsGood}
 use Rattle.draft_plan.proofs.LineLemmas.{line_split, pieces_closed}
@@ -41,7 +41,7 @@ before_plain (l ∷ ls) =
     ]
 
 -- a heading begins one
-pub parts_head : (l : List ℕ) (ls : List (List ℕ)) → is_heading l ≡ true → parts_of (l ∷ ls) ≡ part_of l ls ∷ parts_of ls
+pub parts_head : (l : List ℕ) (ls : List (List ℕ)) → is_heading l ≡ true → parts_of (l ∷ ls) ≡ part_under l ls ∷ parts_of ls
 parts_head l ls e = rw e refl
 
 -- a line that may stand at a number is no bad line
@@ -68,17 +68,17 @@ heading_first [] h = refl
 heading_first (l ∷ ls) h = not-false (is_heading l) (or_parts (is_bad l) (not (is_heading l)) (none_bad_here 1 l ls h)).1
 
 -- a draft that has no bad line
-pub good_whole : (d : List ℕ) → first_bad 1 (lines d) ≡ None → IsGood d
+pub good_whole : (d : List ℕ) → first_bad 1 (draft_lines d) ≡ None → IsGood d
 good_whole d h =
     let none : first_bad 1 (pieces d) ≡ None = ap (first_bad 1) (sym (pieces_closed d)) ∙ h in
     record { at_heading = heading_first (pieces d) none; good = good_all 1 (pieces d) none }
 
 -- the title of a heading that is not bad is one
-pub good_title : (l : List ℕ) → is_heading l ≡ true → is_bad l ≡ false → is_title (title_of l) ≡ true
+pub good_title : (l : List ℕ) → is_heading l ≡ true → is_bad l ≡ false → is_title (heading_of l) ≡ true
 good_title l h e =
-    elim (and_cases (is_heading l) (not (is_title (title_of l))) (or_parts (not (is_utf8 l)) (is_heading l && not (is_title (title_of l))) e).1) [
+    elim (and_cases (is_heading l) (not (is_title (heading_of l))) (or_parts (not (is_utf8 l)) (is_heading l && not (is_title (heading_of l))) e).1) [
       | inl n ↦ absurd (both_ways (is_heading l) n h)
-      | inr n ↦ not-false (is_title (title_of l)) n
+      | inr n ↦ not-false (is_title (heading_of l)) n
     ]
 
 pub title_utf8 : (t : List ℕ) → is_title t ≡ true → IsUtf8 t
@@ -88,7 +88,7 @@ title_utf8 t e =
     IsUtf8-from_is_utf8 t (and_parts _ _ two).0
 
 pub good_utf8 : (l : List ℕ) → is_bad l ≡ false → IsUtf8 l
-good_utf8 l e = IsUtf8-from_is_utf8 l (not-false (is_utf8 l) (or_parts (not (is_utf8 l)) (is_heading l && not (is_title (title_of l))) e).0)
+good_utf8 l e = IsUtf8-from_is_utf8 l (not-false (is_utf8 l) (or_parts (not (is_utf8 l)) (is_heading l && not (is_title (heading_of l))) e).0)
 
 line_feed_utf8 : IsUtf8 (10 ∷ [])
 unfolding lib.Utf8.encode
@@ -193,25 +193,25 @@ not_empty (b ∷ bs) e = omega arith
 
 -- the first bad line was found, or there is none
 pub bad_found : (draft rest line behind : List ℕ) (n : ℕ) → first_bad 1 (pieces draft) ≡ first_bad n (pieces rest) → IsFirstLine rest line behind → is_bad_at n line ≡ true
-    → Some n ≡ first_bad 1 (lines draft)
+    → Some n ≡ first_bad 1 (draft_lines draft)
 bad_found draft rest line behind n same first bad =
     sym (ap (first_bad 1) (pieces_closed draft) ∙ same ∙ ap (first_bad n) first.pieces_are ∙ ap (λ t. cond t (Some n) (first_bad (n + 1) (pieces behind))) bad)
 
-pub bad_nowhere : (draft rest : List ℕ) (n : ℕ) → first_bad 1 (pieces draft) ≡ first_bad n (pieces rest) → length rest ≤ 0 → None ≡ first_bad 1 (lines draft)
+pub bad_nowhere : (draft rest : List ℕ) (n : ℕ) → first_bad 1 (pieces draft) ≡ first_bad n (pieces rest) → length rest ≤ 0 → None ≡ first_bad 1 (draft_lines draft)
 bad_nowhere draft [] n same h = sym (ap (first_bad 1) (pieces_closed draft) ∙ same)
 bad_nowhere draft (b ∷ bs) n same h = absurd (omega (arith, h))
 
 -- all parts were read
-pub parts_end : (draft rest : List ℕ) (ps : List Part) → parts_of (pieces draft) ≡ ps ++ parts_of (pieces rest) → length rest ≤ 0 → ps ≡ parts_of (lines draft)
+pub parts_end : (draft rest : List ℕ) (ps : List Part) → parts_of (pieces draft) ≡ ps ++ parts_of (pieces rest) → length rest ≤ 0 → ps ≡ parts_of (draft_lines draft)
 parts_end draft [] ps same h = sym (ap parts_of (pieces_closed draft) ∙ same ∙ append-nil ps)
 parts_end draft (b ∷ bs) ps same h = absurd (omega (arith, h))
 
 -- a part was read, and the rest is good
 pub record IsPartRead (draft heading text rest : List ℕ) : Type 0 where
   pub head : is_heading heading ≡ true
-  pub title : IsUtf8 (title_of heading)
+  pub title : IsUtf8 (heading_of heading)
   pub text_utf8 : IsUtf8 text
-  pub parts : parts_of (pieces draft) ≡ record { title = title_of heading; text = text } ∷ parts_of (pieces rest)
+  pub parts : parts_of (pieces draft) ≡ record { title = heading_of heading; text = text } ∷ parts_of (pieces rest)
   pub good : IsGood rest
 
 pub part_read : (draft heading behind text rest : List ℕ) → IsGood draft → IsFirstLine draft heading behind → IsFirstText behind text rest → IsPartRead draft heading text rest
@@ -221,11 +221,11 @@ part_read draft heading behind text rest g first t =
     let tail : AreGood (before_heading (pieces behind) ++ pieces rest) = subst AreGood t.pieces_are (All-tail (λ l. is_bad l ≡ false) heading (pieces behind) all) in
     record {
       head = head;
-      title = title_utf8 (title_of heading) (good_title heading head (All-head (λ l. is_bad l ≡ false) heading (pieces behind) all));
+      title = title_utf8 (heading_of heading) (good_title heading head (All-head (λ l. is_bad l ≡ false) heading (pieces behind) all));
       text_utf8 = subst IsUtf8 (sym t.text_is) (join_utf8 (before_heading (pieces behind)) (good_left (before_heading (pieces behind)) (pieces rest) tail));
       parts = ap parts_of first.pieces_are ∙ parts_head heading (pieces behind) head
-          ∙ (λ j. record { title = title_of heading; text = sym t.text_is j } ∷ parts_of (pieces behind))
-          ∙ ap (λ ps. record { title = title_of heading; text = text } ∷ ps)
+          ∙ (λ j. record { title = heading_of heading; text = sym t.text_is j } ∷ parts_of (pieces behind))
+          ∙ ap (λ ps. record { title = heading_of heading; text = text } ∷ ps)
           (ap parts_of t.pieces_are ∙ parts_plain (before_heading (pieces behind)) (pieces rest) (before_plain (pieces behind)));
       good = record { at_heading = t.at_heading; good = good_right (before_heading (pieces behind)) (pieces rest) tail };
     }

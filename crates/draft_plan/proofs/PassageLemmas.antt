@@ -13,13 +13,13 @@ use Rattle.origin_model.specs.operations.Verdict.{Lawful}
 use Rattle.origin_model.specs.order.Printed.{shown, text}
 use Rattle.origin_model.proofs.edits.EditedTextLemmas.{text_length}
 use Rattle.origin_model.proofs.edits.SplitLemmas.{get_in}
-use Rattle.text_diff.specs.Hunks.{IsCommon, TransformsFrom, start_of}
-use Rattle.text_diff.specs.Kept.{AreAtSomeEnds, Stays}
+use Rattle.text_diff.specs.Hunks.{IsCommon, TransformsFrom, hunk_start}
+use Rattle.text_diff.specs.Kept.{AreAtSomeEnds, LineStays}
 use Rattle.text_diff.specs.Widened.{whole_start}
 use Rattle.text_diff.specs.declared.hunk.Hunk.{Hunk}
 use Rattle.text_diff.proofs.EndsLemmas.{untouched_at_ends}
 use Rattle.text_diff.proofs.HunkLemmas.{transforms_order}
-use Rattle.draft_plan.specs.Passages.{AreIn, AreShown, AreUntouched, IsPassage, PassageStays, PassagesStay}
+use Rattle.draft_plan.specs.Passages.{AreAmong, AreShown, LieUntouched, IsShownPassage, PassageStays, PassagesStay}
 use Rattle.draft_plan.specs.Revision.{KeepsSection}
 use Rattle.draft_plan.specs.Texts.{StayBetween}
 use Rattle.draft_plan.proofs.HunkLemmas.{AreOrdered, ordered_from}
@@ -30,7 +30,7 @@ point old new = record { old_at = old; old_len = 0; new_at = new; new_len = 0 }
 
 -- what stays from a later point on (a point is written as where a hunk begins)
 goes_to : (history : List Op) (old new : List ℕ) (xs : List Identifier) (same : length old ≡ length xs) (least : ℕ) (p : Hunk) (before : List Hunk) (r : Hunk) (behind : List Hunk) (ys : List Identifier)
-    → TransformsFrom nat_eq old new least (start_of p) before (start_of r) → AreOrdered old r.old_at behind → StayBetween history p.old_at xs ys (before ++ behind)
+    → TransformsFrom nat_eq old new least (hunk_start p) before (hunk_start r) → AreOrdered old r.old_at behind → StayBetween history p.old_at xs ys (before ++ behind)
     → StayBetween history r.old_at xs (drop (r.new_at - p.new_at) ys) behind
 goes_to history old new xs same least p [] r behind ys t o s =
     let many : r.old_at - p.old_at ≡ r.new_at - p.new_at = omega (arith, t.order, t.as_many) in
@@ -39,7 +39,7 @@ goes_to history old new xs same least p (h ∷ hs) r behind ys t o s =
     let front : List Identifier = take (h.old_at - p.old_at) (drop p.old_at xs) in
     let end : Hunk = point (h.old_at + h.old_len) (h.new_at + h.new_len) in
     let rest = goes_to history old new xs same 1 end hs r behind s.1 t.3 o s.5 in
-    let order = transforms_order nat_eq old new 1 (start_of end) hs (start_of r) t.3 in
+    let order = transforms_order nat_eq old new 1 (hunk_start end) hs (hunk_start r) t.3 in
     let long : length front ≡ h.old_at - p.old_at =
     length-take-le (h.old_at - p.old_at) (drop p.old_at xs) (omega (arith, length-drop p.old_at xs, same, t.1.old_within, t.1.order)) in
     let both : length (front ++ s.0) ≡ end.new_at - p.new_at = omega (arith, length-append front s.0, long, s.2, t.1.order, t.1.as_many) in
@@ -53,7 +53,7 @@ goes_to history old new xs same least p (h ∷ hs) r behind ys t o s =
 -- the elements of a line that no hunk touches stay, in their order
 line_stays : (history : List Op) (old new : List ℕ) (xs ys : List Identifier) (hs : List Hunk) → length old ≡ length xs → StayBetween history 0 xs ys hs
     → (at to len : ℕ) (before behind : List Hunk) → hs ≡ before ++ behind
-    → TransformsFrom nat_eq old new 0 (start_of (point 0 0)) before (start_of (point at to)) → TransformsFrom nat_eq old new 0 (start_of (point (at + len) (to + len))) behind (start_of (point (length old) (length new)))
+    → TransformsFrom nat_eq old new 0 (hunk_start (point 0 0)) before (hunk_start (point at to)) → TransformsFrom nat_eq old new 0 (hunk_start (point (at + len) (to + len))) behind (hunk_start (point (length old) (length new)))
     → take len (drop to ys) ≡ take len (drop at xs)
 line_stays history old new xs ys hs same s at to len before behind is front rest =
     let ordered = ordered_from nat_eq old new 0 (point (at + len) (to + len)) behind (point (length old) (length new)) rest in
@@ -107,8 +107,8 @@ module _ (xs ys : List Identifier) (at to len : ℕ) (same : take len (drop to y
       ∙ ap (λ n. take n (drop (to + j) ys)) (sym count)
 
 -- what a range of two texts has in common, a part of it has
-common_part : (old new : List ℕ) (p q r s : Hunk) → IsCommon nat_eq old new (start_of p) (start_of q) → p.old_at ≤ r.old_at → r.old_at ≤ s.old_at → s.old_at ≤ q.old_at
-    → p.old_at + r.new_at ≡ r.old_at + p.new_at → p.old_at + s.new_at ≡ s.old_at + p.new_at → IsCommon nat_eq old new (start_of r) (start_of s)
+common_part : (old new : List ℕ) (p q r s : Hunk) → IsCommon nat_eq old new (hunk_start p) (hunk_start q) → p.old_at ≤ r.old_at → r.old_at ≤ s.old_at → s.old_at ≤ q.old_at
+    → p.old_at + r.new_at ≡ r.old_at + p.new_at → p.old_at + s.new_at ≡ s.old_at + p.new_at → IsCommon nat_eq old new (hunk_start r) (hunk_start s)
 common_part old new p q r s c low order high start end = record {
   order = order;
   as_many = omega (arith, start, end);
@@ -123,10 +123,10 @@ record AreParted (old new : List ℕ) (least : ℕ) (p : Hunk) (hs : List Hunk) 
   behind : List Hunk
   to : ℕ
   is : hs ≡ before ++ behind
-  front : TransformsFrom nat_eq old new least (start_of p) before (start_of (point at to))
-  rest : TransformsFrom nat_eq old new 0 (start_of (point (at + len) (to + len))) behind (start_of q)
+  front : TransformsFrom nat_eq old new least (hunk_start p) before (hunk_start (point at to))
+  rest : TransformsFrom nat_eq old new 0 (hunk_start (point (at + len) (to + len))) behind (hunk_start q)
 
-part_hunks : (old new : List ℕ) (least : ℕ) (p : Hunk) (hs : List Hunk) (q : Hunk) (at len : ℕ) → TransformsFrom nat_eq old new least (start_of p) hs (start_of q) → p.old_at ≤ at → at + len ≤ q.old_at
+part_hunks : (old new : List ℕ) (least : ℕ) (p : Hunk) (hs : List Hunk) (q : Hunk) (at len : ℕ) → TransformsFrom nat_eq old new least (hunk_start p) hs (hunk_start q) → p.old_at ≤ at → at + len ≤ q.old_at
     → All (λ h. (h.old_at + h.old_len ≤ at) ⊎ (at + len ≤ h.old_at)) hs → AreParted old new least p hs q at len
 part_hunks old new least p [] q at len t low high apart = record {
   before = [];
@@ -179,14 +179,14 @@ module _ (old new : State) (section : Identifier) (kept : KeepsSection old new s
   abbrev new_text : List ℕ
   new_text = text new.held.history section
 
-  stays : (at to len : ℕ) (before behind : List Hunk) → kept.elements.hunks ≡ before ++ behind → TransformsFrom nat_eq old_text new_text 0 (start_of (point 0 0)) before (start_of (point at to))
-      → TransformsFrom nat_eq old_text new_text 0 (start_of (point (at + len) (to + len))) behind (start_of (point (length old_text) (length new_text))) → take len (drop to ys) ≡ take len (drop at xs)
+  stays : (at to len : ℕ) (before behind : List Hunk) → kept.elements.hunks ≡ before ++ behind → TransformsFrom nat_eq old_text new_text 0 (hunk_start (point 0 0)) before (hunk_start (point at to))
+      → TransformsFrom nat_eq old_text new_text 0 (hunk_start (point (at + len) (to + len))) behind (hunk_start (point (length old_text) (length new_text))) → take len (drop to ys) ≡ take len (drop at xs)
   stays at to len before behind is front rest =
       line_stays old.held.history old_text new_text xs ys kept.elements.hunks (text_length old.held.history section w) kept.elements.stays at to len before behind is front rest
 
-  module _ (first last : Identifier) (elements : List Identifier) (was : IsPassage old.held.history section first last elements) where
+  module _ (first last : Identifier) (elements : List Identifier) (was : IsShownPassage old.held.history section first last elements) where
     -- a passage in a window that stays
-    in_stay : (at to len : ℕ) → take len (drop to ys) ≡ take len (drop at xs) → AreIn at len was.from was.to → IsPassage new.held.history section first last elements
+    in_stay : (at to len : ℕ) → take len (drop to ys) ≡ take len (drop at xs) → AreAmong at len was.from was.to → IsShownPassage new.held.history section first last elements
     in_stay at to len same a = record {
       from = to + (was.from - at);
       to = to + (was.to - at);
@@ -196,7 +196,7 @@ module _ (old new : State) (section : Identifier) (kept : KeepsSection old new s
       all = was.all ∙ moves_part xs ys at to len same was.from was.to a.0 was.order a.1;
     }
 
-    untouched : AreUntouched kept.elements.hunks was.from was.to → IsPassage new.held.history section first last elements
+    untouched : LieUntouched kept.elements.hunks was.from was.to → IsShownPassage new.held.history section first last elements
     untouched apart =
         let len : ℕ = was.to + 1 - was.from in
         let end : was.from + len ≡ was.to + 1 = omega (arith, was.order) in
@@ -209,18 +209,18 @@ module _ (old new : State) (section : Identifier) (kept : KeepsSection old new s
 
     at_ends : (other : old_text ≡ new_text → ⊥)
         → AreAtSomeEnds old_text new_text whole_start whole_start (kept.elements.lines other).lines kept.elements.hunks (kept.elements.lines other).gaps was.from was.to
-        → IsPassage new.held.history section first last elements
+        → IsShownPassage new.held.history section first last elements
     at_ends other at =
         untouched
         (untouched_at_ends old_text new_text whole_start whole_start (kept.elements.lines other).lines kept.elements.hunks (kept.elements.lines other).gaps was.from was.to at)
 
-  passage_stays : (first last : Identifier) (elements : List Identifier) (was : IsPassage old.held.history section first last elements) → PassageStays old new section kept first last elements was
+  passage_stays : (first last : Identifier) (elements : List Identifier) (was : IsShownPassage old.held.history section first last elements) → PassageStays old new section kept first last elements was
   passage_stays first last elements was = record {
     ends = λ other.
         let lines = kept.elements.lines other in
         let shows = AreShown new.held.history section first last in
-        All-weaker (Stays old_text new_text kept.elements.hunks) (λ k. All (λ l. AreIn k.old_at k.len was.from was.from → AreIn l.old_at l.len was.to was.to → shows) lines.lines)
-        (λ k sk. All-weaker (Stays old_text new_text kept.elements.hunks) (λ l. AreIn k.old_at k.len was.from was.from → AreIn l.old_at l.len was.to was.to → shows)
+        All-weaker (LineStays old_text new_text kept.elements.hunks) (λ k. All (λ l. AreAmong k.old_at k.len was.from was.from → AreAmong l.old_at l.len was.to was.to → shows) lines.lines)
+        (λ k sk. All-weaker (LineStays old_text new_text kept.elements.hunks) (λ l. AreAmong k.old_at k.len was.from was.from → AreAmong l.old_at l.len was.to was.to → shows)
         (λ l sl a b. (
           get_in ys (k.new_at + (was.from - k.old_at)) first
               (moves_to xs ys k.old_at k.new_at k.len (stays k.old_at k.new_at k.len sk.before sk.behind sk.is sk.front sk.rest) was.from first a.0 a.1 was.begins),
@@ -229,7 +229,7 @@ module _ (old new : State) (section : Identifier) (kept : KeepsSection old new s
         )) lines.lines lines.stay) lines.lines lines.stay;
     line = λ other.
         let lines = kept.elements.lines other in
-        All-weaker (Stays old_text new_text kept.elements.hunks) (λ l. AreIn l.old_at l.len was.from was.to → IsPassage new.held.history section first last elements)
+        All-weaker (LineStays old_text new_text kept.elements.hunks) (λ l. AreAmong l.old_at l.len was.from was.to → IsShownPassage new.held.history section first last elements)
         (λ l sl a.
         in_stay first last elements was l.old_at l.new_at l.len (stays l.old_at l.new_at l.len sl.before sl.behind sl.is sl.front sl.rest) a) lines.lines lines.stay;
     untouched = untouched first last elements was;

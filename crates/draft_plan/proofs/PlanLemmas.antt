@@ -26,9 +26,9 @@ use Rattle.section_plan.specs.Matching.{part_of, section_of}
 use Rattle.section_plan.specs.declared.pairs.Pairs.{Pairs}
 use Rattle.section_plan.specs.declared.part.Part.{Part as ReadPart}
 use Rattle.draft_plan.specs.Drafts.{Part}
-use Rattle.draft_plan.specs.Limits.{AreChosen, Cost, Costs, CostsText, LacksRoom, SameTexts, cost, hunks_cost, letters_of, part_letters, plus, put_size}
+use Rattle.draft_plan.specs.Limits.{AreChosen, Cost, Costs, CostsText, LacksRoom, SameTexts, cost, hunks_cost, shown_letters, part_letters, plus, put_size}
 use Rattle.draft_plan.specs.Matching.{IsMatched}
-use Rattle.draft_plan.specs.Plans.{AreHunksOf, CostsFilling, CostsSection, LacksPlan, Plan, PlansMoves, added_count, dropped_count, filling, plan_cost, retitle_count, retitle_count_of_parts, section_before, shaping, sum_below, text_before, unmatched}
+use Rattle.draft_plan.specs.Plans.{AreHunksOf, CostsFilling, CostsSection, LacksPlan, Plan, PlansMoves, added_count, dropped_count, filling, plan_cost, retitle_count, retitle_count_of_parts, section_before, shaping, sum_below, text_before, unmatched_count}
 use Rattle.draft_plan.specs.Readings.{seen_part}
 use Rattle.draft_plan.specs.Shaping.{IsReshaped, StandsAs}
 use Rattle.draft_plan.specs.Texts.{size}
@@ -68,31 +68,31 @@ sum_below_longer f n (suc m) l = elim (cases_last n m l) [
         by (inl k) = inl (omega (arith, k, l))
         by (inr k) = inr k
 
-unmatched_most : (o : Option ℕ) → unmatched o ≤ 1
+unmatched_most : (o : Option ℕ) → unmatched_count o ≤ 1
 unmatched_most None = omega arith
 unmatched_most (Some x) = omega arith
 
 -- a section more, or a part more
 pub dropped_one : (p : Pairs) (k : ℕ) → part_of p k ≡ None → dropped_count p (k + 1) ≡ dropped_count p k + 1
-dropped_one p k e = sum_below_more (λ i. unmatched (part_of p i)) k ∙ ap (λ o. dropped_count p k + unmatched o) e
+dropped_one p k e = sum_below_more (λ i. unmatched_count (part_of p i)) k ∙ ap (λ o. dropped_count p k + unmatched_count o) e
 
 pub dropped_more : (p : Pairs) (k : ℕ) → dropped_count p k ≤ dropped_count p (k + 1)
-dropped_more p k = omega (arith, sum_below_more (λ i. unmatched (part_of p i)) k)
+dropped_more p k = omega (arith, sum_below_more (λ i. unmatched_count (part_of p i)) k)
 
 pub dropped_longer : (p : Pairs) (n m : ℕ) → n ≤ m → dropped_count p n ≤ dropped_count p m
-dropped_longer p n m l = sum_below_longer (λ i. unmatched (part_of p i)) n m l
+dropped_longer p n m l = sum_below_longer (λ i. unmatched_count (part_of p i)) n m l
 
-pub added_more : (p : Pairs) (k : ℕ) → added_count p (k + 1) ≡ added_count p k + unmatched (section_of p k)
-added_more p k = sum_below_more (λ j. unmatched (section_of p j)) k
+pub added_more : (p : Pairs) (k : ℕ) → added_count p (k + 1) ≡ added_count p k + unmatched_count (section_of p k)
+added_more p k = sum_below_more (λ j. unmatched_count (section_of p j)) k
 
 pub added_longer : (p : Pairs) (n m : ℕ) → n ≤ m → added_count p n ≤ added_count p m
-added_longer p n m l = sum_below_longer (λ j. unmatched (section_of p j)) n m l
+added_longer p n m l = sum_below_longer (λ j. unmatched_count (section_of p j)) n m l
 
 -- so many are dropped and added at most
 pub shaping_within : (p : Pairs) (moved e m : ℕ) → moved ≤ m → IsUpTo (shaping p moved e m) (cost (e + 2 * m) (2 * m) m)
 shaping_within p moved e m few =
-    let d = sum_below_within (λ i. unmatched (part_of p i)) e (λ k. unmatched_most (part_of p k)) in
-    let a = sum_below_within (λ j. unmatched (section_of p j)) m (λ k. unmatched_most (section_of p k)) in
+    let d = sum_below_within (λ i. unmatched_count (part_of p i)) e (λ k. unmatched_most (part_of p k)) in
+    let a = sum_below_within (λ j. unmatched_count (section_of p j)) m (λ k. unmatched_most (section_of p k)) in
     up (omega (arith, d, a, few)) (omega (arith, a, few)) (omega (arith, few))
 
 -- a section that has another heading
@@ -255,7 +255,7 @@ filling_all start new section ps k n l was =
 
 -- hunks cut and put no more than there is
 hunks_within : (h : List Op) (xs : List Identifier) (ps : List Part) (hunks : List (List Hunk)) → AreHunksOf h (slice_get xs) ps hunks
-    → (sum_by size hunks ≤ letters_of h xs + part_letters ps) × (sum_by put_size hunks ≤ part_letters ps)
+    → (sum_by size hunks ≤ shown_letters h xs + part_letters ps) × (sum_by put_size hunks ≤ part_letters ps)
 hunks_within h xs ps [] a = (omega arith, omega arith)
 hunks_within h xs [] (hs ∷ hunks) a = let first = a.each 0 hs refl in absurd (none-some first.0 first.1)
 hunks_within h [] (p ∷ ps) (hs ∷ hunks) a =

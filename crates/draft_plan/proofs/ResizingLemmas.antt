@@ -11,7 +11,7 @@ use Rattle.fugue_ids.specs.declared.op.Op.{Op}
 use Rattle.fugue_ids.proofs.IdentifierLemmas.{eq-id_eq, ne-id_eq}
 use Rattle.fugue_ids.proofs.ListLemmas.{all_pairs_head, all_pairs_tail, contains_filter, contains_filter_from}
 use Rattle.origin_model.specs.declared.operations.Place.TheVariants.{Catalogue as catalogue}
-use Rattle.origin_model.specs.edits.Edits.{spliced}
+use Rattle.origin_model.specs.edits.Edits.{splice}
 use Rattle.origin_model.specs.operations.Verdict.{Lawful}
 use Rattle.origin_model.specs.order.Printed.{shown}
 use Rattle.origin_model.proofs.edits.SplitLemmas.{get_in}
@@ -34,10 +34,10 @@ places_once (x ∷ xs) d (suc j) zero s e f = let same : x ≡ s = cc in absurd 
 places_once (x ∷ xs) d (suc j) (suc k) s e f = ap suc (places_once xs (all_pairs_tail (λ a b. a ≢ b) x xs d) j k s e f)
 
 -- one of distinct members goes
-pub without_one : (xs : List Identifier) (k : ℕ) (s : Identifier) → Distinct xs → slice_get xs k ≡ Some s → IsWithout s xs (spliced xs k 1 [])
+pub without_one : (xs : List Identifier) (k : ℕ) (s : Identifier) → Distinct xs → slice_get xs k ≡ Some s → IsWithout s xs (splice xs k 1 [])
 without_one xs k s d e t = (λ m. from t (subst (λ l. Contains l t) same m), λ both. subst (λ l. Contains l t) (sym same) (contains_filter (is_other s) xs t both.0 (ap not (ne-id_eq t s both.1))))
   where
-    same : spliced xs k 1 [] ≡ filter (is_other s) xs
+    same : splice xs k 1 [] ≡ filter (is_other s) xs
     same = let one : suc k ≡ k + 1 = omega arith in sym (filter_out xs k s d e ∙ ap (λ n. take k xs ++ drop n xs) one ∙ ap (λ l. l ++ drop (k + 1) xs) (sym (append-nil (take k xs))))
 
     from : (t : Identifier) → Contains (filter (is_other s) xs) t → Contains xs t × t ≢ s

@@ -11,20 +11,20 @@ use Rattle.fugue_ids.specs.Identifiers.{Identifier}
 use Rattle.fugue_ids.specs.declared.op.Op.{Op}
 use Rattle.fugue_ids.specs.declared.limits.TheConstants.{MOST_OPERATIONS}
 use Rattle.origin_model.specs.declared.edit_fault.EditFault.{EditFault}
-use Rattle.origin_model.specs.edits.Edits.{spliced}
+use Rattle.origin_model.specs.edits.Edits.{splice}
 use Rattle.origin_model.specs.edits.Effect.{OfSection}
 use Rattle.origin_model.specs.edits.Refusal.{section_shown}
-use Rattle.origin_model.specs.edits.State.{Stands, State}
+use Rattle.origin_model.specs.edits.State.{IsSound, State}
 use Rattle.origin_model.specs.operations.Verdict.{Lawful}
 use Rattle.origin_model.specs.order.Printed.{text}
 use Rattle.origin_model.proofs.edits.EditedTextLemmas.{text_length}
-use Rattle.text_diff.specs.Hunks.{Transforms, replaced}
+use Rattle.text_diff.specs.Hunks.{Transforms, with_hunks}
 use Rattle.text_diff.specs.Kept.{KeepsLines}
 use Rattle.text_diff.specs.Seams.{KeepsWords}
 use Rattle.text_diff.specs.Tight.{IsTight}
 use Rattle.text_diff.specs.declared.hunk.Hunk.{Hunk}
 use Rattle.draft_plan.specs.Needed.{InText, MakesOnly}
-use Rattle.draft_plan.specs.Revising.{AreHunksMade, IsHunkMade, IsWithinText, elements}
+use Rattle.draft_plan.specs.Revising.{AreHunksMade, IsHunkMade, IsWithinText, shown_elements}
 use Rattle.draft_plan.specs.Texts.{CountsHunks, IsRevised, KeepsCommon, StayBetween, StopsEditing, size}
 use Rattle.draft_plan.proofs.HunkLemmas.{AreOrdered, news_within, ordered_at, replaced_long, replaced_step}
 use Rattle.draft_plan.proofs.NeededLemmas.{in_drop, in_take, only_join, only_none, only_weaker, touches_weaker}
@@ -44,7 +44,7 @@ hunks_none s k n hs new t e = (
   subst (λ (h : List Hunk). AreHunksMade s s k t.0 h new 0) (sym e) (record {
     revised = revised_none s k t.0;
     stays = refl;
-    touches = only_none (InText t.0 (elements s t.0)) s;
+    touches = only_none (InText t.0 (shown_elements s t.0)) s;
     count = refl;
   }),
 )
@@ -80,7 +80,7 @@ module _ (old mid : State) (k left made : ℕ) (hs : List Hunk) (new : List ℕ)
       ordered_at old_text new hs back (left - 1) h transforms split
 
   there : section_shown mid k ≡ Some x
-  there = still_there old mid k x (replaced old_text new 0 back) made done.2.revised done.1
+  there = still_there old mid k x (with_hunks old_text new 0 back) made done.2.revised done.1
 
   -- that one lies within the text as it is
   pub next_within : IsWithinText mid k (h.old_at + h.old_len)
@@ -94,35 +94,35 @@ module _ (old mid : State) (k left made : ℕ) (hs : List Hunk) (new : List ℕ)
   pub hunks_more : (now : State) (n : ℕ) → Lawful old.held.history → OfSection mid k (λ x. IsHunkMade mid now k x h new n) → OfSection old k (λ x. AreHunksMade old now k x (drop (left - 1) hs) new (made + n))
   hunks_more now n w next =
       let one : IsHunkMade mid now k x h new n = subst (λ (y : Identifier). IsHunkMade mid now k y h new n) (same_section mid k next.0 x next.1 there) next.2 in
-      let reads : spliced (text mid.held.history x) h.old_at h.old_len put ≡ replaced old_text new 0 (h ∷ back) =
-      ap (λ r. spliced r h.old_at h.old_len put) done.2.revised.here ∙ replaced_step old_text new ordered.0 h back ordered.1 in
-      let same : take h.old_len (drop h.old_at (elements mid x)) ≡ take h.old_len (drop h.old_at (elements old x)) =
-      cut_stays old.held.history old_text (elements old x) (elements mid x) ordered.0 h back (text_length old.held.history x w) ordered.1 done.2.stays in
-      let wider : (op : Op) → InText x (take h.old_len (drop h.old_at (elements mid x))) op → InText x (elements old x) op =
-      touches_weaker (λ s. s ≡ x) (Contains (take h.old_len (drop h.old_at (elements mid x)))) ⊥ (λ s. s ≡ x) (Contains (elements old x)) ⊥ (λ s e. e)
-      (λ y m. in_drop (elements old x) h.old_at y (in_take (drop h.old_at (elements old x)) h.old_len y (subst (λ l. Contains l y) same m))) (λ n. n) in
+      let reads : splice (text mid.held.history x) h.old_at h.old_len put ≡ with_hunks old_text new 0 (h ∷ back) =
+      ap (λ r. splice r h.old_at h.old_len put) done.2.revised.here ∙ replaced_step old_text new ordered.0 h back ordered.1 in
+      let same : take h.old_len (drop h.old_at (shown_elements mid x)) ≡ take h.old_len (drop h.old_at (shown_elements old x)) =
+      cut_stays old.held.history old_text (shown_elements old x) (shown_elements mid x) ordered.0 h back (text_length old.held.history x w) ordered.1 done.2.stays in
+      let wider : (op : Op) → InText x (take h.old_len (drop h.old_at (shown_elements mid x))) op → InText x (shown_elements old x) op =
+      touches_weaker (λ s. s ≡ x) (Contains (take h.old_len (drop h.old_at (shown_elements mid x)))) ⊥ (λ s. s ≡ x) (Contains (shown_elements old x)) ⊥ (λ s e. e)
+      (λ y m. in_drop (shown_elements old x) h.old_at y (in_take (drop h.old_at (shown_elements old x)) h.old_len y (subst (λ l. Contains l y) same m))) (λ n. n) in
       let more : AreHunksMade old now k x (h ∷ back) new (made + n) = record {
         revised = subst (λ (r : List ℕ). IsRevised old now k x r (made + n)) reads
-            (revised_join old mid now k x (replaced old_text new 0 back) (spliced (text mid.held.history x) h.old_at h.old_len put) made n done.2.revised one.revised);
-        stays = subst (λ (ys : List Identifier). StayBetween old.held.history 0 (elements old x) ys (h ∷ back)) (sym one.shows)
-            (stays_more old.held.history old_text (elements old x) (elements mid x) one.come ordered.0 h back (text_length old.held.history x w) ordered.1 one.as_many
+            (revised_join old mid now k x (with_hunks old_text new 0 back) (splice (text mid.held.history x) h.old_at h.old_len put) made n done.2.revised one.revised);
+        stays = subst (λ (ys : List Identifier). StayBetween old.held.history 0 (shown_elements old x) ys (h ∷ back)) (sym one.shows)
+            (stays_more old.held.history old_text (shown_elements old x) (shown_elements mid x) one.come ordered.0 h back (text_length old.held.history x w) ordered.1 one.as_many
             (new_earlier old mid _ done.2.revised.changed.gained one.come one.fresh) done.2.stays);
-        touches = only_join (InText x (elements old x)) old mid now done.2.touches (only_weaker (InText x (take h.old_len (drop h.old_at (elements mid x)))) (InText x (elements old x)) mid now wider one.touches);
+        touches = only_join (InText x (shown_elements old x)) old mid now done.2.touches (only_weaker (InText x (take h.old_len (drop h.old_at (shown_elements mid x)))) (InText x (shown_elements old x)) mid now wider one.touches);
         count = omega (arith, done.2.count, one.count, size_more h back);
       } in
       (x, done.1, subst (λ (r : List Hunk). AreHunksMade old now k x r new (made + n)) (sym split) more)
 
   -- the edits stopped in it
   pub hunks_stop : (now : State) (why : EditFault) → StopsEditing mid now k why → StopsEditing old now k why
-  hunks_stop now why stops = revised_stops old mid now k made x (replaced old_text new 0 back) why done.2.revised stops
+  hunks_stop now why stops = revised_stops old mid now k made x (with_hunks old_text new 0 back) why done.2.revised stops
 
 -- so many operations there are
-pub hunks_few : (old now : State) (k n : ℕ) (hs : List Hunk) (new : List ℕ) → OfSection old k (λ x. AreHunksMade old now k x hs new n) → Stands now → n ≤ MOST_OPERATIONS
-hunks_few old now k n hs new r st = revised_few old now k r.0 (replaced (text old.held.history r.0) new 0 hs) n r.2.revised st
+pub hunks_few : (old now : State) (k n : ℕ) (hs : List Hunk) (new : List ℕ) → OfSection old k (λ x. AreHunksMade old now k x hs new n) → IsSound now → n ≤ MOST_OPERATIONS
+hunks_few old now k n hs new r st = revised_few old now k r.0 (with_hunks (text old.held.history r.0) new 0 hs) n r.2.revised st
 
-pub hunk_few : (old now : State) (k n : ℕ) (h : Hunk) (new : List ℕ) → OfSection old k (λ x. IsHunkMade old now k x h new n) → Stands now → n ≤ MOST_OPERATIONS
+pub hunk_few : (old now : State) (k n : ℕ) (h : Hunk) (new : List ℕ) → OfSection old k (λ x. IsHunkMade old now k x h new n) → IsSound now → n ≤ MOST_OPERATIONS
 hunk_few old now k n h new r st =
-    revised_few old now k r.0 (spliced (text old.held.history r.0) h.old_at h.old_len (take h.new_len (drop h.new_at new))) n r.2.revised st
+    revised_few old now k r.0 (splice (text old.held.history r.0) h.old_at h.old_len (take h.new_len (drop h.new_at new))) n r.2.revised st
 
 -- the text of a section that is shown
 found_in : (f : Identifier → List ℕ) (o : Option Identifier) (bytes : List ℕ) → Some bytes ≡ option_map f o → (x : Identifier) × (o ≡ Some x) × (bytes ≡ f x)
@@ -155,23 +155,23 @@ pub text_transforms : (s : State) (k : ℕ) (bytes new : List ℕ) (hs : List Hu
 text_transforms s k bytes new hs t h = (t.section, t.shown, subst (λ (r : List ℕ). Transforms nat_eq r new hs) (sym t.is) h)
 
 -- all of them were made
-module _ (old now : State) (k n : ℕ) (bytes new : List ℕ) (hs : List Hunk) (t : IsTextAt old k bytes) (e : replaced (chars bytes) new 0 hs ≡ new) (r : OfSection old k (λ x. AreHunksMade old now k x hs new n)) where
+module _ (old now : State) (k n : ℕ) (bytes new : List ℕ) (hs : List Hunk) (t : IsTextAt old k bytes) (e : with_hunks (chars bytes) new 0 hs ≡ new) (r : OfSection old k (λ x. AreHunksMade old now k x hs new n)) where
   old_is : text old.held.history r.0 ≡ chars bytes
   old_is = ap (text old.held.history) (same_section old k r.0 t.section r.1 t.shown) ∙ t.is
 
   all_revised : IsRevised old now k r.0 new n
-  all_revised = subst (λ (reads : List ℕ). IsRevised old now k r.0 reads n) (ap (λ o. replaced o new 0 hs) old_is ∙ e) r.2.revised
+  all_revised = subst (λ (reads : List ℕ). IsRevised old now k r.0 reads n) (ap (λ o. with_hunks o new 0 hs) old_is ∙ e) r.2.revised
 
   pub text_revised : OfSection old k (λ x. IsRevised old now k x new n)
   text_revised = (r.0, r.1, all_revised)
 
   -- the hunks, by what both texts are
   abbrev Counts : (a b : List ℕ) → Type 0
-  Counts a b = (kept : KeepsCommon old.held.history a b (elements old r.0) (elements now r.0)) × (n ≡ size kept.hunks)
+  Counts a b = (kept : KeepsCommon old.held.history a b (shown_elements old r.0) (shown_elements now r.0)) × (n ≡ size kept.hunks)
 
   pub text_keeps : Transforms nat_eq (chars bytes) new hs → All (KeepsWords (chars bytes) new) hs → All (IsTight (chars bytes) new) hs → (chars bytes ≡ new → hs ≡ []) → KeepsLines (chars bytes) new hs → OfSection old k (λ x. CountsHunks old now x n)
   text_keeps transforms words tight unchanged lines =
-      let kept : KeepsCommon old.held.history (chars bytes) new (elements old r.0) (elements now r.0) = record { hunks = hs; transforms = transforms; words = words; tight = tight; unchanged = unchanged; lines = λ other. lines; stays = r.2.stays } in (
+      let kept : KeepsCommon old.held.history (chars bytes) new (shown_elements old r.0) (shown_elements now r.0) = record { hunks = hs; transforms = transforms; words = words; tight = tight; unchanged = unchanged; lines = λ other. lines; stays = r.2.stays } in (
         r.0,
         r.1,
         subst (λ (o : List ℕ). Counts o (text now.held.history r.0)) (sym old_is) (subst (Counts (chars bytes)) (sym all_revised.here) (kept, r.2.count)),
@@ -180,37 +180,37 @@ module _ (old now : State) (k n : ℕ) (bytes new : List ℕ) (hs : List Hunk) (
   pub text_few : Transforms nat_eq (chars bytes) new hs → OfSection old k (λ x. n ≤ length (text old.held.history x) + length new)
   text_few transforms = (r.0, r.1, omega (arith, r.2.count, size_within (chars bytes) new hs transforms, ap length old_is))
 
-pub call_revised : (old now : State) (k : ℕ) (bytes new : List ℕ) (hs : List Hunk) (result : Result ℕ EditFault) → IsTextAt old k bytes → replaced (chars bytes) new 0 hs ≡ new
+pub call_revised : (old now : State) (k : ℕ) (bytes new : List ℕ) (hs : List Hunk) (result : Result ℕ EditFault) → IsTextAt old k bytes → with_hunks (chars bytes) new 0 hs ≡ new
     → IfOk result (λ n. OfSection old k (λ x. AreHunksMade old now k x hs new n)) → IfOk result (λ n. OfSection old k (λ x. IsRevised old now k x new n))
 call_revised old now k bytes new hs (Ok n) t e r = text_revised old now k n bytes new hs t e r
 call_revised old now k bytes new hs (Err why) t e r = tt
 
-pub call_keeps : (old now : State) (k : ℕ) (bytes new : List ℕ) (hs : List Hunk) (result : Result ℕ EditFault) → IsTextAt old k bytes → replaced (chars bytes) new 0 hs ≡ new
+pub call_keeps : (old now : State) (k : ℕ) (bytes new : List ℕ) (hs : List Hunk) (result : Result ℕ EditFault) → IsTextAt old k bytes → with_hunks (chars bytes) new 0 hs ≡ new
     → Transforms nat_eq (chars bytes) new hs → All (KeepsWords (chars bytes) new) hs → All (IsTight (chars bytes) new) hs → (chars bytes ≡ new → hs ≡ []) → KeepsLines (chars bytes) new hs
     → IfOk result (λ n. OfSection old k (λ x. AreHunksMade old now k x hs new n)) → IfOk result (λ n. OfSection old k (λ x. CountsHunks old now x n))
 call_keeps old now k bytes new hs (Ok n) t e transforms words tight unchanged lines r = text_keeps old now k n bytes new hs t e r transforms words tight unchanged lines
 call_keeps old now k bytes new hs (Err why) t e transforms words tight unchanged lines r = tt
 
-pub call_few : (old now : State) (k : ℕ) (bytes new : List ℕ) (hs : List Hunk) (result : Result ℕ EditFault) → IsTextAt old k bytes → replaced (chars bytes) new 0 hs ≡ new
+pub call_few : (old now : State) (k : ℕ) (bytes new : List ℕ) (hs : List Hunk) (result : Result ℕ EditFault) → IsTextAt old k bytes → with_hunks (chars bytes) new 0 hs ≡ new
     → Transforms nat_eq (chars bytes) new hs → IfOk result (λ n. OfSection old k (λ x. AreHunksMade old now k x hs new n))
     → IfOk result (λ n. OfSection old k (λ x. n ≤ length (text old.held.history x) + length new))
 call_few old now k bytes new hs (Ok n) t e transforms r = text_few old now k n bytes new hs t e r transforms
 call_few old now k bytes new hs (Err why) t e transforms r = tt
 
 pub call_touches : (old now : State) (k : ℕ) (hs : List Hunk) (new : List ℕ) (result : Result ℕ EditFault) → IfOk result (λ n. OfSection old k (λ x. AreHunksMade old now k x hs new n))
-    → IfOk result (λ n. OfSection old k (λ x. MakesOnly (InText x (elements old x)) old now))
+    → IfOk result (λ n. OfSection old k (λ x. MakesOnly (InText x (shown_elements old x)) old now))
 call_touches old now k hs new (Ok n) r = (r.0, r.1, r.2.touches)
 call_touches old now k hs new (Err why) r = tt
 
-pub none_touches : (s : State) (k : ℕ) (bytes : List ℕ) → IsTextAt s k bytes → OfSection s k (λ x. MakesOnly (InText x (elements s x)) s s)
-none_touches s k bytes t = (t.section, t.shown, only_none (InText t.section (elements s t.section)) s)
+pub none_touches : (s : State) (k : ℕ) (bytes : List ℕ) → IsTextAt s k bytes → OfSection s k (λ x. MakesOnly (InText x (shown_elements s x)) s s)
+none_touches s k bytes t = (t.section, t.shown, only_none (InText t.section (shown_elements s t.section)) s)
 
 -- the text is the same
 pub text_same : (s : State) (k : ℕ) (bytes : List ℕ) → IsTextAt s k bytes → OfSection s k (λ x. IsRevised s s k x (chars bytes) 0)
 text_same s k bytes t = (t.section, t.shown, subst (λ (r : List ℕ). IsRevised s s k t.section r 0) t.is (revised_none s k t.section))
 
 pub text_kept : (s : State) (k : ℕ) (bytes : List ℕ) → IsTextAt s k bytes → OfSection s k (λ x. CountsHunks s s x 0)
-text_kept s k bytes t = (t.section, t.shown, same_common s.held.history (text s.held.history t.section) (elements s t.section))
+text_kept s k bytes t = (t.section, t.shown, same_common s.held.history (text s.held.history t.section) (shown_elements s t.section))
 
 pub text_none_made : (s : State) (k : ℕ) (bytes new : List ℕ) → IsTextAt s k bytes → OfSection s k (λ x. 0 ≤ length (text s.held.history x) + length new)
 text_none_made s k bytes new t = (t.section, t.shown, omega arith)

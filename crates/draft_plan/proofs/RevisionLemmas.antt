@@ -21,7 +21,7 @@ use Rattle.draft_plan.specs.Drafts.{Part}
 use Rattle.draft_plan.specs.Needed.{InText, InTexts, IsElement, MakesOnly}
 use Rattle.draft_plan.specs.Plain.{arranged_part, arranged_parts}
 use Rattle.draft_plan.specs.Revision.{HasOneMore, IsRevision, KeepsSection, Makes, MakesNothing, retitles_of}
-use Rattle.draft_plan.specs.Shaping.{AreFilled, IsAtPlace, IsFilled, IsReshaped, SameSection}
+use Rattle.draft_plan.specs.Shaping.{AreFilled, IsAtPlace, IsFilledIn, IsReshaped, SameSection}
 use Rattle.draft_plan.specs.Texts.{KeepsCommon}
 use Rattle.draft_plan.proofs.KeptLemmas.{common_earlier, same_common}
 use Rattle.draft_plan.proofs.MakingLemmas.{makes_join, makes_none}
@@ -83,7 +83,7 @@ filled_none s parts = record {
 }
 
 module _ (start now new : State) (parts : List Part) (j n m : ℕ) (s : Identifier) (part : Part) (w : Lawful start.held.history)
-    (before : AreFilled start now parts j n) (here : slice_get (arranged start.held.history) j ≡ Some s) (is : (d : Part) → part ≡ slice_index_or parts j d) (f : IsFilled now new s part m) where
+    (before : AreFilled start now parts j n) (here : slice_get (arranged start.held.history) j ≡ Some s) (is : (d : Part) → part ≡ slice_index_or parts j d) (f : IsFilledIn now new s part m) where
   abbrev xs : List Identifier
   xs = arranged start.held.history
 

@@ -14,7 +14,7 @@ use Rattle.origin_model.specs.declared.edit_fault.EditFault.{EditFault}
 use Rattle.origin_model.specs.declared.edit_fault.EditFault.TheVariants as edit
 use Rattle.origin_model.specs.declared.operations.Place.TheVariants.{Catalogue as catalogue, Section as within}
 use Rattle.origin_model.specs.declared.operations.Place.{Place}
-use Rattle.origin_model.specs.edits.Edits.{Add, DropSection, IsEdit, extended, id_at, left_for, right_for, spliced}
+use Rattle.origin_model.specs.edits.Edits.{Add, DropSection, IsEdit, history_with, id_at, left_for, right_for, splice}
 use Rattle.origin_model.specs.edits.Effect.{Gains, IsMade, LeavesUnmade}
 use Rattle.origin_model.specs.edits.Noting.{ShowsAsBefore}
 use Rattle.origin_model.specs.edits.Refusal.{RefusesExactly, held_count, in_section, made_by, next_of_own, refusal_message, refused_elements, refused_ops, shown_count}
@@ -130,7 +130,7 @@ stops_shaped old mid new n why first s = stops_behind old mid new n why first.ma
 pub wants_memory : (s : State) → StopsAtLimit s s (fault.Edit edit.NoMemory)
 wants_memory s = record { limit = tt; stops = stops_first AnyChange s }
 
-pub in_spliced : (xs new : List Identifier) (at n : ℕ) (x : Identifier) → Contains (spliced xs at n new) x → Contains xs x ⊎ Contains new x
+pub in_spliced : (xs new : List Identifier) (at n : ℕ) (x : Identifier) → Contains (splice xs at n new) x → Contains xs x ⊎ Contains new x
 in_spliced xs new at n x m =
     elim (Contains-append_cases (take at xs ++ new) (drop (at + n) xs) x m) [
       | inl k ↦ elim (Contains-append_cases (take at xs) new x k) [ inl q ↦ inl (in_take xs at x q) | inr q ↦ inr q ]
@@ -144,7 +144,7 @@ got (x ∷ xs) zero s e = let same : x ≡ s = cc e in (omega arith, same)
 got (x ∷ xs) (suc k) s e = let r = got xs k s e in (omega (arith, r.0), r.1)
 
 -- how many are left
-pub length-spliced : (xs new : List Identifier) (at n : ℕ) → at + n ≤ length xs → length (spliced xs at n new) + n ≡ length xs + length new
+pub length-spliced : (xs new : List Identifier) (at n : ℕ) → at + n ≤ length xs → length (splice xs at n new) + n ≡ length xs + length new
 length-spliced xs new at n l =
     omega (arith, length-append (take at xs ++ new) (drop (at + n) xs), length-append (take at xs) new, length-take-le at xs (omega (arith, l)), length-drop (at + n) xs, l)
 
@@ -162,7 +162,7 @@ one_keeps h e w j q same ordered came = record {
 one_shaped : (old new : State) (e : Op) (n : ℕ) → new.held.history ≡ e ∷ old.held.history → Makes old new n → KeepsHeld old.held.history (e ∷ old.held.history) → Gains old new (e ∷ []) → InShape e → IsShaped old new n
 one_shaped old new e n is makes keeps gained k = record { makes = makes; keeps = subst (KeepsHeld old.held.history) (sym is) keeps; touches = only_one InShape old new e gained k }
 
-pub history_is : (old new : State) (ops : List Op) → Gains old new ops → new.held.history ≡ extended old.held.history ops
+pub history_is : (old new : State) (ops : List Op) → Gains old new ops → new.held.history ≡ history_with old.held.history ops
 history_is old new ops g = ap (λ (s : State). s.held.history) g.others
 
 -- a section was dropped
@@ -175,11 +175,11 @@ drop_shaped old new k n w l exact made =
     let e : Op = Delete x.0 in
     let ops : made_by old (DropSection k) ≡ e ∷ [] = drop_made old.number h old.held.waiting k x.0 x.1 in
     let edit : IsEdit catalogue h (e ∷ []) k 1 [] = subst (λ o. IsEdit catalogue h o k 1 []) ops (drop_takes old.number h old.held.waiting k x.0 w x.1).0 in
-    let is : new.held.history ≡ e ∷ h = history_is old new (made_by old (DropSection k)) made.gained ∙ ap (extended h) ops in
+    let is : new.held.history ≡ e ∷ h = history_is old new (made_by old (DropSection k)) made.gained ∙ ap (history_with h) ops in
     let keeps : KeepsHeld h (e ∷ h) =
     one_keeps h e w (joins h e edit.ready.0) (delete_quiet h x.0 w (get_in xs k x.0 x.1)) (λ t. edit.elsewhere (within t) (λ d. cc d)) (λ t. order-none (within t) e h refl)
     (λ s m. elim (in_spliced xs [] k 1 s (subst (λ l. Contains l s) edit.here m)) [ inl q ↦ inl q | inr q ↦ absurd (contains_none s q) ]) in
-    let count : length (shown catalogue new.held.history) ≡ length (spliced xs k 1 []) = ap (λ g. length (shown catalogue g)) is ∙ ap length edit.here in (
+    let count : length (shown catalogue new.held.history) ≡ length (splice xs k 1 []) = ap (λ g. length (shown catalogue g)) is ∙ ap length edit.here in (
       record {
         makes = makes_one old new (Edit (DropSection k)) n (changed_edit old new (DropSection k) n exact made) made.count;
         keeps = subst (KeepsHeld h) (sym is) keeps;
@@ -206,7 +206,7 @@ add_shaped old new at n title w l exact made =
       | inl q ↦ inl q
       | inr q ↦ elim (contains_cases x [] s q) [ inl d ↦ inr (ap (holds h) (sym d) ∙ fresh old) | inr q ↦ absurd (contains_none s q) ]
     ]) in
-    let count : length (shown catalogue new.held.history) ≡ length (spliced xs at 0 (x ∷ [])) = ap (λ g. length (shown catalogue g)) is ∙ ap length edit.here in (
+    let count : length (shown catalogue new.held.history) ≡ length (splice xs at 0 (x ∷ [])) = ap (λ g. length (shown catalogue g)) is ∙ ap length edit.here in (
       one_shaped old new e n is (makes_one old new (Edit (Add at title)) n (changed_edit old new (Add at title) n exact made) made.count) keeps made.gained tt,
       omega (arith, count, length-spliced xs (x ∷ []) at 0 (omega (arith, l))),
       subst (KeepsPlaces h) (sym is) (places_kept h e (record { says = refl; spares = λ c m. refl })),

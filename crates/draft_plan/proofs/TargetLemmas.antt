@@ -10,7 +10,7 @@ use Rattle.std.proofs.lemmas.Option.{same_Some}
 use Rattle.fugue_ids.specs.Identifiers.{Identifier}
 use Rattle.fugue_ids.proofs.ListLemmas.{contains_cases, contains_here, contains_none}
 use Rattle.origin_model.specs.declared.operations.Place.TheVariants.{Catalogue as catalogue}
-use Rattle.origin_model.specs.edits.Edits.{Add, id_at, left_for, right_for, spliced}
+use Rattle.origin_model.specs.edits.Edits.{Add, id_at, left_for, right_for, splice}
 use Rattle.origin_model.specs.edits.Effect.{IsMade}
 use Rattle.origin_model.specs.edits.Refusal.{RefusesExactly, added_ids, made_by, next_of_own}
 use Rattle.origin_model.specs.edits.State.{State}
@@ -37,17 +37,17 @@ put_there [] (suc at) x rest l = absurd (omega arith)
 put_there (y ∷ xs) zero x rest l = refl
 put_there (y ∷ xs) (suc at) x rest l = put_there xs at x rest (omega arith)
 
-pub put_at : (xs : List Identifier) (at : ℕ) (x : Identifier) → at ≤ length xs → slice_get (spliced xs at 0 (x ∷ [])) at ≡ Some x
+pub put_at : (xs : List Identifier) (at : ℕ) (x : Identifier) → at ≤ length xs → slice_get (splice xs at 0 (x ∷ [])) at ≡ Some x
 put_at xs at x l = put_there xs at x (drop (at + 0) xs) l
 
-pub put_all : (xs : List Identifier) (at : ℕ) (x t : Identifier) → Contains (spliced xs at 0 (x ∷ [])) t ↔ (Contains xs t ⊎ (t ≡ x))
+pub put_all : (xs : List Identifier) (at : ℕ) (x t : Identifier) → Contains (splice xs at 0 (x ∷ [])) t ↔ (Contains xs t ⊎ (t ≡ x))
 put_all xs at x t = (λ m. from (in_spliced xs (x ∷ []) at 0 t m), λ side. into side)
   where
     from : Contains xs t ⊎ Contains (x ∷ []) t → Contains xs t ⊎ (t ≡ x)
     from (inl m) = inl m
     from (inr m) = elim (contains_cases x [] t m) [ inl e ↦ inr (sym e) | inr k ↦ absurd (contains_none t k) ]
 
-    into : Contains xs t ⊎ (t ≡ x) → Contains (spliced xs at 0 (x ∷ [])) t
+    into : Contains xs t ⊎ (t ≡ x) → Contains (splice xs at 0 (x ∷ [])) t
     into (inr e) = Contains-append_left (take at xs ++ x ∷ []) (drop (at + 0) xs) t (Contains-append_right (take at xs) (x ∷ []) t (subst (Contains (x ∷ [])) (sym e) (contains_here x [])))
     into (inl m) =
         let whole : take at xs ++ drop (at + 0) xs ≡ xs = let e : at + 0 ≡ at = omega arith in ap (λ n. take at xs ++ drop n xs) e ∙ take-append-drop at xs in
@@ -58,7 +58,7 @@ put_all xs at x t = (λ m. from (in_spliced xs (x ∷ []) at 0 t m), λ side. in
 
 -- a section was added
 pub added : (old new : State) (at n : ℕ) (title : List ℕ) (s : Identifier) → Lawful old.held.history → at ≤ length (shown catalogue old.held.history) → RefusesExactly old (Add at title) (Ok n)
-    → IsMade old new (Add at title) n → shown catalogue new.held.history ≡ spliced (shown catalogue old.held.history) at 0 (added_ids old) → Some s ≡ slice_get (shown catalogue new.held.history) at
+    → IsMade old new (Add at title) n → shown catalogue new.held.history ≡ splice (shown catalogue old.held.history) at 0 (added_ids old) → Some s ≡ slice_get (shown catalogue new.held.history) at
     → IsAdded old new at (encode_utf8_all title) s
 added old new at n title s w l exact made here is =
     let xs : List Identifier = shown catalogue old.held.history in

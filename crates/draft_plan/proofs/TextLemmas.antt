@@ -12,10 +12,10 @@ use Rattle.fugue_ids.specs.declared.op.Op.{Op}
 use Rattle.origin_model.specs.declared.edit_fault.EditFault.{EditFault}
 use Rattle.origin_model.specs.declared.edit_fault.EditFault.TheVariants.{IdsSpent, NoMemory, OutOfRange, TooMany}
 use Rattle.origin_model.specs.declared.operations.Place.TheVariants.{Section as within}
-use Rattle.origin_model.specs.edits.Edits.{Command, Cut, Put, extended, spliced, typed_ids}
+use Rattle.origin_model.specs.edits.Edits.{Command, Cut, Put, history_with, splice, typed_ids}
 use Rattle.origin_model.specs.edits.Effect.{Gains, IsMade, LeavesUnmade, OfSection}
 use Rattle.origin_model.specs.edits.Refusal.{RefusesExactly, in_range, in_section, made_by, next_of_own, put_ids, refusal_message, refused_elements, refused_ops, section_shown, shown_count}
-use Rattle.origin_model.specs.edits.State.{Stands, State}
+use Rattle.origin_model.specs.edits.State.{IsSound, State}
 use Rattle.origin_model.specs.operations.History.{accepted}
 use Rattle.origin_model.specs.operations.Verdict.{Lawful}
 use Rattle.origin_model.specs.order.Order.{order}
@@ -28,7 +28,7 @@ use Rattle.origin_model.proofs.edits.RefusalLemmas.{cut_count, put_count}
 use Rattle.text_diff.specs.declared.hunk.Hunk.{Hunk}
 use Rattle.draft_plan.specs.Changes.{Edit, all_made}
 use Rattle.draft_plan.specs.Needed.{InText, MakesOnly}
-use Rattle.draft_plan.specs.Revising.{IsHunkMade, IsLimit, IsWithinText, elements}
+use Rattle.draft_plan.specs.Revising.{IsHunkMade, IsLimit, IsWithinText, shown_elements}
 use Rattle.draft_plan.specs.Texts.{EditsText, IsRevised, KeepsArrangement, StopsEditing}
 use Rattle.draft_plan.specs.declared.fault.ReviseFault.TheVariants as revise_fault
 use Rattle.draft_plan.proofs.ArrangementLemmas.{cut_keeps, put_keeps}
@@ -45,16 +45,16 @@ one_edit k command e = All-cons (EditsText k) (Edit command) [] e (All-nil (Edit
 -- a cut that was made
 module _ (old new : State) (k at n count : ℕ) (x : Identifier) (w : Lawful old.held.history) (e : section_shown old k ≡ Some x)
     (exact : RefusesExactly old (Cut k at n) (Ok count)) (made : IsMade old new (Cut k at n) count) where
-  cut_is : new.held.history ≡ extended old.held.history (made_by old (Cut k at n))
+  cut_is : new.held.history ≡ history_with old.held.history (made_by old (Cut k at n))
   cut_is = history_is old new (made_by old (Cut k at n)) made.gained
 
-  pub cut_shows : elements new x ≡ spliced (elements old x) at n []
+  pub cut_shows : shown_elements new x ≡ splice (shown_elements old x) at n []
   cut_shows = ap (shown (within x)) cut_is ∙ (cut_takes old.number old.held.history old.held.waiting k at n x w e).0.here
 
-  pub cut_touches : MakesOnly (InText x (take n (drop at (elements old x)))) old new
+  pub cut_touches : MakesOnly (InText x (take n (drop at (shown_elements old x)))) old new
   cut_touches = (made_by old (Cut k at n), made.gained, cut_in_text old.number old.held.history old.held.waiting k at n x e)
 
-  pub cut_revised : IsRevised old new k x (spliced (text old.held.history x) at n []) count
+  pub cut_revised : IsRevised old new k x (splice (text old.held.history x) at n []) count
   cut_revised =
       let edit = cut_erases old.number old.held.history old.held.waiting k at n x w e in
       record {
@@ -71,18 +71,18 @@ module _ (old new : State) (k at n count : ℕ) (x : Identifier) (w : Lawful old
       }
 
 -- a put that was made in a text
-module _ (old new : State) (k at count : ℕ) (chs : List ℕ) (x : Identifier) (w : Lawful old.held.history) (e : section_shown old k ≡ Some x) (within_text : at ≤ length (elements old x))
+module _ (old new : State) (k at count : ℕ) (chs : List ℕ) (x : Identifier) (w : Lawful old.held.history) (e : section_shown old k ≡ Some x) (within_text : at ≤ length (shown_elements old x))
     (exact : RefusesExactly old (Put k at chs) (Ok count)) (made : IsMade old new (Put k at chs) count) where
-  put_is : new.held.history ≡ extended old.held.history (made_by old (Put k at chs))
+  put_is : new.held.history ≡ history_with old.held.history (made_by old (Put k at chs))
   put_is = history_is old new (made_by old (Put k at chs)) made.gained
 
-  pub put_shows : elements new x ≡ spliced (elements old x) at 0 (put_ids old chs)
+  pub put_shows : shown_elements new x ≡ splice (shown_elements old x) at 0 (put_ids old chs)
   put_shows = ap (shown (within x)) put_is ∙ (put_lands old.number old.held.history old.held.waiting k at chs x w e within_text).0.here
 
   pub put_touches : (xs : List Identifier) → MakesOnly (InText x xs) old new
   put_touches xs = (made_by old (Put k at chs), made.gained, put_in_text old.number old.held.history old.held.waiting k at chs x xs e)
 
-  pub put_revised : IsRevised old new k x (spliced (text old.held.history x) at 0 chs) count
+  pub put_revised : IsRevised old new k x (splice (text old.held.history x) at 0 chs) count
   put_revised =
       let edit = put_writes old.number old.held.history old.held.waiting k at chs x w e within_text in
       record {
@@ -137,26 +137,26 @@ revised_none s k x = record {
 }
 
 -- so many operations there are
-pub revised_few : (old new : State) (k : ℕ) (x : Identifier) (r : List ℕ) (n : ℕ) → IsRevised old new k x r n → Stands new → n ≤ MOST_OPERATIONS
+pub revised_few : (old new : State) (k : ℕ) (x : Identifier) (r : List ℕ) (n : ℕ) → IsRevised old new k x r n → IsSound new → n ≤ MOST_OPERATIONS
 revised_few old new k x r n i st =
     let ops : List Op = all_made old i.changes in
     let long : length (accepted new.held.history) ≡ length (accepted old.held.history) + length ops = ap length i.changed.gained.accepted_are ∙ length-append (accepted old.held.history) ops in
     omega (arith, long, i.count, length-reverse new.held.history, st.few, st.most_within.1)
 
 -- what was cut and what was put in its place
-spliced_again : {X : Type 0} (xs new : List X) (at n : ℕ) → at ≤ length xs → spliced (spliced xs at n []) at 0 new ≡ spliced xs at n new
+spliced_again : {X : Type 0} (xs new : List X) (at n : ℕ) → at ≤ length xs → splice (splice xs at n []) at 0 new ≡ splice xs at n new
 spliced_again {X} xs new at n h =
     let front : List X = take at xs in
     let rest : List X = drop (at + n) xs in
-    let once : spliced xs at n [] ≡ front ++ rest = ap (λ l. l ++ rest) (append-nil front) in
+    let once : splice xs at n [] ≡ front ++ rest = ap (λ l. l ++ rest) (append-nil front) in
     let long : at ≡ length front = sym (length-take-le at xs h) in
     let past : at + 0 ≡ length front = omega (arith, long) in
-    let before : take at (spliced xs at n []) ≡ front = (λ j. take (long j) (once j)) ∙ take-append_seam front rest in
-    let behind : drop (at + 0) (spliced xs at n []) ≡ rest = (λ j. drop (past j) (once j)) ∙ drop-append_seam front rest in
+    let before : take at (splice xs at n []) ≡ front = (λ j. take (long j) (once j)) ∙ take-append_seam front rest in
+    let behind : drop (at + 0) (splice xs at n []) ≡ rest = (λ j. drop (past j) (once j)) ∙ drop-append_seam front rest in
     λ j. before j ++ new ++ behind j
 
 -- a text is as long as before the cut up to there
-still_within : {X : Type 0} (xs : List X) (at n : ℕ) → at ≤ length xs → at ≤ length (spliced xs at n [])
+still_within : {X : Type 0} (xs : List X) (at n : ℕ) → at ≤ length xs → at ≤ length (splice xs at n [])
 still_within {X} xs at n h =
     let front : List X = take at xs in
     let rest : List X = drop (at + n) xs in
@@ -179,7 +179,7 @@ cut_and_put w v cuts cut_made puts put_made =
     record { lawful = w; then_lawful = v; cuts = cuts; cut_made = cut_made; puts = puts; put_made = put_made }
 
 -- what lies within a text lies within what is shown
-in_elements : (s : State) (x : Identifier) (end : ℕ) → Lawful s.held.history → end ≤ length (text s.held.history x) → end ≤ length (elements s x)
+in_elements : (s : State) (x : Identifier) (end : ℕ) → Lawful s.held.history → end ≤ length (text s.held.history x) → end ≤ length (shown_elements s x)
 in_elements s x end w l = omega (arith, l, text_length s.held.history x w)
 
 pub still_there : (old mid : State) (k : ℕ) (x : Identifier) (r : List ℕ) (n : ℕ) → IsRevised old mid k x r n → section_shown old k ≡ Some x → section_shown mid k ≡ Some x
@@ -199,16 +199,16 @@ hunk_made old mid new k cut put h scalars chs l m is i =
     let e : section_shown old k ≡ Some x = l.1 in
     let old_text : List ℕ = text old.held.history x in
     let whole : at ≤ length old_text = omega (arith, l.2) in
-    let here : at ≤ length (elements old x) = in_elements old x at i.lawful whole in
+    let here : at ≤ length (shown_elements old x) = in_elements old x at i.lawful whole in
     let first = cut_revised old mid k at n cut x i.lawful e i.cuts i.cut_made in
     let left = cut_shows old mid k at n cut x i.lawful e i.cuts i.cut_made in
-    let there : section_shown mid k ≡ Some x = still_there old mid k x (spliced old_text at n []) cut first e in
-    let still : at ≤ length (elements mid x) = subst (λ (xs : List Identifier). at ≤ length xs) (sym left) (still_within (elements old x) at n here) in
+    let there : section_shown mid k ≡ Some x = still_there old mid k x (splice old_text at n []) cut first e in
+    let still : at ≤ length (shown_elements mid x) = subst (λ (xs : List Identifier). at ≤ length xs) (sym left) (still_within (shown_elements old x) at n here) in
     let next = put_revised mid new k at put chs x i.then_lawful there still i.puts i.put_made in
     let come : List Identifier = put_ids mid chs in
     let long : length chs ≡ h.new_len = ap length is ∙ length-take-le h.new_len (drop h.new_at scalars) (omega (arith, m, length-drop h.new_at scalars)) in
-    let reads : spliced (text mid.held.history x) at 0 chs ≡ spliced old_text at n (take h.new_len (drop h.new_at scalars)) =
-    ap (λ t. spliced t at 0 chs) first.here ∙ spliced_again old_text chs at n whole ∙ ap (spliced old_text at n) is in (
+    let reads : splice (text mid.held.history x) at 0 chs ≡ splice old_text at n (take h.new_len (drop h.new_at scalars)) =
+    ap (λ t. splice t at 0 chs) first.here ∙ spliced_again old_text chs at n whole ∙ ap (splice old_text at n) is in (
       x,
       e,
       record {
@@ -216,11 +216,11 @@ hunk_made old mid new k cut put h scalars chs l m is i =
         as_many = typed_long mid.number (next_of_own mid) chs ∙ long;
         fresh = new_earlier old mid _ first.changed.gained come (put_new mid chs);
         count = omega (arith, i.cut_made.count, i.put_made.count, cut_count old k at n (allowed old (Cut k at n) cut i.cuts), put_count mid k at chs (allowed mid (Put k at chs) put i.puts), long);
-        touches = only_join (InText x (take n (drop at (elements old x)))) old mid new (cut_touches old mid k at n cut x i.lawful e i.cuts i.cut_made)
-            (put_touches mid new k at put chs x i.then_lawful there still i.puts i.put_made (take n (drop at (elements old x))));
-        shows = put_shows mid new k at put chs x i.then_lawful there still i.puts i.put_made ∙ ap (λ xs. spliced xs at 0 come) left ∙ spliced_again (elements old x) come at n here;
+        touches = only_join (InText x (take n (drop at (shown_elements old x)))) old mid new (cut_touches old mid k at n cut x i.lawful e i.cuts i.cut_made)
+            (put_touches mid new k at put chs x i.then_lawful there still i.puts i.put_made (take n (drop at (shown_elements old x))));
+        shows = put_shows mid new k at put chs x i.then_lawful there still i.puts i.put_made ∙ ap (λ xs. splice xs at 0 come) left ∙ spliced_again (shown_elements old x) come at n here;
         revised = subst (λ r. IsRevised old new k x r (cut + put)) reads
-            (revised_join old mid new k x (spliced old_text at n []) (spliced (text mid.held.history x) at 0 chs) cut put first next);
+            (revised_join old mid new k x (splice old_text at n []) (splice (text mid.held.history x) at 0 chs) cut put first next);
       },
     )
 
@@ -245,7 +245,7 @@ limit_elements true n other why k e = subst IsLimit (same_Some (IdsSpent n) why 
 limit_elements false n other why k e = k e
 
 -- the first cause, where there is the section and the position
-first_cause : (s : State) (k position : ℕ) (x : Identifier) (causes : Identifier → Option EditFault) (why : EditFault) → section_shown s k ≡ Some x → position ≤ length (elements s x)
+first_cause : (s : State) (k position : ℕ) (x : Identifier) (causes : Identifier → Option EditFault) (why : EditFault) → section_shown s k ≡ Some x → position ≤ length (shown_elements s x)
     → in_section (section_shown s k) (λ y. in_range position (shown_count s (within y)) (causes y)) ≡ Some why → causes x ≡ Some why
 first_cause s k position x causes why e l refused =
     let found = ap (λ o. in_section o (λ y. in_range position (shown_count s (within y)) (causes y))) e in
@@ -261,7 +261,7 @@ cut_limit s k at n why w l exact =
     by_cause s (Cut k at n) why exact
     (λ f refused. limit_ops _ _ f (first_cause s k (at + n) l.0 (λ y. refused_ops s n) f l.1 (in_elements s l.0 (at + n) w l.2) refused))
 
-put_limit : (s : State) (k at : ℕ) (chs : List ℕ) (x : Identifier) (why : EditFault) → section_shown s k ≡ Some x → at ≤ length (elements s x) → RefusesExactly s (Put k at chs) (Err why) → IsLimit why
+put_limit : (s : State) (k at : ℕ) (chs : List ℕ) (x : Identifier) (why : EditFault) → section_shown s k ≡ Some x → at ≤ length (shown_elements s x) → RefusesExactly s (Put k at chs) (Err why) → IsLimit why
 put_limit s k at chs x why e l exact =
     by_cause s (Put k at chs) why exact
     (λ f refused. limit_elements _ _ (refused_ops s (length chs)) f (limit_ops _ _ f) (first_cause s k at x (λ y. refused_elements s (length chs)) f e l refused))
@@ -273,9 +273,9 @@ put_behind_limit old mid k at n cut chs why w l cuts made exact =
     let x : Identifier = l.0 in
     let whole : at ≤ length (text old.held.history x) = omega (arith, l.2) in
     let first = cut_revised old mid k at n cut x w l.1 cuts made in
-    let still : at ≤ length (elements mid x) =
-    subst (λ (xs : List Identifier). at ≤ length xs) (sym (cut_shows old mid k at n cut x w l.1 cuts made)) (still_within (elements old x) at n (in_elements old x at w whole)) in
-    put_limit mid k at chs x why (still_there old mid k x (spliced (text old.held.history x) at n []) cut first l.1) still exact
+    let still : at ≤ length (shown_elements mid x) =
+    subst (λ (xs : List Identifier). at ≤ length xs) (sym (cut_shows old mid k at n cut x w l.1 cuts made)) (still_within (shown_elements old x) at n (in_elements old x at w whole)) in
+    put_limit mid k at chs x why (still_there old mid k x (splice (text old.held.history x) at n []) cut first l.1) still exact
 
 -- hunks were made, and then the edits stopped
 pub revised_stops : (old mid new : State) (k n : ℕ) (x : Identifier) (r : List ℕ) (why : EditFault) → IsRevised old mid k x r n → StopsEditing mid new k why → StopsEditing old new k why

@@ -5,9 +5,9 @@ use Rattle.fugue_ids.specs.declared.op.Op.{Op}
 use Rattle.catalogue_notes.specs.Arranged.{arranged}
 use Rattle.catalogue_notes.specs.Laws.{AddsOne}
 use Rattle.catalogue_notes.specs.Lift.{moves}
-use Rattle.catalogue_notes.specs.Making.{without}
+use Rattle.catalogue_notes.specs.Making.{without_member}
 use Rattle.section_plan.specs.Matching.{section_of}
-use Rattle.section_plan.specs.Rises.{IsChosen, IsLongestRise, chosen_count, value_at}
+use Rattle.section_plan.specs.Rises.{IsChosen, IsLongestRise, chosen_count, rise_value}
 use Rattle.section_plan.specs.declared.pairs.Pairs.{Pairs}
 use Rattle.draft_plan.specs.Keeping.{InOneOrder, has_no_move}
 use Rattle.draft_plan.specs.Revision.{HasOneMore, moves_of}
@@ -20,13 +20,13 @@ pub record IsOrderOf (sections arranged : List Identifier) (order : List ℕ) : 
 -- a part has a place exactly where it is matched and stands there, in front of one
 pub record ArePlacesTo (order : List ℕ) (pairs : Pairs) (place : ℕ) (places : List (Option ℕ)) : Type 0 where
   pub long : length places ≡ length order
-  pub each : (part x : ℕ) → (value_at places part ≡ Some x) ↔ ((x < place) × (slice_index order x ≡ part) × IsSome (section_of pairs part))
+  pub each : (part x : ℕ) → (rise_value places part ≡ Some x) ↔ ((x < place) × (slice_index order x ≡ part) × IsSome (section_of pairs part))
 
 -- a part got a place, if it is one of them
 pub record PutsPlace (old new : List (Option ℕ)) (part place : ℕ) : Type 0 where
   pub long : length new ≡ length old
-  pub here : part < length old → value_at new part ≡ Some place
-  pub others : (q : ℕ) → q ≢ part → value_at new q ≡ value_at old q
+  pub here : part < length old → rise_value new part ≡ Some place
+  pub others : (q : ℕ) → q ≢ part → rise_value new q ≡ rise_value old q
 
 -- the parts that stay are matched, and stand in a longest series of those that stand in order
 pub record AreStaying (order : List ℕ) (pairs : Pairs) (stays : List Bool) : Type 0 where
@@ -39,7 +39,7 @@ pub record IsSectionMoved (old new : List Op) (section : Identifier) : Type 0 wh
   pub from : ℕ
   pub to : ℕ
   pub stood : slice_get (arranged old) from ≡ Some section
-  pub lands : arranged new ≡ insert (without (arranged old) from) to section
+  pub lands : arranged new ≡ insert (without_member (arranged old) from) to section
   pub adds : AddsOne section (moves old) (moves new)
 
 -- nothing is moved, or the section of a part that doesn't stay

@@ -13,63 +13,63 @@ use Rattle.draft_plan.specs.declared.fault.ReviseFault.TheVariants as fault
 
 -- A change: an edit, by what is shown; or a section of the arrangement gets another place, or another title. Sections
 -- and places of the arrangement count from 0.
-pub data Change : Type 0 where
-  Edit : Command → Change
-  Move : (section place : ℕ) → Change
-  Retitle : (section : ℕ) → (title : List ℕ) → Change
+pub data PlanChange : Type 0 where
+  Edit : Command → PlanChange
+  Move : (section place : ℕ) → PlanChange
+  Retitle : (section : ℕ) → (title : List ℕ) → PlanChange
 
 -- the operations of a change, in the order in which they are made: none where there is no such section
-abbrev pub made_of : State → Change → List Op
+abbrev pub made_of : State → PlanChange → List Op
 made_of s (Edit command) = made_by s command
 made_of s (Move k j) = elim (section_placed s k) [ None ↦ [] | Some section ↦ move_by s section k j ∷ [] ]
 made_of s (Retitle k title) = elim (section_placed s k) [ None ↦ [] | Some section ↦ retitle_by s section title ∷ [] ]
 
 -- why a change is refused, by the first cause that there is
-abbrev pub change_refusal : State → Change → Option ReviseFault
+abbrev pub change_refusal : State → PlanChange → Option ReviseFault
 change_refusal s (Edit command) = option_map fault.Edit (refusal_message s command)
 change_refusal s (Move k j) = option_map fault.Move (move_refusal s k j)
 change_refusal s (Retitle k title) = option_map fault.Move (retitle_refusal s k)
 
 -- the replica behind a change
-abbrev pub behind : State → Change → State
-behind s change = with_ops s (made_of s change)
+abbrev pub replica_behind : State → PlanChange → State
+replica_behind s change = with_ops s (made_of s change)
 
 -- the operations of changes that are made one after another, each on the replica behind those before it
-abbrev pub all_made : State → List Change → List Op
+abbrev pub all_made : State → List PlanChange → List Op
 all_made s [] = []
-all_made s (change ∷ changes) = made_of s change ++ all_made (behind s change) changes
+all_made s (change ∷ changes) = made_of s change ++ all_made (replica_behind s change) changes
 
 -- none of them is refused on the replica behind those before it
-abbrev pub AreAllowed : State → List Change → Type 0
+abbrev pub AreAllowed : State → List PlanChange → Type 0
 AreAllowed s [] = Unit {0}
-AreAllowed s (change ∷ changes) = (change_refusal s change ≡ None) × AreAllowed (behind s change) changes
+AreAllowed s (change ∷ changes) = (change_refusal s change ≡ None) × AreAllowed (replica_behind s change) changes
 
 -- the changes are made, one after another, and nothing else
-pub record Changed (old new : State) (changes : List Change) : Type 0 where
+pub record ArePlanned (old new : State) (changes : List PlanChange) : Type 0 where
   pub allowed : AreAllowed old changes
   pub gained : Gains old new (all_made old changes)
 
 -- memory was wanting: for nothing that was begun, or for a change, of which the first operations stand, and not all
-abbrev pub IsPartly : (Only : Change → Type 0) → (old new : State) → Type 0
-IsPartly Only old new = (new ≡ old) ⊎ ((change : Change) × Only change × StopsPartly old new (made_of old change))
+abbrev pub IsPartly : (Only : PlanChange → Type 0) → (old new : State) → Type 0
+IsPartly Only old new = (new ≡ old) ⊎ ((change : PlanChange) × Only change × StopsPartly old new (made_of old change))
 
 -- a change is refused, and nothing of it is made
-pub record IsRefused (Only : Change → Type 0) (old new : State) (why : ReviseFault) : Type 0 where
-  pub change : Change
+pub record IsRefused (Only : PlanChange → Type 0) (old new : State) (why : ReviseFault) : Type 0 where
+  pub change : PlanChange
   pub only : Only change
   pub refused : change_refusal old change ≡ Some why
   pub unmade : new ≡ old
 
 -- how changes stop
-abbrev pub StopsAt : (Only : Change → Type 0) → (old new : State) → ReviseFault → Type 0
+abbrev pub StopsAt : (Only : PlanChange → Type 0) → (old new : State) → ReviseFault → Type 0
 StopsAt Only old new (fault.Edit edit.NoMemory) = IsPartly Only old new
 StopsAt Only old new (fault.Move moving.NoMemory) = IsPartly Only old new
 StopsAt Only old new why = IsRefused Only old new why
 
 -- changes of this kind were made up to one that stopped them: those before it stand
-pub record Stops (Only : Change → Type 0) (old new : State) (why : ReviseFault) : Type 0 where
-  pub changes : List Change
+pub record Stops (Only : PlanChange → Type 0) (old new : State) (why : ReviseFault) : Type 0 where
+  pub changes : List PlanChange
   pub only : All Only changes
   pub mid : State
-  pub changed : Changed old mid changes
+  pub changed : ArePlanned old mid changes
   pub stop : StopsAt Only mid new why

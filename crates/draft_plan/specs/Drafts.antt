@@ -11,9 +11,9 @@ ends_in_line_feed (b ∷ []) = nat_eq b 10
 ends_in_line_feed (b ∷ c ∷ bs) = ends_in_line_feed (c ∷ bs)
 
 -- d where d is empty or ends in LF, and d with LF behind it otherwise
-abbrev pub closed : List ℕ → List ℕ
-closed [] = []
-closed (b ∷ bs) = if ends_in_line_feed (b ∷ bs) then b ∷ bs else (b ∷ bs) ++ 10 ∷ []
+abbrev pub with_last_line_end : List ℕ → List ℕ
+with_last_line_end [] = []
+with_last_line_end (b ∷ bs) = if ends_in_line_feed (b ∷ bs) then b ∷ bs else (b ∷ bs) ++ 10 ∷ []
 
 -- a byte in front of the first line: LF ends an empty line
 abbrev pub add_byte : ℕ → List (List ℕ) → List (List ℕ)
@@ -25,20 +25,20 @@ pieces [] = []
 pieces (b ∷ bs) = add_byte b (pieces bs)
 
 -- the lines of a draft
-abbrev pub lines : List ℕ → List (List ℕ)
-lines d = pieces (closed d)
+abbrev pub draft_lines : List ℕ → List (List ℕ)
+draft_lines d = pieces (with_last_line_end d)
 
 -- the line begins with a hash sign and a space
 abbrev pub is_heading : List ℕ → Bool
 is_heading line = starts_with nat_eq line (codes "# ")
 
 -- what follows these two bytes
-abbrev pub title_of : List ℕ → List ℕ
-title_of line = drop 2 line
+abbrev pub heading_of : List ℕ → List ℕ
+heading_of line = drop 2 line
 
 -- the line is not UTF-8, or it is a heading whose title is no Title
 abbrev pub is_bad : List ℕ → Bool
-is_bad line = not (is_utf8 line) || (is_heading line && not (is_title (title_of line)))
+is_bad line = not (is_utf8 line) || (is_heading line && not (is_title (heading_of line)))
 
 -- the line of this number, from 1, is bad, or it is the first one and no heading
 abbrev pub is_bad_at : ℕ → List ℕ → Bool
@@ -60,12 +60,12 @@ before_heading [] = []
 before_heading (line ∷ lines) = if is_heading line then [] else line ∷ before_heading lines
 
 -- a heading, and the lines behind it up to the next heading, joined by LF
-abbrev pub part_of : (heading : List ℕ) → (behind : List (List ℕ)) → Part
-part_of heading behind = record { title = title_of heading; text = join_with_byte 10 (before_heading behind) }
+abbrev pub part_under : (heading : List ℕ) → (behind : List (List ℕ)) → Part
+part_under heading behind = record { title = heading_of heading; text = join_with_byte 10 (before_heading behind) }
 
 -- a line in front of others, of which the parts are known: each heading begins a part
 abbrev pub add_line : (line : List ℕ) → (behind : List (List ℕ)) → List Part → List Part
-add_line line behind parts = if is_heading line then part_of line behind ∷ parts else parts
+add_line line behind parts = if is_heading line then part_under line behind ∷ parts else parts
 
 -- the parts that the headings among these lines begin
 abbrev pub parts_of : List (List ℕ) → List Part
@@ -74,7 +74,7 @@ parts_of (line ∷ lines) = add_line line lines (parts_of lines)
 
 -- what a draft says: its parts, or at which line it is bad
 abbrev pub parts : List ℕ → Result (List Part) ℕ
-parts d = elim (first_bad 1 (lines d)) [ None ↦ Ok (parts_of (lines d)) | Some line ↦ Err line ]
+parts d = elim (first_bad 1 (draft_lines d)) [ None ↦ Ok (parts_of (draft_lines d)) | Some line ↦ Err line ]
 
 -- a hash sign, a space, the title, LF, the text, LF
 abbrev pub part_form : Part → List ℕ

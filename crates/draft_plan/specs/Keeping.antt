@@ -10,19 +10,20 @@ use Rattle.draft_plan.specs.Plain.{arranged_part}
 use Rattle.draft_plan.specs.Revision.{HasOneMore, moves_of}
 
 -- a section is arranged before and behind
-abbrev pub Stays : (old new : List Op) → Identifier → Type 0
-Stays old new s = Contains (arranged old) s × Contains (arranged new) s
+abbrev pub SectionStays : (old new : List Op) → Identifier → Type 0
+SectionStays old new s = Contains (arranged old) s × Contains (arranged new) s
 
 -- it is arranged before alone, or behind alone
 abbrev pub IsDropped : (old new : List Op) → Identifier → Type 0
 IsDropped old new s = Contains (arranged old) s × (Contains (arranged new) s → ⊥)
 
+-- the section is arranged in the new history, and was not in the old one
 abbrev pub IsAddedBy : (old new : List Op) → Identifier → Type 0
 IsAddedBy old new s = Contains (arranged new) s × (Contains (arranged old) s → ⊥)
 
 -- a section stays with its text
 abbrev pub KeepsText : (old new : List Op) → Identifier → Type 0
-KeepsText old new s = Stays old new s × ((arranged_part old s).text ≡ (arranged_part new s).text)
+KeepsText old new s = SectionStays old new s × ((arranged_part old s).text ≡ (arranged_part new s).text)
 
 -- where one section had a text, and one has it now, and it is not empty, the one or the other stays with it. So as many
 -- stay with a text as had it, or as have it, whichever are fewer
@@ -39,8 +40,8 @@ abbrev pub NoneIsAlike : (old new : List Op) → Type 0
 NoneIsAlike old new = (s t : Identifier) → IsDropped old new s → IsAddedBy old new t → alike (chars (arranged_part old s).text) (chars (arranged_part new t).text) ≡ false
 
 -- the section is one of these
-abbrev pub is_among : List Identifier → Identifier → Bool
-is_among sections s = list_any (id_eq s) sections
+abbrev pub is_one_of : List Identifier → Identifier → Bool
+is_one_of sections s = list_any (id_eq s) sections
 
 -- a section has as many moves as before
 abbrev pub has_no_move : (old new : List Op) → Identifier → Bool
@@ -48,7 +49,7 @@ has_no_move old new s = nat_eq (length (moves_of new s)) (length (moves_of old s
 
 -- it stays, and was not moved
 abbrev pub stays_unmoved : (old new : List Op) → Identifier → Bool
-stays_unmoved old new s = (is_among (arranged old) s && is_among (arranged new) s) && has_no_move old new s
+stays_unmoved old new s = (is_one_of (arranged old) s && is_one_of (arranged new) s) && has_no_move old new s
 
 -- the sections that are chosen stand in one order before and behind
 abbrev pub InOneOrder : (old new : List Op) → (chosen : Identifier → Bool) → Type 0
@@ -57,7 +58,7 @@ InOneOrder old new chosen = filter chosen (arranged old) ≡ filter chosen (arra
 -- only what moved is moved: a section that stays has one new move at most. Those that stay and are not moved stand in one
 -- order before and behind, and of no choice of sections that do there are more
 pub record MovesFew (old new : List Op) : Type 0 where
-  pub once : (s : Identifier) → Stays old new s → HasOneMore (moves_of old s) (moves_of new s)
+  pub once : (s : Identifier) → SectionStays old new s → HasOneMore (moves_of old s) (moves_of new s)
   pub order : InOneOrder old new (stays_unmoved old new)
   pub most : (chosen : Identifier → Bool) → InOneOrder old new chosen → length (filter chosen (arranged new)) ≤ length (filter (stays_unmoved old new) (arranged new))
 

@@ -9,7 +9,7 @@ use Rattle.origin_model.specs.operations.Verdict.{Lawful}
 use Rattle.origin_model.specs.order.Laws.{IsPartOf}
 use Rattle.origin_model.specs.order.Printed.{is_hidden}
 use Rattle.catalogue_notes.specs.Claims.{is_title}
-use Rattle.draft_plan.specs.Drafts.{Part, closed, form, has_heading, is_heading, lines, parts}
+use Rattle.draft_plan.specs.Drafts.{Part, with_last_line_end, form, has_heading, is_heading, draft_lines, parts}
 
 -- no line is left up to the next heading
 abbrev pub ends_part : List (List ℕ) → Bool
@@ -21,19 +21,20 @@ abbrev pub with_empty : (line : List ℕ) → (behind filled : List (List ℕ)) 
 with_empty line behind filled = if is_heading line && ends_part behind then line ∷ [] ∷ filled else line ∷ filled
 
 -- the lines, with an empty line behind each heading that has no line behind it
-abbrev pub filled : List (List ℕ) → List (List ℕ)
-filled [] = []
-filled (line ∷ lines) = with_empty line lines (filled lines)
+abbrev pub with_empty_lines : List (List ℕ) → List (List ℕ)
+with_empty_lines [] = []
+with_empty_lines (line ∷ lines) = with_empty line lines (with_empty_lines lines)
 
 -- each line, and LF behind it
-abbrev pub ended : List (List ℕ) → List ℕ
-ended lines = flat_map (λ line. line ++ 10 ∷ []) lines
+abbrev pub ended_lines : List (List ℕ) → List ℕ
+ended_lines lines = flat_map (λ line. line ++ 10 ∷ []) lines
 
 -- the form of a draft's parts is the closed draft, but for an empty line behind each heading that had none
 pub record IsReformed (d : List ℕ) (ps : List Part) : Type 0 where
-  pub draft : closed d ≡ ended (lines d)
-  pub form_is : form ps ≡ ended (filled (lines d))
+  pub draft : with_last_line_end d ≡ ended_lines (draft_lines d)
+  pub form_is : form ps ≡ ended_lines (with_empty_lines (draft_lines d))
 
+-- a draft is the form of its parts, but for empty lines at their ends
 abbrev pub FormOfParts : Type 0
 FormOfParts = (d : List ℕ) (ps : List Part) → parts d ≡ Ok ps → IsReformed d ps
 

@@ -41,9 +41,11 @@ pub record Cost : Type 0 where
   pub counters : ℕ
   pub stamps : ℕ
 
+-- how many operations, counters and stamps a plan takes
 abbrev pub cost : (operations counters stamps : ℕ) → Cost
 cost operations counters stamps = record { operations = operations; counters = counters; stamps = stamps }
 
+-- the cost of two plans together
 abbrev pub plus : Cost → Cost → Cost
 plus a b = cost (a.operations + b.operations) (a.counters + b.counters) (a.stamps + b.stamps)
 
@@ -97,6 +99,7 @@ pub record AreChosen (old new : List ℕ) (hunks : List Hunk) : Type 0 where
   pub unchanged : old ≡ new → hunks ≡ []
   pub lines : (old ≡ new → ⊥) → KeepsLines old new hunks
 
+-- a refusal of an edit as one of a draft
 abbrev pub by_edit : Result ℕ EditFault → Result ℕ ReviseFault
 by_edit (Ok n) = Ok n
 by_edit (Err why) = Err (fault.Edit why)
@@ -108,11 +111,12 @@ CostsText old new section reads result =
     (hunks : List Hunk) × AreChosen (text old.held.history section) reads hunks × Costs old new (hunks_cost hunks) (by_edit result)
 
 -- how many letters sections show
-abbrev pub letters_of : List Op → List Identifier → ℕ
-letters_of h sections = sum_by (λ s. length (text h s)) sections
+abbrev pub shown_letters : List Op → List Identifier → ℕ
+shown_letters h sections = sum_by (λ s. length (text h s)) sections
 
-abbrev pub letters : List Op → ℕ
-letters h = letters_of h (arranged h)
+-- how many letters all arranged sections show
+abbrev pub letters_from : List Op → ℕ
+letters_from h = shown_letters h (arranged h)
 
 -- how many letters parts have
 abbrev pub part_letters : List Part → ℕ
@@ -122,7 +126,7 @@ part_letters parts = sum_by (λ (p : Part). length (chars p.text)) parts
 -- dropped. Each part is added, moved and retitled.
 abbrev pub revision_cost : List Op → List Part → Cost
 revision_cost h parts =
-    cost (letters h + part_letters parts + length (arranged h) + 3 * length parts) (part_letters parts + 3 * length parts) (2 * length parts)
+    cost (letters_from h + part_letters parts + length (arranged h) + 3 * length parts) (part_letters parts + 3 * length parts) (2 * length parts)
 
 -- memory was wanting
 abbrev pub IsOutOfMemory : ReviseFault → Type 0

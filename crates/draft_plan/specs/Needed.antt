@@ -30,6 +30,7 @@ InText section elements = Touches (λ s. s ≡ section) (Contains elements) ⊥
 abbrev pub IsElement : (history : List Op) → Identifier → Type 0
 IsElement history x = (s : Identifier) × Contains (arranged history) s × Contains (shown (within s) history) x
 
+-- the operation touches elements of arranged sections alone
 abbrev pub InTexts : (history : List Op) → Op → Type 0
 InTexts history = Touches (Contains (arranged history)) (IsElement history) ⊥
 

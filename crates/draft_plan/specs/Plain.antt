@@ -30,5 +30,6 @@ pub record IsDraft (h : List Op) : Type 0 where
   pub form_is : arranged_text h ≡ form (arranged_parts h)
   pub reads : HasTexts h → plain h ≡ true → parts (arranged_text h) ≡ Ok (arranged_parts h)
 
+-- what is arranged reads as a draft of itself, where it is plain
 abbrev pub ArrangedReads : Type 0
 ArrangedReads = (h : List Op) → IsDraft h

@@ -25,17 +25,17 @@ sum_below f zero = 0
 sum_below f (suc n) = sum_below f n + f n
 
 -- one Delete where a section has no part, and one Section where a part has no section
-abbrev pub unmatched : Option ℕ → ℕ
-unmatched None = 1
-unmatched (Some x) = 0
+abbrev pub unmatched_count : Option ℕ → ℕ
+unmatched_count None = 1
+unmatched_count (Some x) = 0
 
 -- how many of so many sections are dropped
 abbrev pub dropped_count : Pairs → (sections : ℕ) → ℕ
-dropped_count pairs sections = sum_below (λ i. unmatched (part_of pairs i)) sections
+dropped_count pairs sections = sum_below (λ i. unmatched_count (part_of pairs i)) sections
 
 -- for how many of so many parts a section is added
 abbrev pub added_count : Pairs → (parts : ℕ) → ℕ
-added_count pairs parts = sum_below (λ j. unmatched (section_of pairs j)) parts
+added_count pairs parts = sum_below (λ j. unmatched_count (section_of pairs j)) parts
 
 -- the section of a part, as the sections are arranged, where it has one
 abbrev pub section_before : List Op → Pairs → (part : ℕ) → Option Identifier
@@ -105,6 +105,7 @@ PlansMoves h pairs parts moved = (moved ≡ 0) ⊎ ((sections : List Identifier)
 abbrev pub shaping : Pairs → (moved sections parts : ℕ) → Cost
 shaping pairs moved sections parts = cost (dropped_count pairs sections + added_count pairs parts + moved) (added_count pairs parts + moved) moved
 
+-- what it costs to bring the sections of a draft to their places, or why that is refused
 abbrev pub CostsStanding : (old new : State) → Pairs → (sections parts : ℕ) → Result ℕ ReviseFault → Type 0
 CostsStanding old new pairs sections parts (Ok n) =
     (moved : ℕ) × PlansMoves old.held.history pairs parts moved × CostsShaping old new (shaping pairs moved sections parts) (Ok n)
@@ -123,6 +124,7 @@ pub record Plan (h : List Op) (parts : List Part) : Type 0 where
   pub hunks : List (List Hunk)
   pub chosen : AreHunksOf h (section_before h pairs) parts hunks
 
+-- what a whole plan costs: its sections, its titles, and the hunks of its texts
 abbrev pub plan_cost : (h : List Op) → (parts : List Part) → Pairs → (moved : ℕ) → List (List Hunk) → Cost
 plan_cost h parts pairs moved hunks =
     plus (shaping pairs moved (length (arranged h)) (length parts)) (filling (retitle_count_of_parts h (section_before h pairs) parts (length parts)) hunks)

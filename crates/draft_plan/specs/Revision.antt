@@ -13,7 +13,7 @@ use Rattle.catalogue_notes.specs.Arranged.{arranged, heading}
 use Rattle.catalogue_notes.specs.Claims.{Move as MoveClaim, Retitle as RetitleClaim}
 use Rattle.catalogue_notes.specs.Lift.{moves, retitles}
 use Rattle.catalogue_notes.specs.declared.moving.MoveFault.TheVariants as moving
-use Rattle.draft_plan.specs.Changes.{Change, Changed, Stops, all_made}
+use Rattle.draft_plan.specs.Changes.{PlanChange, ArePlanned, Stops, all_made}
 use Rattle.draft_plan.specs.Drafts.{Part}
 use Rattle.draft_plan.specs.Plain.{arranged_parts}
 use Rattle.draft_plan.specs.Texts.{KeepsElements}
@@ -34,8 +34,8 @@ HasOneMore old new = (new ≡ old) ⊎ (drop 1 new ≡ old)
 
 -- n operations were made, by changes one after another
 pub record Makes (old new : State) (n : ℕ) : Type 0 where
-  pub changes : List Change
-  pub changed : Changed old new changes
+  pub changes : List PlanChange
+  pub changed : ArePlanned old new changes
   pub count : n ≡ length (all_made old changes)
 
 -- of a section that is shown before and after the elements stay that stand between hunks from its old text to its new
@@ -76,4 +76,4 @@ IsLimit why = Unit {0}
 -- changes were made up to one that is refused for a limit, or for which memory was wanting
 pub record StopsAtLimit (old new : State) (why : ReviseFault) : Type 0 where
   pub limit : IsLimit why
-  pub stops : Stops (λ (c : Change). Unit {0}) old new why
+  pub stops : Stops (λ (c : PlanChange). Unit {0}) old new why

@@ -60,6 +60,7 @@ abbrev pub Shapes : (old new : State) → Result ℕ ReviseFault → Type 0
 Shapes old new (Ok n) = IsShaped old new n
 Shapes old new (Err why) = StopsAtLimit old new why
 
+-- sections were added, dropped and moved, or a limit stopped it
 abbrev pub Reshapes : (old new : State) → Result ℕ ReviseFault → Type 0
 Reshapes old new (Ok n) = IsReshaped old new n
 Reshapes old new (Err why) = StopsAtLimit old new why
@@ -102,7 +103,7 @@ pub record IsHeadedBy (old new : State) (s : Identifier) (title : List ℕ) (n :
   pub nothing : encode_utf8_all (heading old.held.history s) ≡ title → (n ≡ 0) × (new ≡ old)
 
 -- n operations were made, after which a section is a part: none where it was
-pub record IsFilled (old new : State) (s : Identifier) (part : Part) (n : ℕ) : Type 0 where
+pub record IsFilledIn (old new : State) (s : Identifier) (part : Part) (n : ℕ) : Type 0 where
   pub makes : Makes old new n
   pub only : ChangesOnly old.held.history new.held.history s
   pub touches : MakesOnly (InText s (shown (within s) old.held.history)) old new

@@ -20,11 +20,11 @@ use Rattle.catalogue_notes.specs.Arranged.{arranged, heading}
 use Rattle.catalogue_notes.specs.Arranging.{Arranges}
 use Rattle.catalogue_notes.specs.Lift.{moves, retitles, stamp}
 use Rattle.catalogue_notes.specs.declared.arranger.Arranger.{Arranger}
-use Rattle.draft_plan.specs.Changes.{Change, Changed, Edit, Stops, all_made}
+use Rattle.draft_plan.specs.Changes.{PlanChange, ArePlanned, Edit, Stops, all_made}
 use Rattle.draft_plan.specs.declared.fault.ReviseFault.TheVariants as fault
 
 -- the change is a put or a cut in this section, by what is shown
-abbrev pub EditsText : ℕ → Change → Type 0
+abbrev pub EditsText : ℕ → PlanChange → Type 0
 EditsText k (Edit (Put j at new)) = j ≡ k
 EditsText k (Edit (Cut j at n)) = j ≡ k
 EditsText k change = ⊥
@@ -43,9 +43,9 @@ pub record KeepsArrangement (old new : List Op) : Type 0 where
 -- n operations were made, those of puts and cuts in this section, after which it reads so; the other sections read and
 -- show what they did, their elements, the hidden ones too, stand as they stood, and all are arranged as before
 pub record IsRevised (old new : State) (k : ℕ) (section : Identifier) (reads : List ℕ) (n : ℕ) : Type 0 where
-  pub changes : List Change
+  pub changes : List PlanChange
   pub edits : All (EditsText k) changes
-  pub changed : Changed old new changes
+  pub changed : ArePlanned old new changes
   pub count : n ≡ length (all_made old changes)
   pub here : text new.held.history section ≡ reads
   pub elsewhere : (t : Identifier) → t ≢ section → text new.held.history t ≡ text old.held.history t
@@ -54,15 +54,15 @@ pub record IsRevised (old new : State) (k : ℕ) (section : Identifier) (reads :
   pub keeps : KeepsArrangement old.held.history new.held.history
 
 -- the history holds none of these elements: not shown ones, and not hidden ones
-abbrev pub AreNew : (history : List Op) → List Identifier → Type 0
-AreNew history come = All (λ x. holds history x ≡ false) come
+abbrev pub AreUnknown : (history : List Op) → List Identifier → Type 0
+AreUnknown history come = All (λ x. holds history x ≡ false) come
 
 -- What stands between hunks stays, element by element, and in the place of each hunk as many elements come as it puts
 -- letters, all of them new to the history: so the list reads from a position on.
 abbrev pub StayBetween : (history : List Op) → (from : ℕ) → (old new : List Identifier) → List Hunk → Type 0
 StayBetween history from old new [] = new ≡ drop from old
 StayBetween history from old new (h ∷ hs) =
-    (come : List Identifier) × (rest : List Identifier) × (length come ≡ h.new_len) × AreNew history come
+    (come : List Identifier) × (rest : List Identifier) × (length come ≡ h.new_len) × AreUnknown history come
     × (new ≡ take (h.old_at - from) (drop from old) ++ come ++ rest) × StayBetween history (h.old_at + h.old_len) old rest hs
 
 -- There are hunks that transform one text into the other, in which whole words go and come, that are as short as these

@@ -6,7 +6,7 @@ ghost use Rattle.std.specs.List.{join_with_byte};
 ghost use Rattle.std.specs.Str.{IsUtf8};
 ghost use Rattle.draft_plan.specs.Drafts.{first_bad, is_bad_at, is_heading as is_heading_in};
 ghost use Rattle.catalogue_notes.specs.Claims.{is_title as is_title_in};
-ghost use Rattle.draft_plan.specs.Drafts.{lines, parts_of, pieces, title_of};
+ghost use Rattle.draft_plan.specs.Drafts.{draft_lines, parts_of, pieces, heading_of};
 ghost use Rattle.draft_plan.specs.Laws.{ends_part};
 ghost use Rattle.draft_plan.specs.Readings.{IsFirstLine, IsFirstText, IsGood, seen_part};
 
@@ -40,7 +40,7 @@ pub(crate) fn is_heading(line: &[u8]) -> bool
 
 /// Whether a heading has no title.
 fn has_bad_title(line: &[u8]) -> bool
-    ensures { result ≡ (is_heading_in line.now && not (is_title_in (title_of line.now))) }
+    ensures { result ≡ (is_heading_in line.now && not (is_title_in (heading_of line.now))) }
 {
     is_heading(line) && !is_line(&line[2..], LONGEST_TITLE)
 }
@@ -54,7 +54,7 @@ fn is_bad(line: &[u8], number: usize) -> bool
 
 /// The number, from 1, of the first bad line.
 pub(crate) fn bad_line(draft: &[u8]) -> Option<usize>
-    ensures { result ≡ first_bad 1 (lines draft.now) }
+    ensures { result ≡ first_bad 1 (draft_lines draft.now) }
 {
     let mut rest = draft;
     let mut before = 0;
@@ -125,8 +125,8 @@ fn split_part<'a>(draft: &'a [u8]) -> (Part<'a>, &'a [u8])
 
 /// The parts of a draft that has no bad line.
 pub(crate) fn read_parts<'a>(alloc: Global, draft: &'a [u8]) -> Result<Vec<Part<'a>>, NoMemory>
-    requires { first_bad 1 (lines draft.now) ≡ None }
-    ensures { IfOk result (λ parts. map seen_part parts.items ≡ parts_of (lines draft.now)) }
+    requires { first_bad 1 (draft_lines draft.now) ≡ None }
+    ensures { IfOk result (λ parts. map seen_part parts.items ≡ parts_of (draft_lines draft.now)) }
 {
     let mut parts = Vec::new(alloc);
     let mut rest = draft;

@@ -5,13 +5,13 @@ ghost use Rattle.std.specs.Str.{chars, encode_utf8_all};
 ghost use Rattle.fugue_ids.specs.Identifiers.{Identifier};
 ghost use Rattle.origin_model.specs.edits.Effect.{OfSection};
 ghost use Rattle.origin_model.specs.edits.Refusal.{section_shown};
-ghost use Rattle.origin_model.specs.edits.State.{Stands};
+ghost use Rattle.origin_model.specs.edits.State.{IsSound};
 ghost use Rattle.origin_model.specs.order.Printed.{text as text_on};
 ghost use Rattle.origin_model.specs.taking.Taking.{IsSettled};
 ghost use Rattle.text_diff.specs.Hunks.{Transforms};
 ghost use Rattle.draft_plan.specs.Limits.{Costs, CostsText, by_edit, hunk_cost, hunks_cost};
 ghost use Rattle.draft_plan.specs.Needed.{InText, MakesOnly};
-ghost use Rattle.draft_plan.specs.Revising.{AreHunksMade, IsHunkMade, IsLimit, IsWithinText, elements};
+ghost use Rattle.draft_plan.specs.Revising.{AreHunksMade, IsHunkMade, IsLimit, IsWithinText, shown_elements};
 ghost use Rattle.draft_plan.specs.Texts.{CountsHunks, IsRevised, StopsEditing, StopsRevising};
 
 use fugue_ids::NoMemory;
@@ -49,7 +49,7 @@ fn revise_hunk(
     new: &[char],
 ) -> Result<u32, EditFault>
     requires settled { IsSettled replica.old.held }
-    requires stands { Stands replica.old }
+    requires stands { IsSound replica.old }
     requires old { IsWithinText replica.old section (hunk.old_at + hunk.old_len) }
     requires new { hunk.new_at + hunk.new_len ≤ length new.now }
     ensures made { IfOk result (λ n. OfSection replica.old section
@@ -58,7 +58,7 @@ fn revise_hunk(
     ensures limits { IfErr result (λ fault. IsLimit fault) }
     ensures costs { Costs replica.old replica.new (hunk_cost hunk) (by_edit result) }
     ensures settled { IsSettled replica.new.held }
-    ensures stands { Stands replica.new }
+    ensures stands { IsSound replica.new }
 {
     let text = text_of(alloc, &new[hunk.new_at..hunk.new_at + hunk.new_len])?;
     let cut = replica.cut(section, hunk.old_at, hunk.old_len)?;
@@ -75,7 +75,7 @@ fn revise_hunks(
     new: &[char],
 ) -> Result<u32, EditFault>
     requires settled { IsSettled replica.old.held }
-    requires stands { Stands replica.old }
+    requires stands { IsSound replica.old }
     requires hunks { OfSection replica.old section (λ x.
         Transforms nat_eq (text_on replica.old.held.history x) new.now hunks.now) }
     ensures made { IfOk result (λ n. OfSection replica.old section
@@ -84,7 +84,7 @@ fn revise_hunks(
     ensures limits { IfErr result (λ fault. IsLimit fault) }
     ensures costs { Costs replica.old replica.new (hunks_cost hunks.now) (by_edit result) }
     ensures settled { IsSettled replica.new.held }
-    ensures stands { Stands replica.new }
+    ensures stands { IsSound replica.new }
 {
     let mut left = hunks.len();
     let mut made = 0;
@@ -111,7 +111,7 @@ pub fn revise_text(
     ensures keeps { IfOk result (λ n. OfSection replica.old section
         (λ x. CountsHunks replica.old replica.new x n)) }
     ensures touches { IfOk result (λ n. OfSection replica.old section
-        (λ x. MakesOnly (InText x (elements replica.old x)) replica.old replica.new)) }
+        (λ x. MakesOnly (InText x (shown_elements replica.old x)) replica.old replica.new)) }
     ensures same { IfOk result (λ n. OfSection replica.old section (λ x.
         encode_utf8_all (text_on replica.old.held.history x) ≡ new.now → (n ≡ 0) × (replica.new ≡ replica.old))) }
     ensures absent { (result ≡ Err EditFault.NoSection) ↔ (section_shown replica.old section ≡ None) }
@@ -120,7 +120,7 @@ pub fn revise_text(
     ensures costs { (x : Identifier) → section_shown replica.old section ≡ Some x
         → CostsText replica.old replica.new x (chars new.now) result }
     ensures settled { IsSettled replica.new.held }
-    ensures stands { Stands replica.new }
+    ensures stands { IsSound replica.new }
 {
     let Some(old) = replica.text_of(section)? else {
         return Err(EditFault::NoSection);

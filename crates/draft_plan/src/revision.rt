@@ -4,7 +4,7 @@ ghost use Rattle.std.specs.Prelude.{◌≡◌, ◌↔◌, [], IfErr, IfOk, IsTru
 ghost use Rattle.std.specs.Str.{encode_utf8_all};
 ghost use Rattle.fugue_ids.specs.Identifiers.{Identifier};
 ghost use Rattle.origin_model.specs.edits.Refusal.{section_shown};
-ghost use Rattle.origin_model.specs.edits.State.{Stands};
+ghost use Rattle.origin_model.specs.edits.State.{IsSound};
 ghost use Rattle.origin_model.specs.order.Printed.{text as text_on};
 ghost use Rattle.origin_model.specs.taking.Taking.{IsSettled};
 ghost use Rattle.catalogue_notes.specs.Arranged.{arranged, heading};
@@ -20,7 +20,7 @@ ghost use Rattle.draft_plan.specs.Plain.{arranged_part, arranged_parts};
 ghost use Rattle.draft_plan.specs.Plans.{CostsFilling, CostsSection, LacksPlan, filling, retitle_count};
 ghost use Rattle.draft_plan.specs.Readings.{seen_part};
 ghost use Rattle.draft_plan.specs.Revision.{IsRevision, MakesNothing, StopsAtLimit};
-ghost use Rattle.draft_plan.specs.Shaping.{IsFilled, IsHeadedBy};
+ghost use Rattle.draft_plan.specs.Shaping.{IsFilledIn, IsHeadedBy};
 
 use crate::draft::Draft;
 use crate::fault::ReviseFault;
@@ -48,7 +48,7 @@ pub fn revise(alloc: Global, replica: &mut Replica, draft: &Draft<'_>) -> Result
     ensures planned { IfErr result (λ why. LacksPlan replica.old draft.now why) }
     ensures spared { arranged_parts replica.old.held.history ≡ draft.now → IfErr result (λ why. IsOutOfMemory why) }
     ensures settled { IsSettled replica.new.held }
-    ensures stands { Stands replica.new }
+    ensures stands { IsSound replica.new }
 {
     let parts = draft.parts();
     let outline = outline(alloc, replica)?;
@@ -164,7 +164,7 @@ fn has_title(entry: &Entry, title: &str) -> bool
 /// Gives the sections the titles and the texts of the parts, where there are as many of them.
 fn fill_shaped(alloc: Global, replica: &mut Replica, parts: &[Part<'_>]) -> Result<u32, ReviseFault>
     requires settled { IsSettled replica.old.held }
-    requires stands { Stands replica.old }
+    requires stands { IsSound replica.old }
     requires count { length (arranged replica.old.held.history) ≡ length parts.now }
     ensures revised { IfOk result (λ n. IsRevision replica.old replica.new (map seen_part parts.now) n) }
     ensures arranged { OnOk result (arranged replica.new.held.history ≡ arranged replica.old.held.history) }
@@ -174,7 +174,7 @@ fn fill_shaped(alloc: Global, replica: &mut Replica, parts: &[Part<'_>]) -> Resu
     ensures costs { CostsFilling replica.old replica.new (slice_get (arranged replica.old.held.history))
         (map seen_part parts.now) result }
     ensures settled { IsSettled replica.new.held }
-    ensures stands { Stands replica.new }
+    ensures stands { IsSound replica.new }
 {
     let outline = outline(alloc, replica)?;
     fill(alloc, replica, outline.entries(), parts)
@@ -190,7 +190,7 @@ fn fill(
     requires outline { IsOutline replica.old.held.history entries.now }
     requires count { length entries.now ≡ length parts.now }
     requires settled { IsSettled replica.old.held }
-    requires stands { Stands replica.old }
+    requires stands { IsSound replica.old }
     ensures revised { IfOk result (λ n. IsRevision replica.old replica.new (map seen_part parts.now) n) }
     ensures same { IfOk result (λ n. MakesNothing replica.old replica.new (map seen_part parts.now) n) }
     ensures arranged { OnOk result (arranged replica.new.held.history ≡ arranged replica.old.held.history) }
@@ -200,7 +200,7 @@ fn fill(
     ensures costs { CostsFilling replica.old replica.new (slice_get (arranged replica.old.held.history))
         (map seen_part parts.now) result }
     ensures settled { IsSettled replica.new.held }
-    ensures stands { Stands replica.new }
+    ensures stands { IsSound replica.new }
 {
     let mut arranger = Arranger::new();
     let mut made = 0;
@@ -229,20 +229,20 @@ fn fill_section(
     text: &str,
 ) -> Result<u32, ReviseFault>
     requires settled { IsSettled replica.old.held }
-    requires stands { Stands replica.old }
+    requires stands { IsSound replica.old }
     requires arranges { Arranges replica.old.held.history arranger.old }
     requires placed { section_placed replica.old place ≡ Some entry.now.section }
     requires numbered { section_shown replica.old entry.now.number ≡ Some entry.now.section }
     requires headed { string_bytes entry.now.heading
         ≡ encode_utf8_all (heading replica.old.held.history entry.now.section) }
     ensures filled { IfOk result
-        (λ n. IsFilled replica.old replica.new entry.now.section (record { title = title.now; text = text.now }) n) }
+        (λ n. IsFilledIn replica.old replica.new entry.now.section (record { title = title.now; text = text.now }) n) }
     ensures stops { IfErr result (λ why. StopsAtLimit replica.old replica.new why) }
     ensures costs { CostsSection replica.old replica.new entry.now.section
         (record { title = title.now; text = text.now }) result }
     ensures arranges { OnOk result (Arranges replica.new.held.history arranger.new) }
     ensures settled { IsSettled replica.new.held }
-    ensures stands { Stands replica.new }
+    ensures stands { IsSound replica.new }
 {
     let retitled = retitle_other(alloc, replica, arranger, place, entry, title)?;
     let revised = revise_text(alloc, replica, entry.number, text)?;
@@ -259,7 +259,7 @@ fn retitle_other(
     title: &str,
 ) -> Result<u32, ReviseFault>
     requires settled { IsSettled replica.old.held }
-    requires stands { Stands replica.old }
+    requires stands { IsSound replica.old }
     requires arranges { Arranges replica.old.held.history arranger.old }
     requires placed { section_placed replica.old place ≡ Some entry.now.section }
     requires headed { string_bytes entry.now.heading
@@ -270,7 +270,7 @@ fn retitle_other(
         (filling (retitle_count replica.old.held.history (Some entry.now.section) (Some title.now)) []) result }
     ensures arranges { Arranges replica.new.held.history arranger.new }
     ensures settled { IsSettled replica.new.held }
-    ensures stands { Stands replica.new }
+    ensures stands { IsSound replica.new }
 {
     if has_title(entry, title) {
         return Ok(0);

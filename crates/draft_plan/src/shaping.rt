@@ -1,7 +1,7 @@
 //! The sections of a replica dropped, added and moved, until they stand as the parts of a draft do.
 
 ghost use Rattle.std.specs.Prelude.{OnOk, length, map};
-ghost use Rattle.origin_model.specs.edits.State.{Stands};
+ghost use Rattle.origin_model.specs.edits.State.{IsSound};
 ghost use Rattle.origin_model.specs.taking.Taking.{IsSettled};
 ghost use Rattle.catalogue_notes.specs.Outlining.{IsOutline};
 ghost use Rattle.section_plan.specs.Matching.{IsMatching};
@@ -27,7 +27,7 @@ pub(crate) fn shape(
     pairs: &Pairs,
 ) -> Result<u32, ReviseFault>
     requires settled { IsSettled replica.old.held }
-    requires stands { Stands replica.old }
+    requires stands { IsSound replica.old }
     requires outline { IsOutline replica.old.held.history entries.now }
     requires matching { IsMatching (length entries.now) (length parts.now) pairs.now }
     ensures shapes { Reshapes replica.old replica.new result }
@@ -35,7 +35,7 @@ pub(crate) fn shape(
     ensures stand_as { OnOk result (StandsAs replica.old.held.history replica.new.held.history pairs.now (map seen_part parts.now)) }
     ensures moves { OnOk result (MovesFew replica.old.held.history replica.new.held.history) }
     ensures settled { IsSettled replica.new.held }
-    ensures stands { Stands replica.new }
+    ensures stands { IsSound replica.new }
 {
     let mut sections = Vec::new(alloc);
     let resized = resize(alloc, replica, entries, parts, pairs, &mut sections)?;

@@ -8,8 +8,8 @@ use Rattle.edit_script.specs.declared.run.ScriptFault.{ScriptFault}
 use Rattle.edit_script.specs.declared.run.ScriptFault.TheVariants as fault
 use Rattle.edit_script.specs.declared.script.TheConstants.{LONGEST_SCRIPT}
 use Rattle.edit_script.specs.Answers.{ScriptAnswerIs, ScriptAnswersBy, EndsIn, EndsWith, IsScriptByBytes}
-use Rattle.edit_script.specs.Scripts.{ScriptRuns, ScriptStops, StopsAt, RunsWhole}
-use Rattle.edit_script.specs.Sources.{IsScript, IsUnread}
+use Rattle.edit_script.specs.Scripts.{ScriptRuns, ScriptStops, StopsAtLine, RunsWhole}
+use Rattle.edit_script.specs.Sources.{IsScript, LacksScript}
 use Rattle.edit_script.proofs.OnceLemmas.{scripts_run_once}
 
 -- an answer of a line's fault, or of the script's end, that the bytes decide
@@ -68,8 +68,8 @@ module _ (old new : State) (bytes : List ℕ) (before after : SourceView) (told 
   short : (script : List ℕ) → IsScript before after script → length bytes ≤ LONGEST_SCRIPT
   short script is = subst (λ (l : List ℕ). length l ≤ LONGEST_SCRIPT) (script_is script is) is.short
 
-  ends_in : (f : ScriptFault) → ((script : List ℕ) × IsScript before after script × StopsAt old new script f) → EndsIn old bytes f
-  ends_in f s = record { short = short s.0 s.1; new = new; stops = subst (λ (l : List ℕ). StopsAt old new l f) (script_is s.0 s.1) s.2 }
+  ends_in : (f : ScriptFault) → ((script : List ℕ) × IsScript before after script × StopsAtLine old new script f) → EndsIn old bytes f
+  ends_in f s = record { short = short s.0 s.1; new = new; stops = subst (λ (l : List ℕ). StopsAtLine old new l f) (script_is s.0 s.1) s.2 }
 
   answer_is : (result : Result ℕ ScriptFault) → IfOk result (ScriptRuns old new before after) → IfErr result (ScriptStops old new before after) → ScriptAnswerIs old bytes result
   answer_is (Ok n) ok err =
@@ -93,7 +93,7 @@ answers_exactly old new before after result ok err = by before.left refl
     by (Some bytes) told = exact old bytes result (answer_is old new bytes before after told result ok err)
 
 -- a script that was not read stops so
-pub unread_stops : (s : State) (before after : SourceView) (f : ScriptFault) → IsUnread before after f → ScriptStops s s before after f
+pub unread_stops : (s : State) (before after : SourceView) (f : ScriptFault) → LacksScript before after f → ScriptStops s s before after f
 unread_stops s before after (fault.BadLine n) unread = absurd unread
 unread_stops s before after (fault.NoSection n) unread = absurd unread
 unread_stops s before after (fault.OutOfRange n) unread = absurd unread
@@ -104,7 +104,7 @@ unread_stops s before after fault.TooLong unread = (refl, unread)
 unread_stops s before after fault.NoMemory unread = inl (refl, unread)
 
 -- and its bytes, where they are told, are the cause
-pub unread_exactly : (s : State) (before after : SourceView) (f g : ScriptFault) (result : Result ℕ ScriptFault) → result ≡ Err g → g ≡ f → IsUnread before after f
+pub unread_exactly : (s : State) (before after : SourceView) (f g : ScriptFault) (result : Result ℕ ScriptFault) → result ≡ Err g → g ≡ f → LacksScript before after f
     → IfSome before.left (ScriptAnswersBy result s)
 unread_exactly s before after f g result is same unread =
     subst (λ (r : Result ℕ ScriptFault). IfSome before.left (ScriptAnswersBy r s)) (sym (is ∙ ap (λ (h : ScriptFault). Err h) same))

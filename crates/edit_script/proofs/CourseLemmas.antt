@@ -6,7 +6,7 @@ use Rattle.std.specs.Prelude.{reverse}
 use Rattle.fugue_ids.specs.Identifiers.{Identifier}
 use Rattle.fugue_ids.specs.declared.op.Op.{Op}
 use Rattle.origin_model.specs.operations.History.{accepted}
-use Rattle.origin_model.specs.edits.Edits.{Command, Put, Cut, Add, DropSection, extended}
+use Rattle.origin_model.specs.edits.Edits.{Command, Put, Cut, Add, DropSection, history_with}
 use Rattle.origin_model.specs.edits.State.{State}
 use Rattle.origin_model.specs.edits.Refusal.{held_count, in_range, in_section, made_by, refused_elements, refused_ops, section_shown}
 use Rattle.origin_model.specs.edits.Effect.{Gains, with_ops}
@@ -16,9 +16,9 @@ use Rattle.edit_script.specs.declared.run.ScriptFault.{ScriptFault}
 use Rattle.edit_script.specs.declared.run.ScriptFault.TheVariants as fault
 use Rattle.edit_script.specs.declared.run.LineFault.{LineFault}
 use Rattle.edit_script.specs.declared.run.LineFault.TheVariants as why
-use Rattle.edit_script.specs.Grammar.{Asks, IsBad, IsNote, lines}
+use Rattle.edit_script.specs.Grammar.{Asks, IsFaultyLine, IsNote, lines}
 use Rattle.edit_script.specs.Lines.{fault_at}
-use Rattle.edit_script.specs.Scripts.{Does, IsRefused, LinesLead, RunsUpTo, RunsWhole, StopsAt, by_scalars, line_refusal}
+use Rattle.edit_script.specs.Scripts.{Does, IsRefusedEdit, LinesLead, RunsUpTo, RunsWhole, StopsAtLine, by_scalars, line_refusal}
 use Rattle.edit_script.proofs.DecideLemmas.{line_is_one}
 use Rattle.edit_script.proofs.RunLemmas.{leads_grow}
 use Rattle.origin_model.proofs.edits.MadeLemmas.{join_at_end}
@@ -56,8 +56,8 @@ joined s ops = record { accepted_are = join_at_end s.held.history ops; others = 
 
 -- a line that is not run, and why
 abbrev IsFaulty : State → List ℕ → LineFault → Type 0
-IsFaulty s line why.Bad = IsBad line
-IsFaulty s line (why.Edit cause) = IsRefused s line cause × (cause ≢ edit.NoMemory)
+IsFaulty s line why.Bad = IsFaultyLine line
+IsFaulty s line (why.Edit cause) = IsRefusedEdit s line cause × (cause ≢ edit.NoMemory)
 
 -- a line is run
 record Done (s : State) (line : List ℕ) : Type 0 where
@@ -76,7 +76,7 @@ line_course s line = by (line_is_one line)
         inl (record { new = with_ops s ops; ops = ops; does = inr (command, asks, record { allowed = is; made = refl; gained = joined s ops }) })
     by_refusal command asks (Some f) is not = inr (why.Edit f, ((command, asks, is), not))
 
-    by : IsNote line ⊎ ((command : Command) × Asks line command) ⊎ IsBad line → Done s line ⊎ ((cause : LineFault) × IsFaulty s line cause)
+    by : IsNote line ⊎ ((command : Command) × Asks line command) ⊎ IsFaultyLine line → Done s line ⊎ ((cause : LineFault) × IsFaulty s line cause)
     by (inl note) = inl (record { new = s; ops = []; does = inl (note, refl, refl) })
     by (inr (inl asks)) = by_refusal asks.0 asks.1 (line_refusal s asks.0) refl (refusal_is s asks.0)
     by (inr (inr bad)) = inr (why.Bad, bad)
@@ -123,7 +123,7 @@ lines_course s (line ∷ ls) = by (line_course s line) (λ t. lines_course t ls)
 
 -- the fault of a script, by that of its first faulty line
 halts : (old new : State) (script line : List ℕ) (n : ℕ) (cause : LineFault) → RunsUpTo old new script line n → IsFaulty new line cause
-    → (fault_at n cause ≢ fault.NoMemory) × StopsAt old new script (fault_at n cause)
+    → (fault_at n cause ≢ fault.NoMemory) × StopsAtLine old new script (fault_at n cause)
 halts old new script line n why.Bad run bad = (λ e. cc e, (line, run, bad))
 halts old new script line n (why.Edit edit.NoSection) run refused = (λ e. cc e, (line, run, refused.0))
 halts old new script line n (why.Edit edit.OutOfRange) run refused = (λ e. cc e, (line, run, refused.0))
@@ -132,11 +132,11 @@ halts old new script line n (why.Edit (edit.TooMany c)) run refused = (λ e. cc 
 halts old new script line n (why.Edit edit.NoMemory) run refused = absurd (refused.1 refl)
 
 pub script_course : (old : State) (script : List ℕ)
-    → ((new : State) × (n : ℕ) × RunsWhole old new script n) ⊎ ((new : State) × (f : ScriptFault) × (f ≢ fault.NoMemory) × StopsAt old new script f)
+    → ((new : State) × (n : ℕ) × RunsWhole old new script n) ⊎ ((new : State) × (f : ScriptFault) × (f ≢ fault.NoMemory) × StopsAtLine old new script f)
 script_course old script = by (lines_course old (lines script))
   where
     by : DoneAll old (lines script) ⊎ Halted old (lines script)
-        → ((new : State) × (n : ℕ) × RunsWhole old new script n) ⊎ ((new : State) × (f : ScriptFault) × (f ≢ fault.NoMemory) × StopsAt old new script f)
+        → ((new : State) × (n : ℕ) × RunsWhole old new script n) ⊎ ((new : State) × (f : ScriptFault) × (f ≢ fault.NoMemory) × StopsAtLine old new script f)
     by (inl all) = inl (all.new, length all.ops, record { ops = all.ops; leads = all.leads; accepted_are = leads_grow old all.new (lines script) all.ops all.leads; count = refl })
     by (inr h) =
         let run : RunsUpTo old h.new script h.line (length h.front + 1) = record { front = h.front; back = h.back; split = h.split; number_is = refl; ops = h.ops; leads = h.leads } in

@@ -10,7 +10,7 @@ use lib.Utf8.{scalar}
 use Rattle.fugue_ids.specs.Titles.{IsTitleText, has_line_end}
 use Rattle.fugue_ids.specs.declared.limits.TheConstants.{LONGEST_TITLE}
 use Rattle.origin_model.specs.edits.Edits.{Command, Put, Cut, Add, DropSection}
-use Rattle.edit_script.specs.Grammar.{Asks, IsBad, IsNote, IsWritable, escaped, command_line}
+use Rattle.edit_script.specs.Grammar.{Asks, IsFaultyLine, IsNote, IsWritable, escaped_scalar, command_line}
 use Rattle.edit_script.proofs.EscapeLemmas.{escaped_some}
 use Rattle.fugue_ids.proofs.DecideLemmas.{Decided, is_false_decided, is_true_decided, less_decided, title_decided}
 
@@ -141,9 +141,9 @@ module _ (line : List ℕ) where
   drop_decided = below _ (λ k. asks_decided line (DropSection k)) (2 ^ 32)
 
 -- no text is longer than it is written
-written_short : (new : List ℕ) → length new ≤ length (flat_map escaped new)
+written_short : (new : List ℕ) → length new ≤ length (flat_map escaped_scalar new)
 written_short [] = omega arith
-written_short (ch ∷ new) = let rest = written_short new in omega (arith, rest, escaped_some ch, length-append (escaped ch) (flat_map escaped new))
+written_short (ch ∷ new) = let rest = written_short new in omega (arith, rest, escaped_some ch, length-append (escaped_scalar ch) (flat_map escaped_scalar new))
 
 -- a text that a line has at its end is no longer than the line
 title_short : (line title : List ℕ) (at : ℕ) → Asks line (Add at title) → length title ≤ length line
@@ -153,12 +153,12 @@ title_short line title at asks =
 
 text_short : (line new : List ℕ) (k at : ℕ) → Asks line (Put k at new) → length new ≤ length line
 text_short line new k at asks =
-    let is : line ≡ 112 ∷ 117 ∷ 116 ∷ 32 ∷ (decimal (k + 1) ++ 32 ∷ (decimal at ++ 32 ∷ flat_map escaped new)) = asks.line_is in
+    let is : line ≡ 112 ∷ 117 ∷ 116 ∷ 32 ∷ (decimal (k + 1) ++ 32 ∷ (decimal at ++ 32 ∷ flat_map escaped_scalar new)) = asks.line_is in
     omega (
       arith,
       ap length is,
-      length-append (decimal (k + 1)) (32 ∷ (decimal at ++ 32 ∷ flat_map escaped new)),
-      length-append (decimal at) (32 ∷ flat_map escaped new),
+      length-append (decimal (k + 1)) (32 ∷ (decimal at ++ 32 ∷ flat_map escaped_scalar new)),
+      length-append (decimal at) (32 ∷ flat_map escaped_scalar new),
       written_short new,
     )
 
@@ -213,10 +213,10 @@ note_decided line = by (utf8_decided line) (begins_decided line)
     by (inr never) begins = inr (λ note. never note.utf8)
 
 -- a line is a note line, or asks for an edit, or is bad
-pub line_is_one : (line : List ℕ) → IsNote line ⊎ ((command : Command) × Asks line command) ⊎ IsBad line
+pub line_is_one : (line : List ℕ) → IsNote line ⊎ ((command : Command) × Asks line command) ⊎ IsFaultyLine line
 line_is_one line = by (note_decided line) (edit_decided line)
   where
-    by : Decided (IsNote line) → Decided ((command : Command) × Asks line command) → IsNote line ⊎ ((command : Command) × Asks line command) ⊎ IsBad line
+    by : Decided (IsNote line) → Decided ((command : Command) × Asks line command) → IsNote line ⊎ ((command : Command) × Asks line command) ⊎ IsFaultyLine line
     by (inl note) edit = inl note
     by (inr never) (inl edit) = inr (inl edit)
     by (inr never) (inr none) = inr (inr (record { no_note = never; no_edit = λ command asks. none (command, asks) }))

@@ -12,7 +12,7 @@ use Rattle.fugue_ids.specs.Titles.{IsTitleText, has_line_end}
 use Rattle.fugue_ids.specs.declared.limits.TheConstants.{LONGEST_TITLE}
 use Rattle.origin_model.specs.edits.Edits.{Command, Put, Cut, Add, DropSection}
 use Rattle.edit_script.proofs.EscapeLemmas.{other_head, Written, line_end, backslash, plain, written}
-use Rattle.edit_script.specs.Grammar.{Asks, IsWritable, escaped, command_line}
+use Rattle.edit_script.specs.Grammar.{Asks, IsWritable, escaped_scalar, command_line}
 use Rattle.edit_script.specs.Forms.{form_word}
 use Rattle.edit_script.specs.declared.edit.Form.{Form}
 use Rattle.edit_script.specs.declared.edit.Form.TheVariants as form
@@ -57,12 +57,12 @@ pub record PutsAt (rest : List ℕ) (command : Command) : Type 0 where
   pub small : section + 1 < 2 ^ 32
   pub place_small : at < 2 ^ 32
   pub some : new ≡ [] → ⊥
-  pub rest_is : rest ≡ decimal (section + 1) ++ 32 ∷ (decimal at ++ 32 ∷ flat_map escaped new)
+  pub rest_is : rest ≡ decimal (section + 1) ++ 32 ∷ (decimal at ++ 32 ∷ flat_map escaped_scalar new)
 
 pub puts : (rest : List ℕ) (command : Command) → Asks (codes "put " ++ rest) command → PutsAt rest command
 puts rest (Add at title) asks = absurd (other_head 112 97 _ _ asks.line_is refl)
 puts rest (Put k at new) asks =
-    let line : 112 ∷ 117 ∷ 116 ∷ 32 ∷ rest ≡ 112 ∷ 117 ∷ 116 ∷ 32 ∷ (decimal (k + 1) ++ 32 ∷ (decimal at ++ 32 ∷ flat_map escaped new)) = asks.line_is in
+    let line : 112 ∷ 117 ∷ 116 ∷ 32 ∷ rest ≡ 112 ∷ 117 ∷ 116 ∷ 32 ∷ (decimal (k + 1) ++ 32 ∷ (decimal at ++ 32 ∷ flat_map escaped_scalar new)) = asks.line_is in
     record { section = k; at = at; new = new; is = refl; small = asks.writable.0; place_small = asks.writable.1; some = asks.writable.3; rest_is = cc }
 puts rest (Cut k at n) asks = absurd (other_head 112 99 _ _ asks.line_is refl)
 puts rest (DropSection k) asks = absurd (other_head 112 100 _ _ asks.line_is refl)
@@ -115,11 +115,11 @@ add_asks rest text title at is small spelled scalars is_title =
       line_is = ap (λ (l : List ℕ). 97 ∷ 100 ∷ 100 ∷ 32 ∷ l) (is ∙ ap (λ (l : List ℕ). decimal (at + 1) ++ 32 ∷ l) (sym spelled));
     }
 
-pub put_asks : (rest text new : List ℕ) (k at : ℕ) → rest ≡ decimal (k + 1) ++ 32 ∷ (decimal at ++ 32 ∷ text) → k + 1 < 2 ^ 32 → at < 2 ^ 32 → text ≡ flat_map escaped new
+pub put_asks : (rest text new : List ℕ) (k at : ℕ) → rest ≡ decimal (k + 1) ++ 32 ∷ (decimal at ++ 32 ∷ text) → k + 1 < 2 ^ 32 → at < 2 ^ 32 → text ≡ flat_map escaped_scalar new
     → all_scalars new ≡ true → (length text ≡ 0 → ⊥) → Asks (codes "put " ++ rest) (Put k at new)
 put_asks rest text new k at is small place_small spelled scalars some =
     record {
-      writable = (small, place_small, scalars, λ none. some (ap length spelled ∙ ap (λ (l : List ℕ). length (flat_map escaped l)) none));
+      writable = (small, place_small, scalars, λ none. some (ap length spelled ∙ ap (λ (l : List ℕ). length (flat_map escaped_scalar l)) none));
       line_is = ap (λ (l : List ℕ). 112 ∷ 117 ∷ 116 ∷ 32 ∷ l) (is ∙ ap (λ (l : List ℕ). decimal (k + 1) ++ 32 ∷ (decimal at ++ 32 ∷ l)) spelled);
     }
 
@@ -148,16 +148,16 @@ utf8_behind word rest ascii utf8 =
 utf8_decimal : (n : ℕ) → n < 2 ^ 64 → IsUtf8 (decimal n)
 utf8_decimal n small = IsUtf8-from_ascii (decimal n) (IsAscii-decimal n small)
 
-utf8_written : (ch : ℕ) → Written ch → IsScalar ch → IsUtf8 (escaped ch)
+utf8_written : (ch : ℕ) → Written ch → IsScalar ch → IsUtf8 (escaped_scalar ch)
 utf8_written ch (line_end i e) is = subst IsUtf8 (sym e) (IsUtf8-from_ascii (92 ∷ 110 ∷ []) (ascii_if (92 ∷ 110 ∷ []) refl))
 utf8_written ch (backslash i e) is = subst IsUtf8 (sym e) (IsUtf8-from_ascii (92 ∷ 92 ∷ []) (ascii_if (92 ∷ 92 ∷ []) refl))
 utf8_written ch (plain i j e) is = subst IsUtf8 (sym e) (IsUtf8-encode ch is)
 
-utf8_text : (new : List ℕ) → all_scalars new ≡ true → IsUtf8 (flat_map escaped new)
+utf8_text : (new : List ℕ) → all_scalars new ≡ true → IsUtf8 (flat_map escaped_scalar new)
 utf8_text [] all = IsUtf8-nil
 utf8_text (ch ∷ new) all =
     let parts = and_parts (scalar ch) (all_scalars new) all in
-    IsUtf8-append (escaped ch) (flat_map escaped new) (utf8_written ch (written ch) parts.0) (utf8_text new parts.1)
+    IsUtf8-append (escaped_scalar ch) (flat_map escaped_scalar new) (utf8_written ch (written ch) parts.0) (utf8_text new parts.1)
 
 utf8_line : (command : Command) → IsWritable command → IsUtf8 (command_line command)
 utf8_line (Add at title) can =

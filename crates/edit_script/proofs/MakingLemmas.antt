@@ -18,7 +18,7 @@ use Rattle.origin_model.specs.edits.Refusal.{section_shown, shown_count, in_rang
 use Rattle.origin_model.specs.edits.Effect.{IsMade, LeavesUnmade, StopsPartly}
 use Rattle.origin_model.specs.declared.edit_fault.EditFault.{EditFault}
 use Rattle.origin_model.specs.declared.edit_fault.EditFault.TheVariants.{NoSection, OutOfRange, IdsSpent, TooMany, NoMemory}
-use Rattle.edit_script.specs.Scripts.{by_scalars, clusters_in, in_scalars, line_refusal, scalars_from}
+use Rattle.edit_script.specs.Scripts.{by_scalars, shown_clusters, in_scalars, line_refusal, scalars_from}
 use Rattle.edit_script.specs.Lines.{IsSpan, Made, Unmade}
 use Rattle.fugue_ids.proofs.OptionLemmas.{some_is_none}
 
@@ -61,7 +61,7 @@ put_is s k at new found spans =
 pub put_refusal : (s : State) (k at : ℕ) (new : List ℕ) (found : ℕ × ℕ) → IsSpan s k at 0 found → line_refusal s (Put k at new) ≡ refusal_message s (Put k found.0 new)
 put_refusal s k at new found spans =
     let shown = spans.shown in
-    rw shown (in_range_fits at (length (clusters_in s spans.section)) (refused_elements s (length new)) (omega (arith, spans.enough))
+    rw shown (in_range_fits at (length (shown_clusters s spans.section)) (refused_elements s (length new)) (omega (arith, spans.enough))
     ∙ sym (in_range_fits found.0 (shown_count s (within spans.section)) (refused_elements s (length new)) (omega (arith, spans.within))))
 
 -- a cut of clusters is a cut of scalars
@@ -73,7 +73,7 @@ cut_is s k at n found spans =
 pub cut_refusal : (s : State) (k at n : ℕ) (found : ℕ × ℕ) → IsSpan s k at n found → line_refusal s (Cut k at n) ≡ refusal_message s (Cut k found.0 found.1)
 cut_refusal s k at n found spans =
     let shown = spans.shown in
-    rw shown (in_range_fits (at + n) (length (clusters_in s spans.section)) (refused_ops s (scalars_from s spans.section at n)) spans.enough
+    rw shown (in_range_fits (at + n) (length (shown_clusters s spans.section)) (refused_ops s (scalars_from s spans.section at n)) spans.enough
     ∙ ap (λ (p : ℕ × ℕ). refused_ops s p.1) (sym spans.found_is)
     ∙ sym (in_range_fits (found.0 + found.1) (shown_count s (within spans.section)) (refused_ops s found.1) spans.within))
 

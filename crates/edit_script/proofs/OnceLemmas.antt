@@ -16,10 +16,10 @@ use Rattle.edit_script.specs.declared.run.ScriptFault.{ScriptFault}
 use Rattle.edit_script.specs.declared.run.ScriptFault.TheVariants as fault
 use Rattle.edit_script.specs.declared.run.LineFault.{LineFault}
 use Rattle.edit_script.specs.declared.run.LineFault.TheVariants as why
-use Rattle.edit_script.specs.Grammar.{Asks, HasNoSpace, IsBad, IsNote, escaped, lines}
+use Rattle.edit_script.specs.Grammar.{Asks, HasNoSpace, IsFaultyLine, IsNote, escaped_scalar, lines}
 use Rattle.edit_script.specs.Laws.{AsksOnce, RunsOnce}
 use Rattle.edit_script.specs.Lines.{fault_at}
-use Rattle.edit_script.specs.Scripts.{Does, IsRefused, LinesLead, RunsUpTo, RunsWhole, StopsAt, by_scalars, line_refusal}
+use Rattle.edit_script.specs.Scripts.{Does, IsRefusedEdit, LinesLead, RunsUpTo, RunsWhole, StopsAtLine, by_scalars, line_refusal}
 use Rattle.edit_script.proofs.CourseLemmas.{script_course}
 use Rattle.edit_script.proofs.DecideLemmas.{line_is_one}
 use Rattle.edit_script.proofs.EscapeLemmas.{all_read, other_head}
@@ -59,8 +59,8 @@ number_split : (m n : ℕ) (x y : List ℕ) → m < 2 ^ 32 → n < 2 ^ 32 → de
 number_split m n x y small less is =
     one_split (decimal m) (decimal n) x y (decimal_spaceless m (omega (arith, small))) (decimal_spaceless n (omega (arith, less))) is
 
-same_written : (new other : List ℕ) → flat_map escaped new ≡ flat_map escaped other → new ≡ other
-same_written new other is = all_read (flat_map escaped new) new [] other (sym (append-nil (flat_map escaped new))) refl is
+same_written : (new other : List ℕ) → flat_map escaped_scalar new ≡ flat_map escaped_scalar other → new ≡ other
+same_written new other is = all_read (flat_map escaped_scalar new) new [] other (sym (append-nil (flat_map escaped_scalar new))) refl is
 
 asks_once : (line : List ℕ) (a b : Command) → Asks line a → Asks line b → a ≡ b
 asks_once line (Add at title) b asks other =
@@ -68,7 +68,7 @@ asks_once line (Add at title) b asks other =
     let parts = number_split (at + 1) (found.at + 1) _ _ asks.writable.0 found.small found.rest_is in
     ap₂ (λ (n : ℕ) (t : List ℕ). Add n t) (same_ordinal at found.at asks.writable.0 found.small parts.0) (encodes_same title found.title parts.1) ∙ sym found.is
 asks_once line (Put k at new) b asks other =
-    let found = puts (decimal (k + 1) ++ 32 ∷ (decimal at ++ 32 ∷ flat_map escaped new)) b (subst (λ (l : List ℕ). Asks l b) asks.line_is other) in
+    let found = puts (decimal (k + 1) ++ 32 ∷ (decimal at ++ 32 ∷ flat_map escaped_scalar new)) b (subst (λ (l : List ℕ). Asks l b) asks.line_is other) in
     let first = number_split (k + 1) (found.section + 1) _ _ asks.writable.0 found.small found.rest_is in
     let second = number_split at found.at _ _ asks.writable.1 found.place_small first.1 in
     ap₂ (λ (n m : ℕ). Put n m new) (same_ordinal k found.section asks.writable.0 found.small first.0) (same_number at found.at asks.writable.1 found.place_small second.0)
@@ -120,8 +120,8 @@ leads_once s t u (line ∷ ls) ops others a b =
 
 -- a line that is not run, and why
 abbrev pub IsFaulty : State → List ℕ → LineFault → Type 0
-IsFaulty s line why.Bad = IsBad line
-IsFaulty s line (why.Edit cause) = IsRefused s line cause
+IsFaulty s line why.Bad = IsFaultyLine line
+IsFaulty s line (why.Edit cause) = IsRefusedEdit s line cause
 
 faulty_does_not : (s t : State) (line : List ℕ) (ops : List Op) (cause : LineFault) → Does s t line ops → IsFaulty s line cause → ⊥
 faulty_does_not s t line ops why.Bad (inl note) bad = bad.no_note note.0
@@ -173,7 +173,7 @@ record Stopped (old new : State) (script : List ℕ) (f : ScriptFault) : Type 0 
   faulty : IsFaulty new line cause
   is : f ≡ fault_at n cause
 
-stopped : (old new : State) (script : List ℕ) (f : ScriptFault) → f ≢ fault.NoMemory → StopsAt old new script f → Stopped old new script f
+stopped : (old new : State) (script : List ℕ) (f : ScriptFault) → f ≢ fault.NoMemory → StopsAtLine old new script f → Stopped old new script f
 stopped old new script (fault.BadLine n) other s = record { line = s.0; n = n; cause = why.Bad; run = s.1; faulty = s.2; is = refl }
 stopped old new script (fault.NoSection n) other s = record { line = s.0; n = n; cause = why.Edit edit.NoSection; run = s.1; faulty = s.2; is = refl }
 stopped old new script (fault.OutOfRange n) other s = record { line = s.0; n = n; cause = why.Edit edit.OutOfRange; run = s.1; faulty = s.2; is = refl }
@@ -183,7 +183,7 @@ stopped old new script fault.ReadFault other s = absurd s
 stopped old new script fault.TooLong other s = absurd s
 stopped old new script fault.NoMemory other s = absurd (other refl)
 
-stops_once : (old a b : State) (script : List ℕ) (f g : ScriptFault) → f ≢ fault.NoMemory → g ≢ fault.NoMemory → StopsAt old a script f → StopsAt old b script g → (a ≡ b) × (f ≡ g)
+stops_once : (old a b : State) (script : List ℕ) (f g : ScriptFault) → f ≢ fault.NoMemory → g ≢ fault.NoMemory → StopsAtLine old a script f → StopsAtLine old b script g → (a ≡ b) × (f ≡ g)
 stops_once old a b script f g not_f not_g at_f at_g =
     let x = stopped old a script f not_f at_f in
     let y = stopped old b script g not_g at_g in
@@ -193,7 +193,7 @@ stops_once old a b script f g not_f not_g at_f at_g =
     let causes = faulty_once b y.line x.cause y.cause (subst (λ (s : State). IsFaulty s y.line x.cause) same.0 (subst (λ (l : List ℕ). IsFaulty a l x.cause) same.1 x.faulty)) y.faulty in
     (same.0, x.is ∙ ap₂ fault_at numbers causes ∙ sym y.is)
 
-stops_or_runs : (old a b : State) (script : List ℕ) (n : ℕ) (f : ScriptFault) → f ≢ fault.NoMemory → RunsWhole old a script n → StopsAt old b script f → ⊥
+stops_or_runs : (old a b : State) (script : List ℕ) (n : ℕ) (f : ScriptFault) → f ≢ fault.NoMemory → RunsWhole old a script n → StopsAtLine old b script f → ⊥
 stops_or_runs old a b script n f not_f whole at_f =
     let x = stopped old b script f not_f at_f in
     none_faulty old a b x.run.front x.run.back x.line whole.ops x.run.ops x.cause (subst (λ (ls : List (List ℕ)). LinesLead old a ls whole.ops) x.run.split whole.leads) x.run.leads x.faulty

@@ -15,10 +15,10 @@ use Rattle.edit_script.specs.declared.run.ScriptFault.{ScriptFault}
 use Rattle.edit_script.specs.declared.run.ScriptFault.TheVariants as fault
 use Rattle.origin_model.specs.declared.edit_fault.EditFault.TheVariants as edit
 use Rattle.edit_script.specs.Grammar.{BeginsWith, lines}
-use Rattle.edit_script.specs.Scripts.{Does, LinesLead, ScriptRuns, RunsUpTo, RunsWhole, ScriptStops, StopsAt}
+use Rattle.edit_script.specs.Scripts.{Does, LinesLead, ScriptRuns, RunsUpTo, RunsWhole, ScriptStops, StopsAtLine}
 use Rattle.edit_script.specs.Sources.{IsScript}
 use Rattle.outer_ports.specs.Sources.{SourceView}
-use Rattle.edit_script.specs.Lines.{LineFails, IsRun, fault_at}
+use Rattle.edit_script.specs.Lines.{LineFails, WasRun, fault_at}
 
 -- what the lines make stands behind what was accepted
 does_grow : (old new : State) (line : List ℕ) (ops : List Op) → Does old new line ops → accepted new.held.history ≡ accepted old.held.history ++ ops
@@ -72,7 +72,7 @@ left_behind bytes line (Some rest) begins = (begins.0, omega (arith, begins.1))
 pub less_left : (bytes line : List ℕ) (behind : Option (List ℕ)) → BeginsWith bytes line behind → bytes_left behind < bytes_left (Some bytes)
 less_left bytes line behind begins = omega (arith, (left_behind bytes line behind begins).1)
 
-pub walk_next : (old now new : State) (script bytes line : List ℕ) (behind : Option (List ℕ)) (number : ℕ) → Walk old now script (Some bytes) number → BeginsWith bytes line behind → IsRun now new line
+pub walk_next : (old now new : State) (script bytes line : List ℕ) (behind : Option (List ℕ)) (number : ℕ) → Walk old now script (Some bytes) number → BeginsWith bytes line behind → WasRun now new line
     → Walk old new script behind (number + 1)
 walk_next old now new script bytes line behind number walk begins run =
     let left = left_behind bytes line behind begins in
@@ -126,16 +126,16 @@ less_at rest bytes line behind is begins =
     subst (λ (o : Option (Bor (List ℕ))). bytes_left behind < bytes_left (option_copied o)) (sym is) (less_left bytes.now line behind begins)
 
 -- the fault of a line is that of the script
-pub stops : (old mid new : State) (script line : List ℕ) (n : ℕ) (cause : LineFault) → RunsUpTo old mid script line n → LineFails mid new line cause → StopsAt old new script (fault_at n cause)
+pub stops : (old mid new : State) (script line : List ℕ) (n : ℕ) (cause : LineFault) → RunsUpTo old mid script line n → LineFails mid new line cause → StopsAtLine old new script (fault_at n cause)
 stops old mid new script line n why.Bad run fails = (line, subst (λ (s : State). RunsUpTo old s script line n) (sym fails.0) run, fails.1)
 stops old mid new script line n (why.Edit edit.NoSection) run fails =
-    subst (λ (s : State). StopsAt old s script (fault_at n (why.Edit edit.NoSection))) (sym fails.0) (line, run, fails.1)
+    subst (λ (s : State). StopsAtLine old s script (fault_at n (why.Edit edit.NoSection))) (sym fails.0) (line, run, fails.1)
 stops old mid new script line n (why.Edit edit.OutOfRange) run fails =
-    subst (λ (s : State). StopsAt old s script (fault_at n (why.Edit edit.OutOfRange))) (sym fails.0) (line, run, fails.1)
+    subst (λ (s : State). StopsAtLine old s script (fault_at n (why.Edit edit.OutOfRange))) (sym fails.0) (line, run, fails.1)
 stops old mid new script line n (why.Edit (edit.IdsSpent c)) run fails =
-    subst (λ (s : State). StopsAt old s script (fault_at n (why.Edit (edit.IdsSpent c)))) (sym fails.0) (line, n, run, fails.1)
+    subst (λ (s : State). StopsAtLine old s script (fault_at n (why.Edit (edit.IdsSpent c)))) (sym fails.0) (line, n, run, fails.1)
 stops old mid new script line n (why.Edit (edit.TooMany c)) run fails =
-    subst (λ (s : State). StopsAt old s script (fault_at n (why.Edit (edit.TooMany c)))) (sym fails.0) (line, n, run, fails.1)
+    subst (λ (s : State). StopsAtLine old s script (fault_at n (why.Edit (edit.TooMany c)))) (sym fails.0) (line, n, run, fails.1)
 stops old mid new script line n (why.Edit edit.NoMemory) run fails = (line, n, mid, run, fails)
 
 -- the first LF
@@ -175,7 +175,7 @@ pub last_line : (script : List ℕ) → position (λ (b : ℕ). b == 10) script 
 last_line script is = no_break script (ltb-false _ _ (not_found _ _ is))
 
 -- a script that was read whole stops at a line
-pub stops_read : (old new : State) (before after : SourceView) (script : List ℕ) (result : Result ℕ ScriptFault) → IsScript before after script → IfErr result (StopsAt old new script)
+pub stops_read : (old new : State) (before after : SourceView) (script : List ℕ) (result : Result ℕ ScriptFault) → IsScript before after script → IfErr result (StopsAtLine old new script)
     → IfErr result (ScriptStops old new before after)
 stops_read old new before after script (Ok n) is stopped = tt
 stops_read old new before after script (Err (fault.BadLine n)) is stopped = (script, is, stopped)

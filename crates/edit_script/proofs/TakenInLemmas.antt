@@ -8,13 +8,13 @@ use Rattle.std.proofs.lemmas.Option.{slice_get_past}
 use Rattle.fugue_ids.specs.Identifiers.{Identifier}
 use Rattle.fugue_ids.specs.declared.op.Op.{Op}
 use Rattle.fugue_ids.specs.declared.op.Op.TheVariants.{Delete}
-use Rattle.origin_model.specs.edits.Edits.{Command, Put, Cut, Add, DropSection, ReadyInTurn, in_front, made, next_counter, typed}
+use Rattle.origin_model.specs.edits.Edits.{Command, Put, Cut, Add, DropSection, ReadyInTurn, in_front, made, next_counter, typed_texts}
 use Rattle.origin_model.specs.edits.Landing.{following}
 use Rattle.origin_model.specs.operations.History.{accepted}
 use Rattle.origin_model.specs.operations.Verdict.{Lawful}
 use Rattle.origin_model.specs.order.Order.{order}
 use Rattle.origin_model.specs.order.Printed.{shown}
-use Rattle.origin_model.specs.taking.Taking.{Answer, Full, HasPlace, Held, IsSettled, TooMany, answers_from, held_from, kept_from}
+use Rattle.origin_model.specs.taking.Taking.{Answer, Full, MeetsNoLimit, Held, IsSettled, TooMany, answers_from, held_from, kept_from}
 use Rattle.origin_model.specs.taking.Closure.{WithinLimits}
 use Rattle.std.proofs.lemmas.List.Elements.{All-weaker}
 use Rattle.origin_model.specs.declared.operations.Place.TheVariants.{Catalogue as catalogue, Section as within}
@@ -30,7 +30,7 @@ use Rattle.origin_model.specs.edits.Effect.{with_ops}
 use Rattle.origin_model.proofs.edits.RefusalLemmas.{elements_fit, ops_fit, position_within, section_there}
 use Rattle.edit_script.specs.Grammar.{lines}
 use Rattle.edit_script.specs.Laws.{AreTakenIn, ScriptsAreTakenIn}
-use Rattle.edit_script.specs.Scripts.{Does, Edits, LinesLead, by_scalars, clusters_in, in_scalars, line_refusal, scalars_from}
+use Rattle.edit_script.specs.Scripts.{Does, Edits, LinesLead, by_scalars, shown_clusters, in_scalars, line_refusal, scalars_from}
 
 -- behind all that is shown there is no left origin
 none_in_front : (xs : List Identifier) (at : ℕ) → length xs < at → in_front xs at ≡ None
@@ -42,7 +42,7 @@ put_past : (r : ℕ) (h w : List Op) (k at : ℕ) (new : List ℕ) (s : Identifi
     → made r h w (Put k at new) ≡ made r h w (Put k 0 new)
 put_past r h w k at new s shown_is past =
     put_made r h w k s at new shown_is
-    ∙ ap (λ (l : Option Identifier). typed r (next_counter r h w) s l (following (order (within s) h) l) new) (none_in_front (shown (within s) h) at past)
+    ∙ ap (λ (l : Option Identifier). typed_texts r (next_counter r h w) s l (following (order (within s) h) l) new) (none_in_front (shown (within s) h) at past)
     ∙ sym (put_made r h w k s 0 new shown_is)
 
 -- wherever a put stands, its operations come in turn
@@ -68,20 +68,20 @@ record Fit (s : State) (ops : List Op) : Type 0 where
 -- so it is of each edit of a line that is not refused
 edit_fits : (s : State) (command : Command) → Lawful s.held.history → line_refusal s command ≡ None → Fit s (made_by s (by_scalars s command))
 edit_fits s (Put k at new) lawful allowed =
-    let found = section_there (section_shown s k) (λ (x : Identifier). in_range at (length (clusters_in s x)) (refused_elements s (length new))) allowed in
-    let others = position_within at (length (clusters_in s found.0)) (refused_elements s (length new)) found.2 in
+    let found = section_there (section_shown s k) (λ (x : Identifier). in_range at (length (shown_clusters s x)) (refused_elements s (length new))) allowed in
+    let others = position_within at (length (shown_clusters s found.0)) (refused_elements s (length new)) found.2 in
     let by = ap (λ (o : Option Identifier). elim o as (λ _. Command) [ None ↦ Put k at new | Some x ↦ in_scalars s x (Put k at new) ]) found.1 in
     subst (λ (c : Command). Fit s (made_by s c)) (sym by) (record {
-      ready = put_ready s.number s.held.history s.held.waiting k (scalars (take at (clusters_in s found.0))) new found.0 lawful found.1;
-      room = omega (arith, elements_fit s (length new) others.1, put_counted s.number s.held.history s.held.waiting k found.0 (scalars (take at (clusters_in s found.0))) new found.1);
+      ready = put_ready s.number s.held.history s.held.waiting k (scalars (take at (shown_clusters s found.0))) new found.0 lawful found.1;
+      room = omega (arith, elements_fit s (length new) others.1, put_counted s.number s.held.history s.held.waiting k found.0 (scalars (take at (shown_clusters s found.0))) new found.1);
     })
 edit_fits s (Cut k at n) lawful allowed =
-    let found = section_there (section_shown s k) (λ (x : Identifier). in_range (at + n) (length (clusters_in s x)) (refused_ops s (scalars_from s x at n))) allowed in
-    let others = position_within (at + n) (length (clusters_in s found.0)) (refused_ops s (scalars_from s found.0 at n)) found.2 in
+    let found = section_there (section_shown s k) (λ (x : Identifier). in_range (at + n) (length (shown_clusters s x)) (refused_ops s (scalars_from s x at n))) allowed in
+    let others = position_within (at + n) (length (shown_clusters s found.0)) (refused_ops s (scalars_from s found.0 at n)) found.2 in
     let by = ap (λ (o : Option Identifier). elim o as (λ _. Command) [ None ↦ Cut k at n | Some x ↦ in_scalars s x (Cut k at n) ]) found.1 in
     subst (λ (c : Command). Fit s (made_by s c)) (sym by) (record {
-      ready = (cut_takes s.number s.held.history s.held.waiting k (scalars (take at (clusters_in s found.0))) (scalars_from s found.0 at n) found.0 lawful found.1).0.ready;
-      room = omega (arith, ops_fit s (scalars_from s found.0 at n) others.1, cut_few s.number s.held.history s.held.waiting k (scalars (take at (clusters_in s found.0))) (scalars_from s found.0 at n) found.0 found.1);
+      ready = (cut_takes s.number s.held.history s.held.waiting k (scalars (take at (shown_clusters s found.0))) (scalars_from s found.0 at n) found.0 lawful found.1).0.ready;
+      room = omega (arith, ops_fit s (scalars_from s found.0 at n) others.1, cut_few s.number s.held.history s.held.waiting k (scalars (take at (shown_clusters s found.0))) (scalars_from s found.0 at n) found.0 found.1);
     })
 edit_fits s (Add at title) lawful allowed =
     let others = position_within at (shown_count s catalogue) (refused_elements s 1) allowed in
@@ -162,7 +162,7 @@ scripts_are_taken_in old new script n made stands settled runs joined =
     subst (AreTakenIn old new) same (made_lines old new (lines script) runs.ops stands.lawful settled runs.leads).taken
 
 -- what is kept whole finds its place
-pub all_find_place : (old new : State) (made : List Op) → IsSettled old.held → AreTakenIn old new made → HasPlace old.hold old.most old.held made
+pub all_find_place : (old new : State) (made : List Op) → IsSettled old.held → AreTakenIn old new made → MeetsNoLimit old.hold old.most old.held made
 all_find_place old new made settled taken =
     let stand = kept_suffice old.hold old.most old.held made settled in
     let within = subst (λ (l : List Op). WithinLimits (answers_from old.hold old.most old.held l)) taken.all_kept stand.within_limits in

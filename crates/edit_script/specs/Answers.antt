@@ -4,7 +4,7 @@ use Rattle.origin_model.specs.edits.State.{State}
 use Rattle.edit_script.specs.declared.run.ScriptFault.{ScriptFault}
 use Rattle.edit_script.specs.declared.run.ScriptFault.TheVariants.{ReadFault, TooLong, NoMemory}
 use Rattle.edit_script.specs.declared.script.TheConstants.{LONGEST_SCRIPT}
-use Rattle.edit_script.specs.Scripts.{RunsWhole, StopsAt}
+use Rattle.edit_script.specs.Scripts.{RunsWhole, StopsAtLine}
 
 -- the bytes decide such an answer: it is no fault of the source, and no want of memory
 abbrev pub IsScriptByBytes : Result ℕ ScriptFault → Type 0
@@ -22,7 +22,7 @@ pub record EndsWith (old : State) (script : List ℕ) (n : ℕ) : Type 0 where
 pub record EndsIn (old : State) (script : List ℕ) (fault : ScriptFault) : Type 0 where
   pub short : length script ≤ LONGEST_SCRIPT
   pub new : State
-  pub stops : StopsAt old new script fault
+  pub stops : StopsAtLine old new script fault
 
 -- where which answer comes, by what the replica is at first and the bytes that the source has left
 abbrev pub ScriptAnswerIs : State → List ℕ → Result ℕ ScriptFault → Type 0

@@ -5,6 +5,7 @@ use Rattle.origin_model.specs.edits.Edits.{Command, Put, Cut, Add, DropSection}
 use Rattle.edit_script.specs.declared.edit.Edit.{Edit}
 use Rattle.edit_script.specs.declared.edit.Edit.TheVariants as edit
 
+-- the edit of a replica that an edit of a script is
 abbrev pub replica_command : Edit → Command
 replica_command (edit.Add at title) = Add at title
 replica_command (edit.Put section at text) = Put section at (chars (string_bytes text))

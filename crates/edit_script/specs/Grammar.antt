@@ -15,8 +15,8 @@ BeginsWith script line None = lines script ≡ line ∷ []
 BeginsWith script line (Some behind) = (lines script ≡ line ∷ lines behind) × (length script ≡ length line + 1 + length behind)
 
 -- words with one space between them
-abbrev pub spaced : List (List ℕ) → List ℕ
-spaced words = join_with_byte 32 words
+abbrev pub with_single_spaces : List (List ℕ) → List ℕ
+with_single_spaces words = join_with_byte 32 words
 
 -- a word
 abbrev pub HasNoSpace : List ℕ → Type 0
@@ -28,15 +28,15 @@ pub record IsNote (line : List ℕ) : Type 0 where
   pub begins : (line ≡ []) ⊎ ((rest : List ℕ) × (line ≡ codes "#" ++ rest))
 
 -- a scalar as a text has it: LF is `\n`, and a backslash is two
-abbrev pub escaped : ℕ → List ℕ
-escaped ch = if ch == 10 then codes "\\n" else if ch == 92 then codes "\\\\" else encode_utf8 ch
+abbrev pub escaped_scalar : ℕ → List ℕ
+escaped_scalar ch = if ch == 10 then codes "\\n" else if ch == 92 then codes "\\\\" else encode_utf8 ch
 
 -- the line that asks for an edit by places in clusters. Sections count from 1 there, and so does the place of an add
 abbrev pub command_line : Command → List ℕ
-command_line (Add at title) = spaced (codes "add" ∷ decimal (at + 1) ∷ encode_utf8_all title ∷ [])
-command_line (Put k at new) = spaced (codes "put" ∷ decimal (k + 1) ∷ decimal at ∷ flat_map escaped new ∷ [])
-command_line (Cut k at n) = spaced (codes "cut" ∷ decimal (k + 1) ∷ decimal at ∷ decimal n ∷ [])
-command_line (DropSection k) = spaced (codes "drop" ∷ decimal (k + 1) ∷ [])
+command_line (Add at title) = with_single_spaces (codes "add" ∷ decimal (at + 1) ∷ encode_utf8_all title ∷ [])
+command_line (Put k at new) = with_single_spaces (codes "put" ∷ decimal (k + 1) ∷ decimal at ∷ flat_map escaped_scalar new ∷ [])
+command_line (Cut k at n) = with_single_spaces (codes "cut" ∷ decimal (k + 1) ∷ decimal at ∷ decimal n ∷ [])
+command_line (DropSection k) = with_single_spaces (codes "drop" ∷ decimal (k + 1) ∷ [])
 
 -- the edit can be written: its line's numbers are at most 4,294,967,295, its title is one, and its text has scalars, one at least
 abbrev pub IsWritable : Command → Type 0
@@ -51,6 +51,6 @@ pub record Asks (line : List ℕ) (command : Command) : Type 0 where
   pub line_is : line ≡ command_line command
 
 -- the line is no note line, and asks for no edit
-pub record IsBad (line : List ℕ) : Type 0 where
+pub record IsFaultyLine (line : List ℕ) : Type 0 where
   pub no_note : ¬ (IsNote line)
   pub no_edit : (command : Command) → ¬ (Asks line command)

@@ -16,17 +16,17 @@ use Rattle.edit_script.specs.declared.run.ScriptFault.TheVariants as script
 use Rattle.edit_script.specs.declared.run.LineFault.{LineFault}
 use Rattle.edit_script.specs.declared.run.LineFault.TheVariants as fault
 use Rattle.edit_script.specs.Commands.{replica_command}
-use Rattle.edit_script.specs.Grammar.{Asks, IsBad, IsNote}
-use Rattle.edit_script.specs.Scripts.{Does, Edits, IsPartly, IsRefused, by_scalars, clusters_in, line_refusal}
+use Rattle.edit_script.specs.Grammar.{Asks, IsFaultyLine, IsNote}
+use Rattle.edit_script.specs.Scripts.{Does, Edits, IsPartlyMade, IsRefusedEdit, by_scalars, shown_clusters, line_refusal}
 
 -- the line was read: it asks for the edit, or for none
-abbrev pub Reads : List ℕ → Option Edit → Type 0
-Reads line None = IsNote line
-Reads line (Some edit) = Asks line (replica_command edit)
+abbrev pub ReadsLine : List ℕ → Option Edit → Type 0
+ReadsLine line None = IsNote line
+ReadsLine line (Some edit) = Asks line (replica_command edit)
 
 -- a line that was not read asks for nothing that there is, or memory was wanting
 abbrev pub IsUnreadable : List ℕ → LineFault → Type 0
-IsUnreadable line fault.Bad = IsBad line
+IsUnreadable line fault.Bad = IsFaultyLine line
 IsUnreadable line (fault.Edit f) = f ≡ edit.NoMemory
 
 -- an edit by clusters made n operations
@@ -41,28 +41,28 @@ Unmade old new command edit.NoMemory = (new ≡ old) ⊎ StopsPartly old new (ma
 Unmade old new command f = (new ≡ old) × (line_refusal old command ≡ Some f)
 
 -- the line was run
-pub record IsRun (old new : State) (line : List ℕ) : Type 0 where
+pub record WasRun (old new : State) (line : List ℕ) : Type 0 where
   pub ops : List Op
   pub does : Does old new line ops
 
 -- the line was not run
 abbrev pub LineFails : (old new : State) → List ℕ → LineFault → Type 0
-LineFails old new line fault.Bad = (new ≡ old) × IsBad line
-LineFails old new line (fault.Edit edit.NoMemory) = IsPartly old new line
-LineFails old new line (fault.Edit f) = (new ≡ old) × IsRefused old line f
+LineFails old new line fault.Bad = (new ≡ old) × IsFaultyLine line
+LineFails old new line (fault.Edit edit.NoMemory) = IsPartlyMade old new line
+LineFails old new line (fault.Edit f) = (new ≡ old) × IsRefusedEdit old line f
 
 -- the scalars of n clusters of a shown section, from the cluster `at` on: their place and their number
 pub record IsSpan (s : State) (k at n : ℕ) (found : ℕ × ℕ) : Type 0 where
   pub section : Identifier
   pub shown : section_shown s k ≡ Some section
-  pub enough : at + n ≤ length (clusters_in s section)
-  pub found_is : found ≡ span (clusters_in s section) at n
+  pub enough : at + n ≤ length (shown_clusters s section)
+  pub found_is : found ≡ span (shown_clusters s section) at n
   pub within : found.0 + found.1 ≤ shown_count s (within section)
 
 -- there is no such section, or it has fewer clusters
 abbrev pub HasNoSpan : State → (k at n : ℕ) → EditFault → Type 0
 HasNoSpan s k at n edit.NoSection = section_shown s k ≡ None
-HasNoSpan s k at n edit.OutOfRange = (section : Identifier) × (section_shown s k ≡ Some section) × (length (clusters_in s section) < at + n)
+HasNoSpan s k at n edit.OutOfRange = (section : Identifier) × (section_shown s k ≡ Some section) × (length (shown_clusters s section) < at + n)
 HasNoSpan s k at n edit.NoMemory = Unit {0}
 HasNoSpan s k at n _ = ⊥
 

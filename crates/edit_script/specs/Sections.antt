@@ -11,22 +11,22 @@ use Rattle.section_catalogue.specs.Contents.{entry_at}
 use Rattle.edit_script.specs.Lines.{IsSpan}
 
 -- what is shown of a section, in UTF-8
-abbrev pub text_in : State → Identifier → List ℕ
-text_in s section = encode_utf8_all (text s.held.history section)
+abbrev pub shown_text_in : State → Identifier → List ℕ
+shown_text_in s section = encode_utf8_all (text s.held.history section)
 
 -- the texts in which clusters are looked up are those of their sections
-abbrev pub AreOf : List (Identifier × List ℕ) → State → Type 0
-AreOf texts s = (section : Identifier) → IfSome (entry_at texts section) (λ kept. kept ≡ text_in s section)
+abbrev pub AreShownTexts : List (Identifier × List ℕ) → State → Type 0
+AreShownTexts texts s = (section : Identifier) → IfSome (entry_at texts section) (λ kept. kept ≡ shown_text_in s section)
 
 -- n clusters of a shown section from the cluster `at` on: the section, its text, and the place and the number of their scalars
-pub record IsPassage (s : State) (k at n : ℕ) (section : Identifier) (kept : List ℕ) (span : ℕ × ℕ) : Type 0 where
+pub record IsClusterPassage (s : State) (k at n : ℕ) (section : Identifier) (kept : List ℕ) (span : ℕ × ℕ) : Type 0 where
   pub shown : section_shown s k ≡ Some section
-  pub kept_is : kept ≡ text_in s section
+  pub kept_is : kept ≡ shown_text_in s section
   pub utf8 : IsUtf8 kept
   pub fits : span.0 + span.1 ≤ length (chars kept)
   pub spans : IsSpan s k at n span
   pub lawful : Lawful s.held.history
 
 -- a text in which scalars give way to others
-abbrev pub changed : List ℕ → (at n : ℕ) → List ℕ → List ℕ
-changed kept at n new = encode_utf8_all (splice (chars kept) at (at + n) new)
+abbrev pub with_replaced : List ℕ → (at n : ℕ) → List ℕ → List ℕ
+with_replaced kept at n new = encode_utf8_all (splice (chars kept) at (at + n) new)

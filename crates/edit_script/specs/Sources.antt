@@ -14,7 +14,7 @@ pub record Placed {E : Type 0} (old new : List ℕ) (from : ℕ) (before after :
   pub read : ReadsSome before after result part
 
 -- the first n bytes of the buffer came from the source, which has no more where they do not fill it
-pub record Filled {E : Type 0} (size : ℕ) (buffer : List ℕ) (before after : SourceView) (result : Result ℕ E) : Type 0 where
+pub record FilledFromSource {E : Type 0} (size : ℕ) (buffer : List ℕ) (before after : SourceView) (result : Result ℕ E) : Type 0 where
   pub len : length buffer ≡ size
   pub bound : IfOk result (λ n. n ≤ size)
   pub told : IfOk result (λ n. before.left ≡ prepend_known (take n buffer) after.left)
@@ -34,12 +34,12 @@ pub record IsLonger (before after : SourceView) : Type 0 where
   pub long : length front ≡ LONGEST_SCRIPT + 1
 
 -- why no script was read
-abbrev pub IsUnread : SourceView → SourceView → ScriptFault → Type 0
-IsUnread before after ReadFault = Unit {0}
-IsUnread before after TooLong = IsLonger before after
-IsUnread before after NoMemory = after ≡ before
-IsUnread before after (BadLine _) = ⊥
-IsUnread before after (NoSection _) = ⊥
-IsUnread before after (OutOfRange _) = ⊥
-IsUnread before after (IdsSpent _) = ⊥
-IsUnread before after (TooMany _) = ⊥
+abbrev pub LacksScript : SourceView → SourceView → ScriptFault → Type 0
+LacksScript before after ReadFault = Unit {0}
+LacksScript before after TooLong = IsLonger before after
+LacksScript before after NoMemory = after ≡ before
+LacksScript before after (BadLine _) = ⊥
+LacksScript before after (NoSection _) = ⊥
+LacksScript before after (OutOfRange _) = ⊥
+LacksScript before after (IdsSpent _) = ⊥
+LacksScript before after (TooMany _) = ⊥

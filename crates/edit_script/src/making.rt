@@ -4,7 +4,7 @@ ghost use Rattle.origin_model.specs.edits.Edits.{Put, Cut};
 ghost use Rattle.origin_model.specs.taking.Taking.{IsSettled};
 ghost use Rattle.edit_script.specs.Commands.{replica_command};
 ghost use Rattle.edit_script.specs.Lines.{Made, Unmade};
-ghost use Rattle.edit_script.specs.Sections.{AreOf};
+ghost use Rattle.edit_script.specs.Sections.{AreShownTexts};
 
 use crate::edit::Edit;
 use crate::sections::Sections;
@@ -17,11 +17,11 @@ pub(crate) fn make(
     edit: Edit,
 ) -> Result<u32, EditFault>
     requires settled { IsSettled replica.old.held }
-    requires sections { AreOf sections.old.indices.entries replica.old }
+    requires sections { AreShownTexts sections.old.indices.entries replica.old }
     ensures made { IfOk result (Made replica.old replica.new (replica_command edit)) }
     ensures unmade { IfErr result (Unmade replica.old replica.new (replica_command edit)) }
     ensures settled { IsSettled replica.new.held }
-    ensures sections { OnOk result (AreOf sections.new.indices.entries replica.new) }
+    ensures sections { OnOk result (AreShownTexts sections.new.indices.entries replica.new) }
 {
     match edit {
         Edit::Add { at, title } => replica.add(at as usize, title),
@@ -42,11 +42,11 @@ fn put(
     text: &str,
 ) -> Result<u32, EditFault>
     requires settled { IsSettled replica.old.held }
-    requires sections { AreOf sections.old.indices.entries replica.old }
+    requires sections { AreShownTexts sections.old.indices.entries replica.old }
     ensures made { IfOk result (Made replica.old replica.new (Put section at (chars text.now))) }
     ensures unmade { IfErr result (Unmade replica.old replica.new (Put section at (chars text.now))) }
     ensures settled { IsSettled replica.new.held }
-    ensures sections { OnOk result (AreOf sections.new.indices.entries replica.new) }
+    ensures sections { OnOk result (AreShownTexts sections.new.indices.entries replica.new) }
 {
     let found = sections.take(replica, section, at, 0)?;
     let made = replica.put(section, found.at, text);
@@ -64,11 +64,11 @@ fn cut(
     n: u32,
 ) -> Result<u32, EditFault>
     requires settled { IsSettled replica.old.held }
-    requires sections { AreOf sections.old.indices.entries replica.old }
+    requires sections { AreShownTexts sections.old.indices.entries replica.old }
     ensures made { IfOk result (Made replica.old replica.new (Cut section at n)) }
     ensures unmade { IfErr result (Unmade replica.old replica.new (Cut section at n)) }
     ensures settled { IsSettled replica.new.held }
-    ensures sections { OnOk result (AreOf sections.new.indices.entries replica.new) }
+    ensures sections { OnOk result (AreShownTexts sections.new.indices.entries replica.new) }
 {
     let found = sections.take(replica, section, at, n)?;
     let made = replica.cut(section, found.at, found.len);

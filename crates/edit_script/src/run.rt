@@ -6,9 +6,9 @@ ghost use Rattle.origin_model.specs.taking.Taking.{IsSettled};
 ghost use Rattle.edit_script.specs.declared.script.TheConstants.{LONGEST_SCRIPT};
 ghost use Rattle.edit_script.specs.Answers.{ScriptAnswersBy};
 ghost use Rattle.edit_script.specs.Grammar.{BeginsWith};
-ghost use Rattle.edit_script.specs.Lines.{fault_at, LineFails, IsRun, IsUnreadable, Reads};
-ghost use Rattle.edit_script.specs.Scripts.{ScriptRuns, RunsWhole, ScriptStops, StopsAt};
-ghost use Rattle.edit_script.specs.Sections.{AreOf};
+ghost use Rattle.edit_script.specs.Lines.{fault_at, LineFails, WasRun, IsUnreadable, ReadsLine};
+ghost use Rattle.edit_script.specs.Scripts.{ScriptRuns, RunsWhole, ScriptStops, StopsAtLine};
+ghost use Rattle.edit_script.specs.Sections.{AreShownTexts};
 ghost use Rattle.edit_script.specs.Laws.{AsksOnce, RunsOnce, ScriptsAreTakenIn};
 
 use crate::edit::{Edit, read_edit};
@@ -67,7 +67,7 @@ fn run_lines(alloc: Global, replica: &mut Replica, script: &[u8]) -> Result<u32,
     requires settled { IsSettled replica.old.held }
     requires short { length script.now ≤ LONGEST_SCRIPT }
     ensures ok { IfOk result (RunsWhole replica.old replica.new script.now) }
-    ensures err { IfErr result (StopsAt replica.old replica.new script.now) }
+    ensures err { IfErr result (StopsAtLine replica.old replica.new script.now) }
     ensures settled { IsSettled replica.new.held }
 {
     let before = replica.accepted().len();
@@ -147,11 +147,11 @@ pub(crate) fn run_line(
     line: &[u8],
 ) -> Result<(), LineFault>
     requires settled { IsSettled replica.old.held }
-    requires sections { AreOf sections.old.indices.entries replica.old }
-    ensures runs { OnOk result (IsRun replica.old replica.new line.now) }
+    requires sections { AreShownTexts sections.old.indices.entries replica.old }
+    ensures runs { OnOk result (WasRun replica.old replica.new line.now) }
     ensures fails { IfErr result (LineFails replica.old replica.new line.now) }
     ensures settled { IsSettled replica.new.held }
-    ensures sections { OnOk result (AreOf sections.new.indices.entries replica.new) }
+    ensures sections { OnOk result (AreShownTexts sections.new.indices.entries replica.new) }
 {
     match read_line(alloc, line) {
         Ok(Some(edit)) => match make(replica, sections, edit) {
@@ -165,7 +165,7 @@ pub(crate) fn run_line(
 
 /// Reads a line. None is the answer for a note line.
 fn read_line(alloc: Global, line: &[u8]) -> Result<Option<Edit>, LineFault>
-    ensures reads { IfOk result (Reads line.now) }
+    ensures reads { IfOk result (ReadsLine line.now) }
     ensures unreadable { IfErr result (IsUnreadable line.now) }
 {
     let Ok(text) = str::from_utf8(line) else {

@@ -1,6 +1,6 @@
 ghost use Rattle.std.specs.Prelude.{◌≡◌, ◌≤◌, length, IfOk, IfErr, IsErrOf};
 ghost use Rattle.outer_ports.specs.Sources.{KeepsCount};
-ghost use Rattle.edit_script.specs.Sources.{Filled, IsScript, IsUnread, Placed};
+ghost use Rattle.edit_script.specs.Sources.{FilledFromSource, IsScript, LacksScript, Placed};
 
 use crate::ScriptFault;
 use fugue_ids::Failed;
@@ -14,7 +14,7 @@ pub const LONGEST_SCRIPT: usize = 1_048_576;
 /// that the script is longer.
 pub(crate) fn read_script<S: Source>(alloc: Global, source: &mut S) -> Result<Vec<u8>, ScriptFault>
     ensures script { IfOk result (λ script. IsScript (S.seen source.old) (S.seen source.new) script.items) }
-    ensures unread { IfErr result (IsUnread (S.seen source.old) (S.seen source.new)) }
+    ensures unread { IfErr result (LacksScript (S.seen source.old) (S.seen source.new)) }
     ensures count { KeepsCount (S.seen source.old) (S.seen source.new) (IsErrOf result ScriptFault.ReadFault) }
 {
     let mut script = Vec::new(alloc);
@@ -33,7 +33,7 @@ pub(crate) fn read_script<S: Source>(alloc: Global, source: &mut S) -> Result<Ve
 
 /// Fills the buffer, or as much of it as the source has bytes for, and answers how many came.
 fn fill<S: Source>(buffer: &mut [u8], source: &mut S) -> Result<usize, Failed>
-    ensures { Filled (length buffer.old) buffer.new (S.seen source.old) (S.seen source.new) result }
+    ensures { FilledFromSource (length buffer.old) buffer.new (S.seen source.old) (S.seen source.new) result }
 {
     let mut len = 0;
     'reads: while len < buffer.len() {

@@ -5,7 +5,7 @@ ghost use Rattle.origin_model.specs.edits.Refusal.{section_shown};
 ghost use Rattle.origin_model.specs.edits.State.{State};
 ghost use Rattle.section_catalogue.specs.Contents.{entry_at};
 ghost use Rattle.edit_script.specs.Lines.{HasNoSpan};
-ghost use Rattle.edit_script.specs.Sections.{AreOf, changed, IsPassage, text_in};
+ghost use Rattle.edit_script.specs.Sections.{AreShownTexts, with_replaced, IsClusterPassage, shown_text_in};
 
 use cluster_text::ClusterIndex;
 use fugue_ids::{ElementId, NoMemory};
@@ -31,7 +31,7 @@ pub(crate) struct Passage {
 
 impl Sections {
     pub(crate) fn new(alloc: Global) -> Sections
-        ensures { (s : State) → AreOf result.indices.entries s }
+        ensures { (s : State) → AreShownTexts result.indices.entries s }
     {
         Sections {
             alloc,
@@ -47,12 +47,12 @@ impl Sections {
         at: u32,
         n: u32,
     ) -> Result<Passage, EditFault>
-        requires { AreOf self.old.indices.entries replica.now }
+        requires { AreShownTexts self.old.indices.entries replica.now }
         ensures found { IfOk result
-            (λ found. IsPassage replica.now section at n found.section found.index (found.at, found.len)) }
+            (λ found. IsClusterPassage replica.now section at n found.section found.index (found.at, found.len)) }
         ensures none { IfErr result (HasNoSpan replica.now section at n) }
         ensures taken { IfOk result (λ found. entry_at self.new.indices.entries found.section ≡ None) }
-        ensures others { AreOf self.new.indices.entries replica.now }
+        ensures others { AreShownTexts self.new.indices.entries replica.now }
     {
         let Some(id) = replica.places().section_at(section) else {
             return Err(EditFault::NoSection);
@@ -76,11 +76,11 @@ impl Sections {
         section: usize,
         id: ElementId,
     ) -> Result<ClusterIndex, NoMemory>
-        requires kept { AreOf self.old.indices.entries replica.now }
+        requires kept { AreShownTexts self.old.indices.entries replica.now }
         requires shown { section_shown replica.now section ≡ Some id }
-        ensures text { IfOk result (λ index. index ≡ text_in replica.now id) }
+        ensures text { IfOk result (λ index. index ≡ shown_text_in replica.now id) }
         ensures taken { entry_at self.new.indices.entries id ≡ None }
-        ensures others { AreOf self.new.indices.entries replica.now }
+        ensures others { AreShownTexts self.new.indices.entries replica.now }
     {
         match self.indices.remove(&id) {
             Some(index) => Ok(index),
@@ -91,9 +91,9 @@ impl Sections {
     /// Puts a section back, in which the clusters gave way to a text. Where memory is wanting it is left out.
     pub(crate) fn put_back(&mut self, passage: Passage, text: &str)
         requires { passage.at + passage.len ≤ length (chars passage.index) }
-        ensures { (s : State) → AreOf self.old.indices.entries s
-            → changed passage.index passage.at passage.len (chars text.now) ≡ text_in s passage.section
-            → AreOf self.new.indices.entries s }
+        ensures { (s : State) → AreShownTexts self.old.indices.entries s
+            → with_replaced passage.index passage.at passage.len (chars text.now) ≡ shown_text_in s passage.section
+            → AreShownTexts self.new.indices.entries s }
     {
         let Passage {
             section,
@@ -114,7 +114,7 @@ fn put_index(
     section: ElementId,
     index: ClusterIndex,
 )
-    ensures { (s : State) → AreOf indices.old.entries s → index ≡ text_in s section → AreOf indices.new.entries s }
+    ensures { (s : State) → AreShownTexts indices.old.entries s → index ≡ shown_text_in s section → AreShownTexts indices.new.entries s }
 {
     match indices.insert(section, index) {
         Ok(_) => {}
@@ -124,7 +124,7 @@ fn put_index(
 
 /// Reads the clusters of a shown section.
 fn read_index(alloc: Global, replica: &Replica, section: usize) -> Result<ClusterIndex, NoMemory>
-    ensures { IfOk result (λ index. IfSome (section_shown replica.now section) (λ x. index ≡ text_in replica.now x)) }
+    ensures { IfOk result (λ index. IfSome (section_shown replica.now section) (λ x. index ≡ shown_text_in replica.now x)) }
 {
     match replica.text_of(section)? {
         Some(text) => Ok(ClusterIndex::new(alloc, text.as_str())?),

@@ -2,7 +2,7 @@ ghost use Rattle.std.specs.Prelude.{◌≡◌, ◌≢◌, ℕ, List, ◌∷◌, 
 ghost use Rattle.std.specs.Prelude.{MatchOption, string_bytes};
 ghost use Rattle.std.specs.List.{flat_map};
 ghost use Rattle.std.specs.Str.{chars, IsUtf8};
-ghost use Rattle.edit_script.specs.Grammar.{escaped};
+ghost use Rattle.edit_script.specs.Grammar.{escaped_scalar};
 
 use fugue_ids::NoMemory;
 use std::alloc::Global;
@@ -10,8 +10,8 @@ use std::alloc::Global;
 /// Reads the text of a put. None is the answer where a backslash stands before anything but an `n` or a backslash.
 pub(crate) fn read_text(alloc: Global, text: &str) -> Result<Option<String>, NoMemory>
     ensures named { IfOk result
-        (λ found. IfSome found (λ new. text.now ≡ flat_map escaped (chars (string_bytes new)))) }
-    ensures every { (new : List ℕ) → text.now ≡ flat_map escaped new
+        (λ found. IfSome found (λ new. text.now ≡ flat_map escaped_scalar (chars (string_bytes new)))) }
+    ensures every { (new : List ℕ) → text.now ≡ flat_map escaped_scalar new
         → IfOk result (λ found. IsSomeAnd found (λ read. chars (string_bytes read) ≡ new)) }
 {
     let mut new = String::with_capacity(alloc, text.len())?;
@@ -28,9 +28,9 @@ pub(crate) fn read_text(alloc: Global, text: &str) -> Result<Option<String>, NoM
 
 /// Splits off the first scalar. An LF stands in no line: it is written as `\n`.
 fn split_scalar(text: &str) -> Option<(char, &str)>
-    ensures some { IfSome result (λ (scalar, rest). text.now ≡ escaped scalar ++ rest.now) }
+    ensures some { IfSome result (λ (scalar, rest). text.now ≡ escaped_scalar scalar ++ rest.now) }
     ensures utf8 { IfSome result (λ (_, rest). IsUtf8 rest.now) }
-    ensures none { IsNone result → (scalar : ℕ) (rest : List ℕ) → text.now ≢ escaped scalar ++ rest }
+    ensures none { IsNone result → (scalar : ℕ) (rest : List ℕ) → text.now ≢ escaped_scalar scalar ++ rest }
 {
     let mut scalars = text.chars();
     match scalars.next()? {
@@ -44,7 +44,7 @@ fn split_scalar(text: &str) -> Option<(char, &str)>
 }
 
 fn after_backslash(scalar: char) -> Option<char>
-    ensures { MatchOption result ((scalar ≢ 110) × (scalar ≢ 92)) (λ read. escaped read ≡ 92 ∷ encode_utf8 scalar) }
+    ensures { MatchOption result ((scalar ≢ 110) × (scalar ≢ 92)) (λ read. escaped_scalar read ≡ 92 ∷ encode_utf8 scalar) }
 {
     match scalar {
         'n' => Some('\n'),

@@ -4,7 +4,7 @@ use Rattle.std.proofs.Common.{ap, sym, subst, ◌∙◌, append_assoc, arith, le
 use Rattle.std.proofs.lemmas.List.{append-nil, take-append-le, take_all, take-append-drop, length-take-le}
 use Rattle.std.proofs.Math.Seq.{take-append-add, take-add}
 use Rattle.std.specs.Io.KnownBytes.{append_known, prepend_known}
-use Rattle.fugue_ids.specs.Outs.{OutView, OutTells, spent, Took, TookFront, IsSure, WritesSome, WritesBytes}
+use Rattle.fugue_ids.specs.Outs.{OutView, OutTells, room_after, Took, TookFront, IsSure, WritesSome, WritesBytes}
 
 append_known-nil : (w : Option (List ℕ)) → append_known w [] ≡ w
 append_known-nil None = refl
@@ -14,11 +14,11 @@ pub append_known-twice : (w : Option (List ℕ)) (a b : List ℕ) → append_kno
 append_known-twice None a b = refl
 append_known-twice (Some bytes) a b = ap Some (append_assoc bytes a b)
 
-spent-zero : (room : Option ℕ) → spent 0 room ≡ room
+spent-zero : (room : Option ℕ) → room_after 0 room ≡ room
 spent-zero None = refl
 spent-zero (Some r) = ap Some (omega arith)
 
-spent-twice : (room : Option ℕ) (m n : ℕ) → spent n (spent m room) ≡ spent (m + n) room
+spent-twice : (room : Option ℕ) (m n : ℕ) → room_after n (room_after m room) ≡ room_after (m + n) room
 spent-twice None m n = refl
 spent-twice (Some r) m n = ap Some (omega arith)
 
@@ -38,7 +38,7 @@ took_tells v w bytes t = tells_more v.written w.written bytes t.written
 pub took_joins : (u v w : OutView) (a b : List ℕ) → Took u v a → Took v w b → Took u w (a ++ b)
 took_joins u v w a b s t = record {
   written = t.written ∙ ap (λ (o : Option (List ℕ)). append_known o b) s.written ∙ append_known-twice u.written a b;
-  room = t.room ∙ ap (spent (length b)) s.room ∙ spent-twice u.room (length a) (length b) ∙ ap (λ (n : ℕ). spent n u.room) (sym (length-append a b));
+  room = t.room ∙ ap (room_after (length b)) s.room ∙ spent-twice u.room (length a) (length b) ∙ ap (λ (n : ℕ). room_after n u.room) (sym (length-append a b));
 }
 
 front_longer : (u v : OutView) (a b : List ℕ) → TookFront u v a → TookFront u v (a ++ b)
@@ -60,7 +60,7 @@ sure_stops : (E T S : Type 0) (e : E) (room : Option ℕ) (m n before now : ℕ)
 sure_stops E T S e None m n before now le s = tt
 sure_stops E T S e (Some r) m n before now le s = record { fits = λ fit. s.fits (omega (arith, le, fit)); within = tt; calm = tt }
 
-sure_joins : {E T S : Type 0} (x : T) (result : Result S E) (room mid : Option ℕ) (m n f0 f1 f2 : ℕ) → mid ≡ spent m room
+sure_joins : {E T S : Type 0} (x : T) (result : Result S E) (room mid : Option ℕ) (m n f0 f1 f2 : ℕ) → mid ≡ room_after m room
     → IfSome room (λ r. IsSure {E = E} {T = T} r m f0 f1 (Ok x)) → IfSome mid (λ r. IsSure {E = E} {T = S} r n f1 f2 result)
     → IfSome room (λ r. IsSure {E = E} {T = S} r (m + n) f0 f2 result)
 sure_joins x result None mid m n f0 f1 f2 is s t = tt

@@ -3,6 +3,7 @@ use Rattle.std.specs.Prelude.{◌≡◌, ◌<◌, ◌^◌, nat_eq, nat_lt, Optio
 use Rattle.fugue_ids.specs.Identifiers.{Identifier, id_eq}
 use Rattle.fugue_ids.specs.declared.key.Key.{Key}
 
+-- an element with the key by which its siblings are ordered
 pub record Keyed : Type 0 where
   pub id : Identifier
   pub key : Key

@@ -3,6 +3,7 @@ use Rattle.std.specs.Prelude.{◌≡◌, ℕ, ◌<◌, ◌≤◌, ◌-◌, List,
 use Rattle.std.specs.Io.KnownBytes.{append_known}
 use Rattle.fugue_ids.specs.Causes.{HasCause}
 
+-- what contracts see of an output
 pub record OutView : Type 0 where
   -- what was written, where the object tells it
   pub written : Option (List ℕ)
@@ -16,14 +17,14 @@ abbrev pub OutTells : OutView → Type 0
 OutTells out = IsSome out.written
 
 -- the room that n bytes leave
-abbrev pub spent : ℕ → Option ℕ → Option ℕ
-spent n None = None
-spent n (Some room) = Some (room - n)
+abbrev pub room_after : ℕ → Option ℕ → Option ℕ
+room_after n None = None
+room_after n (Some room) = Some (room - n)
 
 -- these bytes went out
 pub record Took (old new : OutView) (bytes : List ℕ) : Type 0 where
   pub written : new.written ≡ append_known old.written bytes
-  pub room : new.room ≡ spent (length bytes) old.room
+  pub room : new.room ≡ room_after (length bytes) old.room
 
 -- some front of the bytes went out
 pub record TookFront (old new : OutView) (bytes : List ℕ) : Type 0 where

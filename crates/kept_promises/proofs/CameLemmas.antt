@@ -13,7 +13,7 @@ use Rattle.origin_model.specs.declared.operations.Verdict.TheVariants.{Ready}
 use Rattle.origin_model.specs.operations.History.{has_op, holder}
 use Rattle.origin_model.specs.operations.Verdict.{Lawful, first_missing, fits, id_held, names, verdict}
 use Rattle.origin_model.specs.order.Laws.{IsPartOf}
-use Rattle.origin_model.specs.taking.Taking.{Accepted, Answer, Held, Waits, answer, decided_on, held_from, intake, is_decided, joined, settle, settled_within, taken}
+use Rattle.origin_model.specs.taking.Taking.{Accepted, Answer, Held, Waits, answer, decided_on, held_from, intake, is_decided, joined, settle, settled_within, held_after}
 use Rattle.origin_model.proofs.SharedLemmas.{Fits, IsEarliest, Within-part, accepted_is_ready, all_fit, becomes_ready, cases_held, earliest_found, fit_each, found, has-append, missing-held, when_ready, within-none, within-some, without}
 use Rattle.fugue_ids.proofs.IdentifierLemmas.{not_some}
 
@@ -64,7 +64,7 @@ module _ (P : Op → Type 0) (old : List Op) where
   unfolding settle
   settling s c = steps s.waiting s c
 
-  answered : (hold most : ℕ) (s : Held) (op : Op) (a : Answer) → answer hold most s op ≡ a → Came s → P op → Came (taken a s op)
+  answered : (hold most : ℕ) (s : Held) (op : Op) (a : Answer) → answer hold most s op ≡ a → Came s → P op → Came (held_after a s op)
   answered hold most s op Accepted e c p = joins s.history s.waiting s.waiting op c (accepted_is_ready hold most s op e) p c.waiting
   answered hold most s op Waits e c p = record { lawful = c.lawful; part = c.part; each = c.each; waiting = more }
     where
@@ -78,7 +78,7 @@ module _ (P : Op → Type 0) (old : List Op) where
   pub came : (hold most : ℕ) (s : Held) (ops : List Op) → Came s → All P ops → Came (held_from hold most s ops)
   came hold most s [] c p = c
   came hold most s (op ∷ ops) c p =
-      came hold most (intake hold most s op) ops (settling (taken (answer hold most s op) s op) (answered hold most s op (answer hold most s op) refl c (All-head P op ops p))) (All-tail P op ops p)
+      came hold most (intake hold most s op) ops (settling (held_after (answer hold most s op) s op) (answered hold most s op (answer hold most s op) refl c (All-head P op ops p))) (All-tail P op ops p)
 
 -- ---- what an operation waits for
 id_stays : (a b : List Op) → Lawful b → IsPartOf a b → (o : Option Identifier) → id_held a o ≡ true → id_held b o ≡ true

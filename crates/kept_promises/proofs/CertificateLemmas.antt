@@ -31,10 +31,10 @@ use Rattle.command_kinds.specs.declared.status.Status.{Status}
 use Rattle.command_kinds.specs.declared.status.Status.TheVariants as status
 use Rattle.outer_ports.specs.Sources.{SourceView}
 use Rattle.outer_ports.specs.disk.Disks.{DiskView}
-use Rattle.manuscript_cli.specs.Check.{ChecksText, IsTextRead, check_tells, nothing_told}
+use Rattle.manuscript_cli.specs.Check.{ChecksText, IsTextRead, check_tells, nothing_said}
 use Rattle.manuscript_cli.specs.Run.{Checking, MeetsAs, family}
 use Rattle.manuscript_cli.specs.Why.{why_tells}
-use Rattle.kept_promises.specs.Certificates.{CertificatesPass, CertificatesStay, WhyPassesCheck}
+use Rattle.kept_promises.specs.Certificates.{CertificatesPass, FileCertificatesStay, WhyPassesCheck}
 use Rattle.kept_promises.specs.Keeping.{IsFileOf}
 use Rattle.kept_promises.proofs.CameLemmas.{Came, came}
 use Rattle.kept_promises.proofs.FrameIdLemmas.{HasPossibleId, file_has}
@@ -60,7 +60,7 @@ certificates_pass mine other first second of other_of part x y text is =
     let valid = certificates_of_parts mine.held.history other.held.history v w part is.proof is.valid in
     subst (IsValidText other.held.history) (sym is.text_is) (text_valid other.held.history w (possible_in other second other_of) is.proof valid)
 
-pub certificates_stay : CertificatesStay
+pub certificates_stay : FileCertificatesStay
 certificates_stay was now runs b x y text is =
     let grew = became was now runs b in
     let g = intakes_grow was.hold MOST_OPERATIONS was.held grew.0 in
@@ -92,7 +92,7 @@ wrote_yes replica text output notes end valid done (inl wrote) = by_end end wrot
     by_end status.Partial meets d is = absurd meets
     by_end _ meets d is = absurd (elim d [ inl k ↦ cc k | inr k ↦ cc k ])
 
-nothing_reported : (file : Change DiskView) (output notes : Change OutView) (end : Status) → IsFinished end → ReportMeets nothing_told file output notes end → ⊥
+nothing_reported : (file : Change DiskView) (output notes : Change OutView) (end : Status) → IsFinished end → ReportMeets nothing_said file output notes end → ⊥
 nothing_reported file output notes status.Done done meets = meets.found.3
 nothing_reported file output notes status.Partial done meets = meets
 nothing_reported file output notes _ (inl d) meets = cc d

@@ -7,7 +7,7 @@ use Rattle.fugue_ids.specs.declared.op.Op.{Op}
 use Rattle.origin_model.specs.declared.operations.Verdict.{Verdict}
 use Rattle.origin_model.specs.declared.operations.Verdict.TheVariants.{Ready, Stray}
 use Rattle.origin_model.specs.operations.Verdict.{verdict}
-use Rattle.origin_model.specs.taking.Taking.{Accepted, Again, Answer, Conflict, Held, TooMany, Waits, answer, answer_by, held_from, intake, is_again, is_kept, is_taken, joined, settle, settled_within, taken}
+use Rattle.origin_model.specs.taking.Taking.{Accepted, Again, Answer, Conflict, Held, TooMany, Waits, answer, answer_by, held_from, intake, is_again, is_kept, is_taken, joined, settle, settled_within, held_after}
 use Rattle.origin_model.proofs.SharedLemmas.{IsEarliest, earliest_found, within-none, within-some, without}
 use Rattle.replica_core.proofs.DecisionLemmas.{not_most}
 use Rattle.replica_file.proofs.LoadingLemmas.{settle_few, within_few}
@@ -52,7 +52,7 @@ one_leaves s r e = by (verdict s.history r.0)
     by Ready = omega (arith, fewer)
     by _ = omega (arith, fewer)
 
-taken_fits : (hold most : ℕ) (s : Held) (op : Op) → count s ≤ most → (a : Answer) → answer hold most s op ≡ a → count (taken a s op) ≤ most
+taken_fits : (hold most : ℕ) (s : Held) (op : Op) → count s ≤ most → (a : Answer) → answer hold most s op ≡ a → count (held_after a s op) ≤ most
 taken_fits hold most s op l Accepted e = let other : count s ≢ most = kept_room hold most s op (ap is_kept e) in omega (arith, l, other)
 taken_fits hold most s op l Waits e = let other : count s ≢ most = kept_room hold most s op (ap is_kept e) in omega (arith, l, other, length-append s.waiting (op ∷ []))
 taken_fits hold most s op l _ e = l
@@ -60,6 +60,6 @@ taken_fits hold most s op l _ e = l
 pub few_held : (hold most : ℕ) (s : Held) (ops : List Op) → count s ≤ most → count (held_from hold most s ops) ≤ most
 few_held hold most s [] l = l
 few_held hold most s (op ∷ ops) l =
-    let settled : count (intake hold most s op) ≤ count (taken (answer hold most s op) s op) = settle_few (taken (answer hold most s op) s op) in
-    let one : count (taken (answer hold most s op) s op) ≤ most = taken_fits hold most s op l (answer hold most s op) refl in
+    let settled : count (intake hold most s op) ≤ count (held_after (answer hold most s op) s op) = settle_few (held_after (answer hold most s op) s op) in
+    let one : count (held_after (answer hold most s op) s op) ≤ most = taken_fits hold most s op l (answer hold most s op) refl in
     few_held hold most (intake hold most s op) ops (omega (arith, settled, one))

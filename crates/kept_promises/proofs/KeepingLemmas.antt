@@ -4,8 +4,8 @@ use Rattle.std.specs.Prelude.{IfSome, None, Some}
 use Rattle.fugue_ids.specs.declared.limits.TheConstants.{MOST_OPERATIONS}
 use Rattle.fugue_ids.specs.declared.op.Op.{Op}
 use Rattle.outer_ports.specs.disk.Disks.{DiskView}
-use Rattle.outer_ports.specs.disk.Moments.{History, after}
-use Rattle.outer_ports.specs.disk.States.{State, IsCrashImage, IsHonest, at_rest, durable}
+use Rattle.outer_ports.specs.disk.Moments.{History, after_moment}
+use Rattle.outer_ports.specs.disk.States.{DiskState, IsCrashImage, IsHonest, at_rest, durable}
 use Rattle.origin_model.specs.edits.State.{State as Replica}
 use Rattle.origin_model.specs.files.Image.{Content}
 use Rattle.origin_model.specs.operations.Verdict.{Lawful}
@@ -17,7 +17,7 @@ use Rattle.replica_file.specs.declared.load_file.End.{End}
 use Rattle.command_kinds.proofs.CrashLemmas.{safe_at_rest}
 use Rattle.command_kinds.proofs.LawfulLemmas.{held_lawful}
 use Rattle.command_kinds.specs.Files.{FileHolds, HasOps, Header, new_file_header}
-use Rattle.manuscript_cli.specs.Runs.{AllBrought, CommandRun, FollowEachOther, IsMeanwhile, LeadsFrom, StandsBehind}
+use Rattle.manuscript_cli.specs.Runs.{AllBrought, CommandRun, FollowEachOther, IsMeanwhile, LeadsFrom, StandsAfterRun}
 use Rattle.manuscript_cli.proofs.RunsLemmas.{EachHasAll, all_in}
 use Rattle.kept_promises.specs.Keeping.{Became, FilesKeepOperations}
 use Rattle.kept_promises.proofs.FewLemmas.{count, few_held}
@@ -94,7 +94,7 @@ became was now runs b =
     )
 
 -- ---- from one run to a later one
-parted : (runs more : List CommandRun) (s t : State) → FollowEachOther (runs ++ more) s t → (m : State) × FollowEachOther runs s m × FollowEachOther more m t
+parted : (runs more : List CommandRun) (s t : DiskState) → FollowEachOther (runs ++ more) s t → (m : DiskState) × FollowEachOther runs s m × FollowEachOther more m t
 parted [] more s t follow = (s, refl, follow)
 parted (run ∷ runs) more s t follow =
     let rest = parted runs more follow.1 t follow.4 in
@@ -104,27 +104,27 @@ parted (run ∷ runs) more s t follow =
 pub holds_told : (disk : DiskView) (h : History) (replica : Replica) (end : End) → disk.past ≡ Some h → FileHolds disk replica end → Loads MOST_OPERATIONS h.last.seen replica end
 holds_told disk h replica end told holds = subst (λ o. IfSome o (λ (k : History). Loads MOST_OPERATIONS k.last.seen replica end)) told holds
 
-read_meanwhile : (m found : State) → IsHonest m → IsMeanwhile m found → IsCrashImage m found.seen
-read_meanwhile m found honest (inl same) = subst (λ (s : State). IsCrashImage m s.seen) (sym same) honest
-read_meanwhile m found honest (inr crash) = subst (λ (s : State). IsCrashImage m s.seen) (sym crash.2) crash.1
+read_meanwhile : (m found : DiskState) → IsHonest m → IsMeanwhile m found → IsCrashImage m found.seen
+read_meanwhile m found honest (inl same) = subst (λ (s : DiskState). IsCrashImage m s.seen) (sym same) honest
+read_meanwhile m found honest (inr crash) = subst (λ (s : DiskState). IsCrashImage m s.seen) (sym crash.2) crash.1
 
-module _ (first later : CommandRun) (between : List CommandRun) (s t : State) (follow : FollowEachOther (first ∷ between ++ later ∷ []) s t) where
+module _ (first later : CommandRun) (between : List CommandRun) (s t : DiskState) (follow : FollowEachOther (first ∷ between ++ later ∷ []) s t) where
   -- the first one is told, and settled the file; the later one reads what it became
-  pub read_between : first.crash ≡ None → first.new.home.past ≡ after durable first.old.home.past → (was now : Replica) (at end : End)
+  pub read_between : first.crash ≡ None → first.new.home.past ≡ after_moment durable first.old.home.past → (was now : Replica) (at end : End)
       → FileHolds first.old.home was at → FileHolds later.old.home now end → Became was between now
   read_between ended synced was now at end had has =
       let leads : LeadsFrom first follow.0 follow.1 = follow.3 in
       let rest = parted between (later ∷ []) follow.1 t follow.4 in
       let image : List ℕ = leads.began.last.seen in
-      let stands : follow.1 ≡ leads.stood.last = subst (λ o. StandsBehind o leads.began leads.stood follow.1) ended leads.behind in
-      let settled : Some leads.stood ≡ after durable (Some leads.began) = sym leads.stood_is ∙ synced ∙ ap (after durable) leads.began_is in
+      let stands : follow.1 ≡ leads.stood.last = subst (λ o. StandsAfterRun o leads.began leads.stood follow.1) ended leads.behind in
+      let settled : Some leads.stood ≡ after_moment durable (Some leads.began) = sym leads.stood_is ∙ synced ∙ ap (after_moment durable) leads.began_is in
       let lies : follow.1 ≡ at_rest image = stands ∙ last_settled leads.stood leads.began settled in
       let began : Loads MOST_OPERATIONS image was at = holds_told first.old.home leads.began was at leads.began_is had in
       let runs : FollowEachOther between (at_rest image) rest.0 = subst (λ z. FollowEachOther between z rest.0) lies rest.1 in
       let keeps = files_keep_operations (new_file_header began.content) began.content.ops image between rest.0 (loaded_has was image at began) runs in
       let last = rest.2 in
       let read : LeadsFrom later last.0 last.1 = last.3 in
-      let seen : read.began.last.seen ≡ last.0.seen = ap (λ (z : State). z.seen) read.begins in
+      let seen : read.began.last.seen ≡ last.0.seen = ap (λ (z : DiskState). z.seen) read.begins in
       record {
         image = image;
         began = (at, began);
@@ -135,5 +135,5 @@ module _ (first later : CommandRun) (between : List CommandRun) (s t : State) (f
         ended = (end, subst (λ bytes. Loads MOST_OPERATIONS bytes now end) seen (holds_told later.old.home read.began now end read.began_is has));
       }
     where
-      last_settled : (stood began : History) → Some stood ≡ after durable (Some began) → stood.last ≡ at_rest began.last.seen
+      last_settled : (stood began : History) → Some stood ≡ after_moment durable (Some began) → stood.last ≡ at_rest began.last.seen
       last_settled stood began e = cc e

@@ -21,7 +21,7 @@ use Rattle.origin_model.specs.order.Printed.{deletes}
 use Rattle.origin_model.specs.taking.Taking.{Held, IsSettled, decided_on, held_from}
 use Rattle.origin_model.proofs.SharedLemmas.{has-append, has-holder, has_member, missing-held, ready_absent}
 use Rattle.version_views.specs.Laws.{leaves_version, view_named}
-use Rattle.version_views.specs.Versions.{is_version, is_withdrawn, name_given, op_behind, version_with, withdraws, withdraws_note}
+use Rattle.version_views.specs.Versions.{is_version, is_withdrawn_version, name_given, op_behind, version_with, withdraws, withdraws_note}
 use Rattle.version_views.proofs.FrontMakingLemmas.{intakes_grow}
 use Rattle.version_views.proofs.VersionLemmas.{later_ops_leave_written}
 use Rattle.kept_promises.proofs.CameLemmas.{BecomesSo, Came, came, names_missing}
@@ -110,7 +110,7 @@ module _ (old : List Op) (r : ℕ) (name : List ℕ) where
       ]
 
   no_version : (h : List Op) (op : Op) → name_given r op ≢ Some name → is_version r h name op ≡ false
-  no_version h op other = by_name (is_withdrawn h op) (name_given r op) refl
+  no_version h op other = by_name (is_withdrawn_version h op) (name_given r op) refl
     where
       is_named : Option (List ℕ) → Bool
       is_named o = elim o [ None ↦ false | Some body ↦ pointwise nat_eq body name ]

@@ -16,11 +16,11 @@ use Rattle.order_proof.specs.declared.step.Reason.TheVariants.{Inner, Later, Pre
 use Rattle.order_proof.specs.declared.step.Step.{Step}
 use Rattle.order_proof.specs.Certificates.{ByRightChains, ByRightOrigins, Certificate, Chain, HoldsBy, IsFork, IsSiblingStep, IsStep, IsValid}
 use Rattle.order_proof.specs.Readings.{IsPossible, IsValidText}
-use Rattle.order_proof.specs.Texts.{Line, chain_lines, claim, down, line, proof_lines, proof_text, reason_line, right, step_lines}
+use Rattle.order_proof.specs.Texts.{ProofLine, chain_lines, claim, down, proof_line, proof_lines, proof_text, reason_line, right, step_lines}
 use Rattle.order_proof.proofs.PartedLemmas.{parted-in}
 
 -- each identifier of the line is held
-abbrev IsHeldLine : List Op → Line → Type 0
+abbrev IsHeldLine : List Op → ProofLine → Type 0
 IsHeldLine h l = All (IsHeld h) l.ids
 
 module _ (h : List Op) (w : Lawful h) where
@@ -48,27 +48,27 @@ module _ (h : List Op) (w : Lawful h) where
 
   -- the five lines of a step at siblings, and its reason
   sibling_held : (s : Step) (r : Reason) → IsHeld h s.x → IsHeld h s.y → IsSiblingStep h s r
-      → All (IsHeldLine h) ((line claim (s.x ∷ s.y ∷ []) ∷ line down s.down_x ∷ line down s.down_y ∷ line right s.right_x ∷ line right s.right_y ∷ []) ++ reason_line r ∷ [])
+      → All (IsHeldLine h) ((proof_line claim (s.x ∷ s.y ∷ []) ∷ proof_line down s.down_x ∷ proof_line down s.down_y ∷ proof_line right s.right_x ∷ proof_line right s.right_y ∷ []) ++ reason_line r ∷ [])
   sibling_held s r k l t =
-      let P : Line → Type 0 = IsHeldLine h in
+      let P : ProofLine → Type 0 = IsHeldLine h in
       let right_x : All (IsHeld h) s.right_x = subst (All (IsHeld h)) (sym t.right_x) (chain-held next_right h t.a) in
       let right_y : All (IsHeld h) s.right_y = subst (All (IsHeld h)) (sym t.right_y) (chain-held next_right h t.b) in
-      let reason : List Line = reason_line r ∷ [] in
-      let ys : List Line = line right s.right_y ∷ reason in
-      let xs : List Line = line right s.right_x ∷ ys in
-      let downs : List Line = line down s.down_y ∷ xs in
-      All-cons P (line claim (s.x ∷ s.y ∷ [])) (line down s.down_x ∷ downs) (pair_held s.x s.y k l)
-      (All-cons P (line down s.down_x) downs (suffix_held (lefts h s.x) t.parts.common s.down_x t.parts.whole_x (chain-held next_left h s.x))
-      (All-cons P (line down s.down_y) xs (suffix_held (lefts h s.y) t.parts.common s.down_y t.parts.whole_y (chain-held next_left h s.y))
-      (All-cons P (line right s.right_x) ys right_x
-      (All-cons P (line right s.right_y) reason right_y
+      let reason : List ProofLine = reason_line r ∷ [] in
+      let ys : List ProofLine = proof_line right s.right_y ∷ reason in
+      let xs : List ProofLine = proof_line right s.right_x ∷ ys in
+      let downs : List ProofLine = proof_line down s.down_y ∷ xs in
+      All-cons P (proof_line claim (s.x ∷ s.y ∷ [])) (proof_line down s.down_x ∷ downs) (pair_held s.x s.y k l)
+      (All-cons P (proof_line down s.down_x) downs (suffix_held (lefts h s.x) t.parts.common s.down_x t.parts.whole_x (chain-held next_left h s.x))
+      (All-cons P (proof_line down s.down_y) xs (suffix_held (lefts h s.y) t.parts.common s.down_y t.parts.whole_y (chain-held next_left h s.y))
+      (All-cons P (proof_line right s.right_x) ys right_x
+      (All-cons P (proof_line right s.right_y) reason right_y
       (All-cons P (reason_line r) [] (reason_held s.right_x s.right_y r right_x right_y t.decides) (All-nil P))))))
 
   held_by : (s : Step) (r : Reason) → IsHeld h s.x → IsHeld h s.y → HoldsBy h s r → All (IsHeldLine h) (chain_lines s r ++ reason_line r ∷ [])
   held_by s Prefix k l t =
-      let P : Line → Type 0 = IsHeldLine h in
-      All-cons P (line claim (s.x ∷ s.y ∷ [])) (line down s.down_y ∷ reason_line Prefix ∷ []) (pair_held s.x s.y k l)
-      (All-cons P (line down s.down_y) (reason_line Prefix ∷ []) (suffix_held (lefts h s.y) t.above s.down_y t.suffix (chain-held next_left h s.y))
+      let P : ProofLine → Type 0 = IsHeldLine h in
+      All-cons P (proof_line claim (s.x ∷ s.y ∷ [])) (proof_line down s.down_y ∷ reason_line Prefix ∷ []) (pair_held s.x s.y k l)
+      (All-cons P (proof_line down s.down_y) (reason_line Prefix ∷ []) (suffix_held (lefts h s.y) t.above s.down_y t.suffix (chain-held next_left h s.y))
       (All-cons P (reason_line Prefix) [] (All-nil (IsHeld h)) (All-nil P)))
   held_by s r k l t = sibling_held s r k l t
 
@@ -97,5 +97,5 @@ module _ (h : List Op) (w : Lawful h) where
         some : (c : Certificate) → IsValid h c → c ≡ [] → ⊥
         some c v e = subst (IsValid h) e v
 
-        each : All (λ (l : Line). All IsPossible l.ids) (proof_lines c)
-        each = All-weaker (IsHeldLine h) (λ (l : Line). All IsPossible l.ids) (λ l held. All-weaker (IsHeld h) IsPossible id_possible l.ids held) (proof_lines c) (lines_held c valid)
+        each : All (λ (l : ProofLine). All IsPossible l.ids) (proof_lines c)
+        each = All-weaker (IsHeldLine h) (λ (l : ProofLine). All IsPossible l.ids) (λ l held. All-weaker (IsHeld h) IsPossible id_possible l.ids held) (proof_lines c) (lines_held c valid)

@@ -8,7 +8,7 @@ use Rattle.std.proofs.lemmas.List.Elements.{All-append, All-cons, All-nil, Conta
 use Rattle.fugue_ids.specs.Identifiers.{Identifier}
 use Rattle.fugue_ids.specs.declared.op.Op.{Op}
 use Rattle.origin_model.specs.declared.operations.Place.TheVariants.{Catalogue as catalogue}
-use Rattle.origin_model.specs.edits.Edits.{ReadyInTurn, extended, in_front}
+use Rattle.origin_model.specs.edits.Edits.{ReadyInTurn, history_with, in_front}
 use Rattle.origin_model.specs.edits.Landing.{following}
 use Rattle.origin_model.specs.edits.Noting.{AreHeld}
 use Rattle.origin_model.specs.edits.Refusal.{refusal_message}
@@ -20,14 +20,14 @@ use Rattle.origin_model.proofs.edits.NotedLemmas.{noted_ready}
 use Rattle.origin_model.proofs.edits.RefusalLemmas.{made_ready}
 use Rattle.catalogue_notes.specs.Arranged.{arranged, position}
 use Rattle.catalogue_notes.specs.Lift.{lift, stamp}
-use Rattle.catalogue_notes.specs.Making.{left_for, move_body, move_names, origins_for, retitle_body, without}
+use Rattle.catalogue_notes.specs.Making.{left_of_move, move_body, move_names, origins_for, retitle_body, without_member}
 use Rattle.catalogue_notes.specs.Moving.{move_by, retitle_by, section_placed}
 use Rattle.catalogue_notes.specs.declared.limits.TheConstants.{MOVE_CODE, RETITLE_CODE}
 use Rattle.catalogue_notes.proofs.ArrangedLemmas.{arranged_shown, position_in, shown_is}
 use Rattle.catalogue_notes.proofs.HolderLemmas.{IsHeld, are_held}
 use Rattle.catalogue_notes.proofs.LiftLemmas.{lift_lawful, lifted_from, order_held}
 use Rattle.catalogue_notes.proofs.PartLemmas.{following_in}
-use Rattle.draft_plan.specs.Changes.{AreAllowed, Change, Edit, Move, Retitle, all_made, behind, change_refusal, made_of}
+use Rattle.draft_plan.specs.Changes.{AreAllowed, PlanChange, Edit, Move, Retitle, all_made, replica_behind, change_refusal, made_of}
 use Rattle.draft_plan.specs.declared.fault.ReviseFault.TheVariants as fault
 use Rattle.origin_model.proofs.edits.SplitLemmas.{get_in}
 
@@ -42,7 +42,7 @@ module _ (h : List Op) (w : Lawful h) where
       let f = lifted_from h x o.0 w o.1 in
       (f.0, f.1)
 
-  without_in : (xs : List Identifier) (k : ℕ) (x : Identifier) → Contains (without xs k) x → Contains xs x
+  without_in : (xs : List Identifier) (k : ℕ) (x : Identifier) → Contains (without_member xs k) x → Contains xs x
   without_in xs k x m =
       elim (Contains-append_cases (take k xs) (drop (suc k) xs) x m) [
         | inl a ↦ subst (λ z. Contains z x) (take-append-drop k xs) (Contains-append_left (take k xs) (drop k xs) x a)
@@ -53,13 +53,13 @@ module _ (h : List Op) (w : Lawful h) where
   front_in xs zero x e = cc e
   front_in xs (suc i) x e = get_in xs i x e
 
-  left_held : (k j : ℕ) → All (IsHeld h) (option_to_list (left_for h k j))
-  left_held k j = by (in_front (without (arranged h) k) j) refl
+  left_held : (k j : ℕ) → All (IsHeld h) (option_to_list (left_of_move h k j))
+  left_held k j = by (in_front (without_member (arranged h) k) j) refl
     where
-      by : (o : Option Identifier) → in_front (without (arranged h) k) j ≡ o → All (IsHeld h) (option_to_list (option_map (position h) o))
+      by : (o : Option Identifier) → in_front (without_member (arranged h) k) j ≡ o → All (IsHeld h) (option_to_list (option_map (position h) o))
       by None e = All-nil (IsHeld h)
       by (Some t) e =
-          let m : Contains (arranged h) t = without_in (arranged h) k t (front_in (without (arranged h) k) j t e) in
+          let m : Contains (arranged h) t = without_in (arranged h) k t (front_in (without_member (arranged h) k) j t e) in
           All-cons (IsHeld h) (position h t) [] (lifted_held (position h t) (position_in h t w (shown_is h t w (arranged_shown h t m)))) (All-nil (IsHeld h))
 
   right_held : (l : Option Identifier) → All (IsHeld h) (option_to_list (following (order catalogue (lift h)) l))
@@ -81,7 +81,7 @@ none_refused : {A B : Type 0} (f : A → B) (o : Option A) → option_map f o �
 none_refused f None e = refl
 none_refused f (Some a) e = cc e
 
-change_ready : (s : State) (change : Change) → Lawful s.held.history → change_refusal s change ≡ None → ReadyInTurn s.held.history (made_of s change)
+change_ready : (s : State) (change : PlanChange) → Lawful s.held.history → change_refusal s change ≡ None → ReadyInTurn s.held.history (made_of s change)
 change_ready s (Edit command) w e = made_ready command s w (none_refused fault.Edit (refusal_message s command) e)
 change_ready s (Move k j) w e = by (section_placed s k) refl
   where
@@ -103,12 +103,12 @@ change_ready s (Retitle k title) w e = by (section_placed s k) refl
     )
 
 -- ---- all of them
-all_ready : (s : State) (changes : List Change) → Lawful s.held.history → AreAllowed s changes → ReadyInTurn s.held.history (all_made s changes)
+all_ready : (s : State) (changes : List PlanChange) → Lawful s.held.history → AreAllowed s changes → ReadyInTurn s.held.history (all_made s changes)
 all_ready s [] w a = tt
 all_ready s (change ∷ changes) w a =
     let one = change_ready s change w a.0 in
-    ready-append s.held.history (made_of s change) (all_made (behind s change) changes) one
-    (all_ready (behind s change) changes (ready_lawful s.held.history (made_of s change) w one) a.1)
+    ready-append s.held.history (made_of s change) (all_made (replica_behind s change) changes) one
+    (all_ready (replica_behind s change) changes (ready_lawful s.held.history (made_of s change) w one) a.1)
 
-pub changes_lawful : (s : State) (changes : List Change) → Lawful s.held.history → AreAllowed s changes → Lawful (extended s.held.history (all_made s changes))
+pub changes_lawful : (s : State) (changes : List PlanChange) → Lawful s.held.history → AreAllowed s changes → Lawful (history_with s.held.history (all_made s changes))
 changes_lawful s changes w a = ready_lawful s.held.history (all_made s changes) w (all_ready s changes w a)

@@ -7,13 +7,13 @@ use Rattle.std.proofs.lemmas.List.Elements.{All-head, All-nil, All-tail, All-wea
 use Rattle.fugue_ids.specs.Ops.{op_eq}
 use Rattle.fugue_ids.specs.declared.op.Op.{Op}
 use Rattle.fugue_ids.proofs.OpLemmas.{op_eq-true}
-use Rattle.origin_model.specs.edits.Edits.{ReadyInTurn, extended}
+use Rattle.origin_model.specs.edits.Edits.{ReadyInTurn, history_with}
 use Rattle.origin_model.specs.edits.Effect.{with_ops}
 use Rattle.origin_model.specs.edits.State.{State as Replica}
 use Rattle.origin_model.specs.operations.History.{accepted, has_op}
 use Rattle.origin_model.specs.operations.Verdict.{Lawful}
 use Rattle.origin_model.specs.order.Laws.{IsPartOf, SameOps}
-use Rattle.origin_model.specs.taking.Taking.{HasPlace, Held, IsSettled, decided_on, held_from, is_decided}
+use Rattle.origin_model.specs.taking.Taking.{MeetsNoLimit, Held, IsSettled, decided_on, held_from, is_decided}
 use Rattle.origin_model.proofs.SharedLemmas.{has-append, has-reverse, held-append, Lawful-append, order_by_set, part_at_end, places-append, stays_settled}
 use Rattle.origin_model.proofs.edits.EditIntakeLemmas.{state_of}
 use Rattle.origin_model.proofs.edits.MadeLemmas.{join_at_end}
@@ -22,17 +22,17 @@ use Rattle.outer_ports.specs.Sources.{SourceView}
 use Rattle.outer_ports.specs.disk.Disks.{DiskView}
 use Rattle.catalogue_notes.proofs.SetLemmas.{arranged_by_set}
 use Rattle.draft_plan.specs.Changes.{all_made}
-use Rattle.version_views.specs.Fronts.{front_of}
+use Rattle.version_views.specs.Fronts.{replica_at}
 use Rattle.version_views.specs.Views.{first_ops}
 use Rattle.version_views.proofs.FrontMakingLemmas.{first_taken}
 use Rattle.version_views.proofs.ViewLemmas.{parts}
 use Rattle.command_kinds.specs.Findings.{Finding, Does, Refuses}
 use Rattle.command_kinds.specs.Saving.{Outcome}
-use Rattle.command_kinds.specs.Take.{ops_of}
+use Rattle.command_kinds.specs.Take.{all_held_ops}
 use Rattle.command_kinds.specs.declared.refusal.Refusal.{Refusal}
 use Rattle.command_kinds.proofs.LawfulLemmas.{held_lawful}
 use Rattle.manuscript_cli.specs.Revising.{IsHandedBack, RevisionGives, Revises}
-use Rattle.manuscript_cli.specs.RevisingSince.{ComesBehind, ComesInWhole, GivesSince, SinceGives, lacked, moment_refusal}
+use Rattle.manuscript_cli.specs.RevisingSince.{ComesAfterAccepted, ComesInWhole, GivesSince, SinceGives, lacking_ops, moment_refusal}
 use Rattle.manuscript_cli.proofs.RevisionTakenLemmas.{in_turn}
 use Rattle.kept_promises.specs.Revisions.{AreAlike, ComesTo, IsRevisedThenMerged, SinceIsReviseThenMerge, behind_first}
 use Rattle.kept_promises.proofs.FewLemmas.{count, few_held}
@@ -54,13 +54,13 @@ either false false = refl
 in_accepted : (h : List Op) (x : Op) → has_op (accepted h) x ≡ has_op h x
 in_accepted h x = has-reverse h x
 
-lacked_has : (h ops : List Op) (x : Op) → has_op (lacked h ops) x ≡ true → has_op ops x ≡ true
+lacked_has : (h ops : List Op) (x : Op) → has_op (lacking_ops h ops) x ≡ true → has_op ops x ≡ true
 lacked_has h [] x m = m
 lacked_has h (op ∷ ops) x m =
-    let kept : Bool → List Op = λ b. if not b then op ∷ lacked h ops else lacked h ops in
+    let kept : Bool → List Op = λ b. if not b then op ∷ lacking_ops h ops else lacking_ops h ops in
     elim (cases_Bool (has_op h op)) [
       | inl e ↦ or_right (op_eq op x) (has_op ops x) (lacked_has h ops x (subst (λ l. has_op l x ≡ true) (ap kept e) m))
-      | inr e ↦ elim (or_cases (op_eq op x) (has_op (lacked h ops) x) (subst (λ l. has_op l x ≡ true) (ap kept e) m)) [
+      | inr e ↦ elim (or_cases (op_eq op x) (has_op (lacking_ops h ops) x) (subst (λ l. has_op l x ≡ true) (ap kept e) m)) [
         | inl q ↦ or_left (op_eq op x) (has_op ops x) q
         | inr j ↦ or_right (op_eq op x) (has_op ops x) (lacked_has h ops x j)
       ]
@@ -75,15 +75,15 @@ all_has h (op ∷ ops) all x m =
     ]
 
 -- the operations behind the first n join these
-behind_joins : (n : ℕ) (h : List Op) → extended (first_ops n h) (drop n (accepted h)) ≡ h
+behind_joins : (n : ℕ) (h : List Op) → history_with (first_ops n h) (drop n (accepted h)) ≡ h
 behind_joins n h =
     let xs : List Op = accepted h in
     let first : accepted (first_ops n h) ≡ take n xs = ap reverse (sym (first_taken n h)) ∙ reverse-reverse (take n xs) in
-    let whole : accepted (extended (first_ops n h) (drop n xs)) ≡ xs = join_at_end (first_ops n h) (drop n xs) ∙ ap (λ l. l ++ drop n xs) first ∙ take-append-drop n xs in
-    sym (reverse-reverse (extended (first_ops n h) (drop n xs))) ∙ ap reverse whole ∙ reverse-reverse h
+    let whole : accepted (history_with (first_ops n h) (drop n xs)) ≡ xs = join_at_end (first_ops n h) (drop n xs) ∙ ap (λ l. l ++ drop n xs) first ∙ take-append-drop n xs in
+    sym (reverse-reverse (history_with (first_ops n h) (drop n xs))) ∙ ap reverse whole ∙ reverse-reverse h
 
-all_join : (h : List Op) → extended [] (accepted h) ≡ h
-all_join h = sym (reverse-reverse (extended [] (accepted h))) ∙ ap reverse (join_at_end [] (accepted h)) ∙ reverse-reverse h
+all_join : (h : List Op) → history_with [] (accepted h) ≡ h
+all_join h = sym (reverse-reverse (history_with [] (accepted h))) ∙ ap reverse (join_at_end [] (accepted h)) ∙ reverse-reverse h
 
 -- what a revision of the replica as it was came to
 pub record Reached (past : Replica) (revised : Outcome) : Type 0 where
@@ -104,7 +104,7 @@ came_revised : (past : Replica) (draft : List ℕ) (revised : Outcome) → past.
 came_revised past draft revised quiet w revises =
     let makes = revises.revised.makes in
     let is : revises.last ≡ with_ops past (all_made past makes.changes) = makes.changed.gained.others in
-    let history : revises.last.held.history ≡ extended past.held.history (all_made past makes.changes) = ap (λ (s : Replica). s.held.history) is in
+    let history : revises.last.held.history ≡ history_with past.held.history (all_made past makes.changes) = ap (λ (s : Replica). s.held.history) is in
     record {
       last = revises.last.held.history;
       held_is =
@@ -115,7 +115,7 @@ came_revised past draft revised quiet w revises =
     }
 
 module _ (n : ℕ) (was : Replica) (revised : Outcome) (w : Lawful was.held.history) (settled : IsSettled was.held) (few : count was.held ≤ was.most)
-    (came : Reached (front_of n was) revised) (whole : Held) (whole_is : whole ≡ held_from was.hold was.most was.held revised.saved) (behind : ComesBehind was.held revised.saved whole) where
+    (came : Reached (replica_at n was) revised) (whole : Held) (whole_is : whole ≡ held_from was.hold was.most was.held revised.saved) (behind : ComesAfterAccepted was.held revised.saved whole) where
   abbrev h : List Op
   h = was.held.history
 
@@ -129,10 +129,10 @@ module _ (n : ℕ) (was : Replica) (revised : Outcome) (w : Lawful was.held.hist
   fits = subst (λ s. count s ≤ was.most) (sym whole_is) (few_held was.hold was.most was.held revised.saved few)
 
   -- ---- who has what
-  whole_has : (x : Op) → has_op whole.history x ≡ (has_op h x || has_op (lacked h revised.saved) x)
+  whole_has : (x : Op) → has_op whole.history x ≡ (has_op h x || has_op (lacking_ops h revised.saved) x)
   whole_has x =
       sym (in_accepted whole.history x) ∙ ap (λ l. has_op l x) behind.behind
-      ∙ has-append (accepted h) (lacked h revised.saved) x ∙ ap (λ b. b || has_op (lacked h revised.saved) x) (in_accepted h x)
+      ∙ has-append (accepted h) (lacking_ops h revised.saved) x ∙ ap (λ b. b || has_op (lacking_ops h revised.saved) x) (in_accepted h x)
 
   last_has : (x : Op) → has_op came.last x ≡ (has_op first x || has_op revised.saved x)
   last_has x =
@@ -143,7 +143,7 @@ module _ (n : ℕ) (was : Replica) (revised : Outcome) (w : Lawful was.held.hist
   first_part = subst (IsPartOf first) (parts n h) (part_at_end (take (length h - n) h) first)
 
   old_part : IsPartOf h whole.history
-  old_part x m = whole_has x ∙ or_left (has_op h x) (has_op (lacked h revised.saved) x) m
+  old_part x m = whole_has x ∙ or_left (has_op h x) (has_op (lacking_ops h revised.saved) x) m
 
   last_part : IsPartOf came.last whole.history
   last_part x m =
@@ -162,7 +162,7 @@ module _ (n : ℕ) (was : Replica) (revised : Outcome) (w : Lawful was.held.hist
 
       from : has_op whole.history x ≡ true → (has_op came.last x || has_op ops x) ≡ true
       from m =
-          elim (or_cases (has_op h x) (has_op (lacked h revised.saved) x) (sym (whole_has x) ∙ m)) [
+          elim (or_cases (has_op h x) (has_op (lacking_ops h revised.saved) x) (sym (whole_has x) ∙ m)) [
             | inl j ↦ elim (all x j) [
               | inl f ↦ or_left (has_op came.last x) (has_op ops x) (last_has x ∙ or_left (has_op first x) (has_op revised.saved x) f)
               | inr o ↦ or_right (has_op came.last x) (has_op ops x) o
@@ -197,14 +197,14 @@ module _ (n : ℕ) (was : Replica) (revised : Outcome) (w : Lawful was.held.hist
       let first_in : IsPartOf first came.last = λ x m. last_has x ∙ or_left (has_op first x) (has_op revised.saved x) m in
       let t = all_taken was.hold was.most whole.history lawful short rest first came.last came.lawful last_part first_in turn (λ x m. old_part x (rest_within x m)) in
       record {
-        place = subst (λ s. HasPlace was.hold was.most s rest) (sym came.held_is) t.place;
+        place = subst (λ s. MeetsNoLimit was.hold was.most s rest) (sym came.held_is) t.place;
         alike = subst (λ s. AreAlike (held_from was.hold was.most s rest).history whole.history) (sym came.held_is)
             (subst (λ (s : Held). AreAlike s.history whole.history) (sym t.state)
             (are_alike t.last whole.history t.lawful lawful (λ x. t.same x ∙ same_whole rest rest_within rest_all x)));
       }
 
   -- ---- all that the file holds
-  pub merged_comes : ComesTo was revised.held (ops_of was.held) whole.history
+  pub merged_comes : ComesTo was revised.held (all_held_ops was.held) whole.history
   merged_comes =
       let ops : List Op = accepted h in
       let waiting : List Op = was.held.waiting in
@@ -222,9 +222,9 @@ module _ (n : ℕ) (was : Replica) (revised : Outcome) (w : Lawful was.held.hist
       let together : held_from was.hold was.most (state_of came.last []) (ops ++ waiting) ≡ held_from was.hold was.most (state_of t.last []) waiting =
       sym (held-append was.hold was.most (state_of came.last []) ops waiting) ∙ ap (λ s. held_from was.hold was.most s waiting) t.state in
       record {
-        place = subst (λ s. HasPlace was.hold was.most s (ops_of was.held)) (sym came.held_is)
-            (places-append was.hold was.most (state_of came.last []) ops waiting t.place (subst (λ s. HasPlace was.hold was.most s waiting) (sym t.state) leaves.place));
-        alike = subst (λ s. AreAlike (held_from was.hold was.most s (ops_of was.held)).history whole.history) (sym came.held_is)
+        place = subst (λ s. MeetsNoLimit was.hold was.most s (all_held_ops was.held)) (sym came.held_is)
+            (places-append was.hold was.most (state_of came.last []) ops waiting t.place (subst (λ s. MeetsNoLimit was.hold was.most s waiting) (sym t.state) leaves.place));
+        alike = subst (λ s. AreAlike (held_from was.hold was.most s (all_held_ops was.held)).history whole.history) (sym came.held_is)
             (subst (λ (s : Held). AreAlike s.history whole.history) (sym together)
             (subst (λ l. AreAlike l whole.history) (sym leaves.same) (are_alike t.last whole.history t.lawful lawful same)));
       }
@@ -236,22 +236,22 @@ pub since_is : (n : ℕ) (guest : DiskView) (input : SourceView) (course : Findi
 since_is n guest input course was whole w settled few gives = by_moment (moment_refusal n was) gives
   where
     past : Replica
-    past = front_of n was
+    past = replica_at n was
 
     past_lawful : Lawful (first_ops n was.held.history)
     past_lawful = Lawful-append (take (length was.held.history - n) was.held.history) (first_ops n was.held.history) (subst Lawful (sym (parts n was.held.history)) w)
 
-    came_by : (draft : List ℕ) (revised : Outcome) → IsHandedBack (front_of n was) draft revised ⊎ Revises (front_of n was) draft revised → Reached (front_of n was) revised
-    came_by draft revised (inl back) = came_back (front_of n was) draft revised refl past_lawful back
-    came_by draft revised (inr revises) = came_revised (front_of n was) draft revised refl past_lawful revises
+    came_by : (draft : List ℕ) (revised : Outcome) → IsHandedBack (replica_at n was) draft revised ⊎ Revises (replica_at n was) draft revised → Reached (replica_at n was) revised
+    came_by draft revised (inl back) = came_back (replica_at n was) draft revised refl past_lawful back
+    came_by draft revised (inr revises) = came_revised (replica_at n was) draft revised refl past_lawful revises
 
-    by_given : (given : Finding Outcome) → RevisionGives guest input course (front_of n was) given → ComesInWhole was given (Does whole) → IsRevisedThenMerged n guest input course was whole.held
+    by_given : (given : Finding Outcome) → RevisionGives guest input course (replica_at n was) given → ComesInWhole was given (Does whole) → IsRevisedThenMerged n guest input course was whole.held
     by_given (Refuses why) gives comes = no_outcome comes
       where
         no_outcome : {why : Refusal} → Does whole ≡ Refuses why → IsRevisedThenMerged n guest input course was whole.held
         no_outcome e = cc e
     by_given (Does revised) gives comes =
-        let came : Reached (front_of n was) revised = came_by gives.2 revised gives.4.2 in
+        let came : Reached (replica_at n was) revised = came_by gives.2 revised gives.4.2 in
         let is : whole.held ≡ held_from was.hold was.most was.held revised.saved = ap (λ (o : Outcome). o.held) comes.1 in
         record {
           revised = revised;

@@ -7,7 +7,7 @@ use Rattle.std.proofs.lemmas.List.Elements.{All-weaker}
 use Rattle.fugue_ids.specs.Outs.{OutTells, OutView, Took}
 use Rattle.fugue_ids.specs.declared.limits.TheConstants.{MOST_OPERATIONS}
 use Rattle.origin_model.specs.edits.State.{State as Replica}
-use Rattle.outer_ports.specs.disk.Moments.{after}
+use Rattle.outer_ports.specs.disk.Moments.{after_moment}
 use Rattle.outer_ports.specs.disk.States.{durable}
 use Rattle.replica_file.specs.declared.load_file.End.{End}
 use Rattle.version_views.specs.Laws.{view_named}
@@ -17,11 +17,11 @@ use Rattle.command_kinds.specs.Changes.{change}
 use Rattle.command_kinds.specs.Files.{FileHolds}
 use Rattle.command_kinds.specs.Findings.{Does}
 use Rattle.command_kinds.specs.Report.{ReportMeets, Reports, Telling}
-use Rattle.manuscript_cli.specs.NamedVersions.{view_tells, viewed}
+use Rattle.manuscript_cli.specs.NamedVersions.{view_tells, version_text}
 use Rattle.manuscript_cli.specs.Run.{MeetsAs, Reporting, family}
 use Rattle.manuscript_cli.specs.Runs.{CommandRun}
-use Rattle.kept_promises.specs.Keeping.{Printed}
-use Rattle.kept_promises.specs.Views.{IsView, LeavesName, ViewsPrintTheSame, ViewsStay, written_for}
+use Rattle.kept_promises.specs.Keeping.{PrintedBytes}
+use Rattle.kept_promises.specs.Views.{IsViewRun, LeavesName, ViewsPrintTheSame, ViewsStay, written_for}
 use Rattle.kept_promises.proofs.KeepingLemmas.{became, read_between}
 use Rattle.kept_promises.proofs.NamedLemmas.{Leaves, written_stays}
 
@@ -45,7 +45,7 @@ pub record Reported (tells : Telling) (run : CommandRun) (text : List ℕ) : Typ
   pub end : End
   pub holds : FileHolds run.old.home replica end
   pub told : tells replica (Does text)
-  pub synced : run.new.home.past ≡ after durable run.old.home.past
+  pub synced : run.new.home.past ≡ after_moment durable run.old.home.past
 
 same_written : (old : Option (List ℕ)) (a b : List ℕ) → IsSome old → append_known old a ≡ append_known old b → a ≡ b
 same_written None a b told e = cc told
@@ -54,7 +54,7 @@ same_written (Some written) a b told e = append_cancel_left written a b (cc e)
 took_once : (old new : OutView) (a b : List ℕ) → OutTells old → Took old new a → Took old new b → a ≡ b
 took_once old new a b told one two = same_written old.written a b told (sym one.written ∙ two.written)
 
-pub reported : (tells : Telling) (run : CommandRun) (text : List ℕ) → family run.words run.command ≡ Reporting tells → Printed run text → Reported tells run text
+pub reported : (tells : Telling) (run : CommandRun) (text : List ℕ) → family run.words run.command ≡ Reporting tells → PrintedBytes run text → Reported tells run text
 reported tells run text of printed =
     let meets = subst (λ f. MeetsAs f run.old run.new run.end) of run.meets in
     let reports : Reports tells (change run.old.home run.new.home) (change run.old.streams.output run.new.streams.output) (change run.old.streams.notes run.new.streams.notes) run.end = meets.does in
@@ -67,13 +67,13 @@ is_written : (name : List ℕ) (replica : Replica) (text : List ℕ) → view_te
 is_written name replica text told = by (version_with replica.held.history replica.number name) refl
   where
     by : (o : Option ℕ) → version_with replica.held.history replica.number name ≡ o → written_for name replica ≡ Some text
-    by None e = cc (told ∙ ap (viewed name replica) e)
+    by None e = cc (told ∙ ap (version_text name replica) e)
     by (Some n) e =
-        let is : Does text ≡ Does (view replica.held.history n) = told ∙ ap (viewed name replica) e in
+        let is : Does text ≡ Does (view replica.held.history n) = told ∙ ap (version_text name replica) e in
         let same : text ≡ view replica.held.history n = cc is in
         ap (λ (o : Option ℕ). elim o [ None ↦ None | Some m ↦ Some (view replica.held.history m) ]) e ∙ ap Some (sym same)
 
-view_family : (run : CommandRun) (name : List ℕ) → IsView run name → family run.words run.command ≡ Reporting (view_tells name)
+view_family : (run : CommandRun) (name : List ℕ) → IsViewRun run name → family run.words run.command ≡ Reporting (view_tells name)
 view_family run name is = ap (family run.words) is.command ∙ ap (λ n. Reporting (view_tells n)) is.named
 
 pub views_print_the_same : ViewsPrintTheSame

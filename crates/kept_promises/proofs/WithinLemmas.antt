@@ -15,7 +15,7 @@ use Rattle.origin_model.specs.edits.Edits.{ReadyInTurn}
 use Rattle.origin_model.specs.operations.History.{has_op, holder, holds, is_own}
 use Rattle.origin_model.specs.operations.Verdict.{Lawful, first_line, first_missing, first_stray, fits, id_held, names, verdict}
 use Rattle.origin_model.specs.order.Laws.{IsPartOf, SameOps}
-use Rattle.origin_model.specs.taking.Taking.{Accepted, Again, Answer, Conflict, HasPlace, TooMany, Waits, answer, answer_by, answers_from, decided_on, held_from, intake, is_decided, is_taken, settle, taken}
+use Rattle.origin_model.specs.taking.Taking.{Accepted, Again, Answer, Conflict, MeetsNoLimit, TooMany, Waits, answer, answer_by, answers_from, decided_on, held_from, intake, is_decided, is_taken, settle, held_after}
 use Rattle.origin_model.proofs.SharedLemmas.{accepted_is_ready, becomes_ready, cases_held, found, has-holder, holder-has, id_held-nil, names_within, ready_absent, settle-settled, swap_or, when_ready, Within-part}
 use Rattle.origin_model.proofs.edits.EditIntakeLemmas.{accepts, state_of}
 use Rattle.origin_model.proofs.edits.UndecidedLemmas.{Undecided}
@@ -79,7 +79,7 @@ module _ (hold most : ℕ) (whole : List Op) (is_lawful : Lawful whole) (few : l
       ap (λ z. if z || has_op [] op then Again else if is_taken (state_of p []) op then Conflict else answer_by (nat_eq (length p + 0) most) (nat_eq 0 hold) (verdict p op)) t
 
   had_intake : (p : List Op) (op : Op) → has_op p op ≡ true → intake hold most (state_of p []) op ≡ state_of p []
-  had_intake p op t = ap (λ a. settle (taken a (state_of p []) op)) (had_answer p op t) ∙ settle-settled (state_of p []) (none_undecided p)
+  had_intake p op t = ap (λ a. settle (held_after a (state_of p []) op)) (had_answer p op t) ∙ settle-settled (state_of p []) (none_undecided p)
 
   -- one that is Ready
   grows_part : (p : List Op) (op : Op) → IsPartOf p whole → has_op whole op ≡ true → IsPartOf (op ∷ p) whole
@@ -91,13 +91,13 @@ module _ (hold most : ℕ) (whole : List Op) (is_lawful : Lawful whole) (few : l
       accepts hold most p [] op (none_undecided p) v (id_held-nil (id_of op)) (ne_eqb (length p + 0) most (λ e. omega (arith, e, short, few)))
 
   new_intake : (p : List Op) (op : Op) → Lawful p → IsPartOf p whole → has_op whole op ≡ true → verdict p op ≡ Ready → intake hold most (state_of p []) op ≡ state_of (op ∷ p) []
-  new_intake p op w f m v = ap (λ a. settle (taken a (state_of p []) op)) (new_answer p op w f m v) ∙ settle-settled (state_of (op ∷ p) []) (none_undecided (op ∷ p))
+  new_intake p op w f m v = ap (λ a. settle (held_after a (state_of p []) op)) (new_answer p op w f m v) ∙ settle-settled (state_of (op ∷ p) []) (none_undecided (op ∷ p))
 
   -- all are taken in, and nothing else is there then
   pub record IsTaken (p ops : List Op) : Type 0 where
     pub last : List Op
     pub state : held_from hold most (state_of p []) ops ≡ state_of last []
-    pub place : HasPlace hold most (state_of p []) ops
+    pub place : MeetsNoLimit hold most (state_of p []) ops
     pub lawful : Lawful last
     pub same : (x : Op) → has_op last x ≡ (has_op p x || has_op ops x)
 
@@ -108,7 +108,7 @@ module _ (hold most : ℕ) (whole : List Op) (is_lawful : Lawful whole) (few : l
         last = later.last;
         state = ap (λ s. held_from hold most s ops) next ∙ later.state;
         place = All-cons (λ (a : Answer). a ≢ TooMany) (answer hold most (state_of p []) op) (answers_from hold most (intake hold most (state_of p []) op) ops) other
-            (subst (λ s. HasPlace hold most s ops) (sym next) later.place);
+            (subst (λ s. MeetsNoLimit hold most s ops) (sym next) later.place);
         lawful = later.lawful;
         same = λ x. later.same x ∙ has x;
       }
@@ -194,15 +194,15 @@ module _ (hold most : ℕ) (h : List Op) where
       let more : Undecided h (w ++ op ∷ []) = All-append (λ o. decided_on h o ≡ false) w (op ∷ []) u (All-cons (λ o. decided_on h o ≡ false) op [] n (none_undecided h)) in
       record {
         waiting = w ++ op ∷ [];
-        next = ap (λ a. settle (taken a (state_of h w) op)) e ∙ settle-settled (state_of h (w ++ op ∷ [])) more;
+        next = ap (λ a. settle (held_after a (state_of h w) op)) e ∙ settle-settled (state_of h (w ++ op ∷ [])) more;
         undecided = more;
         longer = omega (arith, length-append w (op ∷ []));
       }
-  stays w op u n _ e = record { waiting = w; next = ap (λ a. settle (taken a (state_of h w) op)) e ∙ settle-settled (state_of h w) u; undecided = u; longer = omega arith }
+  stays w op u n _ e = record { waiting = w; next = ap (λ a. settle (held_after a (state_of h w) op)) e ∙ settle-settled (state_of h w) u; undecided = u; longer = omega arith }
 
   pub record Leaves (w ops : List Op) : Type 0 where
     pub same : (held_from hold most (state_of h w) ops).history ≡ h
-    pub place : HasPlace hold most (state_of h w) ops
+    pub place : MeetsNoLimit hold most (state_of h w) ops
 
   pub all_stay : (ops w : List Op) → Undecided h w → Undecided h ops → length h + length w + length ops ≤ most → Leaves w ops
   all_stay [] w u n l = record { same = refl; place = All-nil (λ (a : Answer). a ≢ TooMany) }
@@ -214,5 +214,5 @@ module _ (hold most : ℕ) (h : List Op) where
         same = ap (λ s. (held_from hold most s ops).history) one.next ∙ rest.same;
         place = All-cons (λ (a : Answer). a ≢ TooMany) (answer hold most (state_of h w) op) (answers_from hold most (intake hold most (state_of h w) op) ops)
             (λ e. let full : length h + length w ≡ most = eqb-true (length h + length w) most (too_many hold most (state_of h w) op e) in absurd (omega (arith, full, l)))
-            (subst (λ s. HasPlace hold most s ops) (sym one.next) rest.place);
+            (subst (λ s. MeetsNoLimit hold most s ops) (sym one.next) rest.place);
       }

@@ -4,18 +4,18 @@ use Rattle.fugue_ids.specs.declared.op.Op.{Op}
 use Rattle.origin_model.specs.edits.State.{State as Replica}
 use Rattle.origin_model.specs.operations.History.{accepted}
 use Rattle.origin_model.specs.order.Laws.{IsSameText, SameOps}
-use Rattle.origin_model.specs.taking.Taking.{HasPlace, Held, held_from}
+use Rattle.origin_model.specs.taking.Taking.{MeetsNoLimit, Held, held_from}
 use Rattle.outer_ports.specs.Sources.{SourceView}
 use Rattle.outer_ports.specs.disk.Disks.{DiskView}
-use Rattle.replica_file.specs.Loading.{IsReady}
+use Rattle.replica_file.specs.Loading.{CanTake}
 use Rattle.replica_file.specs.declared.load_file.End.{End}
 use Rattle.catalogue_notes.specs.Laws.{IsSameArrangement}
-use Rattle.version_views.specs.Fronts.{front_of}
-use Rattle.command_kinds.specs.Changes.{IsTold}
+use Rattle.version_views.specs.Fronts.{replica_at}
+use Rattle.command_kinds.specs.Changes.{IsSpecified}
 use Rattle.command_kinds.specs.Files.{FileHolds}
 use Rattle.command_kinds.specs.Findings.{Finding, Does}
 use Rattle.command_kinds.specs.Saving.{Outcome}
-use Rattle.command_kinds.specs.Take.{ops_of}
+use Rattle.command_kinds.specs.Take.{all_held_ops}
 use Rattle.command_kinds.specs.declared.status.Status.TheVariants.{Done}
 use Rattle.manuscript_cli.specs.Revising.{RevisionGives}
 use Rattle.manuscript_cli.specs.RevisingSince.{SinceGives}
@@ -31,7 +31,7 @@ pub record AreAlike (a b : List Op) : Type 0 where
 
 -- a replica that holds this takes all of the operations in, and has accepted then what the other history has
 pub record ComesTo (replica : Replica) (held : Held) (ops other : List Op) : Type 0 where
-  pub place : HasPlace replica.hold replica.most held ops
+  pub place : MeetsNoLimit replica.hold replica.most held ops
   pub alike : AreAlike (held_from replica.hold replica.most held ops).history other
 
 -- what was accepted behind the first n operations
@@ -42,20 +42,20 @@ behind_first n held = drop n (accepted held.history)
 -- behind these, or merges all that the file holds, it comes to what the file has now.
 pub record IsRevisedThenMerged (n : ℕ) (guest : DiskView) (input : SourceView) (course : Finding Outcome) (was : Replica) (now : Held) : Type 0 where
   pub revised : Outcome
-  pub gives : RevisionGives guest input course (front_of n was) (Does revised)
+  pub gives : RevisionGives guest input course (replica_at n was) (Does revised)
   pub rest : ComesTo was revised.held (behind_first n was.held) now.history
-  pub merged : ComesTo was revised.held (ops_of was.held) now.history
+  pub merged : ComesTo was revised.held (all_held_ops was.held) now.history
 
 -- what a draft with a number gives
 abbrev pub SinceIsReviseThenMerge : Type 0
 SinceIsReviseThenMerge =
     (n : ℕ) (guest : DiskView) (input : SourceView) (course : Finding Outcome) (was : Replica) (whole : Outcome)
-    → IsReady was → SinceGives n guest input course was (Does whole)
+    → CanTake was → SinceGives n guest input course was (Does whole)
     → IsRevisedThenMerged n guest input course was whole.held
 
 -- and what `revise` with a number does to a file
 abbrev pub RevisingSinceIsReviseThenMerge : Type 0
 RevisingSinceIsReviseThenMerge =
-    (words : List (List ℕ)) (n : ℕ) (old new : Touched) → Meets words (Some (ReviseSince n)) old new Done → IsTold old.home
+    (words : List (List ℕ)) (n : ℕ) (old new : Touched) → Meets words (Some (ReviseSince n)) old new Done → IsSpecified old.home
     → (was now : Replica) × (at end : End) × FileHolds old.home was at × FileHolds new.home now end
     × (course : Finding Outcome) × IsRevisedThenMerged n old.guest old.streams.input course was now.held

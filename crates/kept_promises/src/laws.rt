@@ -1,6 +1,6 @@
 //! Each function takes and answers nothing, and its clauses are the law.
 
-ghost use Rattle.kept_promises.specs.Certificates.{CertificatesPass, CertificatesStay, WhyPassesCheck};
+ghost use Rattle.kept_promises.specs.Certificates.{CertificatesPass, FileCertificatesStay, WhyPassesCheck};
 ghost use Rattle.kept_promises.specs.Keeping.{FilesKeepOperations};
 ghost use Rattle.kept_promises.specs.Revisions.{RevisingSinceIsReviseThenMerge, SinceIsReviseThenMerge};
 ghost use Rattle.kept_promises.specs.Views.{ViewsPrintTheSame, ViewsStay};
@@ -23,7 +23,7 @@ pub fn views_stay()
 /// that has accepted the operations of this one.
 pub fn why_passes_check()
     ensures files { CertificatesPass }
-    ensures later { CertificatesStay }
+    ensures later { FileCertificatesStay }
     ensures checked { WhyPassesCheck }
 {}
 

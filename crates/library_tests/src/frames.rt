@@ -9,12 +9,13 @@ mod plain;
 use crate::assertions::{equal, equal_at, holds_at};
 use crate::ids::{id, text};
 use fugue_ids::{Body, ElementId, NoMemory, NoteNames, Op, Title};
+use memory_ports::MemSource;
 use op_frame::{
     First, FrameFault, FrameFront, FrameOps, FrameReader, Grown, encode, encode_all, first_frame,
 };
 use op_runs::OpSlice;
 use origin_model::Grammar;
-use outer_ports::{MemSource, Source, SureSource};
+use outer_ports::{Source, SureSource};
 use plain::plain_frames;
 use std::process::Abort;
 use std::test::Fail;

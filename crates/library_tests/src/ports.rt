@@ -6,7 +6,8 @@ mod wire;
 
 use crate::assertions::{equal, equal_at};
 use fugue_ids::{BUFFER, Failed, Gather, Out, write_heading, write_scalar, write_whole};
-use outer_ports::{MemSink, MemSource, Source, StdSink, StdSource, SureSink, SureSource};
+use memory_ports::{MemSource, SureSink};
+use outer_ports::{MemSink, Source, StdSink, StdSource, SureSource};
 use std::fs::File;
 use std::io::{self, Read, Write};
 use std::process::Abort;

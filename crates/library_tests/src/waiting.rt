@@ -5,7 +5,7 @@ ghost use Rattle.std.specs.Prelude.{◌<◌};
 use crate::assertions::{equal, equal_at, holds_at};
 use crate::dice::Dice;
 use crate::ids::{id, text};
-use causal_inbox::{Found, Gapped, Inbox, PushFault, Queue};
+use causal_inbox::{Found, Gapped, Inbox, OpenInbox, PushFault, Queue};
 use fugue_ids::{Op, Title};
 use origin_model::{PlainReplica, Verdict};
 use std::mem::replace;
@@ -40,16 +40,34 @@ fn what_waits_is_found_bounded_counted_and_removed(rt: HostRuntime) {
     for (replica, want) in [(1, Some(7)), (2, Some(0)), (9, Some(0)), (3, None)] {
         equal_at(&rt, &replica, inbox.greatest(replica), want);
     }
-    equal(&rt, inbox.len(), 3);
+    equal(&rt, inbox.ops().len(), 3);
     equal(&rt, inbox.remove(1), Op::Delete { target: id(1, 7) });
     equal(&rt, inbox.greatest(1), Some(4));
+    equal(&rt, inbox.ops().len(), 2);
+    equal(&rt, inbox.remove(0).id(), Some(id(1, 2)));
+    equal(&rt, inbox.ops().len(), 1);
+    drop(inbox);
+}
+
+/// The same where gaps stay until the inbox is closed.
+#[test]
+fn what_leaves_an_open_inbox_is_gone_at_once(rt: HostRuntime) {
+    let mut inbox = OpenInbox::new(rt.alloc(), 3);
+    for op in [
+        text(id(1, 2), None, None, 'a'),
+        Op::Delete { target: id(1, 7) },
+        text(id(2, 0), Some(id(1, 4)), None, 'b'),
+    ] {
+        equal(&rt, inbox.push(op).is_ok(), true);
+    }
+    equal(&rt, inbox.len(), 3);
+    equal(&rt, inbox.remove(1), Op::Delete { target: id(1, 7) });
     let named = (inbox.nth_naming(id(1, 4), 0), inbox.nth_naming(id(1, 4), 1));
     equal(&rt, named, (Some(1), None));
     assert!(rt; inbox.len() == 2);
     equal(&rt, inbox.op_at(1).id(), Some(id(2, 0)));
-    equal(&rt, inbox.remove(0).id(), Some(id(1, 2)));
     inbox.close();
-    equal(&rt, inbox.ops().len(), 1);
+    equal(&rt, inbox.ops().len(), 2);
     drop(inbox);
 }
 

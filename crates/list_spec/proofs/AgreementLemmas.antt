@@ -13,14 +13,14 @@ use Rattle.origin_model.specs.operations.History.{has_op}
 use Rattle.origin_model.specs.operations.Verdict.{Lawful}
 use Rattle.origin_model.specs.order.Laws.{IsPartOf, IsSameText, SameOps}
 use Rattle.origin_model.specs.taking.Closure.{Consistent, IsClosed, WithinLimits}
-use Rattle.origin_model.specs.taking.Taking.{Answer, Full, Held, IsSettled, TooMany, answer, nothing_held, taken}
-use Rattle.origin_model.specs.edits.Edits.{ReadyInTurn, extended}
+use Rattle.origin_model.specs.taking.Taking.{Answer, Full, Held, IsSettled, TooMany, answer, nothing_held, held_after}
+use Rattle.origin_model.specs.edits.Edits.{ReadyInTurn, history_with}
 use Rattle.origin_model.specs.edits.State.{State}
 use Rattle.origin_model.specs.edits.Effect.{with_ops}
 use Rattle.origin_model.proofs.SharedLemmas.{accept_covers, covered_closed, Covers, Covers-same, fold_covers, has-append, has-holder, has-moved, is_own-id, nothing_covers, nothing_settled, order_by_set, parts_join, same_closed, settles}
 use Rattle.origin_model.proofs.edits.UndecidedLemmas.{all_stay}
 use Rattle.list_spec.specs.Agreement.{AllAgree, GotEverything, HasEverything, all_answers, answer_at, answers_to, begun, brought, brought_by, where_true}
-use Rattle.list_spec.specs.Worlds.{Deliver, Edit, Event, Noting, World, after_event, after_events, after_making, changed, delivered, effect, made_at, note_effect, pooled, world}
+use Rattle.list_spec.specs.Worlds.{Deliver, Edit, Event, Noting, World, after_event, after_events, after_making, changed_world, replica_after_delivery, effect, made_at, note_effect, pool_with, world}
 use Rattle.list_spec.proofs.EffectLemmas.{IsEffect, effect_is, note_effect_is}
 use Rattle.list_spec.proofs.PoolLemmas.{pool_keeps}
 use Rattle.list_spec.proofs.WorldLemmas.{HasOther, IsAt, IsMember, IsSound, event_keeps, event_sound, find_at, none_changes, one_changes, one_makes, world_sound}
@@ -36,11 +36,11 @@ lawful_consistent h w a b i m n e f =
     let q = sym (has-holder h i a w m (is_own-id a i e)) ∙ has-holder h i b w n (is_own-id b i f) in cc q
 
 -- operations that are Ready in turn come to those that came before
-makes_covers : (came ops : List Op) (h w : List Op) → Covers came (record { history = h; waiting = w }) → ReadyInTurn h ops → Covers (ops ++ came) (record { history = extended h ops; waiting = w })
+makes_covers : (came ops : List Op) (h w : List Op) → Covers came (record { history = h; waiting = w }) → ReadyInTurn h ops → Covers (ops ++ came) (record { history = history_with h ops; waiting = w })
 makes_covers came [] h w c r = c
 makes_covers came (op ∷ ops) h w c r =
     let s : Held = record { history = h; waiting = w } in
-    let end : Held = record { history = extended (op ∷ h) ops; waiting = w } in
+    let end : Held = record { history = history_with (op ∷ h) ops; waiting = w } in
     Covers-same (ops ++ op ∷ came) (op ∷ (ops ++ came)) end (has-moved op ops came) (makes_covers (op ∷ came) ops (op ∷ h) w (accept_covers came s op c r.0) r.1)
 
 -- a replica makes operations
@@ -53,13 +53,13 @@ makes_has came ops s has e =
 
 -- an operation of a lawful pool is delivered to a replica, and meets no limit
 delivery_has : (pool came : List Op) (op : Op) (s : State) → Lawful pool → has_op pool op ≡ true → IsPartOf came pool → Has came s.held → WithinLimits (answer s.hold s.most s.held op ∷ [])
-    → Has (op ∷ came) (delivered op s).held
+    → Has (op ∷ came) (replica_after_delivery op s).held
 delivery_has pool came op s w m f has l =
     record {
       covers = fold_covers s.hold s.most pool (op ∷ []) came s.held (lawful_consistent pool w)
           (λ x k. elim (or_cases (op_eq op x) (has_op came x) k) [ inl q ↦ subst (λ y. has_op pool y ≡ true) (op_eq-true op x q) m | inr j ↦ f x j ])
           has.covers l;
-      settled = settles (taken (answer s.hold s.most s.held op) s.held op);
+      settled = settles (held_after (answer s.hold s.most s.held op) s.held op);
     }
 
 -- the replica with the number n has what came
@@ -82,10 +82,10 @@ had_by n came ss k has =
 
 -- a change of another replica leaves what the one with the number n has
 other_changes : (n number : ℕ) (f : State → State) (came : List Op) (ss : List State) → ((s : State) → (f s).number ≡ s.number) → (number ≡ n → ⊥) → All (HasAt n came) ss
-    → All (HasAt n came) (changed number f ss)
+    → All (HasAt n came) (changed_world number f ss)
 other_changes n number f came [] stays other has = All-nil (HasAt n came)
 other_changes n number f came (s ∷ ss) stays other has =
-    All-cons (HasAt n came) (if nat_eq s.number number then f s else s) (changed number f ss)
+    All-cons (HasAt n came) (if nat_eq s.number number then f s else s) (changed_world number f ss)
     (elim (cases_Bool (nat_eq s.number number)) [
       | inl t ↦ subst (λ b. HasAt n came (if b then f s else s)) (sym t) (λ e. absurd (other (sym (eqb-true s.number number t) ∙ sym (stays s) ∙ e)))
       | inr t ↦ subst (λ b. HasAt n came (if b then f s else s)) (sym t) (All-head (HasAt n came) s ss has)
@@ -94,7 +94,7 @@ other_changes n number f came (s ∷ ss) stays other has =
 
 -- what a replica makes comes to it
 making_has : (n : ℕ) (came : List Op) (w : World) (makes : State → List Op) → ((s : State) → Lawful s.held.history → IsEffect s (makes s)) → IsSound w → All (HasAt n came) w.replicas
-    → All (HasAt n (made_at n makes w.replicas ++ came)) (changed n (λ (s : State). with_ops s (makes s)) w.replicas)
+    → All (HasAt n (made_at n makes w.replicas ++ came)) (changed_world n (λ (s : State). with_ops s (makes s)) w.replicas)
 making_has n came w makes own sound has =
     let made : State → State = λ s. with_ops s (makes s) in
     elim (find_at n w.replicas sound.distinct) [
@@ -103,7 +103,7 @@ making_has n came w makes own sound has =
           let all : All (IsMember w.pool) (k.front ++ k.it ∷ k.back) = subst (All (IsMember w.pool)) k.whole sound.members in
           let it : IsMember w.pool k.it = All-head (IsMember w.pool) k.it k.back (all_behind (IsMember w.pool) k.front (k.it ∷ k.back) all) in
           let new = makes_has came (makes k.it) k.it (had_by n came w.replicas k has) (own k.it it.lawful) in
-          subst (λ ops. All (HasAt n (ops ++ came)) (changed n made w.replicas)) (sym (one_makes n makes w.replicas k))
+          subst (λ ops. All (HasAt n (ops ++ came)) (changed_world n made w.replicas)) (sym (one_makes n makes w.replicas k))
           (subst (All (HasAt n (makes k.it ++ came))) (sym (one_changes n made w.replicas k)) (one_has n (makes k.it ++ came) k.front (made k.it) k.back k.before k.behind new))
     ]
 
@@ -123,17 +123,17 @@ one_answers n op ss k =
 
 -- what is delivered to a replica comes to it
 receiving_has : (n : ℕ) (came : List Op) (op : Op) (w : World) → has_op w.pool op ≡ true → IsPartOf came w.pool → IsSound w → WithinLimits (answer_at n op w.replicas) → All (HasAt n came) w.replicas
-    → All (HasAt n (op ∷ came)) (changed n (delivered op) w.replicas)
+    → All (HasAt n (op ∷ came)) (changed_world n (replica_after_delivery op) w.replicas)
 receiving_has n came op w m f sound l has =
     elim (find_at n w.replicas sound.distinct) [
-      | inl a ↦ subst (All (HasAt n (op ∷ came))) (sym (none_changes n (delivered op) w.replicas a)) (others_have n (op ∷ came) w.replicas a)
+      | inl a ↦ subst (All (HasAt n (op ∷ came))) (sym (none_changes n (replica_after_delivery op) w.replicas a)) (others_have n (op ∷ came) w.replicas a)
       | inr k ↦
           let new = delivery_has w.pool came op k.it sound.lawful m f (had_by n came w.replicas k has) (subst WithinLimits (one_answers n op w.replicas k) l) in
-          subst (All (HasAt n (op ∷ came))) (sym (one_changes n (delivered op) w.replicas k)) (one_has n (op ∷ came) k.front (delivered op k.it) k.back k.before k.behind new)
+          subst (All (HasAt n (op ∷ came))) (sym (one_changes n (replica_after_delivery op) w.replicas k)) (one_has n (op ∷ came) k.front (replica_after_delivery op k.it) k.back k.before k.behind new)
     ]
 
 -- what a pool takes in it has
-pooled_all : (ops pool : List Op) → IsPartOf ops (pooled pool ops)
+pooled_all : (ops pool : List Op) → IsPartOf ops (pool_with pool ops)
 pooled_all [] pool x m = absurd (false≢true m)
 pooled_all (op ∷ ops) pool x m =
     let more : List Op = if has_op pool op then pool else op ∷ pool in
@@ -154,12 +154,12 @@ part_where false xs ys f x m = absurd (false≢true m)
 -- what an event brings is in the pool
 brought_part : (n : ℕ) (w : World) (event : Event) → IsPartOf (brought_by n w event) (after_event w event).pool
 brought_part n w (Edit number command) =
-    let ops : List Op = made_at number (λ (s : State). effect s command) w.replicas in part_where (nat_eq number n) ops (pooled w.pool ops) (λ t. pooled_all ops w.pool)
+    let ops : List Op = made_at number (λ (s : State). effect s command) w.replicas in part_where (nat_eq number n) ops (pool_with w.pool ops) (λ t. pooled_all ops w.pool)
 brought_part n w (Noting number named code body) =
     let ops : List Op = made_at number (λ (s : State). note_effect s named code body) w.replicas in
-    part_where (nat_eq number n) ops (pooled w.pool ops) (λ t. pooled_all ops w.pool)
+    part_where (nat_eq number n) ops (pool_with w.pool ops) (λ t. pooled_all ops w.pool)
 brought_part n w (Deliver number op) =
-    let new : World = record { replicas = changed number (delivered op) w.replicas; pool = w.pool } in
+    let new : World = record { replicas = changed_world number (replica_after_delivery op) w.replicas; pool = w.pool } in
     let after : World = if has_op w.pool op then new else w in
     let same : after.pool ≡ w.pool = elim (has_op w.pool op) as (λ b. (if b then new else w).pool ≡ w.pool) [ true ↦ refl | false ↦ refl ] in
     part_where (nat_eq number n) (where_true (has_op w.pool op) (op ∷ [])) after.pool (λ t.
@@ -171,10 +171,10 @@ event_makes : (n number : ℕ) (came : List Op) (w : World) (makes : State → L
     → All (HasAt n (where_true (nat_eq number n) (made_at number makes w.replicas) ++ came)) (after_making w number makes).replicas
 event_makes n number came w makes own sound has =
     let made : State → State = λ s. with_ops s (makes s) in
-    let Goal : Bool → Type 0 = λ b. All (HasAt n (where_true b (made_at number makes w.replicas) ++ came)) (changed number made w.replicas) in
+    let Goal : Bool → Type 0 = λ b. All (HasAt n (where_true b (made_at number makes w.replicas) ++ came)) (changed_world number made w.replicas) in
     elim (cases_Bool (nat_eq number n)) [
       | inl t ↦ subst Goal (sym t)
-          (subst (λ k. All (HasAt n (made_at k makes w.replicas ++ came)) (changed k made w.replicas)) (sym (eqb-true number n t)) (making_has n came w makes own sound has))
+          (subst (λ k. All (HasAt n (made_at k makes w.replicas ++ came)) (changed_world k made w.replicas)) (sym (eqb-true number n t)) (making_has n came w makes own sound has))
       | inr f ↦ subst Goal (sym f) (other_changes n number made came w.replicas (λ s. refl) (eqb-false number n f) has)
     ]
 
@@ -184,7 +184,7 @@ event_has : (n : ℕ) (came : List Op) (w : World) (event : Event) → IsSound w
 event_has n came w (Edit number command) sound f l has = event_makes n number came w (λ (s : State). effect s command) (effect_is command) sound has
 event_has n came w (Noting number named code body) sound f l has = event_makes n number came w (λ (s : State). note_effect s named code body) (note_effect_is named code body) sound has
 event_has n came w (Deliver number op) sound f l has =
-    let new : World = record { replicas = changed number (delivered op) w.replicas; pool = w.pool } in
+    let new : World = record { replicas = changed_world number (replica_after_delivery op) w.replicas; pool = w.pool } in
     let Goal : Bool → Bool → Type 0 = λ b c. All (HasAt n (where_true b (where_true c (op ∷ [])) ++ came)) (if c then new else w).replicas in
     let Answered : Bool → Bool → Type 0 = λ b c. WithinLimits (where_true b (where_true c (answer_at number op w.replicas))) in
     let unchanged : (b : Bool) → Goal b false = λ b. elim b as (λ b. Goal b false) [ true ↦ has | false ↦ has ] in
@@ -195,9 +195,9 @@ event_has n came w (Deliver number op) sound f l has =
             let e : number ≡ n = eqb-true number n t in
             let within : WithinLimits (answer_at number op w.replicas) = subst (λ b. Answered b true) t (subst (Answered (nat_eq number n)) m l) in
             subst (λ b. Goal b true) (sym t)
-            (subst (λ k. All (HasAt n (op ∷ came)) (changed k (delivered op) w.replicas)) (sym e)
+            (subst (λ k. All (HasAt n (op ∷ came)) (changed_world k (replica_after_delivery op) w.replicas)) (sym e)
             (receiving_has n came op w m f sound (subst (λ k. WithinLimits (answer_at k op w.replicas)) e within) has))
-        | inr g ↦ subst (λ b. Goal b true) (sym g) (other_changes n number (delivered op) came w.replicas (λ s. refl) (eqb-false number n g) has)
+        | inr g ↦ subst (λ b. Goal b true) (sym g) (other_changes n number (replica_after_delivery op) came w.replicas (λ s. refl) (eqb-false number n g) has)
       ])
     ]
 

@@ -18,7 +18,7 @@ use Rattle.origin_model.specs.edits.Noting.{note_refusal}
 use Rattle.origin_model.specs.declared.edit_fault.EditFault.{EditFault}
 use Rattle.origin_model.specs.declared.edit_fault.EditFault.TheVariants.{IdsSpent, NoMemory, NoSection, OutOfRange, TooMany}
 use Rattle.origin_model.proofs.edits.RefusalLemmas.{cut_count, if_none, position_within, section_there}
-use Rattle.list_spec.specs.Calls.{CallsAreEdits, CallsAreNotings, IsEdit, IsEditCall}
+use Rattle.list_spec.specs.Calls.{CallsAreEdits, CallsAreNotings, IsWorldEdit, IsEditCall}
 use Rattle.list_spec.specs.Worlds.{effect}
 use Rattle.list_spec.proofs.EffectLemmas.{made_none, made_whole, note_refused, note_whole}
 
@@ -114,7 +114,7 @@ not_refused command old f = by_refusal (refusal_message old command) refl
     by_refusal (Some fault) e = absurd (f fault e)
 
 -- a call that was refused for a named cause
-refused_is : (command : Command) (old new : State) (fault : EditFault) → fault ≢ NoMemory → IsEditCall command old new (Err fault) → IsEdit command old new (Err fault)
+refused_is : (command : Command) (old new : State) (fault : EditFault) → fault ≢ NoMemory → IsEditCall command old new (Err fault) → IsWorldEdit command old new (Err fault)
 refused_is command old new fault other call =
     let none : effect old command ≡ [] = made_none command old fault ((call.refused fault other).0 refl) in
     record {
@@ -126,7 +126,7 @@ refused_is command old new fault other call =
     }
 
 -- one that memory was wanting for
-stopped_is : (command : Command) (old new : State) → IsEditCall command old new (Err NoMemory) → IsEdit command old new (Err NoMemory)
+stopped_is : (command : Command) (old new : State) → IsEditCall command old new (Err NoMemory) → IsWorldEdit command old new (Err NoMemory)
 stopped_is command old new call =
     let e : refusal_message old command ≡ None = not_refused command old other in
     let stop : StopsPartly old new (made_by old command) = call.unmade in
@@ -146,7 +146,7 @@ stopped_is command old new call =
         named_one (cc same)
 
 -- one that made its edit
-made_is : (command : Command) (old new : State) (n : ℕ) → IsEditCall command old new (Ok n) → IsEdit command old new (Ok n)
+made_is : (command : Command) (old new : State) (n : ℕ) → IsEditCall command old new (Ok n) → IsWorldEdit command old new (Ok n)
 made_is command old new n call =
     let e : refusal_message old command ≡ None = not_refused command old other in
     record {
@@ -165,7 +165,7 @@ pub calls_are_edits : CallsAreEdits
 calls_are_edits command old new (Ok n) call = made_is command old new n call
 calls_are_edits command old new (Err fault) call =
     elim (which fault) [
-      | inl e ↦ subst (λ f. IsEdit command old new (Err f)) (sym e) (stopped_is command old new (subst (λ f. IsEditCall command old new (Err f)) e call))
+      | inl e ↦ subst (λ f. IsWorldEdit command old new (Err f)) (sym e) (stopped_is command old new (subst (λ f. IsEditCall command old new (Err f)) e call))
       | inr n ↦ refused_is command old new fault n call
     ]
 

@@ -10,7 +10,7 @@ use Rattle.origin_model.specs.declared.operations.Verdict.TheVariants.{Ready}
 use Rattle.origin_model.specs.operations.History.{has_op, holds}
 use Rattle.origin_model.specs.operations.Verdict.{Lawful, verdict}
 use Rattle.origin_model.specs.order.Laws.{IsPartOf}
-use Rattle.origin_model.specs.taking.Taking.{Accepted, Answer, Held, Waits, answer, intake, joined, settle, settled_within, taken}
+use Rattle.origin_model.specs.taking.Taking.{Accepted, Answer, Held, Waits, answer, intake, joined, settle, settled_within, held_after}
 use Rattle.origin_model.proofs.SharedLemmas.{IsEarliest, earliest_found, has-append, holds-older, within-none, within-some, without}
 use Rattle.origin_model.proofs.SharedLemmas.{accepted_is_ready}
 
@@ -66,10 +66,10 @@ unfolding settle
 settling pool older s g = steps pool older s.waiting s g
 
 -- what the answer changes
-answering : (hold most : ℕ) (pool older : List Op) (s : Held) (op : Op) → has_op pool op ≡ true → IsGrown pool older s → IsGrown pool older (taken (answer hold most s op) s op)
+answering : (hold most : ℕ) (pool older : List Op) (s : Held) (op : Op) → has_op pool op ≡ true → IsGrown pool older s → IsGrown pool older (held_after (answer hold most s op) s op)
 answering hold most pool older s op m g = by_answer (answer hold most s op) refl
   where
-    by_answer : (a : Answer) → answer hold most s op ≡ a → IsGrown pool older (taken a s op)
+    by_answer : (a : Answer) → answer hold most s op ≡ a → IsGrown pool older (held_after a s op)
     by_answer Accepted e = joins pool older s.waiting s op g m (accepted_is_ready hold most s op e) g.waiting_part
     by_answer Waits e =
         record {
@@ -85,4 +85,4 @@ answering hold most pool older s op m g = by_answer (answer hold most s op) refl
 
 -- taking in an operation of the pool
 pub taking_in : (hold most : ℕ) (pool older : List Op) (s : Held) (op : Op) → has_op pool op ≡ true → IsGrown pool older s → IsGrown pool older (intake hold most s op)
-taking_in hold most pool older s op m g = settling pool older (taken (answer hold most s op) s op) (answering hold most pool older s op m g)
+taking_in hold most pool older s op m g = settling pool older (held_after (answer hold most s op) s op) (answering hold most pool older s op m g)

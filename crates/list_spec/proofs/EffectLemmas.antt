@@ -13,7 +13,7 @@ use Rattle.origin_model.specs.declared.operations.Place.TheVariants.{Catalogue a
 use Rattle.origin_model.specs.operations.History.{holds}
 use Rattle.origin_model.specs.operations.Verdict.{Lawful}
 use Rattle.origin_model.specs.order.Printed.{shown}
-use Rattle.origin_model.specs.edits.Edits.{Add, Command, Cut, DropSection, Put, ReadyInTurn, op_of_add, cut_in, deletes_of, id_at, left_for, made, next_counter, put_in, right_for, typed}
+use Rattle.origin_model.specs.edits.Edits.{Add, Command, Cut, DropSection, Put, ReadyInTurn, op_of_add, cut_in, deletes_of, id_at, left_for, made, next_counter, put_in, right_for, typed_texts}
 use Rattle.origin_model.specs.edits.State.{State}
 use Rattle.origin_model.specs.edits.Refusal.{made_by, refusal_message}
 use Rattle.origin_model.specs.edits.Effect.{Lands, with_ops}
@@ -23,7 +23,7 @@ use Rattle.origin_model.proofs.edits.FreshIdLemmas.{IsUnknown}
 use Rattle.origin_model.proofs.edits.NotedLemmas.{noted_ready, noted_shows, noted_unknown, unchanged_shows}
 use Rattle.origin_model.proofs.edits.RefusalLemmas.{edit_lands, made_ready}
 use Rattle.origin_model.proofs.edits.UndecidedLemmas.{made_unknown}
-use Rattle.list_spec.specs.Worlds.{annotated, edited, effect, note_effect}
+use Rattle.list_spec.specs.Worlds.{replica_after_note, replica_after_edit, effect, note_effect}
 use Rattle.list_spec.proofs.PoolLemmas.{IsBy}
 
 -- an edit that is not refused makes its operations
@@ -35,9 +35,9 @@ pub made_none : (command : Command) (s : State) (fault : EditFault) → refusal_
 made_none command s fault e = ap (λ o. elim o [ None ↦ made_by s command | Some fault ↦ [] ]) e
 
 -- the operations are by their replica
-typed_by : (chs : List ℕ) (r c : ℕ) (s : Identifier) (l q : Option Identifier) → All (IsBy r) (typed r c s l q chs)
+typed_by : (chs : List ℕ) (r c : ℕ) (s : Identifier) (l q : Option Identifier) → All (IsBy r) (typed_texts r c s l q chs)
 typed_by [] r c s l q = All-nil (IsBy r)
-typed_by (ch ∷ chs) r c s l q = All-cons (IsBy r) (Text (id_at r c) s l q ch) (typed r (suc c) s (Some (id_at r c)) q chs) refl (typed_by chs r (suc c) s (Some (id_at r c)) q)
+typed_by (ch ∷ chs) r c s l q = All-cons (IsBy r) (Text (id_at r c) s l q ch) (typed_texts r (suc c) s (Some (id_at r c)) q chs) refl (typed_by chs r (suc c) s (Some (id_at r c)) q)
 
 deletes_by : (r : ℕ) (xs : List Identifier) → All (IsBy r) (deletes_of xs)
 deletes_by r xs = All-map (IsBy r) (λ x. Delete x) xs (all_from_contains (λ x. IsBy r (Delete x)) xs (λ x m. tt))
@@ -83,8 +83,8 @@ effect_is command s w = by_refusal (refusal_message s command) refl
     by_refusal (Some fault) e = subst (IsEffect s) (sym (made_none command s fault e)) (record { ready = tt; by = All-nil (IsBy s.number); unknown = All-nil (IsUnknown s.held.waiting) })
 
 -- an edit that is not refused lands where it was asked
-pub lands : (command : Command) (s : State) → Lawful s.held.history → refusal_message s command ≡ None → Lands s (edited command s) command
-lands command s w e = edit_lands command s (edited command s) w e (ap (with_ops s) (made_whole command s e))
+pub lands : (command : Command) (s : State) → Lawful s.held.history → refusal_message s command ≡ None → Lands s (replica_after_edit command s) command
+lands command s w e = edit_lands command s (replica_after_edit command s) w e (ap (with_ops s) (made_whole command s e))
 
 -- a noting that is refused makes nothing
 pub note_refused : (named : List Identifier) (code : ℕ) (body : List ℕ) (s : State) (fault : EditFault) → note_refusal s ≡ Some fault → note_effect s named code body ≡ []
@@ -123,7 +123,7 @@ note_effect_is named code body s w = by_refusal (note_refusal s) refl
         ]
 
 -- a noting shows nothing, and what waits waits
-pub note_quiet : (named : List Identifier) (code : ℕ) (body : List ℕ) (s : State) → ShowsAsBefore s (annotated named code body s) × ((annotated named code body s).held.waiting ≡ s.held.waiting)
+pub note_quiet : (named : List Identifier) (code : ℕ) (body : List ℕ) (s : State) → ShowsAsBefore s (replica_after_note named code body s) × ((replica_after_note named code body s).held.waiting ≡ s.held.waiting)
 note_quiet named code body s = (by (list_all (holds s.held.history) named) (note_refusal s), refl)
   where
     by : (b : Bool) (o : Option EditFault) → ShowsAsBefore s (with_ops s (note_of s named code body b o))

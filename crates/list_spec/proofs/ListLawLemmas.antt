@@ -11,7 +11,7 @@ use Rattle.origin_model.specs.edits.State.{State}
 use Rattle.origin_model.specs.edits.Refusal.{refusal_message}
 use Rattle.origin_model.specs.edits.Effect.{Lands}
 use Rattle.list_spec.specs.StrongList.{EditsLand, IsOneList, IsView, NotingsShowNothing, StrongList}
-use Rattle.list_spec.specs.Worlds.{World, after_events, edited, world}
+use Rattle.list_spec.specs.Worlds.{World, after_events, replica_after_edit, world}
 use Rattle.list_spec.proofs.EffectLemmas.{lands, note_quiet}
 use Rattle.list_spec.proofs.WorldLemmas.{IsMember, events_further, events_keep, events_sound, world_sound}
 
@@ -44,7 +44,7 @@ strong_list replicas earlier later new =
 pub edits_land : EditsLand
 edits_land replicas events command new =
     let w : World = world replicas events in
-    All-weaker (IsMember w.pool) (λ (s : State). refusal_message s command ≡ None → Lands s (edited command s) command) (λ s m e. lands command s m.lawful e) w.replicas (world_sound replicas events new).members
+    All-weaker (IsMember w.pool) (λ (s : State). refusal_message s command ≡ None → Lands s (replica_after_edit command s) command) (λ s m e. lands command s m.lawful e) w.replicas (world_sound replicas events new).members
 
 -- a noting shows nothing
 pub notings_show_nothing : NotingsShowNothing

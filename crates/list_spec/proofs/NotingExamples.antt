@@ -10,7 +10,7 @@ use Rattle.origin_model.specs.order.Order.{chain, order}
 use Rattle.origin_model.specs.taking.Taking.{settle}
 use Rattle.origin_model.specs.edits.Edits.{Add, Put, id_at}
 use Rattle.origin_model.specs.edits.State.{State}
-use Rattle.list_spec.specs.Worlds.{Deliver, Edit, Event, Noting, World, annotated, delivered, world}
+use Rattle.list_spec.specs.Worlds.{Deliver, Edit, Event, Noting, World, replica_after_note, replica_after_delivery, world}
 use Rattle.list_spec.proofs.Examples.{both, replica, section, texts, the_section}
 
 abbrev with_held : State → (history waiting : List Op) → State
@@ -52,7 +52,7 @@ full = record (with_held (replica 1) (the_section ∷ []) []) { most = 1 }
 abbrev spent : State
 spent = with_held (replica 1) (Section (id_at 1 (2 ^ 32 - 1)) None None (codes "T") ∷ []) []
 
-refused : (annotated [] 0 [] full ≡ full) × (annotated [] 0 [] spent ≡ spent)
+refused : (replica_after_note [] 0 [] full ≡ full) × (replica_after_note [] 0 [] spent ≡ spent)
 refused = (refl, refl)
 
 -- replica 2 hears of the note before what it names: it waits, and is accepted behind the section
@@ -81,18 +81,18 @@ shown_as_ever = refl
 abbrev with_name : State
 with_name = with_held (replica 2) [] (Note (id_at 1 5) (id_at 2 8 ∷ []) 0 [] ∷ [])
 
-named_counter : annotated [] 0 [] with_name ≡ with_held (replica 2) (Note (id_at 2 9) [] 0 [] ∷ []) (Note (id_at 1 5) (id_at 2 8 ∷ []) 0 [] ∷ [])
+named_counter : replica_after_note [] 0 [] with_name ≡ with_held (replica 2) (Note (id_at 2 9) [] 0 [] ∷ []) (Note (id_at 1 5) (id_at 2 8 ∷ []) 0 [] ∷ [])
 named_counter = refl
 
 -- a Delete of a note is accepted, and the note stays in the history; where the note is not held, the Delete waits
 abbrev withdrawal : Op
 withdrawal = Delete note_id
 
-withdrawn : delivered withdrawal (with_held (replica 2) (the_note ∷ the_section ∷ []) []) ≡ with_held (replica 2) (withdrawal ∷ the_note ∷ the_section ∷ []) []
+withdrawn : replica_after_delivery withdrawal (with_held (replica 2) (the_note ∷ the_section ∷ []) []) ≡ with_held (replica 2) (withdrawal ∷ the_note ∷ the_section ∷ []) []
 unfolding verdict settle
 withdrawn = refl
 
-withdrawn_early : delivered withdrawal (with_held (replica 2) (the_section ∷ []) []) ≡ with_held (replica 2) (the_section ∷ []) (withdrawal ∷ [])
+withdrawn_early : replica_after_delivery withdrawal (with_held (replica 2) (the_section ∷ []) []) ≡ with_held (replica 2) (the_section ∷ []) (withdrawal ∷ [])
 unfolding verdict settle
 withdrawn_early = refl
 

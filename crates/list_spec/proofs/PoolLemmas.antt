@@ -11,9 +11,9 @@ use Rattle.origin_model.specs.declared.operations.Verdict.TheVariants.{Ready}
 use Rattle.origin_model.specs.operations.History.{has_op, holds, is_own}
 use Rattle.origin_model.specs.operations.Verdict.{Lawful, id_held, names, verdict}
 use Rattle.origin_model.specs.order.Laws.{IsPartOf}
-use Rattle.origin_model.specs.edits.Edits.{ReadyInTurn, extended, id_at}
+use Rattle.origin_model.specs.edits.Edits.{ReadyInTurn, history_with, id_at}
 use Rattle.origin_model.proofs.SharedLemmas.{Within-part, becomes_ready, holds-older, holds-other, holds-own, names_within, own_id, when_ready}
-use Rattle.list_spec.specs.Worlds.{pooled}
+use Rattle.list_spec.specs.Worlds.{pool_with}
 use Rattle.list_spec.proofs.DeliveryLemmas.{part_more}
 
 -- an operation's own identifier, where it has one, has the number r
@@ -73,7 +73,7 @@ pool_one r h pool op p m v =
     ]
 
 -- the operations of an edit, one after another
-pub pool_all : (r : ℕ) (h pool ops : List Op) → IsPoolOf r h pool → All (IsBy r) ops → ReadyInTurn h ops → IsPoolOf r (extended h ops) (pooled pool ops)
+pub pool_all : (r : ℕ) (h pool ops : List Op) → IsPoolOf r h pool → All (IsBy r) ops → ReadyInTurn h ops → IsPoolOf r (history_with h ops) (pool_with pool ops)
 pool_all r h pool [] p m v = p
 pool_all r h pool (op ∷ ops) p m v =
     pool_all r (op ∷ h) (with_one pool op) ops (pool_one r h pool op p (All-head (IsBy r) op ops m) v.0) (All-tail (IsBy r) op ops m) v.1
@@ -83,7 +83,7 @@ one_keeps : (pool : List Op) (op : Op) → IsPartOf pool (with_one pool op)
 one_keeps pool op x k =
     elim (has_op pool op) as (λ b. has_op (if b then pool else op ∷ pool) x ≡ true) [ true ↦ k | false ↦ or_right (op_eq op x) (has_op pool x) k ]
 
-pub pool_keeps : (pool ops : List Op) → IsPartOf pool (pooled pool ops)
+pub pool_keeps : (pool ops : List Op) → IsPartOf pool (pool_with pool ops)
 pool_keeps pool [] x k = k
 pool_keeps pool (op ∷ ops) x k = pool_keeps (with_one pool op) ops x (one_keeps pool op x k)
 
@@ -99,7 +99,7 @@ one_adds r pool op i n m =
       | false ↦ (λ k. sym (holds-other op pool i (other_number r op i n m)) ∙ k)
     ]
 
-pub pool_adds : (r : ℕ) (pool ops : List Op) (i : Identifier) → i.replica ≢ r → All (IsBy r) ops → holds (pooled pool ops) i ≡ true → holds pool i ≡ true
+pub pool_adds : (r : ℕ) (pool ops : List Op) (i : Identifier) → i.replica ≢ r → All (IsBy r) ops → holds (pool_with pool ops) i ≡ true → holds pool i ≡ true
 pool_adds r pool [] i n m k = k
 pool_adds r pool (op ∷ ops) i n m k =
     one_adds r pool op i n (All-head (IsBy r) op ops m) (pool_adds r (with_one pool op) ops i n (All-tail (IsBy r) op ops m) k)

@@ -18,9 +18,9 @@ use Rattle.origin_model.specs.edits.Effect.{IsMade, Lands, LeavesUnmade, with_op
 use Rattle.origin_model.specs.edits.Noting.{AreHeld, IsNoted, RefusesNote, note_by}
 use Rattle.origin_model.specs.declared.edit_fault.EditFault.{EditFault}
 use Rattle.origin_model.specs.declared.edit_fault.EditFault.TheVariants.{NoMemory, NoSection}
-use Rattle.list_spec.specs.Calls.{IsEdit, IsNoteCall, IsNoting}
+use Rattle.list_spec.specs.Calls.{IsWorldEdit, IsNoteCall, IsNoting}
 use Rattle.list_spec.specs.StrongList.{IsOneList, IsView}
-use Rattle.list_spec.specs.Worlds.{AreNew, Event, edited, numbers, world}
+use Rattle.list_spec.specs.Worlds.{AreNew, Event, replica_after_edit, numbers, world}
 
 -- replica 1, with room for 10 operations that wait and 100 in all
 abbrev with_history : List Op → State
@@ -57,20 +57,20 @@ second_is_it xs = elim (slice_get xs 1) [ None ↦ false | Some x ↦ id_eq x (i
 
 edits_land_empty :
     ((replicas : List State) (events : List Event) (command : Command) → AllPairs (λ m n. m ≢ n) (numbers replicas)
-    → All (λ (s : State). refusal_message s command ≡ None → Lands s (edited command s) command) (world replicas events).replicas) → ⊥
+    → All (λ (s : State). refusal_message s command ≡ None → Lands s (replica_after_edit command s) command) (world replicas events).replicas) → ⊥
 unfolding order chain
 edits_land_empty law =
     let add : Command = Add 1 (codes "U") in
-    let lands : Lands twice (edited add twice) add = All-head (λ (s : State). refusal_message s add ≡ None → Lands s (edited add s) add) twice [] (law (twice ∷ []) [] add (one_number twice)) refl in
+    let lands : Lands twice (replica_after_edit add twice) add = All-head (λ (s : State). refusal_message s add ≡ None → Lands s (replica_after_edit add s) add) twice [] (law (twice ∷ []) [] add (one_number twice)) refl in
     true≢false (ap second_is_it lands.splices.here)
 
 -- a refused edit does not land: there is no such position
 edits_land_refused :
-    ((replicas : List State) (events : List Event) (command : Command) → AreNew replicas → All (λ (s : State). Lands s (edited command s) command) (world replicas events).replicas) → ⊥
+    ((replicas : List State) (events : List Event) (command : Command) → AreNew replicas → All (λ (s : State). Lands s (replica_after_edit command s) command) (world replicas events).replicas) → ⊥
 unfolding order chain
 edits_land_refused law =
     let add : Command = Add 5 (codes "T") in
-    let lands : Lands new_one (edited add new_one) add = All-head (λ (s : State). Lands s (edited add s) add) new_one [] (law (new_one ∷ []) [] add alone) in
+    let lands : Lands new_one (replica_after_edit add new_one) add = All-head (λ (s : State). Lands s (replica_after_edit add s) add) new_one [] (law (new_one ∷ []) [] add alone) in
     true≢false (ap (λ xs. nat_eq (length xs) 0) lands.splices.here)
 
 -- the edit that is asked for in these calls, which a new replica does not refuse
@@ -78,15 +78,15 @@ abbrev adding : Command
 adding = Add 0 (codes "T")
 
 -- where it was not made, it is no edit of the world
-not_made : (result : Result ℕ EditFault) → result ≢ Err NoMemory → IsEdit adding new_one new_one result → ⊥
+not_made : (result : Result ℕ EditFault) → result ≢ Err NoMemory → IsWorldEdit adding new_one new_one result → ⊥
 unfolding order chain
 not_made result n edit =
-    true≢false (ap (λ (s : State). nat_eq (length s.held.history) 0) (edit.is ∙ ap (λ command. edited command new_one) (edit.whole n)))
+    true≢false (ap (λ (s : State). nat_eq (length s.held.history) 0) (edit.is ∙ ap (λ command. replica_after_edit command new_one) (edit.whole n)))
 
 -- a call that answers Ok and makes nothing
 calls_made :
     ((command : Command) (old new : State) (result : Result ℕ EditFault) → RefusesExactly old command result → IfErr result (λ fault. LeavesUnmade old new command fault)
-    → IsEdit command old new result) → ⊥
+    → IsWorldEdit command old new result) → ⊥
 unfolding order chain
 calls_made law =
     not_made (Ok 1) (λ e. cc e) (law adding new_one new_one (Ok 1) (λ fault n. (λ e. cc e, λ e. cc e)) tt)
@@ -94,17 +94,17 @@ calls_made law =
 -- one that refuses an edit for which there is no cause
 calls_refused :
     ((command : Command) (old new : State) (result : Result ℕ EditFault) → IfOk result (λ n. IsMade old new command n) → IfErr result (λ fault. LeavesUnmade old new command fault)
-    → IsEdit command old new result) → ⊥
+    → IsWorldEdit command old new result) → ⊥
 calls_refused law = not_made (Err NoSection) (λ e. cc e) (law adding new_one new_one (Err NoSection) tt refl)
 
 -- one that for want of memory leaves another replica
 calls_unmade :
     ((command : Command) (old new : State) (result : Result ℕ EditFault) → IfOk result (λ n. IsMade old new command n) → RefusesExactly old command result
-    → IsEdit command old new result) → ⊥
+    → IsWorldEdit command old new result) → ⊥
 unfolding order chain
 calls_unmade law =
     let other : State = record new_one { number = 2 } in
-    let edit : IsEdit adding new_one other (Err NoMemory) = law adding new_one other (Err NoMemory) tt (λ fault n. (λ e. absurd (n (cc e)), λ e. cc e)) in
+    let edit : IsWorldEdit adding new_one other (Err NoMemory) = law adding new_one other (Err NoMemory) tt (λ fault n. (λ e. absurd (n (cc e)), λ e. cc e)) in
     false≢true (ap (λ (s : State). nat_eq s.number 1) edit.is)
 
 -- a replica with the note that is asked for in these calls

@@ -15,7 +15,7 @@ use Rattle.origin_model.specs.edits.Edits.{id_at}
 use Rattle.origin_model.proofs.edits.MadeLemmas.{ready_lawful}
 use Rattle.origin_model.specs.edits.State.{State}
 use Rattle.origin_model.specs.edits.Effect.{with_ops}
-use Rattle.list_spec.specs.Worlds.{AreNew, Deliver, Edit, Event, Noting, World, after_event, after_events, after_making, changed, delivered, effect, made_at, note_effect, numbers, pooled, world}
+use Rattle.list_spec.specs.Worlds.{AreNew, Deliver, Edit, Event, Noting, World, after_event, after_events, after_making, changed_world, replica_after_delivery, effect, made_at, note_effect, numbers, pool_with, world}
 use Rattle.list_spec.proofs.DeliveryLemmas.{taking_in}
 use Rattle.list_spec.proofs.EffectLemmas.{IsEffect, effect_is, note_effect_is}
 use Rattle.list_spec.proofs.PoolLemmas.{HoldsOwn, IsBy, pool_adds, pool_all, pool_keeps}
@@ -60,7 +60,7 @@ find_at n (s ∷ ss) d =
     ]
 
 -- where no replica has the number, none changes and nothing is made
-pub none_changes : (n : ℕ) (f : State → State) (ss : List State) → All (HasOther n) ss → changed n f ss ≡ ss
+pub none_changes : (n : ℕ) (f : State → State) (ss : List State) → All (HasOther n) ss → changed_world n f ss ≡ ss
 none_changes n f [] a = refl
 none_changes n f (s ∷ ss) a = λ i. (if ne_eqb s.number n (All-head (HasOther n) s ss a) i then f s else s) ∷ none_changes n f ss (All-tail (HasOther n) s ss a) i
 
@@ -69,7 +69,7 @@ none_makes n makes [] a = refl
 none_makes n makes (s ∷ ss) a = λ i. (if ne_eqb s.number n (All-head (HasOther n) s ss a) i then makes s else []) ++ none_makes n makes ss (All-tail (HasOther n) s ss a) i
 
 -- otherwise that one changes
-pub one_changes : (n : ℕ) (f : State → State) (ss : List State) (k : IsAt n ss) → changed n f ss ≡ k.front ++ f k.it ∷ k.back
+pub one_changes : (n : ℕ) (f : State → State) (ss : List State) (k : IsAt n ss) → changed_world n f ss ≡ k.front ++ f k.it ∷ k.back
 one_changes n f ss k =
     let g : State → State = λ s. if nat_eq s.number n then f s else s in
     ap (map g) k.whole ∙ map-append g k.front (k.it ∷ k.back)
@@ -83,7 +83,7 @@ one_makes n makes ss k =
     ap (flat_map g) k.whole ∙ flat_map-append g k.front (k.it ∷ k.back) ∙ (λ i. none_makes n makes k.front k.before i ++ at i)
 
 -- a change that keeps numbers keeps those of all
-numbers_stay : (n : ℕ) (f : State → State) (ss : List State) → ((s : State) → (f s).number ≡ s.number) → numbers (changed n f ss) ≡ numbers ss
+numbers_stay : (n : ℕ) (f : State → State) (ss : List State) → ((s : State) → (f s).number ≡ s.number) → numbers (changed_world n f ss) ≡ numbers ss
 numbers_stay n f [] e = refl
 numbers_stay n f (s ∷ ss) e =
     let here : (b : Bool) → (if b then f s else s).number ≡ s.number = λ b. elim b as (λ b. (if b then f s else s).number ≡ s.number) [ true ↦ e s | false ↦ refl ] in
@@ -98,7 +98,7 @@ record IsBehind (pool : List Op) (s : State) : Type 0 where
   lawful : Lawful pool
   member : IsMember pool s
 
-gains : (pool ops : List Op) (s : State) → Lawful pool → IsMember pool s → IsEffect s ops → IsBehind (pooled pool ops) (with_ops s ops)
+gains : (pool ops : List Op) (s : State) → Lawful pool → IsMember pool s → IsEffect s ops → IsBehind (pool_with pool ops) (with_ops s ops)
 gains pool ops s w m e =
     let p = pool_all s.number s.held.history pool ops (record { lawful = w; part = m.history_part; own = m.own }) e.by e.ready in
     record {
@@ -112,7 +112,7 @@ gains pool ops s w m e =
     }
 
 -- another replica
-stays : (pool ops : List Op) (n : ℕ) (s : State) → All (IsBy n) ops → HasOther n s → IsMember pool s → IsMember (pooled pool ops) s
+stays : (pool ops : List Op) (n : ℕ) (s : State) → All (IsBy n) ops → HasOther n s → IsMember pool s → IsMember (pool_with pool ops) s
 stays pool ops n s by other m =
     record {
       lawful = m.lawful;
@@ -121,10 +121,10 @@ stays pool ops n s by other m =
       own = λ c k. m.own c (pool_adds n pool ops (id_at s.number c) other by k);
     }
 
-others_stay : (pool ops : List Op) (n : ℕ) (ss : List State) → All (IsBy n) ops → All (HasOther n) ss → All (IsMember pool) ss → All (IsMember (pooled pool ops)) ss
-others_stay pool ops n [] by other m = All-nil (IsMember (pooled pool ops))
+others_stay : (pool ops : List Op) (n : ℕ) (ss : List State) → All (IsBy n) ops → All (HasOther n) ss → All (IsMember pool) ss → All (IsMember (pool_with pool ops)) ss
+others_stay pool ops n [] by other m = All-nil (IsMember (pool_with pool ops))
 others_stay pool ops n (s ∷ ss) by other m =
-    All-cons (IsMember (pooled pool ops)) s ss (stays pool ops n s by (All-head (HasOther n) s ss other) (All-head (IsMember pool) s ss m))
+    All-cons (IsMember (pool_with pool ops)) s ss (stays pool ops n s by (All-head (HasOther n) s ss other) (All-head (IsMember pool) s ss m))
     (others_stay pool ops n ss by (All-tail (HasOther n) s ss other) (All-tail (IsMember pool) s ss m))
 
 -- what is so of every world
@@ -142,7 +142,7 @@ making_goes w n makes own g =
     let made : State → State = λ s. with_ops s (makes s) in
     elim (find_at n w.replicas g.distinct) [
       | inl a ↦ subst (λ (x : World). Goes x.pool x.replicas)
-          (λ i. record { replicas = sym (none_changes n made w.replicas a) i; pool = pooled w.pool (sym (none_makes n makes w.replicas a) i) })
+          (λ i. record { replicas = sym (none_changes n made w.replicas a) i; pool = pool_with w.pool (sym (none_makes n makes w.replicas a) i) })
           (g.lawful, g.members)
       | inr k ↦
           let ops : List Op = makes k.it in
@@ -152,9 +152,9 @@ making_goes w n makes own g =
           let its : IsEffect k.it ops = own k.it it.lawful in
           let by : All (IsBy n) ops = subst (λ m. All (IsBy m) ops) k.number its.by in
           let new = gains w.pool ops k.it g.lawful it its in
-          let M : State → Type 0 = IsMember (pooled w.pool ops) in
+          let M : State → Type 0 = IsMember (pool_with w.pool ops) in
           subst (λ (x : World). Goes x.pool x.replicas)
-          (λ i. record { replicas = sym (one_changes n made w.replicas k) i; pool = pooled w.pool (sym (one_makes n makes w.replicas k) i) }) (
+          (λ i. record { replicas = sym (one_changes n made w.replicas k) i; pool = pool_with w.pool (sym (one_makes n makes w.replicas k) i) }) (
             new.lawful,
             All-append M k.front (made k.it ∷ k.back)
                 (others_stay w.pool ops n k.front by k.before (all_before (IsMember w.pool) k.front (k.it ∷ k.back) all))
@@ -163,16 +163,16 @@ making_goes w n makes own g =
     ]
 
 -- a replica behind a delivery
-receives : (pool : List Op) (op : Op) (s : State) → has_op pool op ≡ true → IsMember pool s → IsMember pool (delivered op s)
+receives : (pool : List Op) (op : Op) (s : State) → has_op pool op ≡ true → IsMember pool s → IsMember pool (replica_after_delivery op s)
 receives pool op s k m =
     let g = taking_in s.hold s.most pool s.held.history s.held op k (record { lawful = m.lawful; history_part = m.history_part; waiting_part = m.waiting_part; keeps = λ i h. h }) in
     record { lawful = g.lawful; history_part = g.history_part; waiting_part = g.waiting_part; own = λ c h. g.keeps (id_at s.number c) (m.own c h) }
 
-receive_all : (pool : List Op) (op : Op) (n : ℕ) (ss : List State) → has_op pool op ≡ true → All (IsMember pool) ss → All (IsMember pool) (changed n (delivered op) ss)
+receive_all : (pool : List Op) (op : Op) (n : ℕ) (ss : List State) → has_op pool op ≡ true → All (IsMember pool) ss → All (IsMember pool) (changed_world n (replica_after_delivery op) ss)
 receive_all pool op n ss k m =
-    All-map (IsMember pool) (λ (s : State). if nat_eq s.number n then delivered op s else s) ss
-    (All-weaker (IsMember pool) (λ (s : State). IsMember pool (if nat_eq s.number n then delivered op s else s))
-    (λ s x. elim (nat_eq s.number n) as (λ b. IsMember pool (if b then delivered op s else s)) [ true ↦ receives pool op s k x | false ↦ x ]) ss m)
+    All-map (IsMember pool) (λ (s : State). if nat_eq s.number n then replica_after_delivery op s else s) ss
+    (All-weaker (IsMember pool) (λ (s : State). IsMember pool (if nat_eq s.number n then replica_after_delivery op s else s))
+    (λ s x. elim (nat_eq s.number n) as (λ b. IsMember pool (if b then replica_after_delivery op s else s)) [ true ↦ receives pool op s k x | false ↦ x ]) ss m)
 
 -- what a replica makes keeps a world sound
 making_sound : (w : World) (n : ℕ) (makes : State → List Op) → MakesOwn makes → IsSound w → IsSound (after_making w n makes)
@@ -189,12 +189,12 @@ pub event_sound : (w : World) (event : Event) → IsSound w → IsSound (after_e
 event_sound w (Edit n command) g = making_sound w n (λ (s : State). effect s command) (effect_is command) g
 event_sound w (Noting n named code body) g = making_sound w n (λ (s : State). note_effect s named code body) (note_effect_is named code body) g
 event_sound w (Deliver n op) g =
-    let new : World = record { replicas = changed n (delivered op) w.replicas; pool = w.pool } in
+    let new : World = record { replicas = changed_world n (replica_after_delivery op) w.replicas; pool = w.pool } in
     elim (cases_Bool (has_op w.pool op)) [
       | inl t ↦ subst IsSound (sym (ap (λ b. if b then new else w) t))
           (record {
             lawful = g.lawful;
-            distinct = subst (AllPairs (λ m k. m ≢ k)) (sym (numbers_stay n (delivered op) w.replicas (λ s. refl))) g.distinct;
+            distinct = subst (AllPairs (λ m k. m ≢ k)) (sym (numbers_stay n (replica_after_delivery op) w.replicas (λ s. refl))) g.distinct;
             members = receive_all w.pool op n w.replicas t g.members;
           })
       | inr t ↦ subst IsSound (sym (ap (λ b. if b then new else w) t)) g
@@ -221,7 +221,7 @@ pub event_keeps : (w : World) (event : Event) → IsPartOf w.pool (after_event w
 event_keeps w (Edit n command) x k = pool_keeps w.pool (made_at n (λ (s : State). effect s command) w.replicas) x k
 event_keeps w (Noting n named code body) x k = pool_keeps w.pool (made_at n (λ (s : State). note_effect s named code body) w.replicas) x k
 event_keeps w (Deliver n op) x k =
-    let new : World = record { replicas = changed n (delivered op) w.replicas; pool = w.pool } in
+    let new : World = record { replicas = changed_world n (replica_after_delivery op) w.replicas; pool = w.pool } in
     elim (has_op w.pool op) as (λ b. has_op (if b then new else w).pool x ≡ true) [ true ↦ k | false ↦ k ]
 
 pub events_keep : (w : World) (events : List Event) → IsPartOf w.pool (after_events w events).pool

@@ -32,6 +32,7 @@ abbrev pub brought : ℕ → World → List Event → List Op
 brought n w [] = []
 brought n w (event ∷ events) = brought_by n w event ++ brought n (after_event w event) events
 
+-- the answers of the replica n to all that events bring it
 abbrev pub all_answers : ℕ → World → List Event → List Answer
 all_answers n w [] = []
 all_answers n w (event ∷ events) = answers_to n w event ++ all_answers n (after_event w event) events

@@ -8,7 +8,7 @@ use Rattle.origin_model.specs.edits.Effect.{IsMade, LeavesUnmade}
 use Rattle.origin_model.specs.edits.Noting.{AreHeld, IsNoted, RefusesNote}
 use Rattle.origin_model.specs.declared.edit_fault.EditFault.{EditFault}
 use Rattle.origin_model.specs.declared.edit_fault.EditFault.TheVariants.{NoMemory}
-use Rattle.list_spec.specs.Worlds.{annotated, edited, effect}
+use Rattle.list_spec.specs.Worlds.{replica_after_note, replica_after_edit, effect}
 
 -- what `put`, `cut`, `add` and `drop_section` promise of the edit that they are asked for
 pub record IsEditCall (command : Command) (old new : State) (result : Result ℕ EditFault) : Type 0 where
@@ -17,16 +17,16 @@ pub record IsEditCall (command : Command) (old new : State) (result : Result ℕ
   pub unmade : IfErr result (λ fault. LeavesUnmade old new command fault)
 
 -- the call is an edit of the world: the one that was asked for or, where memory was wanting, a smaller one, which makes the first of its operations
-pub record IsEdit (command : Command) (old new : State) (result : Result ℕ EditFault) : Type 0 where
+pub record IsWorldEdit (command : Command) (old new : State) (result : Result ℕ EditFault) : Type 0 where
   pub done : Command
-  pub is : new ≡ edited done old
+  pub is : new ≡ replica_after_edit done old
   pub count : ℕ
   pub part : effect old done ≡ take count (effect old command)
   pub whole : result ≢ Err NoMemory → done ≡ command
 
 -- every such call is an edit
 abbrev pub CallsAreEdits : Type 0
-CallsAreEdits = (command : Command) (old new : State) (result : Result ℕ EditFault) → IsEditCall command old new result → IsEdit command old new result
+CallsAreEdits = (command : Command) (old new : State) (result : Result ℕ EditFault) → IsEditCall command old new result → IsWorldEdit command old new result
 
 -- what `note` promises of the note that it is asked for
 pub record IsNoteCall (named : List Identifier) (code : ℕ) (body : List ℕ) (old new : State) (result : Result ℕ EditFault) : Type 0 where
@@ -36,7 +36,7 @@ pub record IsNoteCall (named : List Identifier) (code : ℕ) (body : List ℕ) (
 
 -- the call is a noting of the world or, where memory was wanting, no event of it
 pub record IsNoting (named : List Identifier) (code : ℕ) (body : List ℕ) (old new : State) (result : Result ℕ EditFault) : Type 0 where
-  pub is : result ≢ Err NoMemory → new ≡ annotated named code body old
+  pub is : result ≢ Err NoMemory → new ≡ replica_after_note named code body old
   pub unmade : result ≡ Err NoMemory → new ≡ old
 
 -- so is every such call where all that is named is held

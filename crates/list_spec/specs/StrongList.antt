@@ -14,7 +14,7 @@ use Rattle.origin_model.specs.edits.State.{State}
 use Rattle.origin_model.specs.edits.Refusal.{refusal_message}
 use Rattle.origin_model.specs.edits.Effect.{Lands}
 use Rattle.origin_model.specs.edits.Noting.{ShowsAsBefore}
-use Rattle.list_spec.specs.Worlds.{AreNew, Event, annotated, edited, world}
+use Rattle.list_spec.specs.Worlds.{AreNew, Event, replica_after_note, replica_after_edit, world}
 
 -- a replica's history is lawful and made of operations of the pool; its elements stand in the order of the pool, with those that it lacks left out, and of these it shows the ones that no Delete of its own history names
 pub record IsView (pool history : List Op) : Type 0 where
@@ -37,10 +37,10 @@ StrongList = (replicas : List State) (earlier later : List Event) → AreNew rep
 abbrev pub EditsLand : Type 0
 EditsLand =
     (replicas : List State) (events : List Event) (command : Command) → AreNew replicas
-    → All (λ (s : State). refusal_message s command ≡ None → Lands s (edited command s) command) (world replicas events).replicas
+    → All (λ (s : State). refusal_message s command ≡ None → Lands s (replica_after_edit command s) command) (world replicas events).replicas
 
 -- a noting leaves what each place has and shows, and what waits
 abbrev pub NotingsShowNothing : Type 0
 NotingsShowNothing =
     (named : List Identifier) (code : ℕ) (body : List ℕ) (s : State)
-    → ShowsAsBefore s (annotated named code body s) × ((annotated named code body s).held.waiting ≡ s.held.waiting)
+    → ShowsAsBefore s (replica_after_note named code body s) × ((replica_after_note named code body s).held.waiting ≡ s.held.waiting)

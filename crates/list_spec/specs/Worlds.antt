@@ -26,6 +26,7 @@ pub record World : Type 0 where
   pub replicas : List State
   pub pool : List Op
 
+-- the numbers of the replicas
 abbrev pub numbers : List State → List ℕ
 numbers replicas = map (λ (s : State). s.number) replicas
 
@@ -39,8 +40,8 @@ abbrev pub effect : State → Command → List Op
 effect s command = elim (refusal_message s command) [ None ↦ made_by s command | Some fault ↦ [] ]
 
 -- the replica behind an edit
-abbrev pub edited : Command → State → State
-edited command s = with_ops s (effect s command)
+abbrev pub replica_after_edit : Command → State → State
+replica_after_edit command s = with_ops s (effect s command)
 
 -- the operation of a noting: none where it is refused, or names what is not held
 abbrev pub note_effect : State → (named : List Identifier) → (code : ℕ) → (body : List ℕ) → List Op
@@ -48,38 +49,39 @@ note_effect s named code body =
     elim (note_refusal s) [ None ↦ if list_all (holds s.held.history) named then note_by s named code body ∷ [] else [] | Some fault ↦ [] ]
 
 -- the replica behind a noting
-abbrev pub annotated : (named : List Identifier) → (code : ℕ) → (body : List ℕ) → State → State
-annotated named code body s = with_ops s (note_effect s named code body)
+abbrev pub replica_after_note : (named : List Identifier) → (code : ℕ) → (body : List ℕ) → State → State
+replica_after_note named code body s = with_ops s (note_effect s named code body)
 
 -- the replica behind a delivery
-abbrev pub delivered : Op → State → State
-delivered op s = record s { held = intake s.hold s.most s.held op }
+abbrev pub replica_after_delivery : Op → State → State
+replica_after_delivery op s = record s { held = intake s.hold s.most s.held op }
 
 -- the replicas where the one with this number changed
-abbrev pub changed : ℕ → (State → State) → List State → List State
-changed number change replicas = map (λ (s : State). if nat_eq s.number number then change s else s) replicas
+abbrev pub changed_world : ℕ → (State → State) → List State → List State
+changed_world number change replicas = map (λ (s : State). if nat_eq s.number number then change s else s) replicas
 
 -- the operations that the replica with this number makes
 abbrev pub made_at : ℕ → (State → List Op) → List State → List Op
 made_at number makes replicas = flat_map (λ (s : State). if nat_eq s.number number then makes s else []) replicas
 
 -- the pool with operations that it lacks, in the order in which they were made
-abbrev pub pooled : List Op → List Op → List Op
-pooled pool [] = pool
-pooled pool (op ∷ ops) = pooled (if has_op pool op then pool else op ∷ pool) ops
+abbrev pub pool_with : List Op → List Op → List Op
+pool_with pool [] = pool
+pool_with pool (op ∷ ops) = pool_with (if has_op pool op then pool else op ∷ pool) ops
 
 -- the world where the replica with this number made operations
 abbrev pub after_making : World → ℕ → (State → List Op) → World
 after_making w number makes =
-    record { replicas = changed number (λ (s : State). with_ops s (makes s)) w.replicas; pool = pooled w.pool (made_at number makes w.replicas) }
+    record { replicas = changed_world number (λ (s : State). with_ops s (makes s)) w.replicas; pool = pool_with w.pool (made_at number makes w.replicas) }
 
 -- the world behind an event; only what was made can be delivered
 abbrev pub after_event : World → Event → World
 after_event w (Edit number command) = after_making w number (λ (s : State). effect s command)
 after_event w (Noting number named code body) = after_making w number (λ (s : State). note_effect s named code body)
 after_event w (Deliver number op) =
-    if has_op w.pool op then record { replicas = changed number (delivered op) w.replicas; pool = w.pool } else w
+    if has_op w.pool op then record { replicas = changed_world number (replica_after_delivery op) w.replicas; pool = w.pool } else w
 
+-- the world after these events
 abbrev pub after_events : World → List Event → World
 after_events w [] = w
 after_events w (event ∷ events) = after_events (after_event w event) events

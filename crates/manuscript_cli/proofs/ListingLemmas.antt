@@ -12,7 +12,7 @@ use Rattle.fugue_ids.specs.declared.limits.TheConstants.{MOST_OPERATIONS}
 use Rattle.fugue_ids.specs.declared.op.Op.{Op}
 use Rattle.fugue_ids.proofs.IdentifierLemmas.{index_of-at}
 use Rattle.origin_model.specs.declared.operations.Place.TheVariants.{Catalogue as catalogue}
-use Rattle.origin_model.specs.edits.State.{State as Replica, Stands}
+use Rattle.origin_model.specs.edits.State.{State as Replica, IsSound}
 use Rattle.origin_model.specs.operations.Verdict.{Lawful}
 use Rattle.origin_model.specs.order.Order.{order}
 use Rattle.origin_model.specs.order.Printed.{is_hidden, shown}
@@ -22,7 +22,7 @@ use Rattle.catalogue_notes.specs.Arranged.{arranged}
 use Rattle.catalogue_notes.specs.Outlining.{IsEntry, IsOutline, entry_sections}
 use Rattle.catalogue_notes.specs.declared.entry.Entry.{Entry}
 use Rattle.catalogue_notes.proofs.ArrangedLemmas.{arranged_length}
-use Rattle.manuscript_cli.specs.Listing.{cluster_count, counted_from, counted_line, entry_line, in_brackets, lines_from, list_line, list_text, number_of, replica_line}
+use Rattle.manuscript_cli.specs.Listing.{cluster_count, counted_from, counted_line, entry_line, in_brackets, section_lines, list_line, list_text, number_of, replica_line}
 use Rattle.manuscript_cli.specs.declared.list.Counted.{Counted}
 
 -- one more is counted
@@ -66,7 +66,7 @@ behind (suc k) (y ∷ xs) x rest e = behind k xs x rest e
 
 -- what is written of the entries from there on
 lines_behind : (h : List Op) (all : List Entry) (at : ℕ) (rest : List Entry) → Lawful h → drop at all ≡ rest → All (IsEntry h) rest
-    → flat_map (counted_line all) (counted_from h at (entry_sections rest)) ≡ lines_from h (suc at) (entry_sections rest)
+    → flat_map (counted_line all) (counted_from h at (entry_sections rest)) ≡ section_lines h (suc at) (entry_sections rest)
 lines_behind h all at [] w is each = refl
 lines_behind h all at (e ∷ rest) w is each =
     let here = behind at all e rest is in
@@ -75,22 +75,22 @@ lines_behind h all at (e ∷ rest) w is each =
     (λ i. line i ++ lines_behind h all (suc at) rest w here.1 (All-tail (IsEntry h) e rest each) i)
 
 -- all of them are the lines of the arrangement
-pub all_lines : (h : List Op) (entries : List Entry) → Lawful h → IsOutline h entries → flat_map (counted_line entries) (counted_from h 0 (entry_sections entries)) ≡ lines_from h 1 (arranged h)
-all_lines h entries w is = lines_behind h entries 0 entries w refl is.each ∙ ap (lines_from h 1) is.listed
+pub all_lines : (h : List Op) (entries : List Entry) → Lawful h → IsOutline h entries → flat_map (counted_line entries) (counted_from h 0 (entry_sections entries)) ≡ section_lines h 1 (arranged h)
+all_lines h entries w is = lines_behind h entries 0 entries w refl is.each ∙ ap (section_lines h 1) is.listed
 
 -- sections are few
-pub few_numbers : (replica : Replica) → Stands replica → (e : Entry) → IsEntry replica.held.history e → e.number < MOST_OPERATIONS
+pub few_numbers : (replica : Replica) → IsSound replica → (e : Entry) → IsEntry replica.held.history e → e.number < MOST_OPERATIONS
 few_numbers replica st e is =
     let h = replica.held.history in
     omega (arith, slice_get_within (shown catalogue h) e.number e.section is.numbered, shown_bounded catalogue h, st.few, st.most_within)
 
-pub few_entries : (replica : Replica) → Stands replica → (entries : List Entry) → IsOutline replica.held.history entries → length entries ≤ MOST_OPERATIONS
+pub few_entries : (replica : Replica) → IsSound replica → (entries : List Entry) → IsOutline replica.held.history entries → length entries ≤ MOST_OPERATIONS
 few_entries replica st entries is =
     let h = replica.held.history in
     omega (arith, length-map entries (λ (e : Entry). e.section), ap length is.listed, arranged_length h st.lawful, shown_bounded catalogue h, st.few, st.most_within)
 
 -- the line of the replica and those of the entries are all of it
-pub listed : (replica : Replica) (entries : List Entry) (counts : List Counted) → Stands replica → IsOutline replica.held.history entries
+pub listed : (replica : Replica) (entries : List Entry) (counts : List Counted) → IsSound replica → IsOutline replica.held.history entries
     → counts ≡ counted_from replica.held.history 0 (entry_sections entries) → replica_line replica ++ flat_map (counted_line entries) counts ≡ list_text replica
 listed replica entries counts st is e =
     ap (λ l. replica_line replica ++ l) (ap (flat_map (counted_line entries)) e ∙ all_lines replica.held.history entries st.lawful is)

@@ -9,7 +9,7 @@ use Rattle.origin_model.specs.files.Image.{Batch, Content, batch_ops}
 use Rattle.origin_model.specs.operations.History.{accepted}
 use Rattle.origin_model.specs.taking.Taking.{held}
 use Rattle.replica_file.proofs.AppendLemmas.{same_content}
-use Rattle.version_views.specs.Fronts.{Grows}
+use Rattle.version_views.specs.Fronts.{GrowsHistory}
 use Rattle.version_views.proofs.FrontMakingLemmas.{files_grow}
 use Rattle.batch_moments.specs.Lines.{RiseTo}
 use Rattle.batch_moments.proofs.LawLemmas.{tell_all}
@@ -18,7 +18,7 @@ use Rattle.origin_model.specs.edits.State.{State as Replica}
 use Rattle.outer_ports.specs.disk.Disks.{DiskView}
 use Rattle.outer_ports.specs.disk.Moments.{History}
 use Rattle.replica_file.specs.Load.{Loads}
-use Rattle.replica_file.specs.Moments.{HasMoments, accepted_by, moment, moments_behind, moments_of}
+use Rattle.replica_file.specs.Moments.{HasMoments, accepted_by, new_moment, moments_behind, moments_of}
 use Rattle.replica_file.specs.declared.load_file.End.{End}
 use Rattle.replica_file.proofs.MomentLemmas.{some_moments}
 use Rattle.command_kinds.proofs.ReportLemmas.{TellsOnce}
@@ -39,7 +39,7 @@ moments_of_some file = by_past file.past
 -- one batch more takes none away
 batch_grows : (hold : ℕ) (earlier : List Batch) (batch : Batch) → accepted_by hold earlier ≤ accepted_by hold (earlier ++ batch ∷ [])
 batch_grows hold earlier batch =
-    let grows : Grows (held hold MOST_OPERATIONS (batch_ops earlier)).history (held hold MOST_OPERATIONS (batch_ops earlier ++ batch_ops (batch ∷ []))).history = files_grow hold MOST_OPERATIONS (batch_ops earlier) (batch_ops (batch ∷ [])) in
+    let grows : GrowsHistory (held hold MOST_OPERATIONS (batch_ops earlier)).history (held hold MOST_OPERATIONS (batch_ops earlier ++ batch_ops (batch ∷ []))).history = files_grow hold MOST_OPERATIONS (batch_ops earlier) (batch_ops (batch ∷ [])) in
     let ops : batch_ops (earlier ++ batch ∷ []) ≡ batch_ops earlier ++ batch_ops (batch ∷ []) = flat_map-append (λ (b : Batch). b.ops) earlier (batch ∷ []) in
     omega (
       arith,
@@ -49,7 +49,7 @@ batch_grows hold earlier batch =
     )
 
 -- a moment, and those behind it
-rise_more : (before now to : ℕ) (moments : List ℕ) → before ≤ now → RiseTo now moments to → RiseTo before (moment before now ++ moments) to
+rise_more : (before now to : ℕ) (moments : List ℕ) → before ≤ now → RiseTo now moments to → RiseTo before (new_moment before now ++ moments) to
 rise_more before now to moments grows rise = elim (cases_lt before now) [
   | inl less ↦ subst (λ (b : Bool). RiseTo before ((if b then now ∷ [] else []) ++ moments) to) (sym (lt-ltb before now less)) (less, rise)
   | inr not_less ↦

@@ -5,7 +5,7 @@ use Rattle.std.proofs.lemmas.List.{length-append}
 use Rattle.fugue_ids.specs.declared.op.Op.{Op}
 use Rattle.origin_model.specs.taking.Taking.{held}
 use Rattle.catalogue_notes.specs.Arranged.{arranged_text}
-use Rattle.version_views.specs.Fronts.{Grows}
+use Rattle.version_views.specs.Fronts.{GrowsHistory}
 use Rattle.version_views.specs.Views.{first_ops}
 use Rattle.version_views.proofs.FrontMakingLemmas.{files_grow, first_stays}
 use Rattle.command_kinds.specs.Findings.{Does, Refuses}
@@ -27,6 +27,6 @@ pub past_stays : PastStays
 past_stays n hold most ops more l =
     let old : List Op = (held hold most ops).history in
     let new : List Op = (held hold most (ops ++ more)).history in
-    let g : Grows old new = files_grow hold most ops more in
+    let g : GrowsHistory old new = files_grow hold most ops more in
     let longer : n ≤ length new = omega (arith, ap length g.grown, length-append g.newer old, l) in
     past_within n new longer ∙ ap (λ h. Does (arranged_text h)) (first_stays n old new g l) ∙ sym (past_within n old l)

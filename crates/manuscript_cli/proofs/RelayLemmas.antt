@@ -2,24 +2,24 @@
 use Rattle.std.proofs.Common.{◌≡◌, ◌≢◌, refl, ℕ, ◌<◌, ◌≤◌, List, length, ◌++◌, ap, sym, subst, ◌∙◌, inl, inr, arith}
 use Rattle.std.specs.Prelude.{IsSome, Option, None, Some, Result, Ok, Err, is_some, option_map}
 use Rattle.std.specs.Io.KnownBytes.{append_known}
-use Rattle.fugue_ids.specs.Causes.{Rose}
-use Rattle.fugue_ids.specs.Outs.{OutView, Took, spent}
+use Rattle.fugue_ids.specs.Causes.{Faulted}
+use Rattle.fugue_ids.specs.Outs.{OutView, Took, room_after}
 use Rattle.origin_model.specs.relay.Relay.{Relay, new_relay}
 use Rattle.outer_ports.specs.Latest.{once_more}
 use Rattle.outer_ports.specs.dock.Docks.{DockTells, DockView, listening_of, out_to}
 use Rattle.outer_ports.specs.declared.dock.Listening.{Listening}
 use Rattle.outer_ports.specs.declared.latest.Latest.{Latest}
-use Rattle.outer_ports.specs.declared.dock.mem_dock.MemStep.{MemStep}
+use Rattle.outer_ports.specs.declared.dock.MemStep.{MemStep}
 use Rattle.relay_core.specs.declared.relay.TheConstants.{MOST_LOGGED}
 use Rattle.relay_sync.specs.Sending.{DockRisesFor}
-use Rattle.relay_sync.specs.Serving.{BlamesDock, Comes, GaveSteps, Lasts, NoneAfter, Serves, ServesPartly, ServingStops, Spends, StopsInTurn, Suffices, Turn, closed_in, count_over, ended_in, ends_behind, sent_to, steps_of}
+use Rattle.relay_sync.specs.Serving.{BlamesDock, HaveCome, GaveSteps, Lasts, NoneAfter, Serves, ServesPartly, ServingStops, Spends, StopsInTurn, SufficesForDock, ServedStep, closed_in, count_over, ended_in, ends_behind, sent_to, steps_of}
 use Rattle.relay_sync.specs.declared.serving.ServeFault.{ServeFault}
 use Rattle.relay_sync.specs.declared.serving.ServeFault.TheVariants as serve_fault
 use Rattle.command_kinds.proofs.TextLemmas.{told_blameless}
 use Rattle.command_kinds.specs.Printing.{NoteMeets, NotesBlameless}
-use Rattle.command_kinds.specs.Refusal.{refusal_line, serve_refusal, status_of, Told}
+use Rattle.command_kinds.specs.Refusal.{refusal_line, serve_refusal, status_of, Reported}
 use Rattle.manuscript_cli.specs.Relay.{CallsAreSure, IsEnough, IsIdle, NeverBlamed, RelayMeets, Relays, RiseOutside, ServingMeets, listening, log_line, most_steps, ready_line}
-use Rattle.command_kinds.specs.Changes.{Change, HasRoom, StaysCalm, change, notes_room}
+use Rattle.command_kinds.specs.Changes.{Change, HasRoom, CountsNoFault, change, notes_room}
 use Rattle.command_kinds.specs.declared.refusal.Refusal.{Refusal}
 use Rattle.command_kinds.specs.declared.refusal.Refusal.TheVariants as refusal
 use Rattle.command_kinds.specs.declared.status.Status.{Status}
@@ -30,31 +30,31 @@ module _ (first second last : DockView) (idle : IsIdle first second) (later : fi
   took_from : (session : ℕ) (bytes : List ℕ) → Took (out_to session second) (out_to session last) bytes → Took (out_to session first) (out_to session last) bytes
   took_from session bytes took = record {
     written = took.written ∙ ap (λ w. append_known w bytes) (idle.nothing_sent.sent session);
-    room = took.room ∙ ap (spent (length bytes)) (idle.nothing_sent.room session);
+    room = took.room ∙ ap (room_after (length bytes)) (idle.nothing_sent.room session);
   }
 
   gave_from : (steps : List MemStep) → GaveSteps second last steps → GaveSteps first last steps
   gave_from steps gave = record {
     taken = gave.taken ∙ ap (option_map (λ taken. taken ++ steps)) idle.nothing_taken.taken;
-    comes = subst (λ c. Comes c steps last.coming) idle.nothing_taken.coming gave.comes;
+    comes = subst (λ c. HaveCome c steps last.coming) idle.nothing_taken.coming gave.comes;
   }
 
-  lasts_on : (turns : List Turn) → Lasts first turns → Lasts second turns
+  lasts_on : (turns : List ServedStep) → Lasts first turns → Lasts second turns
   lasts_on turns lasts = record {
     room = λ session. let has = lasts.room session in (has.0, idle.nothing_sent.room session ∙ has.1, has.2);
     ends = (lasts.ends.0, idle.ends ∙ lasts.ends.1, lasts.ends.2);
   }
 
   -- a dock that lasts is sure
-  still_calm : (turns : List Turn) → Lasts first turns → second.faults ≡ first.faults
+  still_calm : (turns : List ServedStep) → Lasts first turns → second.faults ≡ first.faults
   still_calm turns lasts = idle.calm (ap is_some lasts.ends.1)
 
-  spends_from : (fault : ServeFault) (more : List MemStep) (turns : List Turn) → Lasts first turns → Spends fault more second last → Spends fault more first last
+  spends_from : (fault : ServeFault) (more : List MemStep) (turns : List ServedStep) → Lasts first turns → Spends fault more second last → Spends fault more first last
   spends_from serve_fault.DockFault more turns lasts spends = spends
   spends_from serve_fault.TooLong more turns lasts spends = spends ∙ still_calm turns lasts
   spends_from serve_fault.NoMemory more turns lasts spends = spends ∙ still_calm turns lasts
 
-  serves_from : (old new : Relay) (turns : List Turn) → Serves old new second last turns → Serves old new first last turns
+  serves_from : (old new : Relay) (turns : List ServedStep) → Serves old new second last turns → Serves old new first last turns
   serves_from old new turns serves = record {
     runs = serves.runs;
     gave = gave_from (steps_of turns) serves.gave;
@@ -67,7 +67,7 @@ module _ (first second last : DockView) (idle : IsIdle first second) (later : fi
     calm = λ lasts. serves.calm (lasts_on turns lasts) ∙ still_calm turns lasts;
   }
 
-  serves_partly_from : (fault : ServeFault) (old new : Relay) (turns : List Turn) → ServesPartly fault old new second last turns → ServesPartly fault old new first last turns
+  serves_partly_from : (fault : ServeFault) (old new : Relay) (turns : List ServedStep) → ServesPartly fault old new second last turns → ServesPartly fault old new first last turns
   serves_partly_from fault old new turns partly = record {
     more = partly.more;
     few = partly.few;
@@ -81,7 +81,7 @@ module _ (first second last : DockView) (idle : IsIdle first second) (later : fi
   }
 
   -- what suffices still does
-  suffices_on : (sessions : ℕ) (relay : Relay) → Suffices sessions relay first → Suffices sessions relay second
+  suffices_on : (sessions : ℕ) (relay : Relay) → SufficesForDock sessions relay first → SufficesForDock sessions relay second
   suffices_on sessions relay s = record {
     turns = s.turns;
     behind = s.behind;
@@ -93,7 +93,7 @@ module _ (first second last : DockView) (idle : IsIdle first second) (later : fi
   }
 
 module _ (first second last : DockView) (idle : IsIdle first second) (later : first.faults ≤ second.faults) where
-  in_turn_from : (fault : ServeFault) (old new : Relay) (turns : List Turn) → StopsInTurn fault old new second last turns → StopsInTurn fault old new first last turns
+  in_turn_from : (fault : ServeFault) (old new : Relay) (turns : List ServedStep) → StopsInTurn fault old new second last turns → StopsInTurn fault old new first last turns
   in_turn_from fault old new turns so = record {
     served = so.served;
     between = so.between;
@@ -127,7 +127,7 @@ is_sure sessions dock s = ap is_some s.lasts.ends.1
 module _ (port sessions : ℕ) (output : Change OutView) (dock : Change DockView) (second : DockView) (ready : Took output.old output.new ready_line)
     (idle : IsIdle (listening port dock.old) second) (later : dock.old.faults ≤ second.faults) (relay : Relay) where
   pub all_served : (logged : ℕ) → logged ≡ length relay.log
-      → (turns : List Turn) × Serves (new_relay MOST_LOGGED) relay second dock.new turns × (sessions ≤ count_over turns) × NoneAfter sessions turns × (length turns ≤ most_steps)
+      → (turns : List ServedStep) × Serves (new_relay MOST_LOGGED) relay second dock.new turns × (sessions ≤ count_over turns) × NoneAfter sessions turns × (length turns ≤ most_steps)
       → ServingMeets port sessions output dock (Ok logged)
   all_served logged is served = (
     ready,
@@ -143,8 +143,8 @@ module _ (port sessions : ℕ) (output : Change OutView) (dock : Change DockView
   )
 
   pub not_all_served : (fault : ServeFault) (result : Result (Unit {0}) ServeFault) → result ≡ Err fault
-      → (result ≡ Err serve_fault.TooLong → (turns : List Turn) × Serves (new_relay MOST_LOGGED) relay second dock.new turns × (count_over turns < sessions) × NoneAfter sessions turns × (length turns ≡ most_steps))
-      → ServingStops sessions most_steps fault (new_relay MOST_LOGGED) relay second dock.new → (result ≡ Err serve_fault.DockFault → Rose second.faults dock.new.faults)
+      → (result ≡ Err serve_fault.TooLong → (turns : List ServedStep) × Serves (new_relay MOST_LOGGED) relay second dock.new turns × (count_over turns < sessions) × NoneAfter sessions turns × (length turns ≡ most_steps))
+      → ServingStops sessions most_steps fault (new_relay MOST_LOGGED) relay second dock.new → (result ≡ Err serve_fault.DockFault → Faulted second.faults dock.new.faults)
       → ServingMeets port sessions output dock (Err (serve_refusal fault))
   not_all_served serve_fault.DockFault result is long partly rose =
       inr (inr (record {
@@ -213,8 +213,8 @@ module _ (port : ℕ) (output : Change OutView) (dock : Change DockView) (second
   }
 
 -- from what was served to the ends of the command
-module _ (port sessions : ℕ) (output notes : Change OutView) (dock : Change DockView) (output_calm : StaysCalm (length ready_line) output.old output.new)
-    (notes_calm : StaysCalm notes_room notes.old notes.new) where
+module _ (port sessions : ℕ) (output notes : Change OutView) (dock : Change DockView) (output_calm : CountsNoFault (length ready_line) output.old output.new)
+    (notes_calm : CountsNoFault notes_room notes.old notes.new) where
   ends_so : (end : Status) → RelayMeets port sessions output notes dock end → (IsEnough sessions dock.old → dock.new.faults ≡ dock.old.faults)
       → (IsEnough sessions dock.old → HasRoom (length ready_line) output.old → HasRoom notes_room notes.old → end ≢ status.OutsideFault)
       → {T : Type 0} (result : Result T Refusal) → RiseOutside output dock result → (end ≢ status.OutsideFault → result ≢ Err refusal.Outside) → NotesBlameless notes end
@@ -237,12 +237,12 @@ module _ (port sessions : ℕ) (output notes : Change OutView) (dock : Change Do
       (ends_so status.Done (record { logged = logged; served = served; noted = noted.took }) blameless.calm (λ s has notes_have is. cc is)
       (Ok logged) rise (λ not is. cc is) (subst (NotesBlameless notes) noted.end_is notes_blameless))
   relay_noted logged end served blameless rise (inr failed) notes_blameless =
-      subst (Relays port sessions output notes dock) (sym failed.end_is)
-      (ends_so status.OutsideFault (inr (record { logged = logged; served = served; noted = failed.took; rose = failed.rose; no_room = failed.no_room })) blameless.calm
-      (λ s has notes_have is. failed.no_room notes_have) (Ok logged) rise (λ not is. cc is) (subst (NotesBlameless notes) failed.end_is notes_blameless))
+      subst (Relays port sessions output notes dock) (sym failed.1)
+      (ends_so status.OutsideFault (inr (record { logged = logged; served = served; failed = failed.0 })) blameless.calm
+      (λ s has notes_have is. failed.0.no_room notes_have) (Ok logged) rise (λ not is. cc is) (subst (NotesBlameless notes) failed.1 notes_blameless))
 
   pub relay_stopped : (why : Refusal) → ServingMeets port sessions output dock (Err why) → NeverBlamed {T = ℕ} sessions output dock (Err why) → RiseOutside {T = ℕ} output dock (Err why)
-      → Told notes.old notes.new (refusal_line why) → Relays port sessions output notes dock (status_of why)
+      → Reported notes.old notes.new (refusal_line why) → Relays port sessions output notes dock (status_of why)
   relay_stopped refusal.Outside stops blameless rise told =
       ends_so status.OutsideFault (inl (record { stops = stops; noted = told })) blameless.calm (λ s has notes_have is. blameless.sure s has refl)
       (Err refusal.Outside) rise (λ not is. not refl) (told_blameless refusal.Outside notes told)

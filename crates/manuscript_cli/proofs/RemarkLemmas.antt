@@ -6,7 +6,7 @@ use Rattle.fugue_ids.specs.declared.op.Op.{Op}
 use Rattle.fugue_ids.specs.declared.op.Op.TheVariants.{Delete}
 use Rattle.origin_model.specs.declared.edit_fault.EditFault.TheVariants as edit
 use Rattle.origin_model.specs.edits.Refusal.{held_count, refused_ops}
-use Rattle.origin_model.specs.edits.State.{State as Replica, Stands}
+use Rattle.origin_model.specs.edits.State.{State as Replica, IsSound}
 use Rattle.origin_model.specs.taking.Taking.{IsSettled}
 use Rattle.origin_model.proofs.edits.FreshIdLemmas.{delete_unknown}
 use Rattle.passage_remarks.specs.Remarks.{Remark}
@@ -33,7 +33,7 @@ has_room s e = by (nat_lt s.most (held_count s + 1)) refl e
     by true k e = cc
     by false k e = grind (arith, nat_tests)
 
-pub withdrawal_made : (n : ℕ) (old new : Replica) → IsWithdrawn old new n → RefusesWithdrawal old n (Ok tt) → Stands old → IsSettled old.held → (kept : Option (List Op))
+pub withdrawal_made : (n : ℕ) (old new : Replica) → IsWithdrawn old new n → RefusesWithdrawal old n (Ok tt) → IsSound old → IsSettled old.held → (kept : Option (List Op))
     → GivesTo (note_giver (withdraw_on n)) old new kept (Ok (note.Made 1))
 withdrawal_made n old new made refuses stands settled kept =
     let r : Remark = made.remark in

@@ -10,7 +10,7 @@ use Rattle.std.proofs.lemmas.List.{length-take, nil_from_length}
 use Rattle.fugue_ids.specs.declared.op.Op.{Op}
 use Rattle.origin_model.specs.declared.operations.Place.TheVariants.{Catalogue as catalogue}
 use Rattle.origin_model.specs.edits.Refusal.{held_count}
-use Rattle.origin_model.specs.edits.State.{State as Replica, Stands}
+use Rattle.origin_model.specs.edits.State.{State as Replica, IsSound}
 use Rattle.origin_model.specs.operations.History.{accepted}
 use Rattle.origin_model.specs.taking.Taking.{IsSettled}
 use Rattle.origin_model.specs.declared.edit_fault.EditFault.TheVariants as edit
@@ -38,7 +38,7 @@ use Rattle.replica_file.specs.Looks.{LooksOnly}
 use Rattle.manuscript_cli.specs.Check.{HasNoInputText, IsTextLonger, IsTextRead}
 use Rattle.command_kinds.specs.Counts.{revised_text}
 use Rattle.command_kinds.specs.Crashes.{IsFinished}
-use Rattle.command_kinds.specs.Edit.{IsLeft, made_outcome}
+use Rattle.command_kinds.specs.Edit.{IsLeftScript, made_outcome}
 use Rattle.command_kinds.specs.Findings.{Finding, Refuses, Does}
 use Rattle.command_kinds.specs.Giving.{GivesTo}
 use Rattle.manuscript_cli.specs.Revising.{BaseStops, DraftGives, HasBytes, IsHandedBack, IsRevisedTo, LooksAtBase, MeetsLimit, RevisionGives, Revises, TextStops, base_refusal, draft_refusal, empties, is_too_large, parts_fault_refusal, parts_refusal, revise_refusal, revised_outcome, revision, text_refusal}
@@ -76,18 +76,18 @@ module _ (guest : DiskView) (input : SourceView) (replica : Replica) (base : Lis
   gives_base course why e = let d = left_bytes input.left in (base, has, d.0, d.1, inl (ap (λ o. option_or o (text_refusal replica d.0)) e))
 
   -- or the text
-  pub gives_text : (course : Finding Outcome) (draft : List ℕ) (why : Refusal) → IsLeft input draft → base_refusal replica.held.history base ≡ None → text_refusal replica draft ≡ Some why → RevisionGives guest input course replica (Refuses why)
+  pub gives_text : (course : Finding Outcome) (draft : List ℕ) (why : Refusal) → IsLeftScript input draft → base_refusal replica.held.history base ≡ None → text_refusal replica draft ≡ Some why → RevisionGives guest input course replica (Refuses why)
   gives_text course draft why left good e = (base, has, draft, left, inl (ap (λ o. option_or o (text_refusal replica draft)) good ∙ e))
 
   allows : (draft : List ℕ) → base_refusal replica.held.history base ≡ None → text_refusal replica draft ≡ None → draft_refusal replica base draft ≡ None
   allows draft good e = ap (λ o. option_or o (text_refusal replica draft)) good ∙ e
 
   -- or a limit is met
-  pub gives_limit : (draft : List ℕ) (why : Refusal) → IsLeft input draft → base_refusal replica.held.history base ≡ None → text_refusal replica draft ≡ None → MeetsLimit replica draft why → RevisionGives guest input (Refuses why) replica (Refuses why)
+  pub gives_limit : (draft : List ℕ) (why : Refusal) → IsLeftScript input draft → base_refusal replica.held.history base ≡ None → text_refusal replica draft ≡ None → MeetsLimit replica draft why → RevisionGives guest input (Refuses why) replica (Refuses why)
   gives_limit draft why left good e meets = (base, has, draft, left, inr (allows draft good e, refl, meets))
 
   -- or the draft comes
-  pub gives_draft : (draft : List ℕ) (outcome : Outcome) → IsLeft input draft → base_refusal replica.held.history base ≡ None → text_refusal replica draft ≡ None → IsHandedBack replica draft outcome ⊎ Revises replica draft outcome → RevisionGives guest input (Does outcome) replica (Does outcome)
+  pub gives_draft : (draft : List ℕ) (outcome : Outcome) → IsLeftScript input draft → base_refusal replica.held.history base ≡ None → text_refusal replica draft ≡ None → IsHandedBack replica draft outcome ⊎ Revises replica draft outcome → RevisionGives guest input (Does outcome) replica (Does outcome)
   gives_draft draft outcome left good e revises = (base, has, draft, left, (allows draft good e, refl, revises))
 
 -- a text within the limit
@@ -128,10 +128,10 @@ pub text_long : (replica : Replica) (draft : List ℕ) → LONGEST_TEXT < length
 text_long replica draft long = ap (λ t. if t then Some refusal.TooLong else (if bytes_eq draft (arranged_text replica.held.history) then None else parts_refusal replica (parts draft))) (lt-ltb LONGEST_TEXT (length draft) long)
 
 -- what was read of the input was left
-pub text_left : (input : Change SourceView) (text : List ℕ) → IsTextRead input text → IsLeft input.old text
+pub text_left : (input : Change SourceView) (text : List ℕ) → IsTextRead input text → IsLeftScript input.old text
 text_left input text read = read_whole text input.old.left input.new.left read.told read.ended
 
-pub longer_left : (input : Change SourceView) → IsTextLonger input → (draft : List ℕ) × IsLeft input.old draft × (LONGEST_TEXT < length draft)
+pub longer_left : (input : Change SourceView) → IsTextLonger input → (draft : List ℕ) × IsLeftScript input.old draft × (LONGEST_TEXT < length draft)
 longer_left input long =
     let more = read_more long.front input.old.left input.new.left long.told in
     (long.front ++ more.0, more.1, omega (arith, long.long, length-append long.front more.0))
@@ -180,7 +180,7 @@ outcome_of replica last draft ps n other e r =
 
 -- a draft that came gives what was made
 pub draft_gives : (guest : Change DiskView) (input : Change SourceView) (replica last : Replica) (base draft : List ℕ) (ps : List Part) (n : ℕ) (kept : Option (List Op)) → HasBytes guest.old base
-    → IsLeft input.old draft → base_refusal replica.held.history base ≡ None → length draft ≤ LONGEST_TEXT → draft ≢ arranged_text replica.held.history → parts draft ≡ Ok ps → empties replica.held.history ps ≡ false → is_too_large ps ≡ false → IsSettled replica.held → IsRevisedTo replica last ps n
+    → IsLeftScript input.old draft → base_refusal replica.held.history base ≡ None → length draft ≤ LONGEST_TEXT → draft ≢ arranged_text replica.held.history → parts draft ≡ Ok ps → empties replica.held.history ps ≡ false → is_too_large ps ≡ false → IsSettled replica.held → IsRevisedTo replica last ps n
     → (course : Finding Outcome) × GivesTo (revision guest input course) replica last kept (Ok (note.Revised n (section_counts last.held.history (drop (length (accepted replica.held.history)) (accepted last.held.history)))))
 draft_gives guest input replica last base draft ps n kept has left good short other e some fits settled r =
     let makes = r.revised.makes in
@@ -202,8 +202,8 @@ draft_gives guest input replica last base draft ps n kept has left good short ot
     )
 
 -- and what was printed gives nothing
-pub same_gives : (guest : Change DiskView) (input : Change SourceView) (replica : Replica) (base draft : List ℕ) (kept : Option (List Op)) → HasBytes guest.old base → IsLeft input.old draft
-    → base_refusal replica.held.history base ≡ None → length draft ≤ LONGEST_TEXT → draft ≡ arranged_text replica.held.history → IsSettled replica.held → Stands replica
+pub same_gives : (guest : Change DiskView) (input : Change SourceView) (replica : Replica) (base draft : List ℕ) (kept : Option (List Op)) → HasBytes guest.old base → IsLeftScript input.old draft
+    → base_refusal replica.held.history base ≡ None → length draft ≤ LONGEST_TEXT → draft ≡ arranged_text replica.held.history → IsSettled replica.held → IsSound replica
     → (course : Finding Outcome) × GivesTo (revision guest input course) replica replica kept (Ok (note.Revised 0 (record { added = 0; dropped = 0; moved = 0; retitled = 0 })))
 same_gives guest input replica base draft kept has left good short same settled stands =
     let none = changed_none replica in
@@ -360,12 +360,12 @@ revise_stops (Err f) why replica last draft ps is e some fits stops costs planne
 
 -- or that came to an end
 revised_of : (n : ℕ) (replica last : Replica) (ps : List Part) → ArrangedReads → IsRevision replica last ps n → MakesNothing replica last ps n → Costs replica last (revision_cost replica.held.history ps) (Ok n)
-    → Stands last → IsSettled last.held → IsRevisedTo replica last ps n
+    → IsSound last → IsSettled last.held → IsRevisedTo replica last ps n
 revised_of n replica last ps law r same costs st settled =
     record { revised = r; prints = (law last.held.history).form_is ∙ ap form r.reads; same = same; costs = costs; stands = st; settled = settled }
 
 pub revised_to : (result : Result ℕ ReviseFault) (n : ℕ) (replica last : Replica) (ps : List Part) → result ≡ Ok n → ArrangedReads → IfOk result (λ m. IsRevision replica last ps m) → IfOk result (λ m. MakesNothing replica last ps m)
-    → Costs replica last (revision_cost replica.held.history ps) result → Stands last → IsSettled last.held → IsRevisedTo replica last ps n
+    → Costs replica last (revision_cost replica.held.history ps) result → IsSound last → IsSettled last.held → IsRevisedTo replica last ps n
 revised_to result n replica last ps is law r same costs st settled =
     revised_of n replica last ps law (subst (λ t. IfOk t (λ m. IsRevision replica last ps m)) is r) (subst (λ t. IfOk t (λ m. MakesNothing replica last ps m)) is same)
     (subst (Costs replica last (revision_cost replica.held.history ps)) is costs) st settled

@@ -7,12 +7,12 @@ use Rattle.origin_model.specs.edits.Refusal.{held_count}
 use Rattle.origin_model.specs.edits.State.{State as Replica}
 use Rattle.replica_core.specs.declared.keeping.FeedFault.{FeedFault}
 use Rattle.replica_core.specs.declared.keeping.FeedFault.TheVariants as feed_fault
-use Rattle.origin_model.specs.taking.Taking.{HasPlace, Held, TooMany as AnswersTooMany, answer, held_from, intake}
+use Rattle.origin_model.specs.taking.Taking.{MeetsNoLimit, Held, TooMany as AnswersTooMany, answer, held_from, intake}
 use Rattle.origin_model.proofs.SharedLemmas.{held-append, no_place_left, places-append, places-none, places-one}
 use Rattle.origin_model.specs.taking.Taking.{IsSettled}
 use Rattle.origin_model.specs.declared.taking.Tally.{Tally}
-use Rattle.replica_core.specs.Told.{Leaves}
-use Rattle.version_views.specs.Fronts.{front_of}
+use Rattle.replica_core.specs.Told.{LeavesAfterFault}
+use Rattle.version_views.specs.Fronts.{replica_at}
 use Rattle.command_kinds.specs.Changes.{Change}
 use Rattle.command_kinds.specs.Findings.{Finding, Refuses, Does}
 use Rattle.command_kinds.specs.Giving.{GivesTo, MayEnd}
@@ -31,9 +31,9 @@ use Rattle.command_kinds.specs.declared.refusal.Refusal.TheVariants as refusal
 use Rattle.outer_ports.specs.Sources.{SourceView}
 use Rattle.outer_ports.specs.disk.Disks.{DiskView}
 use Rattle.manuscript_cli.specs.Revising.{RevisionGives, revision}
-use Rattle.manuscript_cli.specs.RevisingSince.{Brings, ComesInWhole, HasNoPlaceFor, FindsNoRoom, GivesSince, MomentDecidesAlone, SinceGives, moment_refusal, noted_revision, revision_since, told_of_whole}
+use Rattle.manuscript_cli.specs.RevisingSince.{BringsRevision, ComesInWhole, HasNoPlaceFor, FindsNoRoom, GivesSince, MomentDecidesAlone, SinceGives, moment_refusal, noted_revision, revision_since, told_of_whole}
 use Rattle.manuscript_cli.specs.declared.revise.Revised.{Revised}
-use Rattle.replica_file.specs.Loading.{IsReady}
+use Rattle.replica_file.specs.Loading.{CanTake}
 use Rattle.manuscript_cli.proofs.RevisingLemmas.{revision_once}
 use Rattle.manuscript_cli.proofs.WholeLemmas.{comes_behind}
 
@@ -47,7 +47,7 @@ fed_fault fault = Err fault
 
 pub fed_not : (fault : FeedFault) (old new : Replica) (op : Op) (before after : Tally)
     → (fed_fault fault ≡ fed_fault (feed_fault.TooMany old.most) → answer old.hold old.most old.held op ≡ AnswersTooMany)
-    → Leaves old new op before after fault → FeedsNot fault old op
+    → LeavesAfterFault old new op before after fault → FeedsNot fault old op
 fed_not (feed_fault.TooMany limit) old new op before after many left = (left.0, many (ap (λ (n : ℕ). fed_fault (feed_fault.TooMany n)) left.0))
 fed_not feed_fault.NoMemory old new op before after many left = tt
 
@@ -57,7 +57,7 @@ pub record AreTaken (start now : Replica) (ops rest : List Op) : Type 0 where
   pub done : List Op
   pub parts : ops ≡ done ++ rest
   pub now_is : now ≡ record start { held = held_from start.hold start.most start.held done }
-  pub place : HasPlace start.hold start.most start.held done
+  pub place : MeetsNoLimit start.hold start.most start.held done
   pub settled : IsSettled now.held
 
 pub taken_none : (start : Replica) (ops : List Op) → IsSettled start.held → AreTaken start start ops ops
@@ -84,14 +84,14 @@ module _ (start now : Replica) (ops rest : List Op) (op : Op) (behind : List Op)
 
   pub one_too_many : answer now.hold now.most now.held op ≡ AnswersTooMany → IsOneTooMany start ops
   one_too_many many places =
-      no_place_left start.hold start.most start.held was.done behind op (subst (HasPlace start.hold start.most start.held) (was.parts ∙ ap (λ l. was.done ++ l) is) places) (sym answered ∙ many)
+      no_place_left start.hold start.most start.held was.done behind op (subst (MeetsNoLimit start.hold start.most start.held) (was.parts ∙ ap (λ l. was.done ++ l) is) places) (sym answered ∙ many)
 
   pub full_finds : (fault : FeedFault) → FeedsNot fault now op → HasNoPlaceFor fault start ops
   full_finds (feed_fault.TooMany limit) many = one_too_many many.1
   full_finds feed_fault.NoMemory many = tt
 
-pub taken_all : (start now : Replica) (ops rest : List Op) → AreTaken start now ops rest → rest ≡ [] → HasPlace start.hold start.most start.held ops
-taken_all start now ops rest was none = subst (HasPlace start.hold start.most start.held) (sym (was.parts ∙ ap (λ l. was.done ++ l) none ∙ append-nil was.done)) was.place
+pub taken_all : (start now : Replica) (ops rest : List Op) → AreTaken start now ops rest → rest ≡ [] → MeetsNoLimit start.hold start.most start.held ops
+taken_all start now ops rest was none = subst (MeetsNoLimit start.hold start.most start.held) (sym (was.parts ∙ ap (λ l. was.done ++ l) none ∙ append-nil was.done)) was.place
 
 -- why what was made has no place
 pub full_room : (fault : FeedFault) (replica : Replica) (ops : List Op) (why : Refusal) → why ≡ refusal.TooMany (held_count replica) → HasNoPlaceFor fault replica ops → FindsNoRoom (told_fault why fault) replica ops
@@ -121,22 +121,22 @@ module _ (n : ℕ) (guest : Change DiskView) (input : Change SourceView) (replic
       ]
 
   -- ---- what comes of a revision of the replica as it was
-  module _ (course : Finding Outcome) (may : moment_refusal n replica ≡ None) (ready : IsReady replica) where
-    gives_since : (given found : Finding Outcome) → RevisionGives guest.old input.old course (front_of n replica) given → ComesInWhole replica given found
+  module _ (course : Finding Outcome) (may : moment_refusal n replica ≡ None) (ready : CanTake replica) where
+    gives_since : (given found : Finding Outcome) → RevisionGives guest.old input.old course (replica_at n replica) given → ComesInWhole replica given found
         → SinceGives n guest.old input.old course replica found
     gives_since given found gives comes = subst (λ (m : Option Refusal). GivesSince m n guest.old input.old course replica found) (sym may) (given, gives, comes)
 
-    told_gives : (past after : Replica) (kept : Option (List Op)) (why : Refusal) → GivesTo (revision guest input course) (front_of n replica) past kept (Err why)
+    told_gives : (past after : Replica) (kept : Option (List Op)) (why : Refusal) → GivesTo (revision guest input course) (replica_at n replica) past kept (Err why)
         → GivesTo (revision_since n guest input course) replica after kept (Err (told_of_whole replica why))
     told_gives past after kept refusal.Outside gave = gave
     told_gives past after kept refusal.NoMemory gave = tt
     told_gives past after kept refusal.Words gave = gave
     told_gives past after kept why gave = gives_since (Refuses why) (Refuses (told_of_whole replica why)) gave refl
 
-    pub brought_gives : (past after : Replica) (kept : Option (List Op)) (given result : Result Revised Refusal) → GivesTo (revision guest input course) (front_of n replica) past kept (noted_revision given)
-        → Brings replica after past given result → GivesTo (revision_since n guest input course) replica after kept (noted_revision result)
+    pub brought_gives : (past after : Replica) (kept : Option (List Op)) (given result : Result Revised Refusal) → GivesTo (revision guest input course) (replica_at n replica) past kept (noted_revision given)
+        → BringsRevision replica after past given result → GivesTo (revision_since n guest input course) replica after kept (noted_revision result)
     brought_gives past after kept (Ok revised) (Ok brought) gave brings =
-        let place = subst (HasPlace replica.hold replica.most replica.held) gave.saved brings.2 in
+        let place = subst (MeetsNoLimit replica.hold replica.most replica.held) gave.saved brings.2 in
         let behind = comes_behind n replica ready.settled ready.stands may gave.gives.2 gave.outcome gave.suffices gave.gives.4.2 place in
         let outcome : Outcome = record gave.outcome { held = held_from replica.hold replica.most replica.held gave.outcome.saved } in
         subst (λ (r : Revised). GivesTo (revision_since n guest input course) replica after kept (noted_revision (Ok r))) (sym brings.0)
@@ -157,7 +157,7 @@ module _ (n : ℕ) (guest : Change DiskView) (input : Change SourceView) (replic
         subst (λ (w : Refusal). GivesTo (revision_since n guest input course) replica after kept (Err w)) (sym brings) (told_gives past after kept why gave)
 
 -- where the whole may end so, the revision of the replica as it was may
-pub may_bring : (old new past : Replica) (given result : Result Revised Refusal) (end : Status) → Brings old new past given result → MayEnd (noted_revision result) end → MayEnd (noted_revision given) end
+pub may_bring : (old new past : Replica) (given result : Result Revised Refusal) (end : Status) → BringsRevision old new past given result → MayEnd (noted_revision result) end → MayEnd (noted_revision given) end
 may_bring old new past (Ok revised) result end brings may = record { finished = λ done. refl; blames = λ blamed. absurd (no_error blamed) }
   where
     no_error : IsErrOf {T = Note} (Ok (note.Revised revised.made revised.sections)) refusal.Outside → ⊥
@@ -192,5 +192,5 @@ since_once n guest input course told replica one two a b = by (moment_refusal n 
     by : (m : Option Refusal) → GivesSince m n guest.old input.old course replica one → GivesSince m n guest.old input.old course replica two → one ≡ two
     by (Some why) x y = x ∙ sym y
     by None x y =
-        let same : x.0 ≡ y.0 = revision_once guest input course told (front_of n replica) x.0 y.0 x.1 y.1 in
+        let same : x.0 ≡ y.0 = revision_once guest input course told (replica_at n replica) x.0 y.0 x.1 y.1 in
         comes_once replica y.0 one two (subst (λ (g : Finding Outcome). ComesInWhole replica g one) same x.2) y.2

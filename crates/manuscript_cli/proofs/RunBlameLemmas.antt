@@ -39,7 +39,7 @@ module _ (words : List (List ℕ)) (old new : Touched) (end : Status) where
       all _ meets.others quiet quiet (subst (NotesBlameless notes) (sym meets.end_is) (told_blameless Words notes meets.notes)) quiet quiet quiet quiet
 
   takes_input : (giver : Change SourceView → Giver) → RunsSaving (input_saver giver old new) old new end → IsBlameless old new end
-  takes_input giver meets = all _ meets.others meets.leaves.blameless quiet meets.blameless.notes_blameless meets.blameless.file_blameless quiet quiet quiet
+  takes_input giver meets = all _ meets.others meets.leaves.blameless quiet meets.does.notes_blameless meets.does.file_blameless quiet quiet quiet
 
   reports : (tells : Telling) → RunsReport tells old new end → IsBlameless old new end
   reports tells meets = all _ meets.others quiet meets.does.output_blameless meets.does.notes_blameless meets.does.file_blameless quiet quiet quiet
@@ -58,7 +58,7 @@ module _ (words : List (List ℕ)) (old new : Touched) (end : Status) where
       ]
 
   makes_note : (note_on : NoteOn) → RunsSaving (note_saver note_on old new) old new end → IsBlameless old new end
-  makes_note note_on meets = all _ meets.others quiet quiet meets.blameless.notes_blameless meets.blameless.file_blameless quiet quiet quiet
+  makes_note note_on meets = all _ meets.others quiet quiet meets.does.notes_blameless meets.does.file_blameless quiet quiet quiet
 
   pub meets_blameless : (command : Option Command) → Meets words command old new end → IsBlameless old new end
   meets_blameless None meets = usage meets
@@ -68,9 +68,9 @@ module _ (words : List (List ℕ)) (old new : Touched) (end : Status) where
   meets_blameless (Some Print) meets = reports _ meets
   meets_blameless (Some Take) meets = takes_input stream meets
   meets_blameless (Some Send) meets = reports _ meets
-  meets_blameless (Some Merge) meets = all _ meets.others quiet quiet meets.blameless.notes_blameless meets.blameless.file_blameless meets.leaves.blameless quiet quiet
+  meets_blameless (Some Merge) meets = all _ meets.others quiet quiet meets.does.notes_blameless meets.does.file_blameless meets.leaves.blameless quiet quiet
   meets_blameless (Some (Relay port sessions)) meets = all _ meets.others quiet meets.does.output_blameless meets.does.notes_blameless quiet quiet quiet meets.does.dock_blameless
-  meets_blameless (Some (Sync port cursor)) meets = all _ meets.others quiet quiet meets.blameless.notes_blameless meets.blameless.file_blameless quiet meets.leaves.blameless quiet
+  meets_blameless (Some (Sync port cursor)) meets = all _ meets.others quiet quiet meets.does.notes_blameless meets.does.file_blameless quiet meets.leaves.blameless quiet
   meets_blameless (Some (Bulk seed count)) meets = all _ meets.others quiet meets.does.writes.output_blameless meets.does.writes.notes_blameless quiet quiet quiet quiet
   meets_blameless (Some (Why k p q)) meets = reports _ meets
   meets_blameless (Some Check) meets = checks meets
@@ -81,8 +81,8 @@ module _ (words : List (List ℕ)) (old new : Touched) (end : Status) where
   meets_blameless (Some (Changes n)) meets = reports _ meets
   meets_blameless (Some (Past n)) meets = reports _ meets
   meets_blameless (Some Moments) meets = all _ meets.others quiet meets.does.reports.output_blameless meets.does.reports.notes_blameless meets.does.reports.file_blameless quiet quiet quiet
-  meets_blameless (Some Revise) (course, meets) = all _ meets.others meets.leaves.1.blameless quiet meets.blameless.notes_blameless meets.blameless.file_blameless meets.leaves.0.blameless quiet quiet
-  meets_blameless (Some (ReviseSince n)) (course, meets) = all _ meets.others meets.leaves.1.blameless quiet meets.blameless.notes_blameless meets.blameless.file_blameless meets.leaves.0.blameless quiet quiet
+  meets_blameless (Some Revise) (course, meets) = all _ meets.others meets.leaves.1.blameless quiet meets.does.notes_blameless meets.does.file_blameless meets.leaves.0.blameless quiet quiet
+  meets_blameless (Some (ReviseSince n)) (course, meets) = all _ meets.others meets.leaves.1.blameless quiet meets.does.notes_blameless meets.does.file_blameless meets.leaves.0.blameless quiet quiet
   meets_blameless (Some ListCommand) meets = reports _ meets
   meets_blameless (Some (Comment k p n)) meets = makes_note _ meets
   meets_blameless (Some Comments) meets = reports _ meets

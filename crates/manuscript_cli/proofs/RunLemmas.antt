@@ -19,7 +19,7 @@ use Rattle.manuscript_cli.specs.Command.{Names}
 use Rattle.manuscript_cli.specs.Headline.{PrintedBySet, PrintsBySet}
 use Rattle.command_kinds.specs.Report.{ReportMeets, Telling}
 use Rattle.manuscript_cli.specs.Run.{Meets, RunsReport}
-use Rattle.command_kinds.specs.Changes.{Change, IsTold, change}
+use Rattle.command_kinds.specs.Changes.{Change, IsSpecified, change}
 use Rattle.manuscript_cli.specs.Touched.{Touched}
 use Rattle.manuscript_cli.specs.declared.command.Command.{Command}
 use Rattle.manuscript_cli.specs.declared.command.Command.TheVariants.{Arrange, Print, Show}
@@ -44,7 +44,7 @@ abbrev TellsText : (text : List Op → List ℕ) → Telling
 TellsText text replica found = found ≡ Does (text replica.held.history)
 
 -- what was printed of a file is fixed by the set of what was accepted
-file_by_set : (text : List Op → List ℕ) → IsFixedBySet text → (file : Change DiskView) (output notes : Change OutView) → ReportMeets (TellsText text) file output notes status.Done → IsTold file.old
+file_by_set : (text : List Op → List ℕ) → IsFixedBySet text → (file : Change DiskView) (output notes : Change OutView) → ReportMeets (TellsText text) file output notes status.Done → IsSpecified file.old
     → (replica : Replica) (at : End) → FileHolds file.old replica at → PrintedBySet text replica.held.history output
 file_by_set text fixed file output notes wrote told replica at holds =
     let same = holds_once file.old told (replica, at) (wrote.found.0, wrote.found.1) holds wrote.found.2 in

@@ -7,31 +7,31 @@ use Rattle.std.proofs.lemmas.List.Elements.{All-head}
 use Rattle.fugue_ids.specs.declared.op.Op.{Op}
 use Rattle.origin_model.specs.files.Image.{Content}
 use Rattle.outer_ports.specs.disk.Disks.{DiskView}
-use Rattle.outer_ports.specs.disk.Moments.{History, LeavesOnly, LeftSince, moment, moments}
-use Rattle.outer_ports.specs.disk.States.{State, IsHonest, IsCrashImage}
+use Rattle.outer_ports.specs.disk.Moments.{History, LeavesOnly, LeftSince, moment_number, moments}
+use Rattle.outer_ports.specs.disk.States.{DiskState, IsHonest, IsCrashImage}
 use Rattle.outer_ports.proofs.SharedLemmas.{last_leaves, leaves_joins, leaves_none, leaves_weaker}
 use Rattle.replica_file.proofs.AppendLemmas.{same_content}
 use Rattle.command_kinds.proofs.CrashLemmas.{has_one, safe_at_rest}
 use Rattle.command_kinds.specs.Crashes.{IsFinished, IsSafe, NeverTorn, StaysSafe}
 use Rattle.command_kinds.specs.Files.{HasOps, HasOpsOr, Header}
 use Rattle.manuscript_cli.specs.Run.{Alone, Checking, Choosing, Family, Making, MeetsAs, NoCommand, Reporting, Saving, Serving, Showing, TellingMoments, family}
-use Rattle.manuscript_cli.specs.Runs.{AllBrought, Brought, CommandRun, DidAll, EachFinishedIsIn, FollowEachOther, GaveAs, GaveBy, IsMeanwhile, LeadsFrom, StandsBehind}
+use Rattle.manuscript_cli.specs.Runs.{AllBrought, Brought, CommandRun, DidAll, EachFinishedIsIn, FollowEachOther, GaveAs, GaveBy, IsMeanwhile, LeadsFrom, StandsAfterRun}
 use Rattle.manuscript_cli.specs.Touched.{Touched}
 use Rattle.command_kinds.specs.declared.status.Status.{Status}
 use Rattle.command_kinds.specs.declared.status.Status.TheVariants as status
 
 -- what was left since a moment was left then, or by a state that came since
-left_since : (old new : History) (P : List ℕ → Type 0) → LeavesOnly old new P → ((image : List ℕ) → IsCrashImage old.last image → P image) → (image : List ℕ) → LeftSince new (moment old) image → P image
+left_since : (old new : History) (P : List ℕ → Type 0) → LeavesOnly old new P → ((image : List ℕ) → IsCrashImage old.last image → P image) → (image : List ℕ) → LeftSince new (moment_number old) image → P image
 left_since old new P leaves first image left =
     let long : length (moments new) ≡ length leaves.recent + length (moments old) = ap length leaves.grows ∙ length-append leaves.recent (moments old) in
-    let grown = ap (λ (l : List State). get_or l (moment new - left.m) new.last) leaves.grows in
-    elim (cases_lt (moment new - left.m) (length leaves.recent)) [
+    let grown = ap (λ (l : List DiskState). get_or l (moment_number new - left.m) new.last) leaves.grows in
+    elim (cases_lt (moment_number new - left.m) (length leaves.recent)) [
       | inl below ↦
-          let is = grown ∙ get_or_append_left leaves.recent (moments old) new.last (moment new - left.m) below in
-          leaves.each (moment new - left.m) new.last below image (subst (λ s. IsCrashImage s image) is left.left)
+          let is = grown ∙ get_or_append_left leaves.recent (moments old) new.last (moment_number new - left.m) below in
+          leaves.each (moment_number new - left.m) new.last below image (subst (λ s. IsCrashImage s image) is left.left)
       | inr at ↦
-          let none : moment new - left.m - length leaves.recent ≡ 0 = omega (arith, long, left.since, left.until) in
-          let is = grown ∙ get_or-append_right leaves.recent (moments old) (length leaves.recent) (moment new - left.m) new.last refl at ∙ ap (λ (k : ℕ). get_or (moments old) k new.last) none in
+          let none : moment_number new - left.m - length leaves.recent ≡ 0 = omega (arith, long, left.since, left.until) in
+          let is = grown ∙ get_or-append_right leaves.recent (moments old) (length leaves.recent) (moment_number new - left.m) new.last refl at ∙ ap (λ (k : ℕ). get_or (moments old) k new.last) none in
           first image (subst (λ s. IsCrashImage s image) is left.left)
     ]
 
@@ -50,7 +50,7 @@ one_of header ops more had bytes has (inr both) = inr (same_ops header had (ops 
 record Went (header : Header) (ops more gave : List Op) (began stood : History) (Finished : Type 0) : Type 0 where
   had : List Op
   one : IsOneOf ops more had
-  each : (image : List ℕ) → LeftSince stood (moment began) image → HasOpsOr header ops more image ⊎ HasOpsOr header had gave image
+  each : (image : List ℕ) → LeftSince stood (moment_number began) image → HasOpsOr header ops more image ⊎ HasOpsOr header had gave image
   last : IsSafe header ops more stood.last ⊎ IsSafe header had gave stood.last
   finished : Finished → IsSafe header (had ++ gave) [] stood.last ⊎ ((gave ≡ []) × IsSafe header ops more stood.last)
 
@@ -69,10 +69,10 @@ module _ (header : Header) (ops more gave : List Op) (h k : History) (end : Stat
   last_safe : IsSafe header ops more k.last ⊎ IsSafe header stays.had gave k.last
   last_safe = by_recent stays.saves.recent stays.saves.grows stays.saves.each
     where
-      HasOnly : List Op → List Op → State → Type 0
+      HasOnly : List Op → List Op → DiskState → Type 0
       HasOnly first second s = (image : List ℕ) → IsCrashImage s image → HasOpsOr header first second image
 
-      by_recent : (recent : List State) → moments k ≡ recent ++ moments stays.loaded → All (HasOnly stays.had gave) recent → IsSafe header ops more k.last ⊎ IsSafe header stays.had gave k.last
+      by_recent : (recent : List DiskState) → moments k ≡ recent ++ moments stays.loaded → All (HasOnly stays.had gave) recent → IsSafe header ops more k.last ⊎ IsSafe header stays.had gave k.last
       by_recent [] grows each =
           let same : k.last ≡ stays.loaded.last = cc grows in
           inl (record { honest = honest; leaves = subst (HasOnly ops more) (sym same) (last_leaves (HasOpsOr header ops more) h stays.loaded stays.loads safe.leaves) })
@@ -138,7 +138,7 @@ module _ (old new : Touched) (end : Status) (began stood : History) (began_is : 
       ]
 
 -- the file behind a run is safe, and each list that it may have is one that it might have had with what the run brought
-record Next (header : Header) (run : CommandRun) (ops more : List Op) (s : State) : Type 0 where
+record Next (header : Header) (run : CommandRun) (ops more : List Op) (s : DiskState) : Type 0 where
   first : List Op
   second : List Op
   safe : IsSafe header first second s
@@ -149,7 +149,7 @@ finished_or_not status.Done = inl (inl refl)
 finished_or_not status.Partial = inl (inr refl)
 finished_or_not _ = inr (λ done. elim done [ inl is ↦ cc is | inr is ↦ cc is ])
 
-module _ (header : Header) (run : CommandRun) (ops more gave : List Op) (given : GaveBy run.words run.command run.old run.new run.end gave) (s : State) where
+module _ (header : Header) (run : CommandRun) (ops more gave : List Op) (given : GaveBy run.words run.command run.old run.new run.end gave) (s : DiskState) where
   -- nothing was saved
   next_none : IsSafe header ops more s → (DidAll run → gave ≡ []) → Next header run ops more s
   next_none safe none = record {
@@ -191,7 +191,7 @@ module _ (header : Header) (run : CommandRun) (ops more gave : List Op) (given :
     brings = λ base which. (had, one, gave, record { gave = gave; given = given; all_or_none = inl refl }, elim which [ inl is ↦ is | inr is ↦ is ∙ append-nil (had ++ gave) ]);
   }
 
-  next : (began stood : History) → Went header ops more gave began stood (IsFinished run.end) → (crash : Option (List ℕ)) → run.crash ≡ crash → StandsBehind crash began stood s → Next header run ops more s
+  next : (began stood : History) → Went header ops more gave began stood (IsFinished run.end) → (crash : Option (List ℕ)) → run.crash ≡ crash → StandsAfterRun crash began stood s → Next header run ops more s
   next began stood went None is behind = by_end (finished_or_not run.end)
     where
       by_end : IsFinished run.end ⊎ (IsFinished run.end → ⊥) → Next header run ops more s
@@ -210,11 +210,11 @@ module _ (header : Header) (run : CommandRun) (ops more gave : List Op) (given :
         | inr has ↦ next_some went.had went.one not_done (subst (IsSafe header went.had gave) (sym behind.1) (safe_at_rest header went.had gave image has))
       ]
 
-meanwhile_safe : (header : Header) (ops more : List Op) (s t : State) → IsMeanwhile s t → IsSafe header ops more s → IsSafe header ops more t
+meanwhile_safe : (header : Header) (ops more : List Op) (s t : DiskState) → IsMeanwhile s t → IsSafe header ops more s → IsSafe header ops more t
 meanwhile_safe header ops more s t (inl same) safe = subst (IsSafe header ops more) (sym same) safe
 meanwhile_safe header ops more s t (inr crash) safe = subst (IsSafe header ops more) (sym crash.2) (safe_at_rest header ops more crash.0 (safe.leaves crash.0 crash.1))
 
-run_next : (header : Header) (ops more : List Op) (run : CommandRun) (s t : State) → IsSafe header ops more s → LeadsFrom run s t → Next header run ops more t
+run_next : (header : Header) (ops more : List Op) (run : CommandRun) (s t : DiskState) → IsSafe header ops more s → LeadsFrom run s t → Next header run ops more t
 run_next header ops more run s t safe leads =
     let went = goes run.old run.new run.end leads.began leads.stood leads.began_is leads.stood_is header ops more (subst (IsSafe header ops more) (sym leads.begins) safe) (family run.words run.command) run.meets in
     next header run ops more went.0 went.1 t leads.began leads.stood went.2 run.crash refl leads.behind
@@ -227,7 +227,7 @@ pub record HasAll (header : Header) (runs : List CommandRun) (ops more : List Op
   pub all : AllBrought runs brought
   pub has : HasOps header (base ++ brought) image
 
-pub record EachHasAll (header : Header) (runs : List CommandRun) (ops more : List Op) (s : State) : Type 0 where
+pub record EachHasAll (header : Header) (runs : List CommandRun) (ops more : List Op) (s : DiskState) : Type 0 where
   pub honest : IsHonest s
   pub leaves : (image : List ℕ) → IsCrashImage s image → HasAll header runs ops more image
 
@@ -235,7 +235,7 @@ no_more_runs : (header : Header) (ops more : List Op) (image : List ℕ) → Has
 no_more_runs header ops more image (inl has) = record { base = ops; one = inl refl; brought = []; all = refl; has = subst (λ l. HasOps header l image) (sym (append-nil ops)) has }
 no_more_runs header ops more image (inr has) = record { base = ops ++ more; one = inr refl; brought = []; all = refl; has = subst (λ l. HasOps header l image) (sym (append-nil (ops ++ more))) has }
 
-one_run_more : (header : Header) (run : CommandRun) (runs : List CommandRun) (ops more : List Op) (s : State) (next : Next header run ops more s) (image : List ℕ) → HasAll header runs next.first next.second image → HasAll header (run ∷ runs) ops more image
+one_run_more : (header : Header) (run : CommandRun) (runs : List CommandRun) (ops more : List Op) (s : DiskState) (next : Next header run ops more s) (image : List ℕ) → HasAll header runs next.first next.second image → HasAll header (run ∷ runs) ops more image
 one_run_more header run runs ops more s next image rest =
     let brings = next.brings rest.base rest.one in
     record {
@@ -246,7 +246,7 @@ one_run_more header run runs ops more s next image rest =
       has = subst (λ l. HasOps header l image) (ap (λ (l : List Op). l ++ rest.brought) brings.4 ∙ append_assoc brings.0 brings.2 rest.brought) rest.has;
     }
 
-pub all_in : (header : Header) (runs : List CommandRun) (ops more : List Op) (s t : State) → IsSafe header ops more s → FollowEachOther runs s t → EachHasAll header runs ops more t
+pub all_in : (header : Header) (runs : List CommandRun) (ops more : List Op) (s t : DiskState) → IsSafe header ops more s → FollowEachOther runs s t → EachHasAll header runs ops more t
 all_in header [] ops more s t safe same =
     let stays = subst (IsSafe header ops more) (sym same) safe in
     record { honest = stays.honest; leaves = λ image is. no_more_runs header ops more image (stays.leaves image is) }

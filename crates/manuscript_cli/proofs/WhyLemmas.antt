@@ -8,7 +8,7 @@ use Rattle.origin_model.specs.operations.Verdict.{Lawful}
 use Rattle.origin_model.specs.order.Printed.{shown}
 use Rattle.origin_model.specs.edits.State.{State as Replica}
 use Rattle.origin_model.specs.declared.operations.Place.TheVariants.{Catalogue as catalogue, Section as within}
-use Rattle.order_proof.specs.Certificates.{StandsBefore}
+use Rattle.order_proof.specs.Certificates.{IsOrderedBefore}
 use Rattle.order_proof.specs.Texts.{proof_text}
 use Rattle.order_proof.proofs.OnceLemmas.{has_one_certificate}
 use Rattle.order_proof.proofs.ShownLemmas.{shown_before}
@@ -22,13 +22,13 @@ module _ (h : List Op) (p q : ℕ) (x y : Identifier) where
   in_one_section None e f = absurd (none-some x e)
   in_one_section (Some s) e f = (s, e, f)
 
-  pub places_stand : Lawful h → (k : ℕ) → HasPlaces h k p q x y → StandsBefore h x y
+  pub places_stand : Lawful h → (k : ℕ) → HasPlaces h k p q x y → IsOrderedBefore h x y
   places_stand w k there =
       let s = in_one_section (slice_get (shown catalogue h) k) there.first there.second in
       shown_before (within s.0) h w p q x y there.in_order s.1 s.2
 
 -- the text of the one certificate
-text_once : (h : List Op) → Lawful h → (x y : Identifier) → StandsBefore h x y → (a b : List ℕ) → IsWhy h x y a → IsWhy h x y b → a ≡ b
+text_once : (h : List Op) → Lawful h → (x y : Identifier) → IsOrderedBefore h x y → (a b : List ℕ) → IsWhy h x y a → IsWhy h x y b → a ≡ b
 text_once h w x y before a b one two =
     let only = has_one_certificate before.0 h w x y before.1 before.2 before.3 in
     one.text_is ∙ ap proof_text (only.only one.proof one.valid one.claims ∙ sym (only.only two.proof two.valid two.claims)) ∙ sym two.text_is

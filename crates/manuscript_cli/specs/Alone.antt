@@ -1,6 +1,6 @@
 -- Commands that use no file: each writes a text that its words alone decide.
 use Rattle.std.specs.Prelude.{◌≢◌, ℕ, List, [], ◌∷◌, ◌++◌, codes, length}
-use Rattle.fugue_ids.specs.Causes.{Rose}
+use Rattle.fugue_ids.specs.Causes.{Faulted}
 use Rattle.fugue_ids.specs.Outs.{OutView}
 use Rattle.command_kinds.specs.TextOut.{WritesOut}
 use Rattle.command_kinds.specs.Findings.{IsDecided}
@@ -14,7 +14,7 @@ pub record WritesAlone (text : List ℕ) (output notes : Change OutView) (end : 
   -- where the output is sure and has room, no outside fault comes
   pub never_outside : HasRoom (length text) output.old → end ≢ status.OutsideFault
   -- all is done, but for want of memory and faults of the output
-  pub decides : IsDecided status.Done (Rose output.old.faults output.new.faults) end
+  pub decides : IsDecided status.Done (Faulted output.old.faults output.new.faults) end
 
 -- the name and the version of the program, what it was proved with, and its licence
 abbrev pub about_text : List ℕ

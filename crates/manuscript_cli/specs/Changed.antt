@@ -12,6 +12,7 @@ use Rattle.command_kinds.specs.declared.refusal.Refusal.TheVariants.{NoMoment}
 abbrev pub changes_of : ℕ → List Op → Finding (List ℕ)
 changes_of n history = if nat_lt (length history) n then Refuses (NoMoment n) else Does (changes_text (first_ops n history) history)
 
+-- `changes` reports what came since the first n operations
 abbrev pub changes_tells : ℕ → Telling
 changes_tells n replica found = found ≡ changes_of n replica.held.history
 

@@ -4,7 +4,7 @@ use Rattle.std.specs.Io.KnownBytes.{prepend_known}
 use Rattle.fugue_ids.specs.Outs.{OutView}
 use Rattle.outer_ports.specs.Sources.{KeepsCount, SourceView}
 use Rattle.outer_ports.specs.disk.Disks.{DiskView}
-use Rattle.outer_ports.specs.disk.Moments.{after}
+use Rattle.outer_ports.specs.disk.Moments.{after_moment}
 use Rattle.outer_ports.specs.disk.States.{durable}
 use Rattle.origin_model.specs.edits.State.{State as Replica}
 use Rattle.order_proof.specs.Readings.{IsValidText}
@@ -12,7 +12,7 @@ use Rattle.replica_file.specs.declared.load_file.End.{End}
 use Rattle.command_kinds.specs.Crashes.{NeverTorn}
 use Rattle.command_kinds.specs.Files.{FileHolds, KeepsFile}
 use Rattle.command_kinds.specs.Findings.{Refuses, Does}
-use Rattle.command_kinds.specs.Refusal.{Told, refusal_line, status_of}
+use Rattle.command_kinds.specs.Refusal.{Reported, refusal_line, status_of}
 use Rattle.command_kinds.specs.Report.{Reports, Telling}
 use Rattle.command_kinds.specs.TextOut.{WritesReport}
 use Rattle.command_kinds.specs.Changes.{Change, DiskBlameless}
@@ -68,7 +68,7 @@ pub record NoTextRead (input : Change SourceView) (output notes : Change OutView
   pub cause : HasNoInputText input why
   pub count : KeepsCount input.old input.new (why ≡ refusal.Outside)
   pub wrote : output.new ≡ output.old
-  pub noted : Told notes.old notes.new (refusal_line why)
+  pub noted : Reported notes.old notes.new (refusal_line why)
   pub end_is : end ≡ status_of why
 
 -- behind a file that was loaded the text is read, and what it is is told
@@ -76,8 +76,8 @@ abbrev pub ChecksHeld : Change SourceView → Replica → (output notes : Change
 ChecksHeld input replica output notes end = HeldText input replica output notes end ⊎ NoTextRead input output notes end
 
 -- no replica is there of which something might be told
-abbrev pub nothing_told : Telling
-nothing_told replica found = ⊥
+abbrev pub nothing_said : Telling
+nothing_said replica found = ⊥
 
 -- the file was loaded, the text was read, and what it is was told
 pub record CheckedText (input : Change SourceView) (file : Change DiskView) (output notes : Change OutView) (end : Status) : Type 0 where
@@ -91,7 +91,7 @@ pub record CheckedText (input : Change SourceView) (file : Change DiskView) (out
 pub record ReadNoText (input : Change SourceView) (file : Change DiskView) (output notes : Change OutView) (end : Status) : Type 0 where
   pub none : NoTextRead input output notes end
   pub holds : (replica : Replica) × (at : End) × FileHolds file.old replica at
-  pub synced : file.new.past ≡ after durable file.old.past
+  pub synced : file.new.past ≡ after_moment durable file.old.past
   pub keeps : KeepsFile file
   pub crash : NeverTorn (λ gave. gave ≡ []) file end
   pub file_blameless : DiskBlameless file end
@@ -99,7 +99,7 @@ pub record ReadNoText (input : Change SourceView) (file : Change DiskView) (outp
 -- the file was not loaded, why was told, and the input was not asked
 pub record LoadedNone (input : Change SourceView) (file : Change DiskView) (output notes : Change OutView) (end : Status) : Type 0 where
   pub unread : input.new ≡ input.old
-  pub reports : Reports nothing_told file output notes end
+  pub reports : Reports nothing_said file output notes end
 
 -- the command `check`: the file decides before the input
 abbrev pub ChecksText : Change SourceView → Change DiskView → (output notes : Change OutView) → Status → Type 0

@@ -91,7 +91,7 @@ pub record NamesMove (words : List (List ℕ)) (k j : ℕ) : Type 0 where
   pub place_is : IsNumber place_word 1 GREATEST_PLACE j
 
 -- a word that is one line: it is not empty, has at most so many bytes, and no LF and no CR
-pub record IsLine (most : ℕ) (word : List ℕ) : Type 0 where
+pub record IsLineWord (most : ℕ) (word : List ℕ) : Type 0 where
   pub some : word ≢ []
   pub short : length word ≤ most
   pub one_line : has_line_end word ≡ false
@@ -104,7 +104,7 @@ pub record NamesRetitle (words : List (List ℕ)) (k : ℕ) : Type 0 where
   pub title : List ℕ
   pub words_are : words ≡ codes "retitle" ∷ file ∷ section_word ∷ title ∷ []
   pub section_is : IsNumber section_word 1 GREATEST_PLACE k
-  pub title_is : IsLine LONGEST_TITLE title
+  pub title_is : IsLineWord LONGEST_TITLE title
 
 -- `comment FILE K P N TEXT`
 pub record NamesComment (words : List (List ℕ)) (k p n : ℕ) : Type 0 where
@@ -118,7 +118,7 @@ pub record NamesComment (words : List (List ℕ)) (k p n : ℕ) : Type 0 where
   pub section_is : IsNumber section_word 1 GREATEST_PLACE k
   pub first_is : IsNumber first_word 0 GREATEST_PLACE p
   pub count_is : IsNumber count_word 1 GREATEST_PLACE n
-  pub text_is : IsLine LONGEST_BODY text
+  pub text_is : IsLineWord LONGEST_BODY text
 
 -- `withdraw FILE C`
 pub record NamesWithdraw (words : List (List ℕ)) (n : ℕ) : Type 0 where
@@ -136,7 +136,7 @@ pub record NamesRemark (words : List (List ℕ)) : Type 0 where
   pub text : List ℕ
   pub words_are : words ≡ codes "remark" ∷ file ∷ passage ∷ text ∷ []
   pub passage_is : IsSpelled passage
-  pub text_is : IsLine LONGEST_BODY text
+  pub text_is : IsLineWord LONGEST_BODY text
 
 -- a name, FILE and the name of a version
 pub record NamesNamed (name : List ℕ) (words : List (List ℕ)) : Type 0 where
@@ -144,7 +144,7 @@ pub record NamesNamed (name : List ℕ) (words : List (List ℕ)) : Type 0 where
   pub some : file ≢ []
   pub version : List ℕ
   pub words_are : words ≡ name ∷ file ∷ version ∷ []
-  pub version_is : IsLine LONGEST_NAME version
+  pub version_is : IsLineWord LONGEST_NAME version
 
 -- a file, and how many operations it had
 pub record IsMoment (file number : List ℕ) (n : ℕ) : Type 0 where
@@ -215,6 +215,7 @@ home_word About words = None
 home_word _ (name ∷ file ∷ more) = Some file
 home_word _ words = None
 
+-- the word that names the other file, where the command has one
 abbrev pub guest_word : Command → List (List ℕ) → Option (List ℕ)
 guest_word Merge (name ∷ file ∷ other ∷ more) = Some other
 guest_word Revise (name ∷ file ∷ base ∷ more) = Some base

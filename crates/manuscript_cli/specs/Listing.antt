@@ -36,12 +36,13 @@ abbrev pub list_line : List Op → (place : ℕ) → Identifier → List ℕ
 list_line h place s = decimal place ++ in_brackets place (number_of h s) ++ 32 ∷ decimal (cluster_count h s) ++ 32 ∷ encode_utf8_all (heading h s) ++ 10 ∷ []
 
 -- the lines of sections, of which the first stands at the place
-abbrev pub lines_from : List Op → (place : ℕ) → List Identifier → List ℕ
-lines_from h place [] = []
-lines_from h place (s ∷ ss) = list_line h place s ++ lines_from h (suc place) ss
+abbrev pub section_lines : List Op → (place : ℕ) → List Identifier → List ℕ
+section_lines h place [] = []
+section_lines h place (s ∷ ss) = list_line h place s ++ section_lines h (suc place) ss
 
+-- what `list` prints: a line of the replica, and a line of each section
 abbrev pub list_text : Replica → List ℕ
-list_text replica = replica_line replica ++ lines_from replica.held.history 1 (arranged replica.held.history)
+list_text replica = replica_line replica ++ section_lines replica.held.history 1 (arranged replica.held.history)
 
 -- `list` reports what a replica holds
 abbrev pub list_tells : Telling

@@ -31,9 +31,10 @@ pub record TellsMoments (file : Change DiskView) (output notes : Change OutView)
   pub reports : Reports (moments_tells moments) file output notes end
 
 -- the moments of a file rise, the last one is the number of operations that its replica accepted, and what is told of them adds up to all of these
-pub record AreAllTold (moments : List ℕ) (replica : Replica) : Type 0 where
+pub record AreAllReported (moments : List ℕ) (replica : Replica) : Type 0 where
   pub rise : RiseTo 0 moments (length (accepted replica.held.history))
   pub tell : TellAll moments (accepted replica.held.history)
 
+-- the moments of a file tell of all of its operations
 abbrev pub MomentsTellFile : Type 0
-MomentsTellFile = (bytes moments : List ℕ) (replica : Replica) (end : End) → Loads MOST_OPERATIONS bytes replica end → HasMoments bytes moments → AreAllTold moments replica
+MomentsTellFile = (bytes moments : List ℕ) (replica : Replica) (end : End) → Loads MOST_OPERATIONS bytes replica end → HasMoments bytes moments → AreAllReported moments replica

@@ -22,6 +22,7 @@ note_refused (fault.IdsSpent counter) = refusal.IdsSpent counter
 note_refused (fault.TooMany held) = refusal.TooMany held
 note_refused _ = refusal.NoMemory
 
+-- the refusal of a version that was not named
 abbrev pub version_refused : VersionFault → Refusal
 version_refused (version_fault.IdsSpent counter) = refusal.IdsSpent counter
 version_refused (version_fault.TooMany held) = refusal.TooMany held
@@ -36,10 +37,10 @@ abbrev pub versions_tells : Telling
 versions_tells replica found = found ≡ Does (versions_text replica.held.history replica.number)
 
 -- the manuscript of so many operations, where there is a version with the name
-abbrev pub viewed : List ℕ → Replica → Option ℕ → Finding (List ℕ)
-viewed name replica None = Refuses (refusal.NoVersion (kept_name name))
-viewed name replica (Some n) = Does (view replica.held.history n)
+abbrev pub version_text : List ℕ → Replica → Option ℕ → Finding (List ℕ)
+version_text name replica None = Refuses (refusal.NoVersion (kept_name name))
+version_text name replica (Some n) = Does (view replica.held.history n)
 
 -- `view` reports the manuscript of a version
 abbrev pub view_tells : List ℕ → Telling
-view_tells name replica found = found ≡ viewed name replica (version_with replica.held.history replica.number name)
+view_tells name replica found = found ≡ version_text name replica (version_with replica.held.history replica.number name)

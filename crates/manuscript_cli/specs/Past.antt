@@ -12,6 +12,7 @@ use Rattle.command_kinds.specs.declared.refusal.Refusal.TheVariants.{NoMoment}
 abbrev pub past_of : ℕ → List Op → Finding (List ℕ)
 past_of n history = if nat_lt (length history) n then Refuses (NoMoment n) else Does (arranged_text (first_ops n history))
 
+-- `past` reports the manuscript of the first n operations
 abbrev pub past_tells : ℕ → Telling
 past_tells n replica found = found ≡ past_of n replica.held.history
 

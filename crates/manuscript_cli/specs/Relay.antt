@@ -1,17 +1,17 @@
 -- The command `relay`: it listens on a port, and serves the sessions of others with a relay that is new.
 use Rattle.std.specs.Prelude.{◌≡◌, ◌≢◌, ◌⊎◌, ℕ, ◌<◌, ◌≤◌, List, [], ◌∷◌, ◌++◌, length, Result, Ok, Err, is_some, true, codes, decimal, option_map}
-use Rattle.fugue_ids.specs.Causes.{Rose}
-use Rattle.fugue_ids.specs.Outs.{OutTells, OutView, Took, TookFront}
+use Rattle.fugue_ids.specs.Causes.{Faulted}
+use Rattle.fugue_ids.specs.Outs.{OutTells, OutView, Took}
 use Rattle.origin_model.specs.relay.Relay.{Relay, new_relay}
 use Rattle.outer_ports.specs.Latest.{once_more}
 use Rattle.outer_ports.specs.dock.Docks.{DockTells, DockView, SendsNothing, TakesNothing, listening_of}
 use Rattle.relay_core.specs.declared.relay.TheConstants.{MOST_LOGGED}
-use Rattle.relay_sync.specs.Serving.{NoneAfter, Serves, ServingStops, Suffices, Turn, count_over}
+use Rattle.relay_sync.specs.Serving.{NoneAfter, Serves, ServingStops, SufficesForDock, ServedStep, count_over}
 use Rattle.relay_sync.specs.declared.serving.ServeFault.{ServeFault}
 use Rattle.relay_sync.specs.declared.serving.ServeFault.TheVariants as serve_fault
-use Rattle.command_kinds.specs.Printing.{NotesBlameless}
-use Rattle.command_kinds.specs.Refusal.{refusal_line, Told, TookFronts}
-use Rattle.command_kinds.specs.Changes.{Change, HasRoom, OutBlameless, StaysCalm, notes_room}
+use Rattle.command_kinds.specs.Printing.{NotNoted, NotesBlameless, WroteFront}
+use Rattle.command_kinds.specs.Refusal.{refusal_line, Reported}
+use Rattle.command_kinds.specs.Changes.{Change, HasRoom, OutBlameless, CountsNoFault, notes_room}
 use Rattle.command_kinds.specs.declared.refusal.Refusal.{Refusal}
 use Rattle.command_kinds.specs.declared.refusal.Refusal.TheVariants as refusal
 use Rattle.command_kinds.specs.declared.status.Status.{Status}
@@ -49,7 +49,7 @@ pub record IsIdle (old new : DockView) : Type 0 where
 
 -- A new relay was given the dock's steps, and served so many sessions: the last step brought the last of them to its end, and none was asked for behind it.
 pub record ServedAll (port sessions : ℕ) (dock : Change DockView) (logged : ℕ) : Type 0 where
-  pub turns : List Turn
+  pub turns : List ServedStep
   pub relay : Relay
   pub serves : Serves (new_relay MOST_LOGGED) relay (listening port dock.old) dock.new turns
   pub over : sessions ≤ count_over turns
@@ -60,7 +60,7 @@ pub record ServedAll (port sessions : ℕ) (dock : Change DockView) (logged : �
 
 -- all steps that a run may take were taken, and fewer sessions are over
 pub record TookAllSteps (port sessions : ℕ) (dock : Change DockView) : Type 0 where
-  pub turns : List Turn
+  pub turns : List ServedStep
   pub relay : Relay
   pub serves : Serves (new_relay MOST_LOGGED) relay (listening port dock.old) dock.new turns
   pub not_over : count_over turns < sessions
@@ -76,21 +76,19 @@ pub record ServedPartly (fault : ServeFault) (port sessions : ℕ) (dock : Chang
 pub record ListeningFailed (output : Change OutView) (dock : Change DockView) : Type 0 where
   pub output_kept : output.new ≡ output.old
   pub idle : IsIdle dock.old dock.new
-  pub rose : Rose dock.old.faults dock.new.faults
+  pub rose : Faulted dock.old.faults dock.new.faults
   pub not_sure : CallsAreSure dock.old → ⊥
 
 -- the port was listened on, and a front of the line went out
 pub record ReadyFailed (port : ℕ) (output : Change OutView) (dock : Change DockView) : Type 0 where
-  pub front : TookFront output.old output.new ready_line
+  pub front : WroteFront ready_line output
   pub idle : IsIdle (listening port dock.old) dock.new
-  pub rose : Rose output.old.faults output.new.faults
-  pub no_room : HasRoom (length ready_line) output.old → ⊥
 
 -- a call on the dock failed behind it
 pub record ServingFailed (port sessions : ℕ) (output : Change OutView) (dock : Change DockView) : Type 0 where
   pub ready : Took output.old output.new ready_line
   pub partly : ServedPartly serve_fault.DockFault port sessions dock
-  pub rose : Rose dock.old.faults dock.new.faults
+  pub rose : Faulted dock.old.faults dock.new.faults
 
 -- the port is listened on, and that was said, or why not
 abbrev pub OpeningMeets : (port : ℕ) → (output : Change OutView) → Change DockView → Result (Unit {0}) Refusal → Type 0
@@ -108,7 +106,7 @@ ServingMeets port sessions output dock (Err _) = ⊥
 
 -- the steps that a dock gives a new relay are enough, and there is room for what they ask for
 abbrev pub IsEnough : (sessions : ℕ) → DockView → Type 0
-IsEnough sessions dock = Suffices sessions (new_relay MOST_LOGGED) dock
+IsEnough sessions dock = SufficesForDock sessions (new_relay MOST_LOGGED) dock
 
 -- where they are enough no fault of the dock is counted, and none is told where the output has room
 pub record NeverBlamed {T : Type 0} (sessions : ℕ) (output : Change OutView) (dock : Change DockView) (result : Result T Refusal) : Type 0 where
@@ -121,31 +119,29 @@ pub record RiseOutside {T : Type 0} (output : Change OutView) (dock : Change Doc
   pub of_dock : DockTells dock.old → result ≢ Err refusal.Outside → dock.new.faults ≡ dock.old.faults
 
 -- all was served, and noted
-pub record Finished (port sessions : ℕ) (output notes : Change OutView) (dock : Change DockView) : Type 0 where
+pub record FinishedServing (port sessions : ℕ) (output notes : Change OutView) (dock : Change DockView) : Type 0 where
   pub logged : ℕ
   pub served : ServingMeets port sessions output dock (Ok logged)
   pub noted : Took notes.old notes.new (log_line logged)
 
--- all was served, and the notes failed: they hold a front of the line, and then one of the fault's
-pub record NotesFailed (port sessions : ℕ) (output notes : Change OutView) (dock : Change DockView) : Type 0 where
+-- all was served, and the notes failed
+pub record NotesFailedServing (port sessions : ℕ) (output notes : Change OutView) (dock : Change DockView) : Type 0 where
   pub logged : ℕ
   pub served : ServingMeets port sessions output dock (Ok logged)
-  pub noted : TookFronts notes.old notes.new (log_line logged) (refusal_line refusal.Outside)
-  pub rose : Rose notes.old.faults notes.new.faults
-  pub no_room : HasRoom notes_room notes.old → ⊥
+  pub failed : NotNoted (log_line logged) notes.old notes.new
 
 -- it stopped, and the notes got the refusal's line
-pub record Stopped (port sessions : ℕ) (output notes : Change OutView) (dock : Change DockView) (why : Refusal) : Type 0 where
+pub record StoppedServing (port sessions : ℕ) (output notes : Change OutView) (dock : Change DockView) (why : Refusal) : Type 0 where
   pub stops : ServingMeets port sessions output dock (Err why)
-  pub noted : Told notes.old notes.new (refusal_line why)
+  pub noted : Reported notes.old notes.new (refusal_line why)
 
 -- what was done, for each way in which the command may end
 abbrev pub RelayMeets : (port sessions : ℕ) → (output notes : Change OutView) → Change DockView → Status → Type 0
-RelayMeets port sessions output notes dock status.Done = Finished port sessions output notes dock
+RelayMeets port sessions output notes dock status.Done = FinishedServing port sessions output notes dock
 RelayMeets port sessions output notes dock status.OutsideFault =
-    Stopped port sessions output notes dock refusal.Outside ⊎ NotesFailed port sessions output notes dock
-RelayMeets port sessions output notes dock status.Limit = Stopped port sessions output notes dock refusal.TooLong
-RelayMeets port sessions output notes dock status.NoMemory = Stopped port sessions output notes dock refusal.NoMemory
+    StoppedServing port sessions output notes dock refusal.Outside ⊎ NotesFailedServing port sessions output notes dock
+RelayMeets port sessions output notes dock status.Limit = StoppedServing port sessions output notes dock refusal.TooLong
+RelayMeets port sessions output notes dock status.NoMemory = StoppedServing port sessions output notes dock refusal.NoMemory
 RelayMeets port sessions output notes dock _ = ⊥
 
 -- where the dock tells, its count of faults rises with an outside fault alone
@@ -156,8 +152,8 @@ DockBlameless dock end = DockTells dock.old → end ≢ status.OutsideFault → 
 pub record Relays (port sessions : ℕ) (output notes : Change OutView) (dock : Change DockView) (end : Status) : Type 0 where
   pub meets : RelayMeets port sessions output notes dock end
   -- sure objects with room count no fault
-  pub output_calm : StaysCalm (length ready_line) output.old output.new
-  pub notes_calm : StaysCalm notes_room notes.old notes.new
+  pub output_calm : CountsNoFault (length ready_line) output.old output.new
+  pub notes_calm : CountsNoFault notes_room notes.old notes.new
   pub dock_calm : IsEnough sessions dock.old → dock.new.faults ≡ dock.old.faults
   -- and where all are, no outside fault comes
   pub never_outside : IsEnough sessions dock.old → HasRoom (length ready_line) output.old → HasRoom notes_room notes.old → end ≢ status.OutsideFault

@@ -2,12 +2,12 @@
 use Rattle.std.specs.Prelude.{◌≡◌, ◌≢◌, ◌⊎◌, ◌+◌, ◌≤◌, ℕ, true, false, Bool, nat_eq, nat_lt, ◌&&◌, if◌then◌else◌, Option, Some, None, Result, Ok, Err, IfSome, List, [], ◌++◌, length, option_map}
 use Rattle.std.specs.Option.{option_or}
 use Rattle.std.specs.Str.{bytes_eq}
-use Rattle.fugue_ids.specs.Causes.{Rose}
+use Rattle.fugue_ids.specs.Causes.{Faulted}
 use Rattle.fugue_ids.specs.declared.limits.TheConstants.{MOST_OPERATIONS}
 use Rattle.fugue_ids.specs.declared.op.Op.{Op}
 use Rattle.origin_model.specs.declared.edit_fault.EditFault.TheVariants as edit_fault
 use Rattle.origin_model.specs.edits.Refusal.{held_count}
-use Rattle.origin_model.specs.edits.State.{State as Replica, Stands}
+use Rattle.origin_model.specs.edits.State.{State as Replica, IsSound}
 use Rattle.origin_model.specs.operations.History.{accepted}
 use Rattle.origin_model.specs.taking.Taking.{IsSettled}
 use Rattle.outer_ports.specs.Sources.{SourceView}
@@ -16,7 +16,7 @@ use Rattle.catalogue_notes.specs.Arranged.{arranged, arranged_text}
 use Rattle.catalogue_notes.specs.declared.moving.MoveFault.TheVariants as move_fault
 use Rattle.draft_plan.specs.Differences.{first_difference}
 use Rattle.draft_plan.specs.Drafts.{Part, form, parts}
-use Rattle.draft_plan.specs.Limits.{Costs, LacksRoom, letters, part_letters, revision_cost}
+use Rattle.draft_plan.specs.Limits.{Costs, LacksRoom, letters_from, part_letters, revision_cost}
 use Rattle.draft_plan.specs.Plain.{arranged_parts}
 use Rattle.draft_plan.specs.Plans.{Plan, plan_cost}
 use Rattle.draft_plan.specs.Revision.{IsRevision, MakesNothing, StopsAtLimit}
@@ -25,10 +25,10 @@ use Rattle.draft_plan.specs.declared.draft.DraftFault.TheVariants as draft_fault
 use Rattle.draft_plan.specs.declared.fault.ReviseFault.{ReviseFault}
 use Rattle.draft_plan.specs.declared.fault.ReviseFault.TheVariants as revise_fault
 use Rattle.command_kinds.specs.Counts.{revised_text}
-use Rattle.command_kinds.specs.Edit.{IsLeft, made_outcome}
+use Rattle.command_kinds.specs.Edit.{IsLeftScript, made_outcome}
 use Rattle.command_kinds.specs.Findings.{Finding, Refuses, Does}
 use Rattle.command_kinds.specs.Saving.{Giver, Outcome}
-use Rattle.command_kinds.specs.Changes.{Change, DiskBlameless, IsTold}
+use Rattle.command_kinds.specs.Changes.{Change, DiskBlameless, IsSpecified}
 use Rattle.manuscript_cli.specs.declared.check.TheConstants.{LONGEST_TEXT}
 use Rattle.command_kinds.specs.declared.refusal.Refusal.{Refusal}
 use Rattle.command_kinds.specs.declared.refusal.Refusal.TheVariants as refusal
@@ -50,7 +50,7 @@ is_too_large ps = nat_lt MOST_OPERATIONS (length ps + part_letters ps)
 
 -- no replica shows so much
 abbrev pub ShowsNoMore : Type 0
-ShowsNoMore = (s : Replica) → Stands s → length (arranged s.held.history) + letters s.held.history ≤ MOST_OPERATIONS
+ShowsNoMore = (s : Replica) → IsSound s → length (arranged s.held.history) + letters_from s.held.history ≤ MOST_OPERATIONS
 
 -- why what a draft says is not taken: a line is bad, or it has nothing, or too much
 abbrev pub parts_refusal : Replica → Result (List Part) ℕ → Option Refusal
@@ -72,6 +72,7 @@ abbrev pub parts_fault_refusal : DraftFault → Refusal
 parts_fault_refusal (draft_fault.BadDraft line) = refusal.BadDraft line
 parts_fault_refusal draft_fault.NoMemory = refusal.NoMemory
 
+-- the refusal of a draft that was not taken in
 abbrev pub revise_refusal : ReviseFault → Refusal
 revise_refusal (revise_fault.Edit (edit_fault.IdsSpent counter)) = refusal.IdsSpent counter
 revise_refusal (revise_fault.Edit (edit_fault.TooMany held)) = refusal.TooMany held
@@ -87,7 +88,7 @@ pub record IsRevisedTo (replica last : Replica) (ps : List Part) (n : ℕ) : Typ
   pub prints : arranged_text last.held.history ≡ form ps
   pub same : MakesNothing replica last ps n
   pub costs : Costs replica last (revision_cost replica.held.history ps) (Ok n)
-  pub stands : Stands last
+  pub stands : IsSound last
   pub settled : IsSettled last.held
 
 -- the outcome of what was printed, handed back as it is: nothing was made
@@ -145,15 +146,17 @@ DraftGives base draft course replica (Does outcome) =
 abbrev pub HasBytes : DiskView → List ℕ → Type 0
 HasBytes disk bytes = IfSome disk.past (λ h. h.last.seen ≡ bytes)
 
+-- a revision gives what the base, a file, and the draft, from the input, ask for
 abbrev pub RevisionGives : DiskView → SourceView → (course : Finding Outcome) → Replica → Finding Outcome → Type 0
 RevisionGives guest input course replica found =
-    (base : List ℕ) × HasBytes guest base × (draft : List ℕ) × IsLeft input draft × DraftGives base draft course replica found
+    (base : List ℕ) × HasBytes guest base × (draft : List ℕ) × IsLeftScript input draft × DraftGives base draft course replica found
 
+-- a base and a draft, as what gives the operations
 abbrev pub revision : Change DiskView → Change SourceView → (course : Finding Outcome) → Giver
 revision guest input course = record {
   Gives = RevisionGives guest.old input.old course;
-  Told = IsTold guest.old × ((bytes : List ℕ) × (input.old.left ≡ Some bytes));
-  Failed = Rose guest.old.faults guest.new.faults ⊎ Rose input.old.faults input.new.faults;
+  Told = IsSpecified guest.old × ((bytes : List ℕ) × (input.old.left ≡ Some bytes));
+  Failed = Faulted guest.old.faults guest.new.faults ⊎ Faulted input.old.faults input.new.faults;
   Sure = ((room : RoomView) × (guest.old.room ≡ Some room)) × (input.old.sure ≡ true);
 }
 

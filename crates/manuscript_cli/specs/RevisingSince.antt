@@ -6,16 +6,16 @@ use Rattle.fugue_ids.specs.declared.op.Op.TheVariants.{Delete}
 use Rattle.origin_model.specs.edits.Refusal.{held_count, next_of_own}
 use Rattle.origin_model.specs.edits.State.{State as Replica}
 use Rattle.origin_model.specs.operations.History.{accepted, has_op}
-use Rattle.origin_model.specs.taking.Taking.{HasPlace, Held, held_from}
+use Rattle.origin_model.specs.taking.Taking.{MeetsNoLimit, Held, held_from}
 use Rattle.outer_ports.specs.Sources.{SourceView}
 use Rattle.outer_ports.specs.disk.Disks.{DiskView}
 use Rattle.replica_core.specs.declared.keeping.FeedFault.{FeedFault}
 use Rattle.replica_core.specs.declared.keeping.FeedFault.TheVariants as feed_fault
 use Rattle.replica_file.specs.declared.load_file.End.{End}
-use Rattle.version_views.specs.Fronts.{front_of}
+use Rattle.version_views.specs.Fronts.{replica_at}
 use Rattle.command_kinds.specs.Findings.{Finding, Refuses, Does}
 use Rattle.command_kinds.specs.Saving.{Giver, Outcome}
-use Rattle.command_kinds.specs.Changes.{Change, IsTold}
+use Rattle.command_kinds.specs.Changes.{Change, IsSpecified}
 use Rattle.command_kinds.specs.Files.{FileHolds}
 use Rattle.command_kinds.specs.Take.{IsOneTooMany}
 use Rattle.command_kinds.specs.declared.counts.Note.{Note}
@@ -31,7 +31,7 @@ same_next one other = nat_eq (next_of_own one) (next_of_own other)
 
 -- the replica made operations behind the first n: the counter of its next one is another than it was
 abbrev pub made_since : ℕ → Replica → Bool
-made_since n replica = not (same_next replica (front_of n replica))
+made_since n replica = not (same_next replica (replica_at n replica))
 
 -- why no draft is taken that was written when n operations were accepted: fewer are, or the replica made some since
 abbrev pub moment_refusal : ℕ → Replica → Option Refusal
@@ -45,7 +45,7 @@ told_of_whole replica why = why
 
 -- the home file holds a replica that takes no draft of this moment
 pub record RefusesMoment (n : ℕ) (home : DiskView) : Type 0 where
-  pub told : IsTold home
+  pub told : IsSpecified home
   pub replica : Replica
   pub end : End
   pub holds : FileHolds home replica end
@@ -57,12 +57,12 @@ abbrev pub MomentDecidesAlone : ℕ → (home : DiskView) → (guest : Change Di
 MomentDecidesAlone n home guest input = RefusesMoment n home → (input.new ≡ input.old) × (guest.new ≡ guest.old)
 
 -- those of the operations that a history lacks
-abbrev pub lacked : List Op → List Op → List Op
-lacked history ops = filter (λ op. not (has_op history op)) ops
+abbrev pub lacking_ops : List Op → List Op → List Op
+lacking_ops history ops = filter (λ op. not (has_op history op)) ops
 
 -- what was made is all accepted, behind what was accepted before, which lacked all of it but Deletes that others made too; what waits is what waited
-pub record ComesBehind (old : Held) (made : List Op) (new : Held) : Type 0 where
-  pub behind : accepted new.history ≡ accepted old.history ++ lacked old.history made
+pub record ComesAfterAccepted (old : Held) (made : List Op) (new : Held) : Type 0 where
+  pub behind : accepted new.history ≡ accepted old.history ++ lacking_ops old.history made
   pub each : All (λ op. has_op new.history op ≡ true) made
   pub had : All (λ op. has_op old.history op ≡ true → (x : Identifier) × (op ≡ Delete x)) made
   pub waiting : new.waiting ≡ old.waiting
@@ -71,15 +71,16 @@ pub record ComesBehind (old : Held) (made : List Op) (new : Held) : Type 0 where
 abbrev pub ComesInWhole : Replica → (given found : Finding Outcome) → Type 0
 ComesInWhole replica (Refuses why) found = found ≡ Refuses (told_of_whole replica why)
 ComesInWhole replica (Does outcome) (Does whole) =
-    HasPlace replica.hold replica.most replica.held outcome.saved
+    MeetsNoLimit replica.hold replica.most replica.held outcome.saved
     × (whole ≡ record outcome { held = held_from replica.hold replica.most replica.held outcome.saved })
-    × ComesBehind replica.held outcome.saved whole.held
+    × ComesAfterAccepted replica.held outcome.saved whole.held
 ComesInWhole replica (Does outcome) (Refuses why) = (why ≡ refusal.TooMany (held_count replica)) × IsOneTooMany replica outcome.saved
 
+-- a revision since a moment gives what the replica as it was then gave, taken in by the whole
 abbrev pub GivesSince : (moment : Option Refusal) → ℕ → DiskView → SourceView → (course : Finding Outcome) → Replica → Finding Outcome → Type 0
 GivesSince (Some why) n guest input course replica found = found ≡ Refuses why
 GivesSince None n guest input course replica found =
-    (given : Finding Outcome) × RevisionGives guest input course (front_of n replica) given × ComesInWhole replica given found
+    (given : Finding Outcome) × RevisionGives guest input course (replica_at n replica) given × ComesInWhole replica given found
 
 -- what such a draft gives: what it gives to the replica as it was, in the whole
 abbrev pub SinceGives : ℕ → DiskView → SourceView → (course : Finding Outcome) → Replica → Finding Outcome → Type 0
@@ -110,8 +111,8 @@ FindsNoRoom refusal.NoMemory replica made = Unit {0}
 FindsNoRoom _ replica made = ⊥
 
 -- what a revision of the replica as it was comes to in the whole, which the former takes the place of where it comes to its end
-abbrev pub Brings : (old new past : Replica) → (given result : Result Revised Refusal) → Type 0
-Brings old new past (Ok revised) (Ok brought) = (brought ≡ revised) × (new ≡ past) × HasPlace old.hold old.most old.held (made_last past revised)
-Brings old new past (Ok revised) (Err why) = FindsNoRoom why old (made_last past revised)
-Brings old new past (Err why) (Ok brought) = ⊥
-Brings old new past (Err why) (Err told) = told ≡ told_of_whole old why
+abbrev pub BringsRevision : (old new past : Replica) → (given result : Result Revised Refusal) → Type 0
+BringsRevision old new past (Ok revised) (Ok brought) = (brought ≡ revised) × (new ≡ past) × MeetsNoLimit old.hold old.most old.held (made_last past revised)
+BringsRevision old new past (Ok revised) (Err why) = FindsNoRoom why old (made_last past revised)
+BringsRevision old new past (Err why) (Ok brought) = ⊥
+BringsRevision old new past (Err why) (Err told) = told ≡ told_of_whole old why

@@ -14,7 +14,7 @@ use Rattle.command_kinds.specs.New.{Creates}
 use Rattle.manuscript_cli.specs.Moments.{TellsMoments}
 use Rattle.manuscript_cli.specs.Past.{past_tells}
 use Rattle.command_kinds.specs.Printing.{NotesBlameless}
-use Rattle.command_kinds.specs.Refusal.{refusal_line, Told}
+use Rattle.command_kinds.specs.Refusal.{refusal_line, Reported}
 use Rattle.manuscript_cli.specs.Relay.{DockBlameless, Relays}
 use Rattle.command_kinds.specs.Report.{Reports, Telling, print_tells, send_tells}
 use Rattle.manuscript_cli.specs.Savers.{RunsSaving, Saver, edit_saver, merge_saver, note_saver, revise_saver, revise_since_saver, sync_saver, take_saver}
@@ -36,7 +36,7 @@ use Rattle.command_kinds.specs.declared.status.Status.TheVariants.{Usage}
 pub record UsageMeets (old new : Touched) (end : Status) : Type 0 where
   pub end_is : end ≡ Usage
   pub others : new ≡ record old { streams = record old.streams { notes = new.streams.notes } }
-  pub notes : Told old.streams.notes new.streams.notes (refusal_line Words)
+  pub notes : Reported old.streams.notes new.streams.notes (refusal_line Words)
 
 -- `show` uses the streams
 pub record RunsShow (hold : ℕ) (old new : Touched) (end : Status) : Type 0 where
@@ -135,6 +135,7 @@ MeetsAs (Alone text) old new end = RunsAlone text old new end
 MeetsAs Checking old new end = RunsCheck old new end
 MeetsAs TellingMoments old new end = RunsMoments old new end
 
+-- the run of a command meets the contract of its family
 abbrev pub Meets : List (List ℕ) → Option Command → Touched → Touched → Status → Type 0
 Meets words command = MeetsAs (family words command)
 

@@ -7,14 +7,15 @@ use Rattle.command_kinds.specs.Findings.{Finding}
 use Rattle.command_kinds.specs.Notes.{NoteOn, note_giver}
 use Rattle.manuscript_cli.specs.Revising.{LooksAtBase, revision}
 use Rattle.manuscript_cli.specs.RevisingSince.{MomentDecidesAlone, revision_since}
-use Rattle.command_kinds.specs.Saving.{Giver, Outcome, ReadsInput, SavesGiven, SavingBlameless}
+use Rattle.command_kinds.specs.Saving.{Giver, Outcome, ReadsInput, SavesGiven}
 use Rattle.command_kinds.specs.Sync.{LeavesWire, reply}
 use Rattle.command_kinds.specs.Take.{other_file, stream}
-use Rattle.command_kinds.specs.Changes.{Change, IsTold, change}
+use Rattle.command_kinds.specs.Changes.{Change, IsSpecified, change}
 use Rattle.manuscript_cli.specs.Touched.{Touched}
 use Rattle.command_kinds.specs.declared.refusal.Refusal.{Refusal}
 use Rattle.command_kinds.specs.declared.status.Status.{Status}
 
+-- what a command reads its operations from, and how it leaves that
 pub record Saver : Type 1 where
   pub giver : Giver
   -- the object that gives is left so, where the command ends so
@@ -80,7 +81,6 @@ revise_since_saver n course old new = record (revise_saver course old new) {
 pub record RunsSaving (saver : Saver) (old new : Touched) (end : Status) : Type 0 where
   pub others : new ≡ record saver.others { streams = record saver.others.streams { notes = new.streams.notes }; home = new.home }
   pub does : SavesGiven saver.giver (change old.home new.home) (change old.streams.notes new.streams.notes) end
-  pub blameless : SavingBlameless (change old.home new.home) (change old.streams.notes new.streams.notes) end
   pub leaves : saver.Leaves end
   -- a home file that is refused decides alone: no object is asked to give
-  pub unused : IsTold old.home → (why : Refusal) → FileRefuses old.home why → saver.others ≡ old
+  pub unused : IsSpecified old.home → (why : Refusal) → FileRefuses old.home why → saver.others ≡ old

@@ -18,14 +18,14 @@ changes_section h Retitles (Note id named code body) = nat_eq code RETITLE_CODE
 changes_section h _ _ = false
 
 -- how many of the operations do that
-abbrev pub count_of : List Op → List Op → SectionChange → ℕ
-count_of h ops change = length (filter (changes_section h change) ops)
+abbrev pub count_of_kind : List Op → List Op → SectionChange → ℕ
+count_of_kind h ops change = length (filter (changes_section h change) ops)
 
 -- how many add, drop, move and retitle a section of a history
 abbrev pub section_counts : List Op → List Op → SectionCounts
 section_counts h ops = record {
-  added = count_of h ops Adds;
-  dropped = count_of h ops Drops;
-  moved = count_of h ops Moves;
-  retitled = count_of h ops Retitles;
+  added = count_of_kind h ops Adds;
+  dropped = count_of_kind h ops Drops;
+  moved = count_of_kind h ops Moves;
+  retitled = count_of_kind h ops Retitles;
 }

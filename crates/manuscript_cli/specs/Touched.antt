@@ -6,6 +6,7 @@ use Rattle.outer_ports.specs.dock.Docks.{DockView}
 use Rattle.outer_ports.specs.wire.Wires.{WireView}
 use Rattle.command_kinds.specs.Changes.{Streams}
 
+-- all objects of the outside that a run may use
 pub record Touched : Type 0 where
   pub streams : Streams
   -- the file that a command is about
@@ -18,8 +19,8 @@ pub record Touched : Type 0 where
   pub dock : DockView
 
 -- all objects, one by one
-abbrev pub touched : SourceView → (output notes : OutView) → (home guest : DiskView) → WireView → DockView → Touched
-touched input output notes home guest wire dock = record {
+abbrev pub all_objects : SourceView → (output notes : OutView) → (home guest : DiskView) → WireView → DockView → Touched
+all_objects input output notes home guest wire dock = record {
   streams = record { input = input; output = output; notes = notes };
   home = home;
   guest = guest;

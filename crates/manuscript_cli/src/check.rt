@@ -8,11 +8,12 @@ ghost use Rattle.command_kinds.specs.Changes.{change};
 ghost use Rattle.command_kinds.specs.declared.refusal.Refusal.TheVariants.{Outside, NoMemory as NoMemoryFound};
 
 use crate::held::Held;
-use command_kinds::{Refusal, Report, Status, Told, gone_out, load_file, tell, write_held};
-use fugue_ids::{BUFFER, NoMemory, write_whole};
+use command_kinds::{Refusal, Report, Status, Told, gone_out, tell, write_held};
+use fugue_ids::{BUFFER, MOST_OPERATIONS, NoMemory, write_whole};
 use order_proof::check_text;
 use outer_ports::{Disk, Sink, Source};
 use replica_core::Replica;
+use replica_file::load;
 use std::alloc::Global;
 
 /// The most bytes of a text on the input: of a certificate, or of a draft.
@@ -30,13 +31,13 @@ pub(crate) fn check_file<S: Source, O: Sink, N: Sink, H: Disk>(
     ensures { ChecksText (change (S.seen input.old) (S.seen input.new)) (change (H.seen home.old) (H.seen home.new))
         (change (O.seen output.old) (O.seen output.new)) (change (N.seen notes.old) (N.seen notes.new)) result }
 {
-    match load_file(alloc, home) {
+    match load(alloc, home, MOST_OPERATIONS) {
         Ok((replica, _)) => {
             let status = check_held(alloc, input, &replica, output, notes);
             replica.discard();
             status
         }
-        Err(why) => tell(notes, why),
+        Err(fault) => tell(notes, Refusal::from(fault)),
     }
 }
 

@@ -3,7 +3,7 @@ ghost use Rattle.std.specs.Prelude.{◌≡◌, ◌<◌, ◌≤◌, All, IfOk, fl
 ghost use Rattle.fugue_ids.specs.Gathers.{GathersText};
 ghost use Rattle.fugue_ids.specs.Outs.{WritesBytes};
 ghost use Rattle.fugue_ids.specs.declared.limits.TheConstants.{MOST_OPERATIONS};
-ghost use Rattle.origin_model.specs.edits.State.{Stands};
+ghost use Rattle.origin_model.specs.edits.State.{IsSound};
 ghost use Rattle.catalogue_notes.specs.Outlining.{IsEntry, IsOutline, entry_sections};
 ghost use Rattle.catalogue_notes.specs.declared.entry.Entry.{Entry as AnyEntry};
 ghost use Rattle.manuscript_cli.specs.Listing.{cluster_count as clusters_in, counted_from, counted_line, entry_line};
@@ -165,7 +165,7 @@ fn write_list<O: Out>(
 ) -> Result<(), Failed>
     requires outline { IsOutline replica.now.held.history entries.now }
     requires counts { counts.now ≡ counted_from replica.now.held.history 0 (entry_sections entries.now) }
-    requires stands { Stands replica.now }
+    requires stands { IsSound replica.now }
     ensures { WritesBytes (O.seen output.old) (O.seen output.new) result (list_text replica.now) }
 {
     let mut gather = Gather::new();

@@ -3,10 +3,11 @@ ghost use Rattle.command_kinds.specs.Changes.{change};
 ghost use Rattle.manuscript_cli.specs.Moments.{TellsMoments, moments_tells};
 
 use batch_moments::moments_text;
-use command_kinds::{Report, Status, Told, gone_out, load_file_moments, tell, write_held};
-use fugue_ids::write_whole;
+use command_kinds::{Refusal, Report, Status, Told, gone_out, tell, write_held};
+use fugue_ids::{MOST_OPERATIONS, write_whole};
 use outer_ports::{Disk, Sink};
 use replica_core::Replica;
+use replica_file::load_moments;
 use std::alloc::Global;
 
 /// Loads a file, and writes what came with each of its batches.
@@ -19,7 +20,7 @@ pub(crate) fn write_moments<O: Sink, N: Sink, H: Disk>(
     ensures { TellsMoments (change (H.seen home.old) (H.seen home.new))
         (change (O.seen output.old) (O.seen output.new)) (change (N.seen notes.old) (N.seen notes.new)) result }
 {
-    match load_file_moments(alloc, home) {
+    match load_moments(alloc, home, MOST_OPERATIONS) {
         Ok((replica, _, moments)) => {
             let what = Moments { moments };
             let status = write_held(alloc, &what, &replica, output, notes);
@@ -27,7 +28,7 @@ pub(crate) fn write_moments<O: Sink, N: Sink, H: Disk>(
             replica.discard();
             status
         }
-        Err(why) => tell(notes, why),
+        Err(fault) => tell(notes, Refusal::from(fault)),
     }
 }
 

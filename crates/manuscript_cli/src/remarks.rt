@@ -2,7 +2,7 @@
 ghost use Rattle.std.specs.Prelude.{◌≡◌};
 ghost use Rattle.command_kinds.specs.Changes.{change};
 ghost use Rattle.command_kinds.specs.Notes.{note_giver};
-ghost use Rattle.command_kinds.specs.Saving.{SavesGiven, SavingBlameless};
+ghost use Rattle.command_kinds.specs.Saving.{SavesGiven};
 ghost use Rattle.manuscript_cli.specs.Remarks.{remarks_tells, withdraw_on, withdraw_refused};
 
 use catalogue_notes::ArrangeFault;
@@ -75,9 +75,7 @@ pub(crate) fn withdraw_remark<H: Disk, N: Sink>(
     home: &mut H,
     notes: &mut N,
 ) -> Status
-    ensures saves { SavesGiven (note_giver (withdraw_on number)) (change (H.seen home.old) (H.seen home.new))
-        (change (N.seen notes.old) (N.seen notes.new)) result }
-    ensures blameless { SavingBlameless (change (H.seen home.old) (H.seen home.new))
+    ensures { SavesGiven (note_giver (withdraw_on number)) (change (H.seen home.old) (H.seen home.new))
         (change (N.seen notes.old) (N.seen notes.new)) result }
 {
     save_given(alloc, &Withdrawal { number }, &mut (), home, notes)

@@ -2,20 +2,20 @@
 ghost use Rattle.std.specs.Prelude.{◌≡◌, ◌≢◌, ◌↔◌, ℕ, Ok, None, IfErr, IfOk, IsTrue, OnOk, Option, false, List};
 ghost use Rattle.fugue_ids.specs.declared.op.Op.{Op};
 ghost use Rattle.origin_model.specs.edits.Refusal.{held_count};
-ghost use Rattle.origin_model.specs.edits.State.{Stands};
+ghost use Rattle.origin_model.specs.edits.State.{IsSound};
 ghost use Rattle.catalogue_notes.specs.Arranged.{arranged_text};
 ghost use Rattle.draft_plan.specs.Drafts.{Part, parts};
-ghost use Rattle.replica_file.specs.Loading.{IsReady};
+ghost use Rattle.replica_file.specs.Loading.{CanTake};
 ghost use Rattle.replica_file.specs.Looks.{LooksOnly};
 ghost use Rattle.manuscript_cli.specs.Revising.{BaseStops, HasBytes, IsRevisedTo, LooksAtBase, TextStops};
 ghost use Rattle.manuscript_cli.specs.Revising.{base_refusal, empties, is_too_large, parts_fault_refusal, revise_refusal, revision};
 ghost use Rattle.manuscript_cli.specs.RevisingSince.{noted_revision};
-ghost use Rattle.command_kinds.specs.Files.{FileRefuses};
 ghost use Rattle.command_kinds.specs.Findings.{Finding};
 ghost use Rattle.command_kinds.specs.Giving.{GivesTo, MayEnd};
 ghost use Rattle.command_kinds.specs.declared.status.Status.{Status as AnyStatus};
-ghost use Rattle.command_kinds.specs.Saving.{Outcome, ReadsInput, SavesGiven, SavingBlameless};
-ghost use Rattle.command_kinds.specs.Changes.{IsTold, change};
+ghost use Rattle.command_kinds.specs.Files.{FileRefuses};
+ghost use Rattle.command_kinds.specs.Saving.{Outcome, ReadsInput, SavesGiven};
+ghost use Rattle.command_kinds.specs.Changes.{IsSpecified, change};
 ghost use Rattle.command_kinds.specs.declared.refusal.Refusal.{Refusal as AnyRefusal};
 ghost use Rattle.command_kinds.specs.declared.refusal.Refusal.TheVariants.{Outside, TooMany};
 
@@ -80,11 +80,9 @@ pub(crate) fn revise_file<S: Source, N: Sink, H: Disk, G: Disk>(
     ensures saves { (course : Finding Outcome)
         × SavesGiven (revision (change (G.seen base.old) (G.seen base.new)) (change (S.seen input.old) (S.seen input.new))
         course) (change (H.seen home.old) (H.seen home.new)) (change (N.seen notes.old) (N.seen notes.new)) result }
-    ensures blameless { SavingBlameless (change (H.seen home.old) (H.seen home.new))
-        (change (N.seen notes.old) (N.seen notes.new)) result }
     ensures looks { LooksAtBase (change (G.seen base.old) (G.seen base.new)) result }
     ensures reads { ReadsInput (S.seen input.old) (S.seen input.new) result }
-    ensures unused { IsTold (H.seen home.old) → (why : AnyRefusal) → FileRefuses (H.seen home.old) why
+    ensures unused { IsSpecified (H.seen home.old) → (why : AnyRefusal) → FileRefuses (H.seen home.old) why
         → (S.seen input.new ≡ S.seen input.old) × (G.seen base.new ≡ G.seen base.old) }
 {
     let mut sources = DraftSources { base, draft: input };
@@ -118,7 +116,7 @@ pub(crate) fn revise_by<G: Disk, S: Source>(
     draft: &mut S,
     replica: &mut Replica,
 ) -> Result<Revised, Refusal>
-    requires ready { IsReady replica.old }
+    requires ready { CanTake replica.old }
     ensures gives { (kept : Option (List Op)) → (course : Finding Outcome)
         × GivesTo (revision (change (G.seen base.old) (G.seen base.new)) (change (S.seen draft.old) (S.seen draft.new))
         course) replica.old replica.new kept (noted_revision result) }
@@ -126,7 +124,7 @@ pub(crate) fn revise_by<G: Disk, S: Source>(
         → LooksAtBase (change (G.seen base.old) (G.seen base.new)) end }
     ensures reads { (end : AnyStatus) → MayEnd (noted_revision result) end
         → ReadsInput (S.seen draft.old) (S.seen draft.new) end }
-    ensures stands { OnOk result (Stands replica.new) }
+    ensures stands { OnOk result (IsSound replica.new) }
 {
     let shown = check_base(alloc, replica, base)?;
     let text = read_text(alloc, draft)?;
@@ -177,7 +175,7 @@ fn is_same(shown: &[u8], text: &[u8]) -> bool
 /// Whether the draft has nothing, and sections are shown.
 fn drops_all(replica: &Replica, draft: &Draft<'_>) -> bool
     ensures drops { result ≡ empties replica.now.held.history draft.now }
-    ensures stands { Stands replica.now }
+    ensures stands { IsSound replica.now }
 {
     let shown = replica.section_count();
     draft.parts().is_empty() && shown > 0
@@ -185,7 +183,7 @@ fn drops_all(replica: &Replica, draft: &Draft<'_>) -> bool
 
 /// Revises the replica until it shows the draft that the bytes are. Answers how many operations that took.
 fn revise_to(alloc: Global, replica: &mut Replica, text: &[u8]) -> Result<u32, Refusal>
-    requires ready { IsReady replica.old }
+    requires ready { CanTake replica.old }
     requires other { text.now ≢ arranged_text replica.old.held.history }
     ensures made { IfOk result (λ n. (ps : List Part) × (parts text.now ≡ Ok ps)
         × (empties replica.old.held.history ps ≡ false) × (is_too_large ps ≡ false)

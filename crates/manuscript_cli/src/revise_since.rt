@@ -2,18 +2,18 @@
 ghost use Rattle.std.specs.Prelude.{◌≡◌, ◌≢◌, ◌⊎◌, IfErr, IfOk, None, OnOk, Some};
 ghost use Rattle.op_runs.specs.Finding.{op_of};
 ghost use Rattle.origin_model.specs.edits.Refusal.{next_of_own};
-ghost use Rattle.origin_model.specs.taking.Taking.{HasPlace, IsSettled, TooMany as AnswersTooMany, answer, intake};
-ghost use Rattle.replica_file.specs.Loading.{IsReady};
-ghost use Rattle.version_views.specs.Fronts.{front_of};
-ghost use Rattle.command_kinds.specs.Changes.{IsTold, change};
+ghost use Rattle.origin_model.specs.taking.Taking.{MeetsNoLimit, IsSettled, TooMany as AnswersTooMany, answer, intake};
+ghost use Rattle.replica_file.specs.Loading.{CanTake};
+ghost use Rattle.version_views.specs.Fronts.{replica_at};
+ghost use Rattle.command_kinds.specs.Changes.{IsSpecified, change};
 ghost use Rattle.command_kinds.specs.Files.{FileRefuses};
 ghost use Rattle.command_kinds.specs.Findings.{Finding};
 ghost use Rattle.command_kinds.specs.Intake.{FeedsNot};
-ghost use Rattle.command_kinds.specs.Saving.{Outcome, ReadsInput, SavesGiven, SavingBlameless};
+ghost use Rattle.command_kinds.specs.Saving.{Outcome, ReadsInput, SavesGiven};
 ghost use Rattle.command_kinds.specs.declared.refusal.Refusal.{Refusal as AnyRefusal};
 ghost use Rattle.command_kinds.specs.declared.refusal.Refusal.TheVariants.{NoMemory as NoMemoryFound};
 ghost use Rattle.manuscript_cli.specs.Revising.{LooksAtBase};
-ghost use Rattle.manuscript_cli.specs.RevisingSince.{Brings, FindsNoRoom, HasNoPlaceFor, MomentDecidesAlone, moment_refusal};
+ghost use Rattle.manuscript_cli.specs.RevisingSince.{BringsRevision, FindsNoRoom, HasNoPlaceFor, MomentDecidesAlone, moment_refusal};
 ghost use Rattle.manuscript_cli.specs.RevisingSince.{revision_since, same_next, told_of_whole as told_of};
 
 use crate::revise::{DraftSources, Revised, revise_by, too_many};
@@ -77,11 +77,9 @@ pub(crate) fn revise_file_since<S: Source, N: Sink, H: Disk, G: Disk>(
         × SavesGiven (revision_since count (change (G.seen base.old) (G.seen base.new))
         (change (S.seen input.old) (S.seen input.new)) course)
         (change (H.seen home.old) (H.seen home.new)) (change (N.seen notes.old) (N.seen notes.new)) result }
-    ensures blameless { SavingBlameless (change (H.seen home.old) (H.seen home.new))
-        (change (N.seen notes.old) (N.seen notes.new)) result }
     ensures looks { LooksAtBase (change (G.seen base.old) (G.seen base.new)) result }
     ensures reads { ReadsInput (S.seen input.old) (S.seen input.new) result }
-    ensures unused { IsTold (H.seen home.old) → (why : AnyRefusal) → FileRefuses (H.seen home.old) why
+    ensures unused { IsSpecified (H.seen home.old) → (why : AnyRefusal) → FileRefuses (H.seen home.old) why
         → (S.seen input.new ≡ S.seen input.old) × (G.seen base.new ≡ G.seen base.old) }
     ensures moment { MomentDecidesAlone count (H.seen home.old) (change (G.seen base.old) (G.seen base.new))
         (change (S.seen input.old) (S.seen input.new)) }
@@ -92,8 +90,8 @@ pub(crate) fn revise_file_since<S: Source, N: Sink, H: Disk, G: Disk>(
 
 /// The replica as it was when so many operations were accepted, where it made none since.
 fn past_of(alloc: Global, replica: &Replica, count: u32) -> Result<Replica, Refusal>
-    ensures past { IfOk result (λ past. past ≡ front_of count replica.now) }
-    ensures ready { IfOk result IsReady }
+    ensures past { IfOk result (λ past. past ≡ replica_at count replica.now) }
+    ensures ready { IfOk result CanTake }
     ensures may { OnOk result (moment_refusal count replica.now ≡ None) }
     ensures err { IfErr result (λ why. (why ≡ NoMemoryFound) ⊎ (moment_refusal count replica.now ≡ Some why)) }
 {
@@ -133,7 +131,7 @@ fn bring(
     given: Result<Revised, Refusal>,
 ) -> Result<Revised, Refusal>
     requires settled { IsSettled replica.old.held }
-    ensures brings { Brings replica.old replica.new past given result }
+    ensures brings { BringsRevision replica.old replica.new past given result }
 {
     match given {
         Ok(revised) => {
@@ -169,7 +167,7 @@ fn told_of_whole(replica: &Replica, why: Refusal) -> Refusal
 /// Takes copies of the operations in.
 fn take_made(alloc: Global, replica: &mut Replica, ops: OpSlice<'_>) -> Result<(), Refusal>
     requires settled { IsSettled replica.old.held }
-    ensures ok { OnOk result (HasPlace replica.old.hold replica.old.most replica.old.held ops.entry) }
+    ensures ok { OnOk result (MeetsNoLimit replica.old.hold replica.old.most replica.old.held ops.entry) }
     ensures err { IfErr result (λ why. FindsNoRoom why replica.old ops.entry) }
 {
     let full = too_many(replica);
@@ -183,7 +181,7 @@ fn take_made(alloc: Global, replica: &mut Replica, ops: OpSlice<'_>) -> Result<(
 /// The same, where one that finds no place is told by the replica.
 fn take_all(alloc: Global, replica: &mut Replica, ops: OpSlice<'_>) -> Result<(), FeedFault>
     requires settled { IsSettled replica.old.held }
-    ensures ok { OnOk result (HasPlace replica.old.hold replica.old.most replica.old.held ops.entry) }
+    ensures ok { OnOk result (MeetsNoLimit replica.old.hold replica.old.most replica.old.held ops.entry) }
     ensures err { IfErr result (λ fault. HasNoPlaceFor fault replica.old ops.entry) }
 {
     let mut rest = ops;

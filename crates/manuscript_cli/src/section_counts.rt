@@ -6,7 +6,7 @@ ghost use Rattle.origin_model.specs.declared.operations.Role.TheVariants.{Sectio
 ghost use Rattle.origin_model.specs.operations.History.{accepted};
 ghost use Rattle.origin_model.specs.operations.Verdict.{fits};
 ghost use Rattle.catalogue_notes.specs.Lift.{is_section as is_section_in};
-ghost use Rattle.manuscript_cli.specs.SectionCounts.{changes_section as changes_section_in, count_of as count_in};
+ghost use Rattle.manuscript_cli.specs.SectionCounts.{changes_section as changes_section_in, count_of_kind as count_in};
 ghost use Rattle.manuscript_cli.specs.SectionCounts.{section_counts as counts_in};
 
 use catalogue_notes::{MOVE_CODE, RETITLE_CODE};

@@ -2,10 +2,10 @@ ghost use Rattle.std.specs.Prelude.{◌≡◌, ◌≢◌, ◌↔◌, ℕ, Option
 ghost use Rattle.origin_model.specs.order.Printed.{manuscript};
 ghost use Rattle.catalogue_notes.specs.Arranged.{arranged_text};
 ghost use Rattle.manuscript_cli.specs.Command.{IsCommand, Names};
-ghost use Rattle.manuscript_cli.specs.Headline.{Headline, IsDecided, PrintsBySet};
+ghost use Rattle.manuscript_cli.specs.Headline.{Headline, PrintsBySet, ShowIsDecided};
 ghost use Rattle.manuscript_cli.specs.Run.{IsBlameless, Meets};
 ghost use Rattle.command_kinds.specs.Changes.{change};
-ghost use Rattle.manuscript_cli.specs.Touched.{touched};
+ghost use Rattle.manuscript_cli.specs.Touched.{all_objects};
 ghost use Rattle.manuscript_cli.specs.declared.command.Command.{Command as AnyCommand};
 ghost use Rattle.manuscript_cli.specs.declared.command.Command.TheVariants.{Arrange, Print, Show};
 ghost use Rattle.command_kinds.specs.declared.status.Status.TheVariants.{Usage};
@@ -66,20 +66,20 @@ pub fn run<S: Source, O: Sink, N: Sink, H: Disk, G: Disk, W: Wire, D: Dock, B: B
     // There is a command that the words ask for, or none, and this is what it did.
     ensures meets { (command : Option AnyCommand) × IsCommand (map string_bytes words.now) command
         × Meets (map string_bytes words.now) command
-        (touched (S.seen input.old) (O.seen output.old) (N.seen notes.old) (H.seen home.old) (G.seen guest.old)
+        (all_objects (S.seen input.old) (O.seen output.old) (N.seen notes.old) (H.seen home.old) (G.seen guest.old)
         (W.seen wire.old) (D.seen dock.old))
-        (touched (S.seen input.new) (O.seen output.new) (N.seen notes.new) (H.seen home.new) (G.seen guest.new)
+        (all_objects (S.seen input.new) (O.seen output.new) (N.seen notes.new) (H.seen home.new) (G.seen guest.new)
         (W.seen wire.new) (D.seen dock.new)) result }
 
     // Where an object tells, a count of faults that rises is told by an outside fault.
     ensures blameless { IsBlameless
-        (touched (S.seen input.old) (O.seen output.old) (N.seen notes.old) (H.seen home.old) (G.seen guest.old)
+        (all_objects (S.seen input.old) (O.seen output.old) (N.seen notes.old) (H.seen home.old) (G.seen guest.old)
         (W.seen wire.old) (D.seen dock.old))
-        (touched (S.seen input.new) (O.seen output.new) (N.seen notes.new) (H.seen home.new) (G.seen guest.new)
+        (all_objects (S.seen input.new) (O.seen output.new) (N.seen notes.new) (H.seen home.new) (G.seen guest.new)
         (W.seen wire.new) (D.seen dock.new)) result }
 
     // The stream decides the status of `show`, and a whole stream is shown.
-    ensures decided { (hold : ℕ) → Names (map string_bytes words.now) (Show hold) → IsDecided hold
+    ensures decided { (hold : ℕ) → Names (map string_bytes words.now) (Show hold) → ShowIsDecided hold
         (record { input = S.seen input.old; output = O.seen output.old; notes = N.seen notes.old })
         (record { input = S.seen input.new; output = O.seen output.new; notes = N.seen notes.new }) result }
     ensures headline { (hold : ℕ) → Names (map string_bytes words.now) (Show hold) → Headline hold
@@ -97,30 +97,10 @@ pub fn run<S: Source, O: Sink, N: Sink, H: Disk, G: Disk, W: Wire, D: Dock, B: B
     arranged_by_set();
     match read_words(words) {
         None => tell(notes, Refusal::Words),
-        Some(command) => {
-            let objects = Objects {
-                input,
-                output,
-                notes,
-                home,
-                guest,
-                wire,
-                dock,
-            };
-            obey(alloc, command, words, objects, hasher)
-        }
+        Some(command) => obey(
+            alloc, command, words, input, output, notes, home, guest, wire, dock, hasher,
+        ),
     }
-}
-
-/// The objects of the outside, of which each command uses some.
-struct Objects<'a, S, O, N, H, G, W, D> {
-    input: &'a mut S,
-    output: &'a mut O,
-    notes: &'a mut N,
-    home: &'a mut H,
-    guest: &'a mut G,
-    wire: &'a mut W,
-    dock: &'a mut D,
 }
 
 /// Does the command.
@@ -128,45 +108,23 @@ fn obey<S: Source, O: Sink, N: Sink, H: Disk, G: Disk, W: Wire, D: Dock, B: Buil
     alloc: Global,
     command: Command,
     words: &[String],
-    objects: Objects<'_, S, O, N, H, G, W, D>,
+    input: &mut S,
+    output: &mut O,
+    notes: &mut N,
+    home: &mut H,
+    guest: &mut G,
+    wire: &mut W,
+    dock: &mut D,
     hasher: B,
 ) -> Status
     requires { Names (map string_bytes words.now) command }
-    // `exit` has what is left behind the references, in the order of the fields.
     ensures meets { Meets (map string_bytes words.now) (Some command)
-        (record {
-          streams = record {
-            input = S.seen objects.entry.input.now;
-            output = O.seen objects.entry.output.now;
-            notes = N.seen objects.entry.notes.now;
-          };
-          home = H.seen objects.entry.home.now;
-          guest = G.seen objects.entry.guest.now;
-          wire = W.seen objects.entry.wire.now;
-          dock = D.seen objects.entry.dock.now;
-        })
-        (record {
-          streams = record {
-            input = S.seen objects.exit.0.now;
-            output = O.seen objects.exit.1.0.now;
-            notes = N.seen objects.exit.1.1.0.now;
-          };
-          home = H.seen objects.exit.1.1.1.0.now;
-          guest = G.seen objects.exit.1.1.1.1.0.now;
-          wire = W.seen objects.exit.1.1.1.1.1.0.now;
-          dock = D.seen objects.exit.1.1.1.1.1.1.0.now;
-        }) result }
+        (all_objects (S.seen input.old) (O.seen output.old) (N.seen notes.old) (H.seen home.old) (G.seen guest.old)
+        (W.seen wire.old) (D.seen dock.old))
+        (all_objects (S.seen input.new) (O.seen output.new) (N.seen notes.new) (H.seen home.new) (G.seen guest.new)
+        (W.seen wire.new) (D.seen dock.new)) result }
     ensures used { result ≢ Usage }
 {
-    let Objects {
-        dock,
-        wire,
-        guest,
-        home,
-        notes,
-        output,
-        input,
-    } = objects;
     match command {
         Command::Show(hold) => show(alloc, hold, input, output, notes),
         Command::New(replica, hold) => new_file(replica, hold, home, notes),

@@ -2,7 +2,7 @@ ghost use Rattle.std.specs.Prelude.{◌≡◌, ◌≢◌, ◌↔◌, ◌∷◌, 
 ghost use Rattle.std.specs.Option.{option_copied};
 ghost use Rattle.fugue_ids.specs.declared.limits.TheConstants.{LONGEST_BODY as longest_body};
 ghost use Rattle.passage_remarks.specs.Spelling.{IsSpelled};
-ghost use Rattle.manuscript_cli.specs.Command.{HasFiles, IsCommand, IsLine, IsMoment, last_word, third_word};
+ghost use Rattle.manuscript_cli.specs.Command.{HasFiles, IsCommand, IsLineWord, IsMoment, last_word, third_word};
 ghost use Rattle.manuscript_cli.specs.Number.{IsNumber};
 ghost use Rattle.manuscript_cli.specs.declared.words.TheConstants.{GREATEST_PORT as greatest_port};
 
@@ -197,7 +197,7 @@ fn read_revise(file: &str, base: &str, number: &str) -> Option<Command>
 
 /// Whether the words are a file, a passage and a comment's text.
 fn is_remark(file: &str, passage: &str, text: &str) -> bool
-    ensures { IsTrue result ↔ ((file.now ≢ []) × IsSpelled passage.now × IsLine longest_body text.now) }
+    ensures { IsTrue result ↔ ((file.now ≢ []) × IsSpelled passage.now × IsLineWord longest_body text.now) }
 {
     !file.is_empty() && is_spelled(passage.as_bytes()) && is_line(text, LONGEST_BODY)
 }
@@ -225,14 +225,14 @@ fn read_retitle(file: &str, section: &str, title: &str) -> Option<Command>
 
 /// Whether the words are a file and the name of a version.
 fn is_named(file: &str, name: &str) -> bool
-    ensures { IsTrue result ↔ ((file.now ≢ []) × IsLine LONGEST_NAME name.now) }
+    ensures { IsTrue result ↔ ((file.now ≢ []) × IsLineWord LONGEST_NAME name.now) }
 {
     !file.is_empty() && is_line(name, LONGEST_NAME)
 }
 
 /// Whether the word is one line of at most so many bytes.
 fn is_line(word: &str, most: usize) -> bool
-    ensures { IsTrue result ↔ IsLine most word.now }
+    ensures { IsTrue result ↔ IsLineWord most word.now }
 {
     !word.is_empty() && word.len() <= most && !has_line_end(word.as_bytes())
 }

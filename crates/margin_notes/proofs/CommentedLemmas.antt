@@ -18,7 +18,7 @@ use Rattle.origin_model.specs.edits.Edits.{id_at}
 use Rattle.origin_model.specs.edits.Effect.{with_ops}
 use Rattle.origin_model.specs.edits.Noting.{AreHeld, IsNoted, ShowsAsBefore, note_by}
 use Rattle.origin_model.specs.edits.Refusal.{next_of_own, section_shown}
-use Rattle.origin_model.specs.edits.State.{Stands, State}
+use Rattle.origin_model.specs.edits.State.{IsSound, State}
 use Rattle.origin_model.specs.operations.History.{stands_at}
 use Rattle.origin_model.specs.order.Laws.{IsTotal}
 use Rattle.origin_model.specs.order.Printed.{text}
@@ -29,9 +29,9 @@ use Rattle.cluster_text.specs.Clusters.{clusters, scalars, span as scalar_range}
 use Rattle.margin_notes.specs.declared.commenting.CommentFault.{CommentFault}
 use Rattle.margin_notes.specs.declared.commenting.CommentFault.TheVariants.{OutOfRange}
 use Rattle.margin_notes.specs.declared.limits.TheConstants.{COMMENT_CODE}
-use Rattle.margin_notes.specs.Commenting.{HasNoRange, IsCommentMade, IsCommented, IsRange, NamesPassage, range_of, scalar_in}
+use Rattle.margin_notes.specs.Commenting.{HasNoRange, IsCommentMade, IsCommented, IsRange, NamesPassage, range_of, shown_element}
 use Rattle.margin_notes.specs.Comments.{Comment, comments_in, is_text, is_text_of}
-use Rattle.margin_notes.specs.Margins.{span}
+use Rattle.margin_notes.specs.Margins.{margin_span}
 use Rattle.margin_notes.proofs.CountLemmas.{count_at, ordered_at, up_to}
 use Rattle.margin_notes.proofs.MemberLemmas.{to_comments}
 use Rattle.origin_model.proofs.edits.SplitLemmas.{get_in}
@@ -117,16 +117,16 @@ range_missing s k at n bytes x None result is shown bytes_are none =
     (x, shown, subst (λ (b : List ℕ). length (clusters b) < at + n) bytes_are (none.0 refl))
 
 -- the scalars of a range are there
-pub scalar_there : (s : State) (k at n : ℕ) (found : ℕ × ℕ) (i : ℕ) → IsRange s k at n found → i < found.0 + found.1 → IsSome (scalar_in s k i)
+pub scalar_there : (s : State) (k at n : ℕ) (found : ℕ × ℕ) (i : ℕ) → IsRange s k at n found → i < found.0 + found.1 → IsSome (shown_element s k i)
 scalar_there s k at n found i r l =
     let f = get_some (shown (within r.section) s.held.history) i (omega (arith, l, r.inside)) in
     subst (λ (o : Option Identifier). IsSome o) (sym (ap (option_and_then (λ x. slice_get (shown (within x) s.held.history) i)) r.shown_at ∙ f.1)) refl
 
 -- so they are the passage of the range
 pub passage_found : (s : State) (k at n : ℕ) (found : ℕ × ℕ) (first last : Identifier) (named : List Identifier) → IsRange s k at n found → 0 < n
-    → scalar_in s k found.0 ≡ Some first → scalar_in s k (found.0 + found.1 - 1) ≡ Some last → named ≡ first ∷ last ∷ [] → NamesPassage s k at n named
+    → shown_element s k found.0 ≡ Some first → shown_element s k (found.0 + found.1 - 1) ≡ Some last → named ≡ first ∷ last ∷ [] → NamesPassage s k at n named
 passage_found s k at n found first last named r l a b e =
-    let in_it : (i : ℕ) → scalar_in s k i ≡ slice_get (shown (within r.section) s.held.history) i = λ i. ap (option_and_then (λ x. slice_get (shown (within x) s.held.history) i)) r.shown_at in
+    let in_it : (i : ℕ) → shown_element s k i ≡ slice_get (shown (within r.section) s.held.history) i = λ i. ap (option_and_then (λ x. slice_get (shown (within x) s.held.history) i)) r.shown_at in
     record {
       section = r.section;
       first = first;
@@ -192,17 +192,17 @@ module _ (h : List Op) (id s a b : Identifier) (body : List ℕ) (i j : ℕ) (go
     stands = not_hidden_before h id w.1 (when_ready h (Note id (a ∷ b ∷ []) COMMENT_CODE body) w.0).fresh;
   })
 
-  pub made_begins : (span whole s a b).from ≡ i
+  pub made_begins : (margin_span whole s a b).from ≡ i
   made_begins = count_at (before (within s) whole) total.irreflexive total.transitive listing i a in_order at_a
 
-  pub made_ends : (span whole s a b).to ≡ suc j
+  pub made_ends : (margin_span whole s a b).to ≡ suc j
   made_ends =
       up_to (before (within s) whole) total.irreflexive total.transitive b listing in_order (get_in listing j b at_b)
       ∙ ap suc (count_at (before (within s) whole) total.irreflexive total.transitive listing j b in_order at_b)
 
 -- the comment that was made stands on its clusters
 pub stands_on : (old new : State) (k at n count : ℕ) (body : List ℕ) (named : List Identifier) → is_text body ≡ true → NamesPassage old k at n named → IsNoted old new named COMMENT_CODE body count
-    → ShowsAsBefore old new → Stands new → IsCommented old new k at n body
+    → ShowsAsBefore old new → IsSound new → IsCommented old new k at n body
 stands_on old new k at n count body named good p noted shows stands =
     let q = p.passage in
     let s : Identifier = p.section in
@@ -225,8 +225,8 @@ stands_on old new k at n count body named good p noted shows stands =
       says = refl;
       listed = subst (λ z. Contains (comments_in z s) (record { id = id; first = p.first; last = p.last; text = body })) (sym h)
           (made_listed old.held.history id s p.first p.last body r.0 (r.0 + r.1 - 1) good w at_a at_b le);
-      begins = ap (λ z. (span z s p.first p.last).from) h ∙ made_begins old.held.history id s p.first p.last body r.0 (r.0 + r.1 - 1) good w at_a at_b le;
-      ends = ap (λ z. (span z s p.first p.last).to) h ∙ made_ends old.held.history id s p.first p.last body r.0 (r.0 + r.1 - 1) good w at_a at_b le ∙ end;
+      begins = ap (λ z. (margin_span z s p.first p.last).from) h ∙ made_begins old.held.history id s p.first p.last body r.0 (r.0 + r.1 - 1) good w at_a at_b le;
+      ends = ap (λ z. (margin_span z s p.first p.last).to) h ∙ made_ends old.held.history id s p.first p.last body r.0 (r.0 + r.1 - 1) good w at_a at_b le ∙ end;
     }
 
 pub made_on : (old new : State) (k at n count : ℕ) (body : List ℕ) (named : List Identifier) → NamesPassage old k at n named → IsNoted old new named COMMENT_CODE body count → IsCommentMade old new k at n body count

@@ -2,14 +2,14 @@
 use Rattle.margin_notes.proofs.Words.{Bool, Delete, Identifier, List, Note, Op, [], before, chain, chars, codes, false, is_utf8, order, refl, repeat, true, ℕ, ◌++◌, ◌∷◌, ◌≡◌}
 use lib.Utf8.{encode}
 unfoldable use Rattle.std.specs.Fmt.{digits}
-use Rattle.origin_model.specs.edits.Edits.{Add, Command, Cut, DropSection, Put, extended, made}
+use Rattle.origin_model.specs.edits.Edits.{Add, Command, Cut, DropSection, Put, history_with, made}
 use Rattle.margin_notes.specs.Comments.{Comment, by_id, comments, comments_in, is_text}
-use Rattle.margin_notes.specs.Margins.{Span, margins, span}
+use Rattle.margin_notes.specs.Margins.{Span, margins, margin_span}
 
 -- the history after edits of replica 1, one after another, where nothing waits
 abbrev edited : List Op → List Command → List Op
 edited h [] = h
-edited h (c ∷ cs) = edited (extended h (made 1 h [] c)) cs
+edited h (c ∷ cs) = edited (history_with h (made 1 h [] c)) cs
 
 abbrev id : ℕ → ℕ → Identifier
 id replica counter = record { replica = replica; counter = counter }
@@ -36,7 +36,7 @@ emptied = edited moved (Cut 0 3 2 ∷ [])
 
 -- the span of the comment
 abbrev on_it : List Op → Span
-on_it history = span history section (id 1 2) (id 1 4)
+on_it history = margin_span history section (id 1 2) (id 1 4)
 
 abbrev spans_are : ℕ → ℕ → Span
 spans_are from to = record { from = from; to = to }
@@ -67,7 +67,7 @@ not_shown = (refl, refl)
 
 -- one shown scalar, whose span has it alone; a comment on a scalar that was hidden before is on nothing
 single :
-    (span written section (id 1 1) (id 1 1) ≡ spans_are 0 1) × (span written section (id 1 5) (id 1 5) ≡ spans_are 4 5) × (span moved section (id 1 2) (id 1 2) ≡ spans_are 3 3)
+    (margin_span written section (id 1 1) (id 1 1) ≡ spans_are 0 1) × (margin_span written section (id 1 5) (id 1 5) ≡ spans_are 4 5) × (margin_span moved section (id 1 2) (id 1 2) ≡ spans_are 3 3)
 unfolding order before chain
 single = (refl, refl, refl)
 

@@ -9,7 +9,7 @@ use Rattle.origin_model.specs.order.Printed.{is_withdrawn}
 use Rattle.origin_model.proofs.SharedLemmas.{lawful_own}
 use Rattle.margin_notes.specs.Comments.{Comment, by_id, comment_in, comment_of, comments, comments_in, is_in_section, is_text, is_text_of}
 use Rattle.margin_notes.specs.Laws.{CommentsById}
-use Rattle.margin_notes.specs.Listing.{body_in, section_of, text_section}
+use Rattle.margin_notes.specs.Listing.{body_in, commented_section, text_section}
 use Rattle.margin_notes.specs.declared.limits.TheConstants.{COMMENT_CODE}
 use Rattle.margin_notes.proofs.KeptLemmas.{said_from, said_in, said_pairs}
 use Rattle.margin_notes.proofs.PassageLemmas.{both_parts}
@@ -77,7 +77,7 @@ to_comments h s c i =
     contains_filter (counts h s) (comments h) c (said_in comment_in h i.op c i.member i.says) (λ j. i.in_section j && not (i.stands j))
 
 -- the section of a comment is that of its anchors
-pub section_is : (h : List Op) (c : Comment) (s : Identifier) → section_of h c ≡ Some s → is_in_section h s c ≡ true
+pub section_is : (h : List Op) (c : Comment) (s : Identifier) → commented_section h c ≡ Some s → is_in_section h s c ≡ true
 section_is h c s e = by (text_section (holder h c.first)) e
   where
     by : (o : Option Identifier) → (elim o [ None ↦ None | Some t ↦ if is_in_section h t c then Some t else None ]) ≡ Some s → is_in_section h s c ≡ true
@@ -107,7 +107,7 @@ text_at (Some (Delete target)) s e = cc
 text_at (Some (Note id named code body)) s e = cc
 text_at None s e = cc
 
-pub has_section : (h : List Op) (c : Comment) (s : Identifier) → is_in_section h s c ≡ true → section_of h c ≡ Some s
+pub has_section : (h : List Op) (c : Comment) (s : Identifier) → is_in_section h s c ≡ true → commented_section h c ≡ Some s
 has_section h c s e =
     let anchors : Bool = is_text_of h s c.first && is_text_of h s c.last in
     let a = both_parts anchors (id_eq c.first c.last || before (within s) h c.first c.last) e in

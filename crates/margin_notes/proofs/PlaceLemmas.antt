@@ -13,7 +13,7 @@ use Rattle.origin_model.proofs.SharedLemmas.{element_stands, order_bounded, orde
 use Rattle.section_list.specs.Cells.{Cell, is_hidden_in_section as hidden_in, section_cell_ids, section_shown_before}
 use Rattle.section_list.specs.SectionList.{Listing}
 use Rattle.section_catalogue.specs.Contents.{Contents, listed_count, section_at, text_at}
-use Rattle.section_catalogue.specs.Manuscript.{IsPlaceOf, IsTextOf, StandsFor}
+use Rattle.section_catalogue.specs.Manuscript.{IsOrderedPlace, IsTextOf, Represents}
 use Rattle.section_catalogue.specs.Place.{place_held}
 use Rattle.section_catalogue.specs.declared.tables.Section.{Section as Titled}
 use Rattle.section_catalogue.proofs.BoundLemmas.{places_bounded}
@@ -57,10 +57,10 @@ few_before cells x =
     omega (arith, length-filter (λ (c : Cell). not c.hidden) front, count_by-le-length (λ (c : Cell). not c.hidden) front, ap length (take-append-drop i cells), length-append front (drop i cells))
 
 -- so they are few
-pub few_sections : (m : Contents) (h : List Op) (x : Identifier) → StandsFor m h → section_shown_before m.catalogue.cells x ≤ length h
+pub few_sections : (m : Contents) (h : List Op) (x : Identifier) → Represents m h → section_shown_before m.catalogue.cells x ≤ length h
 few_sections m h x s = omega (arith, few_before m.catalogue.cells x, places_bounded m h (Section x None None []) s)
 
-pub few_texts : (m : Contents) (h : List Op) (s x : Identifier) (l : Listing) → StandsFor m h → Some l ≡ text_at m s → section_shown_before l.cells x ≤ length h
+pub few_texts : (m : Contents) (h : List Op) (s x : Identifier) (l : Listing) → Represents m h → Some l ≡ text_at m s → section_shown_before l.cells x ≤ length h
 few_texts m h s x l stands is =
     let bound : listed_count (text_at m s) ≤ length h = places_bounded m h (Text x s None None 0) stands in
     let here : listed_count (Some l) ≤ length h = subst (λ o. listed_count o ≤ length h) (sym is) bound in
@@ -78,7 +78,7 @@ there_in xs x n none =
     none_given n e = cc
 
 -- the list of a section
-pub text_list : (m : Contents) (h : List Op) (s : Identifier) (l : Listing) → StandsFor m h → Some l ≡ text_at m s → IsPlaceOf (within s) h l
+pub text_list : (m : Contents) (h : List Op) (s : Identifier) (l : Listing) → Represents m h → Some l ≡ text_at m s → IsOrderedPlace (within s) h l
 text_list m h s l st is = (subst (λ (o : Option Listing). IfSome o (IsTextOf s h)) (sym is) ((look_ups_agree m h st).section_is s)).place
 
 no_text : (o : Option Titled) → IsSome o → None ≡ option_map (λ (e : Titled). e.text) o → ⊥
@@ -86,12 +86,12 @@ no_text None there e = true≢false (sym there)
 no_text (Some t) there e = cc
 
 -- a section with an element has one
-pub list_there : (m : Contents) (h : List Op) (s x : Identifier) → StandsFor m h → IsIn (within s) h x → None ≡ text_at m s → ⊥
+pub list_there : (m : Contents) (h : List Op) (s x : Identifier) → Represents m h → IsIn (within s) h x → None ≡ text_at m s → ⊥
 list_there m h s x st i e =
     no_text (section_at m s) (held_at m h (within s) x st (st.places x ∙ ap place_held i.held ∙ (element_stands (within s) i.op x i.place).0)).there e
 
 -- a list that is that of a place
-module _ (p : Place) (h : List Op) (w : Lawful h) (l : Listing) (is : IsPlaceOf p h l) where
+module _ (p : Place) (h : List Op) (w : Lawful h) (l : Listing) (is : IsOrderedPlace p h l) where
   abbrev total : IsTotal p h
   total = order_total p h w
 

@@ -9,7 +9,7 @@ use Rattle.origin_model.specs.edits.Refusal.{held_count, next_of_own, section_sh
 use Rattle.origin_model.specs.edits.State.{State}
 use Rattle.margin_notes.specs.declared.commenting.CommentFault.{CommentFault}
 use Rattle.margin_notes.specs.declared.commenting.CommentFault.TheVariants.{NoSection, OutOfRange, IdsSpent, TooMany, NoMemory}
-use Rattle.margin_notes.specs.Commenting.{HasNoRange, IsPassage, RefusesComment, as_comment_fault, clusters_of, comment_refusal, range_refusal}
+use Rattle.margin_notes.specs.Commenting.{HasNoRange, IsSectionPassage, RefusesComment, as_comment_fault, clusters_of, comment_refusal, range_refusal}
 use Rattle.fugue_ids.proofs.OptionLemmas.{err_inj, failed}
 
 -- a refusal that is the cause, or want of memory
@@ -60,7 +60,7 @@ not_for_memory s fault e d = by (nat_lt 0 1 && nat_lt (2 ^ 32) (next_of_own s + 
     by false false e = cc e
 
 -- where the clusters are there, a comment is refused as its note is
-module _ (s : State) (k at n : ℕ) (x first last : Identifier) (p : IsPassage s k at n x first last) where
+module _ (s : State) (k at n : ℕ) (x first last : Identifier) (p : IsSectionPassage s k at n x first last) where
   as_note : comment_refusal s k at n ≡ option_map as_comment_fault (note_refusal s)
   as_note =
       ap (refusal_by s at n) p.shown_at

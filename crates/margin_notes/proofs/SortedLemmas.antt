@@ -20,7 +20,7 @@ use Rattle.origin_model.specs.operations.History.{HaveOtherIds}
 use Rattle.origin_model.proofs.SharedLemmas.{lawful_own}
 use Rattle.margin_notes.specs.contracts.listing.EntryOrd.TheImpl as entry_ord
 use Rattle.margin_notes.specs.declared.listing.Entry.{Entry}
-use Rattle.margin_notes.specs.Listing.{Line, entry_bytes, entry_line, lines_in, listed}
+use Rattle.margin_notes.specs.Listing.{CommentLine, entry_bytes, line_of_entry, lines_in, listed_comments}
 use Rattle.margin_notes.specs.Margins.{margins}
 use Rattle.margin_notes.specs.Placing.{PlacedComment, placed_comments, placed_in}
 use Rattle.margin_notes.proofs.EntryLemmas.{placed_own}
@@ -46,7 +46,7 @@ lower_id : (a b : Entry) → a.number ≡ b.number → id_lt a.id b.id ≡ true 
 lower_id a b e l = grind (arith, common_steps)
 
 -- so one that is not greater than another is below it
-not_greater : (ops : List Op) (a b : Entry) → is_lt (entry_cmp b a) ≡ false → a.id ≢ b.id → Below (entry_line ops a) (entry_line ops b)
+not_greater : (ops : List Op) (a b : Entry) → is_lt (entry_cmp b a) ≡ false → a.id ≢ b.id → Below (line_of_entry ops a) (line_of_entry ops b)
 not_greater ops a b n d =
     elim (cases_lt a.number b.number) [
       | inl l ↦ inl l
@@ -87,15 +87,15 @@ pairs_reversed R flips (x ∷ xs) o =
     (λ k d l. flips x _ (All-permutation (R x) xs (reverse xs) (IsPermutation-reverse xs) (all_pairs_head R x xs o) k d l)))
 
 -- sorted entries of all operations are the lines of the sections
-module _ (h : List Op) (w : Lawful h) (es fs : List Entry) (are : map (entry_line (reverse h)) es ≡ lines_in h (reverse h)) (p : IsPermutation es fs) (sorted : IsSorted entry_cmp fs) where
-  abbrev line : Entry → Line
-  line = entry_line (reverse h)
+module _ (h : List Op) (w : Lawful h) (es fs : List Entry) (are : map (line_of_entry (reverse h)) es ≡ lines_in h (reverse h)) (p : IsPermutation es fs) (sorted : IsSorted entry_cmp fs) where
+  abbrev line : Entry → CommentLine
+  line = line_of_entry (reverse h)
 
   apart : AllPairs (λ (a b : Entry). a.id ≢ b.id) fs
   apart =
       others_shuffled (λ (e : Entry). e.id) es fs p
-      (all_pairs_from_map line (λ (a b : Line). a.id ≢ b.id) es
-      (subst (AllPairs (λ (a b : Line). a.id ≢ b.id)) (sym are)
+      (all_pairs_from_map line (λ (a b : CommentLine). a.id ≢ b.id) es
+      (subst (AllPairs (λ (a b : CommentLine). a.id ≢ b.id)) (sym are)
       (lines_apart h (reverse h) (pairs_reversed HaveOtherIds (λ a b other i e f. other i f e) h (lawful_own h w)))))
 
   ordered : AllPairs Below (map line fs)
@@ -106,19 +106,19 @@ module _ (h : List Op) (w : Lawful h) (es fs : List Entry) (are : map (entry_lin
   lines : IsPermutation (lines_in h (reverse h)) (map line fs)
   lines = subst (λ l. IsPermutation l (map line fs)) are (IsPermutation-map line es fs p)
 
-  pub sorted_lines : map line fs ≡ listed h
+  pub sorted_lines : map line fs ≡ listed_comments h
   sorted_lines =
-      same_ordered Below below_irrefl below_trans (map line fs) (listed h) ordered (listed_ordered h 1 (shown catalogue h) w)
+      same_ordered Below below_irrefl below_trans (map line fs) (listed_comments h) ordered (listed_ordered h 1 (shown catalogue h) w)
       (λ l m. (same_lines h w l).0 (Contains-permutation (map line fs) (lines_in h (reverse h)) l (IsPermutation-sym (lines_in h (reverse h)) (map line fs) lines) m))
       (λ l m. Contains-permutation (lines_in h (reverse h)) (map line fs) l lines ((same_lines h w l).1 m))
 
 -- the bytes of entries are those of their lines
-bytes_are : (ops : List Op) (es : List Entry) → flat_map (entry_bytes ops) es ≡ flat_map (λ (l : Line). l.bytes) (map (entry_line ops) es)
+bytes_are : (ops : List Op) (es : List Entry) → flat_map (entry_bytes ops) es ≡ flat_map (λ (l : CommentLine). l.bytes) (map (line_of_entry ops) es)
 bytes_are ops [] = refl
 bytes_are ops (e ∷ es) = ap (λ t. entry_bytes ops e ++ t) (bytes_are ops es)
 
-pub entries_write : (h : List Op) (es : List Entry) → map (entry_line (reverse h)) es ≡ listed h → flat_map (entry_bytes (reverse h)) es ≡ margins h
-entries_write h es are = bytes_are (reverse h) es ∙ ap (flat_map (λ (l : Line). l.bytes)) are ∙ lines_are h 1 (shown catalogue h)
+pub entries_write : (h : List Op) (es : List Entry) → map (line_of_entry (reverse h)) es ≡ listed_comments h → flat_map (entry_bytes (reverse h)) es ≡ margins h
+entries_write h es are = bytes_are (reverse h) es ∙ ap (flat_map (λ (l : CommentLine). l.bytes)) are ∙ lines_are h 1 (shown catalogue h)
 
 -- no two comments that stand in sections have one identifier
 pub placed_apart : (h : List Op) → Lawful h → AllPairs (λ (a b : PlacedComment). a.id ≢ b.id) (placed_comments h)

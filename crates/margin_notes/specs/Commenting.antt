@@ -16,7 +16,7 @@ use Rattle.margin_notes.specs.declared.commenting.CommentFault.{CommentFault}
 use Rattle.margin_notes.specs.declared.commenting.CommentFault.TheVariants.{NoSection, OutOfRange, IdsSpent, TooMany, NoMemory}
 use Rattle.margin_notes.specs.declared.limits.TheConstants.{COMMENT_CODE}
 use Rattle.margin_notes.specs.Comments.{Comment, comments_in}
-use Rattle.margin_notes.specs.Margins.{span}
+use Rattle.margin_notes.specs.Margins.{margin_span}
 
 -- the clusters of what is shown of a section
 abbrev pub clusters_of : List Op → Identifier → List (List ℕ)
@@ -65,11 +65,11 @@ HasNoRange s k at n NoMemory = section_shown s k ≢ None
 HasNoRange s k at n _ = ⊥
 
 -- the element with so many shown ones before it in the section with so many shown ones before it
-abbrev pub scalar_in : State → (k at : ℕ) → Option Identifier
-scalar_in s k at = option_and_then (λ x. slice_get (shown (within x) s.held.history) at) (section_shown s k)
+abbrev pub shown_element : State → (k at : ℕ) → Option Identifier
+shown_element s k at = option_and_then (λ x. slice_get (shown (within x) s.held.history) at) (section_shown s k)
 
 -- a passage of a section: the elements of its first and its last scalar
-pub record IsPassage (s : State) (k at n : ℕ) (section first last : Identifier) : Type 0 where
+pub record IsSectionPassage (s : State) (k at n : ℕ) (section first last : Identifier) : Type 0 where
   pub shown_at : section_shown s k ≡ Some section
   pub enough : at + n ≤ length (clusters_of s.held.history section)
   pub some : 0 < (range_of s.held.history section at n).1
@@ -82,7 +82,7 @@ pub record NamesPassage (s : State) (k at n : ℕ) (named : List Identifier) : T
   pub section : Identifier
   pub first : Identifier
   pub last : Identifier
-  pub passage : IsPassage s k at n section first last
+  pub passage : IsSectionPassage s k at n section first last
   pub named_are : named ≡ first ∷ last ∷ []
 
 -- a comment was made, and nothing else
@@ -90,7 +90,7 @@ pub record IsCommentMade (old new : State) (k at n : ℕ) (body : List ℕ) (cou
   pub section : Identifier
   pub first : Identifier
   pub last : Identifier
-  pub passage : IsPassage old k at n section first last
+  pub passage : IsSectionPassage old k at n section first last
   pub noted : IsNoted old new (first ∷ last ∷ []) COMMENT_CODE body count
 
 -- it is one of the section's comments, and its span is the scalars of the clusters
@@ -100,6 +100,6 @@ pub record IsCommented (old new : State) (k at n : ℕ) (body : List ℕ) : Type
   pub comment : Comment
   pub says : comment.text ≡ body
   pub listed : Contains (comments_in new.held.history section) comment
-  pub begins : (span new.held.history section comment.first comment.last).from ≡ (range_of old.held.history section at n).0
-  pub ends : (span new.held.history section comment.first comment.last).to
+  pub begins : (margin_span new.held.history section comment.first comment.last).from ≡ (range_of old.held.history section at n).0
+  pub ends : (margin_span new.held.history section comment.first comment.last).to
       ≡ (range_of old.held.history section at n).0 + (range_of old.held.history section at n).1

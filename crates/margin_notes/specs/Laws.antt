@@ -9,7 +9,7 @@ use Rattle.origin_model.specs.operations.Verdict.{Lawful}
 use Rattle.origin_model.specs.order.Laws.{IsIn}
 use Rattle.origin_model.specs.order.Printed.{is_hidden, shown}
 use Rattle.margin_notes.specs.Comments.{Comment, by_id, comment_in, comments_in, is_in_section}
-use Rattle.margin_notes.specs.Margins.{passage, span}
+use Rattle.margin_notes.specs.Margins.{passage, margin_span}
 
 -- the comments of a section by identifier are its comments, each once
 pub record CommentsById : Type 0 where
@@ -31,5 +31,5 @@ CommentsStay = (s : Identifier) (c : Comment) (op : Op) (new h : List Op) → La
 -- the span of a comment cuts the shown elements of its passage out of those of the section
 abbrev pub SpanIsPassage : Type 0
 SpanIsPassage = (h : List Op) (s : Identifier) (c : Comment) → Lawful h → is_in_section h s c ≡ true
-    → take ((span h s c.first c.last).to - (span h s c.first c.last).from) (drop (span h s c.first c.last).from (shown (within s) h))
+    → take ((margin_span h s c.first c.last).to - (margin_span h s c.first c.last).from) (drop (margin_span h s c.first c.last).from (shown (within s) h))
     ≡ filter (λ x. not (is_hidden h x)) (passage (within s) h c.first c.last)

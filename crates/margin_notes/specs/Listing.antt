@@ -10,7 +10,7 @@ use Rattle.origin_model.specs.declared.operations.Place.TheVariants.{Catalogue a
 use Rattle.origin_model.specs.operations.History.{holder}
 use Rattle.origin_model.specs.order.Printed.{is_withdrawn, shown}
 use Rattle.section_catalogue.specs.Contents.{Contents}
-use Rattle.section_catalogue.specs.Manuscript.{StandsFor}
+use Rattle.section_catalogue.specs.Manuscript.{Represents}
 use Rattle.margin_notes.specs.Comments.{Comment, by_id, comment_in, comments_in, is_in_section}
 use Rattle.margin_notes.specs.Margins.{comment_line}
 use Rattle.margin_notes.specs.declared.listing.Entry.{Entry}
@@ -28,13 +28,13 @@ text_section (Some (Text id section left right ch)) = Some section
 text_section _ = None
 
 -- the section that has a comment
-abbrev pub section_of : List Op → Comment → Option Identifier
-section_of h c = elim (text_section (holder h c.first)) [ None ↦ None | Some s ↦ if is_in_section h s c then Some s else None ]
+abbrev pub commented_section : List Op → Comment → Option Identifier
+commented_section h c = elim (text_section (holder h c.first)) [ None ↦ None | Some s ↦ if is_in_section h s c then Some s else None ]
 
 -- a manuscript of no more operations than there may be
 pub record HasFew (m : Contents) : Type 0 where
   pub history : List Op
-  pub stands : StandsFor m history
+  pub stands : Represents m history
   pub few : length history ≤ MOST_OPERATIONS
 
 -- the number of a section among some, of which the first has the number k
@@ -47,35 +47,35 @@ abbrev pub section_number : List Op → Identifier → Option ℕ
 section_number h s = number_from 1 (shown catalogue h) s
 
 -- a line that is written: the number of its section, the identifier of its comment, and its bytes
-pub record Line : Type 0 where
+pub record CommentLine : Type 0 where
   pub number : ℕ
   pub id : Identifier
   pub bytes : List ℕ
 
 -- the line of a comment in the section with the number k
-abbrev pub line_of : List Op → ℕ → Identifier → Comment → Line
-line_of h k s c = record { number = k; id = c.id; bytes = comment_line h k s c }
+abbrev pub line_of_comment : List Op → ℕ → Identifier → Comment → CommentLine
+line_of_comment h k s c = record { number = k; id = c.id; bytes = comment_line h k s c }
 
 -- the line of a comment that is not withdrawn, where its section is shown
-abbrev pub line_for : List Op → Comment → Option Line
-line_for h c = elim (section_of h c) [ None ↦ None | Some s ↦ option_map (λ k. line_of h k s c) (section_number h s) ]
+abbrev pub line_for : List Op → Comment → Option CommentLine
+line_for h c = elim (commented_section h c) [ None ↦ None | Some s ↦ option_map (λ k. line_of_comment h k s c) (section_number h s) ]
 
 -- the line of an operation, where it is a comment that is listed
-abbrev pub line_in : List Op → Op → Option Line
-line_in h op = elim (comment_in op) [ None ↦ None | Some c ↦ if is_withdrawn h c.id then None else line_for h c ]
+abbrev pub listed_line : List Op → Op → Option CommentLine
+listed_line h op = elim (comment_in op) [ None ↦ None | Some c ↦ if is_withdrawn h c.id then None else line_for h c ]
 
 -- those of some operations
-abbrev pub lines_in : List Op → List Op → List Line
-lines_in h ops = flat_map (λ op. option_to_list (line_in h op)) ops
+abbrev pub lines_in : List Op → List Op → List CommentLine
+lines_in h ops = flat_map (λ op. option_to_list (listed_line h op)) ops
 
 -- the lines of some sections, of which the first has the number k
-abbrev pub listed_from : List Op → ℕ → List Identifier → List Line
+abbrev pub listed_from : List Op → ℕ → List Identifier → List CommentLine
 listed_from h k [] = []
-listed_from h k (s ∷ ss) = map (line_of h k s) (by_id (comments_in h s)) ++ listed_from h (suc k) ss
+listed_from h k (s ∷ ss) = map (line_of_comment h k s) (by_id (comments_in h s)) ++ listed_from h (suc k) ss
 
 -- the lines of the shown sections
-abbrev pub listed : List Op → List Line
-listed h = listed_from h 1 (shown catalogue h)
+abbrev pub listed_comments : List Op → List CommentLine
+listed_comments h = listed_from h 1 (shown catalogue h)
 
 -- the body of a note
 abbrev pub body_in : Op → List ℕ
@@ -84,6 +84,7 @@ body_in (Text id section left right ch) = []
 body_in (Delete target) = []
 body_in (Note id named code body) = body
 
+-- the body of the Note, where the operation is one
 abbrev pub body_of : Option Op → List ℕ
 body_of None = []
 body_of (Some op) = body_in op
@@ -93,8 +94,8 @@ abbrev pub entry_bytes : List Op → Entry → List ℕ
 entry_bytes ops e = decimal e.number ++ 32 ∷ decimal e.from ++ 32 ∷ decimal e.to ++ 32 ∷ body_of (slice_get ops e.at) ++ 10 ∷ []
 
 -- the line that an entry stands for
-abbrev pub entry_line : List Op → Entry → Line
-entry_line ops e = record { number = e.number; id = e.id; bytes = entry_bytes ops e }
+abbrev pub line_of_entry : List Op → Entry → CommentLine
+line_of_entry ops e = record { number = e.number; id = e.id; bytes = entry_bytes ops e }
 
 -- the text goes out, or the output fails with a front of it gone out, or memory is wanting and nothing went out
 abbrev pub WritesMargins : OutView → OutView → Result (Unit {0}) MarginFault → List ℕ → Type 0

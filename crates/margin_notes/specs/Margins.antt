@@ -13,8 +13,9 @@ pub record Span : Type 0 where
   pub from : ℕ
   pub to : ℕ
 
-abbrev pub span : List Op → (s first last : Identifier) → Span
-span history s first last = record {
+-- the shown scalars of a comment's passage, by their places in the section
+abbrev pub margin_span : List Op → (s first last : Identifier) → Span
+margin_span history s first last = record {
   from = count_by (λ x. before (within s) history x first) (shown (within s) history);
   to = count_by (λ x. id_eq x last || before (within s) history x last) (shown (within s) history);
 }
@@ -30,14 +31,14 @@ passage p history a b = filter (stands_between p history a b) (order p history)
 -- the line of a comment in the section with the number k: the number, the two ends of its span, its text, LF
 abbrev pub comment_line : List Op → (k : ℕ) → Identifier → Comment → List ℕ
 comment_line history k s c =
-    let where_it_is = span history s c.first c.last in
+    let where_it_is = margin_span history s c.first c.last in
     decimal k ++ 32 ∷ decimal where_it_is.from ++ 32 ∷ decimal where_it_is.to ++ 32 ∷ c.text ++ 10 ∷ []
 
 -- the lines of the comments of some sections, of which the first has the number k
-abbrev pub lines_from : List Op → ℕ → List Identifier → List ℕ
-lines_from history k [] = []
-lines_from history k (s ∷ ss) = flat_map (comment_line history k s) (by_id (comments_in history s)) ++ lines_from history (suc k) ss
+abbrev pub comment_lines : List Op → ℕ → List Identifier → List ℕ
+comment_lines history k [] = []
+comment_lines history k (s ∷ ss) = flat_map (comment_line history k s) (by_id (comments_in history s)) ++ comment_lines history (suc k) ss
 
 -- the comments of the shown sections, which are numbered from 1
 abbrev pub margins : List Op → List ℕ
-margins history = lines_from history 1 (shown catalogue history)
+margins history = comment_lines history 1 (shown catalogue history)

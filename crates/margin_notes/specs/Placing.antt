@@ -4,8 +4,8 @@ use Rattle.fugue_ids.specs.Identifiers.{Identifier}
 use Rattle.fugue_ids.specs.declared.op.Op.{Op}
 use Rattle.origin_model.specs.order.Printed.{is_withdrawn}
 use Rattle.margin_notes.specs.Comments.{Comment, comment_in}
-use Rattle.margin_notes.specs.Listing.{body_of, section_of}
-use Rattle.margin_notes.specs.Margins.{span}
+use Rattle.margin_notes.specs.Listing.{body_of, commented_section}
+use Rattle.margin_notes.specs.Margins.{margin_span}
 use Rattle.margin_notes.specs.declared.placing.CommentPlace.{CommentPlace}
 
 -- a comment with its section and its span
@@ -16,22 +16,23 @@ pub record PlacedComment : Type 0 where
   pub to : ℕ
   pub text : List ℕ
 
-abbrev pub placed_at : List Op → Comment → Identifier → PlacedComment
-placed_at h c s = record {
+-- a comment with its section and its place there
+abbrev pub placed_from : List Op → Comment → Identifier → PlacedComment
+placed_from h c s = record {
   section = s;
   id = c.id;
-  from = (span h s c.first c.last).from;
-  to = (span h s c.first c.last).to;
+  from = (margin_span h s c.first c.last).from;
+  to = (margin_span h s c.first c.last).to;
   text = c.text;
 }
 
 -- where a section has it
-abbrev pub placed : List Op → Comment → Option PlacedComment
-placed h c = option_map (placed_at h c) (section_of h c)
+abbrev pub placed_in_section : List Op → Comment → Option PlacedComment
+placed_in_section h c = option_map (placed_from h c) (commented_section h c)
 
 -- where an operation stands, if it is a comment that no Delete names
 abbrev pub placed_in : List Op → Op → Option PlacedComment
-placed_in h op = elim (comment_in op) [ None ↦ None | Some c ↦ if is_withdrawn h c.id then None else placed h c ]
+placed_in h op = elim (comment_in op) [ None ↦ None | Some c ↦ if is_withdrawn h c.id then None else placed_in_section h c ]
 
 -- those of a history, as they were accepted
 abbrev pub placed_comments : List Op → List PlacedComment

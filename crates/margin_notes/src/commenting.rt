@@ -2,10 +2,10 @@
 ghost use Rattle.std.specs.Prelude.{◌≡◌, ◌↔◌, ◌<◌, ◌∷◌, [], true, Err, IfErr, IfOk, IsSome, None, Some, OnErr, OnOk};
 ghost use Rattle.origin_model.specs.edits.Noting.{ShowsAsBefore};
 ghost use Rattle.origin_model.specs.edits.Refusal.{section_shown};
-ghost use Rattle.origin_model.specs.edits.State.{Stands};
+ghost use Rattle.origin_model.specs.edits.State.{IsSound};
 ghost use Rattle.origin_model.specs.taking.Taking.{IsSettled};
 ghost use Rattle.margin_notes.specs.Commenting.{HasNoRange, IsCommentMade, IsCommented, IsRange, NamesPassage};
-ghost use Rattle.margin_notes.specs.Commenting.{RefusesComment, as_comment_fault, scalar_in};
+ghost use Rattle.margin_notes.specs.Commenting.{RefusesComment, as_comment_fault, shown_element};
 ghost use Rattle.margin_notes.specs.Comments.{is_text};
 
 use crate::COMMENT_CODE;
@@ -59,7 +59,7 @@ fn find_range(
 ) -> Result<(usize, usize), CommentFault>
     ensures found { IfOk result (IsRange replica.now section at n) }
     ensures none { IfErr result (HasNoRange replica.now section at n) }
-    ensures stands { Stands replica.now }
+    ensures stands { IsSound replica.now }
 {
     let Some(text) = replica.text_of(section)? else {
         return Err(CommentFault::NoSection);
@@ -69,8 +69,8 @@ fn find_range(
 
 /// The element of the scalar with so many visible ones before it.
 fn scalar_at(replica: &Replica, section: usize, at: usize) -> ElementId
-    requires { IsSome (scalar_in replica.now section at) }
-    ensures { scalar_in replica.now section at ≡ Some result }
+    requires { IsSome (shown_element replica.now section at) }
+    ensures { shown_element replica.now section at ≡ Some result }
 {
     replica.scalar_at(section, at).unwrap()
 }
@@ -80,7 +80,7 @@ fn find_names(replica: &Replica, section: usize, at: u32, n: u32) -> Result<Note
     requires { 0 < n }
     ensures found { IfOk result (λ names. NamesPassage replica.now section at n names) }
     ensures none { IfErr result (HasNoRange replica.now section at n) }
-    ensures stands { Stands replica.now }
+    ensures stands { IsSound replica.now }
 {
     let (start, count) = find_range(replica, section, at, n)?;
     let first = scalar_at(replica, section, start);
@@ -108,7 +108,7 @@ pub fn comment(
     ensures shown { ShowsAsBefore replica.old replica.new }
     ensures unmade { OnErr result (replica.new ≡ replica.old) }
     ensures settled { IsSettled replica.new.held }
-    ensures stands { Stands replica.new }
+    ensures stands { IsSound replica.new }
 {
     let names = find_names(replica, section, at, n)?;
     match replica.note(names, COMMENT_CODE, body) {

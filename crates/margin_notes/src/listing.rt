@@ -1,8 +1,8 @@
 //! The comments of visible sections, in the order in which they are listed.
 ghost use Rattle.std.specs.Prelude.{◌≡◌, IfOk, map, option_and_then, option_map, reverse, slice_get};
-ghost use Rattle.origin_model.specs.edits.State.{Stands};
+ghost use Rattle.origin_model.specs.edits.State.{IsSound};
 ghost use Rattle.section_catalogue.specs.Manuscript.{OnEach};
-ghost use Rattle.margin_notes.specs.Listing.{HasFew, entry_line, line_in, lines_in, listed, section_number};
+ghost use Rattle.margin_notes.specs.Listing.{HasFew, line_of_entry, listed_line, lines_in, listed_comments, section_number};
 
 use crate::placing::place_at;
 use fugue_ids::{ElementId, NoMemory};
@@ -37,8 +37,8 @@ fn number_of(places: &Manuscript, section: ElementId) -> Option<usize>
 
 /// The entry of the operation at the position, where it is a comment that is listed.
 fn entry_at(replica: &Replica, at: usize) -> Option<Entry>
-    ensures { option_map (entry_line (reverse replica.now.held.history)) result
-        ≡ option_and_then (line_in replica.now.held.history) (slice_get (reverse replica.now.held.history) at) }
+    ensures { option_map (line_of_entry (reverse replica.now.held.history)) result
+        ≡ option_and_then (listed_line replica.now.held.history) (slice_get (reverse replica.now.held.history) at) }
 {
     let place = place_at(replica, at)?;
     let number = number_of(replica.places(), place.section)?;
@@ -53,9 +53,9 @@ fn entry_at(replica: &Replica, at: usize) -> Option<Entry>
 
 /// The entries of all comments that are listed, as their operations were accepted.
 fn entries_of(alloc: Global, replica: &Replica) -> Result<Vec<Entry>, NoMemory>
-    ensures entries { IfOk result (λ entries. map (entry_line (reverse replica.now.held.history)) entries.items
+    ensures entries { IfOk result (λ entries. map (line_of_entry (reverse replica.now.held.history)) entries.items
         ≡ lines_in replica.now.held.history (reverse replica.now.held.history)) }
-    ensures stands { Stands replica.now }
+    ensures stands { IsSound replica.now }
 {
     let mut entries = Vec::new(alloc);
     'walk: for at in replica.sections_and_notes() {
@@ -68,9 +68,9 @@ fn entries_of(alloc: Global, replica: &Replica) -> Result<Vec<Entry>, NoMemory>
 
 /// The entries in the order in which they are listed.
 pub(crate) fn listed_entries(alloc: Global, replica: &Replica) -> Result<Vec<Entry>, NoMemory>
-    ensures entries { IfOk result (λ entries. map (entry_line (reverse replica.now.held.history)) entries.items
-        ≡ listed replica.now.held.history) }
-    ensures stands { Stands replica.now }
+    ensures entries { IfOk result (λ entries. map (line_of_entry (reverse replica.now.held.history)) entries.items
+        ≡ listed_comments replica.now.held.history) }
+    ensures stands { IsSound replica.now }
 {
     let mut entries = entries_of(alloc, replica)?;
     entries.sort_unstable();

@@ -2,15 +2,15 @@
 ghost use Rattle.std.specs.Prelude.{◌≡◌, ◌||◌, IfOk, Some, map, option_and_then, option_map, reverse, slice_get};
 ghost use Rattle.fugue_ids.specs.Identifiers.{id_eq};
 ghost use Rattle.origin_model.specs.declared.operations.Place.TheVariants.{Section as within};
-ghost use Rattle.origin_model.specs.edits.State.{Stands};
+ghost use Rattle.origin_model.specs.edits.State.{IsSound};
 ghost use Rattle.origin_model.specs.operations.History.{holder};
 ghost use Rattle.origin_model.specs.order.Laws.{IsIn};
 ghost use Rattle.origin_model.specs.order.Order.{before};
 ghost use Rattle.section_catalogue.specs.Manuscript.{OnEach};
 ghost use Rattle.margin_notes.specs.Comments.{Comment};
 ghost use Rattle.margin_notes.specs.Listing.{HasFew, anchors_of};
-ghost use Rattle.margin_notes.specs.Listing.{section_of as section_on, text_section as text_section_on};
-ghost use Rattle.margin_notes.specs.Margins.{span};
+ghost use Rattle.margin_notes.specs.Listing.{commented_section as section_on, text_section as text_section_on};
+ghost use Rattle.margin_notes.specs.Margins.{margin_span};
 ghost use Rattle.margin_notes.specs.Placing.{comment_placed, placed_comments, placed_in};
 
 use crate::reading::{Anchors, anchors_in};
@@ -74,7 +74,7 @@ fn section_of(places: &Manuscript, anchors: &Anchors) -> Option<ElementId>
 
 /// How many visible elements stand before the first anchor.
 fn start_of(places: &Manuscript, section: ElementId, first: ElementId, last: ElementId) -> usize
-    ensures { OnEach places.now (λ h. IsIn (within section) h first → result ≡ (span h section first last).from) }
+    ensures { OnEach places.now (λ h. IsIn (within section) h first → result ≡ (margin_span h section first last).from) }
 {
     match places.section(section) {
         Some(list) => match list.visible_before(first) {
@@ -88,7 +88,7 @@ fn start_of(places: &Manuscript, section: ElementId, first: ElementId, last: Ele
 /// How many visible elements stand before the last anchor or are it.
 fn end_of(places: &Manuscript, section: ElementId, first: ElementId, last: ElementId) -> usize
     requires { HasFew places.now }
-    ensures { OnEach places.now (λ h. IsIn (within section) h last → result ≡ (span h section first last).to) }
+    ensures { OnEach places.now (λ h. IsIn (within section) h last → result ≡ (margin_span h section first last).to) }
 {
     match places.section(section) {
         Some(list) => match list.visible_before(last) {
@@ -141,7 +141,7 @@ pub(crate) fn place_at(replica: &Replica, at: usize) -> Option<CommentPlace>
 pub fn comment_places(alloc: Global, replica: &Replica) -> Result<Vec<CommentPlace>, NoMemory>
     ensures places { IfOk result (λ places. map (comment_placed (reverse replica.now.held.history)) places.items
         ≡ placed_comments replica.now.held.history) }
-    ensures stands { Stands replica.now }
+    ensures stands { IsSound replica.now }
 {
     let mut places = Vec::new(alloc);
     'walk: for at in replica.sections_and_notes() {

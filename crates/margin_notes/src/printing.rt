@@ -2,7 +2,7 @@
 ghost use Rattle.std.specs.Prelude.{◌≡◌, ◌++◌, ◌∷◌, List, [], ℕ, decimal, flat_map};
 ghost use Rattle.fugue_ids.specs.Gathers.{GathersText};
 ghost use Rattle.fugue_ids.specs.Outs.{OutView, WritesBytes};
-ghost use Rattle.origin_model.specs.edits.State.{Stands};
+ghost use Rattle.origin_model.specs.edits.State.{IsSound};
 ghost use Rattle.origin_model.specs.operations.History.{accepted as accepted_list};
 ghost use Rattle.margin_notes.specs.Listing.{WritesMargins, entry_bytes};
 ghost use Rattle.margin_notes.specs.Margins.{margins};
@@ -99,7 +99,7 @@ pub fn write_comments<O: Sink>(
     output: &mut O,
 ) -> Result<(), MarginFault>
     ensures text { WritesMargins (O.seen output.old) (O.seen output.new) result (margins replica.now.held.history) }
-    ensures stands { Stands replica.now }
+    ensures stands { IsSound replica.now }
 {
     let entries = listed_entries(alloc, replica)?;
     told(write_lines(output, replica, entries.as_slice()))

@@ -24,7 +24,7 @@ use Rattle.origin_model.specs.order.Order.{before, order}
 use Rattle.origin_model.specs.order.Printed.{is_hidden, scalar_of, shown, text}
 use Rattle.origin_model.proofs.SharedLemmas.{IsIn-held, Within-part, hidden-has, not_hidden_before, order_total}
 use Rattle.text_diff.specs.Merges.{puts_at}
-use Rattle.merged_words.specs.Drafts.{ComeTogether, IsDraft, IsPutInOneGo, comes_at}
+use Rattle.merged_words.specs.Drafts.{ComeTogether, IsAuthoredDraft, IsPutInOneGo, comes_at}
 use Rattle.merged_words.proofs.ListLemmas.{StandsAt}
 use Rattle.merged_words.proofs.StayLemmas.{Follow, HasCut, comes_in, comes_ordered, comes_within, cut_or_stays, members, puts_are, transforms_follow}
 use Rattle.merged_words.proofs.PassageLemmas.{IsForward, IsOwn, in_whole, part_ordered, stands}
@@ -85,7 +85,7 @@ at_once R strict xs o z i j a b e k =
     ]
 
 -- the author's own operations, and another author's
-module _ (s : Identifier) (base own other whole : List Op) (u : Lawful base) (v : Lawful other) (d : IsDraft s base own) (c : ComeTogether base own other whole) where
+module _ (s : Identifier) (base own other whole : List Op) (u : Lawful base) (v : Lawful other) (d : IsAuthoredDraft s base own) (c : ComeTogether base own other whole) where
   abbrev p : Place
   p = within s
 

@@ -16,7 +16,7 @@ unfoldable use Rattle.origin_model.specs.order.Order.{before, chain, order}
 use Rattle.origin_model.specs.order.Printed.{text}
 use Rattle.text_diff.specs.Hunks.{Transforms}
 use Rattle.text_diff.specs.declared.hunk.Hunk.{Hunk}
-use Rattle.merged_words.specs.Drafts.{ComeTogether, IsDraft, IsPutInOneGo}
+use Rattle.merged_words.specs.Drafts.{ComeTogether, IsAuthoredDraft, IsPutInOneGo}
 
 abbrev section : Identifier
 section = id_at 9 0
@@ -81,7 +81,7 @@ cases_at i = elim (cases_order 1 i) [
 elsewhere : (y : Identifier) (i : ℕ) → (1 ≡ i → ⊥) → (if nat_eq 1 i then y ∷ [] else []) ++ [] ≡ []
 elsewhere y i n = ap (λ t. (if t then y ∷ [] else []) ++ []) (ne_eqb 1 i n)
 
-draft_a : IsDraft section base (letter_a ∷ base)
+draft_a : IsAuthoredDraft section base (letter_a ∷ base)
 unfolding before chain order verdict
 draft_a = record {
   lawful = (refl, (refl, (refl, tt)));
@@ -95,7 +95,7 @@ draft_a = record {
   ];
 }
 
-draft_b : IsDraft section base (letter_b ∷ base)
+draft_b : IsAuthoredDraft section base (letter_b ∷ base)
 unfolding before chain order verdict
 draft_b = record {
   lawful = (refl, (refl, (refl, tt)));

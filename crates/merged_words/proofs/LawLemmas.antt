@@ -14,9 +14,9 @@ use Rattle.origin_model.specs.order.Laws.{IsIn}
 use Rattle.origin_model.specs.order.Order.{before}
 use Rattle.origin_model.specs.order.Printed.{is_hidden, shown, text}
 use Rattle.origin_model.proofs.SharedLemmas.{element_own, has-holder, holder-has, order_total, same_ordered}
-use Rattle.text_diff.specs.Merges.{Change, IsLeft, IsMerge, PutBoth, puts_at}
+use Rattle.text_diff.specs.Merges.{TextChange, IsLeftScalar, IsMerge, PutBoth, puts_at}
 use Rattle.text_diff.proofs.MergeLemmas.{merges_keep_words}
-use Rattle.merged_words.specs.Drafts.{ComeTogether, DraftsMerge, IsDraft, NoThirdWord, change}
+use Rattle.merged_words.specs.Drafts.{ComeTogether, DraftsMerge, IsAuthoredDraft, NoThirdWord, draft_change}
 use Rattle.merged_words.proofs.ListLemmas.{StandsAt, left_of_it, merged, merged_from, merged_ordered, merged_put, merged_stays}
 use Rattle.merged_words.proofs.PassageLemmas.{both, both_first, both_from, both_ordered, both_second, goes_first, in_whole}
 use Rattle.merged_words.proofs.MergeLemmas.{reads_merged}
@@ -32,7 +32,7 @@ turned base a b whole c = record {
   apart = λ x k j. c.apart x j k;
 }
 
-module _ (s : Identifier) (base a b whole : List Op) (u : Lawful base) (d : IsDraft s base a) (e : IsDraft s base b) (c : ComeTogether base a b whole) where
+module _ (s : Identifier) (base a b whole : List Op) (u : Lawful base) (d : IsAuthoredDraft s base a) (e : IsAuthoredDraft s base b) (c : ComeTogether base a b whole) where
   abbrev p : Place
   p = within s
 
@@ -113,11 +113,11 @@ module _ (s : Identifier) (base a b whole : List Op) (u : Lawful base) (d : IsDr
       let t = order_total p whole c.lawful in
       same_ordered R t.irreflexive t.transitive (shown p whole) M (part_shown_ordered s base a b whole u e.lawful d c whole c.lawful (λ op k. k)) ordered to_merged from_merged
 
-  abbrev A : Change
-  A = change s base a d
+  abbrev A : TextChange
+  A = draft_change s base a d
 
-  abbrev B : Change
-  B = change s base b e
+  abbrev B : TextChange
+  B = draft_change s base b e
 
   two : (i : ℕ) → PutBoth A B i (map (scalar whole) (puts i))
   two i = by_test (goes_first R (ca i) (cb i))
@@ -133,10 +133,10 @@ module _ (s : Identifier) (base a b whole : List Op) (u : Lawful base) (d : IsDr
       by_test false = inr (map-append (scalar whole) (cb i) (ca i) ∙ (λ k. sym there k ++ sym here k))
 
   left : (front : List Identifier) (z : Identifier) (cs : List Identifier) → S ≡ front ++ z ∷ cs
-      → IsLeft A B (length front) (scalar whole z) (map (scalar whole) (left_of_it (is_hidden whole) z))
+      → IsLeftScalar A B (length front) (scalar whole z) (map (scalar whole) (left_of_it (is_hidden whole) z))
   left front z cs i = by_test (is_hidden whole z) refl
     where
-      by_test : (t : Bool) → is_hidden whole z ≡ t → IsLeft A B (length front) (scalar whole z) (map (scalar whole) (if t then [] else z ∷ []))
+      by_test : (t : Bool) → is_hidden whole z ≡ t → IsLeftScalar A B (length front) (scalar whole z) (map (scalar whole) (if t then [] else z ∷ []))
       by_test true k =
           inr (
             elim (hidden_from s base a b whole u e.lawful d c z k) [
@@ -164,5 +164,5 @@ drafts_merge s base a b whole u d e c = is_merge s base a b whole u d e c
 
 pub no_third_word : NoThirdWord
 no_third_word s base a b whole u d e c separate m n =
-    merges_keep_words (text base s) (change s base a d) (change s base b e) separate
+    merges_keep_words (text base s) (draft_change s base a d) (draft_change s base b e) separate
     (record { transforms = d.transforms; words = m.0; separate = m.1 }) (record { transforms = e.transforms; words = n.0; separate = n.1 }) (text whole s) (is_merge s base a b whole u d e c)

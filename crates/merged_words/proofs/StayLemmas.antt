@@ -10,7 +10,7 @@ use Rattle.fugue_ids.specs.Identifiers.{Identifier}
 use Rattle.fugue_ids.specs.declared.op.Op.{Op}
 use Rattle.fugue_ids.proofs.ListLemmas.{all_from_contains, all_pairs_across, all_pairs_append, all_pairs_before, all_pairs_behind, all_pairs_nil, contains_cases, contains_here, contains_none, contains_there}
 use Rattle.origin_model.specs.operations.History.{holds}
-use Rattle.text_diff.specs.Hunks.{Transforms, TransformsFrom, start_of}
+use Rattle.text_diff.specs.Hunks.{Transforms, TransformsFrom, hunk_start}
 use Rattle.text_diff.specs.Merges.{puts_at}
 use Rattle.text_diff.specs.Seams.{put}
 use Rattle.text_diff.specs.declared.hunk.Hunk.{Hunk}
@@ -24,12 +24,12 @@ Follow n from new_from (h ∷ hs) =
     (from ≤ h.old_at) × (h.old_at + h.old_len ≤ n) × (from + h.new_at ≡ h.old_at + new_from) × Follow n (h.old_at + h.old_len) (h.new_at + h.new_len) hs
 
 -- hunks that transform a text begin within it (a point is written as where a hunk begins)
-begins_within : (old new : List ℕ) (least : ℕ) (p : Hunk) (hs : List Hunk) (q : Hunk) → TransformsFrom nat_eq old new least (start_of p) hs (start_of q) → p.old_at ≤ length old
+begins_within : (old new : List ℕ) (least : ℕ) (p : Hunk) (hs : List Hunk) (q : Hunk) → TransformsFrom nat_eq old new least (hunk_start p) hs (hunk_start q) → p.old_at ≤ length old
 begins_within old new least p [] q t = omega (arith, t.order, t.old_within)
 begins_within old new least p (h ∷ hs) q t = omega (arith, t.1.order, t.1.old_within)
 
 -- and follow one another
-follow_from : (old new : List ℕ) (n : ℕ) → length old ≡ n → (least : ℕ) (p : Hunk) (hs : List Hunk) (q : Hunk) → TransformsFrom nat_eq old new least (start_of p) hs (start_of q)
+follow_from : (old new : List ℕ) (n : ℕ) → length old ≡ n → (least : ℕ) (p : Hunk) (hs : List Hunk) (q : Hunk) → TransformsFrom nat_eq old new least (hunk_start p) hs (hunk_start q)
     → Follow n p.old_at p.new_at hs
 follow_from old new n e least p [] q t = tt
 follow_from old new n e least p (h ∷ hs) q t =

@@ -7,7 +7,7 @@ use Rattle.fugue_ids.specs.declared.op.Op.TheVariants.{Text}
 use Rattle.fugue_ids.proofs.IdentifierLemmas.{id_eq-refl}
 use Rattle.origin_model.specs.declared.operations.Place.{Place}
 use Rattle.origin_model.specs.declared.operations.Place.TheVariants.{Section as within}
-use Rattle.origin_model.specs.edits.Edits.{Put, ReadyInTurn, extended, id_at, left_for, made, next_counter, put_in, right_for, typed, typed_ids}
+use Rattle.origin_model.specs.edits.Edits.{Put, ReadyInTurn, history_with, id_at, left_for, made, next_counter, put_in, right_for, typed_texts, typed_ids}
 use Rattle.origin_model.specs.edits.Landing.{StandsBehind}
 use Rattle.origin_model.specs.edits.Passages.{GoesForward}
 use Rattle.origin_model.specs.operations.History.{holder}
@@ -19,25 +19,25 @@ use Rattle.origin_model.proofs.edits.PutLemmas.{put_lands, text_here}
 use Rattle.merged_words.specs.Drafts.{IsPutInOneGo, TypedInOneGo}
 
 -- what is held stays so
-holder_stays : (ops h : List Op) (x : Identifier) (op : Op) → Lawful h → ReadyInTurn h ops → holder h x ≡ Some op → holder (extended h ops) x ≡ Some op
+holder_stays : (ops h : List Op) (x : Identifier) (op : Op) → Lawful h → ReadyInTurn h ops → holder h x ≡ Some op → holder (history_with h ops) x ≡ Some op
 holder_stays [] h x op w ready e = e
 holder_stays (next ∷ ops) h x op w ready e = holder_stays ops (next ∷ h) x op (ready.0, w) ready.1 (Within-append (next ∷ []) h (ready.0, w) x op e)
 
 -- typed texts behind an element have each the one before as left origin
-typed_forward : (r c : ℕ) (s x : Identifier) (right : Option Identifier) (chs : List ℕ) (h : List Op) → Lawful h → ReadyInTurn h (typed r c s (Some x) right chs)
-    → GoesForward (within s) (extended h (typed r c s (Some x) right chs)) x (typed_ids r c chs)
+typed_forward : (r c : ℕ) (s x : Identifier) (right : Option Identifier) (chs : List ℕ) (h : List Op) → Lawful h → ReadyInTurn h (typed_texts r c s (Some x) right chs)
+    → GoesForward (within s) (history_with h (typed_texts r c s (Some x) right chs)) x (typed_ids r c chs)
 typed_forward r c s x right [] h w ready = tt
 typed_forward r c s x right (ch ∷ chs) h w ready =
     let id : Identifier = id_at r c in
     let op : Op = Text id s (Some x) right ch in
-    let rest : List Op = typed r (suc c) s (Some id) right chs in
-    let held : holder (extended (op ∷ h) rest) id ≡ Some op = holder_stays rest (op ∷ h) id op (ready.0, w) ready.1 (holder-own op h id (id_eq-refl id)) in
+    let rest : List Op = typed_texts r (suc c) s (Some id) right chs in
+    let held : holder (history_with (op ∷ h) rest) id ≡ Some op = holder_stays rest (op ∷ h) id op (ready.0, w) ready.1 (holder-own op h id (id_eq-refl id)) in
     (record { op = op; held = held; place = text_here id s (Some x) right ch }, ap left_by held, typed_forward r (suc c) s id right chs (op ∷ h) (ready.0, w) ready.1)
 
 -- typed texts that stand behind an element are put in one go
-typed_at_once : (r c : ℕ) (s : Identifier) (left right : Option Identifier) (chs : List ℕ) (h : List Op) → Lawful h → ReadyInTurn h (typed r c s left right chs)
-    → StandsBehind left (typed_ids r c chs) (order (within s) h) (order (within s) (extended h (typed r c s left right chs)))
-    → IsPutInOneGo (within s) (extended h (typed r c s left right chs)) left (typed_ids r c chs)
+typed_at_once : (r c : ℕ) (s : Identifier) (left right : Option Identifier) (chs : List ℕ) (h : List Op) → Lawful h → ReadyInTurn h (typed_texts r c s left right chs)
+    → StandsBehind left (typed_ids r c chs) (order (within s) h) (order (within s) (history_with h (typed_texts r c s left right chs)))
+    → IsPutInOneGo (within s) (history_with h (typed_texts r c s left right chs)) left (typed_ids r c chs)
 typed_at_once r c s left right [] h w ready b = tt
 typed_at_once r c s left right (ch ∷ chs) h w ready b =
     let behind : List Identifier = typed_ids r (suc c) chs in (
@@ -52,7 +52,7 @@ typed_in_one_go old new k at n scalars s w e l m =
     let lands = put_lands old.number h old.held.waiting k at scalars s w e l in
     let c : ℕ = next_counter old.number h old.held.waiting in
     let ops : made old.number h old.held.waiting (Put k at scalars) ≡ put_in old.number h old.held.waiting s at scalars = put_made old.number h old.held.waiting k s at scalars e in
-    let history : new.held.history ≡ extended h (put_in old.number h old.held.waiting s at scalars) = ap (λ t. t.held.history) m.gained.others ∙ ap (extended h) ops in
+    let history : new.held.history ≡ history_with h (put_in old.number h old.held.waiting s at scalars) = ap (λ t. t.held.history) m.gained.others ∙ ap (history_with h) ops in
     subst (λ g. IsPutInOneGo p g (left_for p h at) (typed_ids old.number c scalars)) (sym history)
     (typed_at_once old.number c s (left_for p h at) (right_for p h at) scalars h w (subst (ReadyInTurn h) ops lands.0.ready)
-    (subst (λ (o : List Op). StandsBehind (left_for p h at) (typed_ids old.number c scalars) (order p h) (order p (extended h o))) ops lands.1))
+    (subst (λ (o : List Op). StandsBehind (left_for p h at) (typed_ids old.number c scalars) (order p h) (order p (history_with h o))) ops lands.1))

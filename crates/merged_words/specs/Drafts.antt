@@ -17,7 +17,7 @@ use Rattle.origin_model.specs.order.Laws.{IsPartOf}
 use Rattle.origin_model.specs.order.Order.{order}
 use Rattle.origin_model.specs.order.Printed.{shown, text}
 use Rattle.text_diff.specs.Hunks.{Transforms}
-use Rattle.text_diff.specs.Merges.{Change, IsMerge}
+use Rattle.text_diff.specs.Merges.{TextChange, IsMerge}
 use Rattle.text_diff.specs.Seams.{IsOfWords}
 use Rattle.text_diff.specs.Words.{IsSeparate, IsWordOf, words}
 use Rattle.text_diff.specs.declared.hunk.Hunk.{Hunk}
@@ -48,7 +48,7 @@ TypedInOneGo =
 
 -- An author's draft of a section: by its hunks the old text becomes the new one, what stands between them stays, and what
 -- comes in the place of each is put in one go behind the element in front of it.
-pub record IsDraft (section : Identifier) (base own : List Op) : Type 0 where
+pub record IsAuthoredDraft (section : Identifier) (base own : List Op) : Type 0 where
   pub lawful : Lawful own
   pub part : IsPartOf base own
   pub hunks : List Hunk
@@ -67,23 +67,23 @@ pub record ComeTogether (base a b whole : List Op) : Type 0 where
   pub apart : (x : Identifier) → holds a x ≡ true → holds b x ≡ true → holds base x ≡ true
 
 -- what a draft changes in the text of the section
-abbrev pub change : (section : Identifier) (base own : List Op) → IsDraft section base own → Change
-change section base own draft = record { new = text own section; hunks = draft.hunks }
+abbrev pub draft_change : (section : Identifier) (base own : List Op) → IsAuthoredDraft section base own → TextChange
+draft_change section base own draft = record { new = text own section; hunks = draft.hunks }
 
 -- where two authors' drafts of one section come together, its text is what both changes give
 abbrev pub DraftsMerge : Type 0
 DraftsMerge =
-    (section : Identifier) (base a b whole : List Op) → Lawful base → (d : IsDraft section base a) (e : IsDraft section base b)
-    → ComeTogether base a b whole → IsMerge (text base section) (change section base a d) (change section base b e) (text whole section)
+    (section : Identifier) (base a b whole : List Op) → Lawful base → (d : IsAuthoredDraft section base a) (e : IsAuthoredDraft section base b)
+    → ComeTogether base a b whole → IsMerge (text base section) (draft_change section base a d) (draft_change section base b e) (text whole section)
 
 -- in a draft whole words go and come, each hunk from a seam to a seam
-abbrev pub GoesByWords : (section : Identifier) (base own : List Op) → IsDraft section base own → Type 0
+abbrev pub GoesByWords : (section : Identifier) (base own : List Op) → IsAuthoredDraft section base own → Type 0
 GoesByWords section base own draft = All (IsOfWords (text base section) (text own section)) draft.hunks × IsSeparate (text own section)
 
 -- then each word of it is a word of the old text or of one of the new ones
 abbrev pub NoThirdWord : Type 0
 NoThirdWord =
-    (section : Identifier) (base a b whole : List Op) → Lawful base → (d : IsDraft section base a) (e : IsDraft section base b)
+    (section : Identifier) (base a b whole : List Op) → Lawful base → (d : IsAuthoredDraft section base a) (e : IsAuthoredDraft section base b)
     → ComeTogether base a b whole → IsSeparate (text base section) → GoesByWords section base a d → GoesByWords section base b e
     → (word : List ℕ) → Contains (words (text whole section)) word
     → IsWordOf (text base section ∷ (text a section ∷ (text b section ∷ []))) word

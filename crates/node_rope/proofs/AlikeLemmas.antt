@@ -9,7 +9,7 @@ use Rattle.node_rope.specs.declared.cells.Shape.{Shape}
 use Rattle.node_rope.specs.declared.cells.Link.{Link}
 use Rattle.node_rope.specs.declared.cells.Own.{Own}
 use Rattle.node_rope.specs.Made.{IsKept, IsAlike, IsLess, made_count, shapes_of, values_of}
-use Rattle.node_rope.specs.Shapes.{AreRanksFit, HasRightLinks, shape_at, order, IsWeighed, IsRanked}
+use Rattle.node_rope.specs.Shapes.{AreRanksFit, HasRightLinks, shape_at, nodes_in_order, IsWeighed, IsRanked}
 use Rattle.node_rope.specs.Items.{IsRope, item_at, rope_items_of}
 use Rattle.node_rope.specs.Reweighed.{AreStill, IsStill}
 use Rattle.node_rope.proofs.ShapeLemmas.{length-shapes, made-below}
@@ -63,7 +63,7 @@ module _ {T : Type 0} (s u : Store T) (root : Option Link) (sound : HasRightLink
   pub alike-list : rope_items_of u root ≡ rope_items_of s root
   alike-list =
       ap (flat_map (item_at u)) (order-still s u root (placed (shapes_of s) (shapes_of u) alike-still))
-      ∙ mapped-items s u (λ x. x) alike-item (order s root) (all-made s root sound) ∙ as-it-is (rope_items_of s root)
+      ∙ mapped-items s u (λ x. x) alike-item (nodes_in_order s root) (all-made s root sound) ∙ as-it-is (rope_items_of s root)
 
 pub alike-roped : {T : Type 0} (wt : T → Own) (s u : Store T) (root : Option Link) (m n : BlockMap Link) → IsRope wt s root m → IsAlike s u → HasSameValues m n → IsRope wt u root n
 alike-roped wt s u root m n r a same = record {

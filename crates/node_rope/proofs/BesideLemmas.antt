@@ -9,30 +9,30 @@ use Rattle.node_rope.specs.declared.cells.Shape.{Shape}
 use Rattle.node_rope.specs.declared.cells.Link.{Link}
 use Rattle.node_rope.specs.declared.cells.Own.{Own}
 use Rattle.node_rope.specs.Made.{IsMade, IsKept, made_count, shapes_of, values_of}
-use Rattle.node_rope.specs.Shapes.{HasRightLinks, shape_at, tree_of, order, IsWeighed, IsRanked, weight_at, least_at}
+use Rattle.node_rope.specs.Shapes.{HasRightLinks, shape_at, tree_of, nodes_in_order, IsWeighed, IsRanked, weight_at, least_at}
 use Rattle.node_rope.specs.Walk.{HasCounts}
 use Rattle.node_rope.specs.Sums.{no_rank}
 use Rattle.node_rope.specs.Joined.{IsJoined}
 use Rattle.node_rope.specs.Grown.{with_parent, new_beside, joined_beside, IsGrown}
 use Rattle.node_rope.specs.Rising.{IsRising, IsRaised, SameLinks, AreSmall}
-use Rattle.node_rope.specs.Sides.{flipped, seen, beside}
+use Rattle.node_rope.specs.Sides.{other_side, seen, beside}
 use Rattle.node_rope.proofs.ShapeLemmas.{length-shapes, made-below}
 use Rattle.node_rope.proofs.EnterLemmas.{IsEntered, flip-entered, entered_before, joins_before, key_before, own_before}
 use Rattle.node_rope.proofs.GrowthLemmas.{are-within, rising, small, grown, grown-walk-before, grown-walk-after}
 use Rattle.node_rope.proofs.FaceLemmas.{flip-at, flip-with_parent, flip-count, flip-weight, flip-least, mirrored, shapes-mirrored, there, mirror-sound, tree_by}
 
 -- what is written at the right is written at the left of the mirrored shapes
-flip-joined : (ss : List Shape) (at l : Link) (h : Shape) → map flipped (joined_beside Right ss at l h) ≡ joined_beside Left (map flipped ss) at l (flipped h)
+flip-joined : (ss : List Shape) (at l : Link) (h : Shape) → map other_side (joined_beside Right ss at l h) ≡ joined_beside Left (map other_side ss) at l (other_side h)
 unfolding joined_beside
 flip-joined ss at l h =
-    let o = (flipped (shape_at ss at.number)).left in
-    map-set flipped (with_parent (ss ++ h ∷ []) o (Some l)) at.number _ ∙ rw (flip-with_parent (ss ++ h ∷ []) o (Some l), map-append flipped ss (h ∷ []), flip-at ss at.number) refl
+    let o = (other_side (shape_at ss at.number)).left in
+    map-set other_side (with_parent (ss ++ h ∷ []) o (Some l)) at.number _ ∙ rw (flip-with_parent (ss ++ h ∷ []) o (Some l), map-append other_side ss (h ∷ []), flip-at ss at.number) refl
 
-flip-new : (ss : List Shape) (at : Link) (key : Identifier) (w : Own) → flipped (new_beside Right ss at key w) ≡ new_beside Left (map flipped ss) at key w
+flip-new : (ss : List Shape) (at : Link) (key : Identifier) (w : Own) → other_side (new_beside Right ss at key w) ≡ new_beside Left (map other_side ss) at key w
 flip-new ss at key w =
     let node : Option Link → ℕ → ℕ → ℕ → Shape = λ o n v r. record { key = key; left = o; right = None; parent = Some at; count = n + 1; weight = v + w.weight; least = min r w.rank; own = w } in
-    let fs = map flipped ss in
-    let o = (flipped (shape_at ss at.number)).left in
+    let fs = map other_side ss in
+    let o = (other_side (shape_at ss at.number)).left in
     (λ i. node o (sym (flip-count ss o) i) (sym (flip-weight ss o) i) (sym (flip-least ss o) i)) ∙ ap (λ (h : Shape). node h.left (Rattle.node_rope.specs.Turned.tree_count_at fs h.left) (weight_at fs h.left) (least_at fs h.left)) (sym (flip-at ss at.number))
 
 -- u is s with the new node l at the side of at, and the sums above it not yet raised
@@ -61,22 +61,22 @@ module _ {T : Type 0} (s u : Store T) (root : Option Link) (at l : Link) (key : 
 
 flip-beside : {T : Type 0} (s u : Store T) (at l : Link) (key : Identifier) (w : Own) → IsBeside Left (mirrored s) (mirrored u) at l key w → IsBeside Right s u at l key w
 flip-beside s u at l key w b = record {
-  entered = flip-entered (shape_at (shapes_of s)) (shape_at (shapes_of u)) at l w (subst (λ (g : ℕ → Shape). IsEntered (λ i. flipped (shape_at (shapes_of s) i)) g at l w) to_u (subst (λ (f : ℕ → Shape). IsEntered f (shape_at (shapes_of (mirrored u))) at l w) to_s b.entered));
-  joined = subst (λ (g : ℕ → Shape). IsJoined (tree_by (λ i. flipped (shape_at (shapes_of s) i))) (tree_by g) at.number l.number) to_u (subst (λ (f : ℕ → Shape). IsJoined (tree_by f) (tree_of (shapes_of (mirrored u))) at.number l.number) to_s b.joined);
+  entered = flip-entered (shape_at (shapes_of s)) (shape_at (shapes_of u)) at l w (subst (λ (g : ℕ → Shape). IsEntered (λ i. other_side (shape_at (shapes_of s) i)) g at l w) to_u (subst (λ (f : ℕ → Shape). IsEntered f (shape_at (shapes_of (mirrored u))) at l w) to_s b.entered));
+  joined = subst (λ (g : ℕ → Shape). IsJoined (tree_by (λ i. other_side (shape_at (shapes_of s) i))) (tree_by g) at.number l.number) to_u (subst (λ (f : ℕ → Shape). IsJoined (tree_by f) (tree_of (shapes_of (mirrored u))) at.number l.number) to_s b.joined);
   key_here = sym (ap (λ (h : Shape). h.key) ((there u).at l.number)) ∙ b.key_here;
   own_here = sym (ap (λ (h : Shape). h.own) ((there u).at l.number)) ∙ b.own_here;
 } where
-  to_s : ◌≡◌ {A = ℕ → Shape} (shape_at (shapes_of (mirrored s))) (λ i. flipped (shape_at (shapes_of s) i))
+  to_s : ◌≡◌ {A = ℕ → Shape} (shape_at (shapes_of (mirrored s))) (λ i. other_side (shape_at (shapes_of s) i))
   to_s = λ k i. (there s).at i k
 
-  to_u : ◌≡◌ {A = ℕ → Shape} (shape_at (shapes_of (mirrored u))) (λ i. flipped (shape_at (shapes_of u) i))
+  to_u : ◌≡◌ {A = ℕ → Shape} (shape_at (shapes_of (mirrored u))) (λ i. other_side (shape_at (shapes_of u) i))
   to_u = λ k i. (there u).at i k
 
 is-beside : {T : Type 0} (d : Side) (s u : Store T) (root : Option Link) (at l : Link) (key : Identifier) (w : Own) → HasRightLinks s root → IsMade s at → w.rank ≤ no_rank → l.number ≡ made_count s → shapes_of u ≡ joined_beside d (shapes_of s) at l (new_beside d (shapes_of s) at key w)
     → IsBeside d s u at l key w
 is-beside Left s u root at l key w so made fits number is = beside-left s u root at l key w so made fits number is
 is-beside Right s u root at l key w so made fits number is = flip-beside s u at l key w (beside-left (mirrored s) (mirrored u) root at l key w (mirror-sound s (mirrored s) root (there s) so) made fits (number ∙ sym (there s).count)
-    (shapes-mirrored u ∙ ap (map flipped) is ∙ flip-joined (shapes_of s) at l (new_beside Right (shapes_of s) at key w) ∙ ap (joined_beside Left (map flipped (shapes_of s)) at l) (flip-new (shapes_of s) at key w)
+    (shapes-mirrored u ∙ ap (map other_side) is ∙ flip-joined (shapes_of s) at l (new_beside Right (shapes_of s) at key w) ∙ ap (joined_beside Left (map other_side (shapes_of s)) at l) (flip-new (shapes_of s) at key w)
     ∙ ap (λ (hs : List Shape). joined_beside Left hs at l (new_beside Left hs at key w)) (sym (shapes-mirrored s))))
 
 -- ---- u has a new node l of the shape h at the side of at
@@ -97,8 +97,8 @@ module _ {T : Type 0} (d : Side) (s u : Store T) (root : Option Link) (at l : Li
     pub beside-grown : (value : T) → values_of v ≡ values_of s ++ value ∷ [] → IsGrown s v root key w value l
     beside-grown value values = grown s u root at l w sound b.entered kept number made made_at count v cv wv rv links raised kept' count' key value values b.key_here b.own_here
 
-    pub beside-walk : order v root ≡ flat_map (beside d at.number l.number) (order s root)
+    pub beside-walk : nodes_in_order v root ≡ flat_map (beside d at.number l.number) (nodes_in_order s root)
     beside-walk = by d b.joined where
-      by : (d : Side) → IsJoined (seen d (tree_of (shapes_of s))) (seen d (tree_of (shapes_of u))) at.number l.number → order v root ≡ flat_map (beside d at.number l.number) (order s root)
+      by : (d : Side) → IsJoined (seen d (tree_of (shapes_of s))) (seen d (tree_of (shapes_of u))) at.number l.number → nodes_in_order v root ≡ flat_map (beside d at.number l.number) (nodes_in_order s root)
       by Left = grown-walk-before s u root at l w sound b.entered kept number made made_at count v cv wv rv links raised kept' count'
       by Right = grown-walk-after s u root at l w sound b.entered kept number made made_at count v cv wv rv links raised kept' count'

@@ -4,29 +4,29 @@ use Rattle.node_rope.specs.declared.store.Store.{Store}
 use Rattle.node_rope.specs.declared.cells.Shape.{Shape}
 use Rattle.node_rope.specs.declared.cells.Link.{Link}
 use Rattle.node_rope.specs.Made.{IsMade, made_count, shapes_of}
-use Rattle.node_rope.specs.Walk.{Tree, count_of, whole, HasCounts}
+use Rattle.node_rope.specs.Walk.{Tree, count_of, all_nodes, HasCounts}
 use Rattle.node_rope.specs.Sums.{sum_measure, sum_of}
-use Rattle.node_rope.specs.Shapes.{HasRightLinks, shape_at, link_number, tree_of, order, weigh, weight_at, owns, weights, IsWeighed}
+use Rattle.node_rope.specs.Shapes.{HasRightLinks, shape_at, link_number, tree_of, nodes_in_order, weigh, weight_at, owns, weights, IsWeighed}
 use Rattle.node_rope.proofs.ShapeLemmas.{made-below, weight-sum, up_made, is_left, nearer}
 use Rattle.node_rope.proofs.WalkLemmas.{at-self, at-left, at-right, length-whole}
 use Rattle.node_rope.proofs.SumLemmas.{adding-lawful, fold-append, sum-is, first-self, first-left, first-right}
 
 module _ (ss : List Shape) (ct : HasCounts (tree_of ss)) (wt : IsWeighed ss) where
-  pub weight-is : (o : Option ℕ) → sum_of sum_measure (weights ss) o ≡ weigh ss (whole (tree_of ss) o)
+  pub weight-is : (o : Option ℕ) → sum_of sum_measure (weights ss) o ≡ weigh ss (all_nodes (tree_of ss) o)
   weight-is o = sum-is sum_measure adding-lawful (tree_of ss) ct (owns ss) (weights ss) wt o
 
-  weigh-self : (x i : ℕ) → i ≡ count_of (tree_of ss) (link_number (shape_at ss x).left) → weight_at ss (shape_at ss x).left ≡ weigh ss (take i (whole (tree_of ss) (Some x)))
+  weigh-self : (x i : ℕ) → i ≡ count_of (tree_of ss) (link_number (shape_at ss x).left) → weight_at ss (shape_at ss x).left ≡ weigh ss (take i (all_nodes (tree_of ss) (Some x)))
   weigh-self x i e = weight-sum ss (shape_at ss x).left ∙ weight-is (link_number (shape_at ss x).left) ∙ ap (weigh ss) (sym (first-self (tree_of ss) ct x i e))
 
-  weigh-left : (p c i w : ℕ) → link_number (shape_at ss p).left ≡ Some c → i ≤ (shape_at ss c).count → w ≡ weigh ss (take i (whole (tree_of ss) (Some c))) → w ≡ weigh ss (take i (whole (tree_of ss) (Some p)))
+  weigh-left : (p c i w : ℕ) → link_number (shape_at ss p).left ≡ Some c → i ≤ (shape_at ss c).count → w ≡ weigh ss (take i (all_nodes (tree_of ss) (Some c))) → w ≡ weigh ss (take i (all_nodes (tree_of ss) (Some p)))
   weigh-left p c i w e h f = f ∙ ap (weigh ss) (sym (first-left (tree_of ss) ct p c i e h))
 
-  weigh-right : (p c i j w : ℕ) → link_number (shape_at ss p).right ≡ Some c → j ≡ count_of (tree_of ss) (link_number (shape_at ss p).left) + suc i → w ≡ weigh ss (take i (whole (tree_of ss) (Some c)))
-      → weight_at ss (shape_at ss p).left + ((shape_at ss p).own.weight + w) ≡ weigh ss (take j (whole (tree_of ss) (Some p)))
+  weigh-right : (p c i j w : ℕ) → link_number (shape_at ss p).right ≡ Some c → j ≡ count_of (tree_of ss) (link_number (shape_at ss p).left) + suc i → w ≡ weigh ss (take i (all_nodes (tree_of ss) (Some c)))
+      → weight_at ss (shape_at ss p).left + ((shape_at ss p).own.weight + w) ≡ weigh ss (take j (all_nodes (tree_of ss) (Some p)))
   weigh-right p c i j w e f h =
       let l = weight-sum ss (shape_at ss p).left ∙ weight-is (link_number (shape_at ss p).left) in
-      ap (λ a. a + ((shape_at ss p).own.weight + w)) l ∙ ap (λ a. weigh ss (whole (tree_of ss) (link_number (shape_at ss p).left)) + ((shape_at ss p).own.weight + a)) h
-      ∙ sym (fold-append sum_measure adding-lawful (owns ss) (whole (tree_of ss) (link_number (shape_at ss p).left)) (p ∷ take i (whole (tree_of ss) (Some c))))
+      ap (λ a. a + ((shape_at ss p).own.weight + w)) l ∙ ap (λ a. weigh ss (all_nodes (tree_of ss) (link_number (shape_at ss p).left)) + ((shape_at ss p).own.weight + a)) h
+      ∙ sym (fold-append sum_measure adding-lawful (owns ss) (all_nodes (tree_of ss) (link_number (shape_at ss p).left)) (p ∷ take i (all_nodes (tree_of ss) (Some c))))
       ∙ ap (weigh ss) (sym (first-right (tree_of ss) ct p c i j e f))
 
 -- ---- of the nodes below cur, whose shape is h, count ones stand before the node i, and their weight is this
@@ -35,8 +35,8 @@ pub record IsClimbing {T : Type 0} (s : Store T) (i : ℕ) (cur : Link) (h : Sha
   pub read : h ≡ shape_at (shapes_of s) cur.number
   pub inside : count < h.count
   pub lighter : weight ≤ h.weight
-  pub here : get_or (whole (tree_of (shapes_of s)) (Some cur.number)) count 0 ≡ i
-  pub weighs : weight ≡ weigh (shapes_of s) (take count (whole (tree_of (shapes_of s)) (Some cur.number)))
+  pub here : get_or (all_nodes (tree_of (shapes_of s)) (Some cur.number)) count 0 ≡ i
+  pub weighs : weight ≡ weigh (shapes_of s) (take count (all_nodes (tree_of (shapes_of s)) (Some cur.number)))
 
 pub climb-starts : {T : Type 0} (s : Store T) (root : Option Link) → HasRightLinks s root → (at : Link) → IsMade s at → (h : Shape) → h ≡ shape_at (shapes_of s) at.number → (count weight : ℕ) → count ≡ count_of (tree_of (shapes_of s)) (link_number h.left) → weight ≡ weight_at (shapes_of s) h.left
     → IsClimbing s at.number at h count weight
@@ -113,10 +113,10 @@ module _ {T : Type 0} (s : Store T) (root : Option Link) (so : HasRightLinks s r
         }
 
   -- at the top
-  pub climbed : h.parent ≡ None → (count < length (order s root)) × (get_or (order s root) count 0 ≡ i) × (weight ≡ weigh hs (take count (order s root)))
+  pub climbed : h.parent ≡ None → (count < length (nodes_in_order s root)) × (get_or (nodes_in_order s root) count 0 ≡ i) × (weight ≡ weigh hs (take count (nodes_in_order s root)))
   climbed none =
       let top = so.top k (made-below s cur inv.made) (ap (λ (f : Shape). f.parent) (sym inv.read) ∙ none) in (
         omega (arith, inv.inside, ap (λ (f : Shape). f.count) inv.read, length-whole t so.counted (link_number root), ap (count_of t) top),
-        subst (λ (o : Option ℕ). get_or (whole t o) count 0 ≡ i) (sym top) inv.here,
-        subst (λ (o : Option ℕ). weight ≡ weigh hs (take count (whole t o))) (sym top) inv.weighs,
+        subst (λ (o : Option ℕ). get_or (all_nodes t o) count 0 ≡ i) (sym top) inv.here,
+        subst (λ (o : Option ℕ). weight ≡ weigh hs (take count (all_nodes t o))) (sym top) inv.weighs,
       )

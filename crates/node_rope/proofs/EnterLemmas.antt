@@ -10,7 +10,7 @@ use Rattle.node_rope.specs.Walk.{HasCounts, IsLinked, mirror}
 use Rattle.node_rope.specs.Sums.{sum_measure, lesser, no_rank}
 use Rattle.node_rope.specs.Joined.{IsJoined, IsSummedBut, IsBelow}
 use Rattle.node_rope.specs.Grown.{new_beside, joined_beside}
-use Rattle.node_rope.specs.Sides.{flipped}
+use Rattle.node_rope.specs.Sides.{other_side}
 use Rattle.node_rope.proofs.FaceLemmas.{tree_by}
 use Rattle.node_rope.proofs.MirrorLemmas.{mirror-but, mirror-linked, mirror-below}
 use Rattle.node_rope.proofs.ShapeLemmas.{weight-sum, least-sum}
@@ -45,14 +45,14 @@ pub record IsEntered (f g : ℕ → Shape) (at l : Link) (w : Own) : Type 0 wher
   pub parents : (i : ℕ) (m : Link) → (g i).parent ≡ Some m → Came f at l m
 
 -- the same with the sides exchanged
-flip-came : (f : ℕ → Shape) (at l m : Link) → Came (λ i. flipped (f i)) at l m → Came f at l m
+flip-came : (f : ℕ → Shape) (at l m : Link) → Came (λ i. other_side (f i)) at l m → Came f at l m
 flip-came f at l m (inl e) = inl e
 flip-came f at l m (inr (inl e)) = inr (inl e)
 flip-came f at l m (inr (inr (j, inl e))) = inr (inr (j, inr (inl e)))
 flip-came f at l m (inr (inr (j, inr (inl e)))) = inr (inr (j, inl e))
 flip-came f at l m (inr (inr (j, inr (inr e)))) = inr (inr (j, inr (inr e)))
 
-pub flip-entered : (f g : ℕ → Shape) (at l : Link) (w : Own) → IsEntered (λ i. flipped (f i)) (λ i. flipped (g i)) at l w → IsEntered f g at l w
+pub flip-entered : (f g : ℕ → Shape) (at l : Link) (w : Own) → IsEntered (λ i. other_side (f i)) (λ i. other_side (g i)) at l w → IsEntered f g at l w
 flip-entered f g at l w e = record {
   counts = mirror-but sum_measure adding-commutes (tree_by g) (λ _. 1) (λ i. (g i).count) 1 (Some at.number) e.counts;
   weighs = mirror-but sum_measure adding-commutes (tree_by g) (λ i. (g i).own.weight) (λ i. (g i).weight) w.weight (Some at.number) e.weighs;

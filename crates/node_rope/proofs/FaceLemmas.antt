@@ -13,47 +13,47 @@ use Rattle.node_rope.specs.Heaps.{Mooring}
 use Rattle.node_rope.specs.Filed.{MooringsLead, IsFiled}
 use Rattle.node_rope.specs.Shaped.{shape_of, node_value}
 use Rattle.node_rope.specs.Made.{IsKept, made_count, shapes_of, values_of}
-use Rattle.node_rope.specs.Shapes.{HasRightLinks, shape_at, link_number, tree_of, order, weight_at, least_at}
-use Rattle.node_rope.specs.Walk.{Tree, whole, HasCounts, IsLinked}
+use Rattle.node_rope.specs.Shapes.{HasRightLinks, shape_at, link_number, tree_of, nodes_in_order, weight_at, least_at}
+use Rattle.node_rope.specs.Walk.{Tree, all_nodes, HasCounts, IsLinked}
 use Rattle.node_rope.specs.Sums.{sum_measure, lesser, IsSummed}
 use Rattle.node_rope.specs.Joined.{IsBelow}
 use Rattle.node_rope.specs.Grown.{with_parent}
-use Rattle.node_rope.specs.Sides.{flipped, faced}
-use Rattle.node_rope.specs.Turned.{tree_count_at, side_of, swapped, with_child}
+use Rattle.node_rope.specs.Sides.{other_side, facing_shape}
+use Rattle.node_rope.specs.Turned.{tree_count_at, side_of, with_swapped_child, with_child}
 use Rattle.node_rope.proofs.FilingLemmas.{filed-had}
 use Rattle.node_rope.proofs.LiftLemmas.{leads-tells}
 use Rattle.node_rope.proofs.JoinLemmas.{adding-commutes, lesser-commutes}
 use Rattle.node_rope.proofs.MirrorLemmas.{mirror-counted, mirror-summed, mirror-linked, mirror-below, whole-mirrored}
 
 -- ---- lists of shapes
-pub flip-at : (ss : List Shape) (i : ℕ) → shape_at (map flipped ss) i ≡ flipped (shape_at ss i)
+pub flip-at : (ss : List Shape) (i : ℕ) → shape_at (map other_side ss) i ≡ other_side (shape_at ss i)
 flip-at [] i = refl
 flip-at (h ∷ ss) zero = refl
 flip-at (h ∷ ss) (suc i) = flip-at ss i
 
-pub flip-with_parent : (ss : List Shape) (o q : Option Link) → map flipped (with_parent ss o q) ≡ with_parent (map flipped ss) o q
+pub flip-with_parent : (ss : List Shape) (o q : Option Link) → map other_side (with_parent ss o q) ≡ with_parent (map other_side ss) o q
 flip-with_parent ss None q = refl
-flip-with_parent ss (Some l) q = map-set flipped ss l.number (record (shape_at ss l.number) { parent = q }) ∙ ap (λ (h : Shape). slice_set (map flipped ss) l.number (record h { parent = q })) (sym (flip-at ss l.number))
+flip-with_parent ss (Some l) q = map-set other_side ss l.number (record (shape_at ss l.number) { parent = q }) ∙ ap (λ (h : Shape). slice_set (map other_side ss) l.number (record h { parent = q })) (sym (flip-at ss l.number))
 
-pub flip-with_child : (ss : List Shape) (o : Option Link) (p : ℕ) (c : Link) → map flipped (with_child ss o p c) ≡ with_child (map flipped ss) o p c
+pub flip-with_child : (ss : List Shape) (o : Option Link) (p : ℕ) (c : Link) → map other_side (with_child ss o p c) ≡ with_child (map other_side ss) o p c
 flip-with_child ss None p c = refl
-flip-with_child ss (Some g) p c = map-set flipped ss g.number (swapped (shape_at ss g.number) p c) ∙ ap (λ (h : Shape). slice_set (map flipped ss) g.number (swapped h p c)) (sym (flip-at ss g.number))
+flip-with_child ss (Some g) p c = map-set other_side ss g.number (with_swapped_child (shape_at ss g.number) p c) ∙ ap (λ (h : Shape). slice_set (map other_side ss) g.number (with_swapped_child h p c)) (sym (flip-at ss g.number))
 
-pub flip-count : (ss : List Shape) (o : Option Link) → tree_count_at (map flipped ss) o ≡ tree_count_at ss o
+pub flip-count : (ss : List Shape) (o : Option Link) → tree_count_at (map other_side ss) o ≡ tree_count_at ss o
 flip-count ss None = refl
 flip-count ss (Some l) = ap (λ (h : Shape). h.count) (flip-at ss l.number)
 
-pub flip-weight : (ss : List Shape) (o : Option Link) → weight_at (map flipped ss) o ≡ weight_at ss o
+pub flip-weight : (ss : List Shape) (o : Option Link) → weight_at (map other_side ss) o ≡ weight_at ss o
 flip-weight ss None = refl
 flip-weight ss (Some l) = ap (λ (h : Shape). h.weight) (flip-at ss l.number)
 
-pub flip-least : (ss : List Shape) (o : Option Link) → least_at (map flipped ss) o ≡ least_at ss o
+pub flip-least : (ss : List Shape) (o : Option Link) → least_at (map other_side ss) o ≡ least_at ss o
 flip-least ss None = refl
 flip-least ss (Some l) = ap (λ (h : Shape). h.least) (flip-at ss l.number)
 
 -- ---- the store
 abbrev flip_node : {T : Type 0} → Node T → Node T
-flip_node n = record n { shape = flipped n.shape }
+flip_node n = record n { shape = other_side n.shape }
 
 from-map : {X Y : Type 0} (f : X → Y) (xs : List X) (i : ℕ) (y : Y) → slice_get (map f xs) i ≡ Some y → (x : X) × (slice_get xs i ≡ Some x) × (f x ≡ y)
 from-map f [] i y e = absurd (cc)
@@ -76,11 +76,11 @@ mirrored s = record {
   filed = ∣ flip-filed s.newest s.pile.values s.pile.moorings (filed-had s.newest s.pile.values s.pile.moorings s.filed) ∣₁;
 }
 
-shapes-flip : {T : Type 0} (ns : List (Node T)) → map shape_of (map flip_node ns) ≡ map flipped (map shape_of ns)
+shapes-flip : {T : Type 0} (ns : List (Node T)) → map shape_of (map flip_node ns) ≡ map other_side (map shape_of ns)
 shapes-flip [] = refl
-shapes-flip (n ∷ ns) = ap (λ hs. flipped n.shape ∷ hs) (shapes-flip ns)
+shapes-flip (n ∷ ns) = ap (λ hs. other_side n.shape ∷ hs) (shapes-flip ns)
 
-pub shapes-mirrored : {T : Type 0} (s : Store T) → shapes_of (mirrored s) ≡ map flipped (shapes_of s)
+pub shapes-mirrored : {T : Type 0} (s : Store T) → shapes_of (mirrored s) ≡ map other_side (shapes_of s)
 shapes-mirrored s = shapes-flip s.pile.values
 
 values-flip : {T : Type 0} (ns : List (Node T)) → map node_value (map flip_node ns) ≡ map node_value ns
@@ -92,7 +92,7 @@ values-mirrored s = values-flip s.pile.values
 
 -- v has the nodes of s with their sides exchanged
 pub record IsFacing {T : Type 0} (s v : Store T) : Type 0 where
-  pub at : (i : ℕ) → shape_at (shapes_of v) i ≡ flipped (shape_at (shapes_of s) i)
+  pub at : (i : ℕ) → shape_at (shapes_of v) i ≡ other_side (shape_at (shapes_of s) i)
   pub count : made_count v ≡ made_count s
   pub kept : IsKept s v
 
@@ -100,7 +100,7 @@ pub there : {T : Type 0} (s : Store T) → IsFacing s (mirrored s)
 there s = record { at = λ i. ap (λ hs. shape_at hs i) (shapes-mirrored s) ∙ flip-at (shapes_of s) i; count = length-map s.pile.values flip_node; kept = λ l m. m }
 
 pub back : {T : Type 0} (s : Store T) → IsFacing (mirrored s) s
-back s = record { at = λ i. ap flipped (sym ((there s).at i)); count = sym (length-map s.pile.values flip_node); kept = λ l m. m }
+back s = record { at = λ i. ap other_side (sym ((there s).at i)); count = sym (length-map s.pile.values flip_node); kept = λ l m. m }
 
 abbrev pub tree_by : (ℕ → Shape) → Tree
 tree_by f = record { left = λ i. link_number (f i).left; right = λ i. link_number (f i).right; parent = λ i. link_number (f i).parent; count = λ i. (f i).count }
@@ -109,7 +109,7 @@ module _ {T : Type 0} (s v : Store T) (root : Option Link) (facing : IsFacing s 
   abbrev f : ℕ → Shape
   f = shape_at (shapes_of s)
 
-  abbrev same : ◌≡◌ {A = ℕ → Shape} (λ i. flipped (f i)) (shape_at (shapes_of v))
+  abbrev same : ◌≡◌ {A = ℕ → Shape} (λ i. other_side (f i)) (shape_at (shapes_of v))
   same = λ k i. sym (facing.at i) k
 
   pub mirror-sound : HasRightLinks s root → HasRightLinks v root
@@ -128,21 +128,21 @@ module _ {T : Type 0} (s v : Store T) (root : Option Link) (facing : IsFacing s 
     small = λ i. omega (arith, ap (λ (h : Shape). h.count) (facing.at i), r.small i, facing.count);
   }
 
-  pub mirror-order : order v root ≡ reverse (order s root)
-  mirror-order = ap (λ (g : ℕ → Shape). whole (tree_by g) (link_number root)) (sym same) ∙ whole-mirrored (tree_of (shapes_of s)) (link_number root)
+  pub mirror-order : nodes_in_order v root ≡ reverse (nodes_in_order s root)
+  mirror-order = ap (λ (g : ℕ → Shape). all_nodes (tree_by g) (link_number root)) (sym same) ∙ whole-mirrored (tree_of (shapes_of s)) (link_number root)
 
 -- ---- a node from a side
-pub faced-field : {X : Type 0} (f : Shape → X) → ((h : Shape) → f (flipped h) ≡ f h) → (d : Side) (h : Shape) → f (faced d h) ≡ f h
+pub faced-field : {X : Type 0} (f : Shape → X) → ((h : Shape) → f (other_side h) ≡ f h) → (d : Side) (h : Shape) → f (facing_shape d h) ≡ f h
 faced-field f e Left h = refl
 faced-field f e Right h = e h
 
-pub faced-parent : (ss : List Shape) → IsLinked (tree_of ss) → (d : Side) (i : ℕ) (m : Link) → (faced d (shape_at ss i)).right ≡ Some m → link_number (shape_at ss m.number).parent ≡ Some i
+pub faced-parent : (ss : List Shape) → IsLinked (tree_of ss) → (d : Side) (i : ℕ) (m : Link) → (facing_shape d (shape_at ss i)).right ≡ Some m → link_number (shape_at ss m.number).parent ≡ Some i
 faced-parent ss linked Left i m e = linked.from_right i m.number (ap link_number e)
 faced-parent ss linked Right i m e = linked.from_left i m.number (ap link_number e)
 
 -- a child stands at its side
-pub side-faces : (h : Shape) (c : ℕ) → (link_number h.left ≡ Some c) ⊎ (link_number h.right ≡ Some c) → link_number (faced (side_of h.left c) h).left ≡ Some c
-side-faces h c has = elim (leads-tells h.left c) as (λ _. link_number (faced (side_of h.left c) h).left ≡ Some c) [
-  | inl e ↦ ap (λ b. link_number (faced (cond b Left Right) h).left) e.0 ∙ e.1
-  | inr e ↦ ap (λ b. link_number (faced (cond b Left Right) h).left) e.0 ∙ elim has as (λ _. link_number h.right ≡ Some c) [ inl f ↦ absurd (e.1 f) | inr f ↦ f ]
+pub side-faces : (h : Shape) (c : ℕ) → (link_number h.left ≡ Some c) ⊎ (link_number h.right ≡ Some c) → link_number (facing_shape (side_of h.left c) h).left ≡ Some c
+side-faces h c has = elim (leads-tells h.left c) as (λ _. link_number (facing_shape (side_of h.left c) h).left ≡ Some c) [
+  | inl e ↦ ap (λ b. link_number (facing_shape (cond b Left Right) h).left) e.0 ∙ e.1
+  | inr e ↦ ap (λ b. link_number (facing_shape (cond b Left Right) h).left) e.0 ∙ elim has as (λ _. link_number h.right ≡ Some c) [ inl f ↦ absurd (e.1 f) | inr f ↦ f ]
 ]

@@ -5,8 +5,8 @@ use Rattle.node_rope.specs.declared.store.Store.{Store}
 use Rattle.node_rope.specs.declared.cells.Link.{Link}
 use Rattle.node_rope.specs.declared.cells.Own.{Own}
 use Rattle.node_rope.specs.Made.{IsMade, IsKept, made_count, shapes_of, values_of}
-use Rattle.node_rope.specs.Shapes.{HasRightLinks, AreMade, shape_at, link_number, tree_of, order, IsWeighed, IsRanked}
-use Rattle.node_rope.specs.Walk.{count_of, HasCounts, before, after, mirror}
+use Rattle.node_rope.specs.Shapes.{HasRightLinks, AreMade, shape_at, link_number, tree_of, nodes_in_order, IsWeighed, IsRanked}
+use Rattle.node_rope.specs.Walk.{count_of, HasCounts, members_before, after, mirror}
 use Rattle.node_rope.specs.Joined.{IsJoined}
 use Rattle.node_rope.specs.Grown.{IsGrown}
 use Rattle.node_rope.specs.Rising.{IsRising, IsRaised, SameLinks, AreSmall}
@@ -105,12 +105,12 @@ module _ {T : Type 0} (s u : Store T) (root : Option Link) (at l : Link) (w : Ow
       small = small-count;
     }
 
-    pub grown-walk-before : IsJoined (tree_of (shapes_of s)) (tree_of (shapes_of u)) at.number l.number → order v root ≡ flat_map (before at.number l.number) (order s root)
+    pub grown-walk-before : IsJoined (tree_of (shapes_of s)) (tree_of (shapes_of u)) at.number l.number → nodes_in_order v root ≡ flat_map (members_before at.number l.number) (nodes_in_order s root)
     grown-walk-before j = attached-walk (tree_of (shapes_of s)) (tree_of (shapes_of v)) sound.counted cv at.number l.number
         (joined-attached (tree_of (shapes_of s)) (tree_of (shapes_of u)) sound.counted sound.linked sound.below at.number l.number j (tree_of (shapes_of v)) (λ i. ap link_number (links i).left) (λ i. ap link_number (links i).right))
         (count_of (tree_of (shapes_of s)) (link_number root)) (link_number root) (omega arith) root-old
 
-    pub grown-walk-after : IsJoined (mirror (tree_of (shapes_of s))) (mirror (tree_of (shapes_of u))) at.number l.number → order v root ≡ flat_map (after at.number l.number) (order s root)
+    pub grown-walk-after : IsJoined (mirror (tree_of (shapes_of s))) (mirror (tree_of (shapes_of u))) at.number l.number → nodes_in_order v root ≡ flat_map (after at.number l.number) (nodes_in_order s root)
     grown-walk-after j = attached-walk-after (tree_of (shapes_of s)) (tree_of (shapes_of v)) sound.counted cv at.number l.number
         (joined-attached (mirror (tree_of (shapes_of s))) (mirror (tree_of (shapes_of u))) (mirror-counted (tree_of (shapes_of s)) sound.counted) (mirror-linked (tree_of (shapes_of s)) sound.linked) (mirror-below (tree_of (shapes_of s)) sound.below)
         at.number l.number j (mirror (tree_of (shapes_of v))) (λ i. ap link_number (links i).right) (λ i. ap link_number (links i).left))

@@ -6,8 +6,8 @@ use Rattle.fugue_ids.specs.Identifiers.{Identifier}
 use Rattle.node_rope.specs.declared.store.Store.{Store}
 use Rattle.node_rope.specs.declared.cells.Link.{Link}
 use Rattle.node_rope.specs.Made.{made_count, shapes_of}
-use Rattle.node_rope.specs.Shapes.{HasRightLinks, AreMade, link_number, tree_of, order}
-use Rattle.node_rope.specs.Walk.{Tree, count_of, whole}
+use Rattle.node_rope.specs.Shapes.{HasRightLinks, AreMade, link_number, tree_of, nodes_in_order}
+use Rattle.node_rope.specs.Walk.{Tree, count_of, all_nodes}
 use Rattle.node_rope.specs.Items.{item_at, rope_items_of}
 use Rattle.node_rope.proofs.WalkLemmas.{whole-node, length-whole, some-same}
 use Rattle.node_rope.proofs.ShapeLemmas.{length-shapes, made-below}
@@ -22,15 +22,15 @@ module _ {T : Type 0} (s : Store T) (root : Option Link) (sound : HasRightLinks 
   abbrev t : Tree
   t = tree_of (shapes_of s)
 
-  items-below : (k : ℕ) (o : Option ℕ) → count_of t o ≤ k → ((x : ℕ) → o ≡ Some x → x < made_count s) → length (flat_map (item_at s) (whole t o)) ≡ count_of t o
+  items-below : (k : ℕ) (o : Option ℕ) → count_of t o ≤ k → ((x : ℕ) → o ≡ Some x → x < made_count s) → length (flat_map (item_at s) (all_nodes t o)) ≡ count_of t o
   items-below k None h b = refl
   items-below zero (Some x) h b = absurd (omega (arith, sound.counted x))
   items-below (suc k) (Some x) h b =
       let l = items-below k (t.left x) (omega (arith, sound.counted x)) (λ m e. let q = (are-within s root sound).lefts x m e in omega (arith, q, length-shapes s)) in
       let r = items-below k (t.right x) (omega (arith, sound.counted x)) (λ m e. let q = (are-within s root sound).rights x m e in omega (arith, q, length-shapes s)) in
       let one = one-each {Y = Identifier × T} (λ n. (n.shape.key, n.value)) s.pile.values x (b x refl) in
-      let L = whole t (t.left x) in
-      let R = whole t (t.right x) in
+      let L = all_nodes t (t.left x) in
+      let R = all_nodes t (t.right x) in
       let F = flat_map (item_at s) in
       ap (λ xs. length (F xs)) (whole-node t sound.counted x) ∙ ap length (flat_map-append (item_at s) L (x ∷ R))
       ∙ omega (arith, length-append (F L) (item_at s x ++ F R), length-append (item_at s x) (F R), one, l, r, sound.counted x)
@@ -42,5 +42,5 @@ module _ {T : Type 0} (s : Store T) (root : Option Link) (sound : HasRightLinks 
   pub length-items : length (rope_items_of s root) ≡ count_of t (link_number root)
   length-items = items-below (count_of t (link_number root)) (link_number root) (omega arith) (root-below root sound.made_root)
 
-  pub length-order : length (order s root) ≡ length (rope_items_of s root)
+  pub length-order : length (nodes_in_order s root) ≡ length (rope_items_of s root)
   length-order = length-whole t sound.counted (link_number root) ∙ sym length-items

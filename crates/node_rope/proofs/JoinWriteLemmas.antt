@@ -4,7 +4,7 @@ use lib.ListN.{length-set, length-append}
 use Rattle.node_rope.specs.declared.turn.Side.TheVariants.{Left}
 use Rattle.node_rope.specs.declared.cells.Shape.{Shape}
 use Rattle.node_rope.specs.declared.cells.Link.{Link}
-use Rattle.node_rope.specs.Shapes.{shape_at, lone, link_number, tree_of}
+use Rattle.node_rope.specs.Shapes.{shape_at, lone_shape, link_number, tree_of}
 use Rattle.node_rope.specs.Walk.{HasCounts}
 use Rattle.node_rope.specs.Grown.{with_parent, joined_beside}
 use Rattle.node_rope.specs.Joined.{IsJoined}
@@ -23,7 +23,7 @@ pub got-new : (ss : List Shape) (h : Shape) → shape_at (ss ++ h ∷ []) (lengt
 got-new [] h = refl
 got-new (s ∷ ss) h = got-new ss h
 
-pub past : (ss : List Shape) (x : ℕ) → length ss ≤ x → shape_at ss x ≡ lone
+pub past : (ss : List Shape) (x : ℕ) → length ss ≤ x → shape_at ss x ≡ lone_shape
 past [] x h = refl
 past (s ∷ ss) zero h = absurd (omega arith)
 past (s ∷ ss) (suc x) h = past ss x (omega arith)

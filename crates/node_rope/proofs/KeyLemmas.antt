@@ -15,8 +15,8 @@ use Rattle.node_rope.specs.declared.cells.Link.{Link}
 use Rattle.node_rope.specs.declared.cells.Own.{Own}
 use Rattle.node_rope.specs.Shaped.{node_value}
 use Rattle.node_rope.specs.Made.{IsMade, IsKept, made_count, shapes_of, values_of}
-use Rattle.node_rope.specs.Shapes.{HasRightLinks, shape_at, link_number, tree_of, order}
-use Rattle.node_rope.specs.Walk.{Tree, count_of, whole}
+use Rattle.node_rope.specs.Shapes.{HasRightLinks, shape_at, link_number, tree_of, nodes_in_order}
+use Rattle.node_rope.specs.Walk.{Tree, count_of, all_nodes}
 use Rattle.node_rope.specs.Items.{IsRope, item_at, rope_items_of, value_under}
 use Rattle.node_rope.specs.Sums.{no_rank}
 use Rattle.node_rope.specs.Grown.{IsGrown}
@@ -58,41 +58,41 @@ module _ {T : Type 0} (s : Store T) (root : Option Link) (sound : HasRightLinks 
   abbrev t : Tree
   t = tree_of (shapes_of s)
 
-  pub over-left : (x i p : ℕ) → t.left p ≡ Some i → Among x (whole t (Some i)) → Among x (whole t (Some p))
+  pub over-left : (x i p : ℕ) → t.left p ≡ Some i → Among x (all_nodes t (Some i)) → Among x (all_nodes t (Some p))
   over-left x i p e a =
-      subst (Among x) (sym (whole-node t sound.counted p)) (among-left x (whole t (t.left p)) (p ∷ whole t (t.right p)) (subst (λ (o : Option ℕ). Among x (whole t o)) (sym e) a))
+      subst (Among x) (sym (whole-node t sound.counted p)) (among-left x (all_nodes t (t.left p)) (p ∷ all_nodes t (t.right p)) (subst (λ (o : Option ℕ). Among x (all_nodes t o)) (sym e) a))
 
-  pub over-right : (x i p : ℕ) → t.right p ≡ Some i → Among x (whole t (Some i)) → Among x (whole t (Some p))
+  pub over-right : (x i p : ℕ) → t.right p ≡ Some i → Among x (all_nodes t (Some i)) → Among x (all_nodes t (Some p))
   over-right x i p e a =
-      subst (Among x) (sym (whole-node t sound.counted p)) (among-right x (whole t (t.left p)) (p ∷ whole t (t.right p)) (inr (subst (λ (o : Option ℕ). Among x (whole t o)) (sym e) a)))
+      subst (Among x) (sym (whole-node t sound.counted p)) (among-right x (all_nodes t (t.left p)) (p ∷ all_nodes t (t.right p)) (inr (subst (λ (o : Option ℕ). Among x (all_nodes t o)) (sym e) a)))
 
-  climbs : (k x i : ℕ) → suc (suc (made_count s)) ≤ t.count i + k → i < made_count s → Among x (whole t (Some i)) → Among x (order s root)
+  climbs : (k x i : ℕ) → suc (suc (made_count s)) ≤ t.count i + k → i < made_count s → Among x (all_nodes t (Some i)) → Among x (nodes_in_order s root)
   climbs zero x i h b a = absurd (omega (arith, h, sound.small i))
-  climbs (suc k) x i h b a = elim (link-or-none (shape_at (shapes_of s) i).parent) as (λ _. Among x (order s root)) [
-    | inl e ↦ subst (λ (o : Option ℕ). Among x (whole t o)) (sym (sound.top i b e)) a
+  climbs (suc k) x i h b a = elim (link-or-none (shape_at (shapes_of s) i).parent) as (λ _. Among x (nodes_in_order s root)) [
+    | inl e ↦ subst (λ (o : Option ℕ). Among x (all_nodes t o)) (sym (sound.top i b e)) a
     | inr e ↦ (
         let up = ap link_number e.1 in
         let high : t.count i < t.count e.0.number = higher s root sound i e.0 e.1 in
         climbs k x e.0.number (omega (arith, h, high)) (made-below s e.0 (sound.made_parent i e.0 e.1))
-        (elim (sound.below i e.0.number up) as (λ _. Among x (whole t (Some e.0.number))) [ inl f ↦ over-left x i e.0.number f a | inr f ↦ over-right x i e.0.number f a ]))
+        (elim (sound.below i e.0.number up) as (λ _. Among x (all_nodes t (Some e.0.number))) [ inl f ↦ over-left x i e.0.number f a | inr f ↦ over-right x i e.0.number f a ]))
   ]
 
   -- each node stands in the order
-  pub in-order : (i : ℕ) → i < made_count s → Among i (order s root)
-  in-order i h = climbs (suc (suc (made_count s))) i i (omega arith) h (subst (Among i) (sym (whole-node t sound.counted i)) (among-right i (whole t (t.left i)) (i ∷ whole t (t.right i)) (inl refl)))
+  pub in-order : (i : ℕ) → i < made_count s → Among i (nodes_in_order s root)
+  in-order i h = climbs (suc (suc (made_count s))) i i (omega arith) h (subst (Among i) (sym (whole-node t sound.counted i)) (among-right i (all_nodes t (t.left i)) (i ∷ all_nodes t (t.right i)) (inl refl)))
 
-  made-under : (k : ℕ) (o : Option ℕ) → count_of t o ≤ k → ((x : ℕ) → o ≡ Some x → x < made_count s) → (x : ℕ) → Among x (whole t o) → x < made_count s
+  made-under : (k : ℕ) (o : Option ℕ) → count_of t o ≤ k → ((x : ℕ) → o ≡ Some x → x < made_count s) → (x : ℕ) → Among x (all_nodes t o) → x < made_count s
   made-under k None h b x a = absurd a
   made-under zero (Some y) h b x a = absurd (omega (arith, sound.counted y))
   made-under (suc k) (Some y) h b x a =
-      elim (among-parts x (whole t (t.left y)) (y ∷ whole t (t.right y)) (subst (Among x) (whole-node t sound.counted y) a)) as (λ _. x < made_count s) [
+      elim (among-parts x (all_nodes t (t.left y)) (y ∷ all_nodes t (t.right y)) (subst (Among x) (whole-node t sound.counted y) a)) as (λ _. x < made_count s) [
         | inl c ↦ made-under k (t.left y) (omega (arith, sound.counted y)) (λ m e. let q = (are-within s root sound).lefts y m e in omega (arith, q, length-shapes s)) x c
         | inr (inl e) ↦ (let q = b y refl in omega (arith, q, e))
         | inr (inr c) ↦ made-under k (t.right y) (omega (arith, sound.counted y)) (λ m e. let q = (are-within s root sound).rights y m e in omega (arith, q, length-shapes s)) x c
       ]
 
   -- and no other number does
-  pub all-made : (x : ℕ) → Among x (order s root) → x < made_count s
+  pub all-made : (x : ℕ) → Among x (nodes_in_order s root) → x < made_count s
   all-made x a = made-under (count_of t (link_number root)) (link_number root) (omega arith) (root-below s root sound root sound.made_root) x a
 
 pub length-values : {T : Type 0} (s : Store T) → length (values_of s) ≡ made_count s
@@ -155,7 +155,7 @@ module _ {T : Type 0} (wt : T → Own) (s : Store T) (root : Option Link) (m : B
   ]
 
   pub held : (k : Identifier) (l : Link) → value_of m k ≡ Some l → (v : T) → slice_get (values_of s) l.number ≡ Some v → value_under k (rope_items_of s root) ≡ Some v
-  held k l e v is = value-among s k l.number v (alone k l e) is (order s root) (all-made s root r.sound) (in-order s root r.sound l.number (made-below s l (r.mapped k l e)))
+  held k l e v is = value-among s k l.number v (alone k l e) is (nodes_in_order s root) (all-made s root r.sound) (in-order s root r.sound l.number (made-below s l (r.mapped k l e)))
 
   -- the value of a node stands under its key
   pub node-holds : (l : Link) → IsMade s l → (d : T) → d ≡ get_or (values_of s) l.number d → value_under (shape_at (shapes_of s) l.number).key (rope_items_of s root) ≡ Some d
@@ -170,7 +170,7 @@ module _ {T : Type 0} (wt : T → Own) (s : Store T) (root : Option Link) (m : B
       let is : (shape_at (shapes_of s) x).key ≡ k = id_eq-true (shape_at (shapes_of s) x).key k g in
       let at = r.listed x h in
       let same : Some at.0 ≡ None = sym at.2 ∙ ap (value_of m) is ∙ e in
-      cc))) (order s root) (all-made s root r.sound)
+      cc))) (nodes_in_order s root) (all-made s root r.sound)
 
   pub free : (k : Identifier) → value_under k (rope_items_of s root) ≡ None → value_of m k ≡ None
   free k e = elim (link-or-none (value_of m k)) as (λ _. value_of m k ≡ None) [
@@ -297,7 +297,7 @@ module _ {T : Type 0} (s v : Store T) (root : Option Link) (key : Identifier) (w
   pub first-list : HasRightLinks s root → rope_items_of v (Some l) ≡ (key, value) ∷ []
   first-list sound =
       let t = tree_of (shapes_of v) in
-      let none-left = ap (λ (h : Shape). whole t (link_number h.left)) here-there in
-      let none-right = ap (λ (h : Shape). whole t (link_number h.right)) here-there in
-      let walk = whole-node t first-grown.sound.counted l.number ∙ ap (λ xs. xs ++ l.number ∷ whole t (t.right l.number)) none-left ∙ ap (λ xs. l.number ∷ xs) none-right in
+      let none-left = ap (λ (h : Shape). all_nodes t (link_number h.left)) here-there in
+      let none-right = ap (λ (h : Shape). all_nodes t (link_number h.right)) here-there in
+      let walk = whole-node t first-grown.sound.counted l.number ∙ ap (λ xs. xs ++ l.number ∷ all_nodes t (t.right l.number)) none-left ∙ ap (λ xs. l.number ∷ xs) none-right in
       ap (flat_map (item_at v)) walk ∙ append-nil (item_at v l.number) ∙ new-item s v root (Some l) sound key w value l first-grown

@@ -5,9 +5,9 @@ use Rattle.node_rope.specs.declared.turn.Side.TheVariants.{Left}
 use Rattle.node_rope.specs.declared.cells.Shape.{Shape}
 use Rattle.node_rope.specs.declared.cells.Link.{Link}
 use Rattle.node_rope.specs.Shapes.{shape_at, link_number, tree_of, weight_at, least_at}
-use Rattle.node_rope.specs.Walk.{Tree, count_of, HasCounts, IsLinked, moved, IsTurned}
+use Rattle.node_rope.specs.Walk.{Tree, count_of, HasCounts, IsLinked, replaced_child, IsTurned}
 use Rattle.node_rope.specs.Grown.{with_parent}
-use Rattle.node_rope.specs.Turned.{tree_count_at, swapped, with_child, lifted}
+use Rattle.node_rope.specs.Turned.{tree_count_at, with_swapped_child, with_child, lifted_shapes}
 use Rattle.node_rope.proofs.WalkLemmas.{below-left, below-right, moved-other}
 use Rattle.node_rope.proofs.RaiseLemmas.{set_same, set_other}
 use Rattle.node_rope.proofs.JoinWriteLemmas.{length-with_parent, with_parent-other, with_parent-same}
@@ -24,7 +24,7 @@ module _ (ss : List Shape) (p c : Link) (ct : HasCounts (tree_of ss)) (linked : 
   below = shape_at ss c.number
 
   abbrev after : List Shape
-  after = lifted Left ss p c above below
+  after = lifted_shapes Left ss p c above below
 
   low : below.count < above.count
   low = below-left t ct p.number c.number was
@@ -39,16 +39,16 @@ module _ (ss : List Shape) (p c : Link) (ct : HasCounts (tree_of ss)) (linked : 
   new_c = record below { right = Some p; parent = above.parent; count = above.count; weight = above.weight; least = above.least }
 
   pub at_c : shape_at after c.number ≡ new_c
-  unfolding lifted
+  unfolding lifted_shapes
   at_c = set_same (slice_set (with_parent ss below.right (Some p)) p.number new_p) c.number new_c (omega (arith, in_c, length-set (with_parent ss below.right (Some p)) p.number new_p, length-with_parent ss below.right (Some p)))
 
   pub at_p : shape_at after p.number ≡ new_p
-  unfolding lifted
+  unfolding lifted_shapes
   at_p = set_other (slice_set (with_parent ss below.right (Some p)) p.number new_p) c.number p.number new_c differ
       ∙ set_same (with_parent ss below.right (Some p)) p.number new_p (omega (arith, in_p, length-with_parent ss below.right (Some p)))
 
   pub at_else : (i : ℕ) → i ≢ p.number → i ≢ c.number → shape_at after i ≡ shape_at (with_parent ss below.right (Some p)) i
-  unfolding lifted
+  unfolding lifted_shapes
   at_else i f g = set_other (slice_set (with_parent ss below.right (Some p)) p.number new_p) c.number i new_c g ∙ set_other (with_parent ss below.right (Some p)) p.number i new_p f
 
   pub at_middle : (m : ℕ) → link_number below.right ≡ Some m → m < length ss → shape_at after m ≡ record (shape_at ss m) { parent = Some p }
@@ -70,7 +70,7 @@ module _ (ss : List Shape) (p c : Link) (ct : HasCounts (tree_of ss)) (linked : 
   top = (shape_at ss p.number).parent
 
   abbrev once_lifted : List Shape
-  once_lifted = lifted Left ss p c (shape_at ss p.number) (shape_at ss c.number)
+  once_lifted = lifted_shapes Left ss p c (shape_at ss p.number) (shape_at ss c.number)
 
   abbrev all : List Shape
   all = with_child once_lifted top p.number c
@@ -79,7 +79,7 @@ module _ (ss : List Shape) (p c : Link) (ct : HasCounts (tree_of ss)) (linked : 
   u' = tree_of all
 
   pub length-lifted : length once_lifted ≡ length ss
-  unfolding lifted
+  unfolding lifted_shapes
   length-lifted = length-set _ c.number _ ∙ length-set _ p.number _ ∙ length-with_parent ss (shape_at ss c.number).right (Some p)
 
   under_top : (g : ℕ) → link_number top ≡ Some g → (shape_at ss p.number).count < (shape_at ss g).count
@@ -108,9 +108,9 @@ module _ (ss : List Shape) (p c : Link) (ct : HasCounts (tree_of ss)) (linked : 
     no_middle : link_number top ≡ Some i → link_number (shape_at ss c.number).right ≡ Some i → ⊥
     no_middle e f = omega (arith, under_top i e, low', below-right t' ct c.number i f)
 
-    pub at_top : link_number top ≡ Some i → shape_at all i ≡ swapped (shape_at ss i) p.number c
+    pub at_top : link_number top ≡ Some i → shape_at all i ≡ with_swapped_child (shape_at ss i) p.number c
     at_top e = with_child-same once_lifted top p.number c i e (omega (arith, in_top i e, length-lifted))
-        ∙ ap (λ h. swapped h p.number c) (at_other ss p c ct linked was in_p in_c i ip ic (no_middle e))
+        ∙ ap (λ h. with_swapped_child h p.number c) (at_other ss p c ct linked was in_p in_c i ip ic (no_middle e))
 
     pub at_rest : (link_number top ≡ Some i → ⊥) → (shape_at all i ≡ shape_at ss i) ⊎ ((link_number (shape_at ss c.number).right ≡ Some i) × (shape_at all i ≡ record (shape_at ss i) { parent = Some p }))
     at_rest e = elim (leads-tells (shape_at ss c.number).right i) as (λ _. (shape_at all i ≡ shape_at ss i) ⊎ ((link_number (shape_at ss c.number).right ≡ Some i) × (shape_at all i ≡ record (shape_at ss i) { parent = Some p }))) [
@@ -118,17 +118,17 @@ module _ (ss : List Shape) (p c : Link) (ct : HasCounts (tree_of ss)) (linked : 
       | inr f ↦ inl (with_child-other once_lifted top p.number c i e ∙ at_other ss p c ct linked was in_p in_c i ip ic f.1)
     ]
 
-    links : (u'.left i ≡ moved p.number c.number (t'.left i)) × (u'.right i ≡ moved p.number c.number (t'.right i)) × (u'.count i ≡ t'.count i)
-    links = elim (leads-tells top i) as (λ _. (u'.left i ≡ moved p.number c.number (t'.left i)) × (u'.right i ≡ moved p.number c.number (t'.right i)) × (u'.count i ≡ t'.count i)) [
+    links : (u'.left i ≡ replaced_child p.number c.number (t'.left i)) × (u'.right i ≡ replaced_child p.number c.number (t'.right i)) × (u'.count i ≡ t'.count i)
+    links = elim (leads-tells top i) as (λ _. (u'.left i ≡ replaced_child p.number c.number (t'.left i)) × (u'.right i ≡ replaced_child p.number c.number (t'.right i)) × (u'.count i ≡ t'.count i)) [
       | inl e ↦ (
         ap (λ h. link_number h.left) (at_top e.1) ∙ relinked-moved (shape_at ss i).left p.number c,
         ap (λ h. link_number h.right) (at_top e.1) ∙ relinked-moved (shape_at ss i).right p.number c,
         ap (λ h. h.count) (at_top e.1),
       )
       | inr e ↦ (
-          let l : moved p.number c.number (t'.left i) ≡ t'.left i = moved-other p.number c.number (t'.left i) (λ f. e.1 (linked.from_left i p.number f)) in
-          let r : moved p.number c.number (t'.right i) ≡ t'.right i = moved-other p.number c.number (t'.right i) (λ f. e.1 (linked.from_right i p.number f)) in
-          elim (at_rest e.1) as (λ _. (u'.left i ≡ moved p.number c.number (t'.left i)) × (u'.right i ≡ moved p.number c.number (t'.right i)) × (u'.count i ≡ t'.count i)) [
+          let l : replaced_child p.number c.number (t'.left i) ≡ t'.left i = moved-other p.number c.number (t'.left i) (λ f. e.1 (linked.from_left i p.number f)) in
+          let r : replaced_child p.number c.number (t'.right i) ≡ t'.right i = moved-other p.number c.number (t'.right i) (λ f. e.1 (linked.from_right i p.number f)) in
+          elim (at_rest e.1) as (λ _. (u'.left i ≡ replaced_child p.number c.number (t'.left i)) × (u'.right i ≡ replaced_child p.number c.number (t'.right i)) × (u'.count i ≡ t'.count i)) [
             | inl f ↦ (ap (λ h. link_number h.left) f ∙ sym l, ap (λ h. link_number h.right) f ∙ sym r, ap (λ h. h.count) f)
             | inr f ↦ (ap (λ h. link_number h.left) f.1 ∙ sym l, ap (λ h. link_number h.right) f.1 ∙ sym r, ap (λ h. h.count) f.1)
           ])

@@ -7,7 +7,7 @@ use Rattle.node_rope.specs.declared.cells.Link.{Link}
 use Rattle.node_rope.specs.declared.cells.Own.{Own}
 use Rattle.node_rope.specs.Made.{IsMade, made_count, shapes_of}
 use Rattle.node_rope.specs.Shapes.{HasRightLinks, shape_at, link_number, tree_of, owns, leasts, weigh}
-use Rattle.node_rope.specs.Walk.{whole}
+use Rattle.node_rope.specs.Walk.{all_nodes}
 use Rattle.node_rope.specs.Sums.{lesser, no_rank, sum_of}
 use Rattle.node_rope.specs.Rising.{AreSmall}
 use Rattle.node_rope.proofs.WalkLemmas.{length-whole}
@@ -21,7 +21,7 @@ pub are-small : {T : Type 0} (s : Store T) (root : Option Link) → HasRightLink
 are-small s root sound few light w hw = record {
   counts = λ i. omega (arith, sound.small i);
   weights = λ i. (
-      let b = bounded (shapes_of s) light (whole (tree_of (shapes_of s)) (Some i)) in
+      let b = bounded (shapes_of s) light (all_nodes (tree_of (shapes_of s)) (Some i)) in
       omega (arith, sound.small i, b, length-whole (tree_of (shapes_of s)) sound.counted (Some i), weight-is (shapes_of s) sound.counted sound.weighed (Some i)));
 }
 

@@ -7,7 +7,7 @@ use Rattle.node_rope.specs.declared.store.Store.{Store}
 use Rattle.node_rope.specs.declared.cells.Link.{Link}
 use Rattle.node_rope.specs.declared.cells.Own.{Own}
 use Rattle.node_rope.specs.Made.{shapes_of, values_of}
-use Rattle.node_rope.specs.Shapes.{order, ranks, shape_at}
+use Rattle.node_rope.specs.Shapes.{nodes_in_order, ranks, shape_at}
 use Rattle.node_rope.specs.Items.{IsRope, item_at, rope_items_of}
 use Rattle.node_rope.specs.Places.{first_low_key, last_low_key}
 use Rattle.node_rope.specs.Low.{or_else, first_low, last_low}
@@ -71,12 +71,12 @@ module _ {T : Type 0} (wt : T → Own) (s : Store T) (weighs : (i : ℕ) (v : T)
       ∙ pick-last (λ (q : Identifier × T). q.0) key p x refl (nat_le (ranks (shapes_of s) x) most) F G (items-last xs (λ y a. made y (inr a)))
 
 module _ {T : Type 0} (wt : T → Own) (s : Store T) (root : Option Link) (m : BlockMap Link) (r : IsRope wt s root m) (most : ℕ) where
-  pub first-seen : (from : ℕ) → first_low_key (λ v. (wt v).rank) most (drop from (rope_items_of s root)) ≡ option_map (λ x. (shape_at (shapes_of s) x).key) (first_low (ranks (shapes_of s)) most (drop from (order s root)))
+  pub first-seen : (from : ℕ) → first_low_key (λ v. (wt v).rank) most (drop from (rope_items_of s root)) ≡ option_map (λ x. (shape_at (shapes_of s) x).key) (first_low (ranks (shapes_of s)) most (drop from (nodes_in_order s root)))
   first-seen from =
       let nodes = all-made s root r.sound in
-      ap (first_low_key (λ v. (wt v).rank) most) (items-drop wt s r.weighs most (order s root) nodes from) ∙ items-first wt s r.weighs most (drop from (order s root)) (λ x a. nodes x (among-drop x from (order s root) a))
+      ap (first_low_key (λ v. (wt v).rank) most) (items-drop wt s r.weighs most (nodes_in_order s root) nodes from) ∙ items-first wt s r.weighs most (drop from (nodes_in_order s root)) (λ x a. nodes x (among-drop x from (nodes_in_order s root) a))
 
-  pub last-seen : (to : ℕ) → last_low_key (λ v. (wt v).rank) most (take to (rope_items_of s root)) ≡ option_map (λ x. (shape_at (shapes_of s) x).key) (last_low (ranks (shapes_of s)) most (take to (order s root)))
+  pub last-seen : (to : ℕ) → last_low_key (λ v. (wt v).rank) most (take to (rope_items_of s root)) ≡ option_map (λ x. (shape_at (shapes_of s) x).key) (last_low (ranks (shapes_of s)) most (take to (nodes_in_order s root)))
   last-seen to =
       let nodes = all-made s root r.sound in
-      ap (last_low_key (λ v. (wt v).rank) most) (items-take s (order s root) nodes to) ∙ items-last wt s r.weighs most (take to (order s root)) (λ x a. nodes x (among-take x to (order s root) a))
+      ap (last_low_key (λ v. (wt v).rank) most) (items-take s (nodes_in_order s root) nodes to) ∙ items-last wt s r.weighs most (take to (nodes_in_order s root)) (λ x a. nodes x (among-take x to (nodes_in_order s root) a))

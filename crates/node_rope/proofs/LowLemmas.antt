@@ -9,10 +9,10 @@ use Rattle.node_rope.specs.declared.store.Store.{Store}
 use Rattle.node_rope.specs.declared.cells.Shape.{Shape}
 use Rattle.node_rope.specs.declared.cells.Link.{Link}
 use Rattle.node_rope.specs.Made.{shapes_of}
-use Rattle.node_rope.specs.Walk.{Tree, count_of, whole, HasCounts}
+use Rattle.node_rope.specs.Walk.{Tree, count_of, all_nodes, HasCounts}
 use Rattle.node_rope.specs.Sums.{lesser, no_rank, sum_of, IsSummed}
-use Rattle.node_rope.specs.Sides.{faced, seen}
-use Rattle.node_rope.specs.Shapes.{AreMade, AreRanksFit, HasRightLinks, order, shape_at, link_number, tree_of, ranks, leasts}
+use Rattle.node_rope.specs.Sides.{facing_shape, seen}
+use Rattle.node_rope.specs.Shapes.{AreMade, AreRanksFit, HasRightLinks, nodes_in_order, shape_at, link_number, tree_of, ranks, leasts}
 use Rattle.node_rope.specs.Low.{or_else, if_low, first_low, last_low, low_at, low_below, low_from, seen_order}
 use Rattle.node_rope.proofs.WalkLemmas.{whole-node, length-whole}
 use Rattle.node_rope.proofs.MirrorLemmas.{mirror-counted, mirror-summed, whole-mirrored}
@@ -85,20 +85,20 @@ seen-count Left t o = refl
 seen-count Right t None = refl
 seen-count Right t (Some x) = refl
 
-seen-left : (d : Side) (ss : List Shape) (x : ℕ) → (seen d (tree_of ss)).left x ≡ link_number (faced d (shape_at ss x)).left
+seen-left : (d : Side) (ss : List Shape) (x : ℕ) → (seen d (tree_of ss)).left x ≡ link_number (facing_shape d (shape_at ss x)).left
 seen-left Left ss x = refl
 seen-left Right ss x = refl
 
-seen-right : (d : Side) (ss : List Shape) (x : ℕ) → (seen d (tree_of ss)).right x ≡ link_number (faced d (shape_at ss x)).right
+seen-right : (d : Side) (ss : List Shape) (x : ℕ) → (seen d (tree_of ss)).right x ≡ link_number (facing_shape d (shape_at ss x)).right
 seen-right Left ss x = refl
 seen-right Right ss x = refl
 
 module _ {T : Type 0} (s : Store T) (root : Option Link) (so : HasRightLinks s root) where
-  left-made : (d : Side) (x : ℕ) → AreMade s (faced d (shape_at (shapes_of s) x)).left
+  left-made : (d : Side) (x : ℕ) → AreMade s (facing_shape d (shape_at (shapes_of s) x)).left
   left-made Left x = so.made_left x
   left-made Right x = so.made_right x
 
-  right-made : (d : Side) (x : ℕ) → AreMade s (faced d (shape_at (shapes_of s) x)).right
+  right-made : (d : Side) (x : ℕ) → AreMade s (facing_shape d (shape_at (shapes_of s) x)).right
   right-made Left x = so.made_right x
   right-made Right x = so.made_left x
 
@@ -122,8 +122,8 @@ module _ {T : Type 0} (s : Store T) (root : Option Link) (so : HasRightLinks s r
   low None = false
   low (Some x) = nat_le (leasts ss x) most
 
-  first-node : (x : ℕ) → first_low rank most (whole t (Some x)) ≡ or_else (first_low rank most (whole t (t.left x))) (or_else (if_low rank most x) (first_low rank most (whole t (t.right x))))
-  first-node x = ap (first_low rank most) (whole-node t ct x) ∙ first-append rank most (whole t (t.left x)) (x ∷ whole t (t.right x))
+  first-node : (x : ℕ) → first_low rank most (all_nodes t (Some x)) ≡ or_else (first_low rank most (all_nodes t (t.left x))) (or_else (if_low rank most x) (first_low rank most (all_nodes t (t.right x))))
+  first-node x = ap (first_low rank most) (whole-node t ct x) ∙ first-append rank most (all_nodes t (t.left x)) (x ∷ all_nodes t (t.right x))
 
   -- a node and what is below it has a low one where its least rank is low
   low-node : (o q : Option ℕ) (r least : ℕ) → r ≤ no_rank → least ≡ min (sum_of lesser (leasts ss) o) (min r (sum_of lesser (leasts ss) q)) → (low o || (nat_le r most || low q)) ≡ nat_le least most
@@ -132,14 +132,14 @@ module _ {T : Type 0} (s : Store T) (root : Option Link) (so : HasRightLinks s r
   low-node (Some a) None r least h e = let k : least ≡ min (leasts ss a) r = omega (arith, e, h) in rw k (ap (λ b. nat_le (leasts ss a) most || b) (or-swap (nat_le r most) false) ∙ le-min (leasts ss a) r most)
   low-node (Some a) (Some b) r least h e = rw e (ap (λ c. nat_le (leasts ss a) most || c) (le-min r (leasts ss b) most) ∙ le-min (leasts ss a) (min r (leasts ss b)) most)
 
-  has-low : (k : ℕ) (o : Option ℕ) → count_of t o ≤ k → is_some (first_low rank most (whole t o)) ≡ low o
+  has-low : (k : ℕ) (o : Option ℕ) → count_of t o ≤ k → is_some (first_low rank most (all_nodes t o)) ≡ low o
   has-low k None h = refl
   has-low zero (Some x) h = absurd (omega (arith, ct x))
   has-low (suc k) (Some x) h =
       let l = has-low k (t.left x) (omega (arith, ct x)) in
       let r = has-low k (t.right x) (omega (arith, ct x)) in
-      let L = first_low rank most (whole t (t.left x)) in
-      let R = first_low rank most (whole t (t.right x)) in
+      let L = first_low rank most (all_nodes t (t.left x)) in
+      let R = first_low rank most (all_nodes t (t.right x)) in
       ap is_some (first-node x) ∙ is_some-or L (or_else (if_low rank most x) R) ∙ (λ i. l i || is_some-or (if_low rank most x) R i) ∙ (λ i. low (t.left x) || (if-low rank most x i || r i))
       ∙ low-node (t.left x) (t.right x) (rank x) (leasts ss x) (fits x) (rt x)
 
@@ -152,7 +152,7 @@ module _ {T : Type 0} (s : Store T) (root : Option Link) (so : HasRightLinks s r
   told o = has-low (count_of t (link_number o)) (link_number o) (omega arith) ∙ low-is o
 
   -- ---- one step down, from a node l, whose shape as seen from the side is h
-  module _ (l : Link) (h : Shape) (is : h ≡ faced d (shape_at ss l.number)) where
+  module _ (l : Link) (h : Shape) (is : h ≡ facing_shape d (shape_at ss l.number)) where
     abbrev x : ℕ
     x = l.number
 
@@ -175,7 +175,7 @@ module _ {T : Type 0} (s : Store T) (root : Option Link) (so : HasRightLinks s r
     from-is = ap (λ (g : Shape). or_else (if_low rank most x) (low_below ss most d g.right)) (sym is)
 
     below-is : low_below ss most d (Some l) ≡ or_else (low_below ss most d h.left) (low_from ss most d (Some l))
-    below-is = first-node x ∙ (λ i. or_else (first_low rank most (whole t (left-is i))) (or_else (if_low rank most x) (first_low rank most (whole t (seen-right d ss x i)))))
+    below-is = first-node x ∙ (λ i. or_else (first_low rank most (all_nodes t (left-is i))) (or_else (if_low rank most x) (first_low rank most (all_nodes t (seen-right d ss x i)))))
 
     pub goes-near : low_at ss most h.left ≡ true → low_below ss most d (Some l) ≡ low_below ss most d h.left
     goes-near e = below-is ∙ or_else-some (low_below ss most d h.left) (low_from ss most d (Some l)) (told h.left ∙ e)
@@ -204,21 +204,21 @@ module _ {T : Type 0} (s : Store T) (root : Option Link) (so : HasRightLinks s r
     -- ---- a place among the nodes below
     module _ (rest : ℕ) where
       abbrev L : List ℕ
-      L = whole t (link_number h.left)
+      L = all_nodes t (link_number h.left)
 
       abbrev R : List ℕ
-      R = whole t (link_number h.right)
+      R = all_nodes t (link_number h.right)
 
-      split : whole t (Some x) ≡ L ++ x ∷ R
-      split = whole-node t ct x ∙ (λ i. whole t (left-is i) ++ x ∷ whole t (right-is i))
+      split : all_nodes t (Some x) ≡ L ++ x ∷ R
+      split = whole-node t ct x ∙ (λ i. all_nodes t (left-is i) ++ x ∷ all_nodes t (right-is i))
 
       left-length : length L ≡ count_of (tree_of ss) (link_number h.left)
       left-length = length-whole t ct (link_number h.left) ∙ seen-count d (tree_of ss) (link_number h.left)
 
-      pub place-near : rest ≤ count_of (tree_of ss) (link_number h.left) → first_low rank most (drop rest (whole t (Some x))) ≡ or_else (first_low rank most (drop rest L)) (low_from ss most d (Some l))
+      pub place-near : rest ≤ count_of (tree_of ss) (link_number h.left) → first_low rank most (drop rest (all_nodes t (Some x))) ≡ or_else (first_low rank most (drop rest L)) (low_from ss most d (Some l))
       place-near e = ap (λ xs. first_low rank most (drop rest xs)) split ∙ ap (first_low rank most) (drop-first L (x ∷ R) rest (omega (arith, e, left-length))) ∙ first-append rank most (drop rest L) (x ∷ R) ∙ ap (or_else (first_low rank most (drop rest L))) (sym from-is)
 
-      pub place-far : count_of (tree_of ss) (link_number h.left) < rest → drop rest (whole t (Some x)) ≡ drop (rest - count_of (tree_of ss) (link_number h.left) - 1) R
+      pub place-far : count_of (tree_of ss) (link_number h.left) < rest → drop rest (all_nodes t (Some x)) ≡ drop (rest - count_of (tree_of ss) (link_number h.left) - 1) R
       place-far e = ap (drop rest) split ∙ drop-past L x R (rest - count_of (tree_of ss) (link_number h.left) - 1) rest (omega (arith, e, left-length))
 
 -- ---- from the end
@@ -228,12 +228,12 @@ drop-all (x ∷ xs) ys = drop-all xs ys
 
 drop-reversed : (xs : List ℕ) (i : ℕ) → drop (length xs - i) (reverse xs) ≡ reverse (take i xs)
 drop-reversed xs i =
-    let whole : reverse xs ≡ reverse (drop i xs) ++ reverse (take i xs) = ap reverse (sym (take-append-drop i xs)) ∙ reverse-append (take i xs) (drop i xs) in
+    let all_nodes : reverse xs ≡ reverse (drop i xs) ++ reverse (take i xs) = ap reverse (sym (take-append-drop i xs)) ∙ reverse-append (take i xs) (drop i xs) in
     let size : length xs - i ≡ length (reverse (drop i xs)) = sym (length-reverse (drop i xs) ∙ length-drop i xs) in
-    (λ j. drop (size j) (whole j)) ∙ drop-all (reverse (drop i xs)) (reverse (take i xs))
+    (λ j. drop (size j) (all_nodes j)) ∙ drop-all (reverse (drop i xs)) (reverse (take i xs))
 
-pub last-seen-right : {T : Type 0} (s : Store T) (root : Option Link) → HasRightLinks s root → (most to : ℕ) → first_low (ranks (shapes_of s)) most (drop (count_of (tree_of (shapes_of s)) (link_number root) - to) (seen_order Right s root)) ≡ last_low (ranks (shapes_of s)) most (take to (order s root))
+pub last-seen-right : {T : Type 0} (s : Store T) (root : Option Link) → HasRightLinks s root → (most to : ℕ) → first_low (ranks (shapes_of s)) most (drop (count_of (tree_of (shapes_of s)) (link_number root) - to) (seen_order Right s root)) ≡ last_low (ranks (shapes_of s)) most (take to (nodes_in_order s root))
 last-seen-right s root so most to =
-    let xs = order s root in
+    let xs = nodes_in_order s root in
     let n = length-whole (tree_of (shapes_of s)) so.counted (link_number root) in
     ap (first_low (ranks (shapes_of s)) most) ((λ j. drop (sym n j - to) (whole-mirrored (tree_of (shapes_of s)) (link_number root) j)) ∙ drop-reversed xs to) ∙ first-reversed (ranks (shapes_of s)) most (take to xs)

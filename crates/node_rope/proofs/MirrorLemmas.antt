@@ -2,7 +2,7 @@
 use Rattle.std.proofs.Common.{◌≡◌, ℕ, zero, suc, ◌+◌, ◌⊎◌, inl, inr, [], ◌∷◌, ◌++◌, Option, None, Some, refl, sym, ap, ◌∙◌, arith, append_assoc}
 use Rattle.std.specs.Prelude.{reverse}
 use Rattle.std.proofs.lemmas.List.{reverse-append}
-use Rattle.node_rope.specs.Walk.{Tree, count_of, tree_walk, whole, HasCounts, IsLinked, mirror}
+use Rattle.node_rope.specs.Walk.{Tree, count_of, tree_walk, all_nodes, HasCounts, IsLinked, mirror}
 use Rattle.node_rope.proofs.JoinLemmas.{turn-round}
 use Rattle.node_rope.specs.Sums.{Measure, IsCommutative, sum_of, IsSummed}
 use Rattle.node_rope.specs.Joined.{IsSummedBut, IsBelow}
@@ -39,6 +39,6 @@ walk-mirrored t (suc f) (Some x) =
     ∙ sym (append_assoc (reverse (tree_walk t f (t.right x))) (x ∷ []) (reverse (tree_walk t f (t.left x)))) ∙ ap (λ xs. xs ++ reverse (tree_walk t f (t.left x))) (sym (reverse-append (x ∷ []) (tree_walk t f (t.right x))))
     ∙ sym (reverse-append (tree_walk t f (t.left x)) (x ∷ tree_walk t f (t.right x)))
 
-pub whole-mirrored : (t : Tree) (o : Option ℕ) → whole (mirror t) o ≡ reverse (whole t o)
+pub whole-mirrored : (t : Tree) (o : Option ℕ) → all_nodes (mirror t) o ≡ reverse (all_nodes t o)
 whole-mirrored t None = refl
 whole-mirrored t (Some x) = walk-mirrored t (t.count x) (Some x)

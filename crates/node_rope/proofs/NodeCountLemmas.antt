@@ -8,7 +8,7 @@ use Rattle.node_rope.specs.declared.store.Store.{Store}
 use Rattle.node_rope.specs.declared.cells.Link.{Link}
 use Rattle.node_rope.specs.declared.cells.Own.{Own}
 use Rattle.node_rope.specs.Made.{made_count}
-use Rattle.node_rope.specs.Shapes.{order}
+use Rattle.node_rope.specs.Shapes.{nodes_in_order}
 use Rattle.node_rope.specs.Items.{IsRope, rope_items_of}
 use Rattle.node_rope.proofs.KeyLemmas.{Among, in-order}
 use Rattle.node_rope.proofs.SeenLemmas.{order-length}
@@ -40,6 +40,6 @@ enough (suc n) xs h =
 
 pub few-made : {T : Type 0} (wt : T → Own) (s : Store T) (root : Option Link) (m : BlockMap Link) → IsRope wt s root m → (xs : List (Identifier × T)) → rope_items_of s root ≡ xs → made_count s ≤ length xs
 few-made wt s root m r xs e =
-    let all = enough (made_count s) (order s root) (in-order s root r.sound) in
+    let all = enough (made_count s) (nodes_in_order s root) (in-order s root r.sound) in
     let long = order-length wt s root m r in
     omega (arith, all, long, ap length e)

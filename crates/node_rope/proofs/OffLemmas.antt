@@ -6,7 +6,7 @@ use Rattle.node_rope.specs.declared.cells.Link.{Link}
 use Rattle.node_rope.specs.Made.{IsKept, made_count, shapes_of}
 use Rattle.node_rope.specs.Shapes.{shape_at, link_number, tree_of, weight_at, weights, least_at}
 use Rattle.node_rope.specs.Sums.{sum_measure, sum_of}
-use Rattle.node_rope.specs.Reweighed.{IsSoundBut, IsOff, AreOff, summed, shifted}
+use Rattle.node_rope.specs.Reweighed.{IsSoundBut, IsOff, AreOff, summed_node, reweighed_node}
 use Rattle.node_rope.proofs.WalkLemmas.{some-same, below-left, below-right}
 use Rattle.node_rope.proofs.ShapeLemmas.{weight-sum}
 use Rattle.node_rope.proofs.RaiseLemmas.{written, unwritten}
@@ -14,14 +14,14 @@ use Rattle.node_rope.proofs.ReweighLemmas.{IsSummedOnce, summed-step}
 use Rattle.fugue_ids.proofs.OptionLemmas.{cases_number}
 
 -- the difference brings a node's weight to the sum
-shifted-summed : (ss : List Shape) (less more : ℕ) (l : Link) → IsOff ss less more l → shifted less more (shape_at ss l.number) ≡ summed ss (shape_at ss l.number)
+shifted-summed : (ss : List Shape) (less more : ℕ) (l : Link) → IsOff ss less more l → reweighed_node less more (shape_at ss l.number) ≡ summed_node ss (shape_at ss l.number)
 shifted-summed ss less more l off =
     let h = shape_at ss l.number in
     let sum = weight_at ss h.left + (h.own.weight + weight_at ss h.right) in
     let e : (h.weight + more) - less ≡ sum = omega (arith, off.weight) in
     ap (λ (w : ℕ). record h { weight = w }) e ∙ ap (λ (r : ℕ). record h { weight = sum; least = r }) off.least
 
-module _ {T : Type 0} (s u : Store T) (root : Option Link) (l : Link) (less more : ℕ) (b : IsSoundBut s root (Some l)) (off : IsOff (shapes_of s) less more l) (is : shapes_of u ≡ slice_set (shapes_of s) l.number (shifted less more (shape_at (shapes_of s) l.number))) where
+module _ {T : Type 0} (s u : Store T) (root : Option Link) (l : Link) (less more : ℕ) (b : IsSoundBut s root (Some l)) (off : IsOff (shapes_of s) less more l) (is : shapes_of u ≡ slice_set (shapes_of s) l.number (reweighed_node less more (shape_at (shapes_of s) l.number))) where
   abbrev x : ℕ
   x = l.number
 
@@ -31,11 +31,11 @@ module _ {T : Type 0} (s u : Store T) (root : Option Link) (l : Link) (less more
   abbrev us : List Shape
   us = shapes_of u
 
-  here : shape_at us x ≡ shifted less more (shape_at ss x)
-  here = written s u l (shifted less more (shape_at ss x)) (b.here l refl) is
+  here : shape_at us x ≡ reweighed_node less more (shape_at ss x)
+  here = written s u l (reweighed_node less more (shape_at ss x)) (b.here l refl) is
 
   elsewhere : (i : ℕ) → i ≢ x → shape_at us i ≡ shape_at ss i
-  elsewhere = unwritten s u l (shifted less more (shape_at ss x)) (b.here l refl) is
+  elsewhere = unwritten s u l (reweighed_node less more (shape_at ss x)) (b.here l refl) is
 
   same-least : (i : ℕ) → (shape_at us i).least ≡ (shape_at ss i).least
   same-least i = elim (cases_number i x) as (λ _. (shape_at us i).least ≡ (shape_at ss i).least) [
@@ -105,11 +105,11 @@ pub record IsShiftedOnce {T : Type 0} (s u : Store T) (root : Option Link) (less
   pub off : AreOff (shapes_of u) less more q
 
 pub shifted-step : {T : Type 0} (s u : Store T) (root : Option Link) (less more : ℕ) (o q : Option Link) (l : Link) → o ≡ Some l → IsSoundBut s root o → AreOff (shapes_of s) less more o → q ≡ (shape_at (shapes_of s) l.number).parent → made_count u ≡ made_count s → IsKept s u
-    → shapes_of u ≡ slice_set (shapes_of s) l.number (shifted less more (shape_at (shapes_of s) l.number)) → IsShiftedOnce s u root less more o q
+    → shapes_of u ≡ slice_set (shapes_of s) l.number (reweighed_node less more (shape_at (shapes_of s) l.number)) → IsShiftedOnce s u root less more o q
 shifted-step s u root less more o q l is_l b off up count kept is =
     let h = shape_at (shapes_of s) l.number in
     let at = off l is_l in
     subst (λ o'. IsShiftedOnce s u root less more o o') (sym up) (record {
-      once = summed-step s u root o l is_l b h (shifted less more h) refl (shifted-summed (shapes_of s) less more l at) count kept is;
+      once = summed-step s u root o l is_l b h (reweighed_node less more h) refl (shifted-summed (shapes_of s) less more l at) count kept is;
       off = λ p e. parent-off s u root l less more (subst (IsSoundBut s root) is_l b) at is p e;
     })

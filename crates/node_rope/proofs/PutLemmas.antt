@@ -11,7 +11,7 @@ use Rattle.node_rope.specs.declared.cells.Shape.{Shape}
 use Rattle.node_rope.specs.declared.cells.Link.{Link}
 use Rattle.node_rope.specs.declared.cells.Own.{Own}
 use Rattle.node_rope.specs.Made.{IsKept, made_count, shapes_of, values_of}
-use Rattle.node_rope.specs.Shapes.{HasRightLinks, shape_at, order, IsWeighed, IsRanked}
+use Rattle.node_rope.specs.Shapes.{HasRightLinks, shape_at, nodes_in_order, IsWeighed, IsRanked}
 use Rattle.node_rope.specs.Sums.{no_rank}
 use Rattle.node_rope.specs.Items.{IsRope, item_at, rope_items_of}
 use Rattle.node_rope.specs.Beside.{put_under}
@@ -96,4 +96,4 @@ module _ {T : Type 0} (wt : T → Own) (s v : Store T) (root : Option Link) (m :
       ∙ ap (λ (b : Bool). ((shape_at (shapes_of s) x).key, cond b value a) ∷ []) (sym (alone wt s root m r key l at x h))
 
   pub put-list : rope_items_of v root ≡ put_under key value (rope_items_of s root)
-  put-list = ap (flat_map (item_at v)) (order-still s v root (placed (shapes_of s) (shapes_of v) same)) ∙ mapped-items s v (λ x. (x.0, cond (id_eq x.0 key) value x.1)) put-item (order s root) (all-made s root r.sound)
+  put-list = ap (flat_map (item_at v)) (order-still s v root (placed (shapes_of s) (shapes_of v) same)) ∙ mapped-items s v (λ x. (x.0, cond (id_eq x.0 key) value x.1)) put-item (nodes_in_order s root) (all-made s root r.sound)

@@ -6,7 +6,7 @@ use Rattle.node_rope.specs.declared.cells.Shape.{Shape}
 use Rattle.node_rope.specs.declared.cells.Link.{Link}
 use Rattle.node_rope.specs.declared.cells.Own.{Own}
 use Rattle.node_rope.specs.Made.{IsMade, IsKept, shapes_of}
-use Rattle.node_rope.specs.Shapes.{shape_at, lone, link_number, tree_of, owns, weights, ranks, leasts}
+use Rattle.node_rope.specs.Shapes.{shape_at, lone_shape, link_number, tree_of, owns, weights, ranks, leasts}
 use Rattle.node_rope.specs.Walk.{Tree, IsLinked}
 use Rattle.node_rope.specs.Sums.{Measure, sum_measure, lesser, sum_of}
 use Rattle.node_rope.specs.Joined.{IsSummedBut, IsBelow}
@@ -17,10 +17,10 @@ use Rattle.node_rope.proofs.JoinLemmas.{raised-once, adding-commutes, lesser-com
 use Rattle.fugue_ids.proofs.OptionLemmas.{cases_number}
 
 pub set_same : (ss : List Shape) (i : ℕ) (h : Shape) → i < length ss → shape_at (slice_set ss i h) i ≡ h
-set_same ss i h p = get_or-set_same ss i h lone p
+set_same ss i h p = get_or-set_same ss i h lone_shape p
 
 pub set_other : (ss : List Shape) (i j : ℕ) (h : Shape) → j ≢ i → shape_at (slice_set ss i h) j ≡ shape_at ss j
-set_other ss i j h p = get_or-set_other ss i j h lone p
+set_other ss i j h p = get_or-set_other ss i j h lone_shape p
 
 -- one shape is written
 module _ {T : Type 0} (s u : Store T) (l : Link) (h : Shape) (made : IsMade s l) (is : shapes_of u ≡ slice_set (shapes_of s) l.number h) where

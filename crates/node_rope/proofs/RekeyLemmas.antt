@@ -13,11 +13,11 @@ use Rattle.node_rope.specs.declared.cells.Shape.{Shape}
 use Rattle.node_rope.specs.declared.cells.Link.{Link}
 use Rattle.node_rope.specs.declared.cells.Own.{Own}
 use Rattle.node_rope.specs.Made.{IsMade, IsKept, made_count, shapes_of, values_of}
-use Rattle.node_rope.specs.Shapes.{HasRightLinks, shape_at, link_number, tree_of, order, weights, owns, leasts, ranks}
+use Rattle.node_rope.specs.Shapes.{HasRightLinks, shape_at, link_number, tree_of, nodes_in_order, weights, owns, leasts, ranks}
 use Rattle.node_rope.specs.Sums.{sum_measure, lesser}
 use Rattle.node_rope.specs.Items.{IsRope, item_at, rope_items_of, value_under}
-use Rattle.node_rope.specs.Beside.{put_under, renamed, rekeyed}
-use Rattle.node_rope.specs.Reweighed.{ArePlaced}
+use Rattle.node_rope.specs.Beside.{put_under, items_renamed, items_rekeyed}
+use Rattle.node_rope.specs.Reweighed.{AreReweighed}
 use Rattle.node_rope.proofs.ShapeLemmas.{length-shapes, made-below}
 use Rattle.node_rope.proofs.RaiseLemmas.{set_same, set_other}
 use Rattle.node_rope.proofs.SumLemmas.{summed-along}
@@ -57,7 +57,7 @@ module _ {T : Type 0} (s v : Store T) (root : Option Link) (l : Link) (other : I
   pub key-elsewhere : (i : ℕ) → i ≢ l.number → (shape_at us i).key ≡ (shape_at ss i).key
   key-elsewhere i h = ap (λ (h : Shape). h.key) (elsewhere i h)
 
-  pub renamed-placed : ArePlaced ss us
+  pub renamed-placed : AreReweighed ss us
   renamed-placed i = record { left = field (λ h. h.left) (λ h k. refl) i; right = field (λ h. h.right) (λ h k. refl) i; parent = field (λ h. h.parent) (λ h k. refl) i; count = field (λ h. h.count) (λ h k. refl) i }
 
   pub renamed-sound : HasRightLinks v root
@@ -128,10 +128,10 @@ module _ {T : Type 0} (wt : T → Own) (s v : Store T) (root : Option Link) (m p
     | inr f ↦ key-elsewhere s v root l other r.sound there is count kept x f.1 ∙ ap (λ (b : Bool). cond b other (shape_at (shapes_of s) x).key) (sym (alone wt s root m r key l at x h ∙ f.0))
   ]
 
-  pub renamed-list : rope_items_of v root ≡ renamed key other (rope_items_of s root)
+  pub renamed-list : rope_items_of v root ≡ items_renamed key other (rope_items_of s root)
   renamed-list =
       ap (flat_map (item_at v)) (order-still s v root (renamed-placed s v root l other r.sound there is count kept))
-      ∙ mapped-items s v (λ x. (cond (id_eq x.0 key) other x.0, x.1)) (λ x h a e. item-is v x a (omega (arith, h, count)) (ap (λ xs. slice_get xs x) values ∙ e) ∙ ap (λ (k : Identifier). (k, a) ∷ []) (key-is x h)) (order s root) (all-made s root r.sound)
+      ∙ mapped-items s v (λ x. (cond (id_eq x.0 key) other x.0, x.1)) (λ x h a e. item-is v x a (omega (arith, h, count)) (ap (λ xs. slice_get xs x) values ∙ e) ∙ ap (λ (k : Identifier). (k, a) ∷ []) (key-is x h)) (nodes_in_order s root) (all-made s root r.sound)
 
 -- ---- the list
 module _ {T : Type 0} (key other : Identifier) where
@@ -145,9 +145,9 @@ module _ {T : Type 0} (key other : Identifier) where
   not-later x xs h = sym (ap (λ b. is_some (cond b (Some x.1) (value_under other xs))) (not-first x xs h)) ∙ h
 
   -- the value goes with its item
-  pub value-renamed : (xs : List (Identifier × T)) → IsFree xs → value_under other (renamed key other xs) ≡ value_under key xs
+  pub value-renamed : (xs : List (Identifier × T)) → IsFree xs → value_under other (items_renamed key other xs) ≡ value_under key xs
   value-renamed [] h = refl
-  value-renamed (x ∷ xs) h = elim (cases_Bool (id_eq x.0 key)) as (λ _. value_under other (renamed key other (x ∷ xs)) ≡ value_under key (x ∷ xs)) [
+  value-renamed (x ∷ xs) h = elim (cases_Bool (id_eq x.0 key)) as (λ _. value_under other (items_renamed key other (x ∷ xs)) ≡ value_under key (x ∷ xs)) [
     | inl f ↦ rw (f, id_eq-refl other) refl
     | inr f ↦ rw (f, not-first x xs h) (value-renamed xs (not-later x xs h))
   ]
@@ -159,6 +159,6 @@ module _ {T : Type 0} (key other : Identifier) where
     | inr f ↦ rw (f, e) refl
   ]
 
-  pub put-renamed : (value : T) (xs : List (Identifier × T)) → IsFree xs → put_under other value (renamed key other xs) ≡ rekeyed key (other, value) xs
+  pub put-renamed : (value : T) (xs : List (Identifier × T)) → IsFree xs → put_under other value (items_renamed key other xs) ≡ items_rekeyed key (other, value) xs
   put-renamed value [] h = refl
-  put-renamed value (x ∷ xs) h = ap (λ y. y ∷ put_under other value (renamed key other xs)) (put-item value x (not-first x xs h)) ∙ ap (λ ys. cond (id_eq x.0 key) (other, value) x ∷ ys) (put-renamed value xs (not-later x xs h))
+  put-renamed value (x ∷ xs) h = ap (λ y. y ∷ put_under other value (items_renamed key other xs)) (put-item value x (not-first x xs h)) ∙ ap (λ ys. cond (id_eq x.0 key) (other, value) x ∷ ys) (put-renamed value xs (not-later x xs h))

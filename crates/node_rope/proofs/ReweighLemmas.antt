@@ -5,11 +5,11 @@ use Rattle.node_rope.specs.declared.cells.Shape.{Shape}
 use Rattle.node_rope.specs.declared.cells.Link.{Link}
 use Rattle.node_rope.specs.declared.cells.Own.{Own}
 use Rattle.node_rope.specs.Made.{IsMade, IsKept, made_count, shapes_of}
-use Rattle.node_rope.specs.Shapes.{HasRightLinks, IsTree, shape_at, link_number, tree_of, weight_at, weigh, least_at, order}
-use Rattle.node_rope.specs.Walk.{Tree, count_of, tree_walk, whole}
+use Rattle.node_rope.specs.Shapes.{HasRightLinks, IsTree, shape_at, link_number, tree_of, weight_at, weigh, least_at, nodes_in_order}
+use Rattle.node_rope.specs.Walk.{Tree, count_of, tree_walk, all_nodes}
 use Rattle.node_rope.specs.Sums.{lesser, sum_of}
 use Rattle.node_rope.specs.Shapes.{leasts}
-use Rattle.node_rope.specs.Reweighed.{summed, IsOff, AreOff, IsStill, AreStill, ArePlaced, SameOwns, IsSoundBut}
+use Rattle.node_rope.specs.Reweighed.{summed_node, IsOff, AreOff, IsStill, AreStill, AreReweighed, SameOwns, IsSoundBut}
 use Rattle.node_rope.proofs.WalkLemmas.{some-same, below-left, below-right, length-whole}
 use Rattle.node_rope.proofs.ShapeLemmas.{weight-sum, least-sum}
 use Rattle.node_rope.proofs.RaiseLemmas.{written, unwritten}
@@ -23,11 +23,11 @@ still h = record { left = refl; right = refl; parent = refl; key = refl; count =
 pub still-trans : (ss us ws : List Shape) → AreStill ss us → AreStill us ws → AreStill ss ws
 still-trans ss us ws f g i = let a = f i in let b = g i in record { left = b.left ∙ a.left; right = b.right ∙ a.right; parent = b.parent ∙ a.parent; key = b.key ∙ a.key; count = b.count ∙ a.count }
 
-pub placed : (ss us : List Shape) → AreStill ss us → ArePlaced ss us
+pub placed : (ss us : List Shape) → AreStill ss us → AreReweighed ss us
 placed ss us f i = let a = f i in record { left = a.left; right = a.right; parent = a.parent; count = a.count }
 
 -- the same tree, with other weights and ranks
-pub tree-along : {T : Type 0} {W R W' R' : Type 0} (s u : Store T) (root : Option Link) → ArePlaced (shapes_of s) (shapes_of u) → made_count u ≡ made_count s → IsKept s u → IsTree s root W R → W' → R' → IsTree u root W' R'
+pub tree-along : {T : Type 0} {W R W' R' : Type 0} (s u : Store T) (root : Option Link) → AreReweighed (shapes_of s) (shapes_of u) → made_count u ≡ made_count s → IsKept s u → IsTree s root W R → W' → R' → IsTree u root W' R'
 tree-along s u root same count kept r weighed ranked = record {
   counted = λ x. omega (arith, r.counted x, (same x).count, lefts x, rights x);
   weighed = weighed;
@@ -73,9 +73,9 @@ heavy ss b (Some l) = b l.number
 
 pub sound-bound : {T : Type 0} (s : Store T) (root : Option Link) → HasRightLinks s root → ((i : ℕ) → (shape_at (shapes_of s) i).own.weight < 4194305) → (i : ℕ) → (shape_at (shapes_of s) i).weight ≤ 4194304 * (shape_at (shapes_of s) i).count
 sound-bound s root r light i =
-    let b = bounded (shapes_of s) light (whole (tree_of (shapes_of s)) (Some i)) in
-    let l : length (whole (tree_of (shapes_of s)) (Some i)) ≡ (shape_at (shapes_of s) i).count = length-whole (tree_of (shapes_of s)) r.counted (Some i) in
-    let w : (shape_at (shapes_of s) i).weight ≡ weigh (shapes_of s) (whole (tree_of (shapes_of s)) (Some i)) = weight-is (shapes_of s) r.counted r.weighed (Some i) in
+    let b = bounded (shapes_of s) light (all_nodes (tree_of (shapes_of s)) (Some i)) in
+    let l : length (all_nodes (tree_of (shapes_of s)) (Some i)) ≡ (shape_at (shapes_of s) i).count = length-whole (tree_of (shapes_of s)) r.counted (Some i) in
+    let w : (shape_at (shapes_of s) i).weight ≡ weigh (shapes_of s) (all_nodes (tree_of (shapes_of s)) (Some i)) = weight-is (shapes_of s) r.counted r.weighed (Some i) in
     omega (arith, b, l, w)
 
 -- the weights at other nodes, where one is written
@@ -84,7 +84,7 @@ weight-other ss us x h None ne = refl
 weight-other ss us x h (Some l) ne = h l.number (λ e. ne (ap Some e))
 
 module _ {T : Type 0} (s u : Store T) (root : Option Link) (l : Link) (b : IsSoundBut s root (Some l)) (count : made_count u ≡ made_count s) (kept : IsKept s u)
-    (is : shapes_of u ≡ slice_set (shapes_of s) l.number (summed (shapes_of s) (shape_at (shapes_of s) l.number))) where
+    (is : shapes_of u ≡ slice_set (shapes_of s) l.number (summed_node (shapes_of s) (shape_at (shapes_of s) l.number))) where
   abbrev x : ℕ
   x = l.number
 
@@ -97,11 +97,11 @@ module _ {T : Type 0} (s u : Store T) (root : Option Link) (l : Link) (b : IsSou
   abbrev us : List Shape
   us = shapes_of u
 
-  here : shape_at us x ≡ summed ss (shape_at ss x)
-  here = written s u l (summed ss (shape_at ss x)) (b.here l refl) is
+  here : shape_at us x ≡ summed_node ss (shape_at ss x)
+  here = written s u l (summed_node ss (shape_at ss x)) (b.here l refl) is
 
   elsewhere : (i : ℕ) → i ≢ x → shape_at us i ≡ shape_at ss i
-  elsewhere = unwritten s u l (summed ss (shape_at ss x)) (b.here l refl) is
+  elsewhere = unwritten s u l (summed_node ss (shape_at ss x)) (b.here l refl) is
 
   step-still : AreStill ss us
   step-still i = elim (cases_number i x) as (λ _. IsStill (shape_at ss i) (shape_at us i)) [
@@ -203,14 +203,14 @@ pub record IsSummedOnce {T : Type 0} (s u : Store T) (root o q : Option Link) : 
   pub owns : SameOwns (shapes_of s) (shapes_of u)
   pub smaller : left_to_sum (made_count u) (shapes_of u) q < left_to_sum (made_count s) (shapes_of s) o
 
-pub summed-step : {T : Type 0} (s u : Store T) (root o : Option Link) (l : Link) → o ≡ Some l → IsSoundBut s root o → (h g : Shape) → h ≡ shape_at (shapes_of s) l.number → g ≡ summed (shapes_of s) h → made_count u ≡ made_count s → IsKept s u
+pub summed-step : {T : Type 0} (s u : Store T) (root o : Option Link) (l : Link) → o ≡ Some l → IsSoundBut s root o → (h g : Shape) → h ≡ shape_at (shapes_of s) l.number → g ≡ summed_node (shapes_of s) h → made_count u ≡ made_count s → IsKept s u
     → shapes_of u ≡ slice_set (shapes_of s) l.number g → IsSummedOnce s u root o h.parent
 summed-step s u root o l is_l but h g read sums count kept is = subst (λ o. IsSummedOnce s u root o h.parent) (sym is_l) (subst (λ (k : Shape). IsSummedOnce s u root (Some l) k.parent) (sym read) once) where
   b : IsSoundBut s root (Some l)
   b = subst (IsSoundBut s root) is_l but
 
-  writes : shapes_of u ≡ slice_set (shapes_of s) l.number (summed (shapes_of s) (shape_at (shapes_of s) l.number))
-  writes = is ∙ ap (slice_set (shapes_of s) l.number) (sums ∙ ap (summed (shapes_of s)) read)
+  writes : shapes_of u ≡ slice_set (shapes_of s) l.number (summed_node (shapes_of s) (shape_at (shapes_of s) l.number))
+  writes = is ∙ ap (slice_set (shapes_of s) l.number) (sums ∙ ap (summed_node (shapes_of s)) read)
 
   same : AreStill (shapes_of s) (shapes_of u)
   same = step-still s u root l b count kept writes
@@ -229,9 +229,9 @@ walk-same t u l r zero (Some x) = refl
 walk-same t u l r (suc f) (Some x) =
     ap (λ xs. xs ++ x ∷ tree_walk u f (u.right x)) (ap (tree_walk u f) (l x) ∙ walk-same t u l r f (t.left x)) ∙ ap (λ xs. tree_walk t f (t.left x) ++ x ∷ xs) (ap (tree_walk u f) (r x) ∙ walk-same t u l r f (t.right x))
 
-pub order-still : {T : Type 0} (s u : Store T) (root : Option Link) → ArePlaced (shapes_of s) (shapes_of u) → order u root ≡ order s root
+pub order-still : {T : Type 0} (s u : Store T) (root : Option Link) → AreReweighed (shapes_of s) (shapes_of u) → nodes_in_order u root ≡ nodes_in_order s root
 order-still s u root same = by (link_number root) where
-  by : (o : Option ℕ) → whole (tree_of (shapes_of u)) o ≡ whole (tree_of (shapes_of s)) o
+  by : (o : Option ℕ) → all_nodes (tree_of (shapes_of u)) o ≡ all_nodes (tree_of (shapes_of s)) o
   by None = refl
   by (Some x) = ap (λ f. tree_walk (tree_of (shapes_of u)) f (Some x)) (same x).count ∙ walk-same (tree_of (shapes_of s)) (tree_of (shapes_of u)) (λ i. ap link_number (same i).left) (λ i. ap link_number (same i).right) (shape_at (shapes_of s) x).count (Some x)
 

@@ -12,7 +12,7 @@ use Rattle.node_rope.specs.declared.store.Store.{Store}
 use Rattle.node_rope.specs.declared.cells.Link.{Link}
 use Rattle.node_rope.specs.declared.cells.Own.{Own}
 use Rattle.node_rope.specs.Made.{made_count, shapes_of, values_of}
-use Rattle.node_rope.specs.Shapes.{HasRightLinks, shape_at, link_number, tree_of, order, weigh}
+use Rattle.node_rope.specs.Shapes.{HasRightLinks, shape_at, link_number, tree_of, nodes_in_order, weigh}
 use Rattle.node_rope.specs.Walk.{count_of}
 use Rattle.node_rope.proofs.ItemLemmas.{length-items}
 use Rattle.node_rope.specs.Items.{IsRope, item_at, rope_items_of, value_under}
@@ -84,22 +84,22 @@ few-nodes s root sound few = elim (link-or-none root) as (λ _. length (rope_ite
 ]
 
 module _ {T : Type 0} (wt : T → Own) (s : Store T) (root : Option Link) (m : BlockMap Link) (r : IsRope wt s root m) where
-  nodes : (x : ℕ) → Among x (order s root) → x < made_count s
+  nodes : (x : ℕ) → Among x (nodes_in_order s root) → x < made_count s
   nodes = all-made s root r.sound
 
-  pub order-length : length (rope_items_of s root) ≡ length (order s root)
-  order-length = items-length s (order s root) nodes
+  pub order-length : length (rope_items_of s root) ≡ length (nodes_in_order s root)
+  order-length = items-length s (nodes_in_order s root) nodes
 
-  pub stands : (k : Identifier) (l : Link) → value_of m k ≡ Some l → (i : ℕ) → i < length (order s root) → get_or (order s root) i 0 ≡ l.number → StandsAt (rope_items_of s root) i k
-  stands k l e i h at = items-key s (order s root) nodes i h ∙ ap (λ (x : ℕ). Some (shape_at (shapes_of s) x).key) at ∙ ap Some (r.keyed k l e)
+  pub stands : (k : Identifier) (l : Link) → value_of m k ≡ Some l → (i : ℕ) → i < length (nodes_in_order s root) → get_or (nodes_in_order s root) i 0 ≡ l.number → StandsAt (rope_items_of s root) i k
+  stands k l e i h at = items-key s (nodes_in_order s root) nodes i h ∙ ap (λ (x : ℕ). Some (shape_at (shapes_of s) x).key) at ∙ ap Some (r.keyed k l e)
 
-  pub weighs-to : (i w : ℕ) → w ≡ weigh (shapes_of s) (take i (order s root)) → w ≡ weight_sum (λ x. (wt x).weight) (take i (rope_items_of s root))
-  weighs-to i w e = e ∙ sym (items-weigh s wt r.weighs (take i (order s root)) (λ x a. nodes x (among-take x i (order s root) a))) ∙ ap (weight_sum (λ x. (wt x).weight)) (sym (items-take s (order s root) nodes i))
+  pub weighs-to : (i w : ℕ) → w ≡ weigh (shapes_of s) (take i (nodes_in_order s root)) → w ≡ weight_sum (λ x. (wt x).weight) (take i (rope_items_of s root))
+  weighs-to i w e = e ∙ sym (items-weigh s wt r.weighs (take i (nodes_in_order s root)) (λ x a. nodes x (among-take x i (nodes_in_order s root) a))) ∙ ap (weight_sum (λ x. (wt x).weight)) (sym (items-take s (nodes_in_order s root) nodes i))
 
-  pub weighs-all : weight_sum (λ x. (wt x).weight) (rope_items_of s root) ≡ weigh (shapes_of s) (order s root)
-  weighs-all = items-weigh s wt r.weighs (order s root) nodes
+  pub weighs-all : weight_sum (λ x. (wt x).weight) (rope_items_of s root) ≡ weigh (shapes_of s) (nodes_in_order s root)
+  weighs-all = items-weigh s wt r.weighs (nodes_in_order s root) nodes
 
-  pub unit : (w : ℕ) (l : Link) (u : ℕ) → IsFound (shapes_of s) (order s root) w l u → IsUnit (λ x. (wt x).weight) (rope_items_of s root) w (shape_at (shapes_of s) l.number).key u
+  pub unit : (w : ℕ) (l : Link) (u : ℕ) → IsFound (shapes_of s) (nodes_in_order s root) w l u → IsUnit (λ x. (wt x).weight) (rope_items_of s root) w (shape_at (shapes_of s) l.number).key u
   unit w l u f =
       let front-nodes : AreNodes s f.front = λ x a. nodes x (subst (Among x) (sym f.split) (among-left x f.front (l.number ∷ f.back) a)) in
       let here : l.number < made_count s = nodes l.number (subst (Among l.number) (sym f.split) (among-right l.number f.front (l.number ∷ f.back) (inl refl))) in
@@ -132,20 +132,20 @@ module _ {T : Type 0} (wt : T → Own) (s : Store T) (root : Option Link) (m : B
   floor-seen key None f = λ q le. not-held wt s root m r q (f q le)
   floor-seen key (Some k) f = (some-held k f.0, f.1, λ q le h. f.2 q le (held-some q h))
 
-  pub key-seen : (i : ℕ) (l : Link) → i < length (order s root) → get_or (order s root) i 0 ≡ l.number → slice_get (keys_of (rope_items_of s root)) i ≡ Some (shape_at (shapes_of s) l.number).key
-  key-seen i l h at = items-key s (order s root) nodes i h ∙ ap (λ (x : ℕ). Some (shape_at (shapes_of s) x).key) at
+  pub key-seen : (i : ℕ) (l : Link) → i < length (nodes_in_order s root) → get_or (nodes_in_order s root) i 0 ≡ l.number → slice_get (keys_of (rope_items_of s root)) i ≡ Some (shape_at (shapes_of s) l.number).key
+  key-seen i l h at = items-key s (nodes_in_order s root) nodes i h ∙ ap (λ (x : ℕ). Some (shape_at (shapes_of s) x).key) at
 
-  pub key-past : (i : ℕ) → length (order s root) ≤ i → slice_get (keys_of (rope_items_of s root)) i ≡ None
+  pub key-past : (i : ℕ) → length (nodes_in_order s root) ≤ i → slice_get (keys_of (rope_items_of s root)) i ≡ None
   key-past i h = past (rope_items_of s root) i (omega (arith, h, order-length)) where
     past : (xs : List (Identifier × T)) (i : ℕ) → length xs ≤ i → slice_get (keys_of xs) i ≡ None
     past [] i h = refl
     past (x ∷ xs) zero h = absurd (omega (arith, h))
     past (x ∷ xs) (suc i) h = past xs i (omega (arith, h))
 
-  pub value-seen : (i : ℕ) (l : Link) (v : T) → i < length (order s root) → get_or (order s root) i 0 ≡ l.number → slice_get (values_of s) l.number ≡ Some v → option_map (λ x. x.1) (slice_get (rope_items_of s root) i) ≡ Some v
-  value-seen i l v h at is = ap (option_map (λ (x : Identifier × T). x.1)) (items-item s (order s root) nodes i v h (ap (slice_get (values_of s)) at ∙ is))
+  pub value-seen : (i : ℕ) (l : Link) (v : T) → i < length (nodes_in_order s root) → get_or (nodes_in_order s root) i 0 ≡ l.number → slice_get (values_of s) l.number ≡ Some v → option_map (λ x. x.1) (slice_get (rope_items_of s root) i) ≡ Some v
+  value-seen i l v h at is = ap (option_map (λ (x : Identifier × T). x.1)) (items-item s (nodes_in_order s root) nodes i v h (ap (slice_get (values_of s)) at ∙ is))
 
-  pub value-past : (i : ℕ) → length (order s root) ≤ i → option_map (λ x. x.1) (slice_get (rope_items_of s root) i) ≡ None
+  pub value-past : (i : ℕ) → length (nodes_in_order s root) ≤ i → option_map (λ x. x.1) (slice_get (rope_items_of s root) i) ≡ None
   value-past i h = past (rope_items_of s root) i (omega (arith, h, order-length)) where
     past : (xs : List (Identifier × T)) (i : ℕ) → length xs ≤ i → option_map (λ x. x.1) (slice_get xs i) ≡ None
     past [] i h = refl

@@ -1,6 +1,6 @@
 -- A subtree's sum is the sum of its nodes in order.
 use Rattle.std.proofs.Common.{◌≡◌, ℕ, zero, suc, ◌+◌, ◌≤◌, List, [], ◌∷◌, ◌++◌, length, take, drop, Option, None, Some, refl, sym, ap, ◌∙◌, arith}
-use Rattle.node_rope.specs.Walk.{Tree, count_of, whole, HasCounts}
+use Rattle.node_rope.specs.Walk.{Tree, count_of, all_nodes, HasCounts}
 use Rattle.node_rope.specs.Sums.{Measure, IsLawful, sum_measure, sum_of, IsSummed, fold}
 use Rattle.node_rope.proofs.WalkLemmas.{whole-node, length-whole}
 
@@ -13,16 +13,16 @@ module _ {M : Type 0} (m : Measure M) (L : IsLawful m) where
   fold-append own (x ∷ xs) ys = ap (m.both (own x)) (fold-append own xs ys) ∙ sym (L.assoc (own x) (fold m own xs) (fold m own ys))
 
   module _ (t : Tree) (ct : HasCounts t) (own s : ℕ → M) (summed : IsSummed m t own s) where
-    sums : (k : ℕ) (o : Option ℕ) → count_of t o ≤ k → sum_of m s o ≡ fold m own (whole t o)
+    sums : (k : ℕ) (o : Option ℕ) → count_of t o ≤ k → sum_of m s o ≡ fold m own (all_nodes t o)
     sums k None h = refl
     sums zero (Some x) h = absurd (omega (arith, ct x))
     sums (suc k) (Some x) h =
         let l = sums k (t.left x) (omega (arith, ct x)) in
         let r = sums k (t.right x) (omega (arith, ct x)) in
-        summed x ∙ ap (λ a. m.both a (m.both (own x) (sum_of m s (t.right x)))) l ∙ ap (λ a. m.both (fold m own (whole t (t.left x))) (m.both (own x) a)) r
-        ∙ sym (fold-append own (whole t (t.left x)) (x ∷ whole t (t.right x))) ∙ ap (fold m own) (sym (whole-node t ct x))
+        summed x ∙ ap (λ a. m.both a (m.both (own x) (sum_of m s (t.right x)))) l ∙ ap (λ a. m.both (fold m own (all_nodes t (t.left x))) (m.both (own x) a)) r
+        ∙ sym (fold-append own (all_nodes t (t.left x)) (x ∷ all_nodes t (t.right x))) ∙ ap (fold m own) (sym (whole-node t ct x))
 
-    pub sum-is : (o : Option ℕ) → sum_of m s o ≡ fold m own (whole t o)
+    pub sum-is : (o : Option ℕ) → sum_of m s o ≡ fold m own (all_nodes t o)
     sum-is o = sums (count_of t o) o (omega arith)
 
 -- equal numbers over equal links
@@ -67,14 +67,14 @@ take-all (x ∷ xs) (suc i) e = ap (λ zs. x ∷ zs) (take-all xs i (omega arith
 
 -- ---- the nodes before a place
 module _ (t : Tree) (ct : HasCounts t) where
-  pub first-self : (x i : ℕ) → i ≡ count_of t (t.left x) → take i (whole t (Some x)) ≡ whole t (t.left x)
+  pub first-self : (x i : ℕ) → i ≡ count_of t (t.left x) → take i (all_nodes t (Some x)) ≡ all_nodes t (t.left x)
   first-self x i e = let l = length-whole t ct (t.left x) in
-      ap (take i) (whole-node t ct x) ∙ take-first (whole t (t.left x)) (x ∷ whole t (t.right x)) i (omega (arith, l, e)) ∙ take-all (whole t (t.left x)) i (omega (arith, l, e))
+      ap (take i) (whole-node t ct x) ∙ take-first (all_nodes t (t.left x)) (x ∷ all_nodes t (t.right x)) i (omega (arith, l, e)) ∙ take-all (all_nodes t (t.left x)) i (omega (arith, l, e))
 
-  pub first-left : (p c i : ℕ) → t.left p ≡ Some c → i ≤ t.count c → take i (whole t (Some p)) ≡ take i (whole t (Some c))
+  pub first-left : (p c i : ℕ) → t.left p ≡ Some c → i ≤ t.count c → take i (all_nodes t (Some p)) ≡ take i (all_nodes t (Some c))
   first-left p c i e h = let l = length-whole t ct (t.left p) in
-      ap (take i) (whole-node t ct p) ∙ take-first (whole t (t.left p)) (p ∷ whole t (t.right p)) i (omega (arith, l, ap (count_of t) e)) ∙ ap (λ o. take i (whole t o)) e
+      ap (take i) (whole-node t ct p) ∙ take-first (all_nodes t (t.left p)) (p ∷ all_nodes t (t.right p)) i (omega (arith, l, ap (count_of t) e)) ∙ ap (λ o. take i (all_nodes t o)) e
 
-  pub first-right : (p c i j : ℕ) → t.right p ≡ Some c → j ≡ count_of t (t.left p) + suc i → take j (whole t (Some p)) ≡ whole t (t.left p) ++ p ∷ take i (whole t (Some c))
+  pub first-right : (p c i j : ℕ) → t.right p ≡ Some c → j ≡ count_of t (t.left p) + suc i → take j (all_nodes t (Some p)) ≡ all_nodes t (t.left p) ++ p ∷ take i (all_nodes t (Some c))
   first-right p c i j e f = let l = length-whole t ct (t.left p) in
-      ap (take j) (whole-node t ct p) ∙ take-seam (whole t (t.left p)) p (whole t (t.right p)) i j (omega (arith, l, f)) ∙ ap (λ o. whole t (t.left p) ++ p ∷ take i (whole t o)) e
+      ap (take j) (whole-node t ct p) ∙ take-seam (all_nodes t (t.left p)) p (all_nodes t (t.right p)) i j (omega (arith, l, f)) ∙ ap (λ o. all_nodes t (t.left p) ++ p ∷ take i (all_nodes t o)) e

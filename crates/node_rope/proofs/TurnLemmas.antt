@@ -1,16 +1,16 @@
 -- A rotated tree is counted and linked as before.
 use Rattle.std.proofs.Common.{◌≡◌, ℕ, ◌+◌, ◌<◌, ◌≢◌, ◌⊎◌, inl, inr, Option, None, Some, refl, sym, ap, ◌∙◌, subst, arith}
 use Rattle.std.proofs.lemmas.Bool.Decides.{eqb_tells}
-use Rattle.node_rope.specs.Walk.{Tree, count_of, HasCounts, IsLinked, moved, IsTurned}
+use Rattle.node_rope.specs.Walk.{Tree, count_of, HasCounts, IsLinked, replaced_child, IsTurned}
 use Rattle.node_rope.specs.Sums.{Measure, sum_of, IsSummed}
 use Rattle.node_rope.proofs.WalkLemmas.{below-left, below-right, moved-other, moved-here, some-same, none-some}
 use Rattle.fugue_ids.proofs.OptionLemmas.{cases_number}
 
 -- what a moved link leads to
-pub moved-cases : (p c : ℕ) (o : Option ℕ) (m : ℕ) → moved p c o ≡ Some m → ((o ≡ Some p) × (m ≡ c)) ⊎ ((o ≡ Some m) × (m ≢ p))
+pub moved-cases : (p c : ℕ) (o : Option ℕ) (m : ℕ) → replaced_child p c o ≡ Some m → ((o ≡ Some p) × (m ≡ c)) ⊎ ((o ≡ Some m) × (m ≢ p))
 moved-cases p c None m e = absurd (none-some m e)
 moved-cases p c (Some x) m e = elim (cases_number x p) as (λ _. ((Some x ≡ Some p) × (m ≡ c)) ⊎ ((Some x ≡ Some m) × (m ≢ p))) [
-  | inl f ↦ inl (ap Some f, some-same m c (sym e ∙ ap (λ y. moved p c (Some y)) f ∙ moved-here p c))
+  | inl f ↦ inl (ap Some f, some-same m c (sym e ∙ ap (λ y. replaced_child p c (Some y)) f ∙ moved-here p c))
   | inr f ↦ (
       let is : Some x ≡ Some m = sym (moved-other p c (Some x) (λ g. f (some-same x p g))) ∙ e in
       inr (is, λ g. f (some-same x m is ∙ g)))
@@ -36,10 +36,10 @@ module _ (t u : Tree) (ct : HasCounts t) (linked : IsLinked t) (p c : ℕ) (n : 
     by None e = refl
     by (Some m) e = n.count_others m (λ f. omega (arith, below-right t ct p m e, ap t.count f)) (λ f. linked.apart p c rotated.was (e ∙ ap Some f))
 
-  others : (x : ℕ) → x ≢ p → (o : Option ℕ) → ((m : ℕ) → o ≡ Some m → t.parent m ≡ Some x) → count_of u (moved p c o) ≡ count_of t o
+  others : (x : ℕ) → x ≢ p → (o : Option ℕ) → ((m : ℕ) → o ≡ Some m → t.parent m ≡ Some x) → count_of u (replaced_child p c o) ≡ count_of t o
   others x differs None back = refl
-  others x differs (Some m) back = elim (cases_number m p) as (λ _. count_of u (moved p c (Some m)) ≡ count_of t (Some m)) [
-    | inl e ↦ ap (λ y. count_of u (moved p c (Some y))) e ∙ ap (count_of u) (moved-here p c) ∙ n.count_c ∙ ap t.count (sym e)
+  others x differs (Some m) back = elim (cases_number m p) as (λ _. count_of u (replaced_child p c (Some m)) ≡ count_of t (Some m)) [
+    | inl e ↦ ap (λ y. count_of u (replaced_child p c (Some y))) e ∙ ap (count_of u) (moved-here p c) ∙ n.count_c ∙ ap t.count (sym e)
     | inr e ↦ ap (count_of u) (moved-other p c (Some m) (λ f. e (some-same m p f))) ∙ n.count_others m e (λ f. differs (some-same x p (sym (back m refl) ∙ ap t.parent f ∙ linked.from_left p c rotated.was)))
   ]
 
@@ -67,10 +67,10 @@ module _ (t u : Tree) (ct : HasCounts t) (linked : IsLinked t) (p c : ℕ) (n : 
       by None e = refl
       by (Some k) e = rest k (λ f. omega (arith, below-right t ct p k e, ap t.count f)) (λ f. linked.apart p c rotated.was (e ∙ ap Some f))
 
-    sum-others : (x : ℕ) → x ≢ p → (o : Option ℕ) → ((k : ℕ) → o ≡ Some k → t.parent k ≡ Some x) → sum_of m s' (moved p c o) ≡ sum_of m s o
+    sum-others : (x : ℕ) → x ≢ p → (o : Option ℕ) → ((k : ℕ) → o ≡ Some k → t.parent k ≡ Some x) → sum_of m s' (replaced_child p c o) ≡ sum_of m s o
     sum-others x differs None back = refl
-    sum-others x differs (Some k) back = elim (cases_number k p) as (λ _. sum_of m s' (moved p c (Some k)) ≡ sum_of m s (Some k)) [
-      | inl e ↦ ap (λ y. sum_of m s' (moved p c (Some y))) e ∙ ap (sum_of m s') (moved-here p c) ∙ at_c ∙ ap s (sym e)
+    sum-others x differs (Some k) back = elim (cases_number k p) as (λ _. sum_of m s' (replaced_child p c (Some k)) ≡ sum_of m s (Some k)) [
+      | inl e ↦ ap (λ y. sum_of m s' (replaced_child p c (Some y))) e ∙ ap (sum_of m s') (moved-here p c) ∙ at_c ∙ ap s (sym e)
       | inr e ↦ ap (sum_of m s') (moved-other p c (Some k) (λ f. e (some-same k p f))) ∙ rest k e (λ f. differs (some-same x p (sym (back k refl) ∙ ap t.parent f ∙ linked.from_left p c rotated.was)))
     ]
 
@@ -110,7 +110,7 @@ module _ (t u : Tree) (ct : HasCounts t) (linked : IsLinked t) (p c : ℕ) (n : 
       (λ f. xc (some-same x c (sym e ∙ linked.from_right c m f)))
       ∙ e
 
-  from_other : (x m : ℕ) → x ≢ p → x ≢ c → (o : Option ℕ) → moved p c o ≡ Some m → ((k : ℕ) → o ≡ Some k → t.parent k ≡ Some x) → u.parent m ≡ Some x
+  from_other : (x m : ℕ) → x ≢ p → x ≢ c → (o : Option ℕ) → replaced_child p c o ≡ Some m → ((k : ℕ) → o ≡ Some k → t.parent k ≡ Some x) → u.parent m ≡ Some x
   from_other x m xp xc o e back = elim (moved-cases p c o m e) as (λ _. u.parent m ≡ Some x) [
     | inl f ↦ ap u.parent f.1 ∙ n.parent_c ∙ back p f.0
     | inr f ↦ kept-parent x m xc xp f.1 (back m f.0)
@@ -144,7 +144,7 @@ module _ (t u : Tree) (ct : HasCounts t) (linked : IsLinked t) (p c : ℕ) (n : 
   ]
 
   -- links of another node lead apart
-  apart_other : (x m : ℕ) → x ≢ p → (o q : Option ℕ) → moved p c o ≡ Some m → moved p c q ≡ Some m
+  apart_other : (x m : ℕ) → x ≢ p → (o q : Option ℕ) → replaced_child p c o ≡ Some m → replaced_child p c q ≡ Some m
       → ((k : ℕ) → o ≡ Some k → t.parent k ≡ Some x) → ((k : ℕ) → q ≡ Some k → t.parent k ≡ Some x) → ((k : ℕ) → o ≡ Some k → q ≡ Some k → ⊥) → ⊥
   apart_other x m xp o q e f bo bq ap_t = elim (moved-cases p c o m e) as (λ _. ⊥) [
     | inl g ↦ elim (moved-cases p c q m f) as (λ _. ⊥) [
@@ -182,26 +182,26 @@ module _ (t u : Tree) (ct : HasCounts t) (linked : IsLinked t) (p c : ℕ) (n : 
   module _ (below : (i q : ℕ) → t.parent i ≡ Some q → (t.left q ≡ Some i) ⊎ (t.right q ≡ Some i)) where
     over-p : (q : ℕ) → t.parent p ≡ Some q → (u.left q ≡ Some c) ⊎ (u.right q ≡ Some c)
     over-p q e = elim (below p q e) as (λ _. (u.left q ≡ Some c) ⊎ (u.right q ≡ Some c)) [
-      | inl f ↦ (let h = below-left t ct q p f in inl (rotated.others_left q (λ g. omega (arith, h, ap t.count g)) (λ g. omega (arith, h, low, ap t.count g)) ∙ ap (moved p c) f ∙ moved-here p c))
-      | inr f ↦ (let h = below-right t ct q p f in inr (rotated.others_right q (λ g. omega (arith, h, ap t.count g)) (λ g. omega (arith, h, low, ap t.count g)) ∙ ap (moved p c) f ∙ moved-here p c))
+      | inl f ↦ (let h = below-left t ct q p f in inl (rotated.others_left q (λ g. omega (arith, h, ap t.count g)) (λ g. omega (arith, h, low, ap t.count g)) ∙ ap (replaced_child p c) f ∙ moved-here p c))
+      | inr f ↦ (let h = below-right t ct q p f in inr (rotated.others_right q (λ g. omega (arith, h, ap t.count g)) (λ g. omega (arith, h, low, ap t.count g)) ∙ ap (replaced_child p c) f ∙ moved-here p c))
     ]
 
     elsewhere-below : (i q : ℕ) → i ≢ p → i ≢ c → (t.right c ≡ Some i → ⊥) → t.parent i ≡ Some q → (u.left q ≡ Some i) ⊎ (u.right q ≡ Some i)
     elsewhere-below i q ip ic im e =
-        let stays : moved p c (Some i) ≡ Some i = moved-other p c (Some i) (λ g. ip (some-same i p g)) in
+        let stays : replaced_child p c (Some i) ≡ Some i = moved-other p c (Some i) (λ g. ip (some-same i p g)) in
         elim (below i q e) as (λ _. (u.left q ≡ Some i) ⊎ (u.right q ≡ Some i)) [
           | inl f ↦ elim (cases_number q p) as (λ _. (u.left q ≡ Some i) ⊎ (u.right q ≡ Some i)) [
             | inl g ↦ absurd (ic (some-same i c (sym f ∙ ap t.left g ∙ rotated.was)))
             | inr g ↦ elim (cases_number q c) as (λ _. (u.left q ≡ Some i) ⊎ (u.right q ≡ Some i)) [
               | inl h ↦ inl (ap u.left h ∙ rotated.c_left ∙ ap t.left (sym h) ∙ f)
-              | inr h ↦ inl (rotated.others_left q g h ∙ ap (moved p c) f ∙ stays)
+              | inr h ↦ inl (rotated.others_left q g h ∙ ap (replaced_child p c) f ∙ stays)
             ]
           ]
           | inr f ↦ elim (cases_number q p) as (λ _. (u.left q ≡ Some i) ⊎ (u.right q ≡ Some i)) [
             | inl g ↦ inr (ap u.right g ∙ rotated.p_right ∙ ap t.right (sym g) ∙ f)
             | inr g ↦ elim (cases_number q c) as (λ _. (u.left q ≡ Some i) ⊎ (u.right q ≡ Some i)) [
               | inl h ↦ absurd (im (ap t.right (sym h) ∙ f))
-              | inr h ↦ inr (rotated.others_right q g h ∙ ap (moved p c) f ∙ stays)
+              | inr h ↦ inr (rotated.others_right q g h ∙ ap (replaced_child p c) f ∙ stays)
             ]
           ]
         ]
@@ -219,19 +219,19 @@ module _ (t u : Tree) (ct : HasCounts t) (linked : IsLinked t) (p c : ℕ) (n : 
     ]
 
   -- the top of a rotated tree
-  pub turned-top : (P : ℕ → Type 0) → P p → (root : Option ℕ) → ((i : ℕ) → P i → t.parent i ≡ None → root ≡ Some i) → (i : ℕ) → P i → u.parent i ≡ None → moved p c root ≡ Some i
-  turned-top P pp root top i pi e = elim (cases_number i c) as (λ _. moved p c root ≡ Some i) [
-    | inl f ↦ ap (moved p c) (top p pp (sym n.parent_c ∙ ap u.parent (sym f) ∙ e)) ∙ moved-here p c ∙ ap Some (sym f)
-    | inr f ↦ elim (cases_number i p) as (λ _. moved p c root ≡ Some i) [
+  pub turned-top : (P : ℕ → Type 0) → P p → (root : Option ℕ) → ((i : ℕ) → P i → t.parent i ≡ None → root ≡ Some i) → (i : ℕ) → P i → u.parent i ≡ None → replaced_child p c root ≡ Some i
+  turned-top P pp root top i pi e = elim (cases_number i c) as (λ _. replaced_child p c root ≡ Some i) [
+    | inl f ↦ ap (replaced_child p c) (top p pp (sym n.parent_c ∙ ap u.parent (sym f) ∙ e)) ∙ moved-here p c ∙ ap Some (sym f)
+    | inr f ↦ elim (cases_number i p) as (λ _. replaced_child p c root ≡ Some i) [
       | inl g ↦ absurd (none-some c (sym e ∙ ap u.parent g ∙ n.parent_p))
-      | inr g ↦ elim (opt-tells (t.right c) i) as (λ _. moved p c root ≡ Some i) [
+      | inr g ↦ elim (opt-tells (t.right c) i) as (λ _. replaced_child p c root ≡ Some i) [
         | inl h ↦ absurd (none-some p (sym e ∙ n.parent_middle i h))
-        | inr h ↦ ap (moved p c) (top i pi (sym (n.parent_others i g f h) ∙ e)) ∙ moved-other p c (Some i) (λ k. g (some-same i p k))
+        | inr h ↦ ap (replaced_child p c) (top i pi (sym (n.parent_others i g f h) ∙ e)) ∙ moved-other p c (Some i) (λ k. g (some-same i p k))
       ]
     ]
   ]
 
-  pub turned-crown : (root : Option ℕ) → ((i : ℕ) → root ≡ Some i → t.parent i ≡ None) → (i : ℕ) → moved p c root ≡ Some i → u.parent i ≡ None
+  pub turned-crown : (root : Option ℕ) → ((i : ℕ) → root ≡ Some i → t.parent i ≡ None) → (i : ℕ) → replaced_child p c root ≡ Some i → u.parent i ≡ None
   turned-crown root crown i e = elim (moved-cases p c root i e) as (λ _. u.parent i ≡ None) [
     | inl f ↦ ap u.parent f.1 ∙ n.parent_c ∙ crown p f.0
     | inr f ↦ (

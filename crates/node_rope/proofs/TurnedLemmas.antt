@@ -5,10 +5,10 @@ use Rattle.node_rope.specs.declared.turn.Side.TheVariants.{Left}
 use Rattle.node_rope.specs.declared.cells.Shape.{Shape}
 use Rattle.node_rope.specs.declared.cells.Link.{Link}
 use Rattle.node_rope.specs.Made.{IsMade, IsKept, made_count, shapes_of}
-use Rattle.node_rope.specs.Shapes.{HasRightLinks, AreMade, shape_at, link_number, tree_of, weights, owns, leasts, ranks, order, weight_at, least_at, IsWeighed, IsRanked}
-use Rattle.node_rope.specs.Walk.{Tree, count_of, whole, HasCounts, IsLinked, IsTurned, moved}
+use Rattle.node_rope.specs.Shapes.{HasRightLinks, AreMade, shape_at, link_number, tree_of, weights, owns, leasts, ranks, nodes_in_order, weight_at, least_at, IsWeighed, IsRanked}
+use Rattle.node_rope.specs.Walk.{Tree, count_of, all_nodes, HasCounts, IsLinked, IsTurned, replaced_child}
 use Rattle.node_rope.specs.Sums.{sum_measure, lesser, sum_of}
-use Rattle.node_rope.specs.Turned.{swapped, with_child, lifted, SameItems}
+use Rattle.node_rope.specs.Turned.{with_swapped_child, with_child, lifted_shapes, SameItems}
 use Rattle.node_rope.proofs.WalkLemmas.{none-some, rotated-walk}
 use Rattle.node_rope.proofs.TurnLemmas.{turned-counted, turned-linked, turned-sums, turned-below, turned-top, turned-crown}
 use Rattle.node_rope.proofs.ShapeLemmas.{length-shapes, made-below, weight-sum, least-sum}
@@ -21,20 +21,20 @@ use Rattle.fugue_ids.proofs.OptionLemmas.{cases_number}
 -- c stands above p in the place of p, and the order is the same
 pub record IsLifted {T : Type 0} (s v : Store T) (root root' : Option Link) (p c : Link) : Type 0 where
   pub sound : HasRightLinks v root'
-  pub same_order : order v root' ≡ order s root
+  pub same_order : nodes_in_order v root' ≡ nodes_in_order s root
   pub items : SameItems (shapes_of s) (shapes_of v)
   pub taller : (shape_at (shapes_of v) c.number).count ≡ (shape_at (shapes_of s) p.number).count
   pub lower : (shape_at (shapes_of v) p.number).count < (shape_at (shapes_of s) p.number).count
   pub above : (shape_at (shapes_of v) c.number).parent ≡ (shape_at (shapes_of s) p.number).parent
 
 module _ {T : Type 0} (s v : Store T) (root root' : Option Link) (p c : Link) (sound : HasRightLinks s root) (made_p : IsMade s p) (made_c : IsMade s c) (was : link_number (shape_at (shapes_of s) p.number).left ≡ Some c.number)
-    (is : shapes_of v ≡ with_child (lifted Left (shapes_of s) p c (shape_at (shapes_of s) p.number) (shape_at (shapes_of s) c.number)) (shape_at (shapes_of s) p.number).parent p.number c)
-    (kept : IsKept s v) (count : made_count v ≡ made_count s) (moves : link_number root' ≡ moved p.number c.number (link_number root)) (made_root' : AreMade v root') where
+    (is : shapes_of v ≡ with_child (lifted_shapes Left (shapes_of s) p c (shape_at (shapes_of s) p.number) (shape_at (shapes_of s) c.number)) (shape_at (shapes_of s) p.number).parent p.number c)
+    (kept : IsKept s v) (count : made_count v ≡ made_count s) (moves : link_number root' ≡ replaced_child p.number c.number (link_number root)) (made_root' : AreMade v root') where
   abbrev ss : List Shape
   ss = shapes_of s
 
   abbrev vs : List Shape
-  vs = with_child (lifted Left ss p c (shape_at ss p.number) (shape_at ss c.number)) (shape_at ss p.number).parent p.number c
+  vs = with_child (lifted_shapes Left ss p c (shape_at ss p.number) (shape_at ss c.number)) (shape_at ss p.number).parent p.number c
 
   abbrev t : Tree
   t = tree_of ss
@@ -118,7 +118,7 @@ module _ {T : Type 0} (s v : Store T) (root root' : Option Link) (p c : Link) (s
   link-back : (a m : Link) → Some a ≡ Some m → m ≡ a
   link-back a m e = cc
 
-  elsewhere-made : (f : Shape → Option Link) → ((h : Shape) (m : Link) → f (swapped h p.number c) ≡ Some m → (m ≡ c) ⊎ (f h ≡ Some m)) → ((h : Shape) (m : Link) → f (record h { parent = Some p }) ≡ Some m → (m ≡ p) ⊎ (f h ≡ Some m))
+  elsewhere-made : (f : Shape → Option Link) → ((h : Shape) (m : Link) → f (with_swapped_child h p.number c) ≡ Some m → (m ≡ c) ⊎ (f h ≡ Some m)) → ((h : Shape) (m : Link) → f (record h { parent = Some p }) ≡ Some m → (m ≡ p) ⊎ (f h ≡ Some m))
       → ((i : ℕ) → AreMade s (f (shape_at ss i))) → (i : ℕ) → i ≢ p.number → i ≢ c.number → AreMade v (f (shape_at vs i))
   elsewhere-made f w q old i ip ic m e =
       let was_made : (k : Link) → f (shape_at ss i) ≡ Some k → IsMade v k = λ k x. kept k (old i k x) in
@@ -185,8 +185,8 @@ module _ {T : Type 0} (s v : Store T) (root root' : Option Link) (p c : Link) (s
   root-not-c : link_number root ≡ Some c.number → ⊥
   root-not-c e = none-some p.number (sym (ap link_number (sound.crown c.number e)) ∙ sound.linked.from_left p.number c.number was)
 
-  pub order-turned : order v root' ≡ order s root
-  order-turned = ap (λ xs. whole (tree_of xs) (link_number root')) is ∙ ap (whole u) moves ∙ rotated-walk t u sound.counted counted-now sound.linked p.number c.number n.rotated (count_of t (link_number root)) (link_number root) (omega arith) root-not-c
+  pub order-turned : nodes_in_order v root' ≡ nodes_in_order s root
+  order-turned = ap (λ xs. all_nodes (tree_of xs) (link_number root')) is ∙ ap (all_nodes u) moves ∙ rotated-walk t u sound.counted counted-now sound.linked p.number c.number n.rotated (count_of t (link_number root)) (link_number root) (omega arith) root-not-c
 
   pub risen-left : IsLifted s v root root' p c
   risen-left = record {

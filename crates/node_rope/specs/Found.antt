@@ -5,7 +5,7 @@ use Rattle.node_rope.specs.declared.cells.Shape.{Shape}
 use Rattle.node_rope.specs.declared.cells.Link.{Link}
 use Rattle.node_rope.specs.Made.{shapes_of}
 use Rattle.node_rope.specs.Shapes.{shape_at, link_number, tree_of, weigh, AreMade}
-use Rattle.node_rope.specs.Walk.{whole}
+use Rattle.node_rope.specs.Walk.{all_nodes}
 
 -- x stands in xs, and o is what stands behind it
 pub record IsFollowed (xs : List ℕ) (x : ℕ) (o : Option ℕ) : Type 0 where
@@ -26,7 +26,7 @@ pub record IsFound (ss : List Shape) (xs : List ℕ) (w : ℕ) (l : Link) (r : �
 pub record IsReached {T : Type 0} (size : List ℕ → ℕ) (s : Store T) (xs : List ℕ) (w : ℕ) (cur : Option Link) (r : ℕ) : Type 0 where
   pub front : List ℕ
   pub back : List ℕ
-  pub split : xs ≡ front ++ (whole (tree_of (shapes_of s)) (link_number cur) ++ back)
+  pub split : xs ≡ front ++ (all_nodes (tree_of (shapes_of s)) (link_number cur) ++ back)
   pub before : w ≡ size front + r
-  pub here : (r < size (whole (tree_of (shapes_of s)) (link_number cur))) ⊎ (back ≡ [])
+  pub here : (r < size (all_nodes (tree_of (shapes_of s)) (link_number cur))) ⊎ (back ≡ [])
   pub made : AreMade s cur

@@ -8,17 +8,19 @@ use Rattle.node_rope.specs.declared.store.Store.{Store}
 use Rattle.node_rope.specs.declared.cells.Link.{Link}
 use Rattle.node_rope.specs.declared.cells.Own.{Own}
 use Rattle.node_rope.specs.Made.{IsMade, made_count, shapes_of, values_of}
-use Rattle.node_rope.specs.Shapes.{AreRanksFit, HasRightLinks, order, shape_at}
+use Rattle.node_rope.specs.Shapes.{AreRanksFit, HasRightLinks, nodes_in_order, shape_at}
 
 -- the value of the item with the key k
 abbrev pub value_under : {T : Type 0} → Identifier → List (Identifier × T) → Option T
 value_under k = lookup (λ q. id_eq q k)
 
+-- the key and the value of a node, if it is there
 abbrev pub item_at : {T : Type 0} → Store T → ℕ → List (Identifier × T)
 item_at s i = option_to_list (option_map (λ n. (n.shape.key, n.value)) (slice_get s.pile.values i))
 
+-- the keys and values of a rope, in order
 abbrev pub rope_items_of : {T : Type 0} → Store T → Option Link → List (Identifier × T)
-rope_items_of s root = flat_map (item_at s) (order s root)
+rope_items_of s root = flat_map (item_at s) (nodes_in_order s root)
 
 -- what a value counts for
 abbrev pub own_of : {T : Type 0} → (T → ℕ) → (T → ℕ) → T → Own

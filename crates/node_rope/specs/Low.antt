@@ -5,8 +5,8 @@ use Rattle.node_rope.specs.declared.store.Store.{Store}
 use Rattle.node_rope.specs.declared.cells.Shape.{Shape}
 use Rattle.node_rope.specs.declared.cells.Link.{Link}
 use Rattle.node_rope.specs.Made.{shapes_of}
-use Rattle.node_rope.specs.Walk.{whole}
-use Rattle.node_rope.specs.Sides.{seen, faced}
+use Rattle.node_rope.specs.Walk.{all_nodes}
+use Rattle.node_rope.specs.Sides.{seen, facing_shape}
 use Rattle.node_rope.specs.Shapes.{shape_at, link_number, tree_of, ranks}
 
 -- the one, or where there is none, the other
@@ -35,13 +35,13 @@ module _ (ss : List Shape) (most : ℕ) where
 
   -- the first low one of the nodes below o, as they are seen from the side
   abbrev pub low_below : Side → Option Link → Option ℕ
-  low_below d o = first_low (ranks ss) most (whole (seen d (tree_of ss)) (link_number o))
+  low_below d o = first_low (ranks ss) most (all_nodes (seen d (tree_of ss)) (link_number o))
 
   -- the first low one of a node and what is below its other side
   abbrev pub low_from : Side → Option Link → Option ℕ
   low_from d None = None
-  low_from d (Some l) = or_else (if_low (ranks ss) most l.number) (low_below d (faced d (shape_at ss l.number)).right)
+  low_from d (Some l) = or_else (if_low (ranks ss) most l.number) (low_below d (facing_shape d (shape_at ss l.number)).right)
 
 -- the nodes in order, as they are seen from the side
 abbrev pub seen_order : {T : Type 0} → Side → Store T → Option Link → List ℕ
-seen_order d s root = whole (seen d (tree_of (shapes_of s))) (link_number root)
+seen_order d s root = all_nodes (seen d (tree_of (shapes_of s))) (link_number root)

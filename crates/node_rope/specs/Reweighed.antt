@@ -13,8 +13,9 @@ pub record IsPlaced (g h : Shape) : Type 0 where
   pub parent : h.parent ≡ g.parent
   pub count : h.count ≡ g.count
 
-abbrev pub ArePlaced : List Shape → List Shape → Type 0
-ArePlaced ss us = (i : ℕ) → IsPlaced (shape_at ss i) (shape_at us i)
+-- each node is where it was, with sums of its own
+abbrev pub AreReweighed : List Shape → List Shape → Type 0
+AreReweighed ss us = (i : ℕ) → IsPlaced (shape_at ss i) (shape_at us i)
 
 -- all but the weights and ranks is the same
 pub record IsStill (g h : Shape) : Type 0 where
@@ -24,9 +25,11 @@ pub record IsStill (g h : Shape) : Type 0 where
   pub key : h.key ≡ g.key
   pub count : h.count ≡ g.count
 
+-- each node is as it was
 abbrev pub AreStill : List Shape → List Shape → Type 0
 AreStill ss us = (i : ℕ) → IsStill (shape_at ss i) (shape_at us i)
 
+-- each node has the weight and the rank that it had
 abbrev pub SameOwns : List Shape → List Shape → Type 0
 SameOwns ss us = (i : ℕ) → (shape_at us i).own ≡ (shape_at ss i).own
 
@@ -34,6 +37,7 @@ SameOwns ss us = (i : ℕ) → (shape_at us i).own ≡ (shape_at ss i).own
 abbrev pub IsWeighedBut : List Shape → Option Link → Type 0
 IsWeighedBut ss o = (i : ℕ) → (link_number o ≡ Some i → ⊥) → (shape_at ss i).weight ≡ weight_at ss (shape_at ss i).left + ((shape_at ss i).own.weight + weight_at ss (shape_at ss i).right)
 
+-- each node but one knows the least rank of its subtree
 abbrev pub IsRankedBut : List Shape → Option Link → Type 0
 IsRankedBut ss o = (i : ℕ) → (link_number o ≡ Some i → ⊥) → (shape_at ss i).least ≡ min (least_at ss (shape_at ss i).left) (min (shape_at ss i).own.rank (least_at ss (shape_at ss i).right))
 
@@ -64,9 +68,9 @@ abbrev pub AreOff : List Shape → ℕ → ℕ → Option Link → Type 0
 AreOff ss less more o = (l : Link) → o ≡ Some l → IsOff ss less more l
 
 -- a node whose weight and least rank are those of what is below it
-abbrev pub summed : List Shape → Shape → Shape
-summed ss h = record h { weight = weight_at ss h.left + (h.own.weight + weight_at ss h.right); least = min (least_at ss h.left) (min h.own.rank (least_at ss h.right)) }
+abbrev pub summed_node : List Shape → Shape → Shape
+summed_node ss h = record h { weight = weight_at ss h.left + (h.own.weight + weight_at ss h.right); least = min (least_at ss h.left) (min h.own.rank (least_at ss h.right)) }
 
 -- a node whose weight gains `more` and loses `less`
-abbrev pub shifted : ℕ → ℕ → Shape → Shape
-shifted less more h = record h { weight = (h.weight + more) - less }
+abbrev pub reweighed_node : ℕ → ℕ → Shape → Shape
+reweighed_node less more h = record h { weight = (h.weight + more) - less }

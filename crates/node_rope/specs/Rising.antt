@@ -18,6 +18,7 @@ pub record IsLikewise (g h : Shape) : Type 0 where
   pub key : h.key ≡ g.key
   pub own : h.own ≡ g.own
 
+-- each node has the links that it had
 abbrev pub SameLinks : List Shape → List Shape → Type 0
 SameLinks ss us = (i : ℕ) → IsLikewise (shape_at ss i) (shape_at us i)
 
@@ -46,6 +47,7 @@ abbrev pub left_to_rise : List Shape → Option Link → ℕ
 left_to_rise ss None = 0
 left_to_rise ss (Some l) = suc (2 ^ 63 - (shape_at ss l.number).count)
 
+-- counts and weights have room for one node more of this weight
 pub record AreSmall (ss : List Shape) (w : ℕ) : Type 0 where
   pub counts : (i : ℕ) → (shape_at ss i).count < 2 ^ 32 - 1
   pub weights : (i : ℕ) → (shape_at ss i).weight + w < 2 ^ 64

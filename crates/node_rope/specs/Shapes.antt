@@ -4,19 +4,22 @@ use Rattle.node_rope.specs.declared.store.Store.{Store}
 use Rattle.node_rope.specs.declared.cells.Shape.{Shape}
 use Rattle.node_rope.specs.declared.cells.Link.{Link}
 use Rattle.node_rope.specs.Made.{IsMade, shapes_of, made_count}
-use Rattle.node_rope.specs.Walk.{Tree, whole, HasCounts, IsLinked}
+use Rattle.node_rope.specs.Walk.{Tree, all_nodes, HasCounts, IsLinked}
 use Rattle.node_rope.specs.Sums.{sum_measure, lesser, no_rank, IsSummed, fold}
 
 -- what stands for a number past the last: a node alone
-abbrev pub lone : Shape
-lone = record { key = record { replica = 0; counter = 0 }; left = None; right = None; parent = None; count = 1; weight = 0; least = no_rank; own = record { weight = 0; rank = no_rank } }
+abbrev pub lone_shape : Shape
+lone_shape = record { key = record { replica = 0; counter = 0 }; left = None; right = None; parent = None; count = 1; weight = 0; least = no_rank; own = record { weight = 0; rank = no_rank } }
 
+-- the shape with this number
 abbrev pub shape_at : List Shape → ℕ → Shape
-shape_at ss i = slice_index_or ss i lone
+shape_at ss i = slice_index_or ss i lone_shape
 
+-- the number to which a link leads
 abbrev pub link_number : Option Link → Option ℕ
 link_number = option_map (λ l. l.number)
 
+-- the tree of the shapes' links
 abbrev pub tree_of : List Shape → Tree
 tree_of ss = record { left = λ i. link_number (shape_at ss i).left; right = λ i. link_number (shape_at ss i).right; parent = λ i. link_number (shape_at ss i).parent; count = λ i. (shape_at ss i).count }
 
@@ -24,9 +27,11 @@ tree_of ss = record { left = λ i. link_number (shape_at ss i).left; right = λ 
 abbrev pub weights : List Shape → ℕ → ℕ
 weights ss i = (shape_at ss i).weight
 
+-- the weight of a node alone
 abbrev pub owns : List Shape → ℕ → ℕ
 owns ss i = (shape_at ss i).own.weight
 
+-- the weight of the subtree to which a link leads
 abbrev pub weight_at : List Shape → Option Link → ℕ
 weight_at ss None = 0
 weight_at ss (Some l) = (shape_at ss l.number).weight
@@ -35,6 +40,7 @@ weight_at ss (Some l) = (shape_at ss l.number).weight
 abbrev pub leasts : List Shape → ℕ → ℕ
 leasts ss i = (shape_at ss i).least
 
+-- the rank of a node alone
 abbrev pub ranks : List Shape → ℕ → ℕ
 ranks ss i = (shape_at ss i).own.rank
 
@@ -42,6 +48,7 @@ ranks ss i = (shape_at ss i).own.rank
 abbrev pub AreRanksFit : List Shape → Type 0
 AreRanksFit ss = (i : ℕ) → ranks ss i ≤ no_rank
 
+-- the least rank of the subtree to which a link leads
 abbrev pub least_at : List Shape → Option Link → ℕ
 least_at ss None = no_rank
 least_at ss (Some l) = (shape_at ss l.number).least
@@ -50,12 +57,15 @@ least_at ss (Some l) = (shape_at ss l.number).least
 abbrev pub weigh : List Shape → List ℕ → ℕ
 weigh ss = fold sum_measure (owns ss)
 
+-- each node knows the weight of its subtree
 abbrev pub IsWeighed : List Shape → Type 0
 IsWeighed ss = IsSummed sum_measure (tree_of ss) (owns ss) (weights ss)
 
+-- each node knows the least rank of its subtree
 abbrev pub IsRanked : List Shape → Type 0
 IsRanked ss = IsSummed lesser (tree_of ss) (ranks ss) (leasts ss)
 
+-- the link leads to a node that was made
 abbrev pub AreMade : {T : Type 0} → Store T → Option Link → Type 0
 AreMade s o = (l : Link) → o ≡ Some l → IsMade s l
 
@@ -79,5 +89,5 @@ abbrev pub HasRightLinks : {T : Type 0} → Store T → Option Link → Type 0
 HasRightLinks s root = IsTree s root (IsWeighed (shapes_of s)) (IsRanked (shapes_of s))
 
 -- the numbers of the nodes in order
-abbrev pub order : {T : Type 0} → Store T → Option Link → List ℕ
-order s root = whole (tree_of (shapes_of s)) (link_number root)
+abbrev pub nodes_in_order : {T : Type 0} → Store T → Option Link → List ℕ
+nodes_in_order s root = all_nodes (tree_of (shapes_of s)) (link_number root)

@@ -3,22 +3,23 @@ use Rattle.node_rope.specs.declared.turn.Side.{Side}
 use Rattle.node_rope.specs.declared.turn.Side.TheVariants.{Left, Right}
 use Rattle.std.specs.Prelude.{ℕ, List}
 use Rattle.node_rope.specs.declared.cells.Shape.{Shape}
-use Rattle.node_rope.specs.Walk.{Tree, before, after, mirror}
+use Rattle.node_rope.specs.Walk.{Tree, members_before, after, mirror}
 
 -- left for right
-abbrev pub flipped : Shape → Shape
-flipped h = record h { left = h.right; right = h.left }
+abbrev pub other_side : Shape → Shape
+other_side h = record h { left = h.right; right = h.left }
 
 -- what stands at the side is the left
-abbrev pub faced : Side → Shape → Shape
-faced Left h = h
-faced Right h = flipped h
+abbrev pub facing_shape : Side → Shape → Shape
+facing_shape Left h = h
+facing_shape Right h = other_side h
 
+-- the tree, or its mirror image
 abbrev pub seen : Side → Tree → Tree
 seen Left t = t
 seen Right t = mirror t
 
 -- n at the side of y
 abbrev pub beside : Side → ℕ → ℕ → ℕ → List ℕ
-beside Left = before
+beside Left = members_before
 beside Right = after

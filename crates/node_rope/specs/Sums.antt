@@ -2,10 +2,12 @@
 use Rattle.std.specs.Prelude.{◌≡◌, ℕ, ◌+◌, min, List, [], ◌∷◌, Option, None, Some}
 use Rattle.node_rope.specs.Walk.{Tree}
 
+-- what sums over subtrees are made of
 pub record Measure (M : Type 0) : Type 0 where
   pub none : M
   pub both : M → M → M
 
+-- the sums are those of a monoid
 pub record IsLawful {M : Type 0} (m : Measure M) : Type 0 where
   pub before : (a : M) → m.both m.none a ≡ a
   pub assoc : (a b c : M) → m.both (m.both a b) c ≡ m.both a (m.both b c)
@@ -15,6 +17,7 @@ pub record IsCommutative {M : Type 0} (m : Measure M) : Type 0 where
   pub assoc : (a b c : M) → m.both (m.both a b) c ≡ m.both a (m.both b c)
   pub comm : (a b : M) → m.both a b ≡ m.both b a
 
+-- the sum of numbers
 abbrev pub sum_measure : Measure ℕ
 sum_measure = record { none = 0; both = λ a b. a + b }
 

@@ -2,8 +2,8 @@
 ghost use Rattle.std.specs.Prelude.{◌≡◌, ◌+◌, ◌-◌, ◌^◌, ◌<◌, ◌≤◌, [], ◌∷◌, ◌++◌, flat_map, IfOk, IfErr, Some};
 ghost use Rattle.node_rope.specs.Entered.{IsGivenBack, LeadsTo};
 ghost use Rattle.node_rope.specs.Made.{IsMade, IsKept, IsMore, made_count, shapes_of, values_of};
-ghost use Rattle.node_rope.specs.Shapes.{HasRightLinks, AreMade, shape_at, order};
-ghost use Rattle.node_rope.specs.Sides.{faced, beside};
+ghost use Rattle.node_rope.specs.Shapes.{HasRightLinks, AreMade, shape_at, nodes_in_order};
+ghost use Rattle.node_rope.specs.Sides.{facing_shape, beside};
 ghost use Rattle.node_rope.specs.Rising.{AreSmall};
 ghost use Rattle.node_rope.specs.Grown.{with_parent, new_beside, joined_beside, IsGrown};
 
@@ -31,7 +31,7 @@ pub(crate) fn set_parent<T: Drop>(store: &mut Store<T>, link: Option<Link>, pare
 // A node for beside `at`, which takes over what is below the side of that one.
 fn new_shape<T: Drop>(store: &Store<T>, side: Side, at: Link, key: ElementId, own: Own) -> Shape
     requires made { IsMade store.now at }
-    requires near { AreMade store.now (faced side (shape_at (shapes_of store.now) at.number)).left }
+    requires near { AreMade store.now (facing_shape side (shape_at (shapes_of store.now) at.number)).left }
     requires small { AreSmall (shapes_of store.now) (own.weight + own.weight) }
     ensures { result ≡ new_beside side (shapes_of store.now) at key own }
 {
@@ -82,7 +82,7 @@ fn join<T: Drop>(
     value: T,
 ) -> Result<Link, Back<T>>
     requires made { IsMade store.old at }
-    requires near { AreMade store.old (faced side (shape_at (shapes_of store.old) at.number)).left }
+    requires near { AreMade store.old (facing_shape side (shape_at (shapes_of store.old) at.number)).left }
     requires few { made_count store.old < 2 ^ 32 - 1 }
     ensures joined { IfOk result
         (λ l. IsMore store.old store.new (joined_beside side (shapes_of store.old) at l shape) value l) }
@@ -119,7 +119,7 @@ pub(crate) fn attach<T: Drop>(
     requires small { AreSmall (shapes_of store.old) (own.weight + own.weight) }
     ensures grown { IfOk result (λ l. IsGrown store.old store.new root key own value l) }
     ensures walk { IfOk result
-        (λ l. order store.new root ≡ flat_map (beside side at.number l.number) (order store.old root)) }
+        (λ l. nodes_in_order store.new root ≡ flat_map (beside side at.number l.number) (nodes_in_order store.old root)) }
     ensures set { IfOk result (LeadsTo map.old map.new key) }
     ensures refused { IfErr result (IsGivenBack store.old store.new map.old map.new value) }
     ensures kept { IsKept store.old store.new }

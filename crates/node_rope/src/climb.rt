@@ -2,11 +2,11 @@
 ghost use Rattle.std.specs.Prelude.{◌≡◌, ◌+◌, ◌-◌, ◌^◌, ◌<◌, ◌≤◌, length, take, slice_index_or, IsTrue, ◌↔◌, Some};
 ghost use Rattle.std.specs.Prelude.{None, ◌≢◌, ℕ};
 ghost use Rattle.node_rope.specs.Made.{IsMade, IsKept, made_count, shapes_of, values_of};
-ghost use Rattle.node_rope.specs.Shapes.{HasRightLinks, AreMade, shape_at, link_number, tree_of, order, weigh};
+ghost use Rattle.node_rope.specs.Shapes.{HasRightLinks, AreMade, shape_at, link_number, tree_of, nodes_in_order, weigh};
 ghost use Rattle.node_rope.specs.Shapes.{weight_at, least_at, IsWeighed, IsRanked};
 ghost use Rattle.node_rope.specs.Walk.{count_of, HasCounts};
 ghost use Rattle.node_rope.specs.Rising.{IsRising, IsRaised, SameLinks, AreSmall};
-ghost use Rattle.node_rope.specs.Reweighed.{IsMended, IsSoundBut, AreOff, AreStill, summed};
+ghost use Rattle.node_rope.specs.Reweighed.{IsMended, IsSoundBut, AreOff, AreStill, summed_node};
 
 use crate::cells::{Link, Own, Shape};
 use crate::store::Store;
@@ -61,9 +61,9 @@ pub(crate) fn before<T: Drop>(store: &Store<T>, root: Option<Link>, at: Link) ->
     requires made { IsMade store.now at }
     requires sound { HasRightLinks store.now root }
     requires few { made_count store.now < 2 ^ 62 }
-    ensures inside { result.count < length (order store.now root) }
-    ensures at { slice_index_or (order store.now root) result.count 0 ≡ at.number }
-    ensures weight { result.weight ≡ weigh (shapes_of store.now) (take result.count (order store.now root)) }
+    ensures inside { result.count < length (nodes_in_order store.now root) }
+    ensures at { slice_index_or (nodes_in_order store.now root) result.count 0 ≡ at.number }
+    ensures weight { result.weight ≡ weigh (shapes_of store.now) (take result.count (nodes_in_order store.now root)) }
 {
     let mut cur = at;
     let mut shape = store.shape(at);
@@ -111,7 +111,7 @@ fn with_sums<T: Drop>(store: &Store<T>, shape: Shape) -> Shape
     requires right { AreMade store.now shape.right }
     requires fits { weight_at (shapes_of store.now) shape.left +
         (shape.own.weight + weight_at (shapes_of store.now) shape.right) < 2 ^ 64 }
-    ensures { result ≡ summed (shapes_of store.now) shape }
+    ensures { result ≡ summed_node (shapes_of store.now) shape }
 {
     let Own { weight, rank } = shape.own;
     Shape {

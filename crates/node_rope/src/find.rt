@@ -1,9 +1,9 @@
 // The node that holds a unit of weight, and the one at a place, found by descending from the top.
 ghost use Rattle.std.specs.Prelude.{◌≡◌, ◌≤◌, ◌<◌, length, slice_index_or, IfSome, IfNone, None, Some, slice_get};
 ghost use Rattle.node_rope.specs.Made.{IsMade, shapes_of};
-ghost use Rattle.node_rope.specs.Shapes.{HasRightLinks, order, weigh, AreMade, link_number, shape_at, tree_of};
+ghost use Rattle.node_rope.specs.Shapes.{HasRightLinks, nodes_in_order, weigh, AreMade, link_number, shape_at, tree_of};
 ghost use Rattle.node_rope.specs.Found.{IsFound, IsFollowed};
-ghost use Rattle.node_rope.specs.Walk.{whole};
+ghost use Rattle.node_rope.specs.Walk.{all_nodes};
 
 use crate::cells::Link;
 use crate::climb::{count_below, leads_to, weight_below};
@@ -18,9 +18,9 @@ pub(crate) struct Unit {
 
 pub(crate) fn find_weight<T: Drop>(store: &Store<T>, root: Option<Link>, w: u64) -> Option<Unit>
     requires { HasRightLinks store.now root }
-    ensures found { IfSome result (λ u. IsFound (shapes_of store.now) (order store.now root) w u.link u.inside) }
+    ensures found { IfSome result (λ u. IsFound (shapes_of store.now) (nodes_in_order store.now root) w u.link u.inside) }
     ensures made { IfSome result (λ u. IsMade store.now u.link) }
-    ensures none { IfNone result (weigh (shapes_of store.now) (order store.now root) ≤ w) }
+    ensures none { IfNone result (weigh (shapes_of store.now) (nodes_in_order store.now root) ≤ w) }
 {
     let mut cur = root;
     let mut rest = w;
@@ -44,10 +44,10 @@ pub(crate) fn find_weight<T: Drop>(store: &Store<T>, root: Option<Link>, w: u64)
 
 pub(crate) fn node_at<T: Drop>(store: &Store<T>, root: Option<Link>, place: usize) -> Option<Link>
     requires { HasRightLinks store.now root }
-    ensures inside { IfSome result (λ l. place < length (order store.now root)) }
-    ensures found { IfSome result (λ l. slice_index_or (order store.now root) place 0 ≡ l.number) }
+    ensures inside { IfSome result (λ l. place < length (nodes_in_order store.now root)) }
+    ensures found { IfSome result (λ l. slice_index_or (nodes_in_order store.now root) place 0 ≡ l.number) }
     ensures made { IfSome result (λ l. IsMade store.now l) }
-    ensures none { IfNone result (length (order store.now root) ≤ place) }
+    ensures none { IfNone result (length (nodes_in_order store.now root) ≤ place) }
 {
     let mut cur = root;
     let mut rest = place;
@@ -84,10 +84,10 @@ pub(crate) fn node_within<T: Drop>(
     requires { HasRightLinks store.now root }
     ensures from { IfSome result (λ p. from ≤ p.place) }
     ensures to { IfSome result (λ p. p.place < to) }
-    ensures inside { IfSome result (λ p. p.place < length (order store.now root)) }
-    ensures found { IfSome result (λ p. slice_index_or (order store.now root) p.place 0 ≡ p.link.number) }
+    ensures inside { IfSome result (λ p. p.place < length (nodes_in_order store.now root)) }
+    ensures found { IfSome result (λ p. slice_index_or (nodes_in_order store.now root) p.place 0 ≡ p.link.number) }
     ensures made { IfSome result (λ p. IsMade store.now p.link) }
-    ensures none { IfNone result (from < to → length (order store.now root) ≤ from) }
+    ensures none { IfNone result (from < to → length (nodes_in_order store.now root) ≤ from) }
 {
     if to <= from {
         return None;
@@ -118,7 +118,7 @@ pub(crate) fn node_within<T: Drop>(
 fn first_node<T: Drop>(store: &Store<T>, root: Option<Link>, from: Link) -> Link
     requires sound { HasRightLinks store.now root }
     requires made { IsMade store.now from }
-    ensures first { slice_get (whole (tree_of (shapes_of store.now)) (Some from.number)) 0 ≡ Some result.number }
+    ensures first { slice_get (all_nodes (tree_of (shapes_of store.now)) (Some from.number)) 0 ≡ Some result.number }
     ensures made { IsMade store.now result }
 {
     // The contract alone needs the root.
@@ -137,7 +137,7 @@ fn node_above<T: Drop>(store: &Store<T>, root: Option<Link>, at: Link) -> Option
     requires sound { HasRightLinks store.now root }
     requires made { IsMade store.now at }
     requires last { (shape_at (shapes_of store.now) at.number).right ≡ None }
-    ensures behind { IsFollowed (order store.now root) at.number (link_number result) }
+    ensures behind { IsFollowed (nodes_in_order store.now root) at.number (link_number result) }
     ensures made { AreMade store.now result }
 {
     // The contract alone needs the root.
@@ -159,7 +159,7 @@ fn node_above<T: Drop>(store: &Store<T>, root: Option<Link>, at: Link) -> Option
 pub(crate) fn node_behind<T: Drop>(store: &Store<T>, root: Option<Link>, at: Link) -> Option<Link>
     requires sound { HasRightLinks store.now root }
     requires made { IsMade store.now at }
-    ensures behind { IsFollowed (order store.now root) at.number (link_number result) }
+    ensures behind { IsFollowed (nodes_in_order store.now root) at.number (link_number result) }
     ensures made { AreMade store.now result }
 {
     match store.shape(at).right {

@@ -2,7 +2,7 @@
 // whether it has one. Both are one search: the last one is the first as seen from the right.
 ghost use Rattle.std.specs.Prelude.{◌≡◌, Some, drop, take};
 ghost use Rattle.node_rope.specs.Made.{IsMade, shapes_of};
-ghost use Rattle.node_rope.specs.Shapes.{AreMade, AreRanksFit, HasRightLinks, link_number, order, ranks};
+ghost use Rattle.node_rope.specs.Shapes.{AreMade, AreRanksFit, HasRightLinks, link_number, nodes_in_order, ranks};
 ghost use Rattle.node_rope.specs.Low.{first_low, last_low, low_at, low_below, low_from, or_else, seen_order};
 
 use crate::cells::Link;
@@ -128,7 +128,7 @@ pub(crate) fn first_low_node<T: Drop>(
     requires fits { AreRanksFit (shapes_of store.now) }
     requires sound { HasRightLinks store.now root }
     ensures found { link_number result
-        ≡ first_low (ranks (shapes_of store.now)) most (drop from (order store.now root)) }
+        ≡ first_low (ranks (shapes_of store.now)) most (drop from (nodes_in_order store.now root)) }
     ensures made { AreMade store.now result }
 {
     low_node(store, root, Side::Left, from, most)
@@ -143,7 +143,7 @@ pub(crate) fn last_low_node<T: Drop>(
 ) -> Option<Link>
     requires sound { HasRightLinks store.now root }
     requires fits { AreRanksFit (shapes_of store.now) }
-    ensures found { link_number result ≡ last_low (ranks (shapes_of store.now)) most (take to (order store.now root)) }
+    ensures found { link_number result ≡ last_low (ranks (shapes_of store.now)) most (take to (nodes_in_order store.now root)) }
     ensures made { AreMade store.now result }
 {
     let behind = (count_below(store, root) as usize).saturating_sub(to);

@@ -1,7 +1,7 @@
 ghost use Rattle.std.specs.Prelude.{◌≡◌, ◌+◌, ◌-◌, ◌^◌, ◌<◌, ◌≤◌};
 ghost use Rattle.node_rope.specs.Packing.{link_if};
 ghost use Rattle.node_rope.specs.Rising.{more};
-ghost use Rattle.node_rope.specs.Reweighed.{shifted};
+ghost use Rattle.node_rope.specs.Reweighed.{reweighed_node};
 
 use crate::cells::{Link, Own, Shape};
 use crate::pile::{self, Spot};
@@ -120,7 +120,7 @@ impl Packed {
     pub(crate) fn shift(&mut self, less: u32, more: u32)
         requires fits { self.old.weight + more < 2 ^ 64 }
         requires covers { less ≤ self.old.weight + more }
-        ensures { self.new ≡ shifted less more self.old }
+        ensures { self.new ≡ reweighed_node less more self.old }
     {
         self.weight = self.weight + more as u64 - less as u64;
     }

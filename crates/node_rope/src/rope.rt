@@ -1,7 +1,7 @@
 ghost use Rattle.std.specs.Prelude.{◌≡◌, ◌<◌, ◌≤◌, ◌^◌, [], ◌∷◌, OnOk, IfErr, IsSome, IsNone, Some, length, IfOk};
 ghost use Rattle.std.specs.Prelude.{IsFalse, IsTrue};
 ghost use Rattle.node_rope.specs.Items.{value_under};
-ghost use Rattle.node_rope.specs.Beside.{placed_before, placed_after, placed_beside, put_under, renamed, rekeyed};
+ghost use Rattle.node_rope.specs.Beside.{placed_before, placed_after, placed_beside, put_under, items_renamed, items_rekeyed};
 
 use crate::attach::enter;
 use crate::cells::{Link, Shape, Weigh};
@@ -184,7 +184,7 @@ impl<T: Weigh> Rope<T> {
     fn rename(&mut self, key: ElementId, new_key: ElementId) -> bool
         requires held { IsSome (value_under key self.old) }
         requires fresh { IsNone (value_under new_key self.old) }
-        ensures renamed { IsTrue result → self.new ≡ renamed key new_key self.old }
+        ensures renamed { IsTrue result → self.new ≡ items_renamed key new_key self.old }
         ensures refused { IsFalse result → self.new ≡ self.old }
     {
         let link = match find_link(&self.map, key) {
@@ -211,7 +211,7 @@ impl<T: Weigh> Rope<T> {
         requires held { IsSome (value_under key self.old) }
         requires fresh { IsNone (value_under new_key self.old) }
         ensures old { IfOk result (λ old. value_under key self.old ≡ Some old) }
-        ensures rekeyed { OnOk result (self.new ≡ rekeyed key (new_key, value) self.old) }
+        ensures rekeyed { OnOk result (self.new ≡ items_rekeyed key (new_key, value) self.old) }
         ensures refused { IfErr result (λ b. (b.value ≡ value) × (self.new ≡ self.old)) }
     {
         if !self.rename(key, new_key) {

@@ -2,8 +2,8 @@
 ghost use Rattle.std.specs.Prelude.{◌≡◌, ◌+◌, ◌-◌, ◌^◌, ◌<◌, ◌≤◌, Some};
 ghost use Rattle.node_rope.specs.Made.{IsMade, IsKept, made_count, shapes_of, values_of};
 ghost use Rattle.node_rope.specs.Shapes.{HasRightLinks, AreMade, shape_at, link_number, weight_at};
-ghost use Rattle.node_rope.specs.Turned.{tree_count_at, relinked, with_child, lifted, IsRisen, side_of as side_at};
-ghost use Rattle.node_rope.specs.Sides.{faced};
+ghost use Rattle.node_rope.specs.Turned.{tree_count_at, relinked_child, with_child, lifted_shapes, IsRisen, side_of as side_at};
+ghost use Rattle.node_rope.specs.Sides.{facing_shape};
 
 use crate::attach::set_parent;
 use crate::cells::{Link, Shape};
@@ -20,7 +20,7 @@ fn lift<T: Drop>(store: &mut Store<T>, side: Side, p: Link, c: Link, above: Shap
     requires small { above.count - below.count + tree_count_at (shapes_of store.old) below.right < 2 ^ 32 }
     requires weights { below.weight ≤ above.weight }
     requires light { above.weight - below.weight + weight_at (shapes_of store.old) below.right < 2 ^ 64 }
-    ensures shapes { shapes_of store.new ≡ lifted side (shapes_of store.old) p c above below }
+    ensures shapes { shapes_of store.new ≡ lifted_shapes side (shapes_of store.old) p c above below }
     ensures values { values_of store.new ≡ values_of store.old }
     ensures count { made_count store.new ≡ made_count store.old }
     ensures kept { IsKept store.old store.new }
@@ -52,7 +52,7 @@ fn lift<T: Drop>(store: &mut Store<T>, side: Side, p: Link, c: Link, above: Shap
 
 // The link, or where it leads to `p`, one to `c`.
 fn relink(link: Option<Link>, p: Link, c: Link) -> Option<Link>
-    ensures { result ≡ relinked link p.number c }
+    ensures { result ≡ relinked_child link p.number c }
 {
     match link {
         Some(l) => { if l.number == p.number { Some(c) } else { link } }
@@ -120,7 +120,7 @@ pub enum Side {
 
 // The node as it is seen from the side: what stands there is at its left.
 pub(crate) fn facing(shape: Shape, side: Side) -> Shape
-    ensures { result ≡ faced side shape }
+    ensures { result ≡ facing_shape side shape }
 {
     match side {
         Side::Left => shape,

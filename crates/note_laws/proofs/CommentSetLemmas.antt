@@ -21,8 +21,8 @@ use Rattle.catalogue_notes.proofs.SetLemmas.{arranged_by_set}
 use Rattle.margin_notes.specs.Commenting.{clusters_of}
 use Rattle.margin_notes.specs.Comments.{Comment, by_id, comments_in, is_in_section, is_text_of}
 use Rattle.margin_notes.specs.Listing.{number_from}
-use Rattle.margin_notes.specs.Margins.{Span, comment_line, lines_from, span}
-use Rattle.margin_notes.specs.Placing.{PlacedComment, placed_at}
+use Rattle.margin_notes.specs.Margins.{Span, comment_line, comment_lines, margin_span}
+use Rattle.margin_notes.specs.Placing.{PlacedComment, placed_from}
 use Rattle.margin_notes.proofs.FilterLemmas.{filter-agree}
 use Rattle.margin_notes.proofs.MemberLemmas.{from_comments, listed_apart, to_comments}
 use Rattle.margin_notes.proofs.PassageLemmas.{both_parts, text_in}
@@ -73,7 +73,7 @@ module _ (a b : List Op) (v : Lawful a) (w : Lawful b) (same : SameOps a b) wher
   elements : (s : Identifier) → All (IsIn (within s) a) (shown (within s) a)
   elements s = All-filter (λ x. not (is_hidden a x)) (IsIn (within s) a) (order (within s) a) (order-in (within s) a v)
 
-  pub spans : (s : Identifier) (c : Comment) → is_in_section a s c ≡ true → span a s c.first c.last ≡ span b s c.first c.last
+  pub spans : (s : Identifier) (c : Comment) → is_in_section a s c ≡ true → margin_span a s c.first c.last ≡ margin_span b s c.first c.last
   spans s c e =
       let k = anchors_in a s c e in
       let r = (parts_keep_order (within s) a b v w (same-part a b same)).same_before in
@@ -91,7 +91,7 @@ module _ (a b : List Op) (v : Lawful a) (w : Lawful b) (same : SameOps a b) wher
   remark_over r i =
       let s : Identifier = r.section in
       let e : is_in_section a s i.comment ≡ true = (from_comments a s i.comment i.listed).in_section in
-      let here : placed_at a i.comment s ≡ placed_at b i.comment s =
+      let here : placed_from a i.comment s ≡ placed_from b i.comment s =
       ap (λ (q : Span). record { section = s; id = i.comment.id; from = q.from; to = q.to; text = i.comment.text }) (spans s i.comment e) in
       record {
         comment = i.comment;
@@ -122,7 +122,7 @@ module _ (a b : List Op) (v : Lawful a) (w : Lawful b) (same : SameOps a b) wher
       ap (λ (q : Span). decimal k ++ 32 ∷ decimal q.from ++ 32 ∷ decimal q.to ++ 32 ∷ c.text ++ 10 ∷ [])
       (spans a b v w same s c (from_comments a s c (by_id_from (comments_in a s) c m)).in_section)
 
-  lines_same : (k : ℕ) (ss : List Identifier) → lines_from a k ss ≡ lines_from b k ss
+  lines_same : (k : ℕ) (ss : List Identifier) → comment_lines a k ss ≡ comment_lines b k ss
   lines_same k [] = refl
   lines_same k (s ∷ ss) =
       let here : flat_map (comment_line a k s) (by_id (comments_in a s)) ≡ flat_map (comment_line b k s) (by_id (comments_in b s)) =
@@ -152,7 +152,7 @@ comments_by_set a b v w same =
       same_sections = sections a b v w same;
       same_comments = listed a b v w same;
       same_spans = spans a b v w same;
-      same_margins = lines_same a b v w same 1 (shown catalogue a) ∙ ap (lines_from b 1) (visible catalogue);
+      same_margins = lines_same a b v w same 1 (shown catalogue a) ∙ ap (comment_lines b 1) (visible catalogue);
       same_remarks = remarked a b v w same;
       same_text = told_same a b v w same 1 (remarks a) ∙ ap (remarks_from b 1) (remarked a b v w same);
     }

@@ -15,7 +15,7 @@ use Rattle.origin_model.specs.order.Printed.{is_withdrawn, title_of}
 use Rattle.origin_model.proofs.SharedLemmas.{has-append, hidden-has, Lawful-append, part_at_end, Within-part}
 use Rattle.catalogue_notes.specs.Arranged.{position, winner}
 use Rattle.catalogue_notes.specs.Claims.{Claim, Move, Retitle, move_in, retitle_in}
-use Rattle.catalogue_notes.specs.Laws.{HasWinner, IsWinner, Stays}
+use Rattle.catalogue_notes.specs.Laws.{HasWinner, IsWinner, ClaimStays}
 use Rattle.catalogue_notes.specs.Lift.{is_section, is_valid_title, moves, retitles}
 use Rattle.catalogue_notes.proofs.ArrangedLemmas.{one_move, position_by}
 use Rattle.catalogue_notes.proofs.ClaimLemmas.{one_claim}
@@ -31,11 +31,11 @@ use Rattle.note_laws.proofs.OperationLemmas.{stands_in_part}
 module _ {V : Type 0} (part whole : List Op) (s : Identifier) (old new : List (Claim V)) (within : IsPartOf part whole) (kept : (c : Claim V) → Contains old c → Contains new c)
     (one : (c d : Claim V) → Contains new c → Contains new d → c.id ≡ d.id → c ≡ d) (a : HasWinner part s old) (b : HasWinner whole s new) where
   -- one that stays in the whole stays in the part
-  stays_too : (c : Claim V) → Stays whole s c → Stays part s c
+  stays_too : (c : Claim V) → ClaimStays whole s c → ClaimStays part s c
   stays_too c k = record { section = k.section; not_withdrawn = stands_in_part part whole c.id within k.not_withdrawn }
 
   -- two winners that both know are one
-  both_win : (c d : Claim V) → IsWinner part s old c → IsWinner whole s new d → Stays whole s c → Contains old d → c ≡ d
+  both_win : (c d : Claim V) → IsWinner part s old c → IsWinner whole s new d → ClaimStays whole s c → Contains old d → c ≡ d
   both_win c d i j k m =
       let above : d.stamp ≤ c.stamp = i.stamp d m (stays_too d j.stays) in
       let below : c.stamp ≤ d.stamp = j.stamp c (kept c i.member) k in

@@ -9,15 +9,15 @@ use Rattle.origin_model.specs.operations.Verdict.{Lawful}
 use Rattle.origin_model.specs.order.Laws.{IsIn, IsPartOf, SameOps}
 use Rattle.origin_model.specs.order.Printed.{is_hidden, is_withdrawn}
 use Rattle.margin_notes.specs.Comments.{Comment, by_id, comment_in, comments_in, is_in_section}
-use Rattle.margin_notes.specs.Listing.{section_of}
-use Rattle.margin_notes.specs.Margins.{margins, passage, span}
+use Rattle.margin_notes.specs.Listing.{commented_section}
+use Rattle.margin_notes.specs.Margins.{margins, passage, margin_span}
 use Rattle.passage_remarks.specs.Remarks.{remarks, remarks_text}
 
 -- the same comments, in the same sections, with the same spans; and the same is written of them
 pub record HasSameComments (a b : List Op) : Type 0 where
   pub same_sections : (s : Identifier) (c : Comment) → is_in_section a s c ≡ is_in_section b s c
   pub same_comments : (s : Identifier) → by_id (comments_in a s) ≡ by_id (comments_in b s)
-  pub same_spans : (s : Identifier) (c : Comment) → is_in_section a s c ≡ true → span a s c.first c.last ≡ span b s c.first c.last
+  pub same_spans : (s : Identifier) (c : Comment) → is_in_section a s c ≡ true → margin_span a s c.first c.last ≡ margin_span b s c.first c.last
   pub same_margins : margins a ≡ margins b
   pub same_remarks : remarks a ≡ remarks b
   pub same_text : remarks_text a ≡ remarks_text b
@@ -67,7 +67,7 @@ OneSection = (h : List Op) (s : Identifier) (c : Comment) → is_in_section h s 
 
 -- it is the one that the first anchor leads to; where that leads to none, no section has the comment
 abbrev pub SectionLookedUp : Type 0
-SectionLookedUp = (h : List Op) (s : Identifier) (c : Comment) → (section_of h c ≡ Some s) ↔ (is_in_section h s c ≡ true)
+SectionLookedUp = (h : List Op) (s : Identifier) (c : Comment) → (commented_section h c ≡ Some s) ↔ (is_in_section h s c ≡ true)
 
 -- comments with one identifier that are listed are one comment, listed in one section
 abbrev pub ListedOnce : Type 0

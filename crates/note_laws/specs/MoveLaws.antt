@@ -86,6 +86,7 @@ pub record HasOnePosition (part whole : List Op) (s : Identifier) : Type 0 where
   pub in_whole : Contains (shown catalogue whole) s
   pub same_position : position whole s ≡ position part s
 
+-- sections that no move concerns keep their order in what came later
 abbrev pub PositionsKeepOrder : Type 0
 PositionsKeepOrder = (part whole : List Op) → Lawful part → Lawful whole → IsPartOf part whole → StandInOneOrder part whole (HasOnePosition part whole)
 

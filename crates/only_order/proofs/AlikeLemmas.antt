@@ -9,11 +9,11 @@ use Rattle.origin_model.specs.order.Laws.{IsIn}
 use Rattle.origin_model.specs.edits.Passages.{Relation}
 use Rattle.origin_model.specs.order.Order.{right_at}
 use Rattle.origin_model.proofs.SharedLemmas.{further, right_at_in}
-use Rattle.only_order.specs.TextOrder.{IsLater, IsTextOrder}
+use Rattle.only_order.specs.TextOrder.{OriginIsLater, IsTextOrder}
 
 module _ (p : Place) (h : List Op) (w : Lawful h) (R S : Relation) (same : (x y : Identifier) → IsIn p h x → IsIn p h y → R x y ≡ S x y) (t : IsTextOrder p h R) where
   -- a right origin that stands later by the one stands later by the other
-  later_alike : (o q : Option Identifier) → ((x : Identifier) → o ≡ Some x → IsIn p h x) → ((x : Identifier) → q ≡ Some x → IsIn p h x) → IsLater S o q → IsLater R o q
+  later_alike : (o q : Option Identifier) → ((x : Identifier) → o ≡ Some x → IsIn p h x) → ((x : Identifier) → q ≡ Some x → IsIn p h x) → OriginIsLater S o q → OriginIsLater R o q
   later_alike o None f g k = absurd k
   later_alike None (Some b) f g k = tt
   later_alike (Some a) (Some b) f g k = same b a (g b refl) (f a refl) ∙ k

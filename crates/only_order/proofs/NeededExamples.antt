@@ -20,7 +20,7 @@ unfoldable use Rattle.origin_model.specs.order.Order.{before, chain, order}
 use Rattle.origin_model.specs.edits.Edits.{id_at}
 use Rattle.origin_model.specs.edits.Passages.{IsTie, Relation}
 use Rattle.origin_model.proofs.SharedLemmas.{order_total}
-use Rattle.only_order.specs.TextOrder.{EndsBlock, HangsOn, HasLaterRight, HeadsBlock, IsLater, IsLeft, IsRightSibling, IsStrictOrder, LeadsUp, LeansOn}
+use Rattle.only_order.specs.TextOrder.{ClosesBlock, HangsOn, HasLaterRight, HeadsBlock, OriginIsLater, IsLeft, IsRightSibling, IsStrictOrder, LeadsUp, LeansOn}
 use Rattle.fugue_ids.proofs.OrderLemmas.{id_irrefl, id_trans}
 
 -- identifiers in their order, and the other way round
@@ -105,7 +105,7 @@ module _ (h : List Op) (R : Relation) (s : IsStrictOrder p h R) where
       }
 
   -- where none has a right sibling, the second says nothing
-  apart_before : ((e : Identifier) → IsIn p h e → (q : Identifier) → IsRightSibling h q e → ⊥) → (r : Identifier) → IsIn p h r → EndsBlock p h R r
+  apart_before : ((e : Identifier) → IsIn p h e → (q : Identifier) → IsRightSibling h q e → ⊥) → (r : Identifier) → IsIn p h r → ClosesBlock p h R r
   apart_before f r m =
       let none : (e : Identifier) → LeansOn p h r e → ⊥ = λ e g. g.other (no_way (IsRightSibling h) r g.top g.put.0 (f g.top g.member) g.put.1) in
       record { last = λ e k g. absurd (none e g); no_gap = λ e z me mz g j i. absurd (none e g) }
@@ -122,7 +122,7 @@ abbrev Together : List Op → Relation → Type 0
 Together h R = (x : Identifier) → IsIn p h x → HeadsBlock p h R x
 
 abbrev BeforeRight : List Op → Relation → Type 0
-BeforeRight h R = (r : Identifier) → IsIn p h r → EndsBlock p h R r
+BeforeRight h R = (r : Identifier) → IsIn p h r → ClosesBlock p h R r
 
 abbrev ByIdentifier : List Op → Relation → Type 0
 ByIdentifier h R = (x y : Identifier) → IsTie p h x y → R x y ≡ id_lt x y
@@ -149,7 +149,7 @@ needs_together law =
     (law h falling w (falling_strict p h)
     (apart_before h falling (falling_strict p h) (λ e m q t. none_some (right_at h e) q (right e m) t.0))
     (λ x y t. absurd (t.apart (lefts_differ x y t.first t.second t.same_left)))
-    (λ x y t. absurd (subst (λ o. IsLater falling o None) (right x t.first) (subst (λ o. IsLater falling (right_at h x) o) (right y t.second) t.later)))
+    (λ x y t. absurd (subst (λ o. OriginIsLater falling o None) (right x t.first) (subst (λ o. OriginIsLater falling (right_at h x) o) (right y t.second) t.later)))
     a b (is_in h a None None refl) (is_in h b (Some a) None refl))
 
 -- b was put before a: without the second sentence it may stand behind it
@@ -158,7 +158,7 @@ unfolding before order chain verdict
 needs_before_right law =
     let h : List Op = letter b None (Some a) ∷ letter a None None ∷ begun in
     let w : Lawful h = (refl, (refl, (refl, tt))) in
-    let Later : Identifier → Identifier → Type 0 = λ x y. ((q : Identifier) → IsRightSibling h q y → ⊥) → IsLater rising (right_at h x) (right_at h y) → rising x y ≡ true in
+    let Later : Identifier → Identifier → Type 0 = λ x y. ((q : Identifier) → IsRightSibling h q y → ⊥) → OriginIsLater rising (right_at h x) (right_at h y) → rising x y ≡ true in
     let later : (x y : Identifier) → IsIn p h x → IsIn p h y → Later x y = λ x y m n.
     each_of h b a (λ x. Later x y) w refl
     (each_of h b a (Later b) w refl (λ f k. absurd (f a (refl, refl))) (λ f k. absurd k) y n)
@@ -181,7 +181,7 @@ needs_by_identifier law =
     (law h falling w (falling_strict p h)
     (apart_together h falling (falling_strict p h) (each_of h a b (λ e. left_at h e ≡ None) w refl refl refl))
     (apart_before h falling (falling_strict p h) (λ e m q t. none_some (right_at h e) q (right e m) t.0))
-    (λ x y t. absurd (subst (λ o. IsLater falling o None) (right x t.first) (subst (λ o. IsLater falling (right_at h x) o) (right y t.second) t.later)))
+    (λ x y t. absurd (subst (λ o. OriginIsLater falling o None) (right x t.first) (subst (λ o. OriginIsLater falling (right_at h x) o) (right y t.second) t.later)))
     a b (is_in h a None None refl) (is_in h b None None refl))
 
 some_same : (a b : Identifier) → Some a ≡ Some b → a ≡ b

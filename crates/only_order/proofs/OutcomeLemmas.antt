@@ -15,7 +15,7 @@ use Rattle.origin_model.specs.edits.Passages.{Relation}
 use Rattle.origin_model.specs.order.Order.{left_at, lefts, next_left, next_right, older_of, right_at, rights}
 use Rattle.origin_model.proofs.SharedLemmas.{beside_is, chain_above, further, IsHeld, IsIn-held, IsIn-within, lefts-above, lefts-in, lefts-prefix, lefts-within, never_none, right_at_in, right_by, rights-in, rights-prefix, rights-within, same_chain, Within}
 use Rattle.only_order.proofs.HeldLemmas.{right_sibling, left_held, alone_from, rights_above, sibling_held}
-use Rattle.only_order.specs.TextOrder.{IsLater}
+use Rattle.only_order.specs.TextOrder.{OriginIsLater}
 use Rattle.only_order.specs.Chains.{IsOrderByChains}
 use Rattle.only_order.proofs.PartedLemmas.{Related, longer, parted, passes_on, related, same, shorter}
 use Rattle.only_order.proofs.RelationLemmas.{by_lefts, by_rights, carried, on_left, second}
@@ -54,8 +54,8 @@ module _ (p : Place) (h : List Op) (w : Lawful h) where
       above_once next_right h (right_sibling h c) (right_sibling h d) (λ y. sibling_held h w c y (IsIn-held p h c m)) (λ y. sibling_held h w d y (IsIn-held p h d n)) (above c m q ∙ sym (above d n r))
 
   -- the right origin that stands later, by the right origins
-  later_by : (R : Relation) (c d : Identifier) (o q : Option Identifier) → right_at h c ≡ o → right_at h d ≡ q → IsLater R o q → IsLater R (right_at h c) (right_at h d)
-  later_by R c d o q e f k = subst (λ z. IsLater R z (right_at h d)) (sym e) (subst (λ z. IsLater R o z) (sym f) k)
+  later_by : (R : Relation) (c d : Identifier) (o q : Option Identifier) → right_at h c ≡ o → right_at h d ≡ q → OriginIsLater R o q → OriginIsLater R (right_at h c) (right_at h d)
+  later_by R c d o q e f k = subst (λ z. OriginIsLater R z (right_at h d)) (sym e) (subst (λ z. OriginIsLater R o z) (sym f) k)
 
   -- for an older part of the history
   module _ (g : List Op) (v : Lawful g) (f : Within g h) where
@@ -94,10 +94,10 @@ module _ (p : Place) (h : List Op) (w : Lawful h) where
 
       module _ (nc : right_sibling h c ≡ None) (nd : right_sibling h d ≡ None) where
         -- the one whose right origin stands later goes first
-        first_later : (R : Relation) → IsOrderByChains p h R → IsLater R (right_at h c) (right_at h d) → R c d ≡ true
+        first_later : (R : Relation) → IsOrderByChains p h R → OriginIsLater R (right_at h c) (right_at h d) → R c d ≡ true
         first_later R t k = t.later_right_first c d (record { first = whole c mc; second = whole d md; same_left = left; alone_x = alone_from h w c (held c mc) nc; alone_y = alone_from h w d (held d md) nd; later = k })
 
-        second_later : (R : Relation) → IsOrderByChains p h R → IsLater R (right_at h d) (right_at h c) → R d c ≡ true
+        second_later : (R : Relation) → IsOrderByChains p h R → OriginIsLater R (right_at h d) (right_at h c) → R d c ≡ true
         second_later R t k = t.later_right_first d c (record { first = whole d md; second = whole c mc; same_left = sym left; alone_x = alone_from h w d (held d md) nd; alone_y = alone_from h w c (held c mc) nc; later = k })
 
         -- so the right origins decide

@@ -15,7 +15,7 @@ unfoldable use Rattle.origin_model.specs.order.Order.{before}
 unfoldable use Rattle.origin_model.specs.order.Printed.{manuscript}
 use Rattle.origin_model.proofs.SharedLemmas.{IsIn-held, Ordered-agree, Within, Within-append, before_at, before_at-older, chain_above, chain_before-fork, common, fork-by, lefts-above, member_lt, order_total, origin_before, right_at_held, same_ordered}
 use Rattle.origin_model.proofs.edits.PassageLemmas.{before_right, by_identifier, together}
-use Rattle.only_order.specs.TextOrder.{HasLaterRight, IsLater, IsText, OneOrder, OnlyList, OnlyOrder, stands_earlier}
+use Rattle.only_order.specs.TextOrder.{HasLaterRight, OriginIsLater, IsText, OneOrder, OnlyList, OnlyOrder, stands_earlier}
 use Rattle.fugue_ids.proofs.ListLemmas.{all_from_contains}
 use Rattle.only_order.specs.Chains.{IsOrderByChains}
 use Rattle.only_order.proofs.OriginLemmas.{by_chains}
@@ -32,7 +32,7 @@ before-is p h x y = refl
 
 module _ (p : Place) (h : List Op) (w : Lawful h) where
   -- no right origin stands later than itself
-  not_later : (x y : Identifier) → (o q : Option Identifier) → right_at h x ≡ o → right_at h y ≡ q → IsLater (before p h) o q → x ≢ y
+  not_later : (x y : Identifier) → (o q : Option Identifier) → right_at h x ≡ o → right_at h y ≡ q → OriginIsLater (before p h) o q → x ≢ y
   not_later x y None None e f k i = k
   not_later x y (Some a) None e f k i = k
   not_later x y None (Some b) e f k i = absurd (let d : None ≡ Some b = sym e ∙ ap (right_at h) i ∙ f in cc d)
@@ -42,7 +42,7 @@ module _ (p : Place) (h : List Op) (w : Lawful h) where
       true≢false (sym k ∙ ap (before p h b) c ∙ (order_total p h w).irreflexive b)
 
   -- the right origin that stands later does so in the older order
-  later_older : (x y : Identifier) (o q : Option Identifier) → right_at h x ≡ o → right_at h y ≡ q → IsLater (before p h) o q → origin_before (before_at p (older_of h)) q o ≡ true
+  later_older : (x y : Identifier) (o q : Option Identifier) → right_at h x ≡ o → right_at h y ≡ q → OriginIsLater (before p h) o q → origin_before (before_at p (older_of h)) q o ≡ true
   later_older x y o None e f k = absurd k
   later_older x y None (Some b) e f k = refl
   later_older x y (Some a) (Some b) e f k =

@@ -51,15 +51,15 @@ pub record HeadsBlock (p : Place) (h : List Op) (R : Relation) (x : Identifier) 
   pub no_gap : (z e : Identifier) → IsIn p h z → IsIn p h e → HangsOn h x e → R x z ≡ true → R z e ≡ true → HangsOn h x z
 
 -- all that leans on r stands without a gap directly before r
-pub record EndsBlock (p : Place) (h : List Op) (R : Relation) (r : Identifier) : Type 0 where
+pub record ClosesBlock (p : Place) (h : List Op) (R : Relation) (r : Identifier) : Type 0 where
   pub last : (e : Identifier) → IsIn p h e → LeansOn p h r e → R e r ≡ true
   pub no_gap : (e z : Identifier) → IsIn p h e → IsIn p h z → LeansOn p h r e → R e z ≡ true → R z r ≡ true → LeansOn p h r z
 
 -- the first origin stands later than the second: the end stands behind all elements
-abbrev pub IsLater : Relation → Option Identifier → Option Identifier → Type 0
-IsLater R None (Some b) = Unit {0}
-IsLater R (Some a) (Some b) = R b a ≡ true
-IsLater R o None = ⊥
+abbrev pub OriginIsLater : Relation → Option Identifier → Option Identifier → Type 0
+OriginIsLater R None (Some b) = Unit {0}
+OriginIsLater R (Some a) (Some b) = R b a ≡ true
+OriginIsLater R o None = ⊥
 
 -- x and y have one left origin and no right sibling, and the right origin of x stands later
 pub record HasLaterRight (p : Place) (h : List Op) (R : Relation) (x y : Identifier) : Type 0 where
@@ -68,13 +68,13 @@ pub record HasLaterRight (p : Place) (h : List Op) (R : Relation) (x y : Identif
   pub same_left : left_at h x ≡ left_at h y
   pub alone_x : (q : Identifier) → IsRightSibling h q x → ⊥
   pub alone_y : (q : Identifier) → IsRightSibling h q y → ⊥
-  pub later : IsLater R (right_at h x) (right_at h y)
+  pub later : OriginIsLater R (right_at h x) (right_at h y)
 
 -- the relation is a strict total order of the elements of p, and meets the four sentences
 pub record IsTextOrder (p : Place) (h : List Op) (R : Relation) : Type 0 where
   pub strict : IsStrictOrder p h R
   pub together : (x : Identifier) → IsIn p h x → HeadsBlock p h R x
-  pub before_right : (r : Identifier) → IsIn p h r → EndsBlock p h R r
+  pub before_right : (r : Identifier) → IsIn p h r → ClosesBlock p h R r
   pub by_identifier : (x y : Identifier) → IsTie p h x y → R x y ≡ id_lt x y
   pub later_right_first : (x y : Identifier) → HasLaterRight p h R x y → R x y ≡ true
 

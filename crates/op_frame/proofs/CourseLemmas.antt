@@ -10,19 +10,19 @@ use Rattle.fugue_ids.specs.declared.op.Op.{Op}
 use Rattle.outer_ports.specs.Sources.{SourceView}
 use Rattle.origin_model.specs.declared.grammar.Grammar.{Grammar}
 use Rattle.origin_model.specs.frames.Frames.{End, Whole as EndsWhole, CutShort as EndsCutShort, BadFrame as EndsInBadFrame, Framed, IsFrame, Reads}
-use Rattle.origin_model.specs.taking.Taking.{Held, HasPlace, TooMany as AnswersTooMany, answer, held_from, tally_from, no_counts}
+use Rattle.origin_model.specs.taking.Taking.{Held, MeetsNoLimit, TooMany as AnswersTooMany, answer, held_from, tally_from, no_counts}
 use Rattle.origin_model.specs.declared.taking.Tally.{Tally}
 use Rattle.origin_model.proofs.SharedLemmas.{Refused, held-append, no_place_left, places-append, places-none, same_refused, taken_or_refused}
 use Rattle.op_frame.specs.declared.fault.FrameFault.{FrameFault}
 use Rattle.op_frame.specs.declared.fault.FrameFault.TheVariants as frame_fault
 use Rattle.op_frame.specs.Readers.{FrameReading, to_give, Follows, Gave, Nexts}
-use Rattle.op_frame.specs.Courses.{IntakeCourse, Whole, CutShort, BadFrame, TooLong, TooMany, MeetsTooMany, Ends, Comes}
+use Rattle.op_frame.specs.Courses.{IntakeOutcome, Whole, CutShort, BadFrame, TooLong, TooMany, MeetsTooMany, Ends, Comes}
 use Rattle.op_frame.proofs.ReadingLemmas.{bytes_of, ops_of, reads_once, reads_some, starts_first, starts_more}
 use Rattle.op_frame.proofs.StreamLemmas.{follows, gave_more}
 use Rattle.op_frame.proofs.ToldLemmas.{shows, take_past}
 
 -- the course of a stream whose bytes up to the limit end so, by whether it is longer
-abbrev course_by : {limit n : ℕ} → End → (n ≤ limit) ⊎ (limit < n) → IntakeCourse
+abbrev course_by : {limit n : ℕ} → End → (n ≤ limit) ⊎ (limit < n) → IntakeOutcome
 course_by (EndsInBadFrame k) long = BadFrame k
 course_by EndsWhole (inl short) = Whole
 course_by (EndsCutShort k) (inl short) = CutShort k
@@ -70,7 +70,7 @@ module _ (g : Grammar) (hold most : ℕ) where
 
   -- the operations of frames all find their place, or a frame brings the first that finds none
   met_or_not : (start : Held) (found : List Framed) (rest : List ℕ) → All (IsFrame g) found
-      → HasPlace hold most start (ops_of found) ⊎ ((ops : List Op) × HasPlace hold most start ops × MeetsTooMany g hold most start (bytes_of found ++ rest) ops)
+      → MeetsNoLimit hold most start (ops_of found) ⊎ ((ops : List Op) × MeetsNoLimit hold most start ops × MeetsTooMany g hold most start (bytes_of found ++ rest) ops)
   met_or_not start [] rest are = inl (places-none hold most start)
   met_or_not start (f ∷ found) rest are = elim (taken_or_refused hold most start f.ops) [
     | inr r ↦ inr (
@@ -94,16 +94,16 @@ module _ (g : Grammar) (hold most : ℕ) (start : Held) (limit : ℕ) (bytes : L
   fits_or_not n = elim (cases_order n limit) [ inl same ↦ inl (omega (arith, same)) | inr (inl less) ↦ inl (omega (arith, less)) | inr (inr more) ↦ inr more ]
 
   -- a stream comes to some end
-  pub comes_some : (ops : List Op) × (course : IntakeCourse) × Comes g hold most start limit bytes ops course
+  pub comes_some : (ops : List Op) × (course : IntakeOutcome) × Comes g hold most start limit bytes ops course
   comes_some =
       let r = reads_some g (take limit bytes) in
       elim (met_or_not g hold most start r.2.found r.2.rest r.2.are_frames) [
-        | inl places ↦ by_end r.1 (subst (HasPlace hold most start) (sym r.2.ops_are) places) r.2 (fits_or_not (length bytes))
+        | inl places ↦ by_end r.1 (subst (MeetsNoLimit hold most start) (sym r.2.ops_are) places) r.2 (fits_or_not (length bytes))
         | inr m ↦ (m.0, TooMany, record { has_place = m.1; ends = subst (λ (b : List ℕ). MeetsTooMany g hold most start b m.0) (sym r.2.split) m.2 })
       ]
     where
-      by_end : {ops : List Op} (end : End) → HasPlace hold most start ops → Reads g (take limit bytes) ops end → (length bytes ≤ limit) ⊎ (limit < length bytes)
-          → (ops : List Op) × (course : IntakeCourse) × Comes g hold most start limit bytes ops course
+      by_end : {ops : List Op} (end : End) → MeetsNoLimit hold most start ops → Reads g (take limit bytes) ops end → (length bytes ≤ limit) ⊎ (limit < length bytes)
+          → (ops : List Op) × (course : IntakeOutcome) × Comes g hold most start limit bytes ops course
       by_end {ops} EndsWhole places reads (inl fits) =
           (ops, Whole, record { has_place = places; ends = (fits, subst (λ (b : List ℕ). Reads g b ops EndsWhole) (take_all limit bytes fits) reads) })
       by_end {ops} EndsWhole places reads (inr longer) = (ops, TooLong, record { has_place = places; ends = (longer, (EndsWhole, reads, inl refl)) })
@@ -113,13 +113,13 @@ module _ (g : Grammar) (hold most : ℕ) (start : Held) (limit : ℕ) (bytes : L
       by_end {ops} (EndsInBadFrame k) places reads fits = (ops, BadFrame k, record { has_place = places; ends = reads })
 
   -- what an end says of the reading of the bytes up to the limit
-  abbrev IsPlain : (all : List Op) (end : End) → List Op → IntakeCourse → Type 0
-  IsPlain all end ops course = HasPlace hold most start all × (ops ≡ all) × (course ≡ course_by end (fits_or_not (length bytes)))
+  abbrev IsPlain : (all : List Op) (end : End) → List Op → IntakeOutcome → Type 0
+  IsPlain all end ops course = MeetsNoLimit hold most start all × (ops ≡ all) × (course ≡ course_by end (fits_or_not (length bytes)))
 
-  abbrev IsRefused : (all : List Op) → List Op → IntakeCourse → Type 0
+  abbrev IsRefused : (all : List Op) → List Op → IntakeOutcome → Type 0
   IsRefused all ops course = (r : Refused hold most start all) × (r.front ≡ ops) × (course ≡ TooMany)
 
-  refused_of : (all : List Op) (end : End) (ops : List Op) → HasPlace hold most start ops → Reads g (take limit bytes) all end → MeetsTooMany g hold most start (take limit bytes) ops
+  refused_of : (all : List Op) (end : End) (ops : List Op) → MeetsNoLimit hold most start ops → Reads g (take limit bytes) all end → MeetsTooMany g hold most start (take limit bytes) ops
       → IsRefused all ops TooMany
   refused_of all end ops places reads m =
       let first = starts_first g (take limit bytes) (m.earlier ++ m.framed.ops) m.behind all end (starts_more g (take limit bytes) m.earlier m.rest m.framed m.behind m.starts m.begins) reads in (
@@ -139,7 +139,7 @@ module _ (g : Grammar) (hold most : ℕ) (start : Held) (limit : ℕ) (bytes : L
       regroup : (a b : List Op) (x : Op) (c d : List Op) → (a ++ (b ++ x ∷ c)) ++ d ≡ (a ++ b) ++ x ∷ (c ++ d)
       regroup a b x c d = simp append_assoc
 
-  short_course : (end : End) (course : IntakeCourse) (d : (length bytes ≤ limit) ⊎ (limit < length bytes)) → ((fits : length bytes ≤ limit) → course ≡ course_by end (inl fits)) → length bytes ≤ limit
+  short_course : (end : End) (course : IntakeOutcome) (d : (length bytes ≤ limit) ⊎ (limit < length bytes)) → ((fits : length bytes ≤ limit) → course ≡ course_by end (inl fits)) → length bytes ≤ limit
       → course ≡ course_by end d
   short_course end course (inl fits) is short = is fits
   short_course end course (inr longer) is short = absurd (omega (arith, longer, short))
@@ -150,13 +150,13 @@ module _ (g : Grammar) (hold most : ℕ) (start : Held) (limit : ℕ) (bytes : L
   long_course end (inr longer) (inl whole) long = ap (λ (e : End). course_by e (inr longer)) (sym whole)
   long_course end (inr longer) (inr cut) long = ap (λ (e : End). course_by e (inr longer)) (sym cut.1)
 
-  plain : (all : List Op) (end : End) (ops : List Op) (course : IntakeCourse) (own : End) → HasPlace hold most start ops → Reads g (take limit bytes) all end
+  plain : (all : List Op) (end : End) (ops : List Op) (course : IntakeOutcome) (own : End) → MeetsNoLimit hold most start ops → Reads g (take limit bytes) all end
       → Reads g (take limit bytes) ops own → course ≡ course_by own (fits_or_not (length bytes)) → IsPlain all end ops course ⊎ IsRefused all ops course
   plain all end ops course own places reads came is =
       let same = reads_once g (take limit bytes) ops all own end came reads in
-      inl (subst (HasPlace hold most start) same.0 places, same.0, subst (λ (e : End). course ≡ course_by e (fits_or_not (length bytes))) same.1 is)
+      inl (subst (MeetsNoLimit hold most start) same.0 places, same.0, subst (λ (e : End). course ≡ course_by e (fits_or_not (length bytes))) same.1 is)
 
-  plain_or_refused : (all : List Op) (end : End) (ops : List Op) (course : IntakeCourse) → Reads g (take limit bytes) all end → Comes g hold most start limit bytes ops course
+  plain_or_refused : (all : List Op) (end : End) (ops : List Op) (course : IntakeOutcome) → Reads g (take limit bytes) all end → Comes g hold most start limit bytes ops course
       → IsPlain all end ops course ⊎ IsRefused all ops course
   plain_or_refused all end ops Whole reads c =
       plain all end ops Whole EndsWhole c.has_place reads (subst (λ (b : List ℕ). Reads g b ops EndsWhole) (sym (take_all limit bytes c.ends.0)) c.ends.1) (short_course EndsWhole Whole (fits_or_not (length bytes)) (λ d. refl) c.ends.0)
@@ -167,14 +167,14 @@ module _ (g : Grammar) (hold most : ℕ) (start : Held) (limit : ℕ) (bytes : L
   plain_or_refused all end ops TooMany reads c = inr (refused_of all end ops c.has_place reads c.ends)
 
   -- a stream comes to one end
-  pub comes_once : (ops others : List Op) (course other : IntakeCourse) → Comes g hold most start limit bytes ops course → Comes g hold most start limit bytes others other
+  pub comes_once : (ops others : List Op) (course other : IntakeOutcome) → Comes g hold most start limit bytes ops course → Comes g hold most start limit bytes others other
       → (ops ≡ others) × (course ≡ other)
   comes_once ops others course other p q =
       let r = reads_some g (take limit bytes) in
       both r.0 r.1 (plain_or_refused r.0 r.1 ops course r.2 p) (plain_or_refused r.0 r.1 others other r.2 q)
     where
-      not_both : (all : List Op) → HasPlace hold most start all → Refused hold most start all → ⊥
-      not_both all places r = no_place_left hold most start r.front r.more r.op (subst (HasPlace hold most start) r.is places) r.refused
+      not_both : (all : List Op) → MeetsNoLimit hold most start all → Refused hold most start all → ⊥
+      not_both all places r = no_place_left hold most start r.front r.more r.op (subst (MeetsNoLimit hold most start) r.is places) r.refused
 
       both : (all : List Op) (end : End) → IsPlain all end ops course ⊎ IsRefused all ops course → IsPlain all end others other ⊎ IsRefused all others other
           → (ops ≡ others) × (course ≡ other)
@@ -273,7 +273,7 @@ meets_within g hold most start found xs op w bytes left is many = record {
 pub record Fed (hold most : ℕ) (start : Held) (told : Option (List ℕ)) (reader : FrameReading) (left : Option (List ℕ)) (state : Held) (counts : Tally) : Type 0 where
   pub ops : List Op
   pub gave : Gave told ops reader left
-  pub has_place : HasPlace hold most start ops
+  pub has_place : MeetsNoLimit hold most start ops
   pub state_is : state ≡ held_from hold most start ops
   pub counts_are : counts ≡ tally_from hold most start ops no_counts
 
@@ -282,7 +282,7 @@ module _ (hold most : ℕ) (start : Held) where
     after_it : (result : Result (Option Op) FrameFault) → Nexts old new before after result → Follows told fed.ops old new after result
     after_it result nexts = follows told fed.ops old new before after fed.gave result nexts
 
-    came : (course : IntakeCourse) (P : List ℕ → Type 0) → ((bytes : List ℕ) → P bytes → Ends old.grammar hold most start old.limit bytes fed.ops course) → IfSome told P
+    came : (course : IntakeOutcome) (P : List ℕ → Type 0) → ((bytes : List ℕ) → P bytes → Ends old.grammar hold most start old.limit bytes fed.ops course) → IfSome told P
         → IfSome told (λ bytes. Comes old.grammar hold most start old.limit bytes fed.ops course)
     came course P ends is = IfSome_then told is (λ bytes p. record { has_place = fed.has_place; ends = ends bytes p })
 

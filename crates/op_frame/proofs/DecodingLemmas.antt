@@ -11,7 +11,7 @@ use Rattle.fugue_ids.specs.declared.op.Op.{Op}
 use Rattle.fugue_ids.specs.declared.op.Op.TheVariants.{Delete, Note, Section, Text as TextOp}
 use Rattle.origin_model.specs.declared.grammar.Grammar.{Grammar}
 use Rattle.origin_model.specs.declared.grammar.Grammar.TheVariants.{Version2}
-use Rattle.origin_model.specs.frames.Frames.{AreNames, IsByte, IsFrame, IsIdentifier, IsItem, IsOrigin, IsTitle, Item, Single, Typed, frame, id_bytes, item_bytes, item_ops, names_bytes, origin_bytes, title_bytes}
+use Rattle.origin_model.specs.frames.Frames.{AreNames, IsByte, IsFrame, IsIdentifier, IsItem, IsFrameOrigin, IsTitle, Item, Single, Typed, frame, id_bytes, item_bytes, item_ops, names_bytes, origin_bytes, title_bytes}
 use Rattle.op_frame.specs.Firsts.{StartsWith}
 use Rattle.op_frame.specs.FrameFronts.{AreNamesBytes, Completes, IsBodyBytes, IsCodeBytes, IsFrameOf, IsIdentifierBytes, IsLast, IsOriginBytes, IsOwnFrame, LeavesDue, Several, Then, scalar_of_bytes}
 use Rattle.op_frame.specs.declared.due.Due.{Due}
@@ -79,7 +79,7 @@ pub record OriginThere (bytes : List ℕ) : Type 0 where
 pub origin_there : (bytes : List ℕ) → StartsWith IsOriginBytes bytes → OriginThere bytes
 origin_there bytes t = by_origin t.2.0 t.2.1 (t.4 ∙ ap (λ (f : List ℕ). f ++ t.1) t.2.2)
   where
-    by_origin : (origin : Option Identifier) → IsOrigin origin → bytes ≡ origin_bytes origin ++ t.1 → OriginThere bytes
+    by_origin : (origin : Option Identifier) → IsFrameOrigin origin → bytes ≡ origin_bytes origin ++ t.1 → OriginThere bytes
     by_origin None valid is = record { some = omega (arith, ap length is); tag = inl (ap (λ (x : List ℕ). get_or x 0 0) is) }
     by_origin (Some id) valid is =
         record { some = omega (arith, ap length is); tag = inr (ap (λ (x : List ℕ). get_or x 0 0) is, (id_bytes id, t.1, (id, valid, refl), tt, ap (drop 1) is)) }

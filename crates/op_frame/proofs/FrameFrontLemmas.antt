@@ -11,7 +11,7 @@ use Rattle.fugue_ids.specs.declared.op.Op.TheVariants.{Delete, Note, Section, Te
 use Rattle.origin_model.specs.declared.grammar.Grammar.{Grammar}
 use Rattle.origin_model.specs.frames.Frames.{Begins, Framed, HasFrame, IsBad, IsFrame, IsItem, IsPartial, Item, Single, Typed, body_bytes, frame, id_bytes, item_bytes, item_ops, names_bytes, origin_bytes, scalar_bytes, text_bytes, title_bytes}
 use Rattle.origin_model.proofs.SharedLemmas.{length-scalars, origin_short}
-use Rattle.op_frame.specs.FrameFronts.{Awaits, Completes, IsDueFront, IsFrameOf, IsGrown, IsSoundDue, LeavesDue, NeverCompletes, field_size, grown_by}
+use Rattle.op_frame.specs.FrameFronts.{Awaits, Completes, IsDueFront, IsFrameOf, IsFrameFront, IsSoundDue, LeavesDue, NeverCompletes, field_size, grown_by}
 use Rattle.op_frame.specs.declared.due.Due.{Due}
 use Rattle.op_frame.specs.declared.due.Due.TheVariants.{Fields, Kind, Run}
 use Rattle.op_frame.specs.declared.due.Last.TheVariants.{Body, Code, Count, Length, Names, Nothing, Scalars, Text, Title}
@@ -32,18 +32,18 @@ module _ (g : Grammar) (due : Due) (before : List ℕ) (rest : (more : List ℕ)
       let f = (rest (bytes ++ p.more)).1 p.completes in
       record { framed = record { bytes = before ++ (bytes ++ p.more); ops = f.0 }; is_frame = f.1; more = p.more; lacks = p.lacks; front = sym (append_assoc before bytes p.more) }
 
-  pub is_neither : (bytes : List ℕ) → ((more : List ℕ) → Completes due (bytes ++ more) → ⊥) → IsGrown IsNeither g (before ++ bytes)
+  pub is_neither : (bytes : List ℕ) → ((more : List ℕ) → Completes due (bytes ++ more) → ⊥) → IsFrameFront IsNeither g (before ++ bytes)
   is_neither bytes none = (
     λ f. none [] ((rest (bytes ++ [])).0 (subst (IsFrameOf g) (sym (ap (λ b. before ++ b) (append-nil bytes))) f)),
     λ p. none p.more ((rest (bytes ++ p.more)).0 (p.framed.ops, subst (λ b. IsFrame g (record { bytes = b; ops = p.framed.ops })) (p.front ∙ append_assoc before bytes p.more) p.is_frame)),
   )
 
-  pub is_grown : (grown : Grown) → grown ≡ grown_by due → IsSoundDue due → IsGrown grown g before
+  pub is_grown : (grown : Grown) → grown ≡ grown_by due → IsSoundDue due → IsFrameFront grown g before
   is_grown grown e s =
       let p = sample due s in
       elim p.ends [
-        | inl whole ↦ subst (λ k. IsGrown k g before) (sym (e ∙ whole.0)) (subst (IsFrameOf g) (append-nil before) ((rest []).1 (subst (Completes due) whole.1 p.completes)))
-        | inr more ↦ subst (λ k. IsGrown k g before) (sym (e ∙ more.0)) (subst (IsPartial g) (append-nil before) (is_front [] (record { more = p.bytes; lacks = more.1; completes = p.completes })))
+        | inl whole ↦ subst (λ k. IsFrameFront k g before) (sym (e ∙ whole.0)) (subst (IsFrameOf g) (append-nil before) ((rest []).1 (subst (Completes due) whole.1 p.completes)))
+        | inr more ↦ subst (λ k. IsFrameFront k g before) (sym (e ∙ more.0)) (subst (IsPartial g) (append-nil before) (is_front [] (record { more = p.bytes; lacks = more.1; completes = p.completes })))
       ]
 
 -- a field that was looked at is not shorter than what is due
@@ -136,7 +136,7 @@ item_short g (Typed run) is =
 pub frame_short : (g : Grammar) (framed : Framed) → IsFrame g framed → length framed.bytes ≤ LONGEST_FRAME
 frame_short g framed is = omega (arith, item_short g is.item is.is_item, ap length is.bytes_are)
 
-pub too_long : (g : Grammar) (bytes : List ℕ) → LONGEST_FRAME < length bytes → IsGrown IsNeither g bytes
+pub too_long : (g : Grammar) (bytes : List ℕ) → LONGEST_FRAME < length bytes → IsFrameFront IsNeither g bytes
 too_long g bytes long = (
   λ f. omega (arith, long, frame_short g _ f.1),
   λ p. omega (arith, long, frame_short g p.framed p.is_frame, ap length p.front, length-append bytes p.more),

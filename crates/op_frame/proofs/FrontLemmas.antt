@@ -6,17 +6,17 @@ use Rattle.std.specs.Str.{encode_utf8_all}
 use Rattle.std.proofs.lemmas.List.Elements.{All-from_recursion, recursion_from_All}
 use Rattle.std.proofs.lemmas.Str.{length-le-encodes}
 use Rattle.fugue_ids.specs.Identifiers.{Identifier}
-use Rattle.fugue_ids.specs.Titles.{IsTitleText, has_line_end}
+use Rattle.fugue_ids.specs.Titles.{IsTitleText}
 use Rattle.fugue_ids.specs.declared.op.Op.{Op}
 use Rattle.fugue_ids.specs.declared.op.Op.TheVariants.{Section, Text, Delete, Note}
 use Rattle.origin_model.specs.declared.grammar.Grammar.{Grammar}
 use Rattle.origin_model.specs.declared.grammar.Grammar.TheVariants.{Version1, Version2}
-use Rattle.origin_model.specs.frames.Frames.{AreNames, Begins, Framed, HasFrame, HasRunFrame, IsBad, IsBody, IsByte, IsIdentifier, IsItem, IsOfVersion1, IsOrigin, IsPartial, IsRunText, IsTitle, Item, Single, Typed, item_bytes}
+use Rattle.origin_model.specs.frames.Frames.{AreNames, Begins, Framed, HasFrame, HasRunFrame, IsBad, IsBody, IsByte, IsIdentifier, IsItem, IsOfVersion1, IsFrameOrigin, IsPartial, IsRunText, IsTitle, Item, Single, Typed, item_bytes}
 use Rattle.op_frame.proofs.CodeLemmas.{scalar_below}
 use Rattle.op_frame.proofs.OperationLemmas.{section_fields, text_fields, note_fields, section_of, text_of, note_of}
 use Rattle.op_frame.proofs.ItemLemmas.{fields_of, fields_valid, item_framed, item_is_framed, run_fields, run_of}
 use Rattle.op_frame.proofs.SearchLemmas.{Found, IsSearched, below, narrowed, mapped, paired, listed}
-use Rattle.fugue_ids.proofs.DecideLemmas.{both_decided, Decided, decided_by, equal_decided, is_false_decided, is_true_decided, less_decided, title_decided}
+use Rattle.fugue_ids.proofs.DecideLemmas.{both_decided, Decided, decided_by, equal_decided, is_true_decided, less_decided, title_decided}
 
 identifiers : IsSearched IsIdentifier
 identifiers =
@@ -24,14 +24,14 @@ identifiers =
     (λ pair. record { replica = pair.0; counter = pair.1 }) (λ i. (i.replica, i.counter)) IsIdentifier
     (λ pair is. record { some_replica = is.0.1; replica_fits = is.0.0; counter_fits = is.1 }) (λ i is. (((is.replica_fits, is.some_replica), is.counter_fits), refl))
 
-origins : IsSearched IsOrigin
+origins : IsSearched IsFrameOrigin
 origins property test = by_none (test None) (identifiers (λ i. property (Some i)) (λ i. test (Some i)))
   where
-    none_there : (property None → ⊥) → (Found IsIdentifier (λ i. property (Some i)) → ⊥) → (o : Option Identifier) → IsOrigin o → property o → ⊥
+    none_there : (property None → ⊥) → (Found IsIdentifier (λ i. property (Some i)) → ⊥) → (o : Option Identifier) → IsFrameOrigin o → property o → ⊥
     none_there none other None is p = none p
     none_there none other (Some i) is p = other (record { value = i; member = is; holds = p })
 
-    by_none : Decided (property None) → Decided (Found IsIdentifier (λ i. property (Some i))) → Decided (Found IsOrigin property)
+    by_none : Decided (property None) → Decided (Found IsIdentifier (λ i. property (Some i))) → Decided (Found IsFrameOrigin property)
     by_none (inl p) other = inl (record { value = None; member = tt; holds = p })
     by_none (inr none) (inl f) = inl (record { value = Some f.value; member = f.member; holds = f.holds })
     by_none (inr none) (inr other) = inr (λ f. none_there none other f.value f.member f.holds)

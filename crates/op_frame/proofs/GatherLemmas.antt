@@ -1,25 +1,28 @@
 -- Operations that are given at once, as calls of the reader give them.
-use Rattle.std.proofs.Common.{◌≡◌, ℕ, zero, suc, ◌+◌, ◌-◌, ◌*◌, ◌<◌, ◌≤◌, List, [], ◌∷◌, ◌++◌, length, take, drop, true, refl, ap, sym, subst, ◌∙◌, arith, append_assoc, length-append, length-drop}
+use Rattle.std.proofs.Common.{◌≡◌, ℕ, zero, suc, ◌+◌, ◌-◌, ◌*◌, ◌<◌, ◌≤◌, List, [], ◌∷◌, ◌++◌, length, take, drop, true, refl, ap, sym, subst, ◌∙◌, arith, append_assoc, false, length-append, length-drop}
 use Rattle.std.specs.Prelude.{IfSome, ◌^◌, Option, Some, None, Ok, flat_map, All}
 use Rattle.std.specs.Char.{IsScalar}
 use Rattle.std.specs.Io.KnownBytes.{prepend_known}
 use Rattle.std.proofs.lemmas.List.{append-nil, drop-drop, length-take-le, take-append-drop, take_all, take_at}
 use Rattle.std.proofs.lemmas.List.Elements.{All-head, All-tail}
+use Rattle.fugue_ids.specs.Identifiers.{Identifier}
 use Rattle.fugue_ids.specs.declared.op.Op.{Op}
 use Rattle.fugue_ids.specs.declared.op.Op.TheVariants.{Delete, Note, Section, Text}
 use Rattle.fugue_ids.specs.declared.run.RunStart.{RunStart}
 use Rattle.fugue_ids.specs.Runs.{id_behind, in_a_row, left_behind, next_id, run_from, start_behind, text_by, text_in}
 use Rattle.fugue_ids.proofs.RunLemmas.{length-typed, none_behind, typed-append}
+use Rattle.op_runs.specs.Deletions.{deletes_up}
+use Rattle.op_runs.proofs.DeletionLemmas.{deletes-append}
 use Rattle.outer_ports.specs.Sources.{SourceView}
 use Rattle.origin_model.specs.declared.grammar.Grammar.{Grammar}
 use Rattle.origin_model.specs.frames.Frames.{Framed, IsFrame, Single, Typed, frame, run_ops, scalar_bytes}
 use Rattle.origin_model.proofs.SharedLemmas.{frame_wide, length-scalars}
 use Rattle.op_frame.specs.Firsts.{StartsWith}
 use Rattle.op_frame.specs.FrameFronts.{IsScalarBytes}
-use Rattle.op_frame.specs.Heads.{IsHeld, behind_held, held_ops, run_at, scalars_in}
-use Rattle.op_frame.specs.NextRuns.{Gathers, GathersTexts, GaveMore, GivesAll, GivesMany, GivesOn, IsReached, IsRunFront, IsTextBehind, RisesBy, TakesHeld, TakesTexts, start_in}
-use Rattle.op_frame.specs.declared.next_ops.NextOps.TheVariants.{Run}
-use Rattle.op_frame.specs.Readers.{AnswersBy, FrameReading, Gave, Nexts, Rises, held as held_back, read}
+use Rattle.op_frame.specs.Heads.{IsHeld, behind_held, held_ops, run_at, text_scalars}
+use Rattle.op_frame.specs.NextRuns.{Gathers, GathersDeletes, GathersOne, GathersTexts, GaveMore, GivesAll, GivesMany, GivesOn, IsOpFront, IsReachedRun, IsRunFront, IsTextBehind, RisesBy, TakesHeld, TakesTexts, start_in}
+use Rattle.op_frame.specs.declared.next_ops.NextOps.TheVariants.{Deletes, Run}
+use Rattle.op_frame.specs.Readers.{AnswersBy, FrameReading, Gave, Nexts, RisesByThree, held as held_back, read}
 use Rattle.op_frame.specs.declared.fault.FrameFault.{FrameFault}
 use Rattle.op_frame.specs.declared.head.Head.{Head}
 use Rattle.op_frame.proofs.AnswerLemmas.{answers_by}
@@ -84,6 +87,10 @@ module _ (g : Grammar) (limit offset last len : ℕ) (window : List ℕ) (source
         gives_held_back g limit ops (drop len window) (offset + len) offset source behind,
       )
 
+  pub gives_delete : (x : Identifier) → IsFrame g (record { bytes = take len window; ops = Delete x ∷ [] })
+      → GivesOn (standing g limit [] window offset last) (standing g limit [] (drop len window) (offset + len) offset) source (Delete x ∷ [])
+  gives_delete x is = gives_frame (Delete x) [] is
+
   pub gives_texts : (start : RunStart) (text : List ℕ) → 0 < length text → IsFrame g (record { bytes = take len window; ops = run_from start text })
       → GivesOn (standing g limit [] window offset last) (standing g limit [] (drop len window) (offset + len) offset) source (run_from start text)
   gives_texts start [] some is = absurd (omega (arith, some))
@@ -140,20 +147,56 @@ pub gathers_none : (start : RunStart) (text : List ℕ) (reader : FrameReading) 
 gathers_none start text reader counters fault =
     record { more = []; text_is = sym (append-nil text); gives = λ source. refl; counters = counters; no_fault = fault; limit = refl; short = omega arith }
 
+-- Deletes were gathered, and then one more
+pub one_delete_more : (x : Identifier) (count : ℕ) (old mid new : FrameReading) → count < 1024 → GathersDeletes x count old mid → GathersOne x count mid new → GathersDeletes x (count + 1) old new
+one_delete_more x count old mid new few p q = record {
+  some = omega arith;
+  gives = λ source. subst (GivesOn old new source) (sym parts)
+      (gives_then old mid new source (deletes_up (id_behind x 1) (count - 1)) (Delete (id_behind x count) ∷ []) (p.gives source) (q.gives source));
+  counters = omega (arith, q.counters);
+  few = omega (arith, few);
+  no_fault = q.no_fault;
+  short = omega (arith, p.short, q.short);
+}
+  where
+    some : 0 < count
+    some = p.some
+
+    parts : deletes_up (id_behind x 1) (count + 1 - 1) ≡ deletes_up (id_behind x 1) (count - 1) ++ Delete (id_behind x count) ∷ []
+    parts =
+        let e : count + 1 - 1 ≡ (count - 1) + 1 = omega (arith, some) in
+        let at : x.counter + 1 + (count - 1) ≡ x.counter + count = omega (arith, some) in
+        ap (deletes_up (id_behind x 1)) e ∙ deletes-append false (id_behind x 1) (count - 1) 1
+        ∙ (λ i. deletes_up (id_behind x 1) (count - 1) ++ Delete (record { replica = x.replica; counter = at i }) ∷ [])
+
+-- none yet
+pub no_delete_more : (x : Identifier) (reader : FrameReading) → x.counter < 2 ^ 32 → reader.fault ≡ None → GathersDeletes x 1 reader reader
+no_delete_more x reader fits fault = record { some = omega arith; gives = λ source. refl; counters = omega (arith, fits); few = omega arith; no_fault = fault; short = omega arith }
+
+-- a Delete, and those that go on with it
+pub gathers_row : (x : Identifier) (count : ℕ) (text : List ℕ) (old new : FrameReading) → text ≡ [] → GathersDeletes x count old new → Gathers (Delete x) (Deletes x count) text old new
+gathers_row x count text old new empty p = record {
+  others = deletes_up (id_behind x 1) (count - 1);
+  ops_are = let e : count ≡ suc (count - 1) = omega (arith, p.some) in ap (deletes_up x) e;
+  gives = p.gives;
+  sound = (p.counters, p.few);
+  short = omega (arith, p.short, ap length empty);
+}
+
 -- how many scalars are held back
-scalars_long : (head : Head) (window : List ℕ) → IsHeld window head → length (scalars_in head.count window) ≡ head.count
-scalars_long head window h = (λ i. length (scalars_in (sym h.count i) (h.split i))) ∙ ap length (scalars_are h.text h.rest h.scalars) ∙ h.count
+scalars_long : (head : Head) (window : List ℕ) → IsHeld window head → length (text_scalars head.count window) ≡ head.count
+scalars_long head window h = (λ i. length (text_scalars (sym h.count i) (h.split i))) ∙ ap length (scalars_are h.text h.rest h.scalars) ∙ h.count
 
 -- what gathering did, with at least one Text
 abbrev pub GathersSome : RunStart → (old_text text : List ℕ) → (old new : FrameReading) → Type 0
-GathersSome start old_text text old new = GathersTexts start old_text text old new × Rises old new × (new.offset ≤ new.limit)
+GathersSome start old_text text old new = GathersTexts start old_text text old new × RisesByThree old new × (new.offset ≤ new.limit)
 
 module _ (g : Grammar) (limit offset last : ℕ) (start : RunStart) (old_text text window new : List ℕ) where
   -- the Texts that were held back
   pub gathers_held : (head : Head) → IsHeld window head → offset + length (drop (3 * head.count) window) ≤ limit → TakesHeld true start head old_text text window new
       → GathersSome start old_text text (standing g limit (held_ops (Some head) window) (drop (3 * head.count) window) offset last) (standing g limit [] new offset last)
   gathers_held head h inside (goes, text_is, rest) =
-      let scalars : List ℕ = scalars_in head.count window in
+      let scalars : List ℕ = text_scalars head.count window in
       let count : length scalars ≡ head.count = scalars_long head window h in
       let at : head.id.counter ≡ start.id.counter + length old_text = ap (λ (s : RunStart). s.id.counter) goes in
       let todo : length (held_ops (Some head) window) ≡ length scalars = length-typed head.id head.section head.left head.right scalars in (
@@ -225,9 +268,9 @@ scalar_in (c ∷ text) rest all (suc k) within =
       split = ap (λ (n : ℕ). drop n bytes) size ∙ sym (drop-drop (3 * k) 3 bytes) ∙ p.split;
     }
 
-pub scalar_at : (head : Head) (bytes : List ℕ) → IsHeld bytes head → (k : ℕ) → k < head.count → ScalarAt (scalars_in head.count bytes) bytes k
+pub scalar_at : (head : Head) (bytes : List ℕ) → IsHeld bytes head → (k : ℕ) → k < head.count → ScalarAt (text_scalars head.count bytes) bytes k
 scalar_at head bytes h k within =
-    let same : scalars_in head.count bytes ≡ h.text = (λ i. scalars_in (sym h.count i) (h.split i)) ∙ scalars_are h.text h.rest h.scalars in
+    let same : text_scalars head.count bytes ≡ h.text = (λ i. text_scalars (sym h.count i) (h.split i)) ∙ scalars_are h.text h.rest h.scalars in
     subst (λ (t : List ℕ). ScalarAt t bytes k) (sym same)
     (subst (λ (b : List ℕ). ScalarAt h.text b k) (sym h.split) (scalar_in h.text h.rest h.scalars k (omega (arith, within, h.count))))
 
@@ -251,16 +294,16 @@ module _ (head : Head) (bytes : List ℕ) (h : IsHeld bytes head) (k : ℕ) wher
       let p = scalar_at head bytes h k more in
       (scalar_bytes p.ch, p.others, (p.ch, p.is, refl), tt, all_from_place ∙ p.split)
 
-  pub put_more : k < head.count → (old text new : List ℕ) (ch : ℕ) → text ≡ old ++ take k (scalars_in head.count bytes) → new ≡ text ++ ch ∷ [] → from_place ≡ scalar_bytes ch ++ drop 3 from_place → IsScalar ch
-      → new ≡ old ++ take (k + 1) (scalars_in head.count bytes)
+  pub put_more : k < head.count → (old text new : List ℕ) (ch : ℕ) → text ≡ old ++ take k (text_scalars head.count bytes) → new ≡ text ++ ch ∷ [] → from_place ≡ scalar_bytes ch ++ drop 3 from_place → IsScalar ch
+      → new ≡ old ++ take (k + 1) (text_scalars head.count bytes)
   put_more more old text new ch before put split is =
       let p = scalar_at head bytes h k more in
       let same : p.ch ≡ ch = (scalar_code.once p.ch ch p.others (drop 3 from_place) p.is is (sym p.split ∙ sym all_from_place ∙ split)).0 in
-      put ∙ ap (λ (l : List ℕ). l ++ ch ∷ []) before ∙ append_assoc old (take k (scalars_in head.count bytes)) (ch ∷ [])
-      ∙ ap (λ (c : ℕ). old ++ (take k (scalars_in head.count bytes) ++ c ∷ [])) (sym same) ∙ ap (λ (l : List ℕ). old ++ l) (sym p.one_more)
+      put ∙ ap (λ (l : List ℕ). l ++ ch ∷ []) before ∙ append_assoc old (take k (text_scalars head.count bytes)) (ch ∷ [])
+      ∙ ap (λ (c : ℕ). old ++ (take k (text_scalars head.count bytes) ++ c ∷ [])) (sym same) ∙ ap (λ (l : List ℕ). old ++ l) (sym p.one_more)
 
-  pub put_all : head.count ≤ k → (old text : List ℕ) → text ≡ old ++ take k (scalars_in head.count bytes) → text ≡ old ++ scalars_in head.count bytes
-  put_all over old text before = before ∙ ap (λ (l : List ℕ). old ++ l) (take_all k (scalars_in head.count bytes) (omega (arith, over, scalars_long head bytes h)))
+  pub put_all : head.count ≤ k → (old text : List ℕ) → text ≡ old ++ take k (text_scalars head.count bytes) → text ≡ old ++ text_scalars head.count bytes
+  put_all over old text before = before ∙ ap (λ (l : List ℕ). old ++ l) (take_all k (text_scalars head.count bytes) (omega (arith, over, scalars_long head bytes h)))
 
 -- what stands at the front of bytes
 front_is : (f rest bytes : List ℕ) (len : ℕ) → bytes ≡ f ++ rest → len + length rest ≡ length bytes → (take len bytes ≡ f) × (len ≤ length bytes)
@@ -299,17 +342,17 @@ module _ (g : Grammar) (head : Head) (len : ℕ) (bytes : List ℕ) (f : IsRunFr
       (subst (λ (b : List ℕ). IsHeld (drop (len - 3 * head.count) b) head) (sym same) (text_there head bytes len f.within f.head_is).held)
 
   -- it goes on with the run
-  pub takes_run_texts : (start : RunStart) (s old_text text new : List ℕ) → s ≡ bytes → start_in head ≡ start_behind start (length old_text) → text ≡ old_text ++ scalars_in head.count (scalars_at s) → new ≡ drop len bytes
+  pub takes_run_texts : (start : RunStart) (s old_text text new : List ℕ) → s ≡ bytes → start_in head ≡ start_behind start (length old_text) → text ≡ old_text ++ text_scalars head.count (scalars_at s) → new ≡ drop len bytes
       → TakesTexts g start old_text text bytes new len
   takes_run_texts start s old_text text new same goes put rest =
       let t = text_there head bytes len f.within f.head_is in
-      let scalars : List ℕ = scalars_in head.count (scalars_at s) in
+      let scalars : List ℕ = text_scalars head.count (scalars_at s) in
       let long : length scalars ≡ head.count = scalars_long head (scalars_at s) (run_held s same) in
       let at : head.id.counter ≡ start.id.counter + length old_text = ap (λ (r : RunStart). r.id.counter) goes in
       let place : scalars_at s ≡ drop (len - 3 * head.count) bytes
       = take_all (length s - (len - 3 * head.count)) (drop (len - 3 * head.count) s) (omega (arith, length-drop (len - 3 * head.count) s)) ∙ ap (drop (len - 3 * head.count)) same in
       let ops : run_from (start_behind start (length old_text)) scalars ≡ run_ops (run_at head f.head_is.text)
-      = ap (λ (r : RunStart). run_from r scalars) (sym goes) ∙ ap (λ (b : List ℕ). run_from (start_in head) (scalars_in head.count b)) place ∙ t.ops in
+      = ap (λ (r : RunStart). run_from r scalars) (sym goes) ∙ ap (λ (b : List ℕ). run_from (start_in head) (text_scalars head.count b)) place ∙ t.ops in
       record {
         more = scalars;
         some = omega (arith, long, t.held.some);
@@ -337,6 +380,25 @@ module _ (g : Grammar) (limit offset last : ℕ) (start : RunStart) (old_text te
       subst (λ (f : Option FrameFault). GathersSome start old_text text (reading_at g limit held window offset last f) (reading_at g limit held new (offset + len) offset f)) (sym none)
       (subst (λ (o : Option Head). GathersSome start old_text text (reading_at g limit o window offset last None) (reading_at g limit o new (offset + len) offset None)) (sym is)
       (gathers_frame g limit offset last start old_text text window new len (subst (λ (o : Option Head). offset + length (behind_held o window) ≤ limit) is inside) took))
+
+-- the frame of a Delete, as the reader's own fields say it
+pub gathers_delete_at : (g : Grammar) (limit offset last : ℕ) (x : Identifier) (count len : ℕ) (window new : List ℕ) (held : Option Head) (fault : Option FrameFault) → fault ≡ None
+    → offset + length (behind_held held window) ≤ limit → held ≡ None → x.counter + count < 2 ^ 32 → IsOpFront (Delete (id_behind x count)) len window → new ≡ drop len window
+    → GathersOne x count (reading_at g limit held window offset last fault) (reading_at g limit held new (offset + len) offset fault)
+gathers_delete_at g limit offset last x count len window new (Some head) fault none inside is fits there rest = absurd (cc is)
+gathers_delete_at g limit offset last x count len window new None fault none inside is fits there rest =
+    let y : Identifier = id_behind x count in
+    let front = front_is (frame (Delete y)) there.rest window len there.split there.len_is in
+    let whole : IsFrame g (record { bytes = take len window; ops = Delete y ∷ [] }) =
+    record { item = Single (Delete y); is_item = of_each_version g (Delete y) there.has_frame tt; bytes_are = front.0; ops_are = refl } in
+    record {
+      gives = λ source. subst (λ (f : Option FrameFault). GivesOn (reading_at g limit None window offset last f) (reading_at g limit None new (offset + len) offset f) source (Delete y ∷ [])) (sym none)
+          (subst (λ (l : List ℕ). GivesOn (standing g limit [] window offset last) (standing g limit [] l (offset + len) offset) source (Delete y ∷ [])) (sym rest)
+          (gives_delete g limit offset last len window source inside front.1 y whole));
+      counters = fits;
+      no_fault = none;
+      short = omega (arith, ap length rest, length-drop len window);
+    }
 
 -- a Text is what it says, with its scalar
 pub text_is_by : (op : Op) (start : RunStart) (ch : ℕ) → text_in op ≡ Some (start, ch) → op ≡ text_by start ch
@@ -392,7 +454,7 @@ left_on old new source [] same = subst (λ (r : FrameReading). LeftOn old r sour
 left_on old new source (op ∷ ops) p =
     let on = left_on p.0 new source ops p.2 in
     let one = p.1.advances in
-    let up : Rises old p.0 = rises op old p.0 source.left source.left p.1.gives in
+    let up : RisesByThree old p.0 = rises op old p.0 source.left source.left p.1.gives in
     record {
       gave = more_then old p.0 new source.left source.left source.left (op ∷ []) ops (one_more old p.0 source source op p.1) on.gave;
       rises = omega (arith, up, on.rises);
@@ -408,7 +470,7 @@ gives_many old new before after [] none = absurd none
 gives_many old new before after (op ∷ ops) p =
     let on = left_on p.0 new after ops p.2 in
     let one = p.1.advances in
-    let up : Rises old p.0 = rises op old p.0 before.left after.left p.1.gives in
+    let up : RisesByThree old p.0 = rises op old p.0 before.left after.left p.1.gives in
     record {
       some = omega arith;
       gave = more_then old p.0 new before.left after.left after.left (op ∷ []) ops (one_more old p.0 before after op p.1) on.gave;
@@ -420,7 +482,7 @@ gives_many old new before after (op ∷ ops) p =
     }
 
 -- an operation that is given, behind those before it
-reached_on : (old new : FrameReading) (source : SourceView) (front : List Op) (op : Op) (more : List Op) → GivesOn old new source (front ++ op ∷ more) → IsReached old source source front op
+reached_on : (old new : FrameReading) (source : SourceView) (front : List Op) (op : Op) (more : List Op) → GivesOn old new source (front ++ op ∷ more) → IsReachedRun old source source front op
 reached_on old new source [] op more p = record { at = old; next = p.0; seen = source; gave = nothing_more old source; nexts = p.1; grammar = refl; limit = refl }
 reached_on old new source (first ∷ front) op more p =
     let on = reached_on p.0 new source front op more p.2 in
@@ -434,7 +496,7 @@ reached_on old new source (first ∷ front) op more p =
       limit = on.limit ∙ p.1.advances.limit;
     }
 
-pub reached : (old new : FrameReading) (before after : SourceView) (front : List Op) (op : Op) (more : List Op) → GivesAll old new before after (front ++ op ∷ more) → IsReached old before after front op
+pub reached : (old new : FrameReading) (before after : SourceView) (front : List Op) (op : Op) (more : List Op) → GivesAll old new before after (front ++ op ∷ more) → IsReachedRun old before after front op
 reached old new before after [] op more p = record { at = old; next = p.0; seen = before; gave = nothing_more old before; nexts = p.1; grammar = refl; limit = refl }
 reached old new before after (first ∷ front) op more p =
     let on = reached_on p.0 new after front op more p.2 in
@@ -457,5 +519,5 @@ gives_with old mid new before after op ops others is nexts on = subst (GivesAll 
 pub had_within : (held : Option Head) (window : List ℕ) → IfSome held (IsHeld window) → 3 * length (held_ops held window) + length (behind_held held window) ≤ length window
 had_within None window h = omega arith
 had_within (Some head) window h =
-    let scalars : List ℕ = scalars_in head.count window in
+    let scalars : List ℕ = text_scalars head.count window in
     omega (arith, length-typed head.id head.section head.left head.right scalars, scalars_long head window h, scalars_within head window h, length-drop (3 * head.count) window)

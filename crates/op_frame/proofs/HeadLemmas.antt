@@ -12,11 +12,11 @@ use Rattle.fugue_ids.specs.declared.op.Op.{Op}
 use Rattle.fugue_ids.specs.declared.op.Op.TheVariants.{Text as TextOp}
 use Rattle.fugue_ids.specs.Runs.{in_a_row, next_id}
 use Rattle.origin_model.specs.declared.grammar.Grammar.TheVariants.{Version2}
-use Rattle.origin_model.specs.frames.Frames.{HasRunFrame, IsFrame, IsIdentifier, IsOrigin, Run, Typed, id_bytes, origin_bytes, run_frame, run_ops, scalar_bytes, text_bytes}
+use Rattle.origin_model.specs.frames.Frames.{HasRunFrame, IsFrame, IsIdentifier, IsFrameOrigin, Run, Typed, id_bytes, origin_bytes, run_frame, run_ops, scalar_bytes, text_bytes}
 use Rattle.origin_model.proofs.SharedLemmas.{length-scalars}
 use Rattle.op_frame.specs.Firsts.{StartsWith}
 use Rattle.op_frame.specs.FrameFronts.{IsRunBehind, IsScalarBytes}
-use Rattle.op_frame.specs.Heads.{GivesHeld, HeadIs, IsHeld, IsNextHead, behind_held, held_ops, run_at, scalars_in}
+use Rattle.op_frame.specs.Heads.{GivesHeld, HeadIs, IsHeld, IsNextHead, behind_held, held_ops, run_at, text_scalars}
 use Rattle.op_frame.specs.Steps.{TakesOff}
 use Rattle.op_frame.specs.declared.head.Head.{Head}
 use Rattle.op_frame.proofs.CodeLemmas.{identifier_code, origin_code, scalar_code}
@@ -41,10 +41,10 @@ module _ (head : Head) (bytes : List ℕ) (c : ℕ) (h : IsHeld bytes head) (spl
   abbrev pub first_op : Op
   first_op = TextOp head.id head.section head.left head.right c
 
-  shown : (n : ℕ) → head.count ≡ suc n → held_ops (Some head) bytes ≡ first_op ∷ in_a_row (next_id head.id) head.section (Some head.id) head.right (scalars_in n after)
+  shown : (n : ℕ) → head.count ≡ suc n → held_ops (Some head) bytes ≡ first_op ∷ in_a_row (next_id head.id) head.section (Some head.id) head.right (text_scalars n after)
   shown n count =
-      (λ i. in_a_row head.id head.section head.left head.right (scalars_in (count i) (split i)))
-      ∙ λ i. TextOp head.id head.section head.left head.right (code_is c is i) ∷ in_a_row (next_id head.id) head.section (Some head.id) head.right (scalars_in n after)
+      (λ i. in_a_row head.id head.section head.left head.right (text_scalars (count i) (split i)))
+      ∙ λ i. TextOp head.id head.section head.left head.right (code_is c is i) ∷ in_a_row (next_id head.id) head.section (Some head.id) head.right (text_scalars n after)
 
   later : (n : ℕ) → head.count ≡ suc n → (text : List ℕ) → All IsScalar text → length text ≡ head.count → bytes ≡ flat_map scalar_bytes text ++ h.rest
       → (others : List ℕ) × All IsScalar others × (length others ≡ n) × (after ≡ flat_map scalar_bytes others ++ h.rest)
@@ -65,7 +65,7 @@ module _ (head : Head) (bytes : List ℕ) (c : ℕ) (h : IsHeld bytes head) (spl
       let size : 3 * head.count ≡ 3 + 3 * next.count = omega (arith, count) in
       let p = later next.count more h.text h.scalars h.count h.split in
       record {
-        first = shown next.count more ∙ λ i. first_op ∷ in_a_row (sym id i) (sym section i) (sym left i) (sym right i) (scalars_in next.count after);
+        first = shown next.count more ∙ λ i. first_op ∷ in_a_row (sym id i) (sym section i) (sym left i) (sym right i) (text_scalars next.count after);
         behind = ap (λ (n : ℕ). drop n bytes) size ∙ sym (drop-drop (3 * next.count) 3 bytes);
         others = record {
           text = p.0;
@@ -79,7 +79,7 @@ module _ (head : Head) (bytes : List ℕ) (c : ℕ) (h : IsHeld bytes head) (spl
       }
 
 -- the scalars at the front of bytes
-pub scalars_are : (text rest : List ℕ) → All IsScalar text → scalars_in (length text) (flat_map scalar_bytes text ++ rest) ≡ text
+pub scalars_are : (text rest : List ℕ) → All IsScalar text → text_scalars (length text) (flat_map scalar_bytes text ++ rest) ≡ text
 scalars_are [] rest all = refl
 scalars_are (c ∷ text) rest all = λ i. code_is c (All-head IsScalar c text all) i ∷ scalars_are text rest (All-tail IsScalar c text all) i
 
@@ -106,7 +106,7 @@ text_there head bytes n within is = record {
     split = there;
   };
   ops = ap (in_a_row head.id head.section head.left head.right)
-      ((λ i. scalars_in (sym is.count i) (there i)) ∙ scalars_are text (drop n bytes) is.has_frame.text.scalars);
+      ((λ i. text_scalars (sym is.count i) (there i)) ∙ scalars_are text (drop n bytes) is.has_frame.text.scalars);
   behind = (λ i. drop (3 * sym is.count i) (there i)) ∙ ap (λ (k : ℕ). drop k (flat_map scalar_bytes text ++ drop n bytes)) (sym (length-scalars text))
       ∙ drop-append_seam (flat_map scalar_bytes text) (drop n bytes);
   within = omega (arith, sizes);
@@ -133,7 +133,7 @@ text_there head bytes n within is = record {
         ∙ drop-append_seam (before_text run) (flat_map scalar_bytes text ++ drop n bytes)
 
 -- the fields before the scalars, one after the other
-pub head_read : (rest r1 r2 r3 r4 : List ℕ) (id s : Identifier) (l r : Option Identifier) (n : ℕ) → IsRunBehind rest → IsIdentifier id → IsIdentifier s → IsOrigin l → IsOrigin r
+pub head_read : (rest r1 r2 r3 r4 : List ℕ) (id s : Identifier) (l r : Option Identifier) (n : ℕ) → IsRunBehind rest → IsIdentifier id → IsIdentifier s → IsFrameOrigin l → IsFrameOrigin r
     → rest ≡ id_bytes id ++ r1 → r1 ≡ id_bytes s ++ r2 → r2 ≡ origin_bytes l ++ r3 → r3 ≡ origin_bytes r ++ r4 → n < 65536 → to_be_bytes w16 n ≡ get_or r4 0 0 ∷ get_or r4 1 0 ∷ []
     → HeadIs (record { id = id; section = s; left = l; right = r; count = n }) (4 ∷ rest)
 head_read rest r1 r2 r3 r4 id s l r n b id_is s_is l_is r_is e1 e2 e3 e4 small bytes =

@@ -7,7 +7,7 @@ use Rattle.fugue_ids.specs.declared.op.Op.{Op}
 use Rattle.fugue_ids.specs.declared.op.Op.TheVariants.{Delete, Note, Section, Text}
 use Rattle.origin_model.specs.declared.grammar.Grammar.{Grammar}
 use Rattle.origin_model.specs.frames.Frames.{HasFrame, IsOfVersion1, Single, frame, id_bytes, origin_bytes, scalar_bytes}
-use Rattle.op_frame.specs.Firsts.{FrontIs, IsBetween, IsLetter, IsLetterFrame, IsLetterFront, StartsWith}
+use Rattle.op_frame.specs.Firsts.{FrontIs, IsFieldBetween, IsLetter, IsLetterFrame, IsLetterFront, StartsWith}
 use Rattle.op_frame.specs.FrameFronts.{IsIdentifierBytes, IsOriginBytes, IsScalarBytes, Then}
 use Rattle.op_frame.specs.declared.front.Front.TheVariants.{Frame as FrameThere}
 use Rattle.op_frame.proofs.CodeLemmas.{identifier_code, number_code, origin_code}
@@ -71,7 +71,7 @@ module _ (bytes : List ℕ) (at : ℕ) where
         | inr one ↦ subst (StartsWith IsIdentifierBytes) (drop-drop 1 at bytes) one.1
       ]
 
-pub origin_between : (bytes : List ℕ) (at end : ℕ) → at < length bytes → get_or bytes at 0 ≡ 1 → IsBetween IsIdentifierBytes bytes (at + 1) end → IsBetween IsOriginBytes bytes at end
+pub origin_between : (bytes : List ℕ) (at end : ℕ) → at < length bytes → get_or bytes at 0 ≡ 1 → IsFieldBetween IsIdentifierBytes bytes (at + 1) end → IsFieldBetween IsOriginBytes bytes at end
 origin_between bytes at end inside tag p =
     let more : end - at ≡ suc (end - (at + 1)) = omega (arith, p.ordered) in
     record {
@@ -89,8 +89,8 @@ kind_is (x ∷ bytes) kind some is = λ i. is i ∷ []
 grows : (bytes : List ℕ) (at end : ℕ) (front field : List ℕ) → at ≤ end → take at bytes ≡ front → take (end - at) (drop at bytes) ≡ field → take end bytes ≡ front ++ field
 grows bytes at end front field le before is = sym (next_field bytes at end le) ∙ (λ i. before i ++ is i)
 
-pub text_whole : (bytes : List ℕ) (a b c d e : ℕ) → take 1 bytes ≡ 2 ∷ [] → IsBetween IsIdentifierBytes bytes 1 a → IsBetween IsIdentifierBytes bytes a b → IsBetween IsOriginBytes bytes b c
-    → IsBetween IsOriginBytes bytes c d → IsBetween IsScalarBytes bytes d e → IsLetterFront e bytes
+pub text_whole : (bytes : List ℕ) (a b c d e : ℕ) → take 1 bytes ≡ 2 ∷ [] → IsFieldBetween IsIdentifierBytes bytes 1 a → IsFieldBetween IsIdentifierBytes bytes a b → IsFieldBetween IsOriginBytes bytes b c
+    → IsFieldBetween IsOriginBytes bytes c d → IsFieldBetween IsScalarBytes bytes d e → IsLetterFront e bytes
 text_whole bytes a b c d e kind id section left right ch =
     let to_section = grows bytes a b _ _ section.ordered (grows bytes 1 a _ _ id.ordered kind id.is.2) section.is.2 in
     let to_right = grows bytes c d _ _ right.ordered (grows bytes b c _ _ left.ordered to_section left.is.2) right.is.2 in (
@@ -103,7 +103,7 @@ text_whole bytes a b c d e kind id section left right ch =
       ),
     )
 
-pub delete_whole : (bytes : List ℕ) (a : ℕ) → take 1 bytes ≡ 3 ∷ [] → IsBetween IsIdentifierBytes bytes 1 a → IsLetterFront a bytes
+pub delete_whole : (bytes : List ℕ) (a : ℕ) → take 1 bytes ≡ 3 ∷ [] → IsFieldBetween IsIdentifierBytes bytes 1 a → IsLetterFront a bytes
 delete_whole bytes a kind id = (id.within, (Delete id.is.0, tt, id.is.1, grows bytes 1 a _ _ id.ordered kind id.is.2))
 
 -- each grammar has a letter's frame
@@ -164,7 +164,7 @@ pub delete_fields : (b : List ℕ) → get_or b 0 0 ≡ 3 → StartsWith IsLette
 delete_fields b kind t = elim (letter_fields b t) [ inl p ↦ absurd (omega (arith, kind, p.0)) | inr p ↦ p.1 ]
 
 -- what follows a field that stands between two places
-behind : {T : Type 0} (F : Format T) → IsCode F → (Rest : List ℕ → Type 0) (bytes : List ℕ) (at mid : ℕ) → IsBetween (Spelled F) bytes at mid → Then (Spelled F) Rest (drop at bytes)
+behind : {T : Type 0} (F : Format T) → IsCode F → (Rest : List ℕ → Type 0) (bytes : List ℕ) (at mid : ℕ) → IsFieldBetween (Spelled F) bytes at mid → Then (Spelled F) Rest (drop at bytes)
     → Rest (drop mid bytes)
 behind F code Rest bytes at mid p t =
     let whole : at + (mid - at) ≡ mid = omega (arith, p.ordered) in
@@ -178,19 +178,19 @@ module _ (bytes : List ℕ) (kind : take 1 bytes ≡ 2 ∷ []) (t : StartsWith I
       let two : get_or bytes 0 0 ≡ 2 = sym (get_or-take 1 bytes 0 0 (omega arith)) ∙ ap (λ (x : List ℕ). get_or x 0 0) kind in
       elim (letter_fields bytes t) [ inl p ↦ p.1 | inr p ↦ absurd (omega (arith, two, p.0)) ]
 
-  module _ (a : ℕ) (id : IsBetween IsIdentifierBytes bytes 1 a) where
+  module _ (a : ℕ) (id : IsFieldBetween IsIdentifierBytes bytes 1 a) where
     pub from_section : FromSection (drop a bytes)
     from_section = behind identifier identifier_code FromSection bytes 1 a id from_id
 
-    module _ (b : ℕ) (section : IsBetween IsIdentifierBytes bytes a b) where
+    module _ (b : ℕ) (section : IsFieldBetween IsIdentifierBytes bytes a b) where
       pub from_left : FromLeft (drop b bytes)
       from_left = behind identifier identifier_code FromLeft bytes a b section from_section
 
-      module _ (c : ℕ) (left : IsBetween IsOriginBytes bytes b c) where
+      module _ (c : ℕ) (left : IsFieldBetween IsOriginBytes bytes b c) where
         pub from_right : FromRight (drop c bytes)
         from_right = behind origin origin_code FromRight bytes b c left from_left
 
-        pub from_scalar : (d : ℕ) → IsBetween IsOriginBytes bytes c d → StartsWith IsScalarBytes (drop d bytes)
+        pub from_scalar : (d : ℕ) → IsFieldBetween IsOriginBytes bytes c d → StartsWith IsScalarBytes (drop d bytes)
         from_scalar d right = behind origin origin_code (StartsWith IsScalarBytes) bytes c d right from_right
 
 -- what follows where there is no value

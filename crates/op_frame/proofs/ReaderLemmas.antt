@@ -7,9 +7,9 @@ use Rattle.fugue_ids.specs.Runs.{in_a_row}
 use Rattle.outer_ports.specs.Sources.{SourceView}
 use Rattle.origin_model.specs.declared.grammar.Grammar.{Grammar}
 use Rattle.origin_model.specs.frames.Frames.{scalar_bytes}
-use Rattle.op_frame.specs.Heads.{GivesHeld, IsHeld, behind_held, held_ops, scalars_in}
+use Rattle.op_frame.specs.Heads.{GivesHeld, IsHeld, behind_held, held_ops, text_scalars}
 use Rattle.op_frame.specs.Readers.{Advances, FrameReading, Nexts, StandsStill, StillWith, fault_after, held as held_back, kept_fault, read}
-use Rattle.op_frame.specs.Steps.{Takes}
+use Rattle.op_frame.specs.Steps.{TakesFrontFrame}
 use Rattle.op_frame.specs.declared.fault.FrameFault.{FrameFault}
 use Rattle.op_frame.specs.declared.fault.FrameFault.TheVariants.{BadFrame, CutShort, ReadFault, TooLong, NoMemory}
 use Rattle.op_frame.specs.declared.head.Head.{Head}
@@ -25,7 +25,7 @@ none_held (Some head) window h none = absurd (by_text h.text h.count h.scalars h
     by_text [] long all split = omega (arith, long, h.some)
     by_text (c ∷ text) long all split =
         let shown : held_ops (Some head) window ≡ in_a_row head.id head.section head.left head.right (c ∷ text)
-        = ap (in_a_row head.id head.section head.left head.right) ((λ i. scalars_in (sym long i) (split i)) ∙ scalars_are (c ∷ text) h.rest all) in
+        = ap (in_a_row head.id head.section head.left head.right) ((λ i. text_scalars (sym long i) (split i)) ∙ scalars_are (c ∷ text) h.rest all) in
         let bad : in_a_row head.id head.section head.left head.right (c ∷ text) ≡ [] = sym shown ∙ none in
         cc bad
 
@@ -53,7 +53,7 @@ advances_by old new result grammar limit inside within full stays fault =
 
 module _ (g : Grammar) (limit offset last : ℕ) (fault : Option FrameFault) (window new : List ℕ) (before after : SourceView) where
   -- no operation is given
-  pub nexts_none : (held : Option Head) → held ≡ None → offset + length (behind_held held window) ≤ limit → fault ≡ None → Takes g window new before after offset (limit - offset) (Ok None)
+  pub nexts_none : (held : Option Head) → held ≡ None → offset + length (behind_held held window) ≤ limit → fault ≡ None → TakesFrontFrame g window new before after offset (limit - offset) (Ok None)
       → Nexts (reading_at g limit held window offset last fault) (reading_at g limit held new offset last fault) before after (Ok None)
   nexts_none (Some head) none inside no_fault t = absurd (cc none)
   nexts_none None none inside no_fault t = record {
@@ -66,7 +66,7 @@ module _ (g : Grammar) (limit offset last : ℕ) (fault : Option FrameFault) (wi
 
   -- the first operation of a frame is given
   pub nexts_first : (held : Option Head) (taken : Taken) → held ≡ None → offset + length (behind_held held window) ≤ limit → fault ≡ None
-      → Takes g window new before after offset (limit - offset) (Ok (Some taken))
+      → TakesFrontFrame g window new before after offset (limit - offset) (Ok (Some taken))
       → Nexts (reading_at g limit held window offset last fault) (reading_at g limit taken.held new (offset + taken.len) offset fault) before after (Ok (Some taken.op))
   nexts_first (Some head) taken none inside no_fault t = absurd (cc none)
   nexts_first None taken none inside no_fault t = record {
@@ -79,7 +79,7 @@ module _ (g : Grammar) (limit offset last : ℕ) (fault : Option FrameFault) (wi
 
   -- a fault is met
   pub nexts_fault : (held : Option Head) (e : FrameFault) (kept : Option FrameFault) → held ≡ None → offset + length (behind_held held window) ≤ limit → kept ≡ kept_fault e
-      → Takes g window new before after offset (limit - offset) (Err e)
+      → TakesFrontFrame g window new before after offset (limit - offset) (Err e)
       → Nexts (reading_at g limit held window offset last fault) (reading_at g limit held new offset last kept) before after (Err e)
   nexts_fault (Some head) e kept none inside is t = absurd (cc none)
   nexts_fault None e kept none inside is t = record {

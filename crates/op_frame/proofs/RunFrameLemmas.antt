@@ -8,16 +8,16 @@ use Rattle.std.proofs.lemmas.List.{flat_map_more}
 use Rattle.std.proofs.lemmas.List.Elements.{All-cons, All-head, All-nil, All-tail}
 use Rattle.fugue_ids.specs.Identifiers.{Identifier}
 use Rattle.op_runs.specs.Deletions.{deletes_by, deletes_down, deletes_up, id_before, target_by}
-use Rattle.op_runs.proofs.DeletionLemmas.{deletes-append, deletes_more}
+use Rattle.op_runs.proofs.DeletionLemmas.{deletes_more}
 use Rattle.fugue_ids.specs.Ops.{op_eq}
 use Rattle.fugue_ids.specs.declared.op.Op.{Op}
 use Rattle.fugue_ids.specs.declared.op.Op.TheVariants.{Section, Text, Delete, Note}
 use Rattle.fugue_ids.specs.declared.run.RunStart.{RunStart}
 use Rattle.fugue_ids.specs.Runs.{in_a_row, next_id, run_from, start_behind, text_by, text_in}
 use Rattle.fugue_ids.proofs.OpLemmas.{op_eq-refl, op_eq-true}
-use Rattle.origin_model.specs.frames.Frames.{HasFrame, IsIdentifier, IsOrigin, Item, Single, Typed, frame, item_bytes, run_frame, scalar_bytes}
-use Rattle.origin_model.specs.frames.Framings.{frames, grown, items, items_from, longer, next_text, run_more, scalar_in}
-use Rattle.op_frame.specs.OpenRuns.{IsDone, open_ops, run_of}
+use Rattle.origin_model.specs.frames.Frames.{HasFrame, IsIdentifier, IsFrameOrigin, Item, Single, Typed, frame, item_bytes, run_frame, scalar_bytes}
+use Rattle.origin_model.specs.frames.Framings.{frames, item_with, items, items_from, longer, next_text, run_more, scalar_in}
+use Rattle.op_frame.specs.OpenRuns.{IsCompleteRun, open_ops, run_of}
 use Rattle.op_frame.proofs.GatherLemmas.{further, run_behind_first}
 
 -- the item that stands for the Texts of a run, of which the first has this scalar
@@ -25,7 +25,7 @@ abbrev pub run_item : RunStart → ℕ → List ℕ → Item
 run_item start ch [] = Single (text_by start ch)
 run_item start ch (next ∷ text) = Typed (run_of start (ch ∷ next ∷ text))
 
-run_grown : (start : RunStart) (ch : ℕ) (text : List ℕ) (op : Op) → grown (run_item start ch text) op ≡ longer (run_of start (ch ∷ text)) op
+run_grown : (start : RunStart) (ch : ℕ) (text : List ℕ) (op : Op) → item_with (run_item start ch text) op ≡ longer (run_of start (ch ∷ text)) op
 run_grown start ch [] op = refl
 run_grown start ch (next ∷ text) op = refl
 
@@ -35,7 +35,7 @@ item_more start ch (next ∷ text) c = refl
 
 -- the next Text is taken into the item
 takes_next : (start : RunStart) (ch : ℕ) (text : List ℕ) (c : ℕ) → length (ch ∷ text) < 1024
-    → grown (run_item start ch text) (text_by (start_behind start (length (ch ∷ text))) c) ≡ Some (run_item start ch (text ++ c ∷ []))
+    → item_with (run_item start ch text) (text_by (start_behind start (length (ch ∷ text))) c) ≡ Some (run_item start ch (text ++ c ∷ []))
 takes_next start ch text c room =
     let op : Op = text_by (start_behind start (length (ch ∷ text))) c in
     run_grown start ch text op
@@ -45,7 +45,7 @@ takes_next start ch text c room =
 
 -- any other operation is not
 takes_no_other : (start : RunStart) (ch : ℕ) (text : List ℕ) (op : Op) → ((c : ℕ) → op ≡ text_by (start_behind start (length (ch ∷ text))) c → length (ch ∷ text) < 1024 → ⊥)
-    → grown (run_item start ch text) op ≡ None
+    → item_with (run_item start ch text) op ≡ None
 takes_no_other start ch text op none =
     let next : Op = next_text (run_of start (ch ∷ text)) (scalar_in op) in
     let not_it : (nat_lt (length (ch ∷ text)) 1024 && op_eq op next) ≡ false =
@@ -79,13 +79,13 @@ takes_run start ch text (c ∷ more) rest short =
     ∙ ap (λ (t : List ℕ). items_from (run_item start ch t) rest) (append_assoc text (c ∷ []) more)
 
 -- no more operations are of the item
-takes_no_more : (start : RunStart) (ch : ℕ) (text : List ℕ) (rest : List Op) → IsDone (Some start) (ch ∷ text) rest → items_from (run_item start ch text) rest ≡ run_item start ch text ∷ items rest
+takes_no_more : (start : RunStart) (ch : ℕ) (text : List ℕ) (rest : List Op) → IsCompleteRun (Some start) (ch ∷ text) rest → items_from (run_item start ch text) rest ≡ run_item start ch text ∷ items rest
 takes_no_more start ch text [] done = refl
 takes_no_more start ch text (op ∷ rest) done =
     ap (begun (run_item start ch text) op rest)
     (takes_no_other start ch text op (λ c is room. done (start_behind start (length (ch ∷ text))) c rest (ap (λ (o : Op). o ∷ rest) is) (refl, room)))
 
-run_then : (start : RunStart) (ch : ℕ) (text : List ℕ) (rest : List Op) → length (ch ∷ text) ≤ 1024 → IsDone (Some start) (ch ∷ text) rest
+run_then : (start : RunStart) (ch : ℕ) (text : List ℕ) (rest : List Op) → length (ch ∷ text) ≤ 1024 → IsCompleteRun (Some start) (ch ∷ text) rest
     → frames (run_from start (ch ∷ text) ++ rest) ≡ item_bytes (run_item start ch text) ++ frames rest
 run_then start ch text rest short done =
     ap (λ (ops : List Op). frames (ops ++ rest)) (run_behind_first start ch text)
@@ -97,7 +97,7 @@ run_alone start ch text short =
     ap frames (sym (append-nil (run_from start (ch ∷ text)))) ∙ run_then start ch text [] short (λ next c more is goes. cc is) ∙ append-nil (item_bytes (run_item start ch text))
 
 -- a run that is done, and what is behind it
-pub done_then : (opened : Option RunStart) (text : List ℕ) (rest : List Op) → length text ≤ 1024 → IsDone opened text rest → frames (open_ops opened text ++ rest) ≡ frames (open_ops opened text) ++ frames rest
+pub done_then : (opened : Option RunStart) (text : List ℕ) (rest : List Op) → length text ≤ 1024 → IsCompleteRun opened text rest → frames (open_ops opened text ++ rest) ≡ frames (open_ops opened text) ++ frames rest
 done_then None text rest short done = refl
 done_then (Some start) [] rest short done = refl
 done_then (Some start) (ch ∷ text) rest short done = run_then start ch text rest short done ∙ ap (λ (bytes : List ℕ). bytes ++ frames rest) (sym (run_alone start ch text short))
@@ -113,7 +113,7 @@ other_then (Note id names code body) [] is = refl
 other_then (Note id names code body) (op ∷ rest) is = refl
 
 -- the operations of a run have frames
-pub run_frames : (id section : Identifier) (left right : Option Identifier) (text : List ℕ) → IsIdentifier id → id.counter + length text ≤ 2 ^ 32 → IsIdentifier section → IsOrigin left → IsOrigin right
+pub run_frames : (id section : Identifier) (left right : Option Identifier) (text : List ℕ) → IsIdentifier id → id.counter + length text ≤ 2 ^ 32 → IsIdentifier section → IsFrameOrigin left → IsFrameOrigin right
     → All IsScalar text → All HasFrame (in_a_row id section left right text)
 run_frames id section left right [] own few s l r scalars = All-nil HasFrame
 run_frames id section left right (ch ∷ []) own few s l r scalars =

@@ -12,7 +12,7 @@ use Rattle.op_frame.specs.FrameFronts.{AsksMemory, IsFrameOf}
 use Rattle.op_frame.specs.Heads.{behind_held, held_ops}
 use Rattle.op_frame.specs.Readers.{ReadingAnswerIs, AnswersBy, CarriesOffset, Moves}
 use Rattle.op_frame.specs.Refills.{Refills, Drops}
-use Rattle.op_frame.specs.Steps.{Takes, TakesFirst, TakesFrame, TakesOff, only_op, taken_held, taken_length}
+use Rattle.op_frame.specs.Steps.{TakesFrontFrame, TakesFirst, TakesFrame, TakesOff, only_op, taken_held, taken_length}
 use Rattle.op_frame.specs.declared.fault.FrameFault.{FrameFault}
 use Rattle.op_frame.specs.declared.fault.FrameFault.TheVariants.{BadFrame, CutShort, ReadFault, TooLong, NoMemory}
 use Rattle.op_frame.specs.declared.step.Taken.{Taken}
@@ -45,7 +45,7 @@ module _ (g : Grammar) (old unread : List ℕ) (before now : SourceView) (offset
   -- an answer that is no fault of the source, by the bytes told so far
   ends_so : (new : List ℕ) (result : Result (Option Taken) FrameFault) → ((rest : List ℕ) → now.left ≡ Some rest → ReadingAnswerIs g (only_op result) offset room (unread ++ rest))
       → CarriesOffset (only_op result) offset → IfOk result (λ given. IfSome given (λ taken. TakesFirst g taken old new before.left now.left)) → Moves (only_op result) old new before.left now.left
-      → length (behind_held (taken_held result) new) + taken_length result ≤ room → (IsErrOf result TooLong → ⊥) → (IsErrOf result ReadFault → ⊥) → Takes g old new before now offset room result
+      → length (behind_held (taken_held result) new) + taken_length result ≤ room → (IsErrOf result TooLong → ⊥) → (IsErrOf result ReadFault → ⊥) → TakesFrontFrame g old new before now offset room result
   ends_so new result is at first moves within short no_fault = record {
     answer = answer (only_op result) is;
     at = at;
@@ -57,7 +57,7 @@ module _ (g : Grammar) (old unread : List ℕ) (before now : SourceView) (offset
   }
 
   -- a frame stands at the front of the unread bytes
-  gives : (new : List ℕ) (taken : Taken) (n : ℕ) → n ≤ length unread → IsFrameOf g (take n unread) → TakesOff taken unread new n → Takes g old new before now offset room (Ok (Some taken))
+  gives : (new : List ℕ) (taken : Taken) (n : ℕ) → n ≤ length unread → IsFrameOf g (take n unread) → TakesOff taken unread new n → TakesFrontFrame g old new before now offset room (Ok (Some taken))
   gives new taken n whole f p =
       let framed : Framed = record { bytes = take n unread; ops = taken.op ∷ held_ops taken.held new } in
       let is = same_meaning g (take n unread) framed.ops f p.is_frame in
@@ -82,21 +82,21 @@ module _ (g : Grammar) (old unread : List ℕ) (before now : SourceView) (offset
       }) tt (omega (arith, ap length p.rest, length-drop n unread, p.len, whole, s.inside)) (λ is. cc is) (λ is. cc is)
 
   -- no frame stands there, whatever follows
-  pub refuses : IsBad g unread → Takes g old unread before now offset room (Err (BadFrame offset))
+  pub refuses : IsBad g unread → TakesFrontFrame g old unread before now offset room (Err (BadFrame offset))
   refuses bad = ends_so unread (Err (BadFrame offset)) (λ rest is. (
     refl,
     subst (IsBad g) (sym (take_past unread rest room (length unread) refl s.inside)) (bad_goes_on g unread (take (room - length unread) rest) bad),
   )) refl tt s.told (omega (arith, s.inside)) (λ is. cc is) (λ is. cc is)
 
   -- a title or a body found no memory
-  wants : (new : List ℕ) → new ≡ unread → AsksMemory unread → Takes g old new before now offset room (Err NoMemory)
+  wants : (new : List ℕ) → new ≡ unread → AsksMemory unread → TakesFrontFrame g old new before now offset room (Err NoMemory)
   wants new same first =
       ends_so new (Err NoMemory) (λ rest is. asks_too unread rest first) tt tt (s.told ∙ ap (λ (l : List ℕ). prepend_known l now.left) (sym same)) (omega (arith, s.inside, ap length same))
       (λ is. cc is) (λ is. cc is)
 
   -- the frame at the front was taken off, or found no memory
   pub takes_frame : (new : List ℕ) (n : ℕ) (result : Result (Option Taken) FrameFault) → n ≤ length unread → IsFrameOf g (take n unread) → TakesFrame unread new n result
-      → Takes g old new before now offset room result
+      → TakesFrontFrame g old new before now offset room result
   takes_frame new n (Ok (Some taken)) whole f p = gives new taken n whole f p
   takes_frame new n (Ok None) whole f p = absurd p
   takes_frame new n (Err NoMemory) whole f p = wants new p.0 p.1
@@ -107,11 +107,11 @@ module _ (g : Grammar) (old unread : List ℕ) (before now : SourceView) (offset
 
   -- the stream is over, and so are its frames, or it is over within one
   pub over : (result : Result (Option Taken) FrameFault) → IsPartial g unread → IfSome now.left (λ left. left ≡ []) → IfOk result (λ given. (given ≡ None) × (unread ≡ []))
-      → IfErr result (λ e. (e ≡ CutShort offset) × (unread ≢ [])) → Takes g old unread before now offset room result
+      → IfErr result (λ e. (e ≡ CutShort offset) × (unread ≢ [])) → TakesFrontFrame g old unread before now offset room result
   over (Ok None) front none is cut =
       ends_so unread (Ok None) (λ rest left. (λ i. is.1 i ++ some_is (λ (l : List ℕ). l ≡ []) now.left rest none left i)) tt tt (is.1, none, s.told) (omega (arith, s.inside)) (λ is. cc is) (λ is. cc is)
   over (Ok (Some taken)) front none is cut = absurd (cc is.0)
-  over (Err e) front none is cut = subst (λ (fault : FrameFault). Takes g old unread before now offset room (Err fault)) (sym cut.0) (ends_so unread (Err (CutShort offset)) (λ rest left.
+  over (Err e) front none is cut = subst (λ (fault : FrameFault). TakesFrontFrame g old unread before now offset room (Err fault)) (sym cut.0) (ends_so unread (Err (CutShort offset)) (λ rest left.
       let all : unread ≡ unread ++ rest = sym (append-nil unread) ∙ ap (λ (l : List ℕ). unread ++ l) (sym (some_is (λ (l : List ℕ). l ≡ []) now.left rest none left)) in
       subst (ReadingAnswerIs g (Err (CutShort offset)) offset room) all (refl, cut.1, s.inside, front)) refl tt (s.told, none) (omega (arith, s.inside)) (λ is. cc is) (λ is. cc is))
 
@@ -124,11 +124,11 @@ module _ (g : Grammar) (old unread : List ℕ) (before now : SourceView) (offset
 
   -- the source failed, or has more than the limit takes
   pub stops : (new : List ℕ) (after : SourceView) (e : FrameFault) → IsPartial g unread → Refills unread new now after (room - length unread) (Err e)
-      → Takes g old new before after offset room (Err e)
+      → TakesFrontFrame g old new before after offset room (Err e)
   stops new after e front r = by_fault r.faults
     where
-      by_fault : (e ≡ ReadFault) × (after.left ≡ now.left) ⊎ (e ≡ TooLong) × (room - length unread ≡ 0) × Drops now.left after.left → Takes g old new before after offset room (Err e)
-      by_fault (inl f) = subst (λ (fault : FrameFault). Takes g old new before after offset room (Err fault)) (sym f.0) (record {
+      by_fault : (e ≡ ReadFault) × (after.left ≡ now.left) ⊎ (e ≡ TooLong) × (room - length unread ≡ 0) × Drops now.left after.left → TakesFrontFrame g old new before after offset room (Err e)
+      by_fault (inl f) = subst (λ (fault : FrameFault). TakesFrontFrame g old new before after offset room (Err fault)) (sym f.0) (record {
         answer = answer (Err ReadFault) (λ rest is. tt);
         at = tt;
         first = tt;
@@ -139,7 +139,7 @@ module _ (g : Grammar) (old unread : List ℕ) (before now : SourceView) (offset
       })
       by_fault (inr f) =
           let here : length unread ≡ room = omega (arith, s.inside, f.1) in
-          subst (λ (fault : FrameFault). Takes g old new before after offset room (Err fault)) (sym f.0) (record {
+          subst (λ (fault : FrameFault). TakesFrontFrame g old new before after offset room (Err fault)) (sym f.0) (record {
             answer = answer (Err TooLong) (λ rest is. (
               omega (arith, here, more_there after.left rest f.2.byte (sym is ∙ f.2.dropped), length-append unread rest),
               subst (IsPartial g) (sym (take_at unread rest room here)) (front),

@@ -12,7 +12,7 @@ use Rattle.origin_model.specs.frames.Frames.{Framed, IsFrame, IsBad, End, Whole,
 use Rattle.origin_model.proofs.SharedLemmas.{frame_wide}
 use Rattle.op_frame.specs.declared.fault.FrameFault.TheVariants.{BadFrame, CutShort, ReadFault, TooLong, NoMemory}
 use Rattle.op_frame.specs.declared.fault.FrameFault.{FrameFault}
-use Rattle.op_frame.specs.Readers.{FrameReading, to_give, ReadingAnswerIs, AreFirst, Chains, EndsBy, Follows, Gave, GaveFirst, GivesOperation, GivesInOrder, HasTodo, IsByReading, IsReadByBytes, Nexts, Rises, answer_at, given_with, held, raised, read}
+use Rattle.op_frame.specs.Readers.{FrameReading, to_give, ReadingAnswerIs, AreFirst, Chains, EndsBy, Follows, Gave, GaveFirst, GivesOperation, GivesInOrder, HasTodo, IsByReading, IsReadByBytes, Nexts, RisesByThree, answer_of_rest, given_with, held, raised_end, read}
 use Rattle.op_frame.proofs.FrameLemmas.{bad_goes_on}
 use Rattle.op_frame.proofs.ReadingLemmas.{bytes_of, ops_of, partial_end, reads_once, reads_some, starts_first}
 use Rattle.op_frame.proofs.ToldLemmas.{prepend_none, shows, some_is, take_past}
@@ -55,19 +55,19 @@ gave_more told ops op old new before after same so (read none framed is first mo
     }
 
 -- the end of the rest is that of the whole
-ends_raised : (g : Grammar) (rest : List ℕ) (k n : ℕ) (end : End) → EndsSo g rest k end → EndsSo g rest (n + k) (raised n end)
+ends_raised : (g : Grammar) (rest : List ℕ) (k n : ℕ) (end : End) → EndsSo g rest k end → EndsSo g rest (n + k) (raised_end n end)
 ends_raised g rest k n Whole ends = ends
 ends_raised g rest k n (EndsCut j) ends = (ap (λ (m : ℕ). n + m) ends.0, ends.1, ends.2)
 ends_raised g rest k n (EndsBad j) ends = (ap (λ (m : ℕ). n + m) ends.0, ends.1)
 
-raised_none : (end : End) → end ≡ raised 0 end
+raised_none : (end : End) → end ≡ raised_end 0 end
 raised_none Whole = refl
 raised_none (EndsCut k) = let e : k ≡ 0 + k = omega arith in ap EndsCut e
 raised_none (EndsBad k) = let e : k ≡ 0 + k = omega arith in ap EndsBad e
 
 -- frames before bytes that are read
 frames_before : (g : Grammar) (found : List Framed) (rest : List ℕ) (ops : List Op) (end : End) → All (IsFrame g) found → Reads g rest ops end
-    → Reads g (bytes_of found ++ rest) (ops_of found ++ ops) (raised (length (bytes_of found)) end)
+    → Reads g (bytes_of found ++ rest) (ops_of found ++ ops) (raised_end (length (bytes_of found)) end)
 frames_before g found rest ops end are r =
     let bytes : bytes_of (found ++ r.found) ≡ bytes_of found ++ bytes_of r.found = flat_map-append (λ (f : Framed). f.bytes) found r.found in
     let long : length (bytes_of found) + length (bytes_of r.found) ≡ length (bytes_of (found ++ r.found)) = sym (length-append (bytes_of found) (bytes_of r.found)) ∙ ap length (sym bytes) in
@@ -77,16 +77,16 @@ frames_before g found rest ops end are r =
       ops_are = ap (λ (l : List Op). ops_of found ++ l) r.ops_are ∙ sym (flat_map-append (λ (f : Framed). f.ops) found r.found);
       rest = r.rest;
       split = ap (λ (l : List ℕ). bytes_of found ++ l) r.split ∙ sym (append_assoc (bytes_of found) (bytes_of r.found) r.rest) ∙ ap (λ (l : List ℕ). l ++ r.rest) (sym bytes);
-      ends = subst (λ (n : ℕ). EndsSo g r.rest n (raised (length (bytes_of found)) end)) long (ends_raised g r.rest (length (bytes_of r.found)) (length (bytes_of found)) end r.ends);
+      ends = subst (λ (n : ℕ). EndsSo g r.rest n (raised_end (length (bytes_of found)) end)) long (ends_raised g r.rest (length (bytes_of r.found)) (length (bytes_of found)) end r.ends);
     }
 
 -- one frame before bytes that are read
-read_before : (g : Grammar) (framed : Framed) (rest : List ℕ) (ops : List Op) (end : End) → IsFrame g framed → Reads g rest ops end → Reads g (framed.bytes ++ rest) (framed.ops ++ ops) (raised (length framed.bytes) end)
+read_before : (g : Grammar) (framed : Framed) (rest : List ℕ) (ops : List Op) (end : End) → IsFrame g framed → Reads g rest ops end → Reads g (framed.bytes ++ rest) (framed.ops ++ ops) (raised_end (length framed.bytes) end)
 read_before g framed rest ops end is r =
     let bytes : bytes_of (framed ∷ []) ≡ framed.bytes = append-nil framed.bytes in
     let ops_are : ops_of (framed ∷ []) ≡ framed.ops = append-nil framed.ops in
-    subst (λ (l : List Op). Reads g (framed.bytes ++ rest) (l ++ ops) (raised (length framed.bytes) end)) ops_are
-    (subst (λ (l : List ℕ). Reads g (l ++ rest) (ops_of (framed ∷ []) ++ ops) (raised (length l) end)) bytes (frames_before g (framed ∷ []) rest ops end (All-push (IsFrame g) [] framed (All-nil (IsFrame g)) is) r))
+    subst (λ (l : List Op). Reads g (framed.bytes ++ rest) (l ++ ops) (raised_end (length framed.bytes) end)) ops_are
+    (subst (λ (l : List ℕ). Reads g (l ++ rest) (ops_of (framed ∷ []) ++ ops) (raised_end (length l) end)) bytes (frames_before g (framed ∷ []) rest ops end (All-push (IsFrame g) [] framed (All-nil (IsFrame g)) is) r))
 
 -- what stands before bytes that are told
 told_behind : (front : List ℕ) (told : Option (List ℕ)) (bytes : List ℕ) → Some bytes ≡ prepend_known front told → (rest : List ℕ) × (told ≡ Some rest) × (bytes ≡ front ++ rest)
@@ -114,15 +114,15 @@ gave_first op old new before after bytes same (read none framed is ops moved off
       to_give_is = there.1;
       first = λ todo end p later ends q.
           let whole = read_before old.grammar framed there.0 q.behind ends is (subst (λ (g : Grammar). Reads g there.0 q.behind ends) same q.reads) in
-          let both = reads_once old.grammar bytes p.behind (framed.ops ++ q.behind) end (raised (length framed.bytes) ends) p.reads
-          (subst (λ (l : List ℕ). Reads old.grammar l (framed.ops ++ q.behind) (raised (length framed.bytes) ends)) (sym there.2) whole) in (
+          let both = reads_once old.grammar bytes p.behind (framed.ops ++ q.behind) end (raised_end (length framed.bytes) ends) p.reads
+          (subst (λ (l : List ℕ). Reads old.grammar l (framed.ops ++ q.behind) (raised_end (length framed.bytes) ends)) (sym there.2) whole) in (
             p.todo_is ∙ ap (λ (l : List Op). l ++ p.behind) none ∙ both.0 ∙ ap (λ (l : List Op). l ++ q.behind) ops ∙ ap (λ (l : List Op). op ∷ l) (sym q.todo_is),
             both.1,
           );
     }
 
 -- the place rises
-pub rises : (op : Op) (old new : FrameReading) (before after : Option (List ℕ)) → GivesOperation op old new before after → Rises old new
+pub rises : (op : Op) (old new : FrameReading) (before after : Option (List ℕ)) → GivesOperation op old new before after → RisesByThree old new
 rises op old new before after (held todo unread offset last left) = omega (arith, ap length todo, offset)
 rises op old new before after (read none framed is ops moved offset last) = omega (arith, frame_wide old.grammar framed is, ap length ops, ap length none, offset)
 
@@ -230,16 +230,16 @@ module _ (old new : FrameReading) (before after : SourceView) where
       let both = reads_once old.grammar bytes h.behind [] end own h.reads here in
       (h.todo_is ∙ (λ i. none i ++ both.0 i), both.1)
 
-  answer_is : (todo : List Op) (end own : End) (result : Result (Option Op) FrameFault) → result ≡ answer_at old.offset [] own → (todo ≡ []) × (end ≡ own) → result ≡ answer_at old.offset todo end
-  answer_is todo end own result is both = is ∙ λ i. answer_at old.offset (sym both.0 i) (sym both.1 i)
+  answer_is : (todo : List Op) (end own : End) (result : Result (Option Op) FrameFault) → result ≡ answer_of_rest old.offset [] own → (todo ≡ []) × (end ≡ own) → result ≡ answer_of_rest old.offset todo end
+  answer_is todo end own result is both = is ∙ λ i. answer_of_rest old.offset (sym both.0 i) (sym both.1 i)
 
   by_reading : (result : Result (Option Op) FrameFault) → Nexts old new before after result → IsByReading result → (bytes : List ℕ) → to_give old before.left ≡ Some bytes → (todo : List Op) (end : End)
-      → HasTodo old bytes todo end → result ≡ answer_at old.offset todo end
+      → HasTodo old bytes todo end → result ≡ answer_of_rest old.offset todo end
   by_reading (Ok (Some op)) step by bytes told todo end h =
       let p = gave_first op old new before.left after.left bytes step.advances.grammar step.gives told in
       let rest = reads_some new.grammar p.rest in
       let both = p.first todo end h (new.todo ++ rest.0) rest.1 (record { behind = rest.0; reads = rest.2; todo_is = refl }) in
-      ap (λ (l : List Op). answer_at old.offset l end) (sym both.0)
+      ap (λ (l : List Op). answer_of_rest old.offset l end) (sym both.0)
   by_reading (Ok None) step by bytes told todo end h =
       let none = step.advances.stays.none_before in
       let is = ((some_is _ (to_give old before.left) bytes (step.answer none) told).exactly tt (Ok None) tt).0 refl in
@@ -266,7 +266,7 @@ module _ (old new : FrameReading) (before after : SourceView) where
   first_of (Ok None) step = tt
   first_of (Err e) step = tt
 
-  rises_by : (result : Result (Option Op) FrameFault) → Nexts old new before after result → IfOk result (λ given. IfSome given (λ op. Rises old new))
+  rises_by : (result : Result (Option Op) FrameFault) → Nexts old new before after result → IfOk result (λ given. IfSome given (λ op. RisesByThree old new))
   rises_by (Ok (Some op)) step = rises op old new before.left after.left step.gives
   rises_by (Ok None) step = tt
   rises_by (Err e) step = tt

@@ -3,21 +3,21 @@ use Rattle.std.specs.Prelude.{◌≡◌, ◌⊎◌, ℕ, ◌<◌, ◌≤◌, Lis
 use Rattle.fugue_ids.specs.declared.op.Op.{Op}
 use Rattle.origin_model.specs.declared.grammar.Grammar.{Grammar}
 use Rattle.origin_model.specs.frames.Frames.{End, Whole as EndsWhole, CutShort as EndsCutShort, BadFrame as EndsInBadFrame, Framed, Begins, Starts, Reads}
-use Rattle.origin_model.specs.taking.Taking.{Held, HasPlace, TooMany as AnswersTooMany, held_from, answer}
+use Rattle.origin_model.specs.taking.Taking.{Held, MeetsNoLimit, TooMany as AnswersTooMany, held_from, answer}
 
 -- how taking in a stream ends
-pub data IntakeCourse : Type 0 where
-  Whole : IntakeCourse
-  CutShort : ℕ → IntakeCourse
-  BadFrame : ℕ → IntakeCourse
+pub data IntakeOutcome : Type 0 where
+  Whole : IntakeOutcome
+  CutShort : ℕ → IntakeOutcome
+  BadFrame : ℕ → IntakeOutcome
   -- the stream goes on past its limit, and up to there it has no fault
-  TooLong : IntakeCourse
+  TooLong : IntakeOutcome
   -- one operation more came than can be held
-  TooMany : IntakeCourse
+  TooMany : IntakeOutcome
 
 -- the stream's frames end where it ends, or inside of one more
-abbrev pub EndsWell : Grammar → List ℕ → List Op → Type 0
-EndsWell grammar bytes ops = (end : End) × Reads grammar bytes ops end × ((end ≡ EndsWhole) ⊎ ((offset : ℕ) × (end ≡ EndsCutShort offset)))
+abbrev pub EndsInFrame : Grammar → List ℕ → List Op → Type 0
+EndsInFrame grammar bytes ops = (end : End) × Reads grammar bytes ops end × ((end ≡ EndsWhole) ⊎ ((offset : ℕ) × (end ≡ EndsCutShort offset)))
 
 -- the next frame brings operations of which one finds no place; those before it in this frame are taken in
 pub record MeetsTooMany (grammar : Grammar) (hold most : ℕ) (start : Held) (bytes : List ℕ) (ops : List Op) : Type 0 where
@@ -38,13 +38,14 @@ pub record MeetsTooMany (grammar : Grammar) (hold most : ℕ) (start : Held) (by
   pub refused : answer hold most (held_from hold most start ops) op ≡ AnswersTooMany
 
 -- the bytes come to this end, and the operations were taken in before it
-abbrev pub Ends : Grammar → (hold most : ℕ) (start : Held) (limit : ℕ) → List ℕ → List Op → IntakeCourse → Type 0
+abbrev pub Ends : Grammar → (hold most : ℕ) (start : Held) (limit : ℕ) → List ℕ → List Op → IntakeOutcome → Type 0
 Ends grammar hold most start limit bytes ops Whole = (length bytes ≤ limit) × Reads grammar bytes ops EndsWhole
 Ends grammar hold most start limit bytes ops (CutShort offset) = (length bytes ≤ limit) × Reads grammar bytes ops (EndsCutShort offset)
 Ends grammar hold most start limit bytes ops (BadFrame offset) = Reads grammar (take limit bytes) ops (EndsInBadFrame offset)
-Ends grammar hold most start limit bytes ops TooLong = (limit < length bytes) × EndsWell grammar (take limit bytes) ops
+Ends grammar hold most start limit bytes ops TooLong = (limit < length bytes) × EndsInFrame grammar (take limit bytes) ops
 Ends grammar hold most start limit bytes ops TooMany = MeetsTooMany grammar hold most start (take limit bytes) ops
 
-pub record Comes (grammar : Grammar) (hold most : ℕ) (start : Held) (limit : ℕ) (bytes : List ℕ) (ops : List Op) (course : IntakeCourse) : Type 0 where
-  pub has_place : HasPlace hold most start ops
+-- the bytes come to this end, and each operation found its place
+pub record Comes (grammar : Grammar) (hold most : ℕ) (start : Held) (limit : ℕ) (bytes : List ℕ) (ops : List Op) (course : IntakeOutcome) : Type 0 where
+  pub has_place : MeetsNoLimit hold most start ops
   pub ends : Ends grammar hold most start limit bytes ops course

@@ -11,6 +11,7 @@ abbrev pub IsDecoded : Decoded → List ℕ → Type 0
 IsDecoded (Single op) bytes = HasFrame op × (bytes ≡ frame op)
 IsDecoded (Run head) bytes = HeadIs head bytes
 
+-- the operation, where there is one
 abbrev pub single_ops : Option Op → List Op
 single_ops None = []
 single_ops (Some op) = op ∷ []

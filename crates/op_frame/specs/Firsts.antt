@@ -51,7 +51,7 @@ abbrev pub IsLetterFront : ℕ → List ℕ → Type 0
 IsLetterFront len bytes = (len ≤ length bytes) × IsLetterFrame (take len bytes)
 
 -- a field stands between two places of the bytes
-pub record IsBetween (Field : List ℕ → Type 0) (bytes : List ℕ) (at end : ℕ) : Type 0 where
+pub record IsFieldBetween (Field : List ℕ → Type 0) (bytes : List ℕ) (at end : ℕ) : Type 0 where
   pub ordered : at ≤ end
   pub within : end ≤ length bytes
   pub is : Field (take (end - at) (drop at bytes))

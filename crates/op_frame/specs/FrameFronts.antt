@@ -8,7 +8,7 @@ use Rattle.fugue_ids.specs.Titles.{has_line_end}
 use Rattle.fugue_ids.specs.declared.limits.TheConstants.{LONGEST_BODY, LONGEST_TITLE}
 use Rattle.fugue_ids.specs.declared.op.Op.{Op}
 use Rattle.origin_model.specs.declared.grammar.Grammar.{Grammar}
-use Rattle.origin_model.specs.frames.Frames.{body_bytes, frame, id_bytes, item_bytes, names_bytes, origin_bytes, scalar_bytes, title_bytes, AreNames, HasFrame, IsBody, IsByte, IsFrame, IsIdentifier, IsItem, IsOrigin, IsPartial, IsTitle, Item}
+use Rattle.origin_model.specs.frames.Frames.{body_bytes, frame, id_bytes, item_bytes, names_bytes, origin_bytes, scalar_bytes, title_bytes, AreNames, HasFrame, IsBody, IsByte, IsFrame, IsIdentifier, IsItem, IsFrameOrigin, IsPartial, IsTitle, Item}
 use Rattle.op_frame.specs.declared.due.Due.{Due}
 use Rattle.op_frame.specs.declared.due.Due.TheVariants.{Kind, Run, Fields}
 use Rattle.op_frame.specs.declared.due.Judged.{Judged}
@@ -32,10 +32,10 @@ abbrev pub AsksMemory : List ℕ → Type 0
 AsksMemory bytes = (slice_get bytes 0 ≡ Some 1) ⊎ (slice_get bytes 0 ≡ Some 5)
 
 -- what the bytes are: a frame, a proper front of one, or neither
-abbrev pub IsGrown : Grown → Grammar → List ℕ → Type 0
-IsGrown IsWhole grammar bytes = IsFrameOf grammar bytes
-IsGrown IsFront grammar bytes = IsPartial grammar bytes
-IsGrown IsNeither grammar bytes = (IsFrameOf grammar bytes → ⊥) × (IsPartial grammar bytes → ⊥)
+abbrev pub IsFrameFront : Grown → Grammar → List ℕ → Type 0
+IsFrameFront IsWhole grammar bytes = IsFrameOf grammar bytes
+IsFrameFront IsFront grammar bytes = IsPartial grammar bytes
+IsFrameFront IsNeither grammar bytes = (IsFrameOf grammar bytes → ⊥) × (IsPartial grammar bytes → ⊥)
 
 -- the first bytes of a frame of a grammar
 pub record FrontBytes : Type 0 where
@@ -46,24 +46,31 @@ pub record FrontBytes : Type 0 where
 abbrev pub Then : (List ℕ → Type 0) → (List ℕ → Type 0) → List ℕ → Type 0
 Then Field Rest bytes = (field rest : List ℕ) × Field field × Rest rest × (bytes ≡ field ++ rest)
 
+-- the bytes of an identifier
 abbrev pub IsIdentifierBytes : List ℕ → Type 0
 IsIdentifierBytes bytes = (id : Identifier) × IsIdentifier id × (bytes ≡ id_bytes id)
 
+-- the bytes of an origin
 abbrev pub IsOriginBytes : List ℕ → Type 0
-IsOriginBytes bytes = (origin : Option Identifier) × IsOrigin origin × (bytes ≡ origin_bytes origin)
+IsOriginBytes bytes = (origin : Option Identifier) × IsFrameOrigin origin × (bytes ≡ origin_bytes origin)
 
+-- the bytes of a Unicode scalar value
 abbrev pub IsScalarBytes : List ℕ → Type 0
 IsScalarBytes bytes = (ch : ℕ) × IsScalar ch × (bytes ≡ scalar_bytes ch)
 
+-- the bytes of the names of a Note
 abbrev pub AreNamesBytes : List ℕ → Type 0
 AreNamesBytes bytes = (named : List Identifier) × AreNames named × (bytes ≡ names_bytes named)
 
+-- the byte of the code of a Note
 abbrev pub IsCodeBytes : List ℕ → Type 0
 IsCodeBytes bytes = (code : ℕ) × IsByte code × (bytes ≡ code ∷ [])
 
+-- the bytes of the body of a Note
 abbrev pub IsBodyBytes : List ℕ → Type 0
 IsBodyBytes bytes = (body : List ℕ) × IsBody body × (bytes ≡ body_bytes body)
 
+-- no bytes
 abbrev pub IsNothing : List ℕ → Type 0
 IsNothing bytes = bytes ≡ []
 
@@ -101,6 +108,7 @@ IsLast Code bytes = Then IsCodeBytes IsBodyBytes bytes
 IsLast Length bytes = IsBodyBytes bytes
 IsLast (Body len) bytes = IsBodyEnd len bytes
 
+-- the bytes of identifiers, then of origins, and of the last field
 abbrev pub AreFields : (identifiers origins : ℕ) → Last → List ℕ → Type 0
 AreFields identifiers origins last bytes = Several identifiers IsIdentifierBytes (Several origins IsOriginBytes (IsLast last)) bytes
 
@@ -134,6 +142,7 @@ IsSoundLast Code = Unit {0}
 IsSoundLast Length = Unit {0}
 IsSoundLast (Body len) = (0 < len) × (len ≤ LONGEST_BODY)
 
+-- what is due is part of some frame
 abbrev pub IsSoundDue : Due → Type 0
 IsSoundDue (Kind grammar) = Unit {0}
 IsSoundDue Run = Unit {0}
@@ -151,6 +160,7 @@ last_size Code = 1
 last_size Length = 2
 last_size (Body len) = len
 
+-- how many bytes the next field takes at least
 abbrev pub field_size : Due → ℕ
 field_size (Kind grammar) = 1
 field_size Run = 8

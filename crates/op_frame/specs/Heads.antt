@@ -29,14 +29,14 @@ pub record IsHeld (bytes : List ℕ) (head : Head) : Type 0 where
   pub split : bytes ≡ flat_map scalar_bytes text ++ rest
 
 -- the scalars of so many Texts, at the front of the bytes
-abbrev pub scalars_in : ℕ → List ℕ → List ℕ
-scalars_in (suc n) (high ∷ middle ∷ low ∷ bytes) = scalar_of_bytes high middle low ∷ scalars_in n bytes
-scalars_in n bytes = []
+abbrev pub text_scalars : ℕ → List ℕ → List ℕ
+text_scalars (suc n) (high ∷ middle ∷ low ∷ bytes) = scalar_of_bytes high middle low ∷ text_scalars n bytes
+text_scalars n bytes = []
 
 -- the operations that are held back
 abbrev pub held_ops : Option Head → List ℕ → List Op
 held_ops None bytes = []
-held_ops (Some head) bytes = in_a_row head.id head.section head.left head.right (scalars_in head.count bytes)
+held_ops (Some head) bytes = in_a_row head.id head.section head.left head.right (text_scalars head.count bytes)
 
 -- the bytes behind their scalars
 abbrev pub behind_held : Option Head → List ℕ → List ℕ

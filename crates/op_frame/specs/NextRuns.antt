@@ -1,30 +1,35 @@
 -- What `next_run` gives: operations that `next` gives too, one call after another.
-use Rattle.std.specs.Prelude.{◌≡◌, ◌⊎◌, ℕ, ◌+◌, ◌<◌, ◌≤◌, ◌^◌, ◌*◌, Bool, true, false, List, [], ◌∷◌, ◌++◌, length, take, drop, Option, Some, None, Result, Ok, Err}
-use Rattle.fugue_ids.specs.Runs.{run_from, start_behind, text_in}
+use Rattle.std.specs.Prelude.{◌≡◌, ◌⊎◌, ℕ, ◌+◌, ◌-◌, ◌<◌, ◌≤◌, ◌^◌, ◌*◌, Bool, true, false, List, [], ◌∷◌, ◌++◌, length, take, drop, Option, Some, None, Result, Ok, Err}
+use Rattle.fugue_ids.specs.Identifiers.{Identifier}
+use Rattle.fugue_ids.specs.Runs.{id_behind, run_from, start_behind, text_by, text_in}
+use Rattle.fugue_ids.specs.declared.limits.TheConstants.{BUFFER}
 use Rattle.fugue_ids.specs.declared.op.Op.{Op}
-use Rattle.fugue_ids.specs.declared.op.Op.TheVariants.{Text}
+use Rattle.fugue_ids.specs.declared.op.Op.TheVariants.{Delete}
 use Rattle.fugue_ids.specs.declared.run.RunStart.{RunStart}
+use Rattle.op_runs.specs.Deletions.{deletes_up}
 use Rattle.outer_ports.specs.Sources.{SourceView}
 use Rattle.origin_model.specs.declared.grammar.Grammar.{Grammar}
 use Rattle.origin_model.specs.frames.Frames.{HasFrame, IsFrame, frame}
 use Rattle.op_frame.specs.FrameFronts.{IsFrameOf}
-use Rattle.op_frame.specs.Heads.{HeadIs, scalars_in}
-use Rattle.op_frame.specs.Readers.{FrameReading, Gave, Nexts, Rises}
+use Rattle.op_frame.specs.Heads.{HeadIs, text_scalars}
+use Rattle.op_frame.specs.Readers.{FrameReading, Gave, Nexts, RisesByThree}
 use Rattle.op_frame.specs.declared.fault.FrameFault.{FrameFault}
 use Rattle.op_frame.specs.declared.fault.FrameFault.TheVariants.{NoMemory}
 use Rattle.op_frame.specs.declared.head.Head.{Head}
 use Rattle.op_frame.specs.declared.next_ops.NextOps.{NextOps}
-use Rattle.op_frame.specs.declared.next_ops.NextOps.TheVariants.{Run, Single}
+use Rattle.op_frame.specs.declared.next_ops.NextOps.TheVariants.{Deletes, Run, Single}
 
 -- the operations that are given at once, with the scalars of a run beside them
 abbrev pub ops_given : NextOps → List ℕ → List Op
 ops_given (Run start) text = run_from start text
+ops_given (Deletes target count) text = deletes_up target count
 ops_given (Single op) text = op ∷ []
 
--- the last identifier of a run has 32 bits too, and what is given alone is no Text
-abbrev pub IsSound : NextOps → List ℕ → Type 0
-IsSound (Run start) text = start.id.counter + length text ≤ 2 ^ 32
-IsSound (Single op) text = text_in op ≡ None
+-- the last identifier of a run or of a row of Deletes has 32 bits too, and what is given alone is no Text
+abbrev pub AreSoundRuns : NextOps → List ℕ → Type 0
+AreSoundRuns (Run start) text = start.id.counter + length text ≤ 2 ^ 32
+AreSoundRuns (Deletes target count) text = (target.counter + count ≤ 2 ^ 32) × (count ≤ BUFFER)
+AreSoundRuns (Single op) text = text_in op ≡ None
 
 -- as many calls of `next` give these operations, one after another, of what the reader has: the source is left alone
 abbrev pub GivesOn : (old new : FrameReading) → SourceView → List Op → Type 0
@@ -39,7 +44,7 @@ GivesAll old new before after (op ∷ ops) = (mid : FrameReading) × Nexts old m
 -- One call of `next_run`, where no fault was kept. Where nothing is given, it is a call of `next`, or there was no room
 -- for a scalar, and then nothing was done.
 abbrev pub NextsRun : (old new : FrameReading) → (before after : SourceView) → Result (Option NextOps) FrameFault → List ℕ → Type 0
-NextsRun old new before after (Ok (Some given)) text = GivesAll old new before after (ops_given given text) × IsSound given text
+NextsRun old new before after (Ok (Some given)) text = GivesAll old new before after (ops_given given text) × AreSoundRuns given text
 NextsRun old new before after (Ok None) text = Nexts old new before after (Ok None)
 NextsRun old new before after (Err e) text = Nexts old new before after (Err e) ⊎ (e ≡ NoMemory) × (new ≡ old) × (after ≡ before)
 
@@ -68,7 +73,7 @@ GivesManyBy old new before after result text = Unit {0}
 
 -- Of the operations that are given, one is reached behind those before it: by a call of `next`, from a reader that gave
 -- these.
-pub record IsReached (old : FrameReading) (before after : SourceView) (front : List Op) (op : Op) : Type 0 where
+pub record IsReachedRun (old : FrameReading) (before after : SourceView) (front : List Op) (op : Op) : Type 0 where
   pub at : FrameReading
   pub next : FrameReading
   pub seen : SourceView
@@ -86,7 +91,7 @@ pub record Gathers (first : Op) (given : NextOps) (text : List ℕ) (old new : F
   pub others : List Op
   pub ops_are : ops_given given text ≡ first ∷ others
   pub gives : (source : SourceView) → GivesOn old new source others
-  pub sound : IsSound given text
+  pub sound : AreSoundRuns given text
   -- a scalar takes three bytes, and that of the operation itself was taken before
   pub short : 3 * length text + bytes_had new ≤ bytes_had old + 3
 
@@ -102,8 +107,29 @@ pub record GathersTexts (start : RunStart) (old_text text : List ℕ) (old new :
 
 -- the same, with at least one, or nothing was done
 abbrev pub GathersMore : Bool → RunStart → (old_text text : List ℕ) → (old new : FrameReading) → Type 0
-GathersMore true start old_text text old new = GathersTexts start old_text text old new × Rises old new × (new.offset ≤ new.limit)
+GathersMore true start old_text text old new = GathersTexts start old_text text old new × RisesByThree old new × (new.offset ≤ new.limit)
 GathersMore false start old_text text old new = (text ≡ old_text) × (new ≡ old)
+
+-- the Deletes behind this one were given, so many with it
+pub record GathersDeletes (target : Identifier) (count : ℕ) (old new : FrameReading) : Type 0 where
+  pub some : 0 < count
+  pub gives : (source : SourceView) → GivesOn old new source (deletes_up (id_behind target 1) (count - 1))
+  pub counters : target.counter + count ≤ 2 ^ 32
+  pub few : count ≤ BUFFER
+  pub no_fault : new.fault ≡ None
+  pub short : bytes_had new ≤ bytes_had old
+
+-- the Delete so many behind this one was given
+pub record GathersOne (target : Identifier) (count : ℕ) (old new : FrameReading) : Type 0 where
+  pub gives : (source : SourceView) → GivesOn old new source (Delete (id_behind target count) ∷ [])
+  pub counters : target.counter + count < 2 ^ 32
+  pub no_fault : new.fault ≡ None
+  pub short : bytes_had new ≤ bytes_had old
+
+-- the same, or nothing was done
+abbrev pub GathersDelete : Bool → Identifier → ℕ → (old new : FrameReading) → Type 0
+GathersDelete true target count old new = GathersOne target count old new
+GathersDelete false target count old new = new ≡ old
 
 -- what a run's frame says before its scalars
 abbrev pub start_in : Head → RunStart
@@ -111,25 +137,30 @@ start_in head = record { id = head.id; section = head.section; left = head.left;
 
 -- the scalars of the Texts that are held back went behind the text, or none of them
 abbrev pub PutsScalars : Bool → Head → (bytes old_text text : List ℕ) → Type 0
-PutsScalars true head bytes old_text text = text ≡ old_text ++ scalars_in head.count bytes
+PutsScalars true head bytes old_text text = text ≡ old_text ++ text_scalars head.count bytes
 PutsScalars false head bytes old_text text = text ≡ old_text
 
 -- the scalars of the Texts that are held back went behind the text, since these go on with the run, or nothing was done
 abbrev pub TakesHeld : Bool → RunStart → Head → (old_text text old new : List ℕ) → Type 0
 TakesHeld true start head old_text text old new =
-    (start_in head ≡ start_behind start (length old_text)) × (text ≡ old_text ++ scalars_in head.count old) × (new ≡ drop (3 * head.count) old)
+    (start_in head ≡ start_behind start (length old_text)) × (text ≡ old_text ++ text_scalars head.count old) × (new ≡ drop (3 * head.count) old)
 TakesHeld false start head old_text text old new = (text ≡ old_text) × (new ≡ old)
 
--- the frame at the front is of a Text that says this, and has this scalar
-pub record IsTextFront (next : RunStart) (ch len : ℕ) (bytes : List ℕ) : Type 0 where
-  pub has_frame : HasFrame (Text next.id next.section next.left next.right ch)
+-- the frame at the front is that of the operation
+pub record IsOpFront (op : Op) (len : ℕ) (bytes : List ℕ) : Type 0 where
+  pub has_frame : HasFrame op
   pub rest : List ℕ
-  pub split : bytes ≡ frame (Text next.id next.section next.left next.right ch) ++ rest
+  pub split : bytes ≡ frame op ++ rest
   pub len_is : len + length rest ≡ length bytes
 
 -- the frame at the front is of the Text that stands so many behind the first of a run
 abbrev pub IsTextBehind : (start : RunStart) (count ch len : ℕ) (bytes : List ℕ) → Type 0
-IsTextBehind start count ch len bytes = (start.id.counter + count < 2 ^ 32) × IsTextFront (start_behind start count) ch len bytes
+IsTextBehind start count ch len bytes = (start.id.counter + count < 2 ^ 32) × IsOpFront (text_by (start_behind start count) ch) len bytes
+
+-- the frame at the front is that of the Delete, and it was taken off, or nothing was done
+abbrev pub TakesDelete : (target : Identifier) → (old new : List ℕ) → Option ℕ → Type 0
+TakesDelete target old new (Some len) = IsOpFront (Delete target) len old × (new ≡ drop len old)
+TakesDelete target old new None = new ≡ old
 
 -- the frame at the front is that of a run
 pub record IsRunFront (grammar : Grammar) (head : Head) (len : ℕ) (bytes : List ℕ) : Type 0 where

@@ -7,9 +7,10 @@ use Rattle.origin_model.specs.declared.grammar.Grammar.{Grammar}
 use Rattle.origin_model.specs.frames.Frames.{Framed, IsFrame, IsPartial, IsBad, End, Whole, CutShort as EndsCutShort, BadFrame as EndsInBadFrame, Reads}
 use Rattle.op_frame.specs.declared.fault.FrameFault.{FrameFault}
 use Rattle.op_frame.specs.declared.fault.FrameFault.TheVariants.{BadFrame, CutShort, ReadFault, TooLong, NoMemory}
-use Rattle.op_frame.specs.Courses.{EndsWell}
+use Rattle.op_frame.specs.Courses.{EndsInFrame}
 use Rattle.op_frame.specs.FrameFronts.{AsksMemory}
 
+-- a reader of frames over its source
 pub record FrameReading : Type 0 where
   -- by which frames it reads
   pub grammar : Grammar
@@ -123,8 +124,8 @@ pub record Advances (old new : FrameReading) (result : Result (Option Op) FrameF
   pub fault : new.fault ≡ fault_after result
 
 -- the place, less three for each operation held back, rises by three at least
-abbrev pub Rises : FrameReading → FrameReading → Type 0
-Rises old new = old.offset + 3 * length new.todo + 3 ≤ new.offset + 3 * length old.todo
+abbrev pub RisesByThree : FrameReading → FrameReading → Type 0
+RisesByThree old new = old.offset + 3 * length new.todo + 3 ≤ new.offset + 3 * length old.todo
 
 -- one call of `next` where no fault was kept
 pub record Nexts (old new : FrameReading) (before after : SourceView) (result : Result (Option Op) FrameFault) : Type 0 where
@@ -135,10 +136,10 @@ pub record Nexts (old new : FrameReading) (before after : SourceView) (result : 
   pub advances : Advances old new result
 
 -- the end of bytes behind a front of so many
-abbrev pub raised : ℕ → End → End
-raised n Whole = Whole
-raised n (EndsCutShort k) = EndsCutShort (n + k)
-raised n (EndsInBadFrame k) = EndsInBadFrame (n + k)
+abbrev pub raised_end : ℕ → End → End
+raised_end n Whole = Whole
+raised_end n (EndsCutShort k) = EndsCutShort (n + k)
+raised_end n (EndsInBadFrame k) = EndsInBadFrame (n + k)
 
 -- of these bytes to read, the operations still to be given are these, those held back first, and the bytes end so
 pub record HasTodo (r : FrameReading) (bytes : List ℕ) (todo : List Op) (end : End) : Type 0 where
@@ -154,14 +155,14 @@ pub record GaveFirst (op : Op) (old new : FrameReading) (left : Option (List ℕ
   pub rest : List ℕ
   pub split : bytes ≡ front ++ rest
   pub to_give_is : to_give new left ≡ Some rest
-  pub first : (todo : List Op) (end : End) → HasTodo old bytes todo end → (later : List Op) (ends : End) → HasTodo new rest later ends → (todo ≡ op ∷ later) × (end ≡ raised (length front) ends)
+  pub first : (todo : List Op) (end : End) → HasTodo old bytes todo end → (later : List Op) (ends : End) → HasTodo new rest later ends → (todo ≡ op ∷ later) × (end ≡ raised_end (length front) ends)
 
 -- the answer by the operations still to be given and the end of the bytes, at a place
-abbrev pub answer_at : ℕ → List Op → End → Result (Option Op) FrameFault
-answer_at offset (op ∷ later) end = Ok (Some op)
-answer_at offset [] Whole = Ok None
-answer_at offset [] (EndsCutShort k) = Err (CutShort (offset + k))
-answer_at offset [] (EndsInBadFrame k) = Err (BadFrame (offset + k))
+abbrev pub answer_of_rest : ℕ → List Op → End → Result (Option Op) FrameFault
+answer_of_rest offset (op ∷ later) end = Ok (Some op)
+answer_of_rest offset [] Whole = Ok None
+answer_of_rest offset [] (EndsCutShort k) = Err (CutShort (offset + k))
+answer_of_rest offset [] (EndsInBadFrame k) = Err (BadFrame (offset + k))
 
 -- the reading decides such an answer: it is no fault of the source, no want of memory, and within the limit
 abbrev pub IsByReading : Result (Option Op) FrameFault → Type 0
@@ -173,8 +174,8 @@ IsByReading result = Unit {0}
 -- what one call of `next`, where no fault was kept, says of all that is still to be given
 pub record GivesInOrder (old new : FrameReading) (before after : SourceView) (result : Result (Option Op) FrameFault) : Type 0 where
   pub first : IfOk result (λ given. IfSome given (λ op. IfSome (to_give old before.left) (GaveFirst op old new after.left)))
-  pub rises : IfOk result (λ given. IfSome given (λ op. Rises old new))
-  pub exactly : IsByReading result → IfSome (to_give old before.left) (λ bytes. (todo : List Op) (end : End) → HasTodo old bytes todo end → result ≡ answer_at old.offset todo end)
+  pub rises : IfOk result (λ given. IfSome given (λ op. RisesByThree old new))
+  pub exactly : IsByReading result → IfSome (to_give old before.left) (λ bytes. (todo : List Op) (end : End) → HasTodo old bytes todo end → result ≡ answer_of_rest old.offset todo end)
   pub over : result ≡ Ok None → IfSome after.left (λ left. left ≡ [])
   pub memory : IsErrOf result NoMemory → (old.todo ≡ []) × IfSome (to_give old before.left) AsksMemory
 
@@ -201,7 +202,7 @@ abbrev pub EndsBy : Grammar → (limit : ℕ) (ops : List Op) → Result (Option
 EndsBy grammar limit ops (Ok None) bytes = (length bytes ≤ limit) × Reads grammar bytes ops Whole
 EndsBy grammar limit ops (Err (CutShort k)) bytes = (length bytes ≤ limit) × Reads grammar bytes ops (EndsCutShort k)
 EndsBy grammar limit ops (Err (BadFrame k)) bytes = Reads grammar (take limit bytes) ops (EndsInBadFrame k) × Reads grammar bytes ops (EndsInBadFrame k)
-EndsBy grammar limit ops (Err TooLong) bytes = (limit < length bytes) × EndsWell grammar (take limit bytes) ops
+EndsBy grammar limit ops (Err TooLong) bytes = (limit < length bytes) × EndsInFrame grammar (take limit bytes) ops
 EndsBy grammar limit ops result bytes = Unit {0}
 
 -- what an answer adds, behind operations that were given of the bytes that were told

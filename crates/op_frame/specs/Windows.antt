@@ -3,6 +3,7 @@ use Rattle.std.specs.Prelude.{◌≡◌, ℕ, ◌+◌, ◌-◌, ◌≤◌, List,
 use Rattle.std.specs.Io.KnownBytes.{prepend_known}
 use Rattle.outer_ports.specs.Sources.{SourceView, ReadsSome, KeepsCount}
 
+-- a buffer from the first byte still to be given on
 pub record Window : Type 0 where
   -- the bytes still to be given
   pub bytes : List ℕ
@@ -19,7 +20,7 @@ pub record Filled {E : Type 0} (old new : List ℕ) (before after : SourceView) 
   pub count : KeepsCount before after (IsErr result)
 
 -- a read whose buffer is a part of this one
-pub record Placed {E : Type 0} (old new : List ℕ) (from to : ℕ) (before after : SourceView) (result : Result ℕ E) : Type 0 where
+pub record PlacedPart {E : Type 0} (old new : List ℕ) (from to : ℕ) (before after : SourceView) (result : Result ℕ E) : Type 0 where
   pub part : List ℕ
   pub long : length part ≡ to - from
   pub items : new ≡ take from old ++ (part ++ drop to old)

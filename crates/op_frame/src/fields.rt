@@ -1,6 +1,6 @@
 ghost use Rattle.std.specs.Prelude.{◌≡◌, ◌++◌, drop};
 ghost use Rattle.std.specs.Char.{IsScalar};
-ghost use Rattle.origin_model.specs.frames.Frames.{AreNames, IsIdentifier, IsOrigin};
+ghost use Rattle.origin_model.specs.frames.Frames.{AreNames, IsIdentifier, IsFrameOrigin};
 ghost use Rattle.origin_model.specs.frames.Frames.{id_bytes, names_bytes, origin_bytes, scalar_bytes};
 ghost use Rattle.op_frame.specs.Firsts.{StartsWith};
 ghost use Rattle.op_frame.specs.FrameFronts.{AreNamesBytes, IsIdentifierBytes, IsOriginBytes, IsScalarBytes};
@@ -35,7 +35,7 @@ impl<'a> Fields<'a> {
     pub(crate) fn origin(&mut self) -> Option<ElementId>
         requires { StartsWith IsOriginBytes self.old.rest.now }
         ensures split { self.old.rest.now ≡ origin_bytes result ++ self.new.rest.now }
-        ensures is { IsOrigin result }
+        ensures is { IsFrameOrigin result }
     {
         let tag = self.rest[0];
         self.rest = &self.rest[1..];

@@ -1,7 +1,8 @@
 ghost use Rattle.std.specs.Prelude.{All};
 ghost use Rattle.std.specs.Char.{IsScalar};
-ghost use Rattle.origin_model.specs.frames.Frames.{AreNames, HasFrame, IsBody, IsByte, IsIdentifier, IsOrigin, IsTitle};
+ghost use Rattle.origin_model.specs.frames.Frames.{AreNames, HasFrame, IsBody, IsByte, IsIdentifier, IsFrameOrigin, IsTitle};
 ghost use Rattle.fugue_ids.specs.Runs.{text_by};
+ghost use Rattle.fugue_ids.specs.declared.op.Op.TheVariants.{Delete as DeleteOf};
 
 use fugue_ids::{Body, ElementId, NoteNames, Op, RunStart, Title};
 
@@ -57,12 +58,19 @@ pub(crate) fn has_text_frame(next: &RunStart, ch: char)
     scalar(ch);
 }
 
+/// A Delete has a frame: nothing is done.
+pub(crate) fn has_delete_frame(target: ElementId)
+    ensures { HasFrame (DeleteOf target) }
+{
+    identifier(target);
+}
+
 /// What the first Text of a run says can stand in a frame: nothing is done.
 pub(crate) fn has_identifiers(start: &RunStart)
     ensures id { IsIdentifier start.now.id }
     ensures section { IsIdentifier start.now.section }
-    ensures left { IsOrigin start.now.left }
-    ensures right { IsOrigin start.now.right }
+    ensures left { IsFrameOrigin start.now.left }
+    ensures right { IsFrameOrigin start.now.right }
 {
     identifier(start.id);
     identifier(start.section);
@@ -75,7 +83,7 @@ fn identifier(_id: ElementId)
 {}
 
 fn origin(origin: Option<ElementId>)
-    ensures { IsOrigin origin }
+    ensures { IsFrameOrigin origin }
 {
     match origin {
         None => {}

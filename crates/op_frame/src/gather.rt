@@ -1,16 +1,16 @@
-ghost use Rattle.std.specs.Prelude.{◌≡◌, ◌≤◌, IfSome, IsTrue, length, vec_capacity};
-ghost use Rattle.fugue_ids.specs.Runs.{start_behind};
+ghost use Rattle.std.specs.Prelude.{◌≡◌, ◌<◌, ◌≤◌, ◌+◌, ◌^◌, IfSome, IsTrue, length, vec_capacity};
+ghost use Rattle.fugue_ids.specs.Runs.{id_behind, start_behind};
 ghost use Rattle.op_frame.specs.Heads.{IsHeld};
-ghost use Rattle.op_frame.specs.NextRuns.{IsRunFront, IsTextBehind, PutsScalars, TakesFront, TakesHeld, start_in};
+ghost use Rattle.op_frame.specs.NextRuns.{IsRunFront, IsTextBehind, PutsScalars, TakesDelete, TakesFront, TakesHeld, start_in};
 
 use crate::fields::first_scalar;
 use crate::frame_ops::run_head;
 use crate::front::{Front, front_of};
 use crate::head::Head;
 use crate::protocol::RUN;
-use crate::text_front::text_front;
+use crate::text_front::{delete_front, text_front};
 use crate::unread::Unread;
-use fugue_ids::RunStart;
+use fugue_ids::{ElementId, RunStart};
 use origin_model::Grammar;
 
 /// Takes the scalars of the Texts that are held back, if these go on with the run. After want of memory nothing is done.
@@ -49,6 +49,27 @@ pub(crate) fn take_texts(
         Some((head, len)) => take_run(grammar, start, &head, len, unread, text),
         None => take_text(grammar, start, unread, text),
     }
+}
+
+/// The identifier so many behind this one, where there is one.
+pub(crate) fn target_behind(first: ElementId, count: u32) -> Option<ElementId>
+    ensures is { IfSome result (λ id. id ≡ id_behind first count) }
+    ensures fits { IfSome result (λ id. first.counter + count < 2 ^ 32) }
+{
+    if count > u32::MAX - first.counter {
+        return None;
+    }
+    Some(first.behind(count))
+}
+
+/// Takes the frame at the front off the bytes, if it is whole and that of the Delete of this target, and answers its
+/// length.
+pub(crate) fn take_delete(target: ElementId, unread: &mut Unread) -> Option<usize>
+    ensures { TakesDelete target unread.old.bytes unread.new.bytes result }
+{
+    let len = delete_front(target, unread.as_slice())?;
+    unread.skip(len);
+    Some(len)
 }
 
 /// The run whose frame stands at the front of the bytes, and the frame's length.

@@ -1,5 +1,5 @@
 ghost use Rattle.std.specs.Prelude.{◌≡◌, ◌≤◌, [], ◌∷◌, length, take, drop, IfNone, IfSome, IsFalse, IsTrue};
-ghost use Rattle.op_frame.specs.Firsts.{IsBetween, IsLetterFrame, IsLetterFront, StartsWith};
+ghost use Rattle.op_frame.specs.Firsts.{IsFieldBetween, IsLetterFrame, IsLetterFront, StartsWith};
 ghost use Rattle.op_frame.specs.FrameFronts.{IsIdentifierBytes, IsOriginBytes, IsScalarBytes};
 
 use crate::number::{number, scalar_of};
@@ -38,7 +38,7 @@ fn text_end(bytes: &[u8]) -> Option<usize>
 fn identifier_end(bytes: &[u8], at: usize) -> Option<usize>
     requires { at ≤ length bytes.now }
     ensures none { IfNone result (StartsWith IsIdentifierBytes (drop at bytes.now) → ⊥) }
-    ensures some { IfSome result (λ end. IsBetween IsIdentifierBytes bytes.now at end) }
+    ensures some { IfSome result (λ end. IsFieldBetween IsIdentifierBytes bytes.now at end) }
 {
     if bytes.len() - at < 8 {
         return None;
@@ -54,7 +54,7 @@ fn identifier_end(bytes: &[u8], at: usize) -> Option<usize>
 fn origin_end(bytes: &[u8], at: usize) -> Option<usize>
     requires { at ≤ length bytes.now }
     ensures none { IfNone result (StartsWith IsOriginBytes (drop at bytes.now) → ⊥) }
-    ensures some { IfSome result (λ end. IsBetween IsOriginBytes bytes.now at end) }
+    ensures some { IfSome result (λ end. IsFieldBetween IsOriginBytes bytes.now at end) }
 {
     if at == bytes.len() {
         return None;
@@ -70,7 +70,7 @@ fn origin_end(bytes: &[u8], at: usize) -> Option<usize>
 fn scalar_end(bytes: &[u8], at: usize) -> Option<usize>
     requires { at ≤ length bytes.now }
     ensures none { IfNone result (StartsWith IsScalarBytes (drop at bytes.now) → ⊥) }
-    ensures some { IfSome result (λ end. IsBetween IsScalarBytes bytes.now at end) }
+    ensures some { IfSome result (λ end. IsFieldBetween IsScalarBytes bytes.now at end) }
 {
     if bytes.len() - at < 3 {
         return None;

@@ -4,16 +4,18 @@ ghost use Rattle.fugue_ids.specs.declared.limits.TheConstants.{BUFFER};
 ghost use Rattle.outer_ports.specs.Sources.{KeepsCount};
 ghost use Rattle.origin_model.specs.declared.grammar.Grammar.TheVariants.{Version1 as Singles, Version2 as WithRuns};
 ghost use Rattle.op_frame.specs.Readers.{Chains, Gave, GivesInOrder, Nexts, fresh_reading, kept_fault};
-ghost use Rattle.op_frame.specs.NextRuns.{bytes_had, Gathers, GathersMore, GathersTexts, GivesManyBy, NextsRun};
+ghost use Rattle.op_frame.specs.NextRuns.{bytes_had, Gathers, GathersDelete, GathersDeletes, GathersMore, GathersTexts};
+ghost use Rattle.op_frame.specs.NextRuns.{GivesManyBy, NextsRun};
 ghost use Rattle.op_frame.specs.declared.fault.FrameFault.TheVariants.{ReadFault};
 
 use crate::FrameFault;
-use crate::gather::{take_held_texts, take_texts};
+use crate::encoding::LONGEST_RUN;
+use crate::gather::{take_delete, take_held_texts, take_texts, target_behind};
 use crate::head::Head;
 use crate::next_ops::NextOps;
 use crate::step::{take_held, take_next};
 use crate::unread::Unread;
-use fugue_ids::{NoMemory, Op, RunStart, read_text};
+use fugue_ids::{ElementId, NoMemory, Op, RunStart, read_text};
 use origin_model::Grammar;
 use outer_ports::Source;
 use std::alloc::Global;
@@ -120,11 +122,12 @@ impl FrameReader {
         }
     }
 
-    /// The next operations: a run's Texts, whose scalars are then in `text`, or one operation that is no Text. None comes
-    /// at the end of the stream. They are those that as many calls of `next` give.
+    /// The next operations: a run's Texts, whose scalars are then in `text`, or Deletes of identifiers that follow one
+    /// another, or one other operation. None comes at the end of the stream. They are those that as many calls of `next`
+    /// give.
     ///
-    /// Texts are given at once as long as each goes on with the one before it, and stands whole in the bytes that were
-    /// taken of the source already. So the source is asked for bytes only where nothing could be given otherwise, and
+    /// Texts or Deletes are given at once as long as each goes on with the one before it, and stands whole in the bytes
+    /// that were taken of the source already. So the source is asked for bytes only where nothing could be given otherwise, and
     /// what it answers then is never held back. `text` keeps its room. Where it has none, and
     /// none is to be had for one scalar, nothing is done; a call that runs out of memory later gives what it has.
     pub fn next_run<S: Source>(
@@ -178,12 +181,49 @@ impl FrameReader {
         ensures gathers { Gathers op result text.new.items self.old self.new }
         ensures kept_room { vec_capacity text.old ≤ vec_capacity text.new }
     {
+        if let Op::Delete { target } = op {
+            let count = self.gather_deletes(target);
+            return NextOps::Deletes(target, count);
+        }
         let Some((start, ch)) = read_text(&op) else {
             return NextOps::Single(op);
         };
         text.push_reserved(ch);
         self.gather_texts(&start, text);
         NextOps::Run(start)
+    }
+
+    /// Gives the Deletes that go on with this one, and answers how many they are with it.
+    fn gather_deletes(&mut self, first: ElementId) -> u32
+        requires { self.old.fault ≡ None }
+        ensures { GathersDeletes first result self.old self.new }
+    {
+        // That the counter fits is told where it is read.
+        let _counter = first.counter;
+        let mut count = 1;
+        'deletes: while count < LONGEST_RUN as u32 && self.gather_delete(first, count) {
+            count += 1;
+        }
+        count
+    }
+
+    /// Gives the Delete of the identifier so many behind this one, if that stands next.
+    fn gather_delete(&mut self, first: ElementId, count: u32) -> bool
+        requires { self.old.fault ≡ None }
+        ensures { GathersDelete result first count self.old self.new }
+    {
+        if self.held.is_some() {
+            return false;
+        }
+        let Some(target) = target_behind(first, count) else {
+            return false;
+        };
+        let Some(len) = take_delete(target, &mut self.unread) else {
+            return false;
+        };
+        self.last = self.offset;
+        self.offset += len as u64;
+        true
     }
 
     /// Gives the Texts that go on with the run.

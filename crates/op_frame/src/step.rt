@@ -2,7 +2,7 @@ ghost use Rattle.std.specs.Prelude.{◌≡◌, ◌≤◌, ◌≢◌, length, tak
 ghost use Rattle.origin_model.specs.declared.grammar.Grammar.TheVariants.{Version2 as WithRuns};
 ghost use Rattle.op_frame.specs.FrameFronts.{IsFrameOf};
 ghost use Rattle.op_frame.specs.Heads.{GivesHeld, IsHeld};
-ghost use Rattle.op_frame.specs.Steps.{Takes, TakesFrame};
+ghost use Rattle.op_frame.specs.Steps.{TakesFrontFrame, TakesFrame};
 ghost use Rattle.op_frame.specs.declared.fault.FrameFault.TheVariants.{CutShort};
 
 use crate::FrameFault;
@@ -35,7 +35,7 @@ pub(crate) fn take_next<S: Source>(
     source: &mut S,
 ) -> Result<Option<Taken>, FrameFault>
     requires { length unread.old.bytes ≤ room }
-    ensures { Takes grammar unread.old.bytes unread.new.bytes (S.seen source.old) (S.seen source.new) offset room
+    ensures { TakesFrontFrame grammar unread.old.bytes unread.new.bytes (S.seen source.old) (S.seen source.new) offset room
         result }
 {
     'reads: loop {

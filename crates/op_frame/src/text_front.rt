@@ -1,17 +1,19 @@
 ghost use Rattle.std.specs.Prelude.{◌≡◌, ◌++◌, ◌∷◌, IfSome, drop};
+ghost use Rattle.fugue_ids.specs.Runs.{text_by};
+ghost use Rattle.fugue_ids.specs.declared.op.Op.TheVariants.{Delete as DeleteOf};
 ghost use Rattle.origin_model.specs.frames.Frames.{id_bytes, origin_bytes, scalar_bytes};
-ghost use Rattle.op_frame.specs.NextRuns.{IsTextFront};
+ghost use Rattle.op_frame.specs.NextRuns.{IsOpFront};
 
-use crate::framed::has_text_frame;
+use crate::framed::{has_delete_frame, has_text_frame};
 use crate::number::{number, scalar_of};
-use crate::protocol::TEXT;
+use crate::protocol::{DELETE, TEXT};
 use fugue_ids::{ElementId, RunStart};
 
 /// The scalar and the length of the frame at the front of the bytes, where it is whole and that of a Text that says this.
 pub(crate) fn text_front(next: &RunStart, bytes: &[u8]) -> Option<(char, usize)>
-    ensures { IfSome result (λ found. IsTextFront next.now found.0 found.1 bytes.now) }
+    ensures { IfSome result (λ found. IsOpFront (text_by next.now found.0) found.1 bytes.now) }
 {
-    let rest = behind_kind(bytes)?;
+    let rest = behind_kind(bytes, TEXT)?;
     let rest = behind_identifier(rest, next.id)?;
     let rest = behind_identifier(rest, next.section)?;
     let rest = behind_origin(rest, next.left)?;
@@ -21,11 +23,21 @@ pub(crate) fn text_front(next: &RunStart, bytes: &[u8]) -> Option<(char, usize)>
     Some((ch, bytes.len() - rest.len() + 3))
 }
 
-/// The bytes behind the first one of a Text's frame.
-fn behind_kind(bytes: &[u8]) -> Option<&[u8]>
-    ensures { IfSome result (λ rest. bytes.now ≡ TEXT ∷ rest.now) }
+/// The length of the frame at the front of the bytes, where it is whole and that of the Delete of this target.
+pub(crate) fn delete_front(target: ElementId, bytes: &[u8]) -> Option<usize>
+    ensures { IfSome result (λ len. IsOpFront (DeleteOf target) len bytes.now) }
 {
-    if bytes.is_empty() || bytes[0] != TEXT {
+    let rest = behind_kind(bytes, DELETE)?;
+    let rest = behind_identifier(rest, target)?;
+    has_delete_frame(target);
+    Some(bytes.len() - rest.len())
+}
+
+/// The bytes behind the first one of a frame of this kind.
+fn behind_kind(bytes: &[u8], kind: u8) -> Option<&[u8]>
+    ensures { IfSome result (λ rest. bytes.now ≡ kind ∷ rest.now) }
+{
+    if bytes.is_empty() || bytes[0] != kind {
         return None;
     }
     Some(&bytes[1..])

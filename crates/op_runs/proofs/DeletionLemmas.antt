@@ -7,7 +7,7 @@ use Rattle.fugue_ids.specs.declared.op.Op.{Op}
 use Rattle.fugue_ids.specs.declared.op.Op.TheVariants.{Delete}
 use Rattle.fugue_ids.proofs.RunLemmas.{none_behind, one_behind}
 use Rattle.op_runs.specs.Deletions.{deletes_by, deletes_down, deletes_up, id_before, target_by}
-use Rattle.op_runs.specs.Growing.{IsLonger}
+use Rattle.op_runs.specs.Growing.{HasMoreDeletes}
 use Rattle.op_runs.specs.Parts.{GoesOnBy}
 use Rattle.op_runs.specs.declared.part.Deletes.{Deletes}
 
@@ -61,7 +61,7 @@ longer_by false most = most
 
 -- Deletes more
 pub longer_is : (d : Deletes) (target : Identifier) (most : ℕ) (down : Bool) → 0 < most → target.counter + most ≤ 2 ^ 32 → GoesOnBy d target down
-    → IsLonger d target most (record { target = d.target; count = d.count + longer_by down most; down = down })
+    → HasMoreDeletes d target most (record { target = d.target; count = d.count + longer_by down most; down = down })
 longer_is d target most true some fits (way, is) =
     let counter : d.target.counter ≡ target.counter + d.count = ap (λ (i : Identifier). i.counter) is in
     let e : d.target.counter - d.count ≡ target.counter = omega (arith, counter) in

@@ -13,8 +13,8 @@ use Rattle.fugue_ids.specs.declared.op.Op.TheVariants.{Delete}
 use Rattle.fugue_ids.specs.declared.run.RunStart.{RunStart}
 use Rattle.fugue_ids.proofs.RunLemmas.{length-typed, none_behind}
 use Rattle.op_runs.specs.Deletions.{CountersFit, deletes_by, target_by}
-use Rattle.op_runs.specs.Entries.{Alone, AreLongest, Entry, IsEntry, IsParted, Neighbours, Run, entry_ops}
-use Rattle.op_runs.specs.Parts.{AreApart, AreParts, GoesOn, IsOther, IsSound, ops_of, other_ops, part_len, part_ops}
+use Rattle.op_runs.specs.Entries.{Alone, AreMaximal, Entry, IsRunEntry, IsPartedIn, Neighbours, Run, entry_ops}
+use Rattle.op_runs.specs.Parts.{AreApart, AreParts, ContinuesPart, IsOther, AreSoundParts, ops_of, other_ops, part_len, part_ops}
 use Rattle.op_runs.specs.declared.part.Deletes.{Deletes}
 use Rattle.op_runs.specs.declared.part.Part.{Part}
 use Rattle.op_runs.specs.declared.part.Part.TheVariants.{Deleted, Other, Typed}
@@ -55,7 +55,7 @@ same_target : (t u : Identifier) → Some (Delete t) ≡ Some (Delete u) → t �
 same_target t u e = cc e
 
 -- a Delete stands in Deletes of neighbours alone
-deletes_alone : (letters : List ℕ) (others : List Op) (p : Part) (j : ℕ) (t : Identifier) → IsSound (length letters) (length others) p → j < part_len p → All IsOther others
+deletes_alone : (letters : List ℕ) (others : List Op) (p : Part) (j : ℕ) (t : Identifier) → AreSoundParts (length letters) (length others) p → j < part_len p → All IsOther others
     → slice_get (part_ops letters others p) j ≡ Some (Delete t) → (d : Deletes) × (p ≡ Deleted d) × (target_by d.down d.target j ≡ t)
 deletes_alone letters others (Typed r) j t s inside other e =
     let c : ℕ = get_or letters (r.at + j) 0 in
@@ -100,7 +100,7 @@ one_way false true t e = absurd (omega (arith, ap (λ (i : Identifier). i.counte
 one_way false false t e = refl
 
 -- No entry has a part's operations and the first of the next
-module _ (letters : List ℕ) (others : List Op) (p q : Part) (sp : IsSound (length letters) (length others) p) (sq : IsSound (length letters) (length others) q) (other : All IsOther others) (apart : GoesOn p q → ⊥)
+module _ (letters : List ℕ) (others : List Op) (p q : Part) (sp : AreSoundParts (length letters) (length others) p) (sq : AreSoundParts (length letters) (length others) q) (other : All IsOther others) (apart : ContinuesPart p q → ⊥)
     (op : Op) (rest : List Op) (first : part_ops letters others q ≡ op ∷ rest) where
   n_is : length (part_ops letters others p) ≡ part_len p
   n_is = part_has letters others p sp
@@ -122,7 +122,7 @@ module _ (letters : List ℕ) (others : List Op) (p q : Part) (sp : IsSound (len
     xs_new = (λ i. slice_get (is i) (sym n_is i)) ∙ slice_get-seam (part_ops letters others p) op ∙ sym (ap (λ z. slice_get z 0) first)
 
   run_at : (s : RunStart) (u : List ℕ) (j : ℕ) → j < length u → slice_get (run_from s u) j ≡ Some (text_by (start_behind s j) (get_or u j 0))
-  run_at s u j h = typed_at s.id s.section s.left s.right u j ∙ ap (option_map (λ ch. text_by (start_behind s j) ch)) (slice_get-get_or u j 0 h)
+  run_at s u j h = typed_at s u j ∙ ap (option_map (text_by (start_behind s j))) (slice_get-get_or u j 0 h)
 
   no_run : (s : RunStart) (u : List ℕ) → run_from s u ≡ part_ops letters others p ++ op ∷ [] → ⊥
   no_run s u is =
@@ -139,7 +139,7 @@ module _ (letters : List ℕ) (others : List Op) (p q : Part) (sp : IsSound (len
           let count : part_len p ≡ r.count = ap part_len e in
           let next : start_behind s (part_len p) ≡ start_behind r.start r.count = λ i. start_behind (begins i) (count i) in
           part_never letters others q 0 (start_behind r.start r.count) sq some_q other
-          (λ t k starts. apart (subst (λ a. GoesOn a q) (sym e) (subst (GoesOn (Typed r)) (sym k) (begun r t starts)))) (get_or u (part_len p) 0)
+          (λ t k starts. apart (subst (λ a. ContinuesPart a q) (sym e) (subst (ContinuesPart (Typed r)) (sym k) (begun r t starts)))) (get_or u (part_len p) 0)
           (sym (xs_new (run_from s u) is) ∙ run_at s u (part_len p) (omega (arith, len)) ∙ ap (λ z. Some (text_by z (get_or u (part_len p) 0))) next)
 
   no_neighbours : (b : Bool) (t : Identifier) (m : ℕ) → CountersFit b t m → deletes_by b t m ≡ part_ops letters others p ++ op ∷ [] → ⊥
@@ -150,7 +150,7 @@ module _ (letters : List ℕ) (others : List Op) (p q : Part) (sp : IsSound (len
       let begins : d.0.target ≡ t = sym (target_same d.0.down d.0.target) ∙ d.2 ∙ target_same b t in
       let count : part_len p ≡ d.0.count = ap part_len d.1 in
       let next : e.0.target ≡ target_by b d.0.target d.0.count = sym (target_same e.0.down e.0.target) ∙ e.2 ∙ (λ i. target_by b (sym begins i) (count i)) in
-      apart (subst (λ z. GoesOn z q) (sym d.1) (subst (GoesOn (Deleted d.0)) (sym e.1) (goes d.0 e.0 (way d.0 d.1 begins len) next (subst (λ z. CountersFit b z m) (sym begins) fits) (omega (arith, len, count)))))
+      apart (subst (λ z. ContinuesPart z q) (sym d.1) (subst (ContinuesPart (Deleted d.0)) (sym e.1) (goes d.0 e.0 (way d.0 d.1 begins len) next (subst (λ z. CountersFit b z m) (sym begins) fits) (omega (arith, len, count)))))
     where
       way : (d : Deletes) → p ≡ Deleted d → d.target ≡ t → m ≡ part_len p + 1 → (d.count ≡ 1) ⊎ (d.down ≡ b)
       way d e begins len = elim (cases_lt 1 (part_len p)) [
@@ -165,49 +165,49 @@ module _ (letters : List ℕ) (others : List Op) (p q : Part) (sp : IsSound (len
           same_deletes : {x y : Deletes} → Deleted x ≡ Deleted y → x ≡ y
           same_deletes z = cc z
 
-      goes : (d e : Deletes) → (d.count ≡ 1) ⊎ (d.down ≡ b) → e.target ≡ target_by b d.target d.count → CountersFit b d.target m → m ≡ d.count + 1 → GoesOn (Deleted d) (Deleted e)
+      goes : (d e : Deletes) → (d.count ≡ 1) ⊎ (d.down ≡ b) → e.target ≡ target_by b d.target d.count → CountersFit b d.target m → m ≡ d.count + 1 → ContinuesPart (Deleted d) (Deleted e)
       goes = by_way b
         where
-          by_way : (b : Bool) (d e : Deletes) → (d.count ≡ 1) ⊎ (d.down ≡ b) → e.target ≡ target_by b d.target d.count → CountersFit b d.target m → m ≡ d.count + 1 → GoesOn (Deleted d) (Deleted e)
+          by_way : (b : Bool) (d e : Deletes) → (d.count ≡ 1) ⊎ (d.down ≡ b) → e.target ≡ target_by b d.target d.count → CountersFit b d.target m → m ≡ d.count + 1 → ContinuesPart (Deleted d) (Deleted e)
           by_way false d e w next fits len = inl (w, next)
           by_way true d e w next fits len =
               let back : d.target.counter ≡ e.target.counter + d.count = omega (arith, fits, len, ap (λ (i : Identifier). i.counter) next) in
               inr (w, λ i. record { replica = sym (ap (λ (z : Identifier). z.replica) next) i; counter = back i })
 
-  pub none_longer : (more : Entry) → IsEntry more → entry_ops more ≡ part_ops letters others p ++ op ∷ [] → ⊥
+  pub none_longer : (more : Entry) → IsRunEntry more → entry_ops more ≡ part_ops letters others p ++ op ∷ [] → ⊥
   none_longer (Run s u) entry is = no_run s u is
   none_longer (Neighbours b t m) entry is = no_neighbours b t m entry.1 is
   none_longer (Alone x) entry is = omega (arith, xs_len (x ∷ []) is, some_p)
 
 -- The parts are entries, each as long as can be
 
-other_is_entry : (letters : List ℕ) (others : List Op) (k : ℕ) → k < length others → IsEntry (other_entry (slice_get others k))
+other_is_entry : (letters : List ℕ) (others : List Op) (k : ℕ) → k < length others → IsRunEntry (other_entry (slice_get others k))
 unfolding other_entry
 other_is_entry letters [] k h = absurd (omega (arith, h))
 other_is_entry letters (op ∷ others) zero h = tt
 other_is_entry letters (op ∷ others) (suc k) h = other_is_entry letters others k (omega (arith, h))
 
-part_is_entry : (letters : List ℕ) (others : List Op) (p : Part) → IsSound (length letters) (length others) p → IsEntry (entry_of letters others p)
+part_is_entry : (letters : List ℕ) (others : List Op) (p : Part) → AreSoundParts (length letters) (length others) p → IsRunEntry (entry_of letters others p)
 unfolding entry_of
 part_is_entry letters others (Typed r) s = omega (arith, s.0.0, length-take-le r.count (drop r.at letters) (omega (arith, length-drop r.at letters, s.1)))
 part_is_entry letters others (Deleted d) s = s.0
 part_is_entry letters others (Other k) s = other_is_entry letters others k s.1
 
-all_entries : (letters : List ℕ) (others : List Op) (ps : List Part) → All (IsSound (length letters) (length others)) ps → All IsEntry (map (entry_of letters others) ps)
-all_entries letters others [] s = All-nil IsEntry
+all_entries : (letters : List ℕ) (others : List Op) (ps : List Part) → All (AreSoundParts (length letters) (length others)) ps → All IsRunEntry (map (entry_of letters others) ps)
+all_entries letters others [] s = All-nil IsRunEntry
 all_entries letters others (p ∷ ps) s =
-    let P = IsSound (length letters) (length others) in
-    All-cons IsEntry (entry_of letters others p) (map (entry_of letters others) ps) (part_is_entry letters others p (All-head P p ps s)) (all_entries letters others ps (All-tail P p ps s))
+    let P = AreSoundParts (length letters) (length others) in
+    All-cons IsRunEntry (entry_of letters others p) (map (entry_of letters others) ps) (part_is_entry letters others p (All-head P p ps s)) (all_entries letters others ps (All-tail P p ps s))
 
 all_ops : (letters : List ℕ) (others : List Op) (ps : List Part) → ops_of letters others ps ≡ flat_map entry_ops (map (entry_of letters others) ps)
 all_ops letters others [] = refl
 all_ops letters others (p ∷ ps) = λ i. sym (entry_is letters others p) i ++ all_ops letters others ps i
 
-all_longest : (letters : List ℕ) (others : List Op) (ps : List Part) → All (IsSound (length letters) (length others)) ps → All IsOther others → AreApart ps → AreLongest (map (entry_of letters others) ps)
+all_longest : (letters : List ℕ) (others : List Op) (ps : List Part) → All (AreSoundParts (length letters) (length others)) ps → All IsOther others → AreApart ps → AreMaximal (map (entry_of letters others) ps)
 all_longest letters others [] s other a = tt
 all_longest letters others (p ∷ []) s other a = (tt, tt)
 all_longest letters others (p ∷ q ∷ qs) s other a =
-    let P = IsSound (length letters) (length others) in
+    let P = AreSoundParts (length letters) (length others) in
     let rest = All-tail P p (q ∷ qs) s in (
       λ more op behind entry next is. none_longer letters others p q (All-head P p (q ∷ qs) s) (All-head P q qs rest) other a.0 op behind (sym (entry_is letters others q) ∙ next) more entry
           (is ∙ ap (λ z. z ++ op ∷ []) (entry_is letters others p)),
@@ -218,7 +218,7 @@ map_len : (letters : List ℕ) (others : List Op) (ps : List Part) → length ps
 map_len letters others [] = refl
 map_len letters others (p ∷ ps) = ap suc (map_len letters others ps)
 
-pub parts_are : (letters : List ℕ) (others : List Op) (ps : List Part) (fs : List ℕ) (n : ℕ) → AreParts letters others ps fs n → IsParted (ops_of letters others ps) (length ps)
+pub parts_are : (letters : List ℕ) (others : List Op) (ps : List Part) (fs : List ℕ) (n : ℕ) → AreParts letters others ps fs n → IsPartedIn (ops_of letters others ps) (length ps)
 parts_are letters others ps fs n a =
     let s = sound_of letters others ps fs n a in
     record {

@@ -8,15 +8,16 @@ use Rattle.std.proofs.lemmas.Option.{slice_get-get_or}
 use Rattle.std.proofs.lemmas.List.Elements.{All-cons, All-head, All-nil, All-tail}
 use Rattle.fugue_ids.specs.Identifiers.{Identifier}
 use Rattle.fugue_ids.specs.Ops.{target_of}
-use Rattle.fugue_ids.specs.Runs.{id_behind, in_a_row, left_behind, next_id, run_from, start_behind, text_by, text_in}
+use Rattle.fugue_ids.specs.Runs.{in_a_row, next_id, run_from, start_behind, text_by, text_in}
 use Rattle.fugue_ids.specs.declared.op.Op.{Op}
 use Rattle.fugue_ids.specs.declared.op.Op.TheVariants.{Delete, Text}
+use Rattle.fugue_ids.specs.declared.run.RunStart.{RunStart}
 use Rattle.fugue_ids.proofs.ListLemmas.{all_before, all_behind, slice_get-append, slice_get-behind}
 use Rattle.fugue_ids.proofs.RunLemmas.{left_one, none_behind, one_behind}
 use Rattle.op_runs.specs.Deletions.{deletes_by, id_before, target_by}
-use Rattle.op_runs.specs.Finding.{IsFloor, IsSpot, all_len}
-use Rattle.op_runs.specs.Growing.{IsLast}
-use Rattle.op_runs.specs.Parts.{IsOther, IsSound, firsts_of, ops_of, other_ops, part_len, part_ops}
+use Rattle.op_runs.specs.Finding.{IsFloorPart, IsPartSpot, all_len}
+use Rattle.op_runs.specs.Growing.{IsLastPart}
+use Rattle.op_runs.specs.Parts.{IsOther, AreSoundParts, firsts_of, ops_of, other_ops, part_len, part_ops}
 use Rattle.op_runs.specs.declared.part.Part.{Part}
 use Rattle.op_runs.specs.declared.part.Part.TheVariants.{Deleted, Other, Typed}
 use Rattle.op_runs.specs.declared.part.TypedPart.{TypedPart}
@@ -55,7 +56,7 @@ firsts_len n (p ∷ ps) = ap suc (firsts_len (n + part_len p) ps)
 
 -- the last part that begins no later than a position has it
 spot_in : (n : ℕ) (ps : List Part) (k position : ℕ) → k < length (firsts_of n ps) → get_or (firsts_of n ps) k 0 ≤ position → ((j : ℕ) → k < j → j < length (firsts_of n ps) → position < get_or (firsts_of n ps) j 0)
-    → position < n + all_len ps → IsSpot ps (position - n) k (position - get_or (firsts_of n ps) k 0)
+    → position < n + all_len ps → IsPartSpot ps (position - n) k (position - get_or (firsts_of n ps) k 0)
 spot_in n [] k position i h b l = absurd (omega (arith, i))
 spot_in n (q ∷ []) zero position i h b l = record { before = []; part = q; after = []; whole = refl; index = refl; behind = omega arith; inside = omega (arith, l, h) }
 spot_in n (q ∷ r ∷ rs) zero position i h b l =
@@ -66,14 +67,14 @@ spot_in n (q ∷ qs) (suc k) position i h b l =
     let from = begins (n + part_len q) qs k (omega (arith, i)) in
     record { before = q ∷ s.before; part = s.part; after = s.after; whole = ap (λ z. q ∷ z) s.whole; index = ap suc s.index; behind = omega (arith, s.behind, from, h); inside = s.inside }
 
-pub spot_floor : (ps : List Part) (firsts : List ℕ) (k position : ℕ) → firsts ≡ firsts_of 0 ps → IsFloor firsts position k → position < all_len ps → IsSpot ps position k (position - get_or firsts k 0)
+pub spot_floor : (ps : List Part) (firsts : List ℕ) (k position : ℕ) → firsts ≡ firsts_of 0 ps → IsFloorPart firsts position k → position < all_len ps → IsPartSpot ps position k (position - get_or firsts k 0)
 spot_floor ps firsts k position e f l =
-    let g : IsFloor (firsts_of 0 ps) position k = subst (λ (xs : List ℕ). IsFloor xs position k) e f in
+    let g : IsFloorPart (firsts_of 0 ps) position k = subst (λ (xs : List ℕ). IsFloorPart xs position k) e f in
     let all : position - 0 ≡ position = omega arith in
-    subst (λ (n : ℕ). IsSpot ps n k (position - get_or firsts k 0)) all
-    (subst (λ (xs : List ℕ). IsSpot ps (position - 0) k (position - get_or xs k 0)) (sym e) (spot_in 0 ps k position g.inside g.up_to g.behind (omega (arith, l))))
+    subst (λ (n : ℕ). IsPartSpot ps n k (position - get_or firsts k 0)) all
+    (subst (λ (xs : List ℕ). IsPartSpot ps (position - 0) k (position - get_or xs k 0)) (sym e) (spot_in 0 ps k position g.inside g.up_to g.behind (omega (arith, l))))
 
-pub floor_inside : (ps : List Part) (firsts : List ℕ) (k position : ℕ) → firsts ≡ firsts_of 0 ps → IsFloor firsts position k → k < length ps
+pub floor_inside : (ps : List Part) (firsts : List ℕ) (k position : ℕ) → firsts ≡ firsts_of 0 ps → IsFloorPart firsts position k → k < length ps
 floor_inside ps firsts k position e f = omega (arith, f.inside, ap length e, firsts_len 0 ps)
 
 -- a position inside is behind the first of some part
@@ -85,26 +86,26 @@ none_floor (p ∷ ps) firsts position e h =
 
 -- What stands there
 
-pub all_some : (l o : ℕ) (ps : List Part) → All (IsSound l o) ps → All (λ p. 0 < part_len p) ps
+pub all_some : (l o : ℕ) (ps : List Part) → All (AreSoundParts l o) ps → All (λ p. 0 < part_len p) ps
 all_some l o [] s = All-nil (λ p. 0 < part_len p)
-all_some l o (p ∷ ps) s = All-cons (λ q. 0 < part_len q) p ps (has_some l o p (All-head (IsSound l o) p ps s)) (all_some l o ps (All-tail (IsSound l o) p ps s))
+all_some l o (p ∷ ps) s = All-cons (λ q. 0 < part_len q) p ps (has_some l o p (All-head (AreSoundParts l o) p ps s)) (all_some l o ps (All-tail (AreSoundParts l o) p ps s))
 
-pub ops_len : (letters : List ℕ) (others : List Op) (ps : List Part) → All (IsSound (length letters) (length others)) ps → length (ops_of letters others ps) ≡ all_len ps
+pub ops_len : (letters : List ℕ) (others : List Op) (ps : List Part) → All (AreSoundParts (length letters) (length others)) ps → length (ops_of letters others ps) ≡ all_len ps
 ops_len letters others [] s = refl
 ops_len letters others (p ∷ ps) s =
-    let P = IsSound (length letters) (length others) in
+    let P = AreSoundParts (length letters) (length others) in
     let r = ops_len letters others ps (All-tail P p ps s) in
     omega (arith, length-append (part_ops letters others p) (ops_of letters others ps), part_has letters others p (All-head P p ps s), r)
 
 -- the operations before a spot, and those from its part on
-pub spot_parts : (letters : List ℕ) (others : List Op) (ps : List Part) (position k offset : ℕ) (s : IsSpot ps position k offset)
+pub spot_parts : (letters : List ℕ) (others : List Op) (ps : List Part) (position k offset : ℕ) (s : IsPartSpot ps position k offset)
     → ops_of letters others ps ≡ ops_of letters others s.before ++ (part_ops letters others s.part ++ ops_of letters others s.after)
 spot_parts letters others ps position k offset s = ap (ops_of letters others) s.whole ∙ flat_map-append (part_ops letters others) s.before (s.part ∷ s.after)
 
-pub spot_get : (letters : List ℕ) (others : List Op) (ps : List Part) (position k offset : ℕ) (s : IsSpot ps position k offset) → All (IsSound (length letters) (length others)) ps
+pub spot_get : (letters : List ℕ) (others : List Op) (ps : List Part) (position k offset : ℕ) (s : IsPartSpot ps position k offset) → All (AreSoundParts (length letters) (length others)) ps
     → slice_get (ops_of letters others ps) position ≡ slice_get (part_ops letters others s.part) offset
 spot_get letters others ps position k offset s sound =
-    let P = IsSound (length letters) (length others) in
+    let P = AreSoundParts (length letters) (length others) in
     let all = subst (All P) s.whole sound in
     let len : length (ops_of letters others s.before) ≡ all_len s.before = ops_len letters others s.before (all_before P s.before (s.part ∷ s.after) all) in
     let here = All-head P s.part s.after (all_behind P s.before (s.part ∷ s.after) all) in
@@ -114,24 +115,24 @@ spot_get letters others ps position k offset s sound =
     ∙ slice_get-append (part_ops letters others s.part) (ops_of letters others s.after) offset (omega (arith, s.inside, part_has letters others s.part here))
 
 -- the part that a read gave
-pub part_read : (ps : List Part) (position k offset : ℕ) (s : IsSpot ps position k offset) (p : Part) → p ≡ get_or ps k p → s.part ≡ p
+pub part_read : (ps : List Part) (position k offset : ℕ) (s : IsPartSpot ps position k offset) (p : Part) → p ≡ get_or ps k p → s.part ≡ p
 part_read ps position k offset s p e = sym (e ∙ (λ i. get_or (s.whole i) (s.index i) p) ∙ get_or-seam s.before s.part s.after p)
   where
     get_or-seam : (xs : List Part) (x : Part) (ys : List Part) (d : Part) → get_or (xs ++ x ∷ ys) (length xs) d ≡ x
     get_or-seam [] x ys d = refl
     get_or-seam (y ∷ xs) x ys d = get_or-seam xs x ys d
 
-pub spot_inside : (ps : List Part) (position k offset : ℕ) → IsSpot ps position k offset → k < length ps
+pub spot_inside : (ps : List Part) (position k offset : ℕ) → IsPartSpot ps position k offset → k < length ps
 spot_inside ps position k offset s = omega (arith, s.index, ap length s.whole, length-append s.before (s.part ∷ s.after))
 
 -- a Text of a run
-pub typed_at : (id s : Identifier) (l r : Option Identifier) (text : List ℕ) (j : ℕ) → slice_get (in_a_row id s l r text) j ≡ option_map (λ ch. Text (id_behind id j) s (left_behind l id j) r ch) (slice_get text j)
-typed_at id s l r [] zero = refl
-typed_at id s l r [] (suc j) = refl
-typed_at id s l r (c ∷ text) zero = λ i. Some (Text (sym (none_behind id) i) s l r c)
-typed_at id s l r (c ∷ text) (suc j) =
-    typed_at (next_id id) s (Some id) r text j
-    ∙ (λ i. option_map (λ ch. Text (one_behind id j i) s (left_one id j i) r ch) (slice_get text j))
+pub typed_at : (start : RunStart) (text : List ℕ) (j : ℕ) → slice_get (run_from start text) j ≡ option_map (text_by (start_behind start j)) (slice_get text j)
+typed_at s [] zero = refl
+typed_at s [] (suc j) = refl
+typed_at s (c ∷ text) zero = λ i. Some (Text (sym (none_behind s.id) i) s.section s.left s.right c)
+typed_at s (c ∷ text) (suc j) =
+    typed_at (record { id = next_id s.id; section = s.section; left = Some s.id; right = s.right }) text j
+    ∙ (λ i. option_map (λ ch. Text (one_behind s.id j i) s.section (left_one s.id j i) s.right ch) (slice_get text j))
 
 pub letter_at : (letters : List ℕ) (r : TypedPart) (offset ch : ℕ) → r.at + r.count ≤ length letters → offset < r.count → ch ≡ get_or letters (r.at + offset) ch
     → Some (text_by (start_behind r.start offset) ch) ≡ slice_get (run_from r.start (take r.count (drop r.at letters))) offset
@@ -141,8 +142,7 @@ letter_at letters r offset ch h g e =
     let inside : offset < length text = omega (arith, len, g) in
     let has : slice_get text offset ≡ Some ch =
     slice_get-get_or text offset ch inside ∙ ap Some (get_or-take r.count (drop r.at letters) offset ch g ∙ get_or-drop r.at letters offset ch ∙ sym e) in
-    sym (typed_at r.start.id r.start.section r.start.left r.start.right text offset
-    ∙ ap (option_map (λ c. Text (id_behind r.start.id offset) r.start.section (left_behind r.start.left r.start.id offset) r.start.right c)) has)
+    sym (typed_at r.start text offset ∙ ap (option_map (text_by (start_behind r.start offset))) has)
 
 -- a Delete of neighbours
 pub delete_at : (down : Bool) (t : Identifier) (n j : ℕ) → j < n → Some (Delete (target_by down t j)) ≡ slice_get (deletes_by down t n) j
@@ -161,10 +161,10 @@ other_at others k j op h g e =
     (λ i. slice_get (other_ops (sym there i)) (sym first i))
 
 -- the last operation is that of the last part
-pub last_read : (letters : List ℕ) (others : List Op) (ps : List Part) (last : Part) → IsLast ps last → All (IsSound (length letters) (length others)) ps
+pub last_read : (letters : List ℕ) (others : List Op) (ps : List Part) (last : Part) → IsLastPart ps last → All (AreSoundParts (length letters) (length others)) ps
     → slice_get (ops_of letters others ps) (length (ops_of letters others ps) - 1) ≡ slice_get (part_ops letters others last) (part_len last - 1)
 last_read letters others ps last is sound =
-    let P = IsSound (length letters) (length others) in
+    let P = AreSoundParts (length letters) (length others) in
     let at : P last = All-head P last [] (all_behind P is.front (last ∷ []) (subst (All P) is.whole sound)) in
     let front : List Op = ops_of letters others is.front in
     let here : List Op = part_ops letters others last in
@@ -193,10 +193,10 @@ no_other_deleted down t n j op h e none =
     some_none x d = cc
 
 -- where the last operation is neither a Text nor a Delete, the last part has it
-pub last_other : (letters : List ℕ) (others : List Op) (ps : List Part) (last : Part) (op : Op) → IsLast ps last → All (IsSound (length letters) (length others)) ps
+pub last_other : (letters : List ℕ) (others : List Op) (ps : List Part) (last : Part) (op : Op) → IsLastPart ps last → All (AreSoundParts (length letters) (length others)) ps
     → Some op ≡ slice_get (ops_of letters others ps) (length (ops_of letters others ps) - 1) → IsOther op → (k : ℕ) × (last ≡ Other k)
 last_other letters others ps last op is sound e other =
-    by_part last (has_some (length letters) (length others) last (All-head (IsSound (length letters) (length others)) last [] (all_behind (IsSound (length letters) (length others)) is.front (last ∷ []) (subst (All (IsSound (length letters) (length others))) is.whole sound))))
+    by_part last (has_some (length letters) (length others) last (All-head (AreSoundParts (length letters) (length others)) last [] (all_behind (AreSoundParts (length letters) (length others)) is.front (last ∷ []) (subst (All (AreSoundParts (length letters) (length others))) is.whole sound))))
     (e ∙ last_read letters others ps last is sound)
   where
     by_part : (p : Part) → 0 < part_len p → Some op ≡ slice_get (part_ops letters others p) (part_len p - 1) → (k : ℕ) × (p ≡ Other k)

@@ -10,8 +10,8 @@ use Rattle.fugue_ids.specs.declared.op.Op.TheVariants.{Delete}
 use Rattle.fugue_ids.proofs.ListLemmas.{all_before, all_behind}
 use Rattle.fugue_ids.proofs.RunLemmas.{length-typed, run_parted}
 use Rattle.op_runs.specs.Deletions.{CountersFit, deletes_by, target_by}
-use Rattle.op_runs.specs.Growing.{IsLast, TakesOff, letters_of, shortened}
-use Rattle.op_runs.specs.Parts.{AreLaid, AreParts, GoesOn, IsOther, IsSound, IsWhole, StandsBehind, firsts_of, letters_in, ops_of, other_ops, others_in, part_len, part_ops}
+use Rattle.op_runs.specs.Growing.{IsLastPart, TakesOffLast, letters_of_part, part_front}
+use Rattle.op_runs.specs.Parts.{AreLaid, AreParts, ContinuesPart, IsOther, AreSoundParts, IsWholePart, StandsInPart, firsts_of, letters_in, ops_of, other_ops, others_in, part_len, part_ops}
 use Rattle.op_runs.specs.declared.part.Deletes.{Deletes}
 use Rattle.op_runs.specs.declared.part.Part.{Part}
 use Rattle.op_runs.specs.declared.part.Part.TheVariants.{Deleted, Other, Typed}
@@ -35,13 +35,13 @@ module _ (l : List ℕ) (o : List Op) (front : List Part) (last : Part) (fs : Li
   at = laid-last 0 0 front last (length l) (length o) a.laid
 
   abbrev P : Part → Type 0
-  P = IsSound (length l) (length o)
+  P = AreSoundParts (length l) (length o)
 
-  whole_front : All IsWhole front
-  whole_front = all_before IsWhole front (last ∷ []) a.whole
+  whole_front : All IsWholePart front
+  whole_front = all_before IsWholePart front (last ∷ []) a.whole
 
-  pub last_whole : IsWhole last
-  last_whole = All-head IsWhole last [] (all_behind IsWhole front (last ∷ []) a.whole)
+  pub last_whole : IsWholePart last
+  last_whole = All-head IsWholePart last [] (all_behind IsWholePart front (last ∷ []) a.whole)
 
   last_sound : P last
   last_sound = All-head P last [] (all_behind P front (last ∷ []) (sound_of l o (front ++ last ∷ []) fs n a))
@@ -73,14 +73,14 @@ module _ (l : List ℕ) (o : List Op) (front : List Part) (last : Part) (fs : Li
     front_ops = sym ((λ i. ops_of (sym (take-append-drop m l) i) (sym (take-append-drop k o) i) front)
         ∙ ops_stay l' (drop m l) o' (drop k o) front (inside front (laid_sound 0 0 front at.letters at.others whole_front at.laid)))
       where
-        one : (p : Part) → IsSound at.letters at.others p → IsSound (length l') (length o') p
+        one : (p : Part) → AreSoundParts at.letters at.others p → AreSoundParts (length l') (length o') p
         one (Typed r) s = (s.0, omega (arith, s.1, letters, len_l))
         one (Deleted d) s = s
         one (Other j) s = (s.0, omega (arith, s.1, others, len_o))
 
-        inside : (ps : List Part) → All (IsSound at.letters at.others) ps → All (IsSound (length l') (length o')) ps
-        inside [] s = All-nil (IsSound (length l') (length o'))
-        inside (p ∷ ps) s = All-cons (IsSound (length l') (length o')) p ps (one p (All-head (IsSound at.letters at.others) p ps s)) (inside ps (All-tail (IsSound at.letters at.others) p ps s))
+        inside : (ps : List Part) → All (AreSoundParts at.letters at.others) ps → All (AreSoundParts (length l') (length o')) ps
+        inside [] s = All-nil (AreSoundParts (length l') (length o'))
+        inside (p ∷ ps) s = All-cons (AreSoundParts (length l') (length o')) p ps (one p (All-head (AreSoundParts at.letters at.others) p ps s)) (inside ps (All-tail (AreSoundParts at.letters at.others) p ps s))
 
   -- the last part goes whole
   pub dropped : (fs' : List ℕ) → fs' ≡ take (length fs - 1) fs
@@ -119,9 +119,9 @@ module _ (l : List ℕ) (o : List Op) (front : List Part) (last : Part) (fs : Li
 -- A part that has fewer operations
 
 pub record IsShortened (l : List ℕ) (o : List Op) (m : ℕ) (last p : Part) (count : ℕ) : Type 0 where
-  pub whole : IsWhole p
-  pub stands : (a b : ℕ) → StandsBehind a b last → StandsBehind a b p
-  pub goes : (before : Part) → GoesOn before p → GoesOn before last
+  pub whole : IsWholePart p
+  pub stands : (a b : ℕ) → StandsInPart a b last → StandsInPart a b p
+  pub goes : (before : Part) → ContinuesPart before p → ContinuesPart before last
   pub letters : m + letters_in last ≡ length l + letters_in p
   pub others : others_in p ≡ others_in last
   pub rest : List Op
@@ -129,8 +129,8 @@ pub record IsShortened (l : List ℕ) (o : List Op) (m : ℕ) (last p : Part) (c
   pub rest_len : length rest ≡ count
   pub len : part_len p + count ≡ part_len last
 
-run_shortened : (l : List ℕ) (o : List Op) (r : TypedPart) (count : ℕ) → IsWhole (Typed r) → r.at + r.count ≡ length l → 0 < count → count < r.count
-    → IsShortened l o (length l - count) (Typed r) (shortened (Typed r) (r.count - count)) count
+run_shortened : (l : List ℕ) (o : List Op) (r : TypedPart) (count : ℕ) → IsWholePart (Typed r) → r.at + r.count ≡ length l → 0 < count → count < r.count
+    → IsShortened l o (length l - count) (Typed r) (part_front (Typed r) (r.count - count)) count
 run_shortened l o r count w ends some less =
     let k : ℕ = r.count - count in
     let s = r.start in
@@ -151,13 +151,13 @@ run_shortened l o r count w ends some less =
       len = omega (arith, less);
     }
   where
-    goes_same : (before : Part) → GoesOn before (shortened (Typed r) (r.count - count)) → GoesOn before (Typed r)
+    goes_same : (before : Part) → ContinuesPart before (part_front (Typed r) (r.count - count)) → ContinuesPart before (Typed r)
     goes_same (Typed q) z = z
     goes_same (Deleted d) z = z
     goes_same (Other j) z = z
 
-deletes_shortened : (l : List ℕ) (o : List Op) (d : Deletes) (count : ℕ) → IsWhole (Deleted d) → 0 < count → count < d.count
-    → IsShortened l o (length l) (Deleted d) (shortened (Deleted d) (d.count - count)) count
+deletes_shortened : (l : List ℕ) (o : List Op) (d : Deletes) (count : ℕ) → IsWholePart (Deleted d) → 0 < count → count < d.count
+    → IsShortened l o (length l) (Deleted d) (part_front (Deleted d) (d.count - count)) count
 deletes_shortened l o d count w some less =
     let k : ℕ = d.count - count in
     let split : d.count ≡ k + count = omega (arith, less) in
@@ -177,7 +177,7 @@ deletes_shortened l o d count w some less =
     fits true f = omega (arith, f)
     fits false f = omega (arith, f)
 
-    goes_same : (before : Part) → GoesOn before (shortened (Deleted d) (d.count - count)) → GoesOn before (Deleted d)
+    goes_same : (before : Part) → ContinuesPart before (part_front (Deleted d) (d.count - count)) → ContinuesPart before (Deleted d)
     goes_same (Typed q) z = z
     goes_same (Deleted q) z = z
     goes_same (Other j) z = z
@@ -198,7 +198,7 @@ cut l o m front last p fs n count a s within =
     let new : ops_of (take m l) o (front ++ p ∷ []) ≡ ops_of l o front ++ part_ops (take m l) o p = one_more (take m l) o front p ∙ ap (λ z. z ++ part_ops (take m l) o p) same in
     record {
       are = record {
-        whole = All-append IsWhole front (p ∷ []) (all_before IsWhole front (last ∷ []) a.whole) (All-cons IsWhole p [] s.whole (All-nil IsWhole));
+        whole = All-append IsWholePart front (p ∷ []) (all_before IsWholePart front (last ∷ []) a.whole) (All-cons IsWholePart p [] s.whole (All-nil IsWholePart));
         laid = subst (λ z. AreLaid 0 0 (front ++ p ∷ []) z (length o)) here (subst (λ z. AreLaid 0 0 (front ++ p ∷ []) (at.letters + letters_in p) z) there
             (laid-push 0 0 front at.letters at.others p at.laid (s.stands at.letters at.others at.behind)));
         apart = apart-other front last p s.goes a.apart;
@@ -212,74 +212,74 @@ cut l o m front last p fs n count a s within =
 
 -- the same of the parts that a call left
 shortened_part : (l : List ℕ) (o : List Op) (front : List Part) (last : Part) (fs : List ℕ) (n most : ℕ) → AreParts l o (front ++ last ∷ []) fs n → 0 < most → most < part_len last
-    → IsPopped (take (length l - letters_of last most) l) (take (length o - others_in last) o) (front ++ shortened last (part_len last - most) ∷ []) fs n (ops_of l o (front ++ last ∷ [])) most
+    → IsPopped (take (length l - letters_of_part last most) l) (take (length o - others_in last) o) (front ++ part_front last (part_len last - most) ∷ []) fs n (ops_of l o (front ++ last ∷ [])) most
 shortened_part l o front (Typed r) fs n most a some less =
     let at = laid-last 0 0 front (Typed r) (length l) (length o) a.laid in
     let ends : r.at + r.count ≡ length l = ap (λ k. k + r.count) at.behind ∙ at.letters_end in
     let all : take (length o - 0) o ≡ o = take_all (length o - 0) o (omega arith) in
-    subst (λ z. IsPopped (take (length l - most) l) z (front ++ shortened (Typed r) (r.count - most) ∷ []) fs n (ops_of l o (front ++ Typed r ∷ [])) most) (sym all)
-    (cut l o (length l - most) front (Typed r) (shortened (Typed r) (r.count - most)) fs n most a (run_shortened l o r most (last_whole l o front (Typed r) fs n a) ends some less) (omega arith))
+    subst (λ z. IsPopped (take (length l - most) l) z (front ++ part_front (Typed r) (r.count - most) ∷ []) fs n (ops_of l o (front ++ Typed r ∷ [])) most) (sym all)
+    (cut l o (length l - most) front (Typed r) (part_front (Typed r) (r.count - most)) fs n most a (run_shortened l o r most (last_whole l o front (Typed r) fs n a) ends some less) (omega arith))
 shortened_part l o front (Deleted d) fs n most a some less =
     let all : take (length o - 0) o ≡ o = take_all (length o - 0) o (omega arith) in
     let same : length l - 0 ≡ length l = omega arith in
-    subst (λ z. IsPopped (take (length l - 0) l) z (front ++ shortened (Deleted d) (d.count - most) ∷ []) fs n (ops_of l o (front ++ Deleted d ∷ [])) most) (sym all)
-    (subst (λ z. IsPopped (take z l) o (front ++ shortened (Deleted d) (d.count - most) ∷ []) fs n (ops_of l o (front ++ Deleted d ∷ [])) most) (sym same)
-    (cut l o (length l) front (Deleted d) (shortened (Deleted d) (d.count - most)) fs n most a (deletes_shortened l o d most (last_whole l o front (Deleted d) fs n a) some less) (omega arith)))
+    subst (λ z. IsPopped (take (length l - 0) l) z (front ++ part_front (Deleted d) (d.count - most) ∷ []) fs n (ops_of l o (front ++ Deleted d ∷ [])) most) (sym all)
+    (subst (λ z. IsPopped (take z l) o (front ++ part_front (Deleted d) (d.count - most) ∷ []) fs n (ops_of l o (front ++ Deleted d ∷ [])) most) (sym same)
+    (cut l o (length l) front (Deleted d) (part_front (Deleted d) (d.count - most)) fs n most a (deletes_shortened l o d most (last_whole l o front (Deleted d) fs n a) some less) (omega arith)))
 shortened_part l o front (Other k) fs n most a some less = absurd (omega (arith, some, less))
 
-letters_all : (p : Part) → letters_of p (part_len p) ≡ letters_in p
+letters_all : (p : Part) → letters_of_part p (part_len p) ≡ letters_in p
 letters_all (Typed r) = refl
 letters_all (Deleted d) = refl
 letters_all (Other k) = refl
 
 -- some operations of the last part went
-pub taken_off : (l : List ℕ) (o : List Op) (ps ps' : List Part) (fs fs' : List ℕ) (n most count : ℕ) (last : Part) → AreParts l o ps fs n → 0 < most → TakesOff ps ps' fs fs' last most count
-    → IsPopped (take (length l - letters_of last count) l) (take (length o - others_in last) o) ps' fs' n (ops_of l o ps) count
+pub taken_off : (l : List ℕ) (o : List Op) (ps ps' : List Part) (fs fs' : List ℕ) (n most count : ℕ) (last : Part) → AreParts l o ps fs n → 0 < most → TakesOffLast ps ps' fs fs' last most count
+    → IsPopped (take (length l - letters_of_part last count) l) (take (length o - others_in last) o) ps' fs' n (ops_of l o ps) count
 taken_off l o ps ps' fs fs' n most count last a some (inl (all, within, was, firsts)) =
     let r = dropped l o ps' last fs n (subst (λ (z : List Part). AreParts l o z fs n) was a) fs' firsts in
-    let used : letters_in last ≡ letters_of last count = sym (ap (letters_of last) all ∙ letters_all last) in
-    subst (λ (z : List Part). IsPopped (take (length l - letters_of last count) l) (take (length o - others_in last) o) ps' fs' n (ops_of l o z) count) (sym was)
+    let used : letters_in last ≡ letters_of_part last count = sym (ap (letters_of_part last) all ∙ letters_all last) in
+    subst (λ (z : List Part). IsPopped (take (length l - letters_of_part last count) l) (take (length o - others_in last) o) ps' fs' n (ops_of l o z) count) (sym was)
     (subst (λ k. IsPopped (take (length l - k) l) (take (length o - others_in last) o) ps' fs' n (ops_of l o (ps' ++ last ∷ [])) count) used
     (subst (λ k. IsPopped (take (length l - letters_in last) l) (take (length o - others_in last) o) ps' fs' n (ops_of l o (ps' ++ last ∷ [])) k) (sym all) r))
 taken_off l o ps ps' fs fs' n most count last a some (inr (is, less, put)) =
     let r = shortened_part l o put.front last fs n most (subst (λ (z : List Part). AreParts l o z fs n) put.was a) some less in
     let goal : List Part → List Part → List ℕ → ℕ → Type 0 =
-    λ old new firsts k. IsPopped (take (length l - letters_of last k) l) (take (length o - others_in last) o) new firsts n (ops_of l o old) k in
+    λ old new firsts k. IsPopped (take (length l - letters_of_part last k) l) (take (length o - others_in last) o) new firsts n (ops_of l o old) k in
     subst (λ z. goal z ps' fs' count) (sym put.was) (subst (λ z. goal (put.front ++ last ∷ []) z fs' count) (sym put.is)
-    (subst (λ z. goal (put.front ++ last ∷ []) (put.front ++ shortened last (part_len last - most) ∷ []) z count) (sym put.firsts_stay)
-    (subst (λ k. goal (put.front ++ last ∷ []) (put.front ++ shortened last (part_len last - most) ∷ []) fs k) (sym is) r)))
+    (subst (λ z. goal (put.front ++ last ∷ []) (put.front ++ part_front last (part_len last - most) ∷ []) z count) (sym put.firsts_stay)
+    (subst (λ k. goal (put.front ++ last ∷ []) (put.front ++ part_front last (part_len last - most) ∷ []) fs k) (sym is) r)))
 
 -- how many there may be
-module _ (l : List ℕ) (o : List Op) (ps : List Part) (fs : List ℕ) (n : ℕ) (last : Part) (a : AreParts l o ps fs n) (is : IsLast ps last) where
+module _ (l : List ℕ) (o : List Op) (ps : List Part) (fs : List ℕ) (n : ℕ) (last : Part) (a : AreParts l o ps fs n) (is : IsLastPart ps last) where
   abbrev b : AreParts l o (is.front ++ last ∷ []) fs n
   b = subst (λ (z : List Part). AreParts l o z fs n) is.whole a
 
   at_end : IsLaidLast 0 0 is.front last (length l) (length o)
   at_end = laid-last 0 0 is.front last (length l) (length o) b.laid
 
-  sound : IsSound (length l) (length o) last
-  sound = All-head (IsSound (length l) (length o)) last [] (all_behind (IsSound (length l) (length o)) is.front (last ∷ []) (sound_of l o (is.front ++ last ∷ []) fs n b))
+  sound : AreSoundParts (length l) (length o) last
+  sound = All-head (AreSoundParts (length l) (length o)) last [] (all_behind (AreSoundParts (length l) (length o)) is.front (last ∷ []) (sound_of l o (is.front ++ last ∷ []) fs n b))
 
   pub others_there : others_in last ≤ length o
   others_there = omega (arith, at_end.others_end)
 
-  taken_within : (ps' : List Part) (fs' : List ℕ) (most count : ℕ) → TakesOff ps ps' fs fs' last most count → count ≤ part_len last
+  taken_within : (ps' : List Part) (fs' : List ℕ) (most count : ℕ) → TakesOffLast ps ps' fs fs' last most count → count ≤ part_len last
   taken_within ps' fs' most count (inl t) = omega (arith, t.0)
   taken_within ps' fs' most count (inr t) = omega (arith, t.0, t.1)
 
-  pub letters_there : (ps' : List Part) (fs' : List ℕ) (most count : ℕ) → TakesOff ps ps' fs fs' last most count → letters_of last count ≤ length l
+  pub letters_there : (ps' : List Part) (fs' : List ℕ) (most count : ℕ) → TakesOffLast ps ps' fs fs' last most count → letters_of_part last count ≤ length l
   letters_there ps' fs' most count t = omega (arith, few last count (taken_within ps' fs' most count t), at_end.letters_end)
     where
-      few : (p : Part) (k : ℕ) → k ≤ part_len p → letters_of p k ≤ letters_in p
+      few : (p : Part) (k : ℕ) → k ≤ part_len p → letters_of_part p k ≤ letters_in p
       few (Typed r) k h = h
       few (Deleted d) k h = omega arith
       few (Other j) k h = omega arith
 
-  pub taken_some : (ps' : List Part) (fs' : List ℕ) (most count : ℕ) → 0 < most → TakesOff ps ps' fs fs' last most count → 0 < count
+  pub taken_some : (ps' : List Part) (fs' : List ℕ) (most count : ℕ) → 0 < most → TakesOffLast ps ps' fs fs' last most count → 0 < count
   taken_some ps' fs' most count some (inl t) = omega (arith, t.0, has_some (length l) (length o) last sound)
   taken_some ps' fs' most count some (inr t) = omega (arith, t.0, some)
 
-  pub taken_most : (ps' : List Part) (fs' : List ℕ) (most count : ℕ) → TakesOff ps ps' fs fs' last most count → count ≤ most
+  pub taken_most : (ps' : List Part) (fs' : List ℕ) (most count : ℕ) → TakesOffLast ps ps' fs fs' last most count → count ≤ most
   taken_most ps' fs' most count (inl t) = t.1
   taken_most ps' fs' most count (inr t) = omega (arith, t.0)
 
@@ -327,6 +327,7 @@ last_part_gone front p =
 pub record IsTakenOff (l : List ℕ) (o : List Op) (ps : List Part) (fs : List ℕ) (n : ℕ) (old : List Op) (found : Option Op) : Type 0 where
   pub op : Op
   pub is : found ≡ Some op
+  pub kind : IsOther op
   pub are : AreParts l o ps fs (n - 1)
   pub ops : old ≡ ops_of l o ps ++ op ∷ []
 
@@ -336,7 +337,7 @@ is_other (Typed r) h = absurd (omega (arith, h))
 is_other (Deleted d) h = absurd (omega (arith, h))
 is_other (Other k) h = (k, refl)
 
-pub other_gone : (l : List ℕ) (o o' : List Op) (ps ps' : List Part) (fs fs' : List ℕ) (n k : ℕ) (found : Option Op) → AreParts l o ps fs n → IsLast ps (Other k)
+pub other_gone : (l : List ℕ) (o o' : List Op) (ps ps' : List Part) (fs fs' : List ℕ) (n k : ℕ) (found : Option Op) → AreParts l o ps fs n → IsLastPart ps (Other k)
     → ps' ≡ take (length ps - 1) ps → fs' ≡ take (length fs - 1) fs → o' ≡ take (length o - 1) o → ((d : Op) → 0 < length o → found ≡ Some (get_or o (length o - 1) d))
     → IsTakenOff l o' ps' fs' n (ops_of l o ps) found
 other_gone l o o' ps ps' fs fs' n k found a is e f g h =
@@ -351,6 +352,7 @@ other_gone l o o' ps ps' fs fs' n k found a is e f g h =
     record {
       op = op;
       is = h none some;
+      kind = All-head IsOther op [] (all_behind IsOther o' (op ∷ []) (subst (All IsOther) whole a.are_others));
       are = subst (λ (z : List Part). AreParts l o' z fs' (n - 1)) (sym front) r.0;
       ops = ap (ops_of l o) is.whole ∙ r.1 ∙ ap (λ (z : List Part). ops_of l o' z ++ op ∷ []) (sym front);
     }

@@ -12,8 +12,8 @@ use Rattle.fugue_ids.specs.declared.run.RunStart.{RunStart}
 use Rattle.fugue_ids.proofs.ListLemmas.{all_behind, slice_get-seam}
 use Rattle.fugue_ids.proofs.RunLemmas.{length-typed, typed-append}
 use Rattle.op_runs.specs.Deletions.{deletes_by}
-use Rattle.op_runs.specs.Growing.{AddsDeletes, AddsRun, IsAdded, IsLonger, IsReplaced, forwards, with_more}
-use Rattle.op_runs.specs.Parts.{AreParts, GoesOn, IsOther, IsWhole, ops_of, other_ops}
+use Rattle.op_runs.specs.Growing.{AddsDeletes, AddsRun, IsAppendedPart, HasMoreDeletes, IsReplacedPart, forwards, with_more}
+use Rattle.op_runs.specs.Parts.{AreParts, ContinuesPart, IsOther, IsWholePart, ops_of, other_ops}
 use Rattle.op_runs.specs.declared.part.Deletes.{Deletes}
 use Rattle.op_runs.specs.declared.part.Part.{Part}
 use Rattle.op_runs.specs.declared.part.Part.TheVariants.{Deleted, Other, Typed}
@@ -24,11 +24,11 @@ use Rattle.op_runs.proofs.PartLemmas.{BeginsAs, IsPushed, added_part, laid-last,
 -- A run
 
 -- the last part is sound, and its letters end with all
-typed_last : (l : List ℕ) (o : List Op) (ps : List Part) (fs : List ℕ) (n : ℕ) (front : List Part) (r : TypedPart) → AreParts l o ps fs n → ps ≡ front ++ Typed r ∷ [] → IsWhole (Typed r) × (r.at + r.count ≡ length l)
+typed_last : (l : List ℕ) (o : List Op) (ps : List Part) (fs : List ℕ) (n : ℕ) (front : List Part) (r : TypedPart) → AreParts l o ps fs n → ps ≡ front ++ Typed r ∷ [] → IsWholePart (Typed r) × (r.at + r.count ≡ length l)
 typed_last l o ps fs n front r a e =
     let b = subst (λ (z : List Part). AreParts l o z fs n) e a in
     let at = laid-last 0 0 front (Typed r) (length l) (length o) b.laid in
-    (All-head IsWhole (Typed r) [] (all_behind IsWhole front (Typed r ∷ []) b.whole), ap (λ k. k + r.count) at.behind ∙ at.letters_end)
+    (All-head IsWholePart (Typed r) [] (all_behind IsWholePart front (Typed r ∷ []) b.whole), ap (λ k. k + r.count) at.behind ∙ at.letters_end)
 
 -- all letters from a place on, with those that came
 letters_behind : (l text : List ℕ) (at count : ℕ) → at + count ≡ length l → take (count + length text) (drop at (l ++ text)) ≡ take count (drop at l) ++ text
@@ -38,7 +38,7 @@ letters_behind l text at count e =
     let inside : at ≤ length l = omega (arith, e) in
     take_all (count + length text) (drop at (l ++ text)) all ∙ drop-append-le at l text inside ∙ ap (λ z. z ++ text) (sym (take_all count (drop at l) some))
 
-longer_run : (l text : List ℕ) (o : List Op) (r : TypedPart) (start : RunStart) → IsWhole (Typed r) → r.at + r.count ≡ length l → start ≡ start_behind r.start r.count → start.id.counter + length text ≤ 2 ^ 32
+longer_run : (l text : List ℕ) (o : List Op) (r : TypedPart) (start : RunStart) → IsWholePart (Typed r) → r.at + r.count ≡ length l → start ≡ start_behind r.start r.count → start.id.counter + length text ≤ 2 ^ 32
     → BeginsAs l text o (Typed r) (Typed (with_more r (length text))) (run_from start text)
 longer_run l text o r start w ends is fits =
     let s = r.start in
@@ -58,7 +58,7 @@ longer_run l text o r start w ends is fits =
       long = ap (λ k. r.count + k) (sym (length-typed start.id start.section start.left start.right text));
     }
   where
-    goes_same : (before : Part) → GoesOn before (Typed (with_more r (length text))) → GoesOn before (Typed r)
+    goes_same : (before : Part) → ContinuesPart before (Typed (with_more r (length text))) → ContinuesPart before (Typed r)
     goes_same (Typed q) k = k
     goes_same (Deleted d) k = k
     goes_same (Other j) k = k
@@ -75,13 +75,13 @@ run_pushed l l' text o ps ps' fs fs' n run e a (inr (last, is, put)) at count so
     let t = typed_last l o ps fs n put.front last a put.was in
     let len : length (run_from run.start text) ≡ length text = length-typed run.start.id run.start.section run.start.left run.start.right text in
     let b = longer_run l text o last run.start t.0 t.1 is fits in
-    let put' = subst (λ k. IsReplaced ps ps' fs fs' (Typed last) (Typed (with_more last k))) count put in
+    let put' = subst (λ k. IsReplacedPart ps ps' fs fs' (Typed last) (Typed (with_more last k))) count put in
     let r = replaced_part l l' text o ps ps' fs fs' n (Typed last) (Typed (with_more last (length text))) (run_from run.start text) e a put' b (omega (arith, len, room)) in
     record { are = subst (λ k. AreParts l' o ps' fs' (n + k)) len r.are; ops = r.ops }
 
 -- Deletes
 
-longer_deletes : (l : List ℕ) (o : List Op) (d e : Deletes) (target : Identifier) (most : ℕ) → IsLonger d target most e → BeginsAs l [] o (Deleted d) (Deleted e) (deletes_by false target (e.count - d.count))
+longer_deletes : (l : List ℕ) (o : List Op) (d e : Deletes) (target : Identifier) (most : ℕ) → HasMoreDeletes d target most e → BeginsAs l [] o (Deleted d) (Deleted e) (deletes_by false target (e.count - d.count))
 longer_deletes l o d e target most m =
     let some : d.count < e.count = m.some in
     record {
@@ -94,9 +94,9 @@ longer_deletes l o d e target most m =
       long = omega (arith, some, length-deletes false target (e.count - d.count));
     }
   where
-    goes_same : (before : Part) → GoesOn before (Deleted e) → GoesOn before (Deleted d)
+    goes_same : (before : Part) → ContinuesPart before (Deleted e) → ContinuesPart before (Deleted d)
     goes_same (Typed q) k = k
-    goes_same (Deleted q) k = subst (λ t. GoesOn (Deleted q) (Deleted (record { target = t; count = d.count; down = d.down }))) m.target_is k
+    goes_same (Deleted q) k = subst (λ t. ContinuesPart (Deleted q) (Deleted (record { target = t; count = d.count; down = d.down }))) m.target_is k
     goes_same (Other j) k = k
 
 pub deletes_pushed : (l : List ℕ) (o : List Op) (ps ps' : List Part) (fs fs' : List ℕ) (n most k : ℕ) (target : Identifier) → AreParts l o ps fs n → AddsDeletes ps ps' fs fs' n target most k → 0 < most → target.counter + most ≤ 2 ^ 32
@@ -123,7 +123,7 @@ few_pushed ps ps' fs fs' n most k target (inr (last, more, longer, is, put)) = l
 
 -- A Section or a Note
 
-none_goes : (last : Part) (k : ℕ) → GoesOn last (Other k) → ⊥
+none_goes : (last : Part) (k : ℕ) → ContinuesPart last (Other k) → ⊥
 none_goes (Typed r) k g = g
 none_goes (Deleted d) k g = g
 none_goes (Other j) k g = g
@@ -131,6 +131,6 @@ none_goes (Other j) k g = g
 pub other_pushed : (l : List ℕ) (o o' : List Op) (ps ps' : List Part) (fs fs' : List ℕ) (n k : ℕ) (op : Op) → o' ≡ o ++ op ∷ [] → AreParts l o ps fs n → ps' ≡ ps ++ Other k ∷ [] → fs' ≡ fs ++ n ∷ [] → k ≡ length o → IsOther op → n + 1 ≤ MOST_OPERATIONS
     → IsPushed l o' ps' fs' (n + 1) (ops_of l o ps) (op ∷ [])
 other_pushed l o o' ps ps' fs fs' n k op e a p f at other room =
-    let added : IsAdded ps ps' fs fs' n (Other k) = record { parts_are = p; firsts_are = f; apart = λ last is. none_goes last k } in
+    let added : IsAppendedPart ps ps' fs fs' n (Other k) = record { parts_are = p; firsts_are = f; apart = λ last is. none_goes last k } in
     let r = added_part l l [] o o' (op ∷ []) ps ps' fs fs' n (Other k) (sym (append-nil l)) e a added tt at refl refl (All-cons IsOther op [] other (All-nil IsOther)) room in
     record { are = r.are; ops = r.ops ∙ (λ i. ops_of l o ps ++ other_ops (slice_get (e i) (at i))) ∙ ap (λ z. ops_of l o ps ++ other_ops z) (slice_get-seam o op) }

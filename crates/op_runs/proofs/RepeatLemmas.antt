@@ -15,8 +15,8 @@ use Rattle.fugue_ids.specs.declared.run.RunStart.{RunStart}
 use Rattle.fugue_ids.proofs.ListLemmas.{all_before, all_behind, slice_get-append}
 use Rattle.fugue_ids.proofs.OpLemmas.{op_eq-refl, op_eq-true}
 use Rattle.fugue_ids.proofs.RunLemmas.{left_one, none_behind, one_behind}
-use Rattle.op_runs.specs.Finding.{IsSpot}
-use Rattle.op_runs.specs.Parts.{AreApart, GoesOn, IsOther, IsSound, StandsApart, ops_of, other_ops, part_len, part_ops}
+use Rattle.op_runs.specs.Finding.{IsPartSpot}
+use Rattle.op_runs.specs.Parts.{AreApart, ContinuesPart, IsOther, AreSoundParts, StandsApart, ops_of, other_ops, part_len, part_ops}
 use Rattle.op_runs.specs.Repeats.{same_front, same_letters}
 use Rattle.op_runs.specs.declared.part.Part.{Part}
 use Rattle.op_runs.specs.declared.part.Part.TheVariants.{Deleted, Other, Typed}
@@ -85,7 +85,7 @@ same_start s q c d e =
     λ i. record { id = id i; section = section i; left = left i; right = right i }
 
 -- an operation of a part is a Text that says so only where the part is a run in which one does
-pub part_never : (letters : List ℕ) (others : List Op) (p : Part) (offset : ℕ) (s : RunStart) → IsSound (length letters) (length others) p → offset < part_len p → All IsOther others
+pub part_never : (letters : List ℕ) (others : List Op) (p : Part) (offset : ℕ) (s : RunStart) → AreSoundParts (length letters) (length others) p → offset < part_len p → All IsOther others
     → ((r : TypedPart) → p ≡ Typed r → s ≡ start_behind r.start offset → ⊥) → (ch : ℕ) → slice_get (part_ops letters others p) offset ≡ Some (text_by s ch) → ⊥
 part_never letters others (Typed r) offset s sound inside other n ch e =
     let c : ℕ = get_or letters (r.at + offset) 0 in
@@ -116,16 +116,16 @@ part_never letters others (Other k) offset s sound inside other n ch e =
     never z = cc z
 
 -- what stands behind a part does not go on with it
-pub next_zero : (letters : List ℕ) (others : List Op) (r : TypedPart) (qs : List Part) (more : List ℕ) → All (IsSound (length letters) (length others)) qs → All IsOther others → StandsApart (Typed r) qs
+pub next_zero : (letters : List ℕ) (others : List Op) (r : TypedPart) (qs : List Part) (more : List ℕ) → All (AreSoundParts (length letters) (length others)) qs → All IsOther others → StandsApart (Typed r) qs
     → same_front (ops_of letters others qs) (run_from (start_behind r.start r.count) more) ≡ 0
 next_zero letters others r [] more sound other apart = refl
 next_zero letters others r (q ∷ qs) more sound other apart =
-    let P = IsSound (length letters) (length others) in
+    let P = AreSoundParts (length letters) (length others) in
     let here = All-head P q qs sound in
     let some : 0 < part_len q = has_some (length letters) (length others) q here in
     zero_by_first (ops_of letters others (q ∷ qs)) (start_behind r.start r.count) more
     (λ ch e. part_never letters others q 0 (start_behind r.start r.count) here some other
-    (λ t is begins. apart (subst (GoesOn (Typed r)) (sym is) (begun t begins))) ch
+    (λ t is begins. apart (subst (ContinuesPart (Typed r)) (sym is) (begun t begins))) ch
     (sym (slice_get-append (part_ops letters others q) (ops_of letters others qs) 0 (omega (arith, some, part_has letters others q here))) ∙ e))
   where
     begun : (t : TypedPart) → start_behind r.start r.count ≡ start_behind t.start 0 → t.start ≡ start_behind r.start r.count
@@ -152,10 +152,10 @@ start_further s j (suc k) n some e =
     ∙ (λ i. record { id = id_behind s.id (e i); section = s.section; left = left_behind s.left s.id (suc (j + k)); right = s.right })
     ∙ (λ i. record { id = id_behind s.id n; section = s.section; left = left_behind s.left s.id (step i); right = s.right })
 
-module _ (letters : List ℕ) (others : List Op) (ps : List Part) (position k offset : ℕ) (s : IsSpot ps position k offset) (all : All (IsSound (length letters) (length others)) ps) (apart : AreApart ps) (other : All IsOther others)
+module _ (letters : List ℕ) (others : List Op) (ps : List Part) (position k offset : ℕ) (s : IsPartSpot ps position k offset) (all : All (AreSoundParts (length letters) (length others)) ps) (apart : AreApart ps) (other : All IsOther others)
     (start : RunStart) (text : List ℕ) where
   abbrev Q : Part → Type 0
-  Q = IsSound (length letters) (length others)
+  Q = AreSoundParts (length letters) (length others)
 
   split : All Q (s.before ++ s.part ∷ s.after)
   split = subst (All Q) s.whole all

@@ -10,11 +10,11 @@ use Rattle.fugue_ids.specs.Runs.{run_from, start_behind}
 use Rattle.fugue_ids.specs.declared.op.Op.{Op}
 use Rattle.fugue_ids.specs.declared.run.RunStart.{RunStart}
 use Rattle.fugue_ids.proofs.ListLemmas.{all_before, all_behind}
-use Rattle.op_runs.specs.Finding.{IsSpot, all_len}
+use Rattle.op_runs.specs.Finding.{IsPartSpot, all_len}
 use Rattle.op_runs.proofs.FindLemmas.{ops_len, spot_parts}
 use Rattle.fugue_ids.proofs.RunLemmas.{length-typed, run_parted}
 use Rattle.op_runs.specs.Deletions.{CountersFit, deletes_by, target_by}
-use Rattle.op_runs.specs.Parts.{IsSound, ops_of, other_ops, part_len, part_ops}
+use Rattle.op_runs.specs.Parts.{AreSoundParts, ops_of, other_ops, part_len, part_ops}
 use Rattle.op_runs.specs.Slices.{AreSliced, IsInFirst}
 use Rattle.op_runs.specs.declared.part.Part.{Part}
 use Rattle.op_runs.specs.declared.part.TypedPart.{TypedPart}
@@ -57,7 +57,7 @@ other_behind others k skip op h g e =
 -- The first part of a slice, and the slice behind it
 module _ (letters : List ℕ) (others : List Op) (parts : List Part) (skip : ℕ) (plain : List Op) (count : ℕ) (a : AreSliced letters others parts skip plain count) (first : Part) (rest : List Part) (is : parts ≡ first ∷ rest) where
   abbrev P : Part → Type 0
-  P = IsSound (length letters) (length others)
+  P = AreSoundParts (length letters) (length others)
 
   sound : All P (first ∷ rest)
   sound = subst (All P) is a.sound
@@ -71,7 +71,7 @@ module _ (letters : List ℕ) (others : List Op) (parts : List Part) (skip : ℕ
   pub skip_inside : skip < part_len first
   skip_inside = subst (λ (ps : List Part). IsInFirst skip ps) is a.in_first
 
-  pub first_sound : IsSound (length letters) (length others) first
+  pub first_sound : AreSoundParts (length letters) (length others) first
   first_sound = here
 
   abbrev front : List Op
@@ -136,9 +136,9 @@ module _ (letters : List ℕ) (others : List Op) (parts : List Part) (skip : ℕ
         op_first ∙ ap (λ z. op ∷ z) (behind_op ∙ ap (λ z. z ++ (drop 0 (ops_of letters others rest) ++ plain)) (drop_all (skip + 1) here_ops (omega (arith, e, len))))
 
 -- The operations from a position on
-module _ (letters : List ℕ) (others : List Op) (ps : List Part) (position k offset : ℕ) (s : IsSpot ps position k offset) (all : All (IsSound (length letters) (length others)) ps) where
+module _ (letters : List ℕ) (others : List Op) (ps : List Part) (position k offset : ℕ) (s : IsPartSpot ps position k offset) (all : All (AreSoundParts (length letters) (length others)) ps) where
   abbrev Q : Part → Type 0
-  Q = IsSound (length letters) (length others)
+  Q = AreSoundParts (length letters) (length others)
 
   split : All Q (s.before ++ s.part ∷ s.after)
   split = subst (All Q) s.whole all

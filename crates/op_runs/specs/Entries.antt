@@ -19,26 +19,26 @@ entry_ops (Neighbours down target n) = deletes_by down target n
 entry_ops (Alone op) = op ∷ []
 
 -- it is not empty, and its targets are there
-abbrev pub IsEntry : Entry → Type 0
-IsEntry (Run start text) = 0 < length text
-IsEntry (Neighbours down target n) = (0 < n) × CountersFit down target n
-IsEntry (Alone op) = Unit {0}
+abbrev pub IsRunEntry : Entry → Type 0
+IsRunEntry (Run start text) = 0 < length text
+IsRunEntry (Neighbours down target n) = (0 < n) × CountersFit down target n
+IsRunEntry (Alone op) = Unit {0}
 
 -- no entry has the operations of this one and the first of the next
-abbrev pub IsLongest : Entry → List Entry → Type 0
-IsLongest entry [] = Unit {0}
-IsLongest entry (next ∷ others) =
-    (more : Entry) (op : Op) (rest : List Op) → IsEntry more → entry_ops next ≡ op ∷ rest → entry_ops more ≡ entry_ops entry ++ op ∷ [] → ⊥
+abbrev pub IsMaximal : Entry → List Entry → Type 0
+IsMaximal entry [] = Unit {0}
+IsMaximal entry (next ∷ others) =
+    (more : Entry) (op : Op) (rest : List Op) → IsRunEntry more → entry_ops next ≡ op ∷ rest → entry_ops more ≡ entry_ops entry ++ op ∷ [] → ⊥
 
 -- each is as long as can be
-abbrev pub AreLongest : List Entry → Type 0
-AreLongest [] = Unit {0}
-AreLongest (entry ∷ others) = IsLongest entry others × AreLongest others
+abbrev pub AreMaximal : List Entry → Type 0
+AreMaximal [] = Unit {0}
+AreMaximal (entry ∷ others) = IsMaximal entry others × AreMaximal others
 
 -- the operations part into so many entries, each as long as can be
-pub record IsParted (ops : List Op) (count : ℕ) : Type 0 where
+pub record IsPartedIn (ops : List Op) (count : ℕ) : Type 0 where
   pub found : List Entry
-  pub are_entries : All IsEntry found
+  pub are_entries : All IsRunEntry found
   pub ops_are : ops ≡ flat_map entry_ops found
-  pub longest : AreLongest found
+  pub longest : AreMaximal found
   pub counted : count ≡ length found

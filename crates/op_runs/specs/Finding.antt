@@ -20,13 +20,13 @@ all_len [] = 0
 all_len (p ∷ ps) = part_len p + all_len ps
 
 -- the last one that is not behind the position
-pub record IsFloor (firsts : List ℕ) (position k : ℕ) : Type 0 where
+pub record IsFloorPart (firsts : List ℕ) (position k : ℕ) : Type 0 where
   pub inside : k < length firsts
   pub up_to : slice_index firsts k ≤ position
   pub behind : (j : ℕ) → k < j → j < length firsts → position < slice_index firsts j
 
 -- the operation at the position is that at the offset of the k-th part
-pub record IsSpot (parts : List Part) (position k offset : ℕ) : Type 0 where
+pub record IsPartSpot (parts : List Part) (position k offset : ℕ) : Type 0 where
   pub before : List Part
   pub part : Part
   pub after : List Part

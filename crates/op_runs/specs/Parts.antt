@@ -26,10 +26,10 @@ abbrev pub ops_of : List ℕ → List Op → List Part → List Op
 ops_of letters others parts = flat_map (part_ops letters others) parts
 
 -- the part is not empty, and its counters fit
-abbrev pub IsWhole : Part → Type 0
-IsWhole (Typed r) = (0 < r.count) × (r.start.id.counter + r.count ≤ 2 ^ 32)
-IsWhole (Deleted d) = (0 < d.count) × CountersFit d.down d.target d.count
-IsWhole (Other k) = Unit {0}
+abbrev pub IsWholePart : Part → Type 0
+IsWholePart (Typed r) = (0 < r.count) × (r.start.id.counter + r.count ≤ 2 ^ 32)
+IsWholePart (Deleted d) = (0 < d.count) × CountersFit d.down d.target d.count
+IsWholePart (Other k) = Unit {0}
 
 -- of so many letters and others those of the part are there
 abbrev pub IsInside : (letters others : ℕ) → Part → Type 0
@@ -38,8 +38,8 @@ IsInside letters others (Deleted d) = Unit {0}
 IsInside letters others (Other k) = k < others
 
 -- both
-abbrev pub IsSound : (letters others : ℕ) → Part → Type 0
-IsSound letters others part = IsWhole part × IsInside letters others part
+abbrev pub AreSoundParts : (letters others : ℕ) → Part → Type 0
+AreSoundParts letters others part = IsWholePart part × IsInside letters others part
 
 -- how many operations a part has
 abbrev pub part_len : Part → ℕ
@@ -60,15 +60,15 @@ others_in (Deleted d) = 0
 others_in (Other k) = 1
 
 -- its letters, or its other operation, stand behind so many
-abbrev pub StandsBehind : (letters others : ℕ) → Part → Type 0
-StandsBehind letters others (Typed r) = r.at ≡ letters
-StandsBehind letters others (Deleted d) = Unit {0}
-StandsBehind letters others (Other k) = k ≡ others
+abbrev pub StandsInPart : (letters others : ℕ) → Part → Type 0
+StandsInPart letters others (Typed r) = r.at ≡ letters
+StandsInPart letters others (Deleted d) = Unit {0}
+StandsInPart letters others (Other k) = k ≡ others
 
 -- the parts use letters and others in turn, from l and o on, and end where there are L and O
 abbrev pub AreLaid : (l o : ℕ) → List Part → (L O : ℕ) → Type 0
 AreLaid l o [] L O = (l ≡ L) × (o ≡ O)
-AreLaid l o (p ∷ ps) L O = StandsBehind l o p × AreLaid (l + letters_in p) (o + others_in p) ps L O
+AreLaid l o (p ∷ ps) L O = StandsInPart l o p × AreLaid (l + letters_in p) (o + others_in p) ps L O
 
 -- a target goes on with Deletes of neighbours in a direction; one Delete has none yet
 abbrev pub GoesOnBy : Deletes → Identifier → (down : Bool) → Type 0
@@ -80,15 +80,15 @@ abbrev pub IsNextTarget : Deletes → Identifier → Type 0
 IsNextTarget d target = GoesOnBy d target false ⊎ GoesOnBy d target true
 
 -- the first operation of a part goes on with another part
-abbrev pub GoesOn : (part next : Part) → Type 0
-GoesOn (Typed r) (Typed q) = q.start ≡ start_behind r.start r.count
-GoesOn (Deleted d) (Deleted e) = IsNextTarget d e.target
-GoesOn _ _ = ⊥
+abbrev pub ContinuesPart : (part next : Part) → Type 0
+ContinuesPart (Typed r) (Typed q) = q.start ≡ start_behind r.start r.count
+ContinuesPart (Deleted d) (Deleted e) = IsNextTarget d e.target
+ContinuesPart _ _ = ⊥
 
 -- it does not go on with the first of these
 abbrev pub StandsApart : Part → List Part → Type 0
 StandsApart p [] = Unit {0}
-StandsApart p (q ∷ qs) = GoesOn p q → ⊥
+StandsApart p (q ∷ qs) = ContinuesPart p q → ⊥
 
 -- no part goes on with the one before it
 abbrev pub AreApart : List Part → Type 0
@@ -106,7 +106,7 @@ IsOther op = (text_in op ≡ None) × (target_of op ≡ None)
 
 -- what is so of every list of operations
 pub record AreParts (letters : List ℕ) (others : List Op) (parts : List Part) (firsts : List ℕ) (count : ℕ) : Type 0 where
-  pub whole : All IsWhole parts
+  pub whole : All IsWholePart parts
   pub laid : AreLaid 0 0 parts (length letters) (length others)
   pub apart : AreApart parts
   pub are_others : All IsOther others

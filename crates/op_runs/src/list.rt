@@ -3,10 +3,10 @@ ghost use Rattle.fugue_ids.specs.Runs.{run_from};
 ghost use Rattle.fugue_ids.specs.declared.op.Op.{Op as AnyOp};
 ghost use Rattle.fugue_ids.specs.declared.op.Op.TheVariants.{Delete as DeleteOp};
 ghost use Rattle.op_runs.specs.Deletions.{deletes_by};
-ghost use Rattle.op_runs.specs.Entries.{IsParted};
+ghost use Rattle.op_runs.specs.Entries.{IsPartedIn};
 ghost use Rattle.op_runs.specs.Finding.{op_of};
-ghost use Rattle.op_runs.specs.Growing.{AddsDeletes, AddsRun, IsLast};
-ghost use Rattle.op_runs.specs.Parts.{IsOther, IsWhole, part_len};
+ghost use Rattle.op_runs.specs.Growing.{AddsDeletes, AddsRun, IsLastPart};
+ghost use Rattle.op_runs.specs.Parts.{IsOther, IsWholePart, part_len};
 ghost use Rattle.op_runs.specs.Repeats.{same_front};
 ghost use Rattle.op_runs.specs.declared.part.Part.{Part};
 
@@ -59,7 +59,7 @@ fn add_run(
     first: u32,
     run: TypedPart,
 ) -> Result<(), NoMemory>
-    requires { (last : Part) → IsLast parts.old.items last → part_len last + run.count < 2 ^ 32 }
+    requires { (last : Part) → IsLastPart parts.old.items last → part_len last + run.count < 2 ^ 32 }
     ensures ok { OnOk result (AddsRun parts.old.items parts.new.items firsts.old.items firsts.new.items first run) }
     ensures err { OnErr result (parts.new.items ≡ parts.old.items) }
     ensures firsts_stay { OnErr result (firsts.new.items ≡ firsts.old.items) }
@@ -86,10 +86,10 @@ fn add_deletes(
     target: ElementId,
     most: u32,
 ) -> Result<u32, NoMemory>
-    requires whole { All IsWhole parts.old.items }
+    requires whole { All IsWholePart parts.old.items }
     requires some { 0 < most }
     requires counters { target.counter + most ≤ 2 ^ 32 }
-    requires room { (last : Part) → IsLast parts.old.items last → part_len last + most ≤ MOST_OPERATIONS }
+    requires room { (last : Part) → IsLastPart parts.old.items last → part_len last + most ≤ MOST_OPERATIONS }
     ensures ok { IfOk result
         (λ n. AddsDeletes parts.old.items parts.new.items firsts.old.items firsts.new.items first target most n) }
     ensures err { OnErr result (parts.new.items ≡ parts.old.items) }
@@ -134,7 +134,7 @@ impl OpRuns {
 
     /// How many entries the operations take: no entry could take the first operation of the next one too.
     pub fn entries(&self) -> usize
-        ensures { IsParted self.now result }
+        ensures { IsPartedIn self.now result }
     {
         self.parts.as_slice().len()
     }
@@ -342,6 +342,7 @@ impl OpRuns {
     /// Takes the last operation off and hands it out, where that is a Section or a Note. It takes no memory.
     pub fn take_last(&mut self) -> Option<Op>
         ensures some { IfSome result (λ op. self.old ≡ self.new ++ op ∷ []) }
+        ensures kind { IfSome result (λ op. IsOther op) }
         ensures none { IfNone result (self.new ≡ self.old) }
         ensures other { (op : AnyOp) → Some op ≡ slice_get self.old (length self.old - 1) → IsOther op
             → IsSome result }

@@ -1,8 +1,8 @@
 ghost use Rattle.std.specs.Prelude.{◌≡◌, ◌↔◌, ◌<◌, ◌≤◌, ◌+◌, ◌^◌, ◌++◌, ◌∷◌, [], IfNone, IfSome, IsSome, IsTrue, List, OnErr, OnOk, length};
 ghost use Rattle.fugue_ids.specs.Runs.{id_behind};
 ghost use Rattle.op_runs.specs.Deletions.{CountersFit, target_by};
-ghost use Rattle.op_runs.specs.Growing.{IsLast, IsLonger, TakesOff, letters_of, shortened};
-ghost use Rattle.op_runs.specs.Parts.{GoesOnBy, IsNextTarget, IsWhole, others_in, part_len};
+ghost use Rattle.op_runs.specs.Growing.{IsLastPart, HasMoreDeletes, TakesOffLast, letters_of_part, part_front};
+ghost use Rattle.op_runs.specs.Parts.{GoesOnBy, IsNextTarget, IsWholePart, others_in, part_len};
 ghost use Rattle.op_runs.specs.declared.part.Part.{Part};
 ghost use Rattle.op_runs.specs.declared.part.Part.TheVariants.{Deleted as DeletedVariant};
 
@@ -75,7 +75,7 @@ impl Part {
     fn shortened(&self, count: u32) -> Part
         requires some { 0 < count }
         requires within { count < part_len self.now }
-        ensures { result ≡ shortened self.now count }
+        ensures { result ≡ part_front self.now count }
     {
         match self {
             Part::Typed(run) => Part::Typed(TypedPart {
@@ -94,7 +94,7 @@ impl Part {
 
     /// How many letters the last so many operations of the part have.
     pub(crate) fn letters_of(&self, count: usize) -> usize
-        ensures { result ≡ letters_of self.now count }
+        ensures { result ≡ letters_of_part self.now count }
     {
         match self {
             Part::Typed(_run) => count,
@@ -141,11 +141,11 @@ fn direction(part: &Deletes, target: ElementId) -> Option<bool>
 
 /// The part with Deletes more, where the first of them goes on with it: forwards all of so many, or backwards that one.
 pub(crate) fn longer(part: &Deletes, target: ElementId, most: u32) -> Option<Deletes>
-    requires whole { IsWhole (DeletedVariant part.now) }
+    requires whole { IsWholePart (DeletedVariant part.now) }
     requires some { 0 < most }
     requires counters { target.counter + most ≤ 2 ^ 32 }
     requires room { part.now.count + most ≤ MOST_OPERATIONS }
-    ensures some { IfSome result (λ more. IsLonger part.now target most more) }
+    ensures some { IfSome result (λ more. HasMoreDeletes part.now target most more) }
     ensures none { IfNone result (IsNextTarget part.now target → ⊥) }
 {
     let Some(down) = direction(part, target) else {
@@ -161,7 +161,7 @@ pub(crate) fn longer(part: &Deletes, target: ElementId, most: u32) -> Option<Del
 
 /// The last part.
 pub(crate) fn last_of(parts: &[Part]) -> Option<Part>
-    ensures some { IfSome result (λ part. IsLast parts.now part) }
+    ensures some { IfSome result (λ part. IsLastPart parts.now part) }
     ensures none { IfNone result (parts.now ≡ []) }
 {
     match parts.last() {
@@ -186,9 +186,9 @@ pub(crate) fn take_off(
     last: &Part,
     most: usize,
 ) -> usize
-    requires last { IsLast parts.old.items last.now }
+    requires last { IsLastPart parts.old.items last.now }
     requires some { 0 < most }
-    ensures { TakesOff parts.old.items parts.new.items firsts.old.items firsts.new.items last.now most result }
+    ensures { TakesOffLast parts.old.items parts.new.items firsts.old.items firsts.new.items last.now most result }
 {
     let len = last.len();
     if len <= most {

@@ -14,7 +14,7 @@ use Rattle.origin_model.proofs.SharedLemmas.{chain-other, chain-own, chain_above
 use Rattle.order_proof.specs.Certificates.{Chain}
 unfoldable use Rattle.order_proof.specs.Chains.{beside_up}
 use Rattle.order_proof.specs.Chains.{chain_eq, is_rights}
-use Rattle.order_proof.specs.Positions.{IsAt, as_of, history_at}
+use Rattle.order_proof.specs.Positions.{IsAtPosition, as_of, history_at}
 use Rattle.order_proof.proofs.PositionLemmas.{as_of-other, as_of-own}
 use Rattle.order_proof.proofs.WalkLemmas.{none, reverse-cons, reversed-take}
 
@@ -139,7 +139,7 @@ pub walk_over : (h : List Op) (chain : Chain) (k : ℕ) (left : Option Identifie
 walk_over h chain k left x e d = nothing_left chain k d ∙ ap (λ up. chain_eq up (reverse (take k chain))) (sym (beside_missing h left x e))
 
 -- where its operation e is at the position `at` below n, the walk goes on from there
-module _ (ops : List Op) (n : ℕ) (left : Option Identifier) (x : Identifier) (at : ℕ) (e : Op) (there : IsAt ops n x at e) where
+module _ (ops : List Op) (n : ℕ) (left : Option Identifier) (x : Identifier) (at : ℕ) (e : Op) (there : IsAtPosition ops n x at e) where
   at_newest : beside_up (history_at ops n) left x ≡ beside_up (e ∷ history_at ops at) left x
   at_newest = beside-as_of (history_at ops n) left x ∙ ap (λ h. beside_up h left x) there.newest
 
@@ -167,7 +167,7 @@ id_eq-turned a b =
     ]
 
 -- a turn of the walk, at x's own operation e
-module _ (ops : List Op) (chain : Chain) (n k : ℕ) (left : Option Identifier) (x : Identifier) (at : ℕ) (e : Op) (there : IsAt ops n x at e) (d : k ≤ length chain) where
+module _ (ops : List Op) (chain : Chain) (n k : ℕ) (left : Option Identifier) (x : Identifier) (at : ℕ) (e : Op) (there : IsAtPosition ops n x at e) (d : k ≤ length chain) where
   abbrev Turn : Bool → Type 0
   Turn t = t ≡ chain_eq (beside_up (history_at ops n) left x) (reverse (take k chain))
 

@@ -20,7 +20,7 @@ use Rattle.order_proof.specs.declared.step.Reason.{Reason}
 use Rattle.order_proof.specs.declared.step.Reason.TheVariants.{End, Inner, Later, Prefix, Tie}
 use Rattle.order_proof.specs.declared.step.Step.{Step}
 use Rattle.order_proof.specs.Certificates.{ByRightChains, ByRightOrigins, Certificate, Chain, HoldsBy, IsFork, IsPrefixStep, IsSiblingStep, IsStep, IsValid, OfOnePlace, is_later}
-use Rattle.order_proof.specs.Checks.{chains_decide, ends, goes_on, in_one_place, is_inner, origins_decide, place_holding, prefix_test, reason_test, rests_test, same_place, sibling_test, siblings_at, step_test, test}
+use Rattle.order_proof.specs.Checks.{chains_decide, rests_on_none, continues_chain, in_one_place, is_inner, origins_decide, place_holding, prefix_test, reason_test, rests_test, same_place, sibling_test, siblings_at, step_test, test}
 use Rattle.order_proof.specs.Chains.{is_down, is_empty, is_rights}
 use Rattle.order_proof.proofs.BesideLemmas.{rights_from, rights_to}
 use Rattle.order_proof.proofs.WalkLemmas.{if_parts, walked}
@@ -235,7 +235,7 @@ module _ (h : List Op) (w : Lawful h) where
 
   -- a step by Prefix holds by the test
   prefix_at : (x y : Identifier) (down_x down_y right_x right_y : Chain) (q : Reason) → IsHeld h y
-      → goes_on x down_y ≡ true → is_down h y down_y ≡ true → down_x ≡ [] → right_x ≡ [] → right_y ≡ []
+      → continues_chain x down_y ≡ true → is_down h y down_y ≡ true → down_x ≡ [] → right_x ≡ [] → right_y ≡ []
       → IsPrefixStep h (record { x = x; y = y; down_x = down_x; down_y = down_y; right_x = right_x; right_y = right_y; reason = q })
   prefix_at x y down_x [] right_x right_y q l e f g i j = absurd (false≢true e)
   prefix_at x y down_x (z ∷ []) right_x right_y q l e f g i j = absurd (false≢true e)
@@ -254,7 +254,7 @@ module _ (h : List Op) (w : Lawful h) where
 
   prefix_from : (s : Step) → IsHeld h s.y → prefix_test h s ≡ true → IsPrefixStep h s
   prefix_from s l e =
-      let p = and_parts (goes_on s.x s.down_y) (is_down h s.y s.down_y && (is_empty s.down_x && (is_empty s.right_x && is_empty s.right_y))) e in
+      let p = and_parts (continues_chain s.x s.down_y) (is_down h s.y s.down_y && (is_empty s.down_x && (is_empty s.right_x && is_empty s.right_y))) e in
       let q = and_parts (is_down h s.y s.down_y) (is_empty s.down_x && (is_empty s.right_x && is_empty s.right_y)) p.1 in
       let t = and_parts (is_empty s.down_x) (is_empty s.right_x && is_empty s.right_y) q.1 in
       let u = and_parts (is_empty s.right_x) (is_empty s.right_y) t.1 in
@@ -262,7 +262,7 @@ module _ (h : List Op) (w : Lawful h) where
 
   prefix_to : (s : Step) → IsHeld h s.y → IsPrefixStep h s → prefix_test h s ≡ true
   prefix_to s l t =
-      and_from _ _ (ap (goes_on s.x) t.from_x ∙ id_eq-refl s.x)
+      and_from _ _ (ap (continues_chain s.x) t.from_x ∙ id_eq-refl s.x)
       (and_from _ _ (down_to s.y t.above s.down_y s.x (t.next ∷ t.more) l t.suffix t.from_x)
       (and_from _ _ (ap is_empty t.no_down_x) (and_from _ _ (ap is_empty t.no_right_x) (ap is_empty t.no_right_y))))
 
@@ -333,7 +333,7 @@ module _ (h : List Op) (w : Lawful h) where
   valid_from : (certificate : Certificate) → test h certificate ≡ true → IsValid h certificate
   valid_from [] e = absurd (false≢true e)
   valid_from (s ∷ []) e =
-      let p = if_parts (step_test h s) (ends s.reason) e in
+      let p = if_parts (step_test h s) (rests_on_none s.reason) e in
       (step_from s p.0, not-true (is_later s.reason) p.1)
   valid_from (s ∷ t ∷ more) e =
       let p = if_parts (step_test h s) (if rests_test s.reason t then test h (t ∷ more) else false) e in
@@ -342,7 +342,7 @@ module _ (h : List Op) (w : Lawful h) where
 
   valid_to : (certificate : Certificate) → IsValid h certificate → test h certificate ≡ true
   valid_to [] v = absurd v
-  valid_to (s ∷ []) v = if_both (step_test h s) (ends s.reason) (step_to s v.0) (ap not v.1)
+  valid_to (s ∷ []) v = if_both (step_test h s) (rests_on_none s.reason) (step_to s v.0) (ap not v.1)
   valid_to (s ∷ t ∷ more) v =
       if_both (step_test h s) (if rests_test s.reason t then test h (t ∷ more) else false) (step_to s v.0)
       (if_both (rests_test s.reason t) (test h (t ∷ more)) (rests_to s.reason t v.1) (valid_to (t ∷ more) v.2))

@@ -14,7 +14,7 @@ use Rattle.origin_model.proofs.SharedLemmas.{IsHeld, IsIn-held, before_at}
 use Rattle.order_proof.specs.declared.step.Reason.{Reason}
 use Rattle.order_proof.specs.declared.step.Reason.TheVariants.{End, Inner, Later, Prefix, Tie}
 use Rattle.order_proof.specs.declared.step.Step.{Step}
-use Rattle.order_proof.specs.Certificates.{ByRightChains, ByRightOrigins, Certificate, Chain, Claims, HoldsBy, IsFork, IsProperPrefix, IsSiblingStep, IsStep, IsValid, PartsAt, StandsBefore, is_later}
+use Rattle.order_proof.specs.Certificates.{ByRightChains, ByRightOrigins, Certificate, Chain, Claims, HoldsBy, IsFork, IsProperPrefix, IsSiblingStep, IsStep, IsValid, PartsAt, IsOrderedBefore, is_later}
 use Rattle.order_proof.specs.Making.{common_count, certificate_made, certificate_made_at, reason_at, reason_between, reason_of, rests_on}
 unfoldable use Rattle.order_proof.specs.Making.{certificate}
 use Rattle.order_proof.proofs.BeforeLemmas.{prefix_of}
@@ -182,6 +182,6 @@ made_valid p (op ∷ older) w x y m n k =
     (subst (λ z. IsMade h z y (f.step ∷ below older (rests_on f.step.reason))) f.is_x (subst (λ z. IsMade h f.step.x z (f.step ∷ below older (rests_on f.step.reason))) f.is_y j))
 
 -- where x stands before y
-pub made_before : (h : List Op) → Lawful h → (x y : Identifier) → StandsBefore h x y → IsMade h x y (certificate h x y)
+pub made_before : (h : List Op) → Lawful h → (x y : Identifier) → IsOrderedBefore h x y → IsMade h x y (certificate h x y)
 unfolding before
 made_before h w x y b = made_valid b.0 h w x y b.1 b.2 b.3

@@ -7,10 +7,10 @@ use Rattle.origin_model.specs.declared.operations.Place.{Place}
 use Rattle.origin_model.specs.operations.Verdict.{Lawful}
 use Rattle.origin_model.specs.order.Order.{order}
 use Rattle.origin_model.proofs.SharedLemmas.{order_total}
-use Rattle.order_proof.specs.Certificates.{StandsBefore}
+use Rattle.order_proof.specs.Certificates.{IsOrderedBefore}
 
 pub ordered : (p : Place) (h : List Op) (i j : ℕ) (d : Identifier) → Lawful h → i < j → j < length (order p h)
-    → StandsBefore h (get_or (order p h) i d) (get_or (order p h) j d)
+    → IsOrderedBefore h (get_or (order p h) i d) (get_or (order p h) j d)
 ordered p h i j d w first within =
     let t = order_total p h w in (
       p,

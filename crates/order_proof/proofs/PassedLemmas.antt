@@ -19,7 +19,7 @@ use Rattle.order_proof.specs.Positions.{as_of}
 use Rattle.order_proof.proofs.PositionLemmas.{as_of-other, as_of-own, new_id}
 use Rattle.order_proof.specs.Certificates.{Chain}
 use Rattle.order_proof.specs.Making.{common_count}
-use Rattle.order_proof.specs.Parting.{Passed, age, makes, nothing_passed, with_one, with_other}
+use Rattle.order_proof.specs.Parting.{PassedChains, age, makes, nothing_passed, with_one, with_other}
 use Rattle.order_proof.proofs.WalkLemmas.{reverse-cons}
 unfoldable use Rattle.order_proof.specs.Parting.{passed_up}
 
@@ -82,7 +82,7 @@ above-held h None = All-nil (IsHeld h)
 above-held h (Some x) = chain-held next_left h x
 
 -- how two chains are split into what they have in common and what is passed
-record IsSplit (h : List Op) (one other : Option Identifier) (passed : Passed) : Type 0 where
+record IsSplit (h : List Op) (one other : Option Identifier) (passed : PassedChains) : Type 0 where
   front : Chain
   one_is : above h one ≡ front ++ reverse passed.one
   other_is : above h other ≡ front ++ reverse passed.other
@@ -99,7 +99,7 @@ module _ (op : Op) (older : List Op) (w : Lawful (op ∷ older)) (x : Identifier
   grown front rest is =
       chain-own next_left op older x own ∙ ap (λ l. l ++ x ∷ []) is ∙ append_assoc front (reverse rest) (x ∷ []) ∙ ap (λ l. front ++ l) (sym (reverse-cons x rest))
 
-  split_one : (other : Option Identifier) (passed : Passed) → makes other op ≡ false → IsSplit older (left_of op) other passed → IsSplit (op ∷ older) (Some x) other (with_one (Some x) passed)
+  split_one : (other : Option Identifier) (passed : PassedChains) → makes other op ≡ false → IsSplit older (left_of op) other passed → IsSplit (op ∷ older) (Some x) other (with_one (Some x) passed)
   split_one other passed f s = record {
     front = s.front;
     one_is = grown s.front passed.one s.one_is;
@@ -108,7 +108,7 @@ module _ (op : Op) (older : List Op) (w : Lawful (op ∷ older)) (x : Identifier
         ∙ pushed-one (reverse passed.one) (reverse passed.other) x s.apart (fresh_in other s.front (reverse passed.other) s.other_is);
   }
 
-  split_other : (one : Option Identifier) (passed : Passed) → makes one op ≡ false → IsSplit older one (left_of op) passed → IsSplit (op ∷ older) one (Some x) (with_other (Some x) passed)
+  split_other : (one : Option Identifier) (passed : PassedChains) → makes one op ≡ false → IsSplit older one (left_of op) passed → IsSplit (op ∷ older) one (Some x) (with_other (Some x) passed)
   split_other one passed f s = record {
     front = s.front;
     one_is = above-other op older one f ∙ s.one_is;

@@ -11,7 +11,7 @@ use Rattle.origin_model.specs.operations.History.{holder, holds, is_own, place}
 use Rattle.origin_model.specs.declared.operations.Place.{Place}
 use Rattle.origin_model.specs.operations.Verdict.{Lawful, id_held}
 use Rattle.origin_model.proofs.SharedLemmas.{holder-other, holder-own, holds-other, holds-own, own_id, when_ready}
-use Rattle.order_proof.specs.Positions.{IsAt, as_of, history_at, position_of}
+use Rattle.order_proof.specs.Positions.{IsAtPosition, as_of, history_at, position_of}
 
 position-own : (op : Op) (older : List Op) (x : Identifier) → is_own x op ≡ true → position_of x (op ∷ older) ≡ Some (length older)
 position-own op older x e = ap (λ b. if b then Some (length older) else position_of x older) e
@@ -141,7 +141,7 @@ module _ (ops : List Op) (x : Identifier) where
   position_within at f = (at_own (length ops) none (omega arith) at (sym (ap (position_of x) (all_ops ops)) ∙ f)).0
 
   -- where the operation is among the first n
-  pub found_at : (n at : ℕ) (op : Op) → position_of x (reverse ops) ≡ Some at → at < n → op ≡ get_or ops at op → IsAt ops n x at op
+  pub found_at : (n at : ℕ) (op : Op) → position_of x (reverse ops) ≡ Some at → at < n → op ≡ get_or ops at op → IsAtPosition ops n x at op
   found_at n at op f below is =
       let q : position_of x (history_at ops (length ops)) ≡ Some at = sym (ap (position_of x) (all_ops ops)) ∙ f in
       let own = at_own (length ops) op (omega arith) at q in
@@ -177,7 +177,7 @@ holder-as_of (op ∷ h) x =
       | inr k ↦ holder-other op h x k ∙ holder-as_of h x ∙ ap (λ g. holder g x) (sym (as_of-other op h x k))
     ]
 
-pub holder_at : (ops : List Op) (n : ℕ) (x : Identifier) (at : ℕ) (op : Op) → IsAt ops n x at op → holder (history_at ops n) x ≡ Some op
+pub holder_at : (ops : List Op) (n : ℕ) (x : Identifier) (at : ℕ) (op : Op) → IsAtPosition ops n x at op → holder (history_at ops n) x ≡ Some op
 holder_at ops n x at op t = holder-as_of (history_at ops n) x ∙ ap (λ g. holder g x) t.newest ∙ holder-own op (history_at ops at) x t.own
 
 pub holder_none : (ops : List Op) (n : ℕ) (x : Identifier) → as_of (history_at ops n) x ≡ [] → holder (history_at ops n) x ≡ None

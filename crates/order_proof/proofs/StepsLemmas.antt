@@ -9,7 +9,7 @@ use Rattle.order_proof.specs.declared.step.Reason.TheVariants.{End, Inner, Later
 use Rattle.order_proof.specs.declared.step.Step.{Step}
 use Rattle.order_proof.specs.Certificates.{Certificate}
 use Rattle.order_proof.specs.Readings.{IsProofText}
-use Rattle.order_proof.specs.Texts.{Line, chain_lines, line_text, proof_lines, proof_text, reason_line, step_lines, step_text, told_step}
+use Rattle.order_proof.specs.Texts.{ProofLine, chain_lines, proof_line_text, proof_lines, proof_text, reason_line, step_lines, step_text, told_step}
 use Rattle.order_proof.proofs.LineLemmas.{IsFine, Tells}
 use Rattle.order_proof.proofs.WritingLemmas.{by_steps}
 
@@ -17,7 +17,7 @@ text-cons : (s : Step) (c : Certificate) → proof_text (s ∷ c) ≡ step_text 
 text-cons s c = sym (by_steps (s ∷ c)) ∙ ap (λ z. step_text s ++ z) (by_steps c)
 
 -- the text of a step has bytes
-some_bytes : (s : Step) (r : Reason) → 0 < length (flat_map line_text (chain_lines s r) ++ line_text (reason_line r))
+some_bytes : (s : Step) (r : Reason) → 0 < length (flat_map proof_line_text (chain_lines s r) ++ proof_line_text (reason_line r))
 some_bytes s Prefix = omega arith
 some_bytes s Inner = omega arith
 some_bytes s End = omega arith
@@ -41,7 +41,7 @@ map-push [] s = refl
 map-push (t ∷ c) s = ap (λ z. told_step t ∷ z) (map-push c s)
 
 -- lines of a certificate, and of what follows
-front_fine : (ls ms : List Line) → All IsFine (ls ++ ms) → All IsFine ls × All IsFine ms
+front_fine : (ls ms : List ProofLine) → All IsFine (ls ++ ms) → All IsFine ls × All IsFine ms
 front_fine [] ms p = (All-nil IsFine, p)
 front_fine (l ∷ ls) ms p =
     let k = front_fine ls ms (All-tail IsFine l (ls ++ ms) p) in

@@ -15,7 +15,7 @@ use Rattle.order_proof.specs.declared.step.Step.{Step}
 use Rattle.order_proof.specs.Certificates.{Certificate, HoldsBy, IsValid}
 use Rattle.order_proof.specs.Laws.{ReadsUniquely, ValidReadsUniquely}
 use Rattle.order_proof.specs.Readings.{HasNoByte}
-use Rattle.order_proof.specs.Texts.{IsNarrow, Line, Word, chain_lines, reason_line, claim, down, end, id_text, ids_text, inner, later, line_text, proof_lines, prefix, right, tie, told_step, told_by, word_text}
+use Rattle.order_proof.specs.Texts.{IsNarrow, ProofLine, Word, chain_lines, reason_line, claim, down, end, id_text, ids_text, inner, later, proof_line_text, proof_lines, prefix, right, tie, told_step, told_by, word_text}
 
 pub free-append : (k : ℕ) (a b : List ℕ) → HasNoByte k a → HasNoByte k b → HasNoByte k (a ++ b)
 free-append k [] b f g = g
@@ -134,7 +134,7 @@ word_test later = (refl, refl)
 word_test tie = (refl, refl)
 
 -- a line in front of its end
-abbrev body : Line → List ℕ
+abbrev body : ProofLine → List ℕ
 body l = word_text l.word ++ flat_map (λ id. 32 ∷ id_text id) l.ids
 
 pub ids_free : (ids : List Identifier) → All IsNarrow ids → HasNoByte 10 (ids_text ids)
@@ -142,7 +142,7 @@ ids_free [] n = tt
 ids_free (i ∷ ids) n =
     free-append 10 (32 ∷ id_text i) (flat_map (λ id. 32 ∷ id_text id) ids) ((λ e. omega (arith, e)), id_free 10 i (omega arith) (All-head IsNarrow i ids n)) (ids_free ids (All-tail IsNarrow i ids n))
 
-body_free : (l : Line) → All IsNarrow l.ids → HasNoByte 10 (body l)
+body_free : (l : ProofLine) → All IsNarrow l.ids → HasNoByte 10 (body l)
 body_free l n = free-append 10 (word_text l.word) (flat_map (λ id. 32 ∷ id_text id) l.ids) (free_from 10 (word_text l.word) (word_test l.word).0) (ids_free l.ids n)
 
 -- a line with a space in place of its end, as pieces
@@ -159,7 +159,7 @@ pieces_free [] n = tt
 pieces_free (i ∷ ids) n = (id_free 32 i (omega arith) (All-head IsNarrow i ids n), pieces_free ids (All-tail IsNarrow i ids n))
 
 -- a line is told by its text
-body_once : (l m : Line) → All IsNarrow l.ids → All IsNarrow m.ids → body l ≡ body m → l ≡ m
+body_once : (l m : ProofLine) → All IsNarrow l.ids → All IsNarrow m.ids → body l ≡ body m → l ≡ m
 body_once l m f g e =
     let p : word_text l.word ∷ map id_text l.ids ≡ word_text m.word ∷ map id_text m.ids = pieces_once 32 (word_text l.word ∷ map id_text l.ids) (word_text m.word ∷ map id_text m.ids)
     (free_from 32 (word_text l.word) (word_test l.word).1, pieces_free l.ids f) (free_from 32 (word_text m.word) (word_test m.word).1, pieces_free m.ids g)
@@ -171,27 +171,27 @@ body_once l m f g e =
     λ j. record { word = w j; ids = i j }
 
 -- lines are told by their text
-lines_marked : (ls : List Line) → flat_map line_text ls ≡ marked 10 (map body ls)
+lines_marked : (ls : List ProofLine) → flat_map proof_line_text ls ≡ marked 10 (map body ls)
 lines_marked [] = refl
 lines_marked (l ∷ ls) = λ i. sym (append_assoc (word_text l.word) (flat_map (λ id. 32 ∷ id_text id) l.ids) (10 ∷ [])) i ++ lines_marked ls i
 
-bodies_free : (ls : List Line) → All (λ (l : Line). All IsNarrow l.ids) ls → HaveNoByte 10 (map body ls)
+bodies_free : (ls : List ProofLine) → All (λ (l : ProofLine). All IsNarrow l.ids) ls → HaveNoByte 10 (map body ls)
 bodies_free [] n = tt
-bodies_free (l ∷ ls) n = (body_free l (All-head (λ (l : Line). All IsNarrow l.ids) l ls n), bodies_free ls (All-tail (λ (l : Line). All IsNarrow l.ids) l ls n))
+bodies_free (l ∷ ls) n = (body_free l (All-head (λ (l : ProofLine). All IsNarrow l.ids) l ls n), bodies_free ls (All-tail (λ (l : ProofLine). All IsNarrow l.ids) l ls n))
 
-bodies_once : (ls ms : List Line) → All (λ (l : Line). All IsNarrow l.ids) ls → All (λ (l : Line). All IsNarrow l.ids) ms → map body ls ≡ map body ms → ls ≡ ms
+bodies_once : (ls ms : List ProofLine) → All (λ (l : ProofLine). All IsNarrow l.ids) ls → All (λ (l : ProofLine). All IsNarrow l.ids) ms → map body ls ≡ map body ms → ls ≡ ms
 bodies_once [] [] f g e = refl
 bodies_once [] (m ∷ ms) f g e = cc
 bodies_once (l ∷ ls) [] f g e = cc
 bodies_once (l ∷ ls) (m ∷ ms) f g e =
-    let N : Line → Type 0 = λ (z : Line). All IsNarrow z.ids in
+    let N : ProofLine → Type 0 = λ (z : ProofLine). All IsNarrow z.ids in
     let p : body l ≡ body m = cc in
     let q : map body ls ≡ map body ms = cc in
     let r = body_once l m (All-head N l ls f) (All-head N m ms g) p in
     let s = bodies_once ls ms (All-tail N l ls f) (All-tail N m ms g) q in
     λ i. r i ∷ s i
 
-lines_once : (ls ms : List Line) → All (λ (l : Line). All IsNarrow l.ids) ls → All (λ (l : Line). All IsNarrow l.ids) ms → flat_map line_text ls ≡ flat_map line_text ms → ls ≡ ms
+lines_once : (ls ms : List ProofLine) → All (λ (l : ProofLine). All IsNarrow l.ids) ls → All (λ (l : ProofLine). All IsNarrow l.ids) ms → flat_map proof_line_text ls ≡ flat_map proof_line_text ms → ls ≡ ms
 lines_once ls ms f g e =
     bodies_once ls ms f g (pieces_once 10 (map body ls) (map body ms) (bodies_free ls f) (bodies_free ms g) (sym (lines_marked ls) ∙ e ∙ lines_marked ms))
 
@@ -206,16 +206,16 @@ reason_by w ids = Inner
 abbrev nothing : Step
 nothing = let none : Identifier = record { replica = 0; counter = 0 } in record { x = none; y = none; down_x = []; down_y = []; right_x = []; right_y = []; reason = Prefix }
 
-abbrev read_by : Word → (x y : Identifier) → (a b : Line) → List Line → Step × List Line
+abbrev read_by : Word → (x y : Identifier) → (a b : ProofLine) → List ProofLine → Step × List ProofLine
 read_by prefix x y a b more = (record { x = x; y = y; down_x = []; down_y = a.ids; right_x = []; right_y = []; reason = Prefix }, more)
 read_by _ x y a b (c ∷ d ∷ e ∷ more) = (record { x = x; y = y; down_x = a.ids; down_y = b.ids; right_x = c.ids; right_y = d.ids; reason = reason_by e.word e.ids }, more)
 read_by _ x y a b more = (nothing, [])
 
-abbrev read_claim : List Identifier → List Line → Step × List Line
+abbrev read_claim : List Identifier → List ProofLine → Step × List ProofLine
 read_claim (x ∷ y ∷ []) (a ∷ b ∷ more) = read_by b.word x y a b more
 read_claim ids more = (nothing, [])
 
-abbrev read_step : List Line → Step × List Line
+abbrev read_step : List ProofLine → Step × List ProofLine
 read_step (l ∷ more) = read_claim l.ids more
 read_step [] = (nothing, [])
 
@@ -224,7 +224,7 @@ abbrev told_with : Step → Reason → Step
 told_with s Prefix = record { x = s.x; y = s.y; down_x = []; down_y = s.down_y; right_x = []; right_y = []; reason = Prefix }
 told_with s r = record { x = s.x; y = s.y; down_x = s.down_x; down_y = s.down_y; right_x = s.right_x; right_y = s.right_y; reason = r }
 
-step_read : (s : Step) (r : Reason) (more : List Line) → read_step ((chain_lines s r ++ reason_line r ∷ []) ++ more) ≡ (told_with s r, more)
+step_read : (s : Step) (r : Reason) (more : List ProofLine) → read_step ((chain_lines s r ++ reason_line r ∷ []) ++ more) ≡ (told_with s r, more)
 step_read s Prefix more = refl
 step_read s Inner more = refl
 step_read s End more = refl
@@ -236,7 +236,7 @@ told-same s Prefix e = refl
 told-same s r e = λ i. record { x = s.x; y = s.y; down_x = s.down_x; down_y = s.down_y; right_x = s.right_x; right_y = s.right_y; reason = e i }
 
 -- a step has lines
-some_lines : (s : Step) (r : Reason) (more : List Line) → [] ≡ (chain_lines s r ++ reason_line r ∷ []) ++ more → ⊥
+some_lines : (s : Step) (r : Reason) (more : List ProofLine) → [] ≡ (chain_lines s r ++ reason_line r ∷ []) ++ more → ⊥
 some_lines s Prefix more e = cc
 some_lines s r more e = cc
 
@@ -248,8 +248,8 @@ lines_tell (s ∷ c) [] e = absurd (some_lines s s.reason (proof_lines c) (sym e
 lines_tell (s ∷ c) (t ∷ d) e =
     let p : (told_with s s.reason, proof_lines c) ≡ (told_with t t.reason, proof_lines d) =
     sym (step_read s s.reason (proof_lines c)) ∙ ap read_step e ∙ step_read t t.reason (proof_lines d) in
-    let q = lines_tell c d (ap (λ (z : Step × List Line). z.1) p) in
-    let r : told_step s ≡ told_step t = sym (told-same s s.reason refl) ∙ ap (λ (z : Step × List Line). z.0) p ∙ told-same t t.reason refl in
+    let q = lines_tell c d (ap (λ (z : Step × List ProofLine). z.1) p) in
+    let r : told_step s ≡ told_step t = sym (told-same s s.reason refl) ∙ ap (λ (z : Step × List ProofLine). z.0) p ∙ told-same t t.reason refl in
     λ i. r i ∷ q i
 
 pub reads_uniquely : ReadsUniquely

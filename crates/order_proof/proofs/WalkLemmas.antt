@@ -12,7 +12,7 @@ unfoldable use Rattle.origin_model.specs.order.Order.{chain}
 use Rattle.origin_model.proofs.SharedLemmas.{chain-other, chain-own, chain_above}
 use Rattle.order_proof.specs.Certificates.{Chain}
 use Rattle.order_proof.specs.Chains.{ends_with, is_empty}
-use Rattle.order_proof.specs.Positions.{IsAt, as_of, history_at}
+use Rattle.order_proof.specs.Positions.{IsAtPosition, as_of, history_at}
 use Rattle.order_proof.proofs.PositionLemmas.{as_of-other, as_of-own}
 
 pub reverse-cons : (m : Identifier) (ms : Chain) → reverse (m ∷ ms) ≡ reverse ms ++ m ∷ []
@@ -134,7 +134,7 @@ module _ (ops : List Op) (down : Chain) (n k : ℕ) (x : Identifier) (some : 0 <
       ∙ ends-as_of (history_at ops n) x (get_or down (k - 1) none) (reverse (take (k - 1) down))
       ∙ ap (λ h. ends_with h x (get_or down (k - 1) none ∷ reverse (take (k - 1) down))) e)
 
-  module _ (m : Identifier) (is : m ≡ get_or down (k - 1) m) (at : ℕ) (e : Op) (t : IsAt ops n x at e) where
+  module _ (m : Identifier) (is : m ≡ get_or down (k - 1) m) (at : ℕ) (e : Op) (t : IsAtPosition ops n x at e) where
     abbrev older : List Op
     older = history_at ops at
 

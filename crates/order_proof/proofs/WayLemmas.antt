@@ -8,9 +8,9 @@ use Rattle.origin_model.specs.operations.History.{left_of}
 use Rattle.origin_model.specs.operations.Verdict.{Lawful}
 use Rattle.origin_model.proofs.SharedLemmas.{Lawful-append}
 use Rattle.order_proof.specs.Certificates.{Chain}
-use Rattle.order_proof.specs.Parting.{AreDowns, IsLeft, IsOneWay, IsPassed, Passed, age, nothing_passed, with_one, with_other}
+use Rattle.order_proof.specs.Parting.{AreDowns, IsUnpassed, IsOneWay, IsPassedMember, PassedChains, age, nothing_passed, with_one, with_other}
 unfoldable use Rattle.order_proof.specs.Parting.{passed_up}
-use Rattle.order_proof.specs.Positions.{IsAt, history_at}
+use Rattle.order_proof.specs.Positions.{IsAtPosition, history_at}
 use Rattle.order_proof.specs.declared.parting.Ascent.{Ascent}
 use Rattle.order_proof.proofs.PassedLemmas.{as_of-short, passed_is_down, passed_is_other_down, passed-missing, passed-nothing, passed_turn-one, passed_turn-other}
 
@@ -18,14 +18,14 @@ long : (ops : List Op) (n : ℕ) → length (history_at ops n) ≡ min n (length
 long ops n = length-reverse (take n ops) ∙ length-take n ops
 
 -- an operation at a later position has more operations up to it
-pub newer_age : (ops : List Op) (below at place : ℕ) (y : Identifier) (op : Op) → IsAt ops below y place op → at < place → suc (length (history_at ops at)) < age (history_at ops below) (Some y)
+pub newer_age : (ops : List Op) (below at place : ℕ) (y : Identifier) (op : Op) → IsAtPosition ops below y place op → at < place → suc (length (history_at ops at)) < age (history_at ops below) (Some y)
 newer_age ops below at place y op there later =
     omega (arith, later, ap length there.newest, as_of-short (history_at ops below) y, long ops at, long ops place, long ops below)
 
 module _ (ops : List Op) (below : ℕ) (one other : Ascent) (apart : one.next ≢ other.next) where
-  pub way_of_one : (at : ℕ) (new : Ascent) → IsPassed ops below at one new other.next → IsOneWay ops below at one other new other
+  pub way_of_one : (at : ℕ) (new : Ascent) → IsPassedMember ops below at one new other.next → IsOneWay ops below at one other new other
   way_of_one at new p =
-      let rest : Passed = passed_up (history_at ops at) (left_of p.op) other.next in
+      let rest : PassedChains = passed_up (history_at ops at) (left_of p.op) other.next in
       let now : passed_up (history_at ops at) new.next other.next ≡ rest = ap (λ o. passed_up (history_at ops at) o other.next) p.next in
       let turn : passed_up (history_at ops below) one.next other.next ≡ with_one (Some p.member) rest =
       ap (λ o. passed_up (history_at ops below) o other.next) p.next_is
@@ -35,9 +35,9 @@ module _ (ops : List Op) (below : ℕ) (one other : Ascent) (apart : one.next �
         other_is = ap (λ t. other.passed.items ++ t.other) now ∙ ap (λ t. other.passed.items ++ t.other) (sym turn);
       }
 
-  pub way_of_other : (at : ℕ) (same new : Ascent) → same ≡ one → IsPassed ops below at other new one.next → IsOneWay ops below at one other same new
+  pub way_of_other : (at : ℕ) (same new : Ascent) → same ≡ one → IsPassedMember ops below at other new one.next → IsOneWay ops below at one other same new
   way_of_other at same new is p =
-      let rest : Passed = passed_up (history_at ops at) one.next (left_of p.op) in
+      let rest : PassedChains = passed_up (history_at ops at) one.next (left_of p.op) in
       let now : passed_up (history_at ops at) same.next new.next ≡ rest = (λ i. passed_up (history_at ops at) ((is i).next) (p.next i)) in
       let turn : passed_up (history_at ops below) one.next other.next ≡ with_other (Some p.member) rest =
       ap (passed_up (history_at ops below) one.next) p.next_is
@@ -48,7 +48,7 @@ module _ (ops : List Op) (below : ℕ) (one other : Ascent) (apart : one.next �
       }
 
   -- neither is there
-  pub way_of_none : (same_one same_other : Ascent) → IsLeft (history_at ops below) one same_one other.next → IsLeft (history_at ops below) other same_other same_one.next → IsOneWay ops below 0 one other same_one same_other
+  pub way_of_none : (same_one same_other : Ascent) → IsUnpassed (history_at ops below) one same_one other.next → IsUnpassed (history_at ops below) other same_other same_one.next → IsOneWay ops below 0 one other same_one same_other
   way_of_none same_one same_other p q =
       let h : List Op = history_at ops below in
       let rival : (age h other.next ≡ 0) ⊎ (age h other.next < age h one.next) = subst (λ (a : Ascent). (age h other.next ≡ 0) ⊎ (age h other.next < age h a.next)) p.same q.why in

@@ -22,8 +22,8 @@ abbrev pub OfOnePlace : List Op → Identifier → Identifier → Type 0
 OfOnePlace h x y = (p : Place) × IsIn p h x × IsIn p h y
 
 -- and x stands before y there
-abbrev pub StandsBefore : List Op → Identifier → Identifier → Type 0
-StandsBefore h x y = (p : Place) × IsIn p h x × IsIn p h y × (before p h x y ≡ true)
+abbrev pub IsOrderedBefore : List Op → Identifier → Identifier → Type 0
+IsOrderedBefore h x y = (p : Place) × IsIn p h x × IsIn p h y × (before p h x y ≡ true)
 
 -- the second list begins with the first, and is longer
 abbrev pub IsProperPrefix : Chain → Chain → Type 0
@@ -91,6 +91,7 @@ pub record IsStep (h : List Op) (s : Step) : Type 0 where
   pub one_place : OfOnePlace h s.x s.y
   pub holds : HoldsBy h s s.reason
 
+-- the reason is that of two siblings by age
 abbrev pub is_later : Reason → Bool
 is_later (Later p q) = true
 is_later _ = false

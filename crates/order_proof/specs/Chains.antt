@@ -6,6 +6,7 @@ use Rattle.origin_model.specs.operations.History.{is_own, left_of, right_of}
 use Rattle.origin_model.specs.order.Order.{left_at}
 use Rattle.order_proof.specs.Certificates.{Chain}
 
+-- the chain is at its end
 abbrev pub is_empty : Chain → Bool
 is_empty [] = true
 is_empty (a ∷ more) = false

@@ -20,6 +20,7 @@ same_place _ _ = false
 abbrev pub place_holding : List Op → Identifier → Option Place
 place_holding h x = elim (holder h x) [ None ↦ None | Some op ↦ place op ]
 
+-- both elements are in one place
 abbrev pub in_one_place : List Op → Identifier → Identifier → Bool
 in_one_place h x y = same_place (place_holding h x) (place_holding h y)
 
@@ -30,6 +31,7 @@ origins_decide o q c d (Later u v) = origin_eq o (Some u) && (origin_eq q (Some 
 origins_decide o q c d Tie = origin_eq o q && id_lt c d
 origins_decide o q c d _ = false
 
+-- the reason is that of an ancestor
 abbrev pub is_inner : Reason → Bool
 is_inner Inner = true
 is_inner _ = false
@@ -52,19 +54,20 @@ sibling_test h s r =
     siblings_at h s.down_x s.down_y s.right_x s.right_y && (is_down h s.x s.down_x && (is_down h s.y s.down_y && chains_decide h r s.right_x s.right_y))
 
 -- the chain begins with x and goes on
-abbrev pub goes_on : Identifier → Chain → Bool
-goes_on x (z ∷ next ∷ more) = id_eq z x
-goes_on x _ = false
+abbrev pub continues_chain : Identifier → Chain → Bool
+continues_chain x (z ∷ next ∷ more) = id_eq z x
+continues_chain x _ = false
 
 -- a step by Prefix
 abbrev pub prefix_test : List Op → Step → Bool
-prefix_test h s = goes_on s.x s.down_y && (is_down h s.y s.down_y && (is_empty s.down_x && (is_empty s.right_x && is_empty s.right_y)))
+prefix_test h s = continues_chain s.x s.down_y && (is_down h s.y s.down_y && (is_empty s.down_x && (is_empty s.right_x && is_empty s.right_y)))
 
 -- a step, by its reason
 abbrev pub reason_test : List Op → Step → Reason → Bool
 reason_test h s Prefix = prefix_test h s
 reason_test h s r = sibling_test h s r
 
+-- whether a step holds in the history
 abbrev pub step_test : List Op → Step → Bool
 step_test h s = in_one_place h s.x s.y && reason_test h s s.reason
 
@@ -74,10 +77,11 @@ rests_test (Later u v) t = id_eq t.y u && id_eq t.x v
 rests_test _ t = false
 
 -- a step rests on no other
-abbrev pub ends : Reason → Bool
-ends r = not (is_later r)
+abbrev pub rests_on_none : Reason → Bool
+rests_on_none r = not (is_later r)
 
+-- whether each step of a certificate holds and rests on the next ones
 abbrev pub test : List Op → Certificate → Bool
 test h [] = false
-test h (s ∷ []) = if step_test h s then ends s.reason else false
+test h (s ∷ []) = if step_test h s then rests_on_none s.reason else false
 test h (s ∷ t ∷ more) = if step_test h s then (if rests_test s.reason t then test h (t ∷ more) else false) else false

@@ -6,7 +6,7 @@ use Rattle.origin_model.specs.operations.History.{is_own, left_of}
 use Rattle.origin_model.specs.order.Order.{lefts}
 use Rattle.order_proof.specs.Certificates.{Chain}
 use Rattle.order_proof.specs.Making.{common_count}
-use Rattle.order_proof.specs.Positions.{IsAt, as_of, history_at}
+use Rattle.order_proof.specs.Positions.{IsAtPosition, as_of, history_at}
 use Rattle.order_proof.specs.declared.parting.Ascent.{Ascent}
 
 -- the operation makes the element, if there is one
@@ -15,23 +15,26 @@ makes None op = false
 makes (Some x) op = is_own x op
 
 -- what is passed on the way up two chains, the lowest members first
-pub record Passed : Type 0 where
+pub record PassedChains : Type 0 where
   pub one : Chain
   pub other : Chain
 
-abbrev pub nothing_passed : Passed
+-- no member was passed on either chain
+abbrev pub nothing_passed : PassedChains
 nothing_passed = record { one = []; other = [] }
 
-abbrev pub with_one : Option Identifier → Passed → Passed
+-- one member more was passed on the first chain
+abbrev pub with_one : Option Identifier → PassedChains → PassedChains
 with_one None p = p
 with_one (Some x) p = record { one = x ∷ p.one; other = p.other }
 
-abbrev pub with_other : Option Identifier → Passed → Passed
+-- one member more was passed on the second chain
+abbrev pub with_other : Option Identifier → PassedChains → PassedChains
 with_other None p = p
 with_other (Some y) p = record { one = p.one; other = y ∷ p.other }
 
 -- what is passed from these members up to the first one that both chains have: of two members the newer one goes first
-unfoldable pub passed_up : List Op → (one other : Option Identifier) → Passed
+unfoldable pub passed_up : List Op → (one other : Option Identifier) → PassedChains
 passed_up [] one other = nothing_passed
 passed_up (op ∷ older) one other =
     if makes one op then (if makes other op then nothing_passed else with_one one (passed_up older (left_of op) other))
@@ -43,17 +46,17 @@ age h None = 0
 age h (Some x) = length (as_of h x)
 
 -- the next member, whose operation is at this position, was passed, and the other chain's next one is no newer
-pub record IsPassed (ops : List Op) (below at : ℕ) (old new : Ascent) (rival : Option Identifier) : Type 0 where
+pub record IsPassedMember (ops : List Op) (below at : ℕ) (old new : Ascent) (rival : Option Identifier) : Type 0 where
   pub member : Identifier
   pub op : Op
   pub next_is : old.next ≡ Some member
-  pub there : IsAt ops below member at op
+  pub there : IsAtPosition ops below member at op
   pub newest : age (history_at ops below) rival ≤ suc (length (history_at ops at))
   pub passed : new.passed.items ≡ old.passed.items ++ member ∷ []
   pub next : new.next ≡ left_of op
 
 -- none was passed: it is not there, or the other chain's next one is newer
-pub record IsLeft (h : List Op) (old new : Ascent) (rival : Option Identifier) : Type 0 where
+pub record IsUnpassed (h : List Op) (old new : Ascent) (rival : Option Identifier) : Type 0 where
   pub same : new ≡ old
   pub why : (age h old.next ≡ 0) ⊎ (age h old.next < age h rival)
 

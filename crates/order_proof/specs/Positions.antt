@@ -19,7 +19,7 @@ as_of [] x = []
 as_of (op ∷ older) x = if is_own x op then op ∷ older else as_of older x
 
 -- x's operation is at this position, below n
-pub record IsAt (ops : List Op) (n : ℕ) (x : Identifier) (at : ℕ) (op : Op) : Type 0 where
+pub record IsAtPosition (ops : List Op) (n : ℕ) (x : Identifier) (at : ℕ) (op : Op) : Type 0 where
   pub below : at < n
   pub own : is_own x op ≡ true
   pub newest : as_of (history_at ops n) x ≡ op ∷ history_at ops at

@@ -17,6 +17,7 @@ pub data Word : Type 0 where
   later : Word
   tie : Word
 
+-- how a word of a certificate is spelled
 abbrev pub word_text : Word → List ℕ
 word_text claim = codes "claim"
 word_text down = codes "down"
@@ -27,7 +28,8 @@ word_text end = codes "end"
 word_text later = codes "later"
 word_text tie = codes "tie"
 
-pub record Line : Type 0 where
+-- a line of a certificate: its word, and the identifiers behind it
+pub record ProofLine : Type 0 where
   pub word : Word
   pub ids : List Identifier
 
@@ -40,47 +42,54 @@ abbrev pub ids_text : List Identifier → List ℕ
 ids_text ids = flat_map (λ id. 32 ∷ id_text id) ids
 
 -- a word, each identifier behind a space, LF
-abbrev pub worded : List ℕ → List Identifier → List ℕ
-worded word ids = word ++ (ids_text ids ++ 10 ∷ [])
+abbrev pub word_with_ids : List ℕ → List Identifier → List ℕ
+word_with_ids word ids = word ++ (ids_text ids ++ 10 ∷ [])
 
-abbrev pub line_text : Line → List ℕ
-line_text l = worded (word_text l.word) l.ids
+-- how a line is written
+abbrev pub proof_line_text : ProofLine → List ℕ
+proof_line_text l = word_with_ids (word_text l.word) l.ids
 
-abbrev pub line : Word → List Identifier → Line
-line word ids = record { word = word; ids = ids }
+-- a line by its two parts
+abbrev pub proof_line : Word → List Identifier → ProofLine
+proof_line word ids = record { word = word; ids = ids }
 
-abbrev pub reason_line : Reason → Line
-reason_line Prefix = line prefix []
-reason_line Inner = line inner []
-reason_line End = line end []
-reason_line (Later p q) = line later (p ∷ q ∷ [])
-reason_line Tie = line tie []
+-- the line of a reason
+abbrev pub reason_line : Reason → ProofLine
+reason_line Prefix = proof_line prefix []
+reason_line Inner = proof_line inner []
+reason_line End = proof_line end []
+reason_line (Later p q) = proof_line later (p ∷ q ∷ [])
+reason_line Tie = proof_line tie []
 
 -- the lines of a step before its reason: its claim, and the chains that show it; a step by Prefix has one
-abbrev pub chain_lines : Step → Reason → List Line
-chain_lines s Prefix = line claim (s.x ∷ s.y ∷ []) ∷ line down s.down_y ∷ []
+abbrev pub chain_lines : Step → Reason → List ProofLine
+chain_lines s Prefix = proof_line claim (s.x ∷ s.y ∷ []) ∷ proof_line down s.down_y ∷ []
 chain_lines s reason =
-    line claim (s.x ∷ s.y ∷ []) ∷ line down s.down_x ∷ line down s.down_y ∷ line right s.right_x ∷ line right s.right_y ∷ []
+    proof_line claim (s.x ∷ s.y ∷ []) ∷ proof_line down s.down_x ∷ proof_line down s.down_y ∷ proof_line right s.right_x ∷ proof_line right s.right_y ∷ []
 
-abbrev pub step_lines : Step → List Line
+-- the lines of a step: its chains, and its reason
+abbrev pub step_lines : Step → List ProofLine
 step_lines s = chain_lines s s.reason ++ reason_line s.reason ∷ []
 
-abbrev pub proof_lines : Certificate → List Line
+-- the lines of a certificate
+abbrev pub proof_lines : Certificate → List ProofLine
 proof_lines [] = []
 proof_lines (s ∷ more) = step_lines s ++ proof_lines more
 
 -- the text of a step, as it is written: its reason goes last
 abbrev pub step_text : Step → List ℕ
-step_text s = flat_map line_text (chain_lines s s.reason) ++ line_text (reason_line s.reason)
+step_text s = flat_map proof_line_text (chain_lines s s.reason) ++ proof_line_text (reason_line s.reason)
 
+-- a certificate as it is printed
 abbrev pub proof_text : Certificate → List ℕ
-proof_text c = flat_map line_text (proof_lines c)
+proof_text c = flat_map proof_line_text (proof_lines c)
 
 -- a step without the chains that its text leaves out
 abbrev pub told_by : Step → Reason → Step
 told_by s Prefix = record { x = s.x; y = s.y; down_x = []; down_y = s.down_y; right_x = []; right_y = []; reason = Prefix }
 told_by s reason = s
 
+-- a step with the identifiers that its lines name
 abbrev pub told_step : Step → Step
 told_step s = told_by s s.reason
 
@@ -90,4 +99,4 @@ IsNarrow id = (id.replica < 2 ^ 32) × (id.counter < 2 ^ 32)
 
 -- all numbers that the text tells are of 32 bits
 abbrev pub AllNarrow : Certificate → Type 0
-AllNarrow c = All (λ (l : Line). All IsNarrow l.ids) (proof_lines c)
+AllNarrow c = All (λ (l : ProofLine). All IsNarrow l.ids) (proof_lines c)

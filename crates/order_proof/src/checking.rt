@@ -6,7 +6,7 @@ ghost use Rattle.order_proof.specs.Certificates.{IsValid};
 ghost use Rattle.order_proof.specs.Positions.{history_at};
 ghost use Rattle.order_proof.specs.Readings.{IsValidText};
 ghost use Rattle.order_proof.specs.Checks.{same_place as places_same, origins_decide, chains_decide, siblings_at};
-ghost use Rattle.order_proof.specs.Checks.{sibling_test, goes_on, is_inner as is_inner_reason, ends, prefix_test};
+ghost use Rattle.order_proof.specs.Checks.{sibling_test, continues_chain, is_inner as is_inner_reason, rests_on_none, prefix_test};
 ghost use Rattle.order_proof.specs.Checks.{reason_test, step_test, rests_test, test};
 
 use crate::chains::{is_down, is_rights};
@@ -114,7 +114,7 @@ fn holds_at_siblings<P: Positions>(held: &P, end: usize, step: &Step) -> bool
 }
 
 fn begins_with(x: ElementId, chain: &[ElementId]) -> bool
-    ensures { result ≡ goes_on x chain.now }
+    ensures { result ≡ continues_chain x chain.now }
 {
     chain.len() > 1 && chain[0] == x
 }
@@ -156,7 +156,7 @@ fn rests_on(step: &Step, next: &Step) -> bool
 
 /// Whether the step rests on no other.
 fn ends_here(step: &Step) -> bool
-    ensures { result ≡ ends step.now.reason }
+    ensures { result ≡ rests_on_none step.now.reason }
 {
     match step.reason {
         Reason::Later(_, _) => false,

@@ -3,7 +3,7 @@
 ghost use Rattle.std.specs.Prelude.{◌≡◌, reverse, IfOk, drop, ◌∷◌, Some};
 ghost use Rattle.origin_model.specs.operations.Verdict.{Lawful};
 ghost use Rattle.origin_model.specs.order.Order.{rights};
-ghost use Rattle.order_proof.specs.Certificates.{IsValid, Claims, StandsBefore};
+ghost use Rattle.order_proof.specs.Certificates.{IsValid, Claims, IsOrderedBefore};
 ghost use Rattle.order_proof.specs.Making.{common_count as common_in, reason_of as reason_by};
 ghost use Rattle.order_proof.specs.Making.{reason_at as reason_at_in, reason_between as reason_between_in};
 ghost use Rattle.order_proof.specs.Positions.{history_at};
@@ -205,7 +205,7 @@ pub fn prove<P: Positions>(
     x: ElementId,
     y: ElementId,
 ) -> Result<Proof, NoMemory>
-    requires before { Lawful (reverse (P.operations held.now)) → StandsBefore (reverse (P.operations held.now)) x y }
+    requires before { Lawful (reverse (P.operations held.now)) → IsOrderedBefore (reverse (P.operations held.now)) x y }
     ensures valid { IfOk result (λ proof. IsValid (reverse (P.operations held.now)) proof) }
     ensures claims { IfOk result (λ proof. Claims x y proof) }
 {

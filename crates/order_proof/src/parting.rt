@@ -3,7 +3,7 @@
 ghost use Rattle.std.specs.Prelude.{◌≡◌, ◌++◌, ◌∷◌, ◌⊎◌, ◌≢◌, ◌<◌, ◌≤◌, [], false, suc, length, IfOk, IfSome, IsNone, IsTrue, OnOk, Some};
 ghost use Rattle.op_runs.specs.Finding.{op_of};
 ghost use Rattle.origin_model.specs.operations.History.{left_of as left_origin};
-ghost use Rattle.order_proof.specs.Parting.{AreDowns, IsLeft, IsOneWay, IsPassed, age};
+ghost use Rattle.order_proof.specs.Parting.{AreDowns, IsUnpassed, IsOneWay, IsPassedMember, age};
 ghost use Rattle.order_proof.specs.Positions.{history_at};
 
 use crate::origins::left_of;
@@ -62,8 +62,8 @@ fn pass_newest<P: Positions>(
     ascent: &mut Ascent,
     rival: Option<ElementId>,
 ) -> Result<Option<usize>, AllocError>
-    ensures passed { IfOk result (λ r. IfSome r (λ at. IsPassed (P.operations held.now) below at ascent.old ascent.new rival)) }
-    ensures left { IfOk result (λ r. IsNone r → IsLeft (history_at (P.operations held.now) below) ascent.old ascent.new rival) }
+    ensures passed { IfOk result (λ r. IfSome r (λ at. IsPassedMember (P.operations held.now) below at ascent.old ascent.new rival)) }
+    ensures left { IfOk result (λ r. IsNone r → IsUnpassed (history_at (P.operations held.now) below) ascent.old ascent.new rival) }
 {
     let Some(member) = ascent.next else {
         return Ok(None);

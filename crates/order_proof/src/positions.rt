@@ -4,7 +4,7 @@ ghost use Rattle.std.specs.Prelude.{◌≡◌, ◌≤◌, [], length, List, opti
 ghost use Rattle.fugue_ids.specs.declared.op.Op.{Op as AnyOp};
 ghost use Rattle.op_runs.specs.Finding.{op_of};
 ghost use Rattle.origin_model.specs.operations.Verdict.{Lawful};
-ghost use Rattle.order_proof.specs.Positions.{as_of, history_at, IsAt, position_of};
+ghost use Rattle.order_proof.specs.Positions.{as_of, history_at, IsAtPosition, position_of};
 
 use fugue_ids::ElementId;
 use op_runs::OpRef;
@@ -30,7 +30,7 @@ pub trait Positions {
 
 /// The operation of an element among the first `end` ones, and its position.
 pub fn find<P: Positions>(held: &P, end: usize, x: ElementId) -> Option<(usize, OpRef<'_>)>
-    ensures some { IfSome result (λ (at, op). IsAt (P.operations held.now) end x at (op_of op)) }
+    ensures some { IfSome result (λ (at, op). IsAtPosition (P.operations held.now) end x at (op_of op)) }
     ensures none { IsNone result → as_of (history_at (P.operations held.now) end) x ≡ [] }
 {
     // This call tells that the operations are lawful.

@@ -6,8 +6,8 @@ ghost use Rattle.order_proof.specs.declared.step.Reason.{Reason as AnyReason};
 ghost use Rattle.order_proof.specs.declared.step.Reason.TheVariants.{Prefix};
 ghost use Rattle.order_proof.specs.declared.step.Step.{Step as AnyStep};
 ghost use Rattle.order_proof.specs.Certificates.{Certificate};
-ghost use Rattle.order_proof.specs.Texts.{Line as AnyLine, line_text, reason_line, step_lines, step_text, told_step};
-ghost use Rattle.order_proof.specs.Texts.{worded};
+ghost use Rattle.order_proof.specs.Texts.{ProofLine as AnyLine, proof_line_text, reason_line, step_lines, step_text, told_step};
+ghost use Rattle.order_proof.specs.Texts.{word_with_ids};
 ghost use Rattle.order_proof.specs.Readings.{sibling_lines};
 ghost use Rattle.order_proof.specs.Readings.{IsPossible, IsReadAs, IsProofText};
 
@@ -73,9 +73,9 @@ impl<'a> Unread<'a> {
     /// Reads a line of this word and identifiers.
     fn read_chain(&mut self, alloc: Global, word: &[u8]) -> Result<Chain, TextFault>
         ensures line { IfOk result (λ ids.
-            (self.old.rest.now ≡ worded word.now ids ++ self.new.rest.now) × All IsPossible ids) }
+            (self.old.rest.now ≡ word_with_ids word.now ids ++ self.new.rest.now) × All IsPossible ids) }
         ensures every { (ids : List Identifier) (more : List ℕ) → All IsPossible ids
-            → self.old.rest.now ≡ worded word.now ids ++ more
+            → self.old.rest.now ≡ word_with_ids word.now ids ++ more
             → IsReadAs result (λ found. (found ≡ ids) × (self.new.rest.now ≡ more)) }
     {
         if !self.takes(word) {
@@ -90,10 +90,10 @@ impl<'a> Unread<'a> {
 
     /// Reads a line of this word and two identifiers.
     fn read_pair(&mut self, alloc: Global, word: &[u8]) -> Result<(ElementId, ElementId), TextFault>
-        ensures line { IfOk result (λ (x, y). (self.old.rest.now ≡ worded word.now (x ∷ y ∷ []) ++ self.new.rest.now)
+        ensures line { IfOk result (λ (x, y). (self.old.rest.now ≡ word_with_ids word.now (x ∷ y ∷ []) ++ self.new.rest.now)
             × All IsPossible (x ∷ y ∷ [])) }
         ensures every { (x y : Identifier) (more : List ℕ) → All IsPossible (x ∷ y ∷ [])
-            → self.old.rest.now ≡ worded word.now (x ∷ y ∷ []) ++ more
+            → self.old.rest.now ≡ word_with_ids word.now (x ∷ y ∷ []) ++ more
             → IsReadAs result (λ pair. (pair.0 ≡ x) × (pair.1 ≡ y) × (self.new.rest.now ≡ more)) }
     {
         let chain = self.read_chain(alloc, word)?;
@@ -108,10 +108,10 @@ impl<'a> Unread<'a> {
     /// Reads the line of a reason that is not `Prefix`.
     fn read_reason(&mut self, alloc: Global) -> Result<Reason, TextFault>
         ensures line { IfOk result (λ reason.
-            (self.old.rest.now ≡ line_text (reason_line reason) ++ self.new.rest.now)
+            (self.old.rest.now ≡ proof_line_text (reason_line reason) ++ self.new.rest.now)
             × All IsPossible ((reason_line reason).ids) × (reason ≢ Prefix)) }
         ensures every { (reason : AnyReason) (more : List ℕ) → All IsPossible ((reason_line reason).ids)
-            → reason ≢ Prefix → self.old.rest.now ≡ line_text (reason_line reason) ++ more
+            → reason ≢ Prefix → self.old.rest.now ≡ proof_line_text (reason_line reason) ++ more
             → IsReadAs result (λ found. (found ≡ reason) × (self.new.rest.now ≡ more)) }
     {
         if self.takes(b"inner\n") {
@@ -152,13 +152,13 @@ impl<'a> Unread<'a> {
         down_x: Chain,
     ) -> Result<Step, TextFault>
         ensures lines { IfOk result (λ step.
-            (self.old.rest.now ≡ flat_map line_text (sibling_lines step) ++ self.new.rest.now)
+            (self.old.rest.now ≡ flat_map proof_line_text (sibling_lines step) ++ self.new.rest.now)
             × All (λ (l : AnyLine). All IsPossible l.ids) (sibling_lines step)
             × (step.x ≡ x) × (step.y ≡ y) × (step.down_x ≡ down_x) × (step.reason ≢ Prefix)) }
         ensures every { (step : AnyStep) (more : List ℕ)
             → All (λ (l : AnyLine). All IsPossible l.ids) (sibling_lines step)
             → step.x ≡ x → step.y ≡ y → step.down_x ≡ down_x → step.reason ≢ Prefix
-            → self.old.rest.now ≡ flat_map line_text (sibling_lines step) ++ more
+            → self.old.rest.now ≡ flat_map proof_line_text (sibling_lines step) ++ more
             → IsReadAs result (λ found. (found ≡ step) × (self.new.rest.now ≡ more)) }
     {
         let down_y = self.read_chain(alloc, b"down")?;

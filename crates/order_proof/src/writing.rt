@@ -2,7 +2,7 @@
 
 ghost use Rattle.std.specs.Prelude.{◌≡◌, [], ◌∷◌, ◌++◌, flat_map};
 ghost use Rattle.fugue_ids.specs.Outs.{WritesBytes};
-ghost use Rattle.order_proof.specs.Texts.{proof_text, step_text, chain_lines, reason_line, line_text, worded, id_text};
+ghost use Rattle.order_proof.specs.Texts.{proof_text, step_text, chain_lines, reason_line, proof_line_text, word_with_ids, id_text};
 
 use crate::{Proof, Reason, Step};
 use fugue_ids::{ElementId, Failed, Out, write_pieces, write_whole};
@@ -51,7 +51,7 @@ fn write_ids<O: Out>(out: &mut O, ids: &[ElementId]) -> Result<(), Failed>
 
 /// Writes a line: a word, and each identifier behind a space.
 fn write_line<O: Out>(out: &mut O, line: &Line) -> Result<(), Failed>
-    ensures { WritesBytes (O.seen out.old) (O.seen out.new) result (worded line.now.word.now line.now.ids.now) }
+    ensures { WritesBytes (O.seen out.old) (O.seen out.new) result (word_with_ids line.now.word.now line.now.ids.now) }
 {
     write_whole(out, line.word)?;
     write_rest(out, line.ids)
@@ -67,7 +67,7 @@ fn write_rest<O: Out>(out: &mut O, ids: &[ElementId]) -> Result<(), Failed>
 
 fn write_lines<O: Out>(out: &mut O, lines: &[Line]) -> Result<(), Failed>
     ensures { WritesBytes (O.seen out.old) (O.seen out.new) result
-        (flat_map (λ line. worded line.word.now line.ids.now) lines.now) }
+        (flat_map (λ line. word_with_ids line.word.now line.ids.now) lines.now) }
 {
     'lines: for line in lines {
         write_line(out, line)?;
@@ -78,7 +78,7 @@ fn write_lines<O: Out>(out: &mut O, lines: &[Line]) -> Result<(), Failed>
 /// Writes what a step claims, and the chains that show it.
 fn write_chains<O: Out>(out: &mut O, step: &Step) -> Result<(), Failed>
     ensures { WritesBytes (O.seen out.old) (O.seen out.new) result
-        (flat_map line_text (chain_lines step.now step.now.reason)) }
+        (flat_map proof_line_text (chain_lines step.now step.now.reason)) }
 {
     let elements = [step.x, step.y];
     let claim = Line::new(b"claim", &elements);
@@ -95,7 +95,7 @@ fn write_chains<O: Out>(out: &mut O, step: &Step) -> Result<(), Failed>
 }
 
 fn write_reason<O: Out>(out: &mut O, reason: Reason) -> Result<(), Failed>
-    ensures { WritesBytes (O.seen out.old) (O.seen out.new) result (line_text (reason_line reason)) }
+    ensures { WritesBytes (O.seen out.old) (O.seen out.new) result (proof_line_text (reason_line reason)) }
 {
     match reason {
         Reason::Prefix => write_line(out, &Line::new(b"prefix", &[])),

@@ -15,7 +15,7 @@ pub use Rattle.fugue_ids.proofs.OpLemmas.{op_eq-refl, op_eq-true}
 pub use Rattle.origin_model.specs.operations.History.{accepted, element_of, has_op, holder, holds, is_own, left_of, place_eq, right_of}
 pub use Rattle.origin_model.specs.operations.Verdict.{Lawful, first_line, first_missing, first_stray, fits, given_as, id_held, names}
 unfoldable pub use Rattle.origin_model.specs.operations.Verdict.{verdict}
-pub use Rattle.origin_model.specs.order.Order.{IsOrderedBy, Passes, before_in, chain_before, fork_before, has_left, index_of_origin, left_at, lefts, next_left, next_right, older_of, placed, ranked, right_at, right_beside, rights, sibling}
+pub use Rattle.origin_model.specs.order.Order.{IsOrderedBy, Passes, before_in, chain_before, fork_before, has_left, index_of_origin, left_at, lefts, next_left, next_right, older_of, placed, precedes, right_at, right_beside, rights, sibling}
 unfoldable pub use Rattle.origin_model.specs.order.Order.{before, chain, order}
 pub use Rattle.origin_model.specs.order.Printed.{deletes, is_hidden, printed_section, scalar_of, shown, text, title_of}
 unfoldable pub use Rattle.origin_model.specs.order.Printed.{manuscript}

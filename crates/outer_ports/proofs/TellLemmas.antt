@@ -3,14 +3,14 @@ use Rattle.std.proofs.Common.{◌≡◌, inl, inr, ℕ, List, refl, sym, subst}
 use Rattle.std.specs.Prelude.{Option, Some, None, IsSome, Result, Ok, Err, option_map}
 use Rattle.std.specs.Io.KnownBytes.{append_known}
 use Rattle.outer_ports.specs.Sources.{SourceView, SourceTells, ReadsSome}
-use Rattle.outer_ports.specs.disk.States.{State}
-use Rattle.outer_ports.specs.disk.Moments.{History, after, MayHaveWritten}
+use Rattle.outer_ports.specs.disk.States.{DiskState}
+use Rattle.outer_ports.specs.disk.Moments.{History, after_moment, MayHaveWritten}
 use Rattle.outer_ports.specs.disk.Disks.{DiskView, DiskTells, Looks, WritesAt, Syncs}
 use Rattle.outer_ports.specs.wire.Wires.{WireView, WireTells, out_of, Dials, WireReads, WireWrites}
 use Rattle.outer_ports.specs.dock.Steps.{GivesSome}
-use Rattle.outer_ports.specs.dock.Docks.{DockView, DockTells, ended_behind, out_to, Listens, Takes, Sends, Ends}
+use Rattle.outer_ports.specs.dock.Docks.{DockView, DockTells, ended_behind, out_to, Listens, Takes, Sends, EndsSession}
 use Rattle.outer_ports.specs.declared.dock.DockStep.{DockStep}
-use Rattle.outer_ports.specs.declared.dock.mem_dock.MemStep.{MemStep}
+use Rattle.outer_ports.specs.declared.dock.MemStep.{MemStep}
 use Rattle.std.proofs.lemmas.Bool.{cases_eq}
 use Rattle.fugue_ids.proofs.JoinLemmas.{tells_more, write_tells}
 
@@ -30,7 +30,7 @@ read_tells result old new buf r = r.count.tells
 pub look_tells : {E T : Type 0} (result : Result T E) (old new : DiskView) → Looks {E = E} {T = T} old new result → DiskTells old → DiskTells new
 look_tells result old new l = same_tells l.past
 
-after_tells : (f : State → State) (old new : Option History) → new ≡ after f old → IsSome old → IsSome new
+after_tells : (f : DiskState → DiskState) (old new : Option History) → new ≡ after_moment f old → IsSome old → IsSome new
 after_tells f None new is tells = absurd (cc tells)
 after_tells f (Some h) new is tells = same_tells is refl
 
@@ -101,7 +101,7 @@ behind_tells None new sent is tells sends = absurd (cc tells)
 behind_tells (Some counts) new None is tells sends = absurd (cc sends)
 behind_tells (Some counts) new (Some sent) is tells sends = same_tells is refl
 
-pub end_tells : {E T : Type 0} (result : Result T E) (old new : DockView) (session : ℕ) → Ends {E = E} {T = T} old new result session → DockTells old → DockTells new
+pub end_tells : {E T : Type 0} (result : Result T E) (old new : DockView) (session : ℕ) → EndsSession {E = E} {T = T} old new result session → DockTells old → DockTells new
 end_tells {E} {T} result old new session e tells = record {
   listens = same_tells e.listens tells.listens;
   taken = same_tells e.nothing_taken.taken tells.taken;
@@ -111,11 +111,11 @@ end_tells {E} {T} result old new session e tells = record {
   ended_at = at_tells result e;
 }
   where
-    ended_tells : (r : Result T E) → Ends {E = E} {T = T} old new r session → IsSome new.ended
+    ended_tells : (r : Result T E) → EndsSession {E = E} {T = T} old new r session → IsSome new.ended
     ended_tells (Ok x) e = tells_more old.ended new.ended _ e.ended tells.ended
     ended_tells (Err f) e = same_tells e.kept tells.ended
 
-    at_tells : (r : Result T E) → Ends {E = E} {T = T} old new r session → IsSome new.ended_at
+    at_tells : (r : Result T E) → EndsSession {E = E} {T = T} old new r session → IsSome new.ended_at
     at_tells (Ok x) e = behind_tells old.ended_at new.ended_at (old.sent session) e.ended_at tells.ended_at (tells.sent session)
     at_tells (Err f) e = same_tells e.kept_at tells.ended_at
 

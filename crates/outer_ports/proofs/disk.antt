@@ -2,4 +2,3 @@
 pub mod ImagesLemmas
 pub mod HonestLemmas
 pub mod MomentsLemmas
-pub mod ReplaysLemmas

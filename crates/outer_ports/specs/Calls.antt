@@ -1,6 +1,7 @@
 -- The calls on an object in memory, of which some are to fail.
 use Rattle.std.specs.Prelude.{ℕ, ◌+◌, ◌-◌, ◌^◌, min, List, Contains}
 
+-- the calls that were made of an object in memory
 pub record CallsView : Type 0 where
   -- how many were made
   pub made : ℕ
@@ -18,9 +19,9 @@ abbrev pub risen : ℕ → ℕ
 risen count = min (count + 1) (2 ^ 64 - 1)
 
 -- a call more, which went well
-abbrev pub passed : CallsView → CallsView
-passed calls = record calls { made = risen calls.made }
+abbrev pub call_passed : CallsView → CallsView
+call_passed calls = record calls { made = risen calls.made }
 
 -- a call more, which failed
-abbrev pub failed : CallsView → CallsView
-failed calls = record calls { made = risen calls.made; faults = risen calls.faults }
+abbrev pub call_failed : CallsView → CallsView
+call_failed calls = record calls { made = risen calls.made; faults = risen calls.faults }

@@ -1,18 +1,14 @@
--- The forms in memory, as contracts see them, and what a call does to each.
-use Rattle.std.specs.Prelude.{◌≡◌, ◌↔◌, ◌⊎◌, ℕ, ◌-◌, ◌<◌, min, List, ◌++◌, length, take, drop, Result, Ok, IsErr, IfOk, OnErr}
-use Rattle.outer_ports.specs.Calls.{CallsView, FailsNext, passed, failed, risen}
+-- A source and a sink in memory, as contracts see them, and what a call does to each.
+use Rattle.std.specs.Prelude.{◌≡◌, ◌⊎◌, ℕ, ◌<◌, min, List, ◌++◌, length, take, drop, Result, Ok, IsErr, IfOk, OnErr}
+use Rattle.outer_ports.specs.Calls.{CallsView, FailsNext, call_passed, call_failed}
 
-pub record MemSourceView : Type 0 where
-  pub left : List ℕ
-  -- the most bytes that a call gives
-  pub piece : ℕ
-  pub calls : CallsView
-
+-- what contracts see of a source in memory that never fails
 pub record SureSourceView : Type 0 where
   pub left : List ℕ
   -- the most bytes that a call gives
   pub piece : ℕ
 
+-- what contracts see of a sink in memory
 pub record MemSinkView : Type 0 where
   pub written : List ℕ
   -- the most bytes that a call takes
@@ -20,21 +16,6 @@ pub record MemSinkView : Type 0 where
   -- how many bytes it takes with no further memory
   pub spare : ℕ
   pub calls : CallsView
-
-pub record SureSinkView : Type 0 where
-  pub written : List ℕ
-  -- the most bytes that a call takes
-  pub piece : ℕ
-  -- how many bytes all later calls together take
-  pub room : ℕ
-  pub faults : ℕ
-
--- a read fails exactly where it is to fail; otherwise it gives all that the piece, the buffer and what is left allow
-pub record MemReads {E : Type 0} (old new : MemSourceView) (result : Result ℕ E) (buf : List ℕ) : Type 0 where
-  pub fails : IsErr result ↔ FailsNext old.calls
-  pub failed : OnErr result (new ≡ record old { calls = failed old.calls })
-  pub gives : IfOk result (λ n. n ≡ min (min old.piece (length buf)) (length old.left))
-  pub gave : IfOk result (λ n. new ≡ record old { left = drop n old.left; calls = passed old.calls })
 
 -- a read gives all that the piece, the buffer and what is left allow
 pub record SureReads {E : Type 0} (old new : SureSourceView) (result : Result ℕ E) (buf : List ℕ) : Type 0 where
@@ -45,13 +26,6 @@ pub record SureReads {E : Type 0} (old new : SureSourceView) (result : Result �
 pub record MemWrites {E : Type 0} (old new : MemSinkView) (result : Result ℕ E) (bytes : List ℕ) : Type 0 where
   pub fails : FailsNext old.calls → IsErr result
   pub wanting : OnErr result (FailsNext old.calls ⊎ (old.spare < min old.piece (length bytes)))
-  pub failed : OnErr result (new ≡ record old { spare = new.spare; calls = failed old.calls })
+  pub failed : OnErr result (new ≡ record old { spare = new.spare; calls = call_failed old.calls })
   pub takes : IfOk result (λ n. n ≡ min old.piece (length bytes))
-  pub took : IfOk result (λ n. new ≡ record old { written = old.written ++ take n bytes; spare = new.spare; calls = passed old.calls })
-
--- a write fails exactly where no room is left for it; otherwise it takes all that the piece and the room allow
-pub record SureWrites {E : Type 0} (old new : SureSinkView) (result : Result ℕ E) (bytes : List ℕ) : Type 0 where
-  pub fails : IsErr result ↔ ((0 < length bytes) × (old.room ≡ 0))
-  pub failed : OnErr result (new ≡ record old { faults = risen old.faults })
-  pub takes : IfOk result (λ n. n ≡ min (min old.piece (length bytes)) old.room)
-  pub took : IfOk result (λ n. new ≡ record old { written = old.written ++ take n bytes; room = old.room - n })
+  pub took : IfOk result (λ n. new ≡ record old { written = old.written ++ take n bytes; spare = new.spare; calls = call_passed old.calls })

@@ -1,8 +1,9 @@
 -- What gives bytes, as contracts see it, and what a read does to it.
 use Rattle.std.specs.Prelude.{◌≡◌, ℕ, ◌<◌, ◌≤◌, List, [], length, take, Option, Bool, true, Result, IsErr, IsSome, IfSome, IfOk, OnErr}
 use Rattle.std.specs.Io.KnownBytes.{prepend_known}
-use Rattle.fugue_ids.specs.Causes.{Rose}
+use Rattle.fugue_ids.specs.Causes.{Faulted}
 
+-- what contracts see of a source
 pub record SourceView : Type 0 where
   -- the bytes that are left, where the object tells them
   pub left : Option (List ℕ)
@@ -19,7 +20,7 @@ SourceTells source = IsSome source.left
 -- the source tells, nothing but a failure raised it.
 pub record KeepsCount (old new : SourceView) (failed : Type 0) : Type 0 where
   pub later : old.faults ≤ new.faults
-  pub rose : failed → Rose old.faults new.faults
+  pub rose : failed → Faulted old.faults new.faults
   pub sure : new.sure ≡ old.sure
   pub succeeds : old.sure ≡ true → failed → ⊥
   pub calm : old.sure ≡ true → new.faults ≡ old.faults

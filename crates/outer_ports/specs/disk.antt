@@ -3,6 +3,3 @@ pub mod States
 pub mod Moments
 pub mod Laws
 pub mod Disks
-pub mod Kept
-pub mod Picks
-pub mod Forms

@@ -2,6 +2,3 @@
 pub mod Steps
 pub mod Docks
 pub mod Streams
-pub mod Arrivals
-pub mod Transcripts
-pub mod Forms

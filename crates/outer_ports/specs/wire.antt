@@ -1,4 +1,3 @@
 -- What is said of wires.
 pub mod Streams
 pub mod Wires
-pub mod Forms

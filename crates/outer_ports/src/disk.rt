@@ -4,15 +4,9 @@ ghost use Rattle.outer_ports.specs.disk.Laws.{ReadsStayHonest, RestIsHonest, Sin
 ghost use Rattle.outer_ports.specs.disk.Laws.{SyncBringsNone, SyncsStayHonest, WritesStayHonest};
 
 mod file_disk;
-mod kept;
-mod mem_disk;
-mod reaching;
-mod sure_disk;
 
 pub use file_disk::{FileDisk, Opening};
 use fugue_ids::Failed;
-pub use mem_disk::{MemDisk, Pick};
-pub use sure_disk::SureDisk;
 
 /// A file on a disk.
 pub trait Disk {

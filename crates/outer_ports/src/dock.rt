@@ -1,15 +1,9 @@
 ghost use Rattle.std.specs.Prelude.{◌<◌, length};
-ghost use Rattle.outer_ports.specs.dock.Docks.{DockView, Listens, Takes, Sends, Ends};
+ghost use Rattle.outer_ports.specs.dock.Docks.{DockView, Listens, Takes, Sends, EndsSession};
 
-mod arrivals;
-mod mem_dock;
-mod sure_dock;
 mod tcp_dock;
-mod transcripts;
 
-use fugue_ids::Failed;
-pub use mem_dock::{MemDock, MemStep};
-pub use sure_dock::SureDock;
+use fugue_ids::{ByteList, Failed};
 pub use tcp_dock::TcpDock;
 
 /// What came in at a dock, with the number of its session.
@@ -18,6 +12,14 @@ pub enum DockStep {
     Opened(u32),
     /// So many bytes came. They stand in the buffer.
     Bytes(u32, usize),
+    Gone(u32),
+}
+
+/// The same, with the bytes that came.
+#[derive(Drop)]
+pub enum MemStep {
+    Opened(u32),
+    Bytes(u32, ByteList),
     Gone(u32),
 }
 
@@ -50,5 +52,5 @@ pub trait Dock {
 
     /// Ends the session: nothing more is to be sent to it.
     fn end(&mut self, session: u32) -> Result<(), Failed>
-        ensures { Ends (seen self.old) (seen self.new) result session };
+        ensures { EndsSession (seen self.old) (seen self.new) result session };
 }

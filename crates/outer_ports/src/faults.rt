@@ -45,7 +45,7 @@ impl Faults {
 }
 
 /// A count at its last value stays there.
-pub(crate) fn raise(count: &mut u64)
+pub fn raise(count: &mut u64)
     ensures risen { count.new ≡ risen count.old }
     ensures later { count.old ≤ count.new }
 {

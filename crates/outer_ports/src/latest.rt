@@ -13,7 +13,7 @@ pub struct Latest<T: Copy> {
 
 impl<T: Copy> Latest<T> {
     /// It was not done yet.
-    pub(crate) fn none() -> Latest<T>
+    pub fn none() -> Latest<T>
         ensures { result ≡ never }
     {
         Latest {
@@ -23,7 +23,7 @@ impl<T: Copy> Latest<T> {
     }
 
     /// It was done once more.
-    pub(crate) fn add(&mut self, last: T)
+    pub fn add(&mut self, last: T)
         ensures { self.new ≡ once_more last self.old }
     {
         raise(&mut self.count);

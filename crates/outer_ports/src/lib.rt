@@ -1,5 +1,5 @@
-//! Where a program's bytes come from and go to: sources, sinks, disks, wires and docks, with forms over memory and
-//! over the system's streams, files and sockets.
+//! Where a program's bytes come from and go to: sources, sinks, disks, wires and docks, with forms over the
+//! system's streams, files and sockets, and a source and a sink in memory.
 #![tactic(auto)]
 
 mod again;
@@ -10,29 +10,23 @@ mod dock;
 mod faults;
 mod latest;
 mod mem_sink;
-mod mem_source;
-mod reserved;
 mod std_sink;
 mod std_source;
 mod streams;
-mod sure_sink;
 mod sure_source;
 mod watch;
 mod wire;
 
+pub use calls::Calls;
 pub use causes::{tell_cause, tell_line};
-pub use disk::{
-    Disk, FileDisk, MemDisk, Opening, Pick, SureDisk, disks_stay_honest, spans_join,
-    sync_brings_none,
-};
-pub use dock::{Dock, DockStep, Listening, MemDock, MemStep, SureDock, TcpDock};
+pub use disk::{Disk, FileDisk, Opening, disks_stay_honest, spans_join, sync_brings_none};
+pub use dock::{Dock, DockStep, Listening, MemStep, TcpDock};
+pub use faults::raise;
 pub use fugue_ids::Sink;
 pub use latest::Latest;
 pub use mem_sink::MemSink;
-pub use mem_source::MemSource;
 pub use std_sink::StdSink;
 pub use std_source::StdSource;
 pub use streams::Source;
-pub use sure_sink::SureSink;
 pub use sure_source::SureSource;
-pub use wire::{Dial, MemWire, SureWire, TcpWire, Wire};
+pub use wire::{Dial, TcpWire, Wire};

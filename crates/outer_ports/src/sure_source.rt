@@ -41,7 +41,7 @@ impl SureSource {
     }
 
     /// How many bytes are left.
-    pub(crate) fn left(&self) -> usize
+    pub fn left(&self) -> usize
         ensures { result ≡ length self.now.left }
     {
         self.bytes.len() - self.at

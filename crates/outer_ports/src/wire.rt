@@ -1,13 +1,9 @@
 ghost use Rattle.outer_ports.specs.wire.Wires.{WireView, Dials, WireReads, WireWrites};
 
 mod ahead;
-mod mem_wire;
-mod sure_wire;
 mod tcp_wire;
 
 use fugue_ids::Failed;
-pub use mem_wire::MemWire;
-pub use sure_wire::SureWire;
 pub use tcp_wire::TcpWire;
 
 /// A call of `dial` that went well, and how much had been written and was left to read by then, where that is told.

@@ -8,7 +8,7 @@ use Rattle.std.proofs.lemmas.List.{drop-map, drop_at, take-append-drop, take-map
 use Rattle.std.proofs.lemmas.List.Folds.{concat-append}
 use Rattle.std.proofs.lemmas.List.Sums.{sum_by-cons}
 use Rattle.passage_remarks.specs.Borders.{kept_borders}
-use Rattle.passage_remarks.specs.Clusters.{borders_from, cluster_text, first_cluster, starts}
+use Rattle.passage_remarks.specs.Clusters.{borders_from, cluster_text, first_cluster, cluster_starts}
 use Rattle.passage_remarks.specs.declared.page.Border.{Border}
 
 abbrev pub scalars_before : Border → ℕ
@@ -90,7 +90,7 @@ module _ (cs : List (List ℕ)) (kept : List Border) (are : kept ≡ kept_border
       count-map scalars_before (λ n. nat_le n at) (drop 1 kept)
       ∙ ap (count_by (λ n. nat_le n at)) (sym (drop-map scalars_before 1 kept) ∙ ap (drop 1) scalars_are)
 
-  pub starts_counted : (at n : ℕ) → n ≡ length cs → count_by (λ (b : Border). nat_lt b.scalars at) (take n kept) ≡ count_by (λ start. nat_lt start at) (starts cs)
+  pub starts_counted : (at n : ℕ) → n ≡ length cs → count_by (λ (b : Border). nat_lt b.scalars at) (take n kept) ≡ count_by (λ start. nat_lt start at) (cluster_starts cs)
   starts_counted at n e =
       count-map scalars_before (λ m. nat_lt m at) (take n kept)
       ∙ ap (count_by (λ m. nat_lt m at)) (sym (take-map scalars_before n kept) ∙ (λ i. take (e i) (scalars_are i)))

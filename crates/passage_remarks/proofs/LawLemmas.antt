@@ -10,8 +10,8 @@ use Rattle.fugue_ids.specs.declared.op.Op.TheVariants.{Delete}
 use Rattle.fugue_ids.proofs.IdentifierLemmas.{id_eq-refl}
 use Rattle.origin_model.specs.order.Printed.{is_hidden, is_withdrawn}
 use Rattle.margin_notes.specs.Comments.{Comment, comment_in, comments_in}
-use Rattle.margin_notes.specs.Listing.{section_of}
-use Rattle.margin_notes.specs.Placing.{PlacedComment, placed, placed_at, placed_comments, placed_in}
+use Rattle.margin_notes.specs.Listing.{commented_section}
+use Rattle.margin_notes.specs.Placing.{PlacedComment, placed_in_section, placed_from, placed_comments, placed_in}
 use Rattle.margin_notes.proofs.KeptLemmas.{said_from, said_in}
 use Rattle.margin_notes.proofs.MemberLemmas.{from_comments, has_section, section_is, to_comments}
 use Rattle.passage_remarks.specs.Laws.{IsRemark, RemarksAreComments, WithdrawnIsGone}
@@ -24,32 +24,32 @@ record IsPlacedBy (h : List Op) (op : Op) (p : PlacedComment) : Type 0 where
   comment : Comment
   says : comment_in op ≡ Some comment
   stands : is_withdrawn h comment.id ≡ false
-  in_section : section_of h comment ≡ Some p.section
-  is : p ≡ placed_at h comment p.section
+  in_section : commented_section h comment ≡ Some p.section
+  is : p ≡ placed_from h comment p.section
 
 placed_by : (h : List Op) (op : Op) (p : PlacedComment) → placed_in h op ≡ Some p → IsPlacedBy h op p
 placed_by h op p e = by (comment_in op) refl e
   where
-    at : (c : Comment) (o : Option Identifier) → comment_in op ≡ Some c → is_withdrawn h c.id ≡ false → section_of h c ≡ o → option_map (placed_at h c) o ≡ Some p → IsPlacedBy h op p
+    at : (c : Comment) (o : Option Identifier) → comment_in op ≡ Some c → is_withdrawn h c.id ≡ false → commented_section h c ≡ o → option_map (placed_from h c) o ≡ Some p → IsPlacedBy h op p
     at c None says stands k e = cc
     at c (Some s) says stands k e =
-        let d : placed_at h c s ≡ p = cc in
+        let d : placed_from h c s ≡ p = cc in
         subst (IsPlacedBy h op) d (record { comment = c; says = says; stands = stands; in_section = k; is = refl })
 
-    by : (o : Option Comment) → comment_in op ≡ o → (elim o [ None ↦ None | Some c ↦ if is_withdrawn h c.id then None else placed h c ]) ≡ Some p → IsPlacedBy h op p
+    by : (o : Option Comment) → comment_in op ≡ o → (elim o [ None ↦ None | Some c ↦ if is_withdrawn h c.id then None else placed_in_section h c ]) ≡ Some p → IsPlacedBy h op p
     by None says k = cc
     by (Some c) says k =
         elim (cases_Bool (is_withdrawn h c.id)) [
-          | inl t ↦ let never : None ≡ Some p = sym (ap (λ b. if b then None else placed h c) t) ∙ k in cc
-          | inr t ↦ at c (section_of h c) says t refl (sym (ap (λ b. if b then None else placed h c) t) ∙ k)
+          | inl t ↦ let never : None ≡ Some p = sym (ap (λ b. if b then None else placed_in_section h c) t) ∙ k in cc
+          | inr t ↦ at c (commented_section h c) says t refl (sym (ap (λ b. if b then None else placed_in_section h c) t) ∙ k)
         ]
 
 -- and the comments that are placed
-places : (h : List Op) (op : Op) (c : Comment) (s : Identifier) → comment_in op ≡ Some c → is_withdrawn h c.id ≡ false → section_of h c ≡ Some s → placed_in h op ≡ Some (placed_at h c s)
+places : (h : List Op) (op : Op) (c : Comment) (s : Identifier) → comment_in op ≡ Some c → is_withdrawn h c.id ≡ false → commented_section h c ≡ Some s → placed_in h op ≡ Some (placed_from h c s)
 places h op c s says stands k =
-    ap (λ o. elim o [ None ↦ None | Some c ↦ if is_withdrawn h c.id then None else placed h c ]) says
-    ∙ ap (λ b. if b then None else placed h c) stands
-    ∙ ap (option_map (placed_at h c)) k
+    ap (λ o. elim o [ None ↦ None | Some c ↦ if is_withdrawn h c.id then None else placed_in_section h c ]) says
+    ∙ ap (λ b. if b then None else placed_in_section h c) stands
+    ∙ ap (option_map (placed_from h c)) k
 
 -- the remark of a comment
 of_comment : (h : List Op) (p : PlacedComment) (r : Remark) → remark_of h p ≡ Some r → (section_place h p.section ≡ Some r.place) × (r ≡ remark_at p r.place)
@@ -76,14 +76,14 @@ remark_is h r m =
           subst (λ x. Contains (comments_in h x) b.comment) (sym s)
           (to_comments h p.section b.comment (record { op = o.0; member = held; says = b.says; in_section = section_is h b.comment p.section b.in_section; stands = b.stands }));
       placed = ap (section_place h) s ∙ e.0;
-      says = e.1 ∙ ap (λ (x : PlacedComment). remark_at x r.place) b.is ∙ ap (λ x. remark_at (placed_at h b.comment x) r.place) (sym s);
+      says = e.1 ∙ ap (λ (x : PlacedComment). remark_at x r.place) b.is ∙ ap (λ x. remark_at (placed_from h b.comment x) r.place) (sym s);
     }
 
 is_remark : (h : List Op) (r : Remark) → IsRemark h r → Contains (remarks h) r
 is_remark h r i =
     let c = from_comments h r.section i.comment i.listed in
-    let here : placed_in h c.op ≡ Some (placed_at h i.comment r.section) = places h c.op i.comment r.section c.says c.stands (has_section h i.comment r.section c.in_section) in
-    let p : PlacedComment = placed_at h i.comment r.section in
+    let here : placed_in h c.op ≡ Some (placed_from h i.comment r.section) = places h c.op i.comment r.section c.says c.stands (has_section h i.comment r.section c.in_section) in
+    let p : PlacedComment = placed_from h i.comment r.section in
     let held : Contains (reverse h) c.op = Contains-permutation h (reverse h) c.op (IsPermutation-reverse h) c.member in
     in_order_in (found h) r
     (said_in (remark_of h) (placed_comments h) p r (said_in (placed_in h) (reverse h) c.op p held here) (ap (option_map (remark_at p)) i.placed ∙ ap Some (sym i.says)))

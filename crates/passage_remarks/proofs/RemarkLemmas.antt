@@ -9,7 +9,7 @@ use Rattle.catalogue_notes.specs.Arranged.{arranged}
 use Rattle.margin_notes.specs.Placing.{PlacedComment, placed_comments}
 use Rattle.margin_notes.proofs.KeptLemmas.{said, said_from, said_pairs}
 use Rattle.margin_notes.proofs.SortedLemmas.{placed_apart}
-use Rattle.passage_remarks.specs.Listing.{IsPlaced}
+use Rattle.passage_remarks.specs.Listing.{IsRemarkPlaced}
 use Rattle.passage_remarks.specs.Remarks.{Remark, remark_at, remark_of, remarks, section_place}
 use Rattle.passage_remarks.proofs.OrderLemmas.{Others, in_order_from}
 use Rattle.passage_remarks.proofs.PlaceLemmas.{number_place}
@@ -36,7 +36,7 @@ pub found_apart : (h : List Op) → Lawful h → AllPairs Others (found h)
 found_apart h w =
     said_pairs (remark_of h) (λ (a b : PlacedComment). a.id ≢ b.id) Others (λ a b u v other e f d. other (sym (is_of h a u e).own ∙ d ∙ (is_of h b v f).own)) (placed_comments h) (placed_apart h w)
 
-pub remark_placed : (h : List Op) (r : Remark) → Contains (remarks h) r → IsPlaced h r
+pub remark_placed : (h : List Op) (r : Remark) → Contains (remarks h) r → IsRemarkPlaced h r
 remark_placed h r m =
     let k = said_from (remark_of h) (placed_comments h) r (in_order_from (found h) r m) in
     let n = number_place 1 (arranged h) r.section r.place (is_of h k.0 r k.2).placed in

@@ -2,7 +2,7 @@
 use Rattle.std.proofs.Common.{◌≡◌, ◌≢◌, ◌<◌, ℕ, false, true, nat_eq, List, [], ◌∷◌, ◌++◌, inl, inr, length, refl, sym, ap, ap₂, ◌∙◌, arith, append_assoc, append-nil, length-append}
 use Rattle.std.specs.Prelude.{Bool, not}
 use Rattle.std.proofs.lemmas.Bool.{cases_Bool, eqb-true, eqb-false}
-use Rattle.passage_remarks.specs.Spelling.{IsSpelled, escaped_byte, passage_of, spelled}
+use Rattle.passage_remarks.specs.Spelling.{IsSpelled, escaped_byte, passage_of, word_of_passage}
 
 -- how a byte is spelled
 data Written (b : ℕ) : Type 0 where
@@ -71,45 +71,45 @@ escaped_same : (a b : ℕ) (x y : List ℕ) → escaped_byte a ++ x ≡ escaped_
 escaped_same a b x y is = one_writing a b x y (written a) (written b) is
 
 -- what is behind a front of a word
-behind_front : (done all rest : List ℕ) → spelled done ++ rest ≡ spelled all → (more : List ℕ) × (all ≡ done ++ more) × (spelled more ≡ rest)
+behind_front : (done all rest : List ℕ) → word_of_passage done ++ rest ≡ word_of_passage all → (more : List ℕ) × (all ≡ done ++ more) × (word_of_passage more ≡ rest)
 behind_front [] all rest is = (all, refl, sym is)
 behind_front (a ∷ done) [] rest is =
     let long = ap length is in
-    absurd (omega (arith, long, length-append (escaped_byte a ++ spelled done) rest, length-append (escaped_byte a) (spelled done), escaped_some a))
+    absurd (omega (arith, long, length-append (escaped_byte a ++ word_of_passage done) rest, length-append (escaped_byte a) (word_of_passage done), escaped_some a))
 behind_front (a ∷ done) (b ∷ all) rest is =
-    let same = escaped_same a b (spelled done ++ rest) (spelled all) (sym (append_assoc (escaped_byte a) (spelled done) rest) ∙ is) in
+    let same = escaped_same a b (word_of_passage done ++ rest) (word_of_passage all) (sym (append_assoc (escaped_byte a) (word_of_passage done) rest) ∙ is) in
     let further = behind_front done all rest same.1 in
     (further.0, ap₂ (λ (c : ℕ) (l : List ℕ). c ∷ l) (sym same.0) further.1, further.2)
 
 -- one byte more was read
-pub one_more : (word done rest behind : List ℕ) (b : ℕ) → word ≡ spelled done ++ rest → rest ≡ escaped_byte b ++ behind → word ≡ spelled (done ++ b ∷ []) ++ behind
+pub one_more : (word done rest behind : List ℕ) (b : ℕ) → word ≡ word_of_passage done ++ rest → rest ≡ escaped_byte b ++ behind → word ≡ word_of_passage (done ++ b ∷ []) ++ behind
 one_more word done rest behind b is first =
-    is ∙ ap (λ l. spelled done ++ l) first ∙ sym (append_assoc (spelled done) (escaped_byte b) behind) ∙ ap (λ l. l ++ behind) (sym (push done b))
+    is ∙ ap (λ l. word_of_passage done ++ l) first ∙ sym (append_assoc (word_of_passage done) (escaped_byte b) behind) ∙ ap (λ l. l ++ behind) (sym (push done b))
   where
-    push : (xs : List ℕ) (x : ℕ) → spelled (xs ++ x ∷ []) ≡ spelled xs ++ escaped_byte x
+    push : (xs : List ℕ) (x : ℕ) → word_of_passage (xs ++ x ∷ []) ≡ word_of_passage xs ++ escaped_byte x
     push [] x = append-nil (escaped_byte x)
-    push (y ∷ xs) x = ap (λ l. escaped_byte y ++ l) (push xs x) ∙ sym (append_assoc (escaped_byte y) (spelled xs) (escaped_byte x))
+    push (y ∷ xs) x = ap (λ l. escaped_byte y ++ l) (push xs x) ∙ sym (append_assoc (escaped_byte y) (word_of_passage xs) (escaped_byte x))
 
 -- where no byte is read of what is left, the word spells nothing
-pub stuck : (word done rest other : List ℕ) → word ≡ spelled done ++ rest → 0 < length rest → ((b : ℕ) (y : List ℕ) → rest ≢ escaped_byte b ++ y) → word ≢ spelled other
+pub stuck : (word done rest other : List ℕ) → word ≡ word_of_passage done ++ rest → 0 < length rest → ((b : ℕ) (y : List ℕ) → rest ≢ escaped_byte b ++ y) → word ≢ word_of_passage other
 stuck word done rest other is some none whole =
     let behind = behind_front done other rest (sym is ∙ whole) in
     first behind.0 behind.2
   where
-    first : (more : List ℕ) → spelled more ≡ rest → ⊥
+    first : (more : List ℕ) → word_of_passage more ≡ rest → ⊥
     first [] e = omega (arith, some, ap length e)
-    first (b ∷ more) e = none b (spelled more) (sym e)
+    first (b ∷ more) e = none b (word_of_passage more) (sym e)
 
 -- where nothing is left, all was read
-pub all_read : (word done rest : List ℕ) → word ≡ spelled done ++ rest → length rest ≡ 0 → word ≡ spelled done
-all_read word done [] is none = is ∙ append-nil (spelled done)
+pub all_read : (word done rest : List ℕ) → word ≡ word_of_passage done ++ rest → length rest ≡ 0 → word ≡ word_of_passage done
+all_read word done [] is none = is ∙ append-nil (word_of_passage done)
 all_read word done (c ∷ rest) is none = absurd (omega (arith, none))
 
-pub some_read : (word done : List ℕ) → word ≡ spelled done → 0 < length word → done ≢ []
-some_read word done is some none = omega (arith, some, ap length is, ap length (ap spelled none))
+pub some_read : (word done : List ℕ) → word ≡ word_of_passage done → 0 < length word → done ≢ []
+some_read word done is some none = omega (arith, some, ap length is, ap length (ap word_of_passage none))
 
 -- what a word spells is what it was spelled of
-pub passage_same : (passage : List ℕ) → passage_of (spelled passage) ≡ passage
+pub passage_same : (passage : List ℕ) → passage_of (word_of_passage passage) ≡ passage
 unfolding passage_of
 passage_same [] = refl
 passage_same (b ∷ more) = by (passage_same more) (written b)
@@ -121,16 +121,16 @@ passage_same (b ∷ more) = by (passage_same more) (written b)
         apart : nat_eq b 92 ≡ false
         apart = elim (cases_Bool (nat_eq b 92)) [ inl e ↦ absurd (other (eqb-true b 92 e)) | inr e ↦ e ]
 
-    by : passage_of (spelled more) ≡ more → Written b → passage_of (escaped_byte b ++ spelled more) ≡ b ∷ more
+    by : passage_of (word_of_passage more) ≡ more → Written b → passage_of (escaped_byte b ++ word_of_passage more) ≡ b ∷ more
     by same (line_end i e) =
-        ap passage_of (begins b (spelled more) _ e)
-        ∙ (let step : passage_of (92 ∷ 110 ∷ spelled more) ≡ 10 ∷ passage_of (spelled more) = refl in step)
+        ap passage_of (begins b (word_of_passage more) _ e)
+        ∙ (let step : passage_of (92 ∷ 110 ∷ word_of_passage more) ≡ 10 ∷ passage_of (word_of_passage more) = refl in step)
         ∙ ap₂ (λ (c : ℕ) (l : List ℕ). c ∷ l) (sym i) same
     by same (backslash i e) =
-        ap passage_of (begins b (spelled more) _ e)
-        ∙ (let step : passage_of (92 ∷ 92 ∷ spelled more) ≡ 92 ∷ passage_of (spelled more) = refl in step)
+        ap passage_of (begins b (word_of_passage more) _ e)
+        ∙ (let step : passage_of (92 ∷ 92 ∷ word_of_passage more) ≡ 92 ∷ passage_of (word_of_passage more) = refl in step)
         ∙ ap₂ (λ (c : ℕ) (l : List ℕ). c ∷ l) (sym i) same
-    by same (plain differs other e) = ap passage_of (begins b (spelled more) _ e) ∙ plainly (spelled more) other ∙ ap (λ l. b ∷ l) same
+    by same (plain differs other e) = ap passage_of (begins b (word_of_passage more) _ e) ∙ plainly (word_of_passage more) other ∙ ap (λ l. b ∷ l) same
 
 pub some_unless : (word : List ℕ) (b : Bool) → b ≡ nat_eq (length word) 0 → not b ≡ true → 0 < length word
 some_unless [] b e t = let f : false ≡ true = sym (ap not e) ∙ t in cc
@@ -139,7 +139,7 @@ some_unless (c ∷ word) b e t = omega arith
 pub unless_some : (word : List ℕ) (b : Bool) → b ≡ nat_eq (length word) 0 → 0 < length word → not b ≡ true
 unless_some word b e some = elim (cases_Bool (nat_eq (length word) 0)) [ inl z ↦ absurd (let none = eqb-true (length word) 0 z in omega (arith, some, none)) | inr n ↦ ap not (e ∙ n) ]
 
-pub spells : (word done rest : List ℕ) → word ≡ spelled done ++ rest → length rest ≡ 0 → 0 < length word → IsSpelled word
+pub spells : (word done rest : List ℕ) → word ≡ word_of_passage done ++ rest → length rest ≡ 0 → 0 < length word → IsSpelled word
 spells word done rest is none some =
     let whole = all_read word done rest is none in
     record { passage = done; some = some_read word done whole some; word_is = whole }
@@ -147,6 +147,6 @@ spells word done rest is none some =
 pub spelled_some : (word : List ℕ) → IsSpelled word → 0 < length word
 spelled_some word s = by s.passage s.some s.word_is
   where
-    by : (passage : List ℕ) → passage ≢ [] → word ≡ spelled passage → 0 < length word
+    by : (passage : List ℕ) → passage ≢ [] → word ≡ word_of_passage passage → 0 < length word
     by [] some is = absurd (some refl)
-    by (b ∷ more) some is = omega (arith, ap length is, length-append (escaped_byte b) (spelled more), escaped_some b)
+    by (b ∷ more) some is = omega (arith, ap length is, length-append (escaped_byte b) (word_of_passage more), escaped_some b)

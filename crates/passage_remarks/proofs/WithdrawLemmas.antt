@@ -18,7 +18,7 @@ use Rattle.origin_model.specs.edits.Refusal.{held_count, refused_ops}
 use Rattle.origin_model.specs.edits.State.{State}
 use Rattle.origin_model.specs.operations.History.{accepted, holds}
 use Rattle.origin_model.specs.operations.Verdict.{verdict}
-use Rattle.origin_model.specs.taking.Taking.{Accepted, Again, Answer, Held, IsSettled, TooMany, answer, answer_by, is_again, taken}
+use Rattle.origin_model.specs.taking.Taking.{Accepted, Again, Answer, Held, IsSettled, TooMany, answer, answer_by, is_again, held_after}
 use Rattle.origin_model.proofs.SharedLemmas.{holds-older, holds-own, is_own-id, ready_absent, shown_can_go}
 use Rattle.origin_model.proofs.edits.EditIntakeLemmas.{not_waiting}
 use Rattle.origin_model.proofs.edits.FreshIdLemmas.{delete_unknown}
@@ -89,7 +89,7 @@ pub record IsAccepted (old new : State) (x : Identifier) : Type 0 where
   pub settled : IsSettled new.held
 
 pub is_accepted : (old new : State) (x : Identifier) (t : Taken) → length old.held.history + length old.held.waiting ≤ old.most → IsSettled old.held → verdict old.held.history (Delete x) ≡ Ready
-    → Answers old.hold old.most (Delete x) (answer old.hold old.most old.held (Delete x)) (Ok t) → new ≡ record old { held = taken (answer old.hold old.most old.held (Delete x)) old.held (Delete x) }
+    → Answers old.hold old.most (Delete x) (answer old.hold old.most old.held (Delete x)) (Ok t) → new ≡ record old { held = held_after (answer old.hold old.most old.held (Delete x)) old.held (Delete x) }
     → IsAccepted old new x
 is_accepted old new x t few settled ready told is =
     let h : List Op = old.held.history in
@@ -97,7 +97,7 @@ is_accepted old new x t few settled ready told is =
     let a = answered old.hold old.most old.held x settled ready in
     let full = room_left old.hold old.most (Delete x) (answer old.hold old.most old.held (Delete x)) t (nat_eq (length h + length w) old.most) told a in
     let ok : answer old.hold old.most old.held (Delete x) ≡ Accepted = a ∙ ap (λ (b : Bool). if b then TooMany else Accepted) full in
-    let now : new ≡ with_ops old (Delete x ∷ []) = is ∙ ap (λ z. record old { held = taken z old.held (Delete x) }) ok in
+    let now : new ≡ with_ops old (Delete x ∷ []) = is ∙ ap (λ z. record old { held = held_after z old.held (Delete x) }) ok in
     record {
       room = ap (λ (b : Bool). if b then Some (edit.TooMany (held_count old)) else None) (room_is (length h + length w) old.most full few);
       gained = record { accepted_are = ap (λ (s : State). accepted s.held.history) now ∙ reverse-append (Delete x ∷ []) h; others = now };

@@ -9,8 +9,8 @@ use Rattle.fugue_ids.specs.declared.op.Op.{Op}
 use Rattle.origin_model.specs.order.Printed.{text}
 use Rattle.catalogue_notes.specs.Arranged.{arranged}
 use Rattle.margin_notes.specs.Commenting.{clusters_of}
-use Rattle.passage_remarks.specs.Clusters.{borders_from, cluster_count, ends, first_cluster, in_line, spaced, starts}
-use Rattle.passage_remarks.specs.Listing.{IsPlaced, section_texts}
+use Rattle.passage_remarks.specs.Clusters.{borders_from, passage_clusters, cluster_ends, first_cluster, in_line, line_with_spaces, cluster_starts}
+use Rattle.passage_remarks.specs.Listing.{IsRemarkPlaced, section_texts}
 use Rattle.passage_remarks.specs.Remarks.{Remark, remark_told, remarks_from}
 
 module _ {X : Type 0} (h : List Op) (f : X → Remark) (xs : List X) where
@@ -32,7 +32,7 @@ text_there g [] k s d e = cc
 text_there g (x ∷ ss) zero s d e = let is : x ≡ s = cc in (omega arith, ap g is)
 text_there g (x ∷ ss) (suc k) s d e = let r = text_there g ss k s d e in (omega (arith, r.0), r.1)
 
-pub page_there : (h : List Op) (r : Remark) (pages : List (List ℕ)) (d : List ℕ) → pages ≡ section_texts h → IsPlaced h r
+pub page_there : (h : List Op) (r : Remark) (pages : List (List ℕ)) (d : List ℕ) → pages ≡ section_texts h → IsRemarkPlaced h r
     → (r.place - 1 < length pages) × (get_or pages (r.place - 1) d ≡ encode_utf8_all (text h r.section))
 page_there h r pages d are placed =
     let t = text_there (λ s. encode_utf8_all (text h s)) (arranged h) (r.place - 1) r.section d placed.there in (
@@ -41,9 +41,9 @@ page_there h r pages d are placed =
     )
 
 -- the bytes of a line, one after another
-pub in_line_each : (bytes : List ℕ) → flat_map (λ b. spaced b ∷ []) bytes ≡ in_line bytes
+pub in_line_each : (bytes : List ℕ) → flat_map (λ b. line_with_spaces b ∷ []) bytes ≡ in_line bytes
 in_line_each [] = refl
-in_line_each (b ∷ bs) = ap (λ l. spaced b ∷ l) (in_line_each bs)
+in_line_each (b ∷ bs) = ap (λ l. line_with_spaces b ∷ l) (in_line_each bs)
 
 -- there is one border more than there are clusters
 borders_count : (n : ℕ) (cs : List (List ℕ)) → length (borders_from n cs) ≡ suc (length cs)
@@ -51,14 +51,14 @@ borders_count n [] = refl
 borders_count n (c ∷ cs) = ap suc (borders_count (n + length (chars c)) cs)
 
 -- the clusters of a passage are some of the text
-pub clusters_within : (cs : List (List ℕ)) (from to : ℕ) → first_cluster cs from + cluster_count cs from to ≤ length cs
+pub clusters_within : (cs : List (List ℕ)) (from to : ℕ) → first_cluster cs from + passage_clusters cs from to ≤ length cs
 clusters_within cs from to =
     let borders : List ℕ = borders_from 0 cs in
-    let p = count_by-le-length (λ end. nat_le end from) (ends cs) in
-    let q = count_by-le-length (λ start. nat_lt start to) (starts cs) in
-    let ends_len : length (ends cs) ≡ length cs = omega (arith, length-drop 1 borders, borders_count 0 cs) in
-    let starts_len : length (starts cs) ≡ length cs = length-take-le (length cs) borders (omega (arith, borders_count 0 cs)) in
-    elim (nat_lt from to) as (λ (b : Bool). first_cluster cs from + (if b then count_by (λ start. nat_lt start to) (starts cs) - first_cluster cs from else 0) ≤ length cs) [
+    let p = count_by-le-length (λ end. nat_le end from) (cluster_ends cs) in
+    let q = count_by-le-length (λ start. nat_lt start to) (cluster_starts cs) in
+    let ends_len : length (cluster_ends cs) ≡ length cs = omega (arith, length-drop 1 borders, borders_count 0 cs) in
+    let starts_len : length (cluster_starts cs) ≡ length cs = length-take-le (length cs) borders (omega (arith, borders_count 0 cs)) in
+    elim (nat_lt from to) as (λ (b : Bool). first_cluster cs from + (if b then count_by (λ start. nat_lt start to) (cluster_starts cs) - first_cluster cs from else 0) ≤ length cs) [
       | true ↦ omega (arith, p, q, ends_len, starts_len)
       | false ↦ omega (arith, p, ends_len)
     ]

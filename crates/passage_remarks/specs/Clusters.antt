@@ -9,27 +9,29 @@ borders_from n [] = n ∷ []
 borders_from n (c ∷ cs) = n ∷ borders_from (n + length (chars c)) cs
 
 -- where each cluster begins, and where it ends
-abbrev pub starts : List (List ℕ) → List ℕ
-starts cs = take (length cs) (borders_from 0 cs)
+abbrev pub cluster_starts : List (List ℕ) → List ℕ
+cluster_starts cs = take (length cs) (borders_from 0 cs)
 
-abbrev pub ends : List (List ℕ) → List ℕ
-ends cs = drop 1 (borders_from 0 cs)
+-- where each cluster ends
+abbrev pub cluster_ends : List (List ℕ) → List ℕ
+cluster_ends cs = drop 1 (borders_from 0 cs)
 
 -- how many clusters end at the scalar `from` or before it: the number of the first cluster of a passage that begins there
 abbrev pub first_cluster : List (List ℕ) → (from : ℕ) → ℕ
-first_cluster cs from = count_by (λ end. nat_le end from) (ends cs)
+first_cluster cs from = count_by (λ end. nat_le end from) (cluster_ends cs)
 
 -- how many clusters have scalars of the passage from `from` to `to`
-abbrev pub cluster_count : List (List ℕ) → (from to : ℕ) → ℕ
-cluster_count cs from to = if nat_lt from to then count_by (λ start. nat_lt start to) (starts cs) - first_cluster cs from else 0
+abbrev pub passage_clusters : List (List ℕ) → (from to : ℕ) → ℕ
+passage_clusters cs from to = if nat_lt from to then count_by (λ start. nat_lt start to) (cluster_starts cs) - first_cluster cs from else 0
 
 -- the text of so many clusters, from the cluster `first` on
 abbrev pub cluster_text : List (List ℕ) → (first count : ℕ) → List ℕ
 cluster_text cs first count = concat (take count (drop first cs))
 
 -- the bytes of a text in one line: each LF is a space
-abbrev pub spaced : ℕ → ℕ
-spaced byte = if nat_eq byte 10 then 32 else byte
+abbrev pub line_with_spaces : ℕ → ℕ
+line_with_spaces byte = if nat_eq byte 10 then 32 else byte
 
+-- the bytes of a text in one line
 abbrev pub in_line : List ℕ → List ℕ
-in_line text = map spaced text
+in_line text = map line_with_spaces text

@@ -9,7 +9,7 @@ use Rattle.catalogue_notes.specs.Arranged.{arranged}
 use Rattle.cluster_text.specs.Clusters.{clusters}
 use Rattle.margin_notes.specs.Commenting.{clusters_of}
 use Rattle.passage_search.specs.Places.{places}
-use Rattle.passage_search.specs.Spans.{span}
+use Rattle.passage_search.specs.Spans.{clusters_spanned}
 use Rattle.passage_search.specs.declared.span.Span.{Span}
 use Rattle.passage_remarks.specs.declared.finding.Found.{Found}
 use Rattle.passage_remarks.specs.declared.finding.Found.TheVariants.{Nowhere, Once, Often}
@@ -25,40 +25,41 @@ passage_places h passage = flat_map (section_places h passage) (arranged h)
 
 -- the clusters that have bytes of the passage at a place
 abbrev pub passage_span : List Op → (passage : List ℕ) → Identifier × ℕ → Span
-passage_span h passage place = span (clusters_of h place.0) place.1 (place.1 + length passage)
+passage_span h passage place = clusters_spanned (clusters_of h place.0) place.1 (place.1 + length passage)
 
 -- how many there are, or the greatest number of 32 bits where they are more
 abbrev pub told_count : ℕ → ℕ
 told_count n = min n (2 ^ 32 - 1)
 
 -- the place by the number of its section, and in clusters
-pub record IsSpot (h : List Op) (passage : List ℕ) (place : Identifier × ℕ) (spot : Spot) : Type 0 where
+pub record IsRemarkSpot (h : List Op) (passage : List ℕ) (place : Identifier × ℕ) (spot : Spot) : Type 0 where
   pub numbered : slice_get (shown catalogue h) spot.section ≡ Some place.0
   pub spanned : spot.span ≡ passage_span h passage place
 
 -- what is found, where those are the places
-abbrev pub IsFound : List Op → (passage : List ℕ) → List (Identifier × ℕ) → Found → Type 0
-IsFound h passage [] found = found ≡ Nowhere
-IsFound h passage (place ∷ []) found = (spot : Spot) × (found ≡ Once spot) × IsSpot h passage place spot
-IsFound h passage (place ∷ next ∷ more) found = found ≡ Often (told_count (length (place ∷ next ∷ more)))
+abbrev pub AreFoundAt : List Op → (passage : List ℕ) → List (Identifier × ℕ) → Found → Type 0
+AreFoundAt h passage [] found = found ≡ Nowhere
+AreFoundAt h passage (place ∷ []) found = (spot : Spot) × (found ≡ Once spot) × IsRemarkSpot h passage place spot
+AreFoundAt h passage (place ∷ next ∷ more) found = found ≡ Often (told_count (length (place ∷ next ∷ more)))
 
 -- what is found in the text of the section with this number, by the places in it
-abbrev pub found_at : (section : ℕ) → (text passage : List ℕ) → List ℕ → Found
-found_at section text passage [] = Nowhere
-found_at section text passage (at ∷ []) = Once (record { section = section; span = span (clusters text) at (at + length passage) })
-found_at section text passage (at ∷ next ∷ more) = Often (told_count (length (at ∷ next ∷ more)))
+abbrev pub found_in_section : (section : ℕ) → (text passage : List ℕ) → List ℕ → Found
+found_in_section section text passage [] = Nowhere
+found_in_section section text passage (at ∷ []) = Once (record { section = section; span = clusters_spanned (clusters text) at (at + length passage) })
+found_in_section section text passage (at ∷ next ∷ more) = Often (told_count (length (at ∷ next ∷ more)))
 
-abbrev pub count_of : Found → ℕ
-count_of Nowhere = 0
-count_of (Once spot) = 1
-count_of (Often count) = count
+-- how many times a passage was found
+abbrev pub remark_count : Found → ℕ
+remark_count Nowhere = 0
+remark_count (Once spot) = 1
+remark_count (Often count) = count
 
 -- what is found in two parts
-abbrev pub together : Found → Found → Found
-together Nowhere b = b
-together (Once spot) Nowhere = Once spot
-together (Often count) Nowhere = Often count
-together (Once spot) (Once next) = Often (told_count 2)
-together (Once spot) (Often more) = Often (told_count (1 + more))
-together (Often count) (Once next) = Often (told_count (count + 1))
-together (Often count) (Often more) = Often (told_count (count + more))
+abbrev pub found_together : Found → Found → Found
+found_together Nowhere b = b
+found_together (Once spot) Nowhere = Once spot
+found_together (Often count) Nowhere = Often count
+found_together (Once spot) (Once next) = Often (told_count 2)
+found_together (Once spot) (Often more) = Often (told_count (1 + more))
+found_together (Often count) (Once next) = Often (told_count (count + 1))
+found_together (Often count) (Often more) = Often (told_count (count + more))

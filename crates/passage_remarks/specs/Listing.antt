@@ -17,6 +17,6 @@ abbrev pub section_texts : List Op → List (List ℕ)
 section_texts h = map (λ s. encode_utf8_all (text h s)) (arranged h)
 
 -- a remark stands at the place of its section
-pub record IsPlaced (h : List Op) (r : Remark) : Type 0 where
+pub record IsRemarkPlaced (h : List Op) (r : Remark) : Type 0 where
   pub first : 1 ≤ r.place
   pub there : slice_get (arranged h) (r.place - 1) ≡ Some r.section

@@ -10,7 +10,7 @@ use Rattle.origin_model.specs.edits.State.{State}
 use Rattle.margin_notes.specs.Commenting.{IsCommentMade, IsCommented}
 use Rattle.margin_notes.specs.declared.commenting.CommentFault.{CommentFault}
 use Rattle.margin_notes.specs.declared.commenting.CommentFault.TheVariants as comment
-use Rattle.passage_remarks.specs.Finding.{IsSpot, passage_places, passage_span, told_count}
+use Rattle.passage_remarks.specs.Finding.{IsRemarkSpot, passage_places, passage_span, told_count}
 use Rattle.passage_remarks.specs.declared.finding.Spot.{Spot}
 use Rattle.passage_remarks.specs.declared.remarking.RemarkFault.{RemarkFault}
 use Rattle.passage_remarks.specs.declared.remarking.RemarkFault.TheVariants.{NotFound, FoundOften, IdsSpent, TooMany, NoMemory}
@@ -29,6 +29,7 @@ refusal_at s [] = Some NotFound
 refusal_at s (place ∷ []) = option_map as_remark_fault (note_refusal s)
 refusal_at s (place ∷ next ∷ more) = Some (FoundOften (told_count (length (place ∷ next ∷ more))))
 
+-- why no remark is made of the passage, if none is
 abbrev pub remark_refusal : State → (passage : List ℕ) → Option RemarkFault
 remark_refusal s passage = refusal_at s (passage_places s.held.history passage)
 
@@ -50,7 +51,7 @@ pub record Refuses (cause : Option RemarkFault) (result : Result (Unit {0}) Rema
 pub record IsOnly (h : List Op) (passage : List ℕ) (spot : Spot) : Type 0 where
   pub place : Identifier × ℕ
   pub once : passage_places h passage ≡ place ∷ []
-  pub there : IsSpot h passage place spot
+  pub there : IsRemarkSpot h passage place spot
 
 -- a fault of a comment on clusters that are there, as a remark tells it
 abbrev pub of_comment_fault : CommentFault → RemarkFault

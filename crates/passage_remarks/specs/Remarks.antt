@@ -6,7 +6,7 @@ use Rattle.catalogue_notes.specs.Arranged.{arranged}
 use Rattle.margin_notes.specs.Commenting.{clusters_of}
 use Rattle.margin_notes.specs.Listing.{number_from}
 use Rattle.margin_notes.specs.Placing.{PlacedComment, placed_comments}
-use Rattle.passage_remarks.specs.Clusters.{cluster_count, cluster_text, first_cluster, in_line}
+use Rattle.passage_remarks.specs.Clusters.{passage_clusters, cluster_text, first_cluster, in_line}
 
 -- a comment of an arranged section: the place of the section, from 1, the section, the passage in scalars, and what the comment says
 pub record Remark : Type 0 where
@@ -21,6 +21,7 @@ pub record Remark : Type 0 where
 abbrev pub section_place : List Op → Identifier → Option ℕ
 section_place h s = number_from 1 (arranged h) s
 
+-- a placed comment as a remark, with the place of its section
 abbrev pub remark_at : PlacedComment → ℕ → Remark
 remark_at p place = record { place = place; section = p.section; from = p.from; to = p.to; id = p.id; text = p.text }
 
@@ -47,8 +48,8 @@ abbrev pub remarks : List Op → List Remark
 remarks h = in_order (flat_map (λ p. option_to_list (remark_of h p)) (placed_comments h))
 
 -- two spaces, the passage in one line, LF; an empty passage has no line
-abbrev pub passage_line : (count : ℕ) → List ℕ → List ℕ
-passage_line count passage = if nat_eq count 0 then [] else codes "  " ++ in_line passage ++ 10 ∷ []
+abbrev pub remark_line : (count : ℕ) → List ℕ → List ℕ
+remark_line count passage = if nat_eq count 0 then [] else codes "  " ++ in_line passage ++ 10 ∷ []
 
 -- the number of the remark, a colon, the place of the section, the first cluster, how many there are, and `by`
 abbrev pub place_told : (number place first count : ℕ) → List ℕ
@@ -58,6 +59,7 @@ place_told number place first count = decimal number ++ codes ": " ++ decimal pl
 abbrev pub text_told : (replica : ℕ) → List ℕ → List ℕ
 text_told replica text = decimal replica ++ 32 ∷ text ++ 10 ∷ []
 
+-- the first line of a remark
 abbrev pub head_line : (number : ℕ) → Remark → (first count : ℕ) → List ℕ
 head_line number r first count = place_told number r.place first count ++ text_told r.id.replica r.text
 
@@ -65,13 +67,14 @@ head_line number r first count = place_told number r.place first count ++ text_t
 abbrev pub remark_told : List (List ℕ) → (number : ℕ) → Remark → List ℕ
 remark_told cs number r =
     let first = first_cluster cs r.from in
-    let count = cluster_count cs r.from r.to in
-    head_line number r first count ++ passage_line count (cluster_text cs first count)
+    let count = passage_clusters cs r.from r.to in
+    head_line number r first count ++ remark_line count (cluster_text cs first count)
 
 -- what is told of remarks, of which the first has the number
 abbrev pub remarks_from : List Op → (number : ℕ) → List Remark → List ℕ
 remarks_from h n [] = []
 remarks_from h n (r ∷ rs) = remark_told (clusters_of h r.section) n r ++ remarks_from h (suc n) rs
 
+-- the remarks, as they are printed
 abbrev pub remarks_text : List Op → List ℕ
 remarks_text h = remarks_from h 1 (remarks h)

@@ -1,17 +1,19 @@
 -- How a passage is spelled in a word, in bytes: `\n` stands for LF, and `\\` for a backslash.
 use Rattle.std.specs.Prelude.{◌≡◌, ◌≢◌, ℕ, nat_eq, if◌then◌else◌, List, [], ◌∷◌, codes, flat_map}
 
+-- how a byte of a passage is written in a word
 abbrev pub escaped_byte : ℕ → List ℕ
 escaped_byte byte = if nat_eq byte 10 then codes "\\n" else if nat_eq byte 92 then codes "\\\\" else byte ∷ []
 
-abbrev pub spelled : (passage : List ℕ) → List ℕ
-spelled passage = flat_map escaped_byte passage
+-- how a passage is written in a word
+abbrev pub word_of_passage : (passage : List ℕ) → List ℕ
+word_of_passage passage = flat_map escaped_byte passage
 
 -- the word spells a passage that is not empty
 pub record IsSpelled (word : List ℕ) : Type 0 where
   pub passage : List ℕ
   pub some : passage ≢ []
-  pub word_is : word ≡ spelled passage
+  pub word_is : word ≡ word_of_passage passage
 
 -- the passage that a word spells: behind a backslash an `n` stands for LF, and another byte for itself
 unfoldable pub passage_of : (word : List ℕ) → List ℕ

@@ -1,9 +1,9 @@
 //! Where a passage stands in the arranged sections.
 ghost use Rattle.std.specs.Prelude.{◌≡◌, ◌≢◌, [], IfOk};
-ghost use Rattle.origin_model.specs.edits.State.{Stands};
+ghost use Rattle.origin_model.specs.edits.State.{IsSound};
 ghost use Rattle.catalogue_notes.specs.Outlining.{IsEntry, IsOutline};
 ghost use Rattle.passage_search.specs.Places.{places as places_in};
-ghost use Rattle.passage_remarks.specs.Finding.{IsFound, count_of, found_at, passage_places, section_places, together};
+ghost use Rattle.passage_remarks.specs.Finding.{AreFoundAt, remark_count, found_in_section, passage_places, section_places, found_together};
 
 use catalogue_notes::{Entry as Section, outline};
 use fugue_ids::NoMemory;
@@ -28,7 +28,7 @@ pub(crate) enum Found {
 
 impl Found {
     fn count(self) -> u32
-        ensures { result ≡ count_of self }
+        ensures { result ≡ remark_count self }
     {
         match self {
             Found::Nowhere => 0,
@@ -39,7 +39,7 @@ impl Found {
 
     /// What is found here and there.
     fn and(self, other: Found) -> Found
-        ensures { result ≡ together self other }
+        ensures { result ≡ found_together self other }
     {
         match (self, other) {
             (Found::Nowhere, found) | (found, Found::Nowhere) => found,
@@ -51,7 +51,7 @@ impl Found {
 /// Where the passage stands in the text of the section with this number.
 fn find_in(section: usize, text: &str, passage: &[u8]) -> Found
     requires { passage.now ≢ [] }
-    ensures { result ≡ found_at section text.now passage.now (places_in text.now passage.now) }
+    ensures { result ≡ found_in_section section text.now passage.now (places_in text.now passage.now) }
 {
     let places = places_of(text.as_bytes(), passage);
     match places.count {
@@ -68,7 +68,7 @@ fn find_in(section: usize, text: &str, passage: &[u8]) -> Found
 fn find_in_section(replica: &Replica, section: &Section, passage: &[u8]) -> Result<Found, NoMemory>
     requires entry { IsEntry replica.now.held.history section.now }
     requires some { passage.now ≢ [] }
-    ensures { IfOk result (IsFound replica.now.held.history passage.now
+    ensures { IfOk result (AreFoundAt replica.now.held.history passage.now
         (section_places replica.now.held.history passage.now section.now.section)) }
 {
     let text = replica.text_of(section.number)?.unwrap();
@@ -83,7 +83,7 @@ fn find_in_sections(
 ) -> Result<Found, NoMemory>
     requires outline { IsOutline replica.now.held.history sections.now }
     requires some { passage.now ≢ [] }
-    ensures { IfOk result (IsFound replica.now.held.history passage.now
+    ensures { IfOk result (AreFoundAt replica.now.held.history passage.now
         (passage_places replica.now.held.history passage.now)) }
 {
     let mut found = Found::Nowhere;
@@ -100,9 +100,9 @@ pub(crate) fn find_passage(
     passage: &[u8],
 ) -> Result<Found, NoMemory>
     requires some { passage.now ≢ [] }
-    ensures found { IfOk result (IsFound replica.now.held.history passage.now
+    ensures found { IfOk result (AreFoundAt replica.now.held.history passage.now
         (passage_places replica.now.held.history passage.now)) }
-    ensures stands { Stands replica.now }
+    ensures stands { IsSound replica.now }
 {
     let sections = outline(alloc, replica)?;
     find_in_sections(replica, sections.entries(), passage)

@@ -4,7 +4,7 @@ ghost use Rattle.std.specs.BTreeMap.{get};
 ghost use Rattle.std.specs.List.{AllPairs};
 ghost use Rattle.fugue_ids.specs.Identifiers.{Identifier, id_cmp};
 ghost use Rattle.fugue_ids.specs.declared.op.Op.{Op as AnyOp};
-ghost use Rattle.origin_model.specs.edits.State.{Stands};
+ghost use Rattle.origin_model.specs.edits.State.{IsSound};
 ghost use Rattle.catalogue_notes.specs.Outlining.{IsOutline, entry_sections};
 ghost use Rattle.margin_notes.specs.Listing.{number_from};
 ghost use Rattle.margin_notes.specs.Placing.{comment_placed};
@@ -60,7 +60,7 @@ pub(crate) fn remark_entries(
     requires { IsOutline replica.now.held.history sections.now }
     ensures entries { IfOk result (λ entries. map (entry_remark (reverse replica.now.held.history)) entries.items
         ≡ remarks replica.now.held.history) }
-    ensures stands { Stands replica.now }
+    ensures stands { IsSound replica.now }
 {
     let comments = comment_places(alloc, replica)?;
     let places = places_of(alloc, sections)?;

@@ -2,13 +2,13 @@
 ghost use Rattle.std.specs.Prelude.{◌≡◌, All, map, reverse, slice_get};
 ghost use Rattle.fugue_ids.specs.Gathers.{GathersText};
 ghost use Rattle.fugue_ids.specs.Outs.{WritesBytes};
-ghost use Rattle.origin_model.specs.edits.State.{Stands};
+ghost use Rattle.origin_model.specs.edits.State.{IsSound};
 ghost use Rattle.catalogue_notes.specs.Printing.{WritesText};
 ghost use Rattle.cluster_text.specs.Clusters.{clusters};
 ghost use Rattle.margin_notes.specs.Listing.{body_of};
-ghost use Rattle.passage_remarks.specs.Clusters.{in_line, spaced as spaced_byte};
-ghost use Rattle.passage_remarks.specs.Listing.{IsPlaced, entry_remark, section_texts};
-ghost use Rattle.passage_remarks.specs.Remarks.{head_line, passage_line, place_told, remark_told, remarks};
+ghost use Rattle.passage_remarks.specs.Clusters.{in_line, line_with_spaces as spaced_byte};
+ghost use Rattle.passage_remarks.specs.Listing.{IsRemarkPlaced, entry_remark, section_texts};
+ghost use Rattle.passage_remarks.specs.Remarks.{head_line, remark_line, place_told, remark_told, remarks};
 ghost use Rattle.passage_remarks.specs.Remarks.{remarks_from, remarks_text, text_told};
 
 use crate::entry::Entry;
@@ -48,7 +48,7 @@ fn put_passage<O: Out>(
     passage: &[u8],
 ) -> Result<(), Failed>
     ensures { GathersText (O.seen output.old) (O.seen output.new) gather.old gather.new result
-        (passage_line count passage.now) }
+        (remark_line count passage.now) }
 {
     if count == 0 {
         return gather.put(output, b"");
@@ -145,7 +145,7 @@ fn put_remarks<O: Out>(
     entries: &[Entry],
 ) -> Result<(), Failed>
     requires pages { pages.now ≡ section_texts replica.now.held.history }
-    requires placed { All (λ e. IsPlaced replica.now.held.history
+    requires placed { All (λ e. IsRemarkPlaced replica.now.held.history
         (entry_remark (reverse replica.now.held.history) e)) entries.now }
     ensures { GathersText (O.seen output.old) (O.seen output.new) gather.old gather.new result
         (remarks_from replica.now.held.history 1
@@ -185,7 +185,7 @@ pub fn write_remarks<O: Sink>(
     output: &mut O,
 ) -> Result<(), ArrangeFault>
     ensures text { WritesText (O.seen output.old) (O.seen output.new) result (remarks_text replica.now.held.history) }
-    ensures stands { Stands replica.now }
+    ensures stands { IsSound replica.now }
 {
     let sections = outline(alloc, replica)?;
     let entries = remark_entries(alloc, replica, sections.entries())?;

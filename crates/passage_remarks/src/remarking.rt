@@ -1,7 +1,7 @@
 //! A comment made on a passage: a reader names it by its text, where that stands once.
 ghost use Rattle.std.specs.Prelude.{◌≡◌, ◌≢◌, [], true, Err, IfErr, IfOk, OnErr, OnOk, option_map};
 ghost use Rattle.origin_model.specs.edits.Noting.{ShowsAsBefore, note_refusal};
-ghost use Rattle.origin_model.specs.edits.State.{Stands};
+ghost use Rattle.origin_model.specs.edits.State.{IsSound};
 ghost use Rattle.origin_model.specs.taking.Taking.{IsSettled};
 ghost use Rattle.margin_notes.specs.Commenting.{IsCommentMade, IsCommented};
 ghost use Rattle.margin_notes.specs.Comments.{is_text};
@@ -57,7 +57,7 @@ fn one_spot(alloc: Global, replica: &Replica, passage: &[u8]) -> Result<Spot, Re
     requires { passage.now ≢ [] }
     ensures once { IfOk result (IsOnly replica.now.held.history passage.now) }
     ensures refused { IfErr result (λ fault. Refuses (remark_refusal replica.now passage.now) (Err fault)) }
-    ensures stands { Stands replica.now }
+    ensures stands { IsSound replica.now }
 {
     match find_passage(alloc, replica, passage)? {
         Found::Nowhere => Err(RemarkFault::NotFound),
@@ -86,7 +86,7 @@ fn comment_at(replica: &mut Replica, spot: Spot, body: Body) -> Result<(), Remar
     ensures shown { ShowsAsBefore replica.old replica.new }
     ensures unmade { OnErr result (replica.new ≡ replica.old) }
     ensures settled { IsSettled replica.new.held }
-    ensures stands { Stands replica.old → Stands replica.new }
+    ensures stands { IsSound replica.old → IsSound replica.new }
 {
     let first = narrow(spot.span.first)?;
     let count = narrow(spot.span.count)?;
@@ -114,7 +114,7 @@ pub fn remark(
     ensures shown { ShowsAsBefore replica.old replica.new }
     ensures unmade { OnErr result (replica.new ≡ replica.old) }
     ensures settled { IsSettled replica.new.held }
-    ensures stands { Stands replica.new }
+    ensures stands { IsSound replica.new }
 {
     let spot = one_spot(alloc, replica, passage)?;
     comment_at(replica, spot, body)

@@ -1,6 +1,6 @@
 //! How a passage is spelled in a word: `\n` stands for LF, and `\\` for a backslash.
 ghost use Rattle.std.specs.Prelude.{◌≡◌, ◌≢◌, ◌↔◌, ◌++◌, [], ℕ, IfSome, IsNone, IsTrue, List};
-ghost use Rattle.passage_remarks.specs.Spelling.{IsSpelled, escaped_byte, passage_of, spelled};
+ghost use Rattle.passage_remarks.specs.Spelling.{IsSpelled, escaped_byte, passage_of, word_of_passage};
 
 use std::alloc::Global;
 
@@ -31,7 +31,7 @@ pub fn is_spelled(word: &[u8]) -> bool
 
 /// The passage that a word spells. None is the answer where it spells none, or memory is wanting.
 pub fn read_passage(alloc: Global, word: &[u8]) -> Option<Vec<u8>>
-    ensures { IfSome result (λ passage. (word.now ≡ spelled passage.items) × (passage.items ≢ [])
+    ensures { IfSome result (λ passage. (word.now ≡ word_of_passage passage.items) × (passage.items ≢ [])
         × (passage.items ≡ passage_of word.now)) }
 {
     let mut passage = Vec::new(alloc);

@@ -1,6 +1,6 @@
 //! A comment withdrawn: a Delete that names it.
 ghost use Rattle.std.specs.Prelude.{◌≡◌, ◌-◌, IfOk, OnErr, OnOk, option_map, slice_get};
-ghost use Rattle.origin_model.specs.edits.State.{Stands};
+ghost use Rattle.origin_model.specs.edits.State.{IsSound};
 ghost use Rattle.origin_model.specs.taking.Taking.{IsSettled};
 ghost use Rattle.passage_remarks.specs.Remarks.{Remark};
 ghost use Rattle.passage_remarks.specs.Withdrawing.{IsWithdrawn, RefusesWithdrawal, remark_numbered};
@@ -40,7 +40,7 @@ fn numbered_comment(
 ) -> Result<Option<ElementId>, NoMemory>
     ensures comment { IfOk result (λ found. found
         ≡ option_map (λ (r : Remark). r.id) (remark_numbered replica.now.held.history number)) }
-    ensures stands { Stands replica.now }
+    ensures stands { IsSound replica.now }
 {
     let sections = outline(alloc, replica)?;
     let entries = remark_entries(alloc, replica, sections.entries())?;
@@ -58,7 +58,7 @@ pub fn withdraw(alloc: Global, replica: &mut Replica, number: u32) -> Result<(),
     ensures refused { RefusesWithdrawal replica.old number result }
     ensures unmade { OnErr result (replica.new ≡ replica.old) }
     ensures settled { IsSettled replica.new.held }
-    ensures stands { Stands replica.new }
+    ensures stands { IsSound replica.new }
 {
     let Some(target) = numbered_comment(alloc, replica, number)? else {
         return Err(WithdrawFault::NoComment);

@@ -9,7 +9,7 @@ use Rattle.std.proofs.lemmas.List.{get_or-drop, get_or-take, get_or_append_left,
 use Rattle.memchr.specs.Critical.{IsPeriod, NoPeriodBelow}
 use Rattle.memchr.specs.Find.{Nowhere, OccursAt}
 use Rattle.passage_search.specs.declared.steps.Step.{Step}
-use Rattle.passage_search.specs.Steps.{IsStep}
+use Rattle.passage_search.specs.Steps.{IsSafeStep}
 
 -- what a slice from a number on has
 pub rest_of : (n : ℕ) (l : List ℕ) → take (length l - n) (drop n l) ≡ drop n l
@@ -31,7 +31,7 @@ module _ (text passage : List ℕ) where
       let e : at + d + k ≡ at + (k + d) = omega arith in
       sym (there.reads k (omega (arith, short))) ∙ ap (λ n. get_or text n 0) e ∙ here.reads (k + d) short
 
-  module _ (step : Step) (is : IsStep passage step) (at : ℕ) (here : OccursAt text passage at) where
+  module _ (step : Step) (is : IsSafeStep passage step) (at : ℕ) (here : OccursAt text passage at) where
     pub none_nearer : Nowhere (OccursAt text passage) (at + 1) (at + step.bytes)
     none_nearer k low high there =
         let e : k ≡ at + (k - at) = omega (arith, low) in

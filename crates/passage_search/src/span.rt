@@ -1,6 +1,6 @@
 ghost use Rattle.std.specs.Prelude.{◌≡◌, if◌then◌else◌};
 ghost use Rattle.cluster_text.specs.Clusters.{clusters as clusters_of};
-ghost use Rattle.passage_search.specs.Spans.{span};
+ghost use Rattle.passage_search.specs.Spans.{clusters_spanned};
 
 use unicode_segmentation::UnicodeSegmentation;
 
@@ -13,7 +13,7 @@ pub struct Span {
 
 /// The extended grapheme clusters (Unicode Standard Annex #29) that have bytes of the passage from one byte to another.
 pub fn span_of(text: &str, from: usize, to: usize) -> Span
-    ensures { result ≡ span (clusters_of text.now) from to }
+    ensures { result ≡ clusters_spanned (clusters_of text.now) from to }
 {
     let [mut at, mut ended, mut begun] = [0, 0, 0];
     let mut clusters = text.graphemes(true);

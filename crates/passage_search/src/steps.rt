@@ -5,7 +5,7 @@
 //! at least half of it apart. So all places are found in a time that is linear in the text and the passage.
 ghost use Rattle.std.specs.Prelude.{◌≢◌, ◌+◌, ◌≤◌, [], length};
 ghost use Rattle.memchr.specs.Find.{FindsNeedle, OccursAt};
-ghost use Rattle.passage_search.specs.Steps.{IsStep};
+ghost use Rattle.passage_search.specs.Steps.{IsSafeStep};
 
 use memchr::memmem::{Finder, find};
 
@@ -21,7 +21,7 @@ pub(crate) struct Step {
 /// The least period of the passage, where that is at most half of its length.
 pub(crate) fn step_of(passage: &[u8]) -> Step
     requires { passage.now ≢ [] }
-    ensures { IsStep passage.now result }
+    ensures { IsSafeStep passage.now result }
 {
     let half = passage.len().div_ceil(2);
     match find(&passage[1..], &passage[..half]) {
@@ -47,7 +47,7 @@ pub(crate) fn place_from(finder: &Finder, text: &[u8], from: usize) -> Option<us
 
 /// The first place behind this one.
 pub(crate) fn place_behind(finder: &Finder, step: Step, text: &[u8], at: usize) -> Option<usize>
-    requires step { IsStep finder.now step }
+    requires step { IsSafeStep finder.now step }
     requires place { OccursAt text.now finder.now at }
     ensures { FindsNeedle text.now finder.now (at + 1) result }
 {

@@ -9,7 +9,7 @@ use Rattle.origin_model.proofs.SharedLemmas.{closed_takes, takes-append}
 use Rattle.origin_model.specs.declared.grammar.Grammar.TheVariants.{Version2}
 use Rattle.op_frame.proofs.ReadingLemmas.{no_bytes_are_partial}
 use Rattle.relay_core.specs.Sessions.{becomes}
-use Rattle.relay_core.specs.Texts.{Beyond, SessionText, Greets, IsCourse, IsGreetingFront, NoGreeting, Says, Speaks, reply_to_text, log_behind, with_ops}
+use Rattle.relay_core.specs.Texts.{Beyond, SessionText, Greets, IsCourse, IsGreetingFront, NoGreeting, SaysCursor, Speaks, reply_to_text, log_behind, log_with_ops}
 use Rattle.relay_core.proofs.TextLemmas.{Reads, behind, none_starts, outcome, reads, rest_takes, starts_take}
 
 -- the first bytes of a greeting
@@ -60,7 +60,7 @@ abbrev pub taken_by : SessionText → List (List ℕ) → List ℕ → Taken
 taken_by course log text = record { log = log_behind course log; next = becomes (reply_to_text course log) (reading_by course text) }
 
 -- the greeting of a text, and what it says behind it
-says_takes : (limit : ℕ) (log : List (List ℕ)) (text : List ℕ) (cursor : ℕ) (new : List Op) (rest : List ℕ) (after : Taken) → (says : Says text cursor new rest)
+says_takes : (limit : ℕ) (log : List (List ℕ)) (text : List ℕ) (cursor : ℕ) (new : List Op) (rest : List ℕ) (after : Taken) → (says : SaysCursor text cursor new rest)
     → TakesAll limit says.messages (at_cursor log cursor) after → TakesAll limit text (record { log = log; next = Goes unread }) after
 says_takes limit log text cursor new rest after says h =
     subst (λ (bytes : List ℕ). TakesAll limit bytes (record { log = log; next = Goes unread }) after) (sym says.text_is)
@@ -83,10 +83,10 @@ course_takes Beyond limit log text is =
     says_takes limit log text is.0 [] is.1 (session_refused log 3) is.2
     (subst (λ (t : Taken). TakesAll limit messages t (session_refused log 3)) (sym (beyond_log log is.0 is.3)) (closed_takes limit messages log (refusal_message 3)))
 course_takes (Speaks cursor new rest follows) limit log text is =
-    let after : Taken = outcome follows cursor (with_ops log new) rest in
+    let after : Taken = outcome follows cursor (log_with_ops log new) rest in
     says_takes limit log text cursor new rest after is.0
     (subst (λ (t : Taken). TakesAll limit is.0.messages t after) (sym (within_log log cursor is.1))
-    (starts_take limit cursor new log is.0.messages rest after is.0.starts is.2 (rest_takes follows limit cursor (with_ops log new) rest is.3)))
+    (starts_take limit cursor new log is.0.messages rest after is.0.starts is.2 (rest_takes follows limit cursor (log_with_ops log new) rest is.3)))
 
 -- a text is of some course
 pub course_found : (limit : ℕ) (log : List (List ℕ)) (text : List ℕ) (after : Taken) → length log ≤ limit → TakesAll limit text (record { log = log; next = Goes unread }) after → (course : SessionText) × IsCourse course limit log [] text

@@ -17,10 +17,10 @@ use Rattle.origin_model.specs.declared.relay.Event.TheVariants.{Gone, Opened, Pi
 use Rattle.origin_model.specs.declared.relay.Reply.{Reply}
 use Rattle.origin_model.specs.frames.Frames.{HasFrame, IsFrame, IsItem, Item, Single, Typed, frame, item_ops}
 use Rattle.origin_model.specs.relay.Relay.{Relay, RelayRuns, RelaySteps, Sessions, StepsPiece, new_relay, session_opened}
-use Rattle.origin_model.specs.relay.Session.{Closes, Closing, Frame, Front, Goes, IsKind, Kind, Neither, Next, SessionReading, Taken, TakesAll, TakesByte, TakesOne, at_cursor, greeted, greeting, is_logged, joined, session_goes_on, session_refused, told}
+use Rattle.origin_model.specs.relay.Session.{Closes, Closing, Frame, Front, Goes, IsKind, Kind, Neither, Next, SessionReading, Taken, TakesAll, TakesByte, TakesOne, at_cursor, greeting_read, greeting, is_logged, log_joined, session_goes_on, session_refused, told}
 use Rattle.op_frame.proofs.RunFrameLemmas.{run_frames}
 use Rattle.relay_core.specs.OpLogs.{IsLogOf, LogsAreOfOperations, LogsGrow, RepliesJoin}
-use Rattle.relay_core.specs.Texts.{with_op, with_ops}
+use Rattle.relay_core.specs.Texts.{with_op, log_with_ops}
 use Rattle.relay_core.proofs.JoiningLemmas.{all_join, all_or_refused, one_too_many}
 
 -- a frame that a log lacks is none of its frames
@@ -57,7 +57,7 @@ one_logged log ops op is has =
         (each_apart log own (All-tail (λ h. h ≢ own) f log apart))
 
 -- operations more
-all_logged : (log : List (List ℕ)) (ops new : List Op) → IsLogOf log ops → All HasFrame new → (all : List Op) × IsLogOf (with_ops log new) all
+all_logged : (log : List (List ℕ)) (ops new : List Op) → IsLogOf log ops → All HasFrame new → (all : List Op) × IsLogOf (log_with_ops log new) all
 all_logged log ops [] is has = (ops, is)
 all_logged log ops (op ∷ new) is has =
     let one = one_logged log ops op is (All-head HasFrame op new has) in all_logged (with_op log op) one.0 new one.1 (All-tail HasFrame op new has)
@@ -76,24 +76,24 @@ record Joins (limit : ℕ) (old new : List (List ℕ)) (ops : List Op) : Type 0 
   front : List Op
   behind : List Op
   split : ops ≡ front ++ behind
-  log_is : new ≡ with_ops old front
+  log_is : new ≡ log_with_ops old front
   few : length new ≤ limit
 
 -- so operations of a frame join
-joined_joins : (limit cursor : ℕ) (log : List (List ℕ)) (ops : List Op) → length log ≤ limit → Joins limit log (joined limit log cursor ops).log ops
+joined_joins : (limit cursor : ℕ) (log : List (List ℕ)) (ops : List Op) → length log ≤ limit → Joins limit log (log_joined limit log cursor ops).log ops
 joined_joins limit cursor log ops room =
     elim (all_or_refused limit ops log room) [
       | inl fits ↦
-          let is : joined limit log cursor ops ≡ session_goes_on (with_ops log ops) cursor =
-          all_join limit cursor ops [] log (subst (λ l. length (with_ops log l) ≤ limit) (sym (append-nil ops)) fits) in
+          let is : log_joined limit log cursor ops ≡ session_goes_on (log_with_ops log ops) cursor =
+          all_join limit cursor ops [] log (subst (λ l. length (log_with_ops log l) ≤ limit) (sym (append-nil ops)) fits) in
           record { front = ops; behind = []; split = sym (append-nil ops); log_is = ap (λ (t : Taken). t.log) is; few = omega (arith, fits, ap (λ (t : Taken). length t.log) is) }
       | inr f ↦
-          let is : joined limit log cursor ops ≡ session_refused (with_ops log f.before) 2 = ap (joined limit log cursor) f.split ∙ one_too_many limit cursor f.before f.op f.later log f.lacks f.full in
+          let is : log_joined limit log cursor ops ≡ session_refused (log_with_ops log f.before) 2 = ap (log_joined limit log cursor) f.split ∙ one_too_many limit cursor f.before f.op f.later log f.lacks f.full in
           record { front = f.before; behind = f.op ∷ f.later; split = f.split; log_is = ap (λ (t : Taken). t.log) is; few = omega (arith, f.full, ap (λ (t : Taken). length t.log) is) }
     ]
 
 -- a log with operations has more frames behind its own
-with_more : (log : List (List ℕ)) (ops : List Op) → (more : List (List ℕ)) × (with_ops log ops ≡ log ++ more)
+with_more : (log : List (List ℕ)) (ops : List Op) → (more : List (List ℕ)) × (log_with_ops log ops ≡ log ++ more)
 with_more log [] = ([], sym (append-nil log))
 with_more log (op ∷ ops) =
     let one : (more : List (List ℕ)) × (with_op log op ≡ log ++ more) = elim (is_logged log (frame op)) as (λ b. (more : List (List ℕ)) × ((if b then log else log ++ frame op ∷ []) ≡ log ++ more)) [
@@ -124,9 +124,9 @@ one_behind limit a b c first second =
     }
 
 -- operations of a frame join a log
-joined_grows : (limit cursor : ℕ) (log : List (List ℕ)) (ops : List Op) → length log ≤ limit → All HasFrame ops → Grows limit log (joined limit log cursor ops).log
+joined_grows : (limit cursor : ℕ) (log : List (List ℕ)) (ops : List Op) → length log ≤ limit → All HasFrame ops → Grows limit log (log_joined limit log cursor ops).log
 joined_grows limit cursor log ops room have =
-    let j : Joins limit log (joined limit log cursor ops).log ops = joined_joins limit cursor log ops room in
+    let j : Joins limit log (log_joined limit log cursor ops).log ops = joined_joins limit cursor log ops room in
     let m = with_more log j.front in
     record {
       more = m.0;
@@ -138,7 +138,7 @@ joined_grows limit cursor log ops room have =
     }
 
 -- the first bytes of a text leave the log
-greeted_log : (log : List (List ℕ)) (bytes : List ℕ) → (greeted log bytes).log ≡ log
+greeted_log : (log : List (List ℕ)) (bytes : List ℕ) → (greeting_read log bytes).log ≡ log
 greeted_log log [] = refl
 greeted_log log (first ∷ number) =
     let cursor : ℕ = from_be_bytes w32 number in

@@ -5,7 +5,7 @@ use Rattle.std.specs.FinMap as finite
 use Rattle.origin_model.specs.declared.relay.Reply.{Reply}
 use Rattle.origin_model.specs.relay.Relay.{Relay, Sessions, StepsPiece, reply_of, sessions_after}
 use Rattle.origin_model.specs.relay.Session.{Closes, Goes, Next, Taken, TakesAll}
-use Rattle.relay_core.specs.Sessions.{SessionBecomes, KeepsSession, listed, reading_of, session_kept}
+use Rattle.relay_core.specs.Sessions.{SessionBecomes, KeepsSession, reply_list, reading_of, session_kept}
 use Rattle.relay_core.specs.declared.sessions.Session.{Session}
 
 -- the session is settled
@@ -19,7 +19,7 @@ pub piece_steps : (limit n : ℕ) (log : List (List ℕ)) (sessions : Sessions) 
     → Some (reading_of session) ≡ finite.get sessions n
     → ((after : Taken) × TakesAll limit piece (record { log = log; next = Goes (reading_of session) }) after × (new_log ≡ after.log) × SessionBecomes n after.next kept replies)
     → new_sessions ≡ session_kept n sessions kept
-    → (reply : Option Reply) × (replies ≡ listed reply)
+    → (reply : Option Reply) × (replies ≡ reply_list reply)
     × StepsPiece (record { limit = limit; log = log; sessions = sessions }) n (finite.get sessions n) piece (record { limit = limit; log = new_log; sessions = new_sessions }) reply
 piece_steps limit n log sessions session piece new_log new_sessions kept replies found h settles =
     let after : Taken = h.0 in

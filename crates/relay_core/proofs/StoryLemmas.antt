@@ -12,13 +12,13 @@ use Rattle.origin_model.specs.relay.Session.{Closes, Goes, Next, SessionReading,
 use Rattle.origin_model.proofs.SharedLemmas.{all_once, bytes_of, length-run, ops_of, partly, takes-append}
 use Rattle.op_frame.proofs.CodeLemmas.{same_fronts}
 use Rattle.op_frame.proofs.ReadingLemmas.{frames_once, same_front}
-use Rattle.relay_core.specs.Texts.{Beyond, Closed, SessionText, Foreign, Greets, HasCome, IsCourse, IsGreetingFront, NoGreeting, OneTooMany, Says, Speaks, Unfinished, reply_to_text, log_behind, with_ops}
+use Rattle.relay_core.specs.Texts.{Beyond, Closed, SessionText, Foreign, Greets, HasCome, IsCourse, IsGreetingFront, NoGreeting, OneTooMany, SaysCursor, Speaks, Unfinished, reply_to_text, log_behind, log_with_ops}
 use Rattle.relay_core.proofs.CourseLemmas.{course_found, course_takes, greeting_goes, reading_by, taken_by}
 use Rattle.relay_core.proofs.JoiningLemmas.{grown}
 use Rattle.relay_core.proofs.TextLemmas.{Reads, behind, front_goes, outcome, reads, rest_takes, starts_take}
 
 -- a text goes on with frames
-says_more : (text bytes : List ℕ) (cursor : ℕ) (before new : List Op) (rest next : List ℕ) → Says text cursor before rest → Starts Version2 (rest ++ bytes) new next → Says (text ++ bytes) cursor (before ++ new) next
+says_more : (text bytes : List ℕ) (cursor : ℕ) (before new : List Op) (rest next : List ℕ) → SaysCursor text cursor before rest → Starts Version2 (rest ++ bytes) new next → SaysCursor (text ++ bytes) cursor (before ++ new) next
 says_more text bytes cursor before new rest next says more =
     let first : List Framed = says.starts.found in
     record {
@@ -41,7 +41,7 @@ record SameGreeting (cursor other : ℕ) (behind next : List ℕ) : Type 0 where
   cursor_is : other ≡ cursor
   behind_is : behind ≡ next
 
-same_greeting : (text bytes : List ℕ) (cursor other : ℕ) (before all : List Op) (rest next : List ℕ) → (a : Says text cursor before rest) → (b : Says (text ++ bytes) other all next) → SameGreeting cursor other (a.messages ++ bytes) b.messages
+same_greeting : (text bytes : List ℕ) (cursor other : ℕ) (before all : List Op) (rest next : List ℕ) → (a : SaysCursor text cursor before rest) → (b : SaysCursor (text ++ bytes) other all next) → SameGreeting cursor other (a.messages ++ bytes) b.messages
 same_greeting text bytes cursor other before all rest next a b =
     let whole : greeting ∷ (a.number ++ (a.messages ++ bytes)) ≡ greeting ∷ (b.number ++ b.messages)
     = ap (λ t. greeting ∷ t) (sym (append_assoc a.number a.messages bytes)) ∙ ap (λ (t : List ℕ). t ++ bytes) (sym a.text_is) ∙ b.text_is in
@@ -50,7 +50,7 @@ same_greeting text bytes cursor other before all rest next a b =
     record { cursor_is = b.cursor_is ∙ ap (from_be_bytes w32) (sym both.0) ∙ sym a.cursor_is; behind_is = both.1 }
 
 -- and that of the same text twice
-same_messages : (text : List ℕ) (cursor other : ℕ) (before all : List Op) (rest next : List ℕ) → (a : Says text cursor before rest) → (b : Says text other all next) → a.messages ≡ b.messages
+same_messages : (text : List ℕ) (cursor other : ℕ) (before all : List Op) (rest next : List ℕ) → (a : SaysCursor text cursor before rest) → (b : SaysCursor text other all next) → a.messages ≡ b.messages
 same_messages text cursor other before all rest next a b =
     let tails : a.number ++ a.messages ≡ b.number ++ b.messages = cc (sym a.text_is ∙ b.text_is) in (same_fronts a.number b.number a.messages b.messages (a.four_bytes ∙ sym b.four_bytes) tails).1
 
@@ -73,7 +73,7 @@ new_frames (f ∷ fs) (h ∷ hs) rest next new p q same ops =
     new_frames fs hs rest next new (All-tail (IsFrame Version2) f fs p) (All-tail (IsFrame Version2) h hs q) first.rest
     (append_cancel_left f.ops (ops_of fs ++ new) (ops_of hs) (sym (append_assoc f.ops (ops_of fs) new) ∙ ops ∙ ap (λ (l : List Op). l ++ ops_of hs) (sym first.ops)))
 
-says_new : (text bytes : List ℕ) (cursor other : ℕ) (before new : List Op) (rest next : List ℕ) → Says text cursor before rest → Says (text ++ bytes) other (before ++ new) next → Starts Version2 (rest ++ bytes) new next
+says_new : (text bytes : List ℕ) (cursor other : ℕ) (before new : List Op) (rest next : List ℕ) → SaysCursor text cursor before rest → SaysCursor (text ++ bytes) other (before ++ new) next → Starts Version2 (rest ++ bytes) new next
 says_new text bytes cursor other before new rest next a b =
     let same = same_greeting text bytes cursor other before (before ++ new) rest next a b in
     new_frames a.starts.found b.starts.found (rest ++ bytes) next new a.starts.are_frames b.starts.are_frames
@@ -88,19 +88,19 @@ rest_of (Closes reply) = reply
 one_rest : (messages : List ℕ) (a b : List Op) (r s : List ℕ) → Starts Version2 messages a r → Starts Version2 messages b s → IsPartial Version2 r → IsPartial Version2 s → r ≡ s
 unfolding rest_of
 one_rest messages a b r s h i p q =
-    let limit : ℕ = length (with_ops [] a) + length (with_ops [] b) in
-    let x : TakesAll limit messages (session_goes_on [] 0) (partly (with_ops [] a) 0 r)
-    = starts_take limit 0 a [] messages r (partly (with_ops [] a) 0 r) h (omega arith) (front_goes limit 0 (with_ops [] a) r p) in
-    let y : TakesAll limit messages (session_goes_on [] 0) (partly (with_ops [] b) 0 s)
-    = starts_take limit 0 b [] messages s (partly (with_ops [] b) 0 s) i (omega arith) (front_goes limit 0 (with_ops [] b) s q) in
-    ap (λ (t : Taken). rest_of t.next) (all_once frames_once limit messages (session_goes_on [] 0) (partly (with_ops [] a) 0 r) (partly (with_ops [] b) 0 s) x y)
+    let limit : ℕ = length (log_with_ops [] a) + length (log_with_ops [] b) in
+    let x : TakesAll limit messages (session_goes_on [] 0) (partly (log_with_ops [] a) 0 r)
+    = starts_take limit 0 a [] messages r (partly (log_with_ops [] a) 0 r) h (omega arith) (front_goes limit 0 (log_with_ops [] a) r p) in
+    let y : TakesAll limit messages (session_goes_on [] 0) (partly (log_with_ops [] b) 0 s)
+    = starts_take limit 0 b [] messages s (partly (log_with_ops [] b) 0 s) i (omega arith) (front_goes limit 0 (log_with_ops [] b) s q) in
+    ap (λ (t : Taken). rest_of t.next) (all_once frames_once limit messages (session_goes_on [] 0) (partly (log_with_ops [] a) 0 r) (partly (log_with_ops [] b) 0 s) x y)
 
 -- how far an open session was read is what its text says
 pub record Spoken (log : List (List ℕ)) (text : List ℕ) (reading : SessionReading) : Type 0 where
   pub cursor : ℕ
   pub ops : List Op
   pub rest : List ℕ
-  pub says : Says text cursor ops rest
+  pub says : SaysCursor text cursor ops rest
   pub partial : IsPartial Version2 rest
   pub within : cursor ≤ length log
   pub reading_is : reading ≡ record { cursor = Some cursor; rest = rest }
@@ -109,12 +109,12 @@ abbrev pub ReadSo : List (List ℕ) → List ℕ → SessionReading → Type 0
 ReadSo log text reading = (IsGreetingFront text × (reading ≡ record { cursor = None; rest = text })) ⊎ Spoken log text reading
 
 -- a text with a whole greeting is no front of one
-not_both : (text bytes : List ℕ) (cursor : ℕ) (ops : List Op) (rest : List ℕ) → Says text cursor ops rest → IsGreetingFront (text ++ bytes) → ⊥
+not_both : (text bytes : List ℕ) (cursor : ℕ) (ops : List Op) (rest : List ℕ) → SaysCursor text cursor ops rest → IsGreetingFront (text ++ bytes) → ⊥
 not_both text bytes cursor ops rest says front =
     let few : length ((says.number ++ says.messages) ++ bytes) < 4 = (subst (λ (t : List ℕ). IsGreetingFront (t ++ bytes)) says.text_is front).1 in
     omega (arith, few, says.four_bytes, length-append says.number says.messages, length-append (says.number ++ says.messages) bytes)
 
-front_not_said : (text : List ℕ) (cursor : ℕ) (ops : List Op) (rest : List ℕ) → Says text cursor ops rest → IsGreetingFront text → ⊥
+front_not_said : (text : List ℕ) (cursor : ℕ) (ops : List Op) (rest : List ℕ) → SaysCursor text cursor ops rest → IsGreetingFront text → ⊥
 front_not_said text cursor ops rest says front =
     let few : length (says.number ++ says.messages) < 4 = (subst IsGreetingFront says.text_is front).1 in omega (arith, few, says.four_bytes, length-append says.number says.messages)
 
@@ -153,7 +153,7 @@ read_on limit log text bytes reading after room (inr s) h =
     }
 
 -- the machine comes to what the course says
-spoken_takes : (course : SessionText) (limit : ℕ) (log : List (List ℕ)) (text bytes : List ℕ) (reading : SessionReading) (before : List Op) (rest : List ℕ) (cursor : ℕ) → Spoken log text reading → Says text cursor before rest → IsPartial Version2 rest
+spoken_takes : (course : SessionText) (limit : ℕ) (log : List (List ℕ)) (text bytes : List ℕ) (reading : SessionReading) (before : List Op) (rest : List ℕ) (cursor : ℕ) → Spoken log text reading → SaysCursor text cursor before rest → IsPartial Version2 rest
     → IsCourse course limit log before (text ++ bytes) → TakesAll limit bytes (record { log = log; next = Goes reading }) (taken_by course log (text ++ bytes))
 spoken_takes Greets limit log text bytes reading before rest cursor s says partial is = absurd (not_both text bytes cursor before rest says is)
 spoken_takes NoGreeting limit log text bytes reading before rest cursor s says partial is =
@@ -167,9 +167,9 @@ spoken_takes (Speaks other new next follows) limit log text bytes reading before
     let one = same_messages text cursor s.cursor before s.ops rest s.rest says s.says in
     let rests : rest ≡ s.rest = one_rest s.says.messages before s.ops rest s.rest (subst (λ (t : List ℕ). Starts Version2 t before rest) one says.starts) s.says.starts partial s.partial in
     let starts : Starts Version2 (s.rest ++ bytes) new next = subst (λ (t : List ℕ). Starts Version2 (t ++ bytes) new next) rests (says_new text bytes cursor other before new rest next says is.0) in
-    let after : Taken = outcome follows other (with_ops log new) next in
+    let after : Taken = outcome follows other (log_with_ops log new) next in
     let all : TakesAll limit (s.rest ++ bytes) (session_goes_on log other) after
-    = starts_take limit other new log (s.rest ++ bytes) next after starts is.2 (rest_takes follows limit other (with_ops log new) next is.3) in
+    = starts_take limit other new log (s.rest ++ bytes) next after starts is.2 (rest_takes follows limit other (log_with_ops log new) next is.3) in
     subst (λ (r : SessionReading). TakesAll limit bytes (record { log = log; next = Goes r }) after) (ap (λ c. record { cursor = Some c; rest = s.rest }) same.cursor_is ∙ sym s.reading_is)
     (behind limit s.rest bytes (session_goes_on log other) (partly log other s.rest) after all (front_goes limit other log s.rest s.partial))
 

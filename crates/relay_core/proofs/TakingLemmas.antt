@@ -6,7 +6,7 @@ use Rattle.std.proofs.lemmas.List.{take-append-drop, take_more}
 use Rattle.origin_model.specs.relay.Session.{Closes, Frame, Goes, Neither, SessionReading, Taken, TakesAll, TakesByte, TakesOne, closing, refusal_message}
 use Rattle.origin_model.proofs.SharedLemmas.{closed_takes, takes-append}
 use Rattle.origin_model.specs.declared.grammar.Grammar.TheVariants.{Version2}
-use Rattle.op_frame.specs.FrameFronts.{IsGrown}
+use Rattle.op_frame.specs.FrameFronts.{IsFrameFront}
 use Rattle.op_frame.specs.declared.grown.Grown.TheVariants.{Bad}
 use Rattle.relay_core.specs.Joins.{JoinsFrame, joined_later}
 use Rattle.relay_core.specs.Logs.{LogGrows}
@@ -45,7 +45,7 @@ goes_there limit piece at start before log None reading is within h one =
 goes_there limit piece at start before log (Some bytes) reading is within h one = absurd (true≢false is)
 
 -- bytes that are no message are refused
-pub refused_there : {E : Type 0} (limit cursor : ℕ) (log : List (List ℕ)) (bytes : List ℕ) (reading : SessionReading) (result : Result (Option (List ℕ)) E) → IsGrown Bad Version2 bytes → bytes ≢ closing
+pub refused_there : {E : Type 0} (limit cursor : ℕ) (log : List (List ℕ)) (bytes : List ℕ) (reading : SessionReading) (result : Result (Option (List ℕ)) E) → IsFrameFront Bad Version2 bytes → bytes ≢ closing
     → IfOk result (λ reply. reply ≡ Some (refusal_message 1)) → IfOk result (λ reply. TakesByte limit log (Some cursor) bytes (record { log = log; next = becomes reply reading }))
 refused_there limit cursor log bytes reading (Ok reply) none apart is =
     (Neither, (λ ops f. none.0 (ops, f), none.1, apart), ap (λ r. record { log = log; next = becomes r reading }) is)

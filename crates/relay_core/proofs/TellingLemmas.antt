@@ -14,7 +14,7 @@ use Rattle.origin_model.specs.relay.Session.{SessionReading, Taken, unread}
 use Rattle.origin_model.proofs.SharedLemmas.{after_piece, piece_steps, unknown_steps}
 use Rattle.relay_core.specs.Laws.{SessionsByWholeTexts}
 use Rattle.relay_core.specs.Sessions.{becomes}
-use Rattle.relay_core.specs.Texts.{Beyond, Closed, Follows, Foreign, SessionText, Greets, HasCome, IsCourse, NoGreeting, OneTooMany, Speaks, Stands, Tells, TellsAll, TellsTo, Texts, Told, Unfinished, joined_behind, reply_to_text, log_behind, reply_with, texts_behind, text_opened, with_ops}
+use Rattle.relay_core.specs.Texts.{Beyond, Closed, FollowsFrames, Foreign, SessionText, Greets, HasCome, IsCourse, NoGreeting, OneTooMany, Speaks, StandsInText, Tells, TellsAll, TellsTo, OpenTexts, LogWithTexts, Unfinished, joined_behind, reply_to_text, log_behind, reply_with, texts_behind, text_opened, log_with_ops}
 use Rattle.relay_core.proofs.CourseLemmas.{reading_by, taken_by}
 use Rattle.relay_core.proofs.StoryLemmas.{Read, ReadSo, read_on, read_takes, still_read}
 use Rattle.relay_core.proofs.JoiningLemmas.{grown}
@@ -25,7 +25,7 @@ Alike log None None = Unit {0}
 Alike log (Some text) (Some reading) = ReadSo log text reading
 Alike log text reading = ⊥
 
-record Agrees (limit : ℕ) (log : List (List ℕ)) (sessions : Sessions) (texts : Texts) : Type 0 where
+record Agrees (limit : ℕ) (log : List (List ℕ)) (sessions : Sessions) (texts : OpenTexts) : Type 0 where
   room : length log ≤ limit
   each : (n : ℕ) → Alike log (finite.get texts n) (finite.get sessions n)
 
@@ -47,7 +47,7 @@ alike_by : (log : List (List ℕ)) (here : Bool) (x before : Option (List ℕ)) 
 alike_by log true x before y past text reading p q a b = subst (λ (o : Option SessionReading). Alike log text o) (sym q) (subst (λ (o : Option (List ℕ)). Alike log o y) (sym p) a)
 alike_by log false x before y past text reading p q a b = subst (λ (o : Option SessionReading). Alike log text o) (sym q) (subst (λ (o : Option (List ℕ)). Alike log o past) (sym p) b)
 
-module _ (limit : ℕ) (log now : List (List ℕ)) (sessions : Sessions) (texts : Texts) (agrees : Agrees limit log sessions texts) (more : length log ≤ length now) (room : length now ≤ limit) (n : ℕ) where
+module _ (limit : ℕ) (log now : List (List ℕ)) (sessions : Sessions) (texts : OpenTexts) (agrees : Agrees limit log sessions texts) (more : length log ≤ length now) (room : length now ≤ limit) (n : ℕ) where
   later : (q : ℕ) → Alike now (finite.get texts q) (finite.get sessions q)
   later q = alike_later log now (finite.get texts q) (finite.get sessions q) more (agrees.each q)
 
@@ -71,7 +71,7 @@ module _ (limit : ℕ) (log now : List (List ℕ)) (sessions : Sessions) (texts 
   piece_agrees (Some bytes) text reading so = removed_agrees
 
 -- one session opened
-opened_by : (limit : ℕ) (log : List (List ℕ)) (sessions : Sessions) (texts : Texts) (n : ℕ) → Agrees limit log sessions texts → (text : Option (List ℕ)) (reading : Option SessionReading) → Alike log text reading
+opened_by : (limit : ℕ) (log : List (List ℕ)) (sessions : Sessions) (texts : OpenTexts) (n : ℕ) → Agrees limit log sessions texts → (text : Option (List ℕ)) (reading : Option SessionReading) → Alike log text reading
     → Agrees limit log (if is_some reading then sessions else finite.insert sessions n unread) (if is_some text then texts else finite.insert texts n [])
 opened_by limit log sessions texts n agrees None None a = set_agrees limit log log sessions texts agrees (omega arith) agrees.room n [] unread (inl (tt, refl))
 opened_by limit log sessions texts n agrees None (Some reading) a = absurd a
@@ -83,10 +83,10 @@ course_grows : (course : SessionText) (log : List (List ℕ)) → length log ≤
 course_grows Greets log = omega arith
 course_grows NoGreeting log = omega arith
 course_grows Beyond log = omega arith
-course_grows (Speaks cursor new rest follows) log = omega (arith, grown log new, grown (with_ops log new) (joined_behind follows))
+course_grows (Speaks cursor new rest follows) log = omega (arith, grown log new, grown (log_with_ops log new) (joined_behind follows))
 
 -- what joined of a frame with an operation too many fits
-follows_room : (follows : Follows) (limit : ℕ) (log : List (List ℕ)) (rest : List ℕ) → length log ≤ limit → Stands follows limit log rest → length (with_ops log (joined_behind follows)) ≤ limit
+follows_room : (follows : FollowsFrames) (limit : ℕ) (log : List (List ℕ)) (rest : List ℕ) → length log ≤ limit → StandsInText follows limit log rest → length (log_with_ops log (joined_behind follows)) ≤ limit
 follows_room Unfinished limit log rest room s = room
 follows_room Closed limit log rest room s = room
 follows_room Foreign limit log rest room s = room
@@ -96,7 +96,7 @@ course_room : (course : SessionText) (limit : ℕ) (log : List (List ℕ)) (befo
 course_room Greets limit log before text room is = room
 course_room NoGreeting limit log before text room is = room
 course_room Beyond limit log before text room is = room
-course_room (Speaks cursor new rest follows) limit log before text room is = follows_room follows limit (with_ops log new) rest is.2 is.3
+course_room (Speaks cursor new rest follows) limit log before text room is = follows_room follows limit (log_with_ops log new) rest is.2 is.3
 
 -- the reply to what the course says
 replies_same : (n : ℕ) (answer : Option (List ℕ)) (reading : SessionReading) → reply_of n (becomes answer reading) ≡ reply_with n answer
@@ -106,19 +106,19 @@ replies_same n (Some bytes) reading = refl
 abbrev relay_of : ℕ → List (List ℕ) → Sessions → Relay
 relay_of limit log sessions = record { limit = limit; log = log; sessions = sessions }
 
-abbrev told_of : List (List ℕ) → Texts → Told
+abbrev told_of : List (List ℕ) → OpenTexts → LogWithTexts
 told_of log texts = record { log = log; texts = texts }
 
 -- the same step on both sides
-record Both (limit : ℕ) (log : List (List ℕ)) (sessions : Sessions) (texts : Texts) (event : Event) (reply : Option Reply) : Type 0 where
+record Both (limit : ℕ) (log : List (List ℕ)) (sessions : Sessions) (texts : OpenTexts) (event : Event) (reply : Option Reply) : Type 0 where
   log_now : List (List ℕ)
   sessions_now : Sessions
-  texts_now : Texts
+  texts_now : OpenTexts
   steps : RelaySteps (relay_of limit log sessions) event (relay_of limit log_now sessions_now) reply
   tells : Tells limit (told_of log texts) event (told_of log_now texts_now) reply
   agree : Agrees limit log_now sessions_now texts_now
 
-module _ (limit : ℕ) (log : List (List ℕ)) (sessions : Sessions) (texts : Texts) (agrees : Agrees limit log sessions texts) where
+module _ (limit : ℕ) (log : List (List ℕ)) (sessions : Sessions) (texts : OpenTexts) (agrees : Agrees limit log sessions texts) where
   abbrev open_both : (n : ℕ) → Both limit log sessions texts (Opened n) None
   open_both n = record {
     log_now = log;
@@ -173,13 +173,13 @@ module _ (limit : ℕ) (log : List (List ℕ)) (sessions : Sessions) (texts : Te
       }
 
 -- every step of a relay is told
-record StepTold (limit : ℕ) (log : List (List ℕ)) (sessions : Sessions) (texts : Texts) (event : Event) (new : Relay) (reply : Option Reply) : Type 0 where
+record StepTold (limit : ℕ) (log : List (List ℕ)) (sessions : Sessions) (texts : OpenTexts) (event : Event) (new : Relay) (reply : Option Reply) : Type 0 where
   same_reply : Option Reply
   both : Both limit log sessions texts event same_reply
   reply_is : reply ≡ same_reply
   new_is : new ≡ relay_of limit both.log_now both.sessions_now
 
-step_told : (limit : ℕ) (log : List (List ℕ)) (sessions : Sessions) (texts : Texts) → Agrees limit log sessions texts → (event : Event) (new : Relay) (reply : Option Reply) → RelaySteps (relay_of limit log sessions) event new reply
+step_told : (limit : ℕ) (log : List (List ℕ)) (sessions : Sessions) (texts : OpenTexts) → Agrees limit log sessions texts → (event : Event) (new : Relay) (reply : Option Reply) → RelaySteps (relay_of limit log sessions) event new reply
     → StepTold limit log sessions texts event new reply
 step_told limit log sessions texts agrees (Opened n) new reply h = record { same_reply = None; both = open_both limit log sessions texts agrees n; reply_is = h.1; new_is = h.0 }
 step_told limit log sessions texts agrees (Gone n) new reply h = record { same_reply = None; both = gone_both limit log sessions texts agrees n; reply_is = h.1; new_is = h.0 }
@@ -201,13 +201,13 @@ step_told limit log sessions texts agrees (Piece n bytes) new reply h = by (fini
         }
 
 -- and every step that is told is one of a relay
-record ToldStep (limit : ℕ) (log : List (List ℕ)) (sessions : Sessions) (texts : Texts) (event : Event) (new : Told) (reply : Option Reply) : Type 0 where
+record ToldStep (limit : ℕ) (log : List (List ℕ)) (sessions : Sessions) (texts : OpenTexts) (event : Event) (new : LogWithTexts) (reply : Option Reply) : Type 0 where
   same_reply : Option Reply
   both : Both limit log sessions texts event same_reply
   reply_is : reply ≡ same_reply
   new_is : new ≡ told_of both.log_now both.texts_now
 
-told_step : (limit : ℕ) (log : List (List ℕ)) (sessions : Sessions) (texts : Texts) → Agrees limit log sessions texts → (event : Event) (new : Told) (reply : Option Reply) → Tells limit (told_of log texts) event new reply
+told_step : (limit : ℕ) (log : List (List ℕ)) (sessions : Sessions) (texts : OpenTexts) → Agrees limit log sessions texts → (event : Event) (new : LogWithTexts) (reply : Option Reply) → Tells limit (told_of log texts) event new reply
     → ToldStep limit log sessions texts event new reply
 told_step limit log sessions texts agrees (Opened n) new reply h = record { same_reply = None; both = open_both limit log sessions texts agrees n; reply_is = h.1; new_is = h.0 }
 told_step limit log sessions texts agrees (Gone n) new reply h = record { same_reply = None; both = gone_both limit log sessions texts agrees n; reply_is = h.1; new_is = h.0 }
@@ -226,8 +226,8 @@ told_step limit log sessions texts agrees (Piece n bytes) new reply h = by (fini
     }
 
 -- a run of a relay is told
-told_run : (limit : ℕ) (log : List (List ℕ)) (sessions : Sessions) (texts : Texts) → Agrees limit log sessions texts → (events : List Event) (new : Relay) (replies : List (Option Reply)) → RelayRuns (relay_of limit log sessions) events new replies
-    → (told : Told) × TellsAll limit (told_of log texts) events told replies × (told.log ≡ new.log)
+told_run : (limit : ℕ) (log : List (List ℕ)) (sessions : Sessions) (texts : OpenTexts) → Agrees limit log sessions texts → (events : List Event) (new : Relay) (replies : List (Option Reply)) → RelayRuns (relay_of limit log sessions) events new replies
+    → (told : LogWithTexts) × TellsAll limit (told_of log texts) events told replies × (told.log ≡ new.log)
 told_run limit log sessions texts agrees [] new replies h = (told_of log texts, (refl, h.1), sym (ap (λ (r : Relay). r.log) h.0))
 told_run limit log sessions texts agrees (event ∷ events) new replies h =
     let s = step_told limit log sessions texts agrees event h.0 h.1 h.3 in
@@ -236,13 +236,13 @@ told_run limit log sessions texts agrees (event ∷ events) new replies h =
     (rest.0, (told_of b.log_now b.texts_now, h.1, h.2, subst (Tells limit (told_of log texts) event (told_of b.log_now b.texts_now)) (sym s.reply_is) b.tells, rest.1, h.5), rest.2)
 
 -- and what is told is a run
-run_told : (limit : ℕ) (log : List (List ℕ)) (sessions : Sessions) (texts : Texts) → Agrees limit log sessions texts → (events : List Event) (told : Told) (replies : List (Option Reply))
+run_told : (limit : ℕ) (log : List (List ℕ)) (sessions : Sessions) (texts : OpenTexts) → Agrees limit log sessions texts → (events : List Event) (told : LogWithTexts) (replies : List (Option Reply))
     → TellsAll limit (told_of log texts) events told replies → (new : Relay) × RelayRuns (relay_of limit log sessions) events new replies × (new.log ≡ told.log)
-run_told limit log sessions texts agrees [] told replies h = (relay_of limit log sessions, (refl, h.1), sym (ap (λ (t : Told). t.log) h.0))
+run_told limit log sessions texts agrees [] told replies h = (relay_of limit log sessions, (refl, h.1), sym (ap (λ (t : LogWithTexts). t.log) h.0))
 run_told limit log sessions texts agrees (event ∷ events) told replies h =
     let s = told_step limit log sessions texts agrees event h.0 h.1 h.3 in
     let b = s.both in
-    let rest = run_told limit b.log_now b.sessions_now b.texts_now b.agree events told h.2 (subst (λ (t : Told). TellsAll limit t events told h.2) s.new_is h.4) in
+    let rest = run_told limit b.log_now b.sessions_now b.texts_now b.agree events told h.2 (subst (λ (t : LogWithTexts). TellsAll limit t events told h.2) s.new_is h.4) in
     (rest.0, (relay_of limit b.log_now b.sessions_now, h.1, h.2, subst (RelaySteps (relay_of limit log sessions) event (relay_of limit b.log_now b.sessions_now)) (sym s.reply_is) b.steps, rest.1, h.5), rest.2)
 
 -- before any event

@@ -11,7 +11,7 @@ use Rattle.origin_model.specs.declared.grammar.Grammar.TheVariants.{Version2}
 use Rattle.origin_model.specs.frames.Frames.{Framed, HasFrame, IsFrame, IsIdentifier, IsPartial, Run, Starts, Typed, frame, run_frame}
 use Rattle.origin_model.specs.relay.Session.{closing}
 use Rattle.origin_model.proofs.SharedLemmas.{framed_is, framed_of}
-use Rattle.relay_core.specs.Texts.{Beyond, Closed, Comes, NoGreeting, OneTooMany, Says, Speaks, with_ops}
+use Rattle.relay_core.specs.Texts.{Beyond, Closed, ComesToText, NoGreeting, OneTooMany, SaysCursor, Speaks, log_with_ops}
 use Rattle.relay_core.proofs.TextLemmas.{none_starts}
 use Rattle.op_frame.proofs.ReadingLemmas.{no_bytes_are_partial}
 
@@ -43,11 +43,11 @@ starts_one framed rest is = record {
 }
 
 -- a text that greets with the cursor 0
-says : (messages : List ℕ) (ops : List Op) (rest : List ℕ) → Starts Version2 messages ops rest → Says (hello ++ messages) 0 ops rest
+says : (messages : List ℕ) (ops : List Op) (rest : List ℕ) → Starts Version2 messages ops rest → SaysCursor (hello ++ messages) 0 ops rest
 says messages ops rest starts = record { number = 0 ∷ 0 ∷ 0 ∷ 0 ∷ []; four_bytes = refl; cursor_is = refl; messages = messages; starts = starts; text_is = refl }
 
 -- the text is closed within the bytes that come: A joins the log and is answered, with the length of the log
-closes : Comes 1 [] (0x48 ∷ 0 ∷ []) (0 ∷ 0 ∷ 0 ∷ (frame A ++ closing)) (frame A ∷ []) (Some (frame A ++ 0x55 ∷ 0 ∷ 0 ∷ 0 ∷ 1 ∷ []))
+closes : ComesToText 1 [] (0x48 ∷ 0 ∷ []) (0 ∷ 0 ∷ 0 ∷ (frame A ++ closing)) (frame A ∷ []) (Some (frame A ++ 0x55 ∷ 0 ∷ 0 ∷ 0 ∷ 1 ∷ []))
 closes = record {
   before = [];
   has_come = inl ((refl, omega arith), refl);
@@ -58,7 +58,7 @@ closes = record {
 }
 
 -- the cursor 1 is beyond an empty log, and what comes behind it counts for nothing
-goes_beyond : Comes 1 [] (0x48 ∷ 0 ∷ 0 ∷ []) (0 ∷ 1 ∷ frame A) [] (Some (0x58 ∷ 3 ∷ []))
+goes_beyond : ComesToText 1 [] (0x48 ∷ 0 ∷ 0 ∷ []) (0 ∷ 1 ∷ frame A) [] (Some (0x58 ∷ 3 ∷ []))
 goes_beyond = record {
   before = [];
   has_come = inl ((refl, omega arith), refl);
@@ -74,7 +74,7 @@ goes_beyond = record {
 }
 
 -- a log of one operation that may have no more takes its frame again, and refuses another
-is_full : Comes 1 (frame A ∷ []) hello (frame A ++ (frame B ++ closing)) (frame A ∷ []) (Some (0x58 ∷ 2 ∷ []))
+is_full : ComesToText 1 (frame A ∷ []) hello (frame A ++ (frame B ++ closing)) (frame A ∷ []) (Some (0x58 ∷ 2 ∷ []))
 is_full = record {
   before = [];
   has_come = inr (0, [], says [] [] [] (none_starts []), no_bytes_are_partial Version2);
@@ -90,7 +90,7 @@ is_full = record {
 }
 
 -- another first byte than 48, also the closing one
-no_greeting : Comes 1 [] [] (0x44 ∷ 0x48 ∷ []) [] (Some (0x58 ∷ 1 ∷ []))
+no_greeting : ComesToText 1 [] [] (0x44 ∷ 0x48 ∷ []) [] (Some (0x58 ∷ 1 ∷ []))
 no_greeting = record {
   before = [];
   has_come = inl (tt, refl);
@@ -144,7 +144,7 @@ letters_are = record {
 }
 
 -- of five letters a log that takes three keeps the first three, and the session is refused at the last byte of their frame
-three_stay : Comes 3 [] hello (run_frame letters ++ closing) (with_ops [] three) (Some (0x58 ∷ 2 ∷ []))
+three_stay : ComesToText 3 [] hello (run_frame letters ++ closing) (log_with_ops [] three) (Some (0x58 ∷ 2 ∷ []))
 three_stay = record {
   before = [];
   has_come = inr (0, [], says [] [] [] (none_starts []), no_bytes_are_partial Version2);
@@ -160,11 +160,11 @@ three_stay = record {
 }
 
 -- the log has the letters' own frames
-three_logged : with_ops [] three ≡ frame first_letter ∷ frame (letter 1 98) ∷ frame (letter 2 99) ∷ []
+three_logged : log_with_ops [] three ≡ frame first_letter ∷ frame (letter 1 98) ∷ frame (letter 2 99) ∷ []
 three_logged = refl
 
 -- half of the run came, and with the other half all five join
-both_halves : Comes 5 [] (hello ++ take 20 (run_frame letters)) (drop 20 (run_frame letters) ++ closing) (with_ops [] five)
+both_halves : ComesToText 5 [] (hello ++ take 20 (run_frame letters)) (drop 20 (run_frame letters) ++ closing) (log_with_ops [] five)
     (Some (frame first_letter ++ frame (letter 1 98) ++ frame (letter 2 99) ++ frame (letter 3 100) ++ frame (letter 4 101) ++ 0x55 ∷ 0 ∷ 0 ∷ 0 ∷ 5 ∷ []))
 both_halves = record {
   before = [];

@@ -6,11 +6,11 @@ use Rattle.std.proofs.lemmas.List.Elements.{All-cons, All-head, All-nil, All-tai
 use Rattle.fugue_ids.specs.declared.op.Op.{Op}
 use Rattle.origin_model.specs.declared.grammar.Grammar.TheVariants.{Version2}
 use Rattle.origin_model.specs.frames.Frames.{Framed, IsFrame, IsPartial, Starts}
-use Rattle.origin_model.specs.relay.Session.{Closing, Frame, Front, IsKind, Kind, Neither, Taken, TakesAll, closing, session_goes_on, joined, refusal_message, session_refused, reply_from, told}
+use Rattle.origin_model.specs.relay.Session.{Closing, Frame, Front, IsKind, Kind, Neither, Taken, TakesAll, closing, session_goes_on, log_joined, refusal_message, session_refused, reply_from, told}
 use Rattle.origin_model.proofs.SharedLemmas.{all_once, bytes_of, closed_takes, closing_takes, frame_takes, front_takes, ops_of, partly, takes-append}
 use Rattle.op_frame.proofs.ReadingLemmas.{frames_once, no_bytes_are_partial}
 use Rattle.relay_core.specs.Sessions.{becomes}
-use Rattle.relay_core.specs.Texts.{Closed, Follows, Foreign, IsForeign, OneTooMany, Stands, Unfinished, closing_of, joined_behind, with_ops}
+use Rattle.relay_core.specs.Texts.{Closed, FollowsFrames, Foreign, IsForeign, OneTooMany, StandsInText, Unfinished, closing_bytes, joined_behind, log_with_ops}
 use Rattle.relay_core.proofs.JoiningLemmas.{IsRefused, all_or_refused, all_join, one_too_many, with_ops-append}
 
 -- bytes are read behind others as they are read with them
@@ -21,27 +21,27 @@ behind limit (x ∷ xs) ys start middle after h i =
     behind limit xs ys i.0 middle after (subst (λ (t : Taken). TakesAll limit (xs ++ ys) t after) same h.2) i.2
 
 -- frames that come behind a whole message
-frames_take : (limit cursor : ℕ) (found : List Framed) (log : List (List ℕ)) (rest : List ℕ) (after : Taken) → All (IsFrame Version2) found → length (with_ops log (ops_of found)) ≤ limit
-    → TakesAll limit rest (session_goes_on (with_ops log (ops_of found)) cursor) after → TakesAll limit (bytes_of found ++ rest) (session_goes_on log cursor) after
+frames_take : (limit cursor : ℕ) (found : List Framed) (log : List (List ℕ)) (rest : List ℕ) (after : Taken) → All (IsFrame Version2) found → length (log_with_ops log (ops_of found)) ≤ limit
+    → TakesAll limit rest (session_goes_on (log_with_ops log (ops_of found)) cursor) after → TakesAll limit (bytes_of found ++ rest) (session_goes_on log cursor) after
 frames_take limit cursor [] log rest after are room h = h
 frames_take limit cursor (f ∷ found) log rest after are room h =
-    let now : List (List ℕ) = with_ops log f.ops in
-    let both : with_ops log (f.ops ++ ops_of found) ≡ with_ops now (ops_of found) = with_ops-append f.ops (ops_of found) log in
+    let now : List (List ℕ) = log_with_ops log f.ops in
+    let both : log_with_ops log (f.ops ++ ops_of found) ≡ log_with_ops now (ops_of found) = with_ops-append f.ops (ops_of found) log in
     let more : TakesAll limit (bytes_of found ++ rest) (session_goes_on now cursor) after
     = frames_take limit cursor found now rest after (All-tail (IsFrame Version2) f found are) (subst (λ (l : List (List ℕ)). length l ≤ limit) both room)
     (subst (λ (l : List (List ℕ)). TakesAll limit rest (session_goes_on l cursor) after) both h) in
-    let is : joined limit log cursor f.ops ≡ session_goes_on now cursor = all_join limit cursor f.ops (ops_of found) log room in
+    let is : log_joined limit log cursor f.ops ≡ session_goes_on now cursor = all_join limit cursor f.ops (ops_of found) log room in
     subst (λ (bytes : List ℕ). TakesAll limit bytes (session_goes_on log cursor) after) (sym (append_assoc f.bytes (bytes_of found) rest))
-    (takes-append limit f.bytes (bytes_of found ++ rest) (session_goes_on log cursor) (joined limit log cursor f.ops) after (frame_takes f (All-head (IsFrame Version2) f found are) limit cursor log)
+    (takes-append limit f.bytes (bytes_of found ++ rest) (session_goes_on log cursor) (log_joined limit log cursor f.ops) after (frame_takes f (All-head (IsFrame Version2) f found are) limit cursor log)
     (subst (λ (t : Taken). TakesAll limit (bytes_of found ++ rest) t after) (sym is) more))
 
 -- operations that come behind a whole message
-pub starts_take : (limit cursor : ℕ) (ops : List Op) (log : List (List ℕ)) (messages rest : List ℕ) (after : Taken) → Starts Version2 messages ops rest → length (with_ops log ops) ≤ limit
-    → TakesAll limit rest (session_goes_on (with_ops log ops) cursor) after → TakesAll limit messages (session_goes_on log cursor) after
+pub starts_take : (limit cursor : ℕ) (ops : List Op) (log : List (List ℕ)) (messages rest : List ℕ) (after : Taken) → Starts Version2 messages ops rest → length (log_with_ops log ops) ≤ limit
+    → TakesAll limit rest (session_goes_on (log_with_ops log ops) cursor) after → TakesAll limit messages (session_goes_on log cursor) after
 starts_take limit cursor ops log messages rest after starts room h =
     subst (λ (bytes : List ℕ). TakesAll limit bytes (session_goes_on log cursor) after) (sym starts.split)
-    (frames_take limit cursor starts.found log rest after starts.are_frames (subst (λ (l : List Op). length (with_ops log l) ≤ limit) starts.ops_are room)
-    (subst (λ (l : List Op). TakesAll limit rest (session_goes_on (with_ops log l) cursor) after) starts.ops_are h))
+    (frames_take limit cursor starts.found log rest after starts.are_frames (subst (λ (l : List Op). length (log_with_ops log l) ≤ limit) starts.ops_are room)
+    (subst (λ (l : List Op). TakesAll limit rest (session_goes_on (log_with_ops log l) cursor) after) starts.ops_are h))
 
 -- no frame stands at the front
 pub none_starts : (bytes : List ℕ) → Starts Version2 bytes [] bytes
@@ -56,11 +56,11 @@ front_goes limit cursor log rest p = by p.more p.lacks p.front
     by (z ∷ zs) lacks e = front_takes p.framed p.is_frame limit cursor log [] rest z zs e
 
 -- what the log is, and what becomes of the session, behind the frames of a text
-abbrev pub outcome : Follows → (cursor : ℕ) → List (List ℕ) → (rest : List ℕ) → Taken
-outcome follows cursor log rest = record { log = with_ops log (joined_behind follows); next = becomes (closing_of follows log cursor) (record { cursor = Some cursor; rest = rest }) }
+abbrev pub outcome : FollowsFrames → (cursor : ℕ) → List (List ℕ) → (rest : List ℕ) → Taken
+outcome follows cursor log rest = record { log = log_with_ops log (joined_behind follows); next = becomes (closing_bytes follows log cursor) (record { cursor = Some cursor; rest = rest }) }
 
 -- what follows the frames of a text
-pub rest_takes : (follows : Follows) (limit cursor : ℕ) (log : List (List ℕ)) (rest : List ℕ) → Stands follows limit log rest → TakesAll limit rest (session_goes_on log cursor) (outcome follows cursor log rest)
+pub rest_takes : (follows : FollowsFrames) (limit cursor : ℕ) (log : List (List ℕ)) (rest : List ℕ) → StandsInText follows limit log rest → TakesAll limit rest (session_goes_on log cursor) (outcome follows cursor log rest)
 rest_takes Unfinished limit cursor log rest s = front_goes limit cursor log rest s
 rest_takes Closed limit cursor log rest s =
     let after : Taken = outcome Closed cursor log rest in
@@ -76,10 +76,10 @@ rest_takes Foreign limit cursor log rest s =
     subst (λ (bytes : List ℕ). TakesAll limit bytes (session_goes_on log cursor) after) (sym s.3)
     (takes-append limit s.0 s.1 (session_goes_on log cursor) after after shown (closed_takes limit s.1 log (refusal_message 1)))
 rest_takes (OneTooMany before) limit cursor log rest s =
-    let now : List (List ℕ) = with_ops log before in
+    let now : List (List ℕ) = log_with_ops log before in
     let after : Taken = session_refused now 2 in
     let framed : Framed = record { bytes = s.2; ops = before ++ s.0 ∷ s.1 } in
-    let is : joined limit log cursor (before ++ s.0 ∷ s.1) ≡ after = one_too_many limit cursor before s.0 s.1 log s.6 s.7 in
+    let is : log_joined limit log cursor (before ++ s.0 ∷ s.1) ≡ after = one_too_many limit cursor before s.0 s.1 log s.6 s.7 in
     subst (λ (bytes : List ℕ). TakesAll limit bytes (session_goes_on log cursor) after) (sym s.5)
     (takes-append limit s.2 s.3 (session_goes_on log cursor) after after (subst (TakesAll limit s.2 (session_goes_on log cursor)) is (frame_takes framed s.4 limit cursor log))
     (closed_takes limit s.3 now (refusal_message 2)))
@@ -88,21 +88,21 @@ rest_takes (OneTooMany before) limit cursor log rest s =
 pub record Reads (limit cursor : ℕ) (log : List (List ℕ)) (bytes : List ℕ) (after : Taken) : Type 0 where
   pub new : List Op
   pub rest : List ℕ
-  pub follows : Follows
+  pub follows : FollowsFrames
   pub starts : Starts Version2 bytes new rest
-  pub room : length (with_ops log new) ≤ limit
-  pub stands : Stands follows limit (with_ops log new) rest
-  pub after_is : after ≡ outcome follows cursor (with_ops log new) rest
+  pub room : length (log_with_ops log new) ≤ limit
+  pub stands : StandsInText follows limit (log_with_ops log new) rest
+  pub after_is : after ≡ outcome follows cursor (log_with_ops log new) rest
 
 module _ (limit cursor : ℕ) (after : Taken) where
   -- no frame more
-  reads_none : (log : List (List ℕ)) (bytes : List ℕ) (follows : Follows) → length log ≤ limit → Stands follows limit log bytes → after ≡ outcome follows cursor log bytes → Reads limit cursor log bytes after
+  reads_none : (log : List (List ℕ)) (bytes : List ℕ) (follows : FollowsFrames) → length log ≤ limit → StandsInText follows limit log bytes → after ≡ outcome follows cursor log bytes → Reads limit cursor log bytes after
   reads_none log bytes follows room stands is = record { new = []; rest = bytes; follows = follows; starts = none_starts bytes; room = room; stands = stands; after_is = is }
 
   -- a frame more, all of whose operations join
-  reads_frame : (log : List (List ℕ)) (framed : Framed) (bytes : List ℕ) → IsFrame Version2 framed → Reads limit cursor (with_ops log framed.ops) bytes after → Reads limit cursor log (framed.bytes ++ bytes) after
+  reads_frame : (log : List (List ℕ)) (framed : Framed) (bytes : List ℕ) → IsFrame Version2 framed → Reads limit cursor (log_with_ops log framed.ops) bytes after → Reads limit cursor log (framed.bytes ++ bytes) after
   reads_frame log framed bytes is r =
-      let both : with_ops (with_ops log framed.ops) r.new ≡ with_ops log (framed.ops ++ r.new) = sym (with_ops-append framed.ops r.new log) in
+      let both : log_with_ops (log_with_ops log framed.ops) r.new ≡ log_with_ops log (framed.ops ++ r.new) = sym (with_ops-append framed.ops r.new log) in
       record {
         new = framed.ops ++ r.new;
         rest = r.rest;
@@ -114,7 +114,7 @@ module _ (limit cursor : ℕ) (after : Taken) where
           split = ap (λ (b : List ℕ). framed.bytes ++ b) r.starts.split ∙ sym (append_assoc framed.bytes (bytes_of r.starts.found) r.rest);
         };
         room = subst (λ (l : List (List ℕ)). length l ≤ limit) both r.room;
-        stands = subst (λ (l : List (List ℕ)). Stands r.follows limit l r.rest) both r.stands;
+        stands = subst (λ (l : List (List ℕ)). StandsInText r.follows limit l r.rest) both r.stands;
         after_is = r.after_is ∙ ap (λ (l : List (List ℕ)). outcome r.follows cursor l r.rest) both;
       }
 
@@ -123,23 +123,23 @@ module _ (limit cursor : ℕ) (after : Taken) where
   Further bytes = (log : List (List ℕ)) (rest : List ℕ) → length log ≤ limit → IsPartial Version2 rest → TakesAll limit bytes (partly log cursor rest) after → Reads limit cursor log (rest ++ bytes) after
 
   -- a frame is whole
-  frame_reads : (log : List (List ℕ)) (framed : Framed) (bytes : List ℕ) → IsFrame Version2 framed → length log ≤ limit → Further bytes → TakesAll limit bytes (joined limit log cursor framed.ops) after
+  frame_reads : (log : List (List ℕ)) (framed : Framed) (bytes : List ℕ) → IsFrame Version2 framed → length log ≤ limit → Further bytes → TakesAll limit bytes (log_joined limit log cursor framed.ops) after
       → Reads limit cursor log (framed.bytes ++ bytes) after
   frame_reads log framed bytes is room further h = by (all_or_refused limit framed.ops log room)
     where
       now : List (List ℕ)
-      now = with_ops log framed.ops
+      now = log_with_ops log framed.ops
 
       by : (length now ≤ limit) ⊎ IsRefused limit log framed.ops → Reads limit cursor log (framed.bytes ++ bytes) after
       by (inl fits) =
           reads_frame log framed bytes is (further now [] fits (no_bytes_are_partial Version2) (subst (λ (t : Taken). TakesAll limit bytes t after) (all_join limit cursor framed.ops [] log
-          (subst (λ (l : List Op). length (with_ops log l) ≤ limit) (sym (append-nil framed.ops)) fits)) h))
+          (subst (λ (l : List Op). length (log_with_ops log l) ≤ limit) (sym (append-nil framed.ops)) fits)) h))
       by (inr f) =
-          let refused : Taken = session_refused (with_ops log f.before) 2 in
-          let same : joined limit log cursor framed.ops ≡ refused = ap (joined limit log cursor) f.split ∙ one_too_many limit cursor f.before f.op f.later log f.lacks f.full in
+          let refused : Taken = session_refused (log_with_ops log f.before) 2 in
+          let same : log_joined limit log cursor framed.ops ≡ refused = ap (log_joined limit log cursor) f.split ∙ one_too_many limit cursor f.before f.op f.later log f.lacks f.full in
           let whole : IsFrame Version2 (record { bytes = framed.bytes; ops = f.before ++ f.op ∷ f.later }) = subst (λ (l : List Op). IsFrame Version2 (record { bytes = framed.bytes; ops = l })) f.split is in
           reads_none log (framed.bytes ++ bytes) (OneTooMany f.before) room (f.op, f.later, framed.bytes, bytes, whole, refl, f.lacks, f.full)
-          (all_once frames_once limit bytes refused after refused (subst (λ (t : Taken). TakesAll limit bytes t after) same h) (closed_takes limit bytes (with_ops log f.before) (refusal_message 2)))
+          (all_once frames_once limit bytes refused after refused (subst (λ (t : Taken). TakesAll limit bytes t after) same h) (closed_takes limit bytes (log_with_ops log f.before) (refusal_message 2)))
 
   -- one byte more
   kind_reads : (log : List (List ℕ)) (rest : List ℕ) (byte : ℕ) (bytes : List ℕ) → length log ≤ limit → IsPartial Version2 rest → Further bytes → (kind : Kind) → IsKind kind (rest ++ byte ∷ [])

@@ -3,7 +3,7 @@ use Rattle.std.specs.Prelude.{◌≡◌, ◌↔◌, ℕ, Option, List}
 use Rattle.origin_model.specs.declared.relay.Event.{Event}
 use Rattle.origin_model.specs.declared.relay.Reply.{Reply}
 use Rattle.origin_model.specs.relay.Relay.{Relay, RelayRuns, RelaySteps, new_relay}
-use Rattle.relay_core.specs.Texts.{TellsAll, Told, nothing_told}
+use Rattle.relay_core.specs.Texts.{TellsAll, LogWithTexts, nothing_told}
 
 -- there is exactly one new state and one reply, for an event and for events one after another
 pub record EventsComeOnce : Type 0 where
@@ -16,4 +16,4 @@ pub record EventsComeOnce : Type 0 where
 -- what a relay comes to is what the texts of its sessions say: the same log and the same replies, in whatever pieces they come, and whatever other sessions say in between
 pub record SessionsByWholeTexts : Type 0 where
   pub exactly : (limit : ℕ) (events : List Event) (log : List (List ℕ)) (replies : List (Option Reply))
-      → ((relay : Relay) × RelayRuns (new_relay limit) events relay replies × (relay.log ≡ log)) ↔ ((told : Told) × TellsAll limit nothing_told events told replies × (told.log ≡ log))
+      → ((relay : Relay) × RelayRuns (new_relay limit) events relay replies × (relay.log ≡ log)) ↔ ((told : LogWithTexts) × TellsAll limit nothing_told events told replies × (told.log ≡ log))

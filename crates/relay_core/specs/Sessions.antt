@@ -14,8 +14,8 @@ reading_of (Greeting bytes) = record { cursor = None; rest = bytes }
 reading_of (Messages cursor bytes) = record { cursor = Some cursor; rest = bytes }
 
 -- behind a whole message
-abbrev pub behind : ℕ → SessionReading
-behind cursor = record { cursor = Some cursor; rest = [] }
+abbrev pub behind_message : ℕ → SessionReading
+behind_message cursor = record { cursor = Some cursor; rest = [] }
 
 -- the session is closed with a reply, or goes on
 abbrev pub becomes : Option (List ℕ) → SessionReading → Next
@@ -32,9 +32,9 @@ session_kept n sessions (Some session) = finite.insert sessions n (reading_of se
 session_kept n sessions None = finite.remove sessions n
 
 -- the reply, where there is one
-abbrev pub listed : Option Reply → List Reply
-listed None = []
-listed (Some reply) = reply ∷ []
+abbrev pub reply_list : Option Reply → List Reply
+reply_list None = []
+reply_list (Some reply) = reply ∷ []
 
 -- the session that is kept, where it goes on
 abbrev pub KeepsSession : Option Session → Next → Type 0
@@ -43,4 +43,4 @@ KeepsSession kept (Closes bytes) = kept ≡ None
 
 -- whether the session is kept, and the replies
 abbrev pub SessionBecomes : ℕ → Next → Option Session → List Reply → Type 0
-SessionBecomes n next kept replies = KeepsSession kept next × (replies ≡ listed (reply_of n next))
+SessionBecomes n next kept replies = KeepsSession kept next × (replies ≡ reply_list (reply_of n next))

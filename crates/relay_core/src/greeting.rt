@@ -1,5 +1,5 @@
 ghost use Rattle.std.specs.Prelude.{◌≡◌, ◌≤◌, ◌<◌, ◌∷◌, ◌++◌, [], List, ℕ, length};
-ghost use Rattle.origin_model.specs.relay.Session.{greeted as greeted_as};
+ghost use Rattle.origin_model.specs.relay.Session.{greeting_read as greeted_as};
 ghost use Rattle.relay_core.specs.Greetings.{greets};
 ghost use Rattle.relay_core.specs.declared.greeting.Greeted.TheVariants.{Partly};
 

@@ -4,7 +4,7 @@ ghost use Rattle.origin_model.specs.declared.relay.Reply.{Reply as AnyReply};
 ghost use Rattle.origin_model.specs.relay.Relay.{StepsPiece};
 ghost use Rattle.origin_model.specs.relay.Session.{Goes, Taken, TakesAll};
 ghost use Rattle.relay_core.specs.Logs.{LogGrows, frames_in};
-ghost use Rattle.relay_core.specs.Sessions.{SessionBecomes, becomes, listed, reading_of, sessions_in};
+ghost use Rattle.relay_core.specs.Sessions.{SessionBecomes, becomes, reply_list, reading_of, sessions_in};
 
 use crate::log::Log;
 use crate::sessions::{Session, Sessions, copy_of, keep_or_close};
@@ -67,7 +67,7 @@ pub(crate) fn take_piece<B: BuildHasher>(
 ) -> Result<Vec<Reply>, NoMemory>
     requires room { length (frames_in log.old) ≤ limit }
     requires small { limit < 2 ^ 32 }
-    ensures ok { IfOk result (λ replies. (reply : Maybe AnyReply) × (replies.items ≡ listed reply)
+    ensures ok { IfOk result (λ replies. (reply : Maybe AnyReply) × (replies.items ≡ reply_list reply)
         × StepsPiece (record { limit = limit; log = frames_in log.old; sessions = sessions_in sessions.old }) n
         (finite.get (sessions_in sessions.old) n) piece.now
         (record { limit = limit; log = frames_in log.new; sessions = sessions_in sessions.new }) reply) }

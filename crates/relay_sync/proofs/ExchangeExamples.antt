@@ -7,7 +7,7 @@ use Rattle.origin_model.specs.declared.relay.Event.{Event}
 use Rattle.origin_model.specs.declared.relay.Event.TheVariants.{Gone, Opened, Piece}
 use Rattle.origin_model.specs.frames.Frames.{HasFrame}
 use Rattle.origin_model.specs.taking.Closure.{Taker}
-use Rattle.relay_sync.specs.Exchanges.{AreInterleaved, IsHonest, Sending, events_of, session_of}
+use Rattle.relay_sync.specs.Exchanges.{AreInterleaved, IsHonestRequest, Sending, events_of, session_of}
 
 -- a replica that holds nothing: its request is a greeting and the closing byte
 abbrev new_replica : Taker
@@ -22,7 +22,7 @@ last_bytes = 0 ∷ 0 ∷ 0x44 ∷ []
 abbrev sending : ℕ → Sending
 sending n = record { number = n; cursor = 0; replica = new_replica; pieces = first_bytes ∷ last_bytes ∷ []; unsent = [] }
 
-sends_whole : (n : ℕ) → IsHonest (sending n)
+sends_whole : (n : ℕ) → IsHonestRequest (sending n)
 sends_whole n = record { cursor_fits = omega arith; have_frames = All-nil HasFrame; joined = refl }
 
 -- the events of one number are its sessions
@@ -52,7 +52,7 @@ cut_short each = cc (each 1)
 abbrev broken_off : ℕ → Sending
 broken_off n = record { number = n; cursor = 0; replica = new_replica; pieces = first_bytes ∷ []; unsent = last_bytes }
 
-breaks_off : (n : ℕ) → IsHonest (broken_off n)
+breaks_off : (n : ℕ) → IsHonestRequest (broken_off n)
 breaks_off n = record { cursor_fits = omega arith; have_frames = All-nil HasFrame; joined = refl }
 
 sends_again : IsRow 1 (broken_off 1 ∷ sending 1 ∷ []) (Opened 1 ∷ Piece 1 first_bytes ∷ Gone 1 ∷ Opened 1 ∷ Piece 1 first_bytes ∷ Piece 1 last_bytes ∷ [])

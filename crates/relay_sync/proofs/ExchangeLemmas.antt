@@ -27,7 +27,7 @@ use Rattle.op_frame.proofs.ReadingLemmas.{same_front}
 use Rattle.relay_core.specs.OpLogs.{IsLogOf}
 use Rattle.relay_core.proofs.OpLogLemmas.{logs_are_of_operations}
 use Rattle.replica_core.specs.Keeping.{TakesIn}
-use Rattle.relay_sync.specs.Exchanges.{AllAreSent, HearersConverge, HearersHaveTheClosure, HearsLog, IsHonest, IsSentTo, LogsAreWhatWasSent, Sending, beginners, is_whole, senders}
+use Rattle.relay_sync.specs.Exchanges.{AllAreSent, HearersConverge, HearersHaveTheClosure, HearsLog, IsHonestRequest, IsSentTo, LogsAreWhatWasSent, Sending, beginners, is_whole, senders}
 use Rattle.relay_sync.specs.Outcomes.{Ended, ReadsReply}
 use Rattle.relay_sync.proofs.OutcomeLemmas.{reads_once}
 use Rattle.relay_sync.proofs.SentLemmas.{IsGathered, IsLogged, IsOfSent, IsTaken, gathered}
@@ -88,7 +88,7 @@ module _ (limit : ℕ) (sendings : List Sending) (relay : Relay) (sent : IsSentT
   GaveFramed s = All HasFrame (given_by s.replica)
 
   framed : All GaveFramed sendings
-  framed = All-weaker IsHonest GaveFramed (λ s h. h.have_frames) sendings sent.honest
+  framed = All-weaker IsHonestRequest GaveFramed (λ s h. h.have_frames) sendings sent.honest
 
   -- what the log has, was sent
   none_else : IsPartOf log_ops.0.0 begun

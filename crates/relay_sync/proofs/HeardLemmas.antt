@@ -14,7 +14,7 @@ use Rattle.outer_ports.specs.wire.Wires.{WireView}
 use Rattle.replica_core.specs.Keeping.{TakesIn, OpsTaking}
 use Rattle.origin_model.specs.edits.State.{State}
 use Rattle.replica_core.proofs.KeepingLemmas.{same_taking}
-use Rattle.relay_sync.specs.Outcomes.{AnswerIs, AnswersByReply, IsByReply, sync_answer, reply_end_of, BeginsWith, EndsReply, HeardTo, HeardUpTo, HearsTo, IsNoMessage, ReplyEnd, Ended, Refused as EndsRefused, Bad, Cut, TooLong as EndsTooLong, TooMany as EndsTooMany}
+use Rattle.relay_sync.specs.Outcomes.{AnswerIs, AnswersByReply, IsByReply, sync_answer, reply_end_of, BeginsBytes, EndsReply, HeardTo, HeardUpTo, HearsTo, IsNoMessage, ReplyEnd, Ended, Refused as EndsRefused, Bad, Cut, TooLong as EndsTooLong, TooMany as EndsTooMany}
 use Rattle.relay_sync.specs.Replies.{End, IsBroken, IsMessage, IsMessageFront, Message, Refusal}
 use Rattle.relay_sync.specs.Syncing.{HearsPartly, HearsReply, ReplyStopsFor, TakesNotAll}
 use Rattle.relay_sync.specs.declared.syncing.Synced.{Synced}
@@ -62,7 +62,7 @@ broken_is_none bytes behind b = record { none_begins = λ message p. by_fronts m
     reached message whole [] is all = b.no_message message (subst (IsMessage message) (all ∙ append-nil bytes) is)
     reached message whole (x ∷ c) is all = b.no_front (record { message = message; whole = whole; is_message = is; more = x ∷ c; lacks = omega arith; front = all })
 
-    by_fronts : (message : Message) (p : BeginsWith message (bytes ++ behind)) → Reaches bytes p.whole ⊎ FallsShort bytes p.whole → ⊥
+    by_fronts : (message : Message) (p : BeginsBytes message (bytes ++ behind)) → Reaches bytes p.whole ⊎ FallsShort bytes p.whole → ⊥
     by_fronts message p (inl r) = reached message p.whole r.between p.is_message r.is
     by_fronts message p (inr f) = gone_past message p.whole f.between p.is_message f.some f.is
 
@@ -104,7 +104,7 @@ module _ (before middle after : OpsTaking) (found : List Framed) (are : All (IsF
         take_past (heard ++ bytes) more STREAM_LIMIT (length (heard ++ bytes)) refl (omega (arith, within, length-append heard bytes))
         ∙ append_assoc heard bytes on
 
-    begins_on : (message : Message) → IsMessage message bytes → BeginsWith message (bytes ++ on)
+    begins_on : (message : Message) → IsMessage message bytes → BeginsBytes message (bytes ++ on)
     begins_on message is = record { whole = bytes; is_message = is; behind = on; split = refl }
 
     pub comes_to_end : (same : after ≡ middle) (count : ℕ) → IsMessage (End count) bytes → HearsTo ((heard ++ bytes) ++ more) before after (Ended count)

@@ -10,18 +10,18 @@ use Rattle.origin_model.specs.declared.grammar.Grammar.{Grammar}
 use Rattle.origin_model.specs.declared.grammar.Grammar.TheVariants.{Version2}
 use Rattle.origin_model.specs.frames.Frames.{IsPartial, Item, Single, Typed, frame, item_bytes}
 use Rattle.origin_model.specs.relay.Session.{refusal_message}
-use Rattle.op_frame.specs.FrameFronts.{IsGrown}
+use Rattle.op_frame.specs.FrameFronts.{IsFrameFront}
 use Rattle.op_frame.specs.declared.grown.Grown.{Grown}
 use Rattle.op_frame.specs.declared.grown.Grown.TheVariants.{Bad}
 use Rattle.op_frame.proofs.ToldLemmas.{prepend_none}
 use Rattle.outer_ports.specs.wire.Wires.{WireReads, WireView}
-use Rattle.relay_sync.specs.Replies.{End, Hears, IsBroken, IsCode, IsMessage, IsMessageFront, Message, Operations, Refusal, Stops, StopsIn, ending}
+use Rattle.relay_sync.specs.Replies.{End, HeardBytes, IsBroken, IsCode, IsMessage, IsMessageFront, Message, Operations, Refusal, StopsHearing, StopsIn, ending}
 use Rattle.relay_sync.specs.declared.syncing.SyncFault.{SyncFault}
 use Rattle.relay_sync.specs.declared.syncing.SyncFault.TheVariants.{BadReply, CutShort, NoMemory, RelayRefused, TooLong, TooMany, WireFault}
 use Rattle.fugue_ids.proofs.JoinLemmas.{prepend_twice}
 
 -- bytes behind bytes
-pub hears-append : (u v w : WireView) (a b : List ℕ) → Hears u v a → Hears v w b → Hears u w (a ++ b)
+pub hears-append : (u v w : WireView) (a b : List ℕ) → HeardBytes u v a → HeardBytes v w b → HeardBytes u w (a ++ b)
 hears-append u v w a b s t = record {
   heard = s.heard ∙ ap (prepend_known a) t.heard ∙ prepend_twice a b w.left;
   said = t.said ∙ s.said;
@@ -41,7 +41,7 @@ stops_in NoMemory u v w place bytes le room s = absurd s
 stops_in (RelayRefused code) u v w place bytes le room s = s
 stops_in (TooMany most) u v w place bytes le room s = s
 
-pub stops_behind : (fault : SyncFault) (u v w : WireView) (place : ℕ) (before bytes : List ℕ) → Hears u v bytes → Stops fault v w place (before ++ bytes) → Stops fault u w place before
+pub stops_behind : (fault : SyncFault) (u v w : WireView) (place : ℕ) (before bytes : List ℕ) → HeardBytes u v bytes → StopsHearing fault v w place (before ++ bytes) → StopsHearing fault u w place before
 stops_behind fault u v w place before bytes s t = record {
   bytes = bytes ++ t.bytes;
   hears = hears-append u v w bytes t.bytes s t.hears;
@@ -62,7 +62,7 @@ refusal_front = record { message = Refusal 1; whole = refusal_message 1; is_mess
 pub frame_front : (bytes : List ℕ) → IsPartial Version2 bytes → IsMessageFront bytes
 frame_front bytes p = record { message = Operations p.framed.ops; whole = p.framed.bytes; is_message = p.is_frame; more = p.more; lacks = p.lacks; front = p.front }
 
-pub hears_none : (wire : WireView) → Hears wire wire []
+pub hears_none : (wire : WireView) → HeardBytes wire wire []
 hears_none wire = record { heard = sym (prepend_none wire.left); said = refl; dials = refl; room = refl; later = omega arith; calm = λ sure. refl }
 
 -- with which byte a message begins
@@ -122,14 +122,14 @@ broken_code code none = record {
 }
 
 -- what the bytes are by the grammar of replies
-pub grown_in : (grown : Grown) (g : Grammar) (bytes : List ℕ) → g ≡ Version2 → IsGrown grown g bytes → IsGrown grown Version2 bytes
-grown_in grown g bytes same is = subst (λ (h : Grammar). IsGrown grown h bytes) same is
+pub grown_in : (grown : Grown) (g : Grammar) (bytes : List ℕ) → g ≡ Version2 → IsFrameFront grown g bytes → IsFrameFront grown Version2 bytes
+grown_in grown g bytes same is = subst (λ (h : Grammar). IsFrameFront grown h bytes) same is
 
 -- a byte with which no frame begins or goes on
-pub broken_frame : (first byte : ℕ) (front bytes : List ℕ) → first ≢ 0x55 → first ≢ 0x58 → front ++ byte ∷ [] ≡ first ∷ bytes → IsMessageFront front → IsGrown Bad Version2 (front ++ byte ∷ [])
+pub broken_frame : (first byte : ℕ) (front bytes : List ℕ) → first ≢ 0x55 → first ≢ 0x58 → front ++ byte ∷ [] ≡ first ∷ bytes → IsMessageFront front → IsFrameFront Bad Version2 (front ++ byte ∷ [])
     → IsBroken (first ∷ bytes)
 broken_frame first byte front bytes a b are was grown =
-    let none : IsGrown Bad Version2 (first ∷ bytes) = subst (IsGrown Bad Version2) are grown in
+    let none : IsFrameFront Bad Version2 (first ∷ bytes) = subst (IsFrameFront Bad Version2) are grown in
     record {
       before = front;
       byte = byte;
@@ -141,7 +141,7 @@ broken_frame first byte front bytes a b are was grown =
 
 -- a read that failed
 pub read_fails : {E : Type 0} (result : Result ℕ E) (e : E) (u v : WireView) (buf : List ℕ) (place : ℕ) (before : List ℕ) → result ≡ Err e → WireReads {E = E} u v result buf
-    → IsMessageFront before → Stops WireFault u v place before
+    → IsMessageFront before → StopsHearing WireFault u v place before
 read_fails {E} result e u v buf place before is reads front =
     let r : WireReads {E = E} u v (Err e) buf = subst (λ (x : Result ℕ E). WireReads {E = E} u v x buf) is reads in
     record {

@@ -10,14 +10,14 @@ use Rattle.fugue_ids.specs.declared.op.Op.{Op}
 use Rattle.origin_model.specs.declared.grammar.Grammar.TheVariants.{Version2}
 use Rattle.origin_model.specs.frames.Frames.{End as StreamEnd, Whole as EndsWhole, CutShort as EndsCutShort, BadFrame as EndsInBadFrame, EndsSo, Framed, IsFrame, Reads}
 use Rattle.origin_model.specs.relay.Session.{refusal_message}
-use Rattle.origin_model.specs.taking.Taking.{HasPlace, Held}
+use Rattle.origin_model.specs.taking.Taking.{MeetsNoLimit, Held}
 use Rattle.origin_model.proofs.SharedLemmas.{bytes_of, no_place_left, ops_of}
-use Rattle.op_frame.specs.Courses.{IntakeCourse, MeetsTooMany, Comes as StreamComes, Whole as StreamWhole, CutShort as StreamCut, BadFrame as StreamBad, TooLong as StreamLong, TooMany as StreamMany}
+use Rattle.op_frame.specs.Courses.{IntakeOutcome, MeetsTooMany, Comes as StreamComes, Whole as StreamWhole, CutShort as StreamCut, BadFrame as StreamBad, TooLong as StreamLong, TooMany as StreamMany}
 use Rattle.op_frame.proofs.CodeLemmas.{same_fronts}
 use Rattle.op_frame.proofs.CourseLemmas.{comes_once, comes_some}
 use Rattle.op_frame.proofs.FrontLemmas.{Front, bad_there, front_of, front_there as part_there, frame_there}
 use Rattle.op_frame.proofs.ReadingLemmas.{begins_not_partial, framed_some, same_front, starts_more}
-use Rattle.relay_sync.specs.Outcomes.{BeginsWith, IsNoMessage, EndsReply, EndsTaking, ReadsReply, ReplyComes, ReplyEnd, Ended, Refused as EndsRefused, Bad, Cut, TooLong, TooMany}
+use Rattle.relay_sync.specs.Outcomes.{BeginsBytes, IsNoMessage, EndsReply, EndsTaking, ReadsReply, ReplyComes, ReplyEnd, Ended, Refused as EndsRefused, Bad, Cut, TooLong, TooMany}
 use Rattle.relay_sync.specs.Replies.{End, IsCode, IsMessage, IsMessageFront, Message, Operations, Refusal, ending}
 use Rattle.relay_sync.proofs.HearingLemmas.{IsLead, code_behind, frame_front, leads, no_bytes, number_front, other_is_frame, other_is_partial, refusal_front}
 use Rattle.fugue_ids.proofs.DecideLemmas.{both_decided, Decided, decided_by, equal_decided, less_decided}
@@ -51,11 +51,11 @@ same_message m n a b r s p q is = by_kind m n p q (leads m a r p) (subst (λ (l 
     by_kind (Refusal code) (Operations others) p q f g = absurd (omega (arith, f, g))
     by_kind (Refusal code) (End number) p q f g = absurd (omega (arith, f, g))
 
-begins_once : (m n : Message) (bytes : List ℕ) → BeginsWith m bytes → BeginsWith n bytes → m ≡ n
+begins_once : (m n : Message) (bytes : List ℕ) → BeginsBytes m bytes → BeginsBytes n bytes → m ≡ n
 begins_once m n bytes p q = (same_message m n p.whole q.whole p.behind q.behind p.is_message q.is_message (sym p.split ∙ q.split)).message
 
 -- bytes that begin with a message are no proper front of one
-pub begins_no_front : (m : Message) (bytes : List ℕ) → BeginsWith m bytes → IsMessageFront bytes → ⊥
+pub begins_no_front : (m : Message) (bytes : List ℕ) → BeginsBytes m bytes → IsMessageFront bytes → ⊥
 begins_no_front m bytes p f =
     let same = same_message m f.message p.whole f.whole (p.behind ++ f.more) [] p.is_message f.is_message
     (sym (append_assoc p.whole p.behind f.more) ∙ ap (λ (l : List ℕ). l ++ f.more) (sym p.split) ∙ sym f.front ∙ sym (append-nil f.whole)) in
@@ -63,7 +63,7 @@ begins_no_front m bytes p f =
 
 -- what stands at the front of any bytes: a message, a proper front of one, or neither
 pub data Stand (bytes : List ℕ) : Type 0 where
-  message_there : (message : Message) → BeginsWith message bytes → Stand bytes
+  message_there : (message : Message) → BeginsBytes message bytes → Stand bytes
   front_there : IsMessageFront bytes → Stand bytes
   none_there : IsNoMessage bytes → Stand bytes
 
@@ -131,7 +131,7 @@ end_by place fits (front_there p) = front_end place fits
 end_by place fits (none_there p) = Bad place
 
 module _ (size place : ℕ) (rest : List ℕ) where
-  by_message : (message : Message) (fits : (size ≤ STREAM_LIMIT) ⊎ (STREAM_LIMIT < size)) (stand : Stand rest) → BeginsWith message rest → end_at message ≡ end_by place fits stand
+  by_message : (message : Message) (fits : (size ≤ STREAM_LIMIT) ⊎ (STREAM_LIMIT < size)) (stand : Stand rest) → BeginsBytes message rest → end_at message ≡ end_by place fits stand
   by_message message fits (message_there other q) p = ap end_at (begins_once message other rest p q)
   by_message message fits (front_there q) p = absurd (begins_no_front message rest p q)
   by_message message fits (none_there q) p = absurd (q.none_begins message p)
@@ -164,7 +164,7 @@ module _ (size place : ℕ) (rest : List ℕ) where
   end_is TooMany fits stand e = absurd e
 
   -- a frame ends nothing
-  not_ended : (end : ReplyEnd) (ops : List Op) → EndsReply size place rest end → BeginsWith (Operations ops) rest → ⊥
+  not_ended : (end : ReplyEnd) (ops : List Op) → EndsReply size place rest end → BeginsBytes (Operations ops) rest → ⊥
   not_ended (Ended count) ops e p =
       let same : End count ≡ Operations ops = begins_once (End count) (Operations ops) rest e p in
       cc same
@@ -177,7 +177,7 @@ module _ (size place : ℕ) (rest : List ℕ) where
   not_ended TooMany ops e p = e
 
 -- the first of some frames is the message that stands there
-first_there : (f : Framed) (fs : List Framed) (b rest : List ℕ) → All (IsFrame Version2) (f ∷ fs) → b ≡ bytes_of (f ∷ fs) ++ rest → BeginsWith (Operations f.ops) b
+first_there : (f : Framed) (fs : List Framed) (b rest : List ℕ) → All (IsFrame Version2) (f ∷ fs) → b ≡ bytes_of (f ∷ fs) ++ rest → BeginsBytes (Operations f.ops) b
 first_there f fs b rest are is = record {
   whole = f.bytes;
   is_message = All-head (IsFrame Version2) f fs are;
@@ -245,14 +245,14 @@ module _ (hold most : ℕ) (start : Held) (bytes : List ℕ) where
   read_or_met ops TooMany e = inr (refl, e)
 
   -- where all finds its place, no operation is one too many
-  not_both : (ops others : List Op) (end : ReplyEnd) → HasPlace hold most start ops → ReadsReply bytes ops end → MeetsTooMany Version2 hold most start (take STREAM_LIMIT bytes) others → ⊥
+  not_both : (ops others : List Op) (end : ReplyEnd) → MeetsNoLimit hold most start ops → ReadsReply bytes ops end → MeetsTooMany Version2 hold most start (take STREAM_LIMIT bytes) others → ⊥
   not_both ops others end places q m =
       let s = starts_more Version2 (take STREAM_LIMIT bytes) m.earlier m.rest m.framed m.behind m.starts m.begins in
       let first = first_frames (length bytes) m.behind q.rest s.found q.found (length (bytes_of q.found)) end s.are_frames q.are_frames q.ends (sym s.split ∙ q.split) in
       let all : ops ≡ others ++ m.op ∷ (m.more ++ first.0) =
       q.ops_are ∙ first.1 ∙ ap (λ (l : List Op). l ++ first.0) (sym s.ops_are ∙ ap (λ (l : List Op). m.earlier ++ l) m.brings) ∙ regroup m.earlier m.front m.op m.more first.0
       ∙ ap (λ (l : List Op). l ++ m.op ∷ (m.more ++ first.0)) (sym m.taken) in
-      no_place_left hold most start others (m.more ++ first.0) m.op (subst (HasPlace hold most start) all places) m.refused
+      no_place_left hold most start others (m.more ++ first.0) m.op (subst (MeetsNoLimit hold most start) all places) m.refused
     where
       regroup : (a b : List Op) (x : Op) (c d : List Op) → (a ++ (b ++ x ∷ c)) ++ d ≡ (a ++ b) ++ x ∷ (c ++ d)
       regroup a b x c d = simp append_assoc
@@ -271,7 +271,7 @@ module _ (hold most : ℕ) (start : Held) (bytes : List ℕ) where
           (same.0, a.0 ∙ sym b.0)
 
   -- no frame stands where a stream of frames ends
-  no_frame_at : (rest : List ℕ) (place : ℕ) (end : StreamEnd) (ops : List Op) → EndsSo Version2 rest place end → BeginsWith (Operations ops) rest → ⊥
+  no_frame_at : (rest : List ℕ) (place : ℕ) (end : StreamEnd) (ops : List Op) → EndsSo Version2 rest place end → BeginsBytes (Operations ops) rest → ⊥
   no_frame_at rest place EndsWhole ops ends p =
       omega (arith, framed_some Version2 (record { bytes = p.whole; ops = ops }) p.is_message, ap length (sym ends ∙ p.split), length-append p.whole p.behind)
   no_frame_at rest place (EndsCutShort k) ops ends p =
@@ -296,7 +296,7 @@ module _ (hold most : ℕ) (start : Held) (bytes : List ℕ) where
       by_stand (message_there (Refusal code) p) fits = ended (EndsRefused code) p
       by_stand (message_there (Operations brought) p) fits = absurd (no_frame_at r.rest place end brought r.ends p)
 
-  plainly : (ops : List Op) (end : StreamEnd) → HasPlace hold most start ops → Reads Version2 (take STREAM_LIMIT bytes) ops end
+  plainly : (ops : List Op) (end : StreamEnd) → MeetsNoLimit hold most start ops → Reads Version2 (take STREAM_LIMIT bytes) ops end
       → (ops : List Op) × (end : ReplyEnd) × ReplyComes hold most start bytes ops end
   plainly ops end places reads = let r = reading ops end reads in (ops, r.0, record { has_place = places; ends = by_reading ops r.0 r.1 })
 
@@ -307,7 +307,7 @@ module _ (hold most : ℕ) (start : Held) (bytes : List ℕ) where
       whole : (ops : List Op) (end : StreamEnd) → length bytes ≤ STREAM_LIMIT → Reads Version2 bytes ops end → Reads Version2 (take STREAM_LIMIT bytes) ops end
       whole ops end fits reads = subst (λ (b : List ℕ). Reads Version2 b ops end) (sym (take_all STREAM_LIMIT bytes fits)) reads
 
-      by_course : (ops : List Op) (course : IntakeCourse) → StreamComes Version2 hold most start STREAM_LIMIT bytes ops course → (ops : List Op) × (end : ReplyEnd) × ReplyComes hold most start bytes ops end
+      by_course : (ops : List Op) (course : IntakeOutcome) → StreamComes Version2 hold most start STREAM_LIMIT bytes ops course → (ops : List Op) × (end : ReplyEnd) × ReplyComes hold most start bytes ops end
       by_course ops StreamMany c = (ops, TooMany, record { has_place = c.has_place; ends = c.ends })
       by_course ops StreamWhole c = plainly ops EndsWhole c.has_place (whole ops EndsWhole c.ends.0 c.ends.1)
       by_course ops (StreamCut k) c = plainly ops (EndsCutShort k) c.has_place (whole ops (EndsCutShort k) c.ends.0 c.ends.1)

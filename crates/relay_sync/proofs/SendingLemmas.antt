@@ -7,8 +7,8 @@ use Rattle.fugue_ids.specs.Outs.{IsSure, OutView, Took, TookFront}
 use Rattle.fugue_ids.proofs.JoinLemmas.{call_grows, took_none}
 use Rattle.origin_model.specs.declared.relay.Reply.{Reply}
 use Rattle.outer_ports.specs.declared.dock.DockStep.{DockStep}
-use Rattle.outer_ports.specs.declared.dock.mem_dock.MemStep.{MemStep}
-use Rattle.outer_ports.specs.dock.Docks.{DockView, Ends, Sends, Takes, ended_behind, out_to}
+use Rattle.outer_ports.specs.declared.dock.MemStep.{MemStep}
+use Rattle.outer_ports.specs.dock.Docks.{DockView, EndsSession, Sends, Takes, ended_behind, out_to}
 use Rattle.outer_ports.specs.dock.Steps.{with_bytes}
 use Rattle.relay_sync.specs.Sending.{GivesSteps, LastsFor, Replied, RepliedPartly, SendsText}
 use Rattle.relay_sync.specs.Serving.{bytes_to, closed_by, ends_behind, Spends}
@@ -91,7 +91,7 @@ replied_on {E} {T} x u v reply on s = record {
 
 -- or is ended
 pub replied_ended : {E T F S : Type 0} (x : T) (y : S) (u v w : DockView) (reply : Reply) → reply.closes ≡ true → SendsText {E = E} {T = T} u v (Ok x) reply.session reply.bytes
-    → Ends {E = F} {T = S} v w (Ok y) reply.session → Replied u w (Some reply)
+    → EndsSession {E = F} {T = S} v w (Ok y) reply.session → Replied u w (Some reply)
 replied_ended {E} {T} {F} {S} x y u v w reply closes s t = record {
   sent = each Took u w reply
       (record { written = t.nothing_sent.sent reply.session ∙ s.writes.ok.written; room = t.nothing_sent.room reply.session ∙ s.writes.ok.room })
@@ -121,7 +121,7 @@ replied_front {E} {T} e u v reply s = record {
 
 -- or as its session was to be ended
 pub replied_open : {E T F S : Type 0} (x : T) (f : F) (u v w : DockView) (reply : Reply) → SendsText {E = E} {T = T} u v (Ok x) reply.session reply.bytes
-    → Ends {E = F} {T = S} v w (Err f) reply.session → reply.closes ≡ true → RepliedPartly DockFault u w (Some reply)
+    → EndsSession {E = F} {T = S} v w (Err f) reply.session → reply.closes ≡ true → RepliedPartly DockFault u w (Some reply)
 replied_open {E} {T} {F} {S} x f u v w reply s t closes = record {
   sent = each TookFront u w reply
       (front_whole (out_to reply.session u) (out_to reply.session w) reply.bytes

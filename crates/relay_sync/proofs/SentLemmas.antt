@@ -30,9 +30,9 @@ use Rattle.origin_model.specs.taking.Closure.{given_by, given_by_all, taker_stat
 use Rattle.origin_model.proofs.SharedLemmas.{bytes_of, has-append, hello, one_kind, ops_of}
 use Rattle.op_frame.proofs.CodeLemmas.{same_fronts}
 use Rattle.op_frame.proofs.ReadingLemmas.{begins_not_partial, framed_some, frames_once, same_front}
-use Rattle.relay_core.specs.Texts.{Beyond, Closed, Follows, Foreign, Greets, HasCome, IsCourse, IsGreetingFront, NoGreeting, OneTooMany, Says, SessionText, Speaks, Stands, Tells, TellsAll, TellsPiece, TellsTo, Texts, Told, Unfinished, log_behind, nothing_told, reply_to_text, reply_with, texts_behind, with_op, with_ops}
+use Rattle.relay_core.specs.Texts.{Beyond, Closed, FollowsFrames, Foreign, Greets, HasCome, IsCourse, IsGreetingFront, NoGreeting, OneTooMany, SaysCursor, SessionText, Speaks, StandsInText, Tells, TellsAll, TellsPiece, TellsTo, OpenTexts, LogWithTexts, Unfinished, log_behind, nothing_told, reply_to_text, reply_with, texts_behind, with_op, log_with_ops}
 use Rattle.relay_core.proofs.TellingLemmas.{sessions_by_whole_texts}
-use Rattle.relay_sync.specs.Exchanges.{AreInterleaved, IsHonest, NoneRefused, Sending, beginners, events_of, gone_with, is_whole, session_of}
+use Rattle.relay_sync.specs.Exchanges.{AreInterleaved, IsHonestRequest, NoneRefused, Sending, beginners, events_of, gone_with, is_whole, session_of}
 use Rattle.relay_sync.specs.Saying.{request_for}
 use Rattle.relay_sync.proofs.TwoEndsLemmas.{Asked, asked}
 
@@ -108,7 +108,7 @@ behind_number : (n k m l : List ℕ) → length n ≡ 4 → length k ≡ 4 → g
 behind_number n k m l four too e = let tails : n ++ m ≡ k ++ l = cc e in (same_fronts n k m l (four ∙ sym too) tails).1
 
 -- a text with a whole greeting is longer than a front of one
-said_long : (text : List ℕ) (cursor : ℕ) (ops : List Op) (rest : List ℕ) → Says text cursor ops rest → 5 ≤ length text
+said_long : (text : List ℕ) (cursor : ℕ) (ops : List Op) (rest : List ℕ) → SaysCursor text cursor ops rest → 5 ≤ length text
 said_long text cursor ops rest says = omega (arith, ap length says.text_is, says.four_bytes, length-append says.number says.messages)
 
 front_short : (text : List ℕ) → IsGreetingFront text → length text < 5
@@ -121,13 +121,13 @@ same_come text a b (inl x) (inl y) = x.1 ∙ sym y.1
 same_come text a b (inl x) (inr y) = absurd (omega (arith, said_long text y.0 b y.1 y.2, front_short text x.0))
 same_come text a b (inr x) (inl y) = absurd (omega (arith, said_long text x.0 a x.1 x.2, front_short text y.0))
 same_come text a b (inr x) (inr y) =
-    let s : Says text x.0 a x.1 = x.2 in
-    let t : Says text y.0 b y.1 = y.2 in
+    let s : SaysCursor text x.0 a x.1 = x.2 in
+    let t : SaysCursor text y.0 b y.1 = y.2 in
     let same : s.messages ≡ t.messages = behind_number s.number t.number s.messages t.messages s.four_bytes t.four_bytes (sym s.text_is ∙ t.text_is) in
     s.starts.ops_are ∙ same_said s.starts.found t.starts.found x.1 y.1 s.starts.are_frames t.starts.are_frames x.3 y.3 (sym s.starts.split ∙ same ∙ t.starts.split) ∙ sym t.starts.ops_are
 
 -- a text that begins a request, and what it says
-module _ (s : Sending) (honest : IsHonest s) where
+module _ (s : Sending) (honest : IsHonestRequest s) where
   own_request : Asked s.cursor (taker_state s.replica)
   own_request = asked s.cursor (taker_state s.replica) honest.have_frames
 
@@ -136,7 +136,7 @@ module _ (s : Sending) (honest : IsHonest s) where
       let five : length (hello s.cursor) ≡ 5 = refl in
       omega (arith, five, ap length own_request.bytes_are, length-append (hello s.cursor ++ bytes_of own_request.found) closing, length-append (hello s.cursor) (bytes_of own_request.found))
 
-  said_of : (text left : List ℕ) (cursor : ℕ) (ops : List Op) (rest : List ℕ) → text ++ left ≡ request_for s.cursor (taker_state s.replica) → Says text cursor ops rest → IsLeft (given_by s.replica) ops rest left
+  said_of : (text left : List ℕ) (cursor : ℕ) (ops : List Op) (rest : List ℕ) → text ++ left ≡ request_for s.cursor (taker_state s.replica) → SaysCursor text cursor ops rest → IsLeft (given_by s.replica) ops rest left
   said_of text left cursor ops rest e says =
       let found : List Framed = own_request.found in
       let four : length (to_be_bytes w32 s.cursor) ≡ 4 = refl in
@@ -164,7 +164,7 @@ logged_then log op own t = elim (is_logged log (frame op)) as (λ b. is_logged (
   | false ↦ list_any-append (pointwise nat_eq own) log (frame op ∷ []) ∙ or_left (is_logged log own) (is_logged (frame op ∷ []) own) t
 ]
 
-logged_later : (log : List (List ℕ)) (ops : List Op) (own : List ℕ) → is_logged log own ≡ true → is_logged (with_ops log ops) own ≡ true
+logged_later : (log : List (List ℕ)) (ops : List Op) (own : List ℕ) → is_logged log own ≡ true → is_logged (log_with_ops log ops) own ≡ true
 logged_later log [] own t = t
 logged_later log (op ∷ ops) own t = logged_later (with_op log op) ops own (logged_then log op own t)
 
@@ -178,10 +178,10 @@ own_logged log op =
           (list_any-append (pointwise nat_eq own) log (own ∷ []) ∙ or_right (is_logged log own) (is_logged (own ∷ []) own) (or_left (pointwise nat_eq own own) false (nat_list_eq_equiv.refl own)))
     ]
 
-all_logged : (log : List (List ℕ)) (ops : List Op) → All (IsLogged (with_ops log ops)) ops
+all_logged : (log : List (List ℕ)) (ops : List Op) → All (IsLogged (log_with_ops log ops)) ops
 all_logged log [] = All-nil (IsLogged log)
 all_logged log (op ∷ ops) =
-    All-cons (IsLogged (with_ops (with_op log op) ops)) op ops (logged_later (with_op log op) ops (frame op) (own_logged log op)) (all_logged (with_op log op) ops)
+    All-cons (IsLogged (log_with_ops (with_op log op) ops)) op ops (logged_later (with_op log op) ops (frame op) (own_logged log op)) (all_logged (with_op log op) ops)
 
 -- the frame is that of an operation that was sent
 pub record IsOfSent (sent : List Op) (own : List ℕ) : Type 0 where
@@ -195,7 +195,7 @@ sent_then sent log op is all = elim (is_logged log (frame op)) as (λ b. All (Is
   | false ↦ All-append (IsOfSent sent) log (frame op ∷ []) all (All-cons (IsOfSent sent) (frame op) [] (record { op = op; is_sent = is; own_is = refl }) (All-nil (IsOfSent sent)))
 ]
 
-sent_later : (sent : List Op) (log : List (List ℕ)) (ops : List Op) → All (λ op. has_op sent op ≡ true) ops → All (IsOfSent sent) log → All (IsOfSent sent) (with_ops log ops)
+sent_later : (sent : List Op) (log : List (List ℕ)) (ops : List Op) → All (λ op. has_op sent op ≡ true) ops → All (IsOfSent sent) log → All (IsOfSent sent) (log_with_ops log ops)
 sent_later sent log [] are all = all
 sent_later sent log (op ∷ ops) are all =
     sent_later sent (with_op log op) ops (All-tail (λ o. has_op sent o ≡ true) op ops are) (sent_then sent log op (All-head (λ o. has_op sent o ≡ true) op ops are) all)
@@ -249,7 +249,7 @@ abbrev to_come : ℕ → List (List ℕ) → (unsent : List ℕ) → (todo : Lis
 to_come n pieces unsent todo = pieces_to n pieces ++ (gone_with n unsent ++ flat_map events_of todo)
 
 -- an event of the session, and how the log and the text of the session go on
-module _ (sendings : List Sending) (honest : All IsHonest sendings) where
+module _ (sendings : List Sending) (honest : All IsHonestRequest sendings) where
   abbrev sent : List Op
   sent = given_by_all (beginners sendings)
 
@@ -326,7 +326,7 @@ module _ (sendings : List Sending) (honest : All IsHonest sendings) where
           let first : Opened n ≡ Opened s.number = cc e in
           let same : n ≡ s.number = cc first in
           let rest : mine ≡ (pieces_to s.number s.pieces ++ gone_with s.number s.unsent) ++ flat_map events_of todo = cc e in
-          let w : IsHonest s = now_among n a.done s todo is IsHonest honest in (
+          let w : IsHonestRequest s = now_among n a.done s todo is IsHonestRequest honest in (
             a.none,
             inr (record {
               so_far = [];
@@ -381,8 +381,8 @@ module _ (sendings : List Sending) (honest : All IsHonest sendings) where
     abbrev text : List ℕ
     text = old ++ piece
 
-    w : IsHonest now
-    w = now_among n done now todo is IsHonest honest
+    w : IsHonestRequest now
+    w = now_among n done now todo is IsHonestRequest honest
 
     -- the text goes on
     goes_on : (log_now : List (List ℕ)) → HasAll log log_now → 0 < length (to_say pieces now) → ((ops : List Op) → HasCome text ops → All (IsLogged log_now) ops) → Along n log_now (Some text) mine
@@ -416,7 +416,7 @@ module _ (sendings : List Sending) (honest : All IsHonest sendings) where
         l = said_of now w text (to_say pieces now) cursor (before ++ new) rest request c.0
 
         log_now : List (List ℕ)
-        log_now = with_ops log new
+        log_now = log_with_ops log new
 
         more : HasAll log log_now
         more own t = logged_later log new own t
@@ -429,7 +429,7 @@ module _ (sendings : List Sending) (honest : All IsHonest sendings) where
             all_behind (λ op. has_op sent op ≡ true) before new
             (all_before (λ op. has_op sent op ≡ true) (before ++ new) (ops_of l.later) (subst (All (λ op. has_op sent op ≡ true)) l.sent_are (now_among n done now todo is (GaveOf sent) (all_gave sendings))))
 
-        by : (follows : Follows) → Stands follows limit log_now rest → IsNoRefusal (reply_with n (reply_to_text (Speaks cursor new rest follows) log))
+        by : (follows : FollowsFrames) → StandsInText follows limit log_now rest → IsNoRefusal (reply_with n (reply_to_text (Speaks cursor new rest follows) log))
             → Comes n log text mine (log_behind (Speaks cursor new rest follows) log) (reply_to_text (Speaks cursor new rest follows) log)
         by Unfinished partial good = record {
           along = goes_on log_now more (something_left l.later rest (to_say pieces now) l.are partial l.bytes_are)
@@ -463,12 +463,12 @@ module _ (sendings : List Sending) (honest : All IsHonest sendings) where
   of_session n events = filter (λ event. nat_eq (session_of event) n) events
 
   -- where a relay stands, with the events that are left
-  record IsOn (told : Told) (events : List Event) : Type 0 where
+  record IsOn (told : LogWithTexts) (events : List Event) : Type 0 where
     along : (n : ℕ) → Along n told.log (finite.get told.texts n) (of_session n events)
     within : All (IsOfSent sent) told.log
 
   -- only one session goes on
-  module _ (old new : Told) (event : Event) (events : List Event) (on : IsOn old (event ∷ events)) where
+  module _ (old new : LogWithTexts) (event : Event) (events : List Event) (on : IsOn old (event ∷ events)) where
     abbrev at : ℕ
     at = session_of event
 
@@ -486,26 +486,26 @@ module _ (sendings : List Sending) (honest : All IsHonest sendings) where
             subst (λ b. Along n old.log (finite.get old.texts n) (cond b (event ∷ of_session n events) (of_session n events))) f (on.along n) in
             along_later n old.log new.log (finite.get new.texts n) (of_session n events) more (subst (λ (t : Option (List ℕ)). Along n old.log t (of_session n events)) (sym (others n other)) past)
 
-  inserted_here : (texts : Texts) (n : ℕ) (text : List ℕ) → finite.get (finite.insert texts n text) n ≡ Some text
+  inserted_here : (texts : OpenTexts) (n : ℕ) (text : List ℕ) → finite.get (finite.insert texts n text) n ≡ Some text
   inserted_here texts n text = get-insert nat_cmp_total texts n text n ∙ ap (λ b. cond b (Some text) (finite.get texts n)) (nat_at-same n)
 
-  inserted_other : (texts : Texts) (k : ℕ) (text : List ℕ) (n : ℕ) → k ≢ n → finite.get (finite.insert texts k text) n ≡ finite.get texts n
+  inserted_other : (texts : OpenTexts) (k : ℕ) (text : List ℕ) (n : ℕ) → k ≢ n → finite.get (finite.insert texts k text) n ≡ finite.get texts n
   inserted_other texts k text n other = get-insert nat_cmp_total texts k text n ∙ ap (λ b. cond b (Some text) (finite.get texts n)) (nat_at-other n k other)
 
-  behind_here : (texts : Texts) (n : ℕ) (text : List ℕ) (answer : Option (List ℕ)) → finite.get (texts_behind n texts text answer) n ≡ text_left text answer
+  behind_here : (texts : OpenTexts) (n : ℕ) (text : List ℕ) (answer : Option (List ℕ)) → finite.get (texts_behind n texts text answer) n ≡ text_left text answer
   behind_here texts n whole None = inserted_here texts n whole
   behind_here texts n whole (Some bytes) = get-remove nat_cmp_total texts n n ∙ ap (λ b. cond b None (finite.get texts n)) (nat_at-same n)
 
-  behind_other : (texts : Texts) (k : ℕ) (text : List ℕ) (answer : Option (List ℕ)) (n : ℕ) → k ≢ n → finite.get (texts_behind k texts text answer) n ≡ finite.get texts n
+  behind_other : (texts : OpenTexts) (k : ℕ) (text : List ℕ) (answer : Option (List ℕ)) (n : ℕ) → k ≢ n → finite.get (texts_behind k texts text answer) n ≡ finite.get texts n
   behind_other texts k whole None n other = inserted_other texts k whole n other
   behind_other texts k whole (Some bytes) n other = get-remove nat_cmp_total texts k n ∙ ap (λ b. cond b None (finite.get texts n)) (nat_at-other n k other)
 
   -- an event goes on so
-  step_on : (limit : ℕ) (old new : Told) (event : Event) (events : List Event) (reply : Option Reply) → Tells limit old event new reply → IsNoRefusal reply → IsOn old (event ∷ events) → IsOn new events
+  step_on : (limit : ℕ) (old new : LogWithTexts) (event : Event) (events : List Event) (reply : Option Reply) → Tells limit old event new reply → IsNoRefusal reply → IsOn old (event ∷ events) → IsOn new events
   step_on limit old new (Opened n) events reply t good on =
       let begun = opened_along n old.log (finite.get old.texts n) (of_session n events) (here old new (Opened n) events on) in
-      let texts_are : new.texts ≡ finite.insert old.texts n [] = ap (λ (u : Told). u.texts) t.0 ∙ ap (λ o. if is_some o then old.texts else finite.insert old.texts n []) begun.0 in
-      let log_is : new.log ≡ old.log = ap (λ (u : Told). u.log) t.0 in
+      let texts_are : new.texts ≡ finite.insert old.texts n [] = ap (λ (u : LogWithTexts). u.texts) t.0 ∙ ap (λ o. if is_some o then old.texts else finite.insert old.texts n []) begun.0 in
+      let log_is : new.log ≡ old.log = ap (λ (u : LogWithTexts). u.log) t.0 in
       others_on old new (Opened n) events on (λ own l. ap (λ k. is_logged k own) log_is ∙ l) (subst (All (IsOfSent sent)) (sym log_is) on.within)
       (λ k other. ap (λ u. finite.get u k) texts_are ∙ inserted_other old.texts n [] k other)
       (subst (λ l. Along n l (finite.get new.texts n) (of_session n events)) (sym log_is)
@@ -548,7 +548,7 @@ module _ (sendings : List Sending) (honest : All IsHonest sendings) where
       by : (text : Option (List ℕ)) → finite.get old.texts n ≡ text → Along n old.log text (Piece n bytes ∷ mine) → TellsTo limit old n text bytes new reply → IsOn new events
       by None is (inl a) h =
           let same : old ≡ new = sym h.0 in
-          subst (λ (u : Told). IsOn u events) same
+          subst (λ (u : LogWithTexts). IsOn u events) same
           (others_on old old (Piece n bytes) events on (λ own l. l) on.within (λ k other. refl) (subst (λ (o : Option (List ℕ)). Along n old.log o mine) (sym is) (inl (idle_piece n bytes old.log mine a))))
       by None is (inr b) h = cc b.some
       by (Some text) is (inl a) h = cc a.none
@@ -559,10 +559,10 @@ module _ (sendings : List Sending) (honest : All IsHonest sendings) where
       mine = of_session n events
 
       texts_are : new.texts ≡ finite.remove old.texts n
-      texts_are = ap (λ (u : Told). u.texts) t.0
+      texts_are = ap (λ (u : LogWithTexts). u.texts) t.0
 
       log_is : new.log ≡ old.log
-      log_is = ap (λ (u : Told). u.log) t.0
+      log_is = ap (λ (u : LogWithTexts). u.log) t.0
 
       closed_on : Along n old.log None mine → IsOn new events
       closed_on a =
@@ -597,8 +597,8 @@ module _ (sendings : List Sending) (honest : All IsHonest sendings) where
       by (inr b) = broken_off (finite.get old.texts n) b b.pieces b.now.unsent refl b.more b.events_are
 
   -- and so to the end
-  run_on : (limit : ℕ) (old new : Told) (events : List Event) (replies : List (Option Reply)) → TellsAll limit old events new replies → NoneRefused replies → IsOn old events → IsOn new []
-  run_on limit old new [] replies t good on = subst (λ (u : Told). IsOn u []) (sym t.0) on
+  run_on : (limit : ℕ) (old new : LogWithTexts) (events : List Event) (replies : List (Option Reply)) → TellsAll limit old events new replies → NoneRefused replies → IsOn old events → IsOn new []
+  run_on limit old new [] replies t good on = subst (λ (u : LogWithTexts). IsOn u []) (sym t.0) on
   run_on limit old new (event ∷ events) replies t good on =
       let goods : NoneRefused (t.1 ∷ t.2) = subst NoneRefused t.5 good in
       run_on limit t.0 new events t.2 t.4 (All-tail IsNoRefusal t.1 t.2 goods) (step_on limit old t.0 event events t.1 t.3 (All-head IsNoRefusal t.1 t.2 goods) on)
@@ -635,7 +635,7 @@ module _ (sendings : List Sending) (honest : All IsHonest sendings) where
       let told = (sessions_by_whole_texts.exactly limit events relay.log replies).0 (relay, runs, refl) in
       let on : IsOn told.0 [] = run_on limit nothing_told told.0 events replies told.1 good (begun_on events each) in
       let own : All (λ (s : Sending). IsTaken told.0.log s) sendings =
-      all_weaker_at IsHonest (IsTaken told.0.log) sendings (λ s among w.
+      all_weaker_at IsHonestRequest (IsTaken told.0.log) sendings (λ s among w.
       All-contains (λ (x : Sending). nat_eq x.number s.number ≡ true → IsTaken told.0.log x) sendings s
       (all_from_filter (λ (x : Sending). nat_eq x.number s.number) (IsTaken told.0.log) sendings (all_done s.number told.0.log (finite.get told.0.texts s.number) (on.along s.number)))
       among (eq-eqb s.number s.number refl)) honest in

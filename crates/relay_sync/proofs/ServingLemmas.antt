@@ -6,15 +6,15 @@ use Rattle.std.proofs.str.Laws.{order}
 use Rattle.std.proofs.Math.Seq.{take-append-add, take-append_seam}
 use Rattle.std.proofs.lemmas.List.{append-nil, map-append, take-append-le, take_all}
 use Rattle.std.proofs.lemmas.List.Concat.{flat_map-append}
-use Rattle.fugue_ids.specs.Outs.{OutView, spent, Took, TookFront}
+use Rattle.fugue_ids.specs.Outs.{OutView, room_after, Took, TookFront}
 use Rattle.fugue_ids.proofs.JoinLemmas.{append_known-twice, took_joins, took_none}
 use Rattle.origin_model.specs.declared.relay.Reply.{Reply}
 use Rattle.origin_model.specs.relay.Relay.{Relay, RelayRuns, RelaySteps}
 use Rattle.origin_model.proofs.SharedLemmas.{runs-append, step_runs}
 use Rattle.outer_ports.specs.dock.Docks.{DockView, SendsNothing, TakesNothing, out_to}
-use Rattle.outer_ports.specs.declared.dock.mem_dock.MemStep.{MemStep}
+use Rattle.outer_ports.specs.declared.dock.MemStep.{MemStep}
 use Rattle.relay_sync.specs.Sending.{GivesSteps, LastsFor, Replied, RepliedPartly}
-use Rattle.relay_sync.specs.Serving.{Comes, ended_in, ended_with, GaveSteps, HasRoomFor, Lasts, NoneAfter, Serves, ServesPartly, ServingStops, Spends, ends_behind, Turn, TurnStops, bytes_to, closed_by, closed_in, count_over, event_of, over_after, replies_of, sent_to, steps_of}
+use Rattle.relay_sync.specs.Serving.{HaveCome, ended_in, ended_with, GaveSteps, HasRoomFor, Lasts, NoneAfter, Serves, ServesPartly, ServingStops, Spends, ends_behind, ServedStep, TurnStops, bytes_to, closed_by, closed_in, count_over, event_of, over_after, replies_of, sent_to, steps_of}
 use Rattle.relay_sync.specs.declared.serving.ServeFault.{ServeFault}
 use Rattle.relay_sync.specs.declared.serving.ServeFault.TheVariants.{DockFault, NoMemory, TooLong}
 use Rattle.relay_sync.proofs.SendingLemmas.{ends_none, grows_none, sure_is}
@@ -24,8 +24,8 @@ grows_twice : {T : Type 0} (known : Option (List T)) (a b : List T) → option_m
 grows_twice None a b = refl
 grows_twice (Some xs) a b = ap Some (append_assoc xs a b)
 
-comes-append : (a b c : Option (List MemStep)) (xs ys : List MemStep) → Comes a xs b → Comes b ys c → Comes a (xs ++ ys) c
-comes-append a b c [] ys h i = subst (λ s. Comes s ys c) h i
+comes-append : (a b c : Option (List MemStep)) (xs ys : List MemStep) → HaveCome a xs b → HaveCome b ys c → HaveCome a (xs ++ ys) c
+comes-append a b c [] ys h i = subst (λ s. HaveCome s ys c) h i
 comes-append a b c (x ∷ xs) ys h i = (h.0, h.1, comes-append h.0 b c xs ys h.2 i)
 
 -- a front behind a whole part
@@ -48,20 +48,20 @@ gave_none a b h = record { taken = h.taken ∙ grows_none a.taken; comes = h.com
 sent_after : (a b : DockView) → SendsNothing a b → (session : ℕ) → Took (out_to session a) (out_to session b) []
 sent_after a b h session = took_none (out_to session a) (out_to session b) (h.sent session) (h.room session)
 
-turns-append : (xs ys : List Turn) → steps_of (xs ++ ys) ≡ steps_of xs ++ steps_of ys
-turns-append xs ys = map-append (λ (t : Turn). t.step) xs ys
+turns-append : (xs ys : List ServedStep) → steps_of (xs ++ ys) ≡ steps_of xs ++ steps_of ys
+turns-append xs ys = map-append (λ (t : ServedStep). t.step) xs ys
 
-runs-turns : (a b c : Relay) (xs ys : List Turn) → RelayRuns a (map event_of (steps_of xs)) b (replies_of xs) → RelayRuns b (map event_of (steps_of ys)) c (replies_of ys)
+runs-turns : (a b c : Relay) (xs ys : List ServedStep) → RelayRuns a (map event_of (steps_of xs)) b (replies_of xs) → RelayRuns b (map event_of (steps_of ys)) c (replies_of ys)
     → RelayRuns a (map event_of (steps_of (xs ++ ys))) c (replies_of (xs ++ ys))
 runs-turns a b c xs ys h i =
-    rw (turns-append xs ys, map-append event_of (steps_of xs) (steps_of ys), map-append (λ (t : Turn). t.reply) xs ys)
+    rw (turns-append xs ys, map-append event_of (steps_of xs) (steps_of ys), map-append (λ (t : ServedStep). t.reply) xs ys)
     (runs-append (map event_of (steps_of xs)) (map event_of (steps_of ys)) a b c (replies_of xs) (replies_of ys) h i)
 
-sent-append : (session : ℕ) (xs ys : List Turn) → sent_to session (xs ++ ys) ≡ sent_to session xs ++ sent_to session ys
-sent-append session xs ys = flat_map-append (λ (t : Turn). bytes_to session t.reply) xs ys
+sent-append : (session : ℕ) (xs ys : List ServedStep) → sent_to session (xs ++ ys) ≡ sent_to session xs ++ sent_to session ys
+sent-append session xs ys = flat_map-append (λ (t : ServedStep). bytes_to session t.reply) xs ys
 
-closed-append : (xs ys : List Turn) → closed_in (xs ++ ys) ≡ closed_in xs ++ closed_in ys
-closed-append xs ys = flat_map-append (λ (t : Turn). closed_by t.reply) xs ys
+closed-append : (xs ys : List ServedStep) → closed_in (xs ++ ys) ≡ closed_in xs ++ closed_in ys
+closed-append xs ys = flat_map-append (λ (t : ServedStep). closed_by t.reply) xs ys
 
 ends_twice : (ends : Option ℕ) (a b : List ℕ) → ends_behind b (ends_behind a ends) ≡ ends_behind (a ++ b) ends
 ends_twice None a b = refl
@@ -77,23 +77,23 @@ module _ (x : DockView) (all a b : ℕ → List ℕ) (closed c d : List ℕ) (pa
     ends = (h.ends.0, h.ends.1, omega (arith, h.ends.2, ap length ends_are, length-append c d));
   }
 
-  room_then : (y : DockView) → ((session : ℕ) → y.room session ≡ spent (length (a session)) (x.room session)) → y.ends ≡ ends_behind c x.ends → HasRoomFor y b d
+  room_then : (y : DockView) → ((session : ℕ) → y.room session ≡ room_after (length (a session)) (x.room session)) → y.ends ≡ ends_behind c x.ends → HasRoomFor y b d
   room_then y rooms ends = record {
     room = λ session.
         let r = h.room session in (
           r.0 - length (a session),
-          rooms session ∙ ap (spent (length (a session))) r.1,
+          rooms session ∙ ap (room_after (length (a session))) r.1,
           omega (arith, r.2, ap length (parts session), length-append (a session) (b session)),
         );
     ends = (h.ends.0 - length c, ends ∙ ap (ends_behind c) h.ends.1, omega (arith, h.ends.2, ap length ends_are, length-append c d));
   }
 
-lasts_first : (x : DockView) (us vs : List Turn) → Lasts x (us ++ vs) → Lasts x us
+lasts_first : (x : DockView) (us vs : List ServedStep) → Lasts x (us ++ vs) → Lasts x us
 lasts_first x us vs lasts =
     room_first x (λ session. sent_to session (us ++ vs)) (λ session. sent_to session us) (λ session. sent_to session vs) (closed_in (us ++ vs)) (closed_in us) (closed_in vs)
     (λ session. sent-append session us vs) (closed-append us vs) lasts
 
-lasts_then : (a b : Relay) (x y : DockView) (us vs : List Turn) → Serves a b x y us → Lasts x (us ++ vs) → Lasts y vs
+lasts_then : (a b : Relay) (x y : DockView) (us vs : List ServedStep) → Serves a b x y us → Lasts x (us ++ vs) → Lasts y vs
 lasts_then a b x y us vs h lasts =
     room_then x (λ session. sent_to session (us ++ vs)) (λ session. sent_to session us) (λ session. sent_to session vs) (closed_in (us ++ vs)) (closed_in us) (closed_in vs)
     (λ session. sent-append session us vs) (closed-append us vs) lasts y (λ session. (h.sent session).room) h.ends
@@ -119,7 +119,7 @@ known_none None = refl
 known_none (Some xs) = ap Some (sym (append-nil xs))
 
 -- turns behind turns, by what was sent in those before
-ended-append : (sent : ℕ → Option (List ℕ)) (counts : Option (List ℕ)) (us vs : List Turn)
+ended-append : (sent : ℕ → Option (List ℕ)) (counts : Option (List ℕ)) (us vs : List ServedStep)
     → ended_in sent counts (us ++ vs) ≡ ended_in (λ session. append_known (sent session) (sent_to session us)) (ended_in sent counts us) vs
 ended-append sent counts [] vs = λ i. ended_in (λ session. known_none (sent session) i) counts vs
 ended-append sent counts (u ∷ us) vs =
@@ -142,7 +142,7 @@ serves_none relay dock = record {
 }
 
 -- turns behind turns
-pub serves-append : (a b c : Relay) (x y z : DockView) (us vs : List Turn) → Serves a b x y us → Serves b c y z vs → Serves a c x z (us ++ vs)
+pub serves-append : (a b c : Relay) (x y z : DockView) (us vs : List ServedStep) → Serves a b x y us → Serves b c y z vs → Serves a c x z (us ++ vs)
 serves-append a b c x y z us vs h i = record {
   runs = runs-turns a b c us vs h.runs i.runs;
   gave = rw (turns-append us vs) (gave-append x y z (steps_of us) (steps_of vs) h.gave i.gave);
@@ -156,7 +156,7 @@ serves-append a b c x y z us vs h i = record {
 }
 
 -- turns, and then a fault
-abbrev partly-append : (fault : ServeFault) (a b c : Relay) (x y z : DockView) (us vs : List Turn) → Serves a b x y us → ServesPartly fault b c y z vs → ServesPartly fault a c x z (us ++ vs)
+abbrev partly-append : (fault : ServeFault) (a b c : Relay) (x y z : DockView) (us vs : List ServedStep) → Serves a b x y us → ServesPartly fault b c y z vs → ServesPartly fault a c x z (us ++ vs)
 partly-append fault a b c x y z us vs h i = record {
   more = i.more;
   few = i.few;
@@ -179,7 +179,7 @@ front_all : (v w : OutView) (bytes : List ℕ) → Took v w bytes → TookFront 
 front_all v w bytes t = record { count = length bytes; within = omega arith; took = subst (Took v w) (sym (take_all (length bytes) bytes (omega arith))) t }
 
 -- whole turns, seen as up to a fault
-abbrev whole_partly : (fault : ServeFault) (a b : Relay) (x y : DockView) (turns : List Turn) → fault ≢ DockFault → Serves a b x y turns → ServesPartly fault a b x y turns
+abbrev whole_partly : (fault : ServeFault) (a b : Relay) (x y : DockView) (turns : List ServedStep) → fault ≢ DockFault → Serves a b x y turns → ServesPartly fault a b x y turns
 whole_partly fault a b x y turns other h = record {
   more = [];
   few = omega arith;
@@ -259,7 +259,7 @@ reply_stops fault a b x y z step reply g sure s r = record {
 }
 
 -- or behind it
-pub turn_stops : (fault : ServeFault) (a b : Relay) (x y : DockView) (turn : Turn) → fault ≢ DockFault → Serves a b x y (turn ∷ []) → TurnStops fault a b x y
+pub turn_stops : (fault : ServeFault) (a b : Relay) (x y : DockView) (turn : ServedStep) → fault ≢ DockFault → Serves a b x y (turn ∷ []) → TurnStops fault a b x y
 turn_stops fault a b x y turn other h =
     record { turns = turn ∷ []; partly = whole_partly fault a b x y (turn ∷ []) other h; few = (let f : 1 + 0 ≤ 1 = omega arith in f); none_begun = λ lasts is. absurd (other is) }
 
@@ -272,7 +272,7 @@ none_stops relay dock = record {
   none_begun = λ lasts is. refl;
 }
 
-pub over-append : (us vs : List Turn) (over : List ℕ) → over_after over (us ++ vs) ≡ over_after (over_after over us) vs
+pub over-append : (us vs : List ServedStep) (over : List ℕ) → over_after over (us ++ vs) ≡ over_after (over_after over us) vs
 over-append [] vs over = refl
 over-append (u ∷ us) vs over = over-append us vs (over_after over (u ∷ []))
 
@@ -281,7 +281,7 @@ pub none_before : (sessions : ℕ) → (count : ℕ) → count < 0 → count_ove
 none_before sessions count below = absurd (omega (arith, below))
 
 -- the front of a list with one more
-take-more : (turns : List Turn) (turn : Turn) (count : ℕ) → count < length (turns ++ turn ∷ []) → (count < length turns) ⊎ (take count (turns ++ turn ∷ []) ≡ turns)
+take-more : (turns : List ServedStep) (turn : ServedStep) (count : ℕ) → count < length (turns ++ turn ∷ []) → (count < length turns) ⊎ (take count (turns ++ turn ∷ []) ≡ turns)
 take-more turns turn count below = by (order count (length turns))
   where
     by : (count < length turns) ⊎ (length turns ≤ count) → (count < length turns) ⊎ (take count (turns ++ turn ∷ []) ≡ turns)
@@ -291,7 +291,7 @@ take-more turns turn count below = by (order count (length turns))
         inr (ap (λ n. take n (turns ++ turn ∷ [])) same ∙ take-append_seam turns (turn ∷ []))
 
 -- one turn more, where fewer sessions were over before it
-pub none_after : (sessions : ℕ) (turns : List Turn) (turn : Turn) → NoneAfter sessions turns → count_over turns < sessions → NoneAfter sessions (turns ++ turn ∷ [])
+pub none_after : (sessions : ℕ) (turns : List ServedStep) (turn : ServedStep) → NoneAfter sessions turns → count_over turns < sessions → NoneAfter sessions (turns ++ turn ∷ [])
 none_after sessions turns turn none fewer count below = by (take-more turns turn count below)
   where
     by : (count < length turns) ⊎ (take count (turns ++ turn ∷ []) ≡ turns) → count_over (take count (turns ++ turn ∷ [])) < sessions
@@ -299,7 +299,7 @@ none_after sessions turns turn none fewer count below = by (take-more turns turn
     by (inr e) = rw e fewer
 
 -- turns, and then one that stopped
-pub stops_behind : (sessions steps : ℕ) (fault : ServeFault) (a b c : Relay) (x y z : DockView) (us : List Turn) → Serves a b x y us → NoneAfter sessions us → count_over us < sessions → length us < steps
+pub stops_behind : (sessions steps : ℕ) (fault : ServeFault) (a b c : Relay) (x y z : DockView) (us : List ServedStep) → Serves a b x y us → NoneAfter sessions us → count_over us < sessions → length us < steps
     → TurnStops fault b c y z → ServingStops sessions steps fault a c x z
 stops_behind sessions steps fault a b c x y z us h none fewer below i = record {
   turns = us ++ i.turns;
@@ -317,17 +317,17 @@ stops_behind sessions steps fault a b c x y z us h none fewer below i = record {
       rw (begun, append-nil us) fewer;
 }
   where
-    few_after : (vs : List Turn) → length vs ≤ 1 → NoneAfter sessions (us ++ vs)
+    few_after : (vs : List ServedStep) → length vs ≤ 1 → NoneAfter sessions (us ++ vs)
     few_after [] few = rw (append-nil us) none
     few_after (v ∷ []) few = none_after sessions us v none fewer
     few_after (v ∷ w ∷ vs) few = absurd (omega (arith, few))
 
-    none_begun : (vs : List Turn) → length vs ≤ 0 → vs ≡ []
+    none_begun : (vs : List ServedStep) → length vs ≤ 0 → vs ≡ []
     none_begun [] few = refl
     none_begun (v ∷ vs) few = absurd (omega (arith, few))
 
 -- all steps that are allowed were taken
-pub long_stops : (sessions steps : ℕ) (a b : Relay) (x y : DockView) (us : List Turn) → Serves a b x y us → NoneAfter sessions us → count_over us < sessions → length us ≤ steps → ServingStops sessions steps TooLong a b x y
+pub long_stops : (sessions steps : ℕ) (a b : Relay) (x y : DockView) (us : List ServedStep) → Serves a b x y us → NoneAfter sessions us → count_over us < sessions → length us ≤ steps → ServingStops sessions steps TooLong a b x y
 long_stops sessions steps a b x y us h none fewer within = record {
   turns = us;
   partly = whole_partly TooLong a b x y us (λ is. cc is) h;

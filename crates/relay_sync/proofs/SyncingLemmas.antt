@@ -18,10 +18,10 @@ use Rattle.replica_core.specs.Told.{StaysBelow}
 use Rattle.replica_core.specs.declared.keeping.FeedFault.{FeedFault}
 use Rattle.replica_core.specs.declared.keeping.FeedFault.TheVariants as feed_fault
 use Rattle.replica_core.proofs.KeepingLemmas.{same_taking, takes_none}
-use Rattle.relay_sync.specs.Replies.{End, Hears, IsMessage, Message, Operations, Stops, StopsIn, Whole, WholeFrame}
+use Rattle.relay_sync.specs.Replies.{End, HeardBytes, IsMessage, Message, Operations, StopsHearing, StopsIn, Whole, WholeFrame}
 use Rattle.relay_sync.specs.FeedFaults.{fault_of}
 use Rattle.relay_sync.specs.Saying.{SaysTo, request_for}
-use Rattle.relay_sync.specs.Syncing.{FailsToAsk, HearsOne, HearsPartly, HearsReply, StopsAt, ReplyStopsFor, TakesInFrame, TakesNotAll, TakesOne, count_so_far}
+use Rattle.relay_sync.specs.Syncing.{FailsToAsk, HearsOne, HearsPartly, HearsReply, StopsHearingAt, ReplyStopsFor, TakesInFrame, TakesNotAll, HearsMessage, count_so_far}
 use Rattle.relay_sync.specs.declared.syncing.SyncFault.{SyncFault}
 use Rattle.relay_sync.specs.declared.syncing.SyncFault.TheVariants.{BadReply, CutShort, NoMemory, RelayRefused, TooLong, TooMany, WireFault}
 use Rattle.relay_sync.proofs.HearingLemmas.{hears-append, stops_behind, stops_in}
@@ -46,14 +46,14 @@ takes-append start now next a b s t =
 pub record Goes (old new : WireView) (start now : OpsTaking) (heard : ℕ) : Type 0 where
   pub found : List Framed
   pub are_frames : All (IsFrame Version2) found
-  pub hears : Hears old new (bytes_of found)
+  pub hears : HeardBytes old new (bytes_of found)
   pub takes : TakesIn start now (ops_of found)
   pub count : heard ≡ length (bytes_of found)
   pub within : heard ≤ STREAM_LIMIT
 
 module _ (u v w : WireView) (start now next : OpsTaking) (heard : ℕ) (goes : Goes u v start now heard) where
   -- one frame more
-  pub goes_on : (last : ℕ) → TakesOne v w now next heard last → Goes u w start next last
+  pub goes_on : (last : ℕ) → HearsMessage v w now next heard last → Goes u w start next last
   goes_on last one =
       let found : List Framed = goes.found in
       let framed : Framed = record { bytes = one.hears.bytes; ops = one.ops } in
@@ -64,7 +64,7 @@ module _ (u v w : WireView) (start now next : OpsTaking) (heard : ℕ) (goes : G
       record {
         found = found ++ framed ∷ [];
         are_frames = All-push (IsFrame Version2) found framed goes.are_frames one.hears.is_message;
-        hears = subst (Hears u w) (sym bytes) (hears-append u v w (bytes_of found) one.hears.bytes goes.hears one.hears.hears);
+        hears = subst (HeardBytes u w) (sym bytes) (hears-append u v w (bytes_of found) one.hears.bytes goes.hears one.hears.hears);
         takes = subst (TakesIn start next) (sym ops) (takes-append start now next (ops_of found) one.ops goes.takes one.takes);
         count = omega (arith, one.hears.count, goes.count, ap length bytes, length-append (bytes_of found) one.hears.bytes);
         within = one.hears.within;
@@ -92,7 +92,7 @@ module _ (u v w : WireView) (start now next : OpsTaking) (heard : ℕ) (goes : G
   stops_for (RelayRefused code) bytes s = s
   stops_for (TooMany most) bytes s = s
 
-  pub goes_to_fault : (fault : SyncFault) → StopsAt fault v w now next heard → HearsPartly fault u w start next
+  pub goes_to_fault : (fault : SyncFault) → StopsHearingAt fault v w now next heard → HearsPartly fault u w start next
   goes_to_fault fault stops = record {
     found = goes.found;
     are_frames = goes.are_frames;
@@ -109,21 +109,21 @@ pub is_end : (answer : Option ℕ) (u v : WireView) (before after : OpsTaking) (
 is_end answer u v before after place heard count is one = subst (HearsOne u v before after place heard) is one
 
 pub is_more : (answer : Option ℕ) (u v : WireView) (before after : OpsTaking) (place heard : ℕ) → ((count : ℕ) → answer ≡ Some count → ⊥) → HearsOne u v before after place heard answer
-    → TakesOne u v before after place heard
+    → HearsMessage u v before after place heard
 is_more None u v before after place heard none one = one
 is_more (Some count) u v before after place heard none one = absurd (none count refl)
 
 -- the rest of a message behind its first byte
-pub whole_first : (message : Message) (u v w : WireView) (first byte place heard : ℕ) → Hears u v (first ∷ []) → first ≡ byte → Whole message v w place heard (byte ∷ []) → Whole message u w place heard []
+pub whole_first : (message : Message) (u v w : WireView) (first byte place heard : ℕ) → HeardBytes u v (first ∷ []) → first ≡ byte → Whole message v w place heard (byte ∷ []) → Whole message u w place heard []
 whole_first message u v w first byte place heard h is whole = record {
   bytes = byte ∷ whole.bytes;
-  hears = hears-append u v w (byte ∷ []) whole.bytes (subst (λ (b : ℕ). Hears u v (b ∷ [])) is h) whole.hears;
+  hears = hears-append u v w (byte ∷ []) whole.bytes (subst (λ (b : ℕ). HeardBytes u v (b ∷ [])) is h) whole.hears;
   is_message = whole.is_message;
   count = whole.count;
   within = whole.within;
 }
 
-pub frame_first : (frame : List ℕ) (u v w : WireView) (first place heard : ℕ) → Hears u v (first ∷ []) → WholeFrame frame v w place heard (first ∷ []) → WholeFrame frame u w place heard []
+pub frame_first : (frame : List ℕ) (u v w : WireView) (first place heard : ℕ) → HeardBytes u v (first ∷ []) → WholeFrame frame v w place heard (first ∷ []) → WholeFrame frame u w place heard []
 frame_first frame u v w first place heard h whole = record {
   is_frame = whole.is_frame;
   bytes = first ∷ whole.bytes;
@@ -134,7 +134,7 @@ frame_first frame u v w first place heard h whole = record {
 }
 
 -- a fault of hearing
-pub stops_at : (fault : SyncFault) (u v : WireView) (now : OpsTaking) (place : ℕ) → Stops fault u v place [] → StopsAt fault u v now now place
+pub stops_at : (fault : SyncFault) (u v : WireView) (now : OpsTaking) (place : ℕ) → StopsHearing fault u v place [] → StopsHearingAt fault u v now now place
 stops_at fault u v now place s = record { bytes = s.bytes; hears = s.hears; stops = by_fault fault s.stops }
   where
     by_fault : (fault : SyncFault) → StopsIn fault u v place s.bytes → ReplyStopsFor fault u v now now place s.bytes
@@ -146,13 +146,13 @@ stops_at fault u v now place s = record { bytes = s.bytes; hears = s.hears; stop
     by_fault (RelayRefused code) p = absurd p
     by_fault (TooMany most) p = absurd p
 
-pub stops_first : (fault : SyncFault) (u v w : WireView) (now : OpsTaking) (first byte place : ℕ) → Hears u v (first ∷ []) → first ≡ byte → Stops fault v w place (byte ∷ []) → StopsAt fault u w now now place
+pub stops_first : (fault : SyncFault) (u v w : WireView) (now : OpsTaking) (first byte place : ℕ) → HeardBytes u v (first ∷ []) → first ≡ byte → StopsHearing fault v w place (byte ∷ []) → StopsHearingAt fault u w now now place
 stops_first fault u v w now first byte place h is s =
-    stops_at fault u w now place (stops_behind fault u v w place [] (byte ∷ []) (subst (λ (b : ℕ). Hears u v (b ∷ [])) is h) s)
+    stops_at fault u w now place (stops_behind fault u v w place [] (byte ∷ []) (subst (λ (b : ℕ). HeardBytes u v (b ∷ [])) is h) s)
 
 -- a frame that was heard whose operations were not all taken in
 pub feed_fails : (frame taken : List ℕ) (u v : WireView) (before after : OpsTaking) (place heard : ℕ) (fault : FeedFault) → WholeFrame frame u v place heard [] → taken ≡ frame
-    → TakesNotAll fault before after taken → StopsAt (fault_of fault) u v before after place
+    → TakesNotAll fault before after taken → StopsHearingAt (fault_of fault) u v before after place
 feed_fails frame taken u v before after place heard fault whole same t =
     record { bytes = whole.bytes; hears = whole.hears; stops = by_fault fault (subst (TakesNotAll fault before after) (same ∙ whole.split) t) }
   where

@@ -16,12 +16,12 @@ use Rattle.origin_model.specs.declared.grammar.Grammar.TheVariants.{Version2}
 use Rattle.origin_model.specs.frames.Frames.{Framed, HasFrame, IsFrame, Reads, Whole, frame, single_frames}
 use Rattle.origin_model.specs.frames.Framings.{IsWritten, frames}
 use Rattle.origin_model.specs.operations.History.{accepted}
-use Rattle.origin_model.specs.relay.Session.{Closes, Goes, Taken, TakesAll, at_cursor, closing, is_logged, joined, refusal_message, reply_from, session_goes_on, session_refused, unread}
+use Rattle.origin_model.specs.relay.Session.{Closes, Goes, Taken, TakesAll, at_cursor, closing, is_logged, log_joined, refusal_message, reply_from, session_goes_on, session_refused, unread}
 use Rattle.origin_model.proofs.SharedLemmas.{all_once, bytes_of, closed_takes, closing_takes, frame_takes, hello, hello_takes, ops_of, origin_short, partly, singles_read, takes-append, written}
 use Rattle.origin_model.specs.taking.Taking.{Held}
 use Rattle.op_frame.proofs.ReadingLemmas.{frames_once}
 use Rattle.relay_core.specs.OpLogs.{IsLogOf}
-use Rattle.relay_core.specs.Texts.{with_ops}
+use Rattle.relay_core.specs.Texts.{log_with_ops}
 use Rattle.relay_core.specs.declared.relay.TheConstants.{MOST_LOGGED}
 use Rattle.relay_core.proofs.JoiningLemmas.{IsRefused, all_join, all_or_refused, one_too_many, with_ops-append}
 use Rattle.relay_core.proofs.OpLogLemmas.{logs_are_of_operations}
@@ -84,16 +84,16 @@ refused_behind log = session_refused log 2
 -- what whole frames behind a whole message come to: all of their operations join, or one finds the log full
 abbrev FramesCome : (limit cursor : ℕ) → (log : List (List ℕ)) → (ops : List Op) → (after : Taken) → Type 0
 FramesCome limit cursor log ops after =
-    ((length (with_ops log ops) ≤ limit) × (after ≡ partly (with_ops log ops) cursor [])) ⊎ ((r : IsRefused limit log ops) × (after ≡ refused_behind (with_ops log r.before)))
+    ((length (log_with_ops log ops) ≤ limit) × (after ≡ partly (log_with_ops log ops) cursor [])) ⊎ ((r : IsRefused limit log ops) × (after ≡ refused_behind (log_with_ops log r.before)))
 
 -- the same with operations that joined before
-come_later : (limit cursor : ℕ) (log : List (List ℕ)) (xs ys : List Op) (after : Taken) → FramesCome limit cursor (with_ops log xs) ys after → FramesCome limit cursor log (xs ++ ys) after
+come_later : (limit cursor : ℕ) (log : List (List ℕ)) (xs ys : List Op) (after : Taken) → FramesCome limit cursor (log_with_ops log xs) ys after → FramesCome limit cursor log (xs ++ ys) after
 come_later limit cursor log xs ys after (inl f) =
-    let joins : with_ops log (xs ++ ys) ≡ with_ops (with_ops log xs) ys = with_ops-append xs ys log in
+    let joins : log_with_ops log (xs ++ ys) ≡ log_with_ops (log_with_ops log xs) ys = with_ops-append xs ys log in
     inl (subst (λ l. length l ≤ limit) (sym joins) f.0, f.1 ∙ ap (λ l. partly l cursor []) (sym joins))
 come_later limit cursor log xs ys after (inr f) =
-    let r : IsRefused limit (with_ops log xs) ys = f.0 in
-    let joins : with_ops log (xs ++ r.before) ≡ with_ops (with_ops log xs) r.before = with_ops-append xs r.before log in
+    let r : IsRefused limit (log_with_ops log xs) ys = f.0 in
+    let joins : log_with_ops log (xs ++ r.before) ≡ log_with_ops (log_with_ops log xs) r.before = with_ops-append xs r.before log in
     inr (
       record {
         before = xs ++ r.before;
@@ -111,21 +111,21 @@ frames_come : (limit cursor : ℕ) (found : List Framed) (log : List (List ℕ))
 frames_come limit cursor [] log are room = (partly log cursor [], refl, inl (room, refl))
 frames_come limit cursor (f ∷ found) log are room =
     let start : Taken = partly log cursor [] in
-    let first : TakesAll limit f.bytes start (joined limit log cursor f.ops) = frame_takes f (All-head (IsFrame Version2) f found are) limit cursor log in
+    let first : TakesAll limit f.bytes start (log_joined limit log cursor f.ops) = frame_takes f (All-head (IsFrame Version2) f found are) limit cursor log in
     elim (all_or_refused limit f.ops log room) [
       | inl fits ↦
-          let now : List (List ℕ) = with_ops log f.ops in
-          let goes : joined limit log cursor f.ops ≡ partly now cursor [] = all_join limit cursor f.ops [] log (subst (λ (l : List Op). length (with_ops log l) ≤ limit) (sym (append-nil f.ops)) fits) in
+          let now : List (List ℕ) = log_with_ops log f.ops in
+          let goes : log_joined limit log cursor f.ops ≡ partly now cursor [] = all_join limit cursor f.ops [] log (subst (λ (l : List Op). length (log_with_ops log l) ≤ limit) (sym (append-nil f.ops)) fits) in
           let rest = frames_come limit cursor found now (All-tail (IsFrame Version2) f found are) fits in (
             rest.0,
             takes-append limit f.bytes (bytes_of found) start (partly now cursor []) rest.0 (subst (TakesAll limit f.bytes start) goes first) rest.1,
             come_later limit cursor log f.ops (ops_of found) rest.0 rest.2,
           )
       | inr r ↦
-          let closed : Taken = refused_behind (with_ops log r.before) in
-          let stops : joined limit log cursor f.ops ≡ closed = ap (joined limit log cursor) r.split ∙ one_too_many limit cursor r.before r.op r.later log r.lacks r.full in (
+          let closed : Taken = refused_behind (log_with_ops log r.before) in
+          let stops : log_joined limit log cursor f.ops ≡ closed = ap (log_joined limit log cursor) r.split ∙ one_too_many limit cursor r.before r.op r.later log r.lacks r.full in (
             closed,
-            takes-append limit f.bytes (bytes_of found) start closed closed (subst (TakesAll limit f.bytes start) stops first) (closed_takes limit (bytes_of found) (with_ops log r.before) (refusal_message 2)),
+            takes-append limit f.bytes (bytes_of found) start closed closed (subst (TakesAll limit f.bytes start) stops first) (closed_takes limit (bytes_of found) (log_with_ops log r.before) (refusal_message 2)),
             inr (
               record {
                 before = r.before;
@@ -173,13 +173,13 @@ module _ (limit cursor : ℕ) (log : List (List ℕ)) (fits : cursor < 2 ^ 32) (
             let f = frames_come limit cursor found log are room in
             elim f.2 [
               | inl all ↦
-                  let now : List (List ℕ) = with_ops log (ops_of found) in
+                  let now : List (List ℕ) = log_with_ops log (ops_of found) in
                   let after : Taken = record { log = now; next = Closes (reply_from now cursor) } in
                   let closes : TakesAll limit closing f.0 after = subst (λ t. TakesAll limit closing t after) (sym all.1) (closing_takes limit cursor now) in
                   (after, greets goes after is (takes-append limit (bytes_of found) closing goes f.0 after f.1 closes), inr (inr (record { within = within; room = all.0; answered = refl })))
               | inr r ↦
-                  let after : Taken = refused_behind (with_ops log r.0.before) in
-                  let closes : TakesAll limit closing f.0 after = subst (λ t. TakesAll limit closing t after) (sym r.1) (closed_takes limit closing (with_ops log r.0.before) (refusal_message 2)) in (
+                  let after : Taken = refused_behind (log_with_ops log r.0.before) in
+                  let closes : TakesAll limit closing f.0 after = subst (λ t. TakesAll limit closing t after) (sym r.1) (closed_takes limit closing (log_with_ops log r.0.before) (refusal_message 2)) in (
                     after,
                     greets goes after is (takes-append limit (bytes_of found) closing goes f.0 after f.1 closes),
                     inr (inl (record { within = within; before = r.0.before; op = r.0.op; later = r.0.later; split = r.0.split; lacks = r.0.lacks; full = r.0.full; answered = refl })),

@@ -26,7 +26,7 @@ pub record Sending : Type 0 where
   pub unsent : List ℕ
 
 -- the pieces joined and what is unsent are the replica's request, and frames can stand for its operations
-pub record IsHonest (s : Sending) : Type 0 where
+pub record IsHonestRequest (s : Sending) : Type 0 where
   pub cursor_fits : s.cursor < 2 ^ 32
   pub have_frames : All HasFrame (given_by s.replica)
   pub joined : flat_map (λ piece. piece) s.pieces ++ s.unsent ≡ request_for s.cursor (taker_state s.replica)
@@ -62,7 +62,7 @@ NoneRefused replies = All (λ o. IfSome o (λ (reply : Reply). (code : ℕ) → 
 -- a new relay to which replicas sent what they held, in sessions of which none was refused
 pub record IsSentTo (limit : ℕ) (sendings : List Sending) (relay : Relay) : Type 0 where
   pub within : limit ≤ MOST_LOGGED
-  pub honest : All IsHonest sendings
+  pub honest : All IsHonestRequest sendings
   pub events : List Event
   pub interleaved : AreInterleaved sendings events
   pub replies : List (Option Reply)
@@ -73,6 +73,7 @@ pub record IsSentTo (limit : ℕ) (sendings : List Sending) (relay : Relay) : Ty
 abbrev pub beginners : List Sending → List Taker
 beginners sendings = map (λ (s : Sending). s.replica) sendings
 
+-- those whose whole request was sent
 abbrev pub senders : List Sending → List Taker
 senders sendings = beginners (filter is_whole sendings)
 

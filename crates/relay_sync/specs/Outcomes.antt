@@ -4,7 +4,7 @@ use Rattle.fugue_ids.specs.declared.limits.TheConstants.{STREAM_LIMIT}
 use Rattle.fugue_ids.specs.declared.op.Op.{Op}
 use Rattle.origin_model.specs.declared.grammar.Grammar.TheVariants.{Version2}
 use Rattle.origin_model.specs.frames.Frames.{Framed, IsFrame}
-use Rattle.origin_model.specs.taking.Taking.{Held, HasPlace}
+use Rattle.origin_model.specs.taking.Taking.{Held, MeetsNoLimit}
 use Rattle.op_frame.specs.Courses.{MeetsTooMany}
 use Rattle.outer_ports.specs.wire.Wires.{WireView}
 use Rattle.replica_core.specs.Keeping.{TakesIn, OpsTaking}
@@ -30,7 +30,7 @@ pub data ReplyEnd : Type 0 where
   TooMany : ReplyEnd
 
 -- the message is a front of the bytes
-pub record BeginsWith (message : Message) (bytes : List ℕ) : Type 0 where
+pub record BeginsBytes (message : Message) (bytes : List ℕ) : Type 0 where
   pub whole : List ℕ
   pub is_message : IsMessage message whole
   pub behind : List ℕ
@@ -38,13 +38,13 @@ pub record BeginsWith (message : Message) (bytes : List ℕ) : Type 0 where
 
 -- no message is a front of the bytes, and they are no front of a message
 pub record IsNoMessage (bytes : List ℕ) : Type 0 where
-  pub none_begins : (message : Message) → BeginsWith message bytes → ⊥
+  pub none_begins : (message : Message) → BeginsBytes message bytes → ⊥
   pub no_front : IsMessageFront bytes → ⊥
 
 -- How the rest behind the frames ends a reply of so many bytes whose operations all find their place. The rest goes up to the limit, and what stands behind a message there counts for nothing.
 abbrev pub EndsReply : (size place : ℕ) → List ℕ → ReplyEnd → Type 0
-EndsReply size place rest (Ended count) = BeginsWith (End count) rest
-EndsReply size place rest (Refused code) = BeginsWith (Refusal code) rest
+EndsReply size place rest (Ended count) = BeginsBytes (End count) rest
+EndsReply size place rest (Refused code) = BeginsBytes (Refusal code) rest
 EndsReply size place rest (Bad at) = (at ≡ place) × IsNoMessage rest
 EndsReply size place rest (Cut at) = (at ≡ place) × (size ≤ STREAM_LIMIT) × IsMessageFront rest
 EndsReply size place rest TooLong = (STREAM_LIMIT < size) × IsMessageFront rest
@@ -66,7 +66,7 @@ EndsTaking hold most start bytes ops end = ReadsReply bytes ops end
 
 -- the bytes come to this end, and the operations were taken in before it
 pub record ReplyComes (hold most : ℕ) (start : Held) (bytes : List ℕ) (ops : List Op) (end : ReplyEnd) : Type 0 where
-  pub has_place : HasPlace hold most start ops
+  pub has_place : MeetsNoLimit hold most start ops
   pub ends : EndsTaking hold most start bytes ops end
 
 -- the same, and what a replica that takes the operations in comes to

@@ -2,7 +2,7 @@
 use Rattle.std.specs.Prelude.{◌≡◌, ℕ, ◌+◌, ◌<◌, ◌≤◌, List, [], ◌∷◌, ◌++◌, length, is_some, true, IfSome, Result, Ok, Err}
 use Rattle.std.specs.Int.{from_be_bytes, w32}
 use Rattle.std.specs.Io.KnownBytes.{prepend_known}
-use Rattle.fugue_ids.specs.Causes.{Rose}
+use Rattle.fugue_ids.specs.Causes.{Faulted}
 use Rattle.fugue_ids.specs.declared.limits.TheConstants.{STREAM_LIMIT}
 use Rattle.fugue_ids.specs.declared.op.Op.{Op}
 use Rattle.origin_model.specs.declared.grammar.Grammar.TheVariants.{Version2}
@@ -55,17 +55,17 @@ pub record IsBroken (bytes : List ℕ) : Type 0 where
   pub no_front : IsMessageFront bytes → ⊥
 
 -- no call on the wire fails but for want of room
-abbrev pub IsSure : WireView → Type 0
-IsSure wire = is_some wire.room ≡ true
+abbrev pub NeverFails : WireView → Type 0
+NeverFails wire = is_some wire.room ≡ true
 
 -- these bytes were heard, and nothing else happened to the wire
-pub record Hears (old new : WireView) (bytes : List ℕ) : Type 0 where
+pub record HeardBytes (old new : WireView) (bytes : List ℕ) : Type 0 where
   pub heard : old.left ≡ prepend_known bytes new.left
   pub said : new.said ≡ old.said
   pub dials : new.dials ≡ old.dials
   pub room : new.room ≡ old.room
   pub later : old.faults ≤ new.faults
-  pub calm : IsSure old → new.faults ≡ old.faults
+  pub calm : NeverFails old → new.faults ≡ old.faults
 
 -- nothing is left to hear
 abbrev pub IsOver : WireView → Type 0
@@ -73,7 +73,7 @@ IsOver wire = IfSome wire.left (λ left. left ≡ [])
 
 -- why the message at this place goes no further than these bytes
 abbrev pub StopsIn : SyncFault → (old new : WireView) → (place : ℕ) → List ℕ → Type 0
-StopsIn WireFault old new place bytes = IsMessageFront bytes × Rose old.faults new.faults × (IsSure old → ⊥)
+StopsIn WireFault old new place bytes = IsMessageFront bytes × Faulted old.faults new.faults × (NeverFails old → ⊥)
 StopsIn (BadReply at) old new place bytes = (at ≡ place) × IsBroken bytes × (place + length bytes ≤ STREAM_LIMIT)
 StopsIn (CutShort at) old new place bytes = (at ≡ place) × IsMessageFront bytes × IsOver new × (place + length bytes ≤ STREAM_LIMIT)
 StopsIn TooLong old new place bytes = (front : List ℕ) × (byte : ℕ) × (bytes ≡ front ++ byte ∷ []) × IsMessageFront front × (place + length front ≡ STREAM_LIMIT)
@@ -82,15 +82,15 @@ StopsIn (RelayRefused code) old new place bytes = ⊥
 StopsIn (TooMany most) old new place bytes = ⊥
 
 -- a message of which some bytes were heard before was heard up to a fault
-pub record Stops (fault : SyncFault) (old new : WireView) (place : ℕ) (before : List ℕ) : Type 0 where
+pub record StopsHearing (fault : SyncFault) (old new : WireView) (place : ℕ) (before : List ℕ) : Type 0 where
   pub bytes : List ℕ
-  pub hears : Hears old new bytes
+  pub hears : HeardBytes old new bytes
   pub stops : StopsIn fault old new place (before ++ bytes)
 
 -- the rest of a message was heard
 pub record Whole (message : Message) (old new : WireView) (place heard : ℕ) (before : List ℕ) : Type 0 where
   pub bytes : List ℕ
-  pub hears : Hears old new bytes
+  pub hears : HeardBytes old new bytes
   pub is_message : IsMessage message (before ++ bytes)
   pub count : heard ≡ place + length (before ++ bytes)
   pub within : heard ≤ STREAM_LIMIT
@@ -99,7 +99,7 @@ pub record Whole (message : Message) (old new : WireView) (place heard : ℕ) (b
 pub record WholeFrame (frame : List ℕ) (old new : WireView) (place heard : ℕ) (before : List ℕ) : Type 0 where
   pub is_frame : IsFrameOf Version2 frame
   pub bytes : List ℕ
-  pub hears : Hears old new bytes
+  pub hears : HeardBytes old new bytes
   pub split : frame ≡ before ++ bytes
   pub count : heard ≡ place + length frame
   pub within : heard ≤ STREAM_LIMIT

@@ -8,8 +8,8 @@ use Rattle.origin_model.specs.declared.relay.Reply.{Reply}
 use Rattle.origin_model.specs.relay.Relay.{Relay, RelayRuns}
 use Rattle.outer_ports.specs.dock.Docks.{DockView, ended_behind, out_to}
 use Rattle.outer_ports.specs.dock.Steps.{GivesSome}
-use Rattle.outer_ports.specs.declared.dock.mem_dock.MemStep.{MemStep}
-use Rattle.outer_ports.specs.declared.dock.mem_dock.MemStep.TheVariants.{Opened, Bytes, Gone}
+use Rattle.outer_ports.specs.declared.dock.MemStep.{MemStep}
+use Rattle.outer_ports.specs.declared.dock.MemStep.TheVariants.{Opened, Bytes, Gone}
 use Rattle.relay_sync.specs.Over.{over_once}
 use Rattle.relay_sync.specs.declared.serving.ServeFault.{ServeFault}
 use Rattle.relay_sync.specs.declared.serving.ServeFault.TheVariants.{DockFault, TooLong}
@@ -21,14 +21,16 @@ event_of (Bytes session bytes) = event.Piece session bytes
 event_of (Gone session) = event.Gone session
 
 -- a step, and the relay's reply to it
-pub record Turn : Type 0 where
+pub record ServedStep : Type 0 where
   pub step : MemStep
   pub reply : Option Reply
 
-abbrev pub steps_of : List Turn → List MemStep
+-- the steps alone
+abbrev pub steps_of : List ServedStep → List MemStep
 steps_of turns = map (λ turn. turn.step) turns
 
-abbrev pub replies_of : List Turn → List (Option Reply)
+-- the replies alone
+abbrev pub replies_of : List ServedStep → List (Option Reply)
 replies_of turns = map (λ turn. turn.reply) turns
 
 -- what a reply brings to a session
@@ -37,7 +39,7 @@ bytes_to session None = []
 bytes_to session (Some reply) = if nat_eq session reply.session then reply.bytes else []
 
 -- the replies to a session, one behind the other
-abbrev pub sent_to : ℕ → List Turn → List ℕ
+abbrev pub sent_to : ℕ → List ServedStep → List ℕ
 sent_to session turns = flat_map (λ turn. bytes_to session turn.reply) turns
 
 -- the session that a reply closes
@@ -45,7 +47,8 @@ abbrev pub closed_by : Option Reply → List ℕ
 closed_by None = []
 closed_by (Some reply) = if reply.closes then reply.session ∷ [] else []
 
-abbrev pub closed_in : List Turn → List ℕ
+-- the sessions that replies closed
+abbrev pub closed_in : List ServedStep → List ℕ
 closed_in turns = flat_map (λ turn. closed_by turn.reply) turns
 
 -- the sessions that are over, with those that the reply closes
@@ -64,23 +67,24 @@ abbrev pub with_number : List ℕ → Option ℕ → List ℕ
 with_number over None = over
 with_number over (Some session) = over_once over session
 
-abbrev pub over_after : List ℕ → List Turn → List ℕ
+-- the sessions that are over after the steps
+abbrev pub over_after : List ℕ → List ServedStep → List ℕ
 over_after over [] = over
 over_after over (turn ∷ turns) = over_after (with_gone (with_closed over turn.reply) turn.step) turns
 
 -- how many sessions are closed or gone
-abbrev pub count_over : List Turn → ℕ
+abbrev pub count_over : List ServedStep → ℕ
 count_over turns = length (over_after [] turns)
 
 -- the steps came one after another, each whole or in part
-abbrev pub Comes : Option (List MemStep) → List MemStep → Option (List MemStep) → Type 0
-Comes old [] new = new ≡ old
-Comes old (step ∷ steps) new = (middle : Option (List MemStep)) × GivesSome old middle step × Comes middle steps new
+abbrev pub HaveCome : Option (List MemStep) → List MemStep → Option (List MemStep) → Type 0
+HaveCome old [] new = new ≡ old
+HaveCome old (step ∷ steps) new = (middle : Option (List MemStep)) × GivesSome old middle step × HaveCome middle steps new
 
 -- the dock gave these steps
 pub record GaveSteps (old new : DockView) (steps : List MemStep) : Type 0 where
   pub taken : new.taken ≡ option_map (λ taken. taken ++ steps) old.taken
-  pub comes : Comes old.coming steps new.coming
+  pub comes : HaveCome old.coming steps new.coming
 
 -- calls are sure, these bytes fit for each session, and so many sessions can be ended
 pub record HasRoomFor (dock : DockView) (sent : ℕ → List ℕ) (closed : List ℕ) : Type 0 where
@@ -88,7 +92,7 @@ pub record HasRoomFor (dock : DockView) (sent : ℕ → List ℕ) (closed : List
   pub ends : (ends : ℕ) × (dock.ends ≡ Some ends) × (length closed ≤ ends)
 
 -- the dock lasts for the replies to these turns
-abbrev pub Lasts : DockView → List Turn → Type 0
+abbrev pub Lasts : DockView → List ServedStep → Type 0
 Lasts dock turns = HasRoomFor dock (λ session. sent_to session turns) (closed_in turns)
 
 -- so many further sessions can be ended where these were
@@ -101,7 +105,7 @@ ended_with sent None counts = counts
 ended_with sent (Some reply) counts = if reply.closes then ended_behind counts (sent reply.session) else counts
 
 -- the same turn by turn, from what each session was sent before
-abbrev pub ended_in : (sent : ℕ → Option (List ℕ)) → Option (List ℕ) → List Turn → Option (List ℕ)
+abbrev pub ended_in : (sent : ℕ → Option (List ℕ)) → Option (List ℕ) → List ServedStep → Option (List ℕ)
 ended_in sent counts [] = counts
 ended_in sent counts (turn ∷ turns) =
     let now : ℕ → Option (List ℕ) = λ session. append_known (sent session) (bytes_to session turn.reply) in
@@ -113,7 +117,7 @@ Spends DockFault more old new = (more ≡ []) × IfSome new.coming (λ coming. c
 Spends fault more old new = new.faults ≡ old.faults
 
 -- each step was given to the relay, and each reply was sent whole, to its session alone; those that close theirs ended it
-pub record Serves (old_relay new_relay : Relay) (old new : DockView) (turns : List Turn) : Type 0 where
+pub record Serves (old_relay new_relay : Relay) (old new : DockView) (turns : List ServedStep) : Type 0 where
   pub runs : RelayRuns old_relay (map event_of (steps_of turns)) new_relay (replies_of turns)
   pub gave : GaveSteps old new (steps_of turns)
   pub sent : (session : ℕ) → Took (out_to session old) (out_to session new) (sent_to session turns)
@@ -132,7 +136,7 @@ pub record EndedFront (old new : DockView) (sessions : List ℕ) : Type 0 where
   pub ended : new.ended ≡ option_map (λ ended. ended ++ take count sessions) old.ended
 
 -- the same up to a fault: the relay stands after a front of the events, and each session was sent a front of its bytes
-pub record ServesPartly (fault : ServeFault) (old_relay new_relay : Relay) (old new : DockView) (turns : List Turn) : Type 0 where
+pub record ServesPartly (fault : ServeFault) (old_relay new_relay : Relay) (old new : DockView) (turns : List ServedStep) : Type 0 where
   -- the step that the relay was not given, where there is one
   pub more : List MemStep
   pub few : length more ≤ 1
@@ -146,19 +150,19 @@ pub record ServesPartly (fault : ServeFault) (old_relay new_relay : Relay) (old 
   pub calm : Lasts old turns → Spends fault more old new
 
 -- no step was asked for once so many sessions were over
-abbrev pub NoneAfter : ℕ → List Turn → Type 0
+abbrev pub NoneAfter : ℕ → List ServedStep → Type 0
 NoneAfter sessions turns = (count : ℕ) → count < length turns → count_over (take count turns) < sessions
 
 -- one turn or none, up to a fault; a dock that lasts fails only as a step is asked for
 pub record TurnStops (fault : ServeFault) (old_relay new_relay : Relay) (old new : DockView) : Type 0 where
-  pub turns : List Turn
+  pub turns : List ServedStep
   pub partly : ServesPartly fault old_relay new_relay old new turns
   pub few : length turns + length partly.more ≤ 1
   pub none_begun : Lasts old turns → fault ≡ DockFault → turns ≡ []
 
 -- each turn but the last was served whole: no step is asked for before the reply to the one before it was sent
-pub record StopsInTurn (fault : ServeFault) (old_relay new_relay : Relay) (old new : DockView) (turns : List Turn) : Type 0 where
-  pub served : List Turn
+pub record StopsInTurn (fault : ServeFault) (old_relay new_relay : Relay) (old new : DockView) (turns : List ServedStep) : Type 0 where
+  pub served : List ServedStep
   pub between : Relay
   pub middle : DockView
   pub serves : Serves old_relay between old middle served
@@ -167,7 +171,7 @@ pub record StopsInTurn (fault : ServeFault) (old_relay new_relay : Relay) (old n
 
 -- serving stopped at a fault, with at most so many steps taken; a dock that lasts fails only before so many sessions are over
 pub record ServingStops (sessions steps : ℕ) (fault : ServeFault) (old_relay new_relay : Relay) (old new : DockView) : Type 0 where
-  pub turns : List Turn
+  pub turns : List ServedStep
   pub partly : ServesPartly fault old_relay new_relay old new turns
   pub few : length turns + length partly.more ≤ steps
   pub in_turn : StopsInTurn fault old_relay new_relay old new turns
@@ -181,8 +185,8 @@ pub record ServingStops (sessions steps : ℕ) (fault : ServeFault) (old_relay n
 
 -- The first of the steps to come bring so many sessions to their end, and the dock lasts for the replies to them. The steps
 -- are those that stand there, in whatever parts the dock gives them.
-pub record Suffices (sessions : ℕ) (relay : Relay) (dock : DockView) : Type 0 where
-  pub turns : List Turn
+pub record SufficesForDock (sessions : ℕ) (relay : Relay) (dock : DockView) : Type 0 where
+  pub turns : List ServedStep
   pub behind : List MemStep
   pub coming : dock.coming ≡ Some (steps_of turns ++ behind)
   pub last : Relay
@@ -192,11 +196,11 @@ pub record Suffices (sessions : ℕ) (relay : Relay) (dock : DockView) : Type 0 
 
 -- a dock that suffices counts no fault, and none is told
 pub record BlamesDock {T : Type 0} (sessions : ℕ) (relay : Relay) (old new : DockView) (result : Result T ServeFault) : Type 0 where
-  pub calm : Suffices sessions relay old → new.faults ≡ old.faults
-  pub sure : Suffices sessions relay old → result ≢ Err DockFault
+  pub calm : SufficesForDock sessions relay old → new.faults ≡ old.faults
+  pub sure : SufficesForDock sessions relay old → result ≢ Err DockFault
 
 -- turns that send the same to each session, and bring the same sessions to their end
-pub record SameTurns (a b : List Turn) : Type 0 where
+pub record SameTurns (a b : List ServedStep) : Type 0 where
   pub sent : (session : ℕ) → sent_to session a ≡ sent_to session b
   pub closed : closed_in a ≡ closed_in b
   pub over : over_after [] a ≡ over_after [] b
@@ -204,6 +208,6 @@ pub record SameTurns (a b : List Turn) : Type 0 where
 -- The parts in which a dock gives its steps, to the last, count as joined. Where a last piece was given in part, the steps are
 -- those up to there, with that part for the piece.
 pub record PartsCountAsJoined : Type 0 where
-  pub same : (start one other : Relay) (whole parts : List Turn) → Comes (Some (steps_of whole)) (steps_of parts) (Some [])
+  pub same : (start one other : Relay) (whole parts : List ServedStep) → HaveCome (Some (steps_of whole)) (steps_of parts) (Some [])
       → RelayRuns start (map event_of (steps_of whole)) one (replies_of whole) → RelayRuns start (map event_of (steps_of parts)) other (replies_of parts)
       → (one ≡ other) × SameTurns whole parts

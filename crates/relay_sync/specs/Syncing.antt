@@ -1,7 +1,7 @@
 -- An exchange with a relay: a replica says what it holds, hears the reply, and takes in its operations as they come.
 use Rattle.std.specs.Prelude.{◌≡◌, ◌≢◌, ◌⊎◌, ◌+◌, ◌*◌, ◌≤◌, ℕ, All, List, [], ◌∷◌, ◌++◌, flat_map, length, Option, Some, None, Result, Err}
 use Rattle.std.specs.Io.KnownBytes.{prepend_known}
-use Rattle.fugue_ids.specs.Causes.{Rose}
+use Rattle.fugue_ids.specs.Causes.{Faulted}
 use Rattle.fugue_ids.specs.Outs.{Took, TookFront}
 use Rattle.fugue_ids.specs.declared.limits.TheConstants.{GREATEST_HOLD, STREAM_LIMIT}
 use Rattle.fugue_ids.specs.declared.op.Op.{Op}
@@ -13,7 +13,7 @@ use Rattle.replica_core.specs.Keeping.{TakesIn, TakesPartly, OpsTaking}
 use Rattle.replica_core.specs.Told.{total}
 use Rattle.replica_core.specs.declared.keeping.FeedFault.{FeedFault}
 use Rattle.replica_core.specs.declared.keeping.FeedFault.TheVariants as feed_fault
-use Rattle.relay_sync.specs.Replies.{End, Hears, IsMessage, Operations, Refusal, StopsIn, Whole}
+use Rattle.relay_sync.specs.Replies.{End, HeardBytes, IsMessage, Operations, Refusal, StopsIn, Whole}
 use Rattle.relay_sync.specs.Saying.{SaysToNoOther, request_for}
 use Rattle.relay_sync.specs.declared.syncing.SyncFault.{SyncFault}
 use Rattle.relay_sync.specs.declared.syncing.SyncFault.TheVariants.{NoMemory, RelayRefused, TooMany, WireFault}
@@ -23,7 +23,7 @@ abbrev pub count_so_far : OpsTaking → ℕ
 count_so_far now = total now.counts + length now.replica.held.waiting
 
 -- more operations can be taken in and counted
-pub record IsReady (now : OpsTaking) (heard : ℕ) : Type 0 where
+pub record CanHear (now : OpsTaking) (heard : ℕ) : Type 0 where
   pub settled : IsSettled now.replica.held
   -- each operation of a frame has more than one byte
   pub few : 2 * count_so_far now ≤ heard + 2 * GREATEST_HOLD
@@ -37,7 +37,7 @@ pub record TakesInFrame (before after : OpsTaking) (frame : List ℕ) : Type 0 w
   pub few : 2 * count_so_far after ≤ 2 * count_so_far before + length frame
 
 -- those before this one were
-pub record TakesUpTo (op : Op) (before after : OpsTaking) (frame : List ℕ) : Type 0 where
+pub record HearsUpTo (op : Op) (before after : OpsTaking) (frame : List ℕ) : Type 0 where
   pub front : List Op
   pub more : List Op
   pub is_message : IsMessage (Operations (front ++ op ∷ more)) frame
@@ -46,10 +46,10 @@ pub record TakesUpTo (op : Op) (before after : OpsTaking) (frame : List ℕ) : T
 -- one of them is one too many, or memory was wanting for it
 abbrev pub TakesNotAll : FeedFault → (before after : OpsTaking) → (frame : List ℕ) → Type 0
 TakesNotAll (feed_fault.TooMany most) before after frame =
-    (op : Op) × TakesUpTo op before after frame × (most ≡ after.replica.most)
+    (op : Op) × HearsUpTo op before after frame × (most ≡ after.replica.most)
     × (answer after.replica.hold after.replica.most after.replica.held op ≡ AnswersTooMany)
 TakesNotAll feed_fault.NoMemory before after frame =
-    (op : Op) × (middle : OpsTaking) × TakesUpTo op before middle frame × ((after ≡ middle) ⊎ TakesPartly middle after op)
+    (op : Op) × (middle : OpsTaking) × HearsUpTo op before middle frame × ((after ≡ middle) ⊎ TakesPartly middle after op)
 
 -- the reply was heard to its end, and its operations were taken in
 pub record HearsReply (old new : WireView) (before after : OpsTaking) (count : ℕ) : Type 0 where
@@ -57,7 +57,7 @@ pub record HearsReply (old new : WireView) (before after : OpsTaking) (count : �
   pub are_frames : All (IsFrame Version2) found
   pub last : List ℕ
   pub ends : IsMessage (End count) last
-  pub hears : Hears old new (flat_map (λ framed. framed.bytes) found ++ last)
+  pub hears : HeardBytes old new (flat_map (λ framed. framed.bytes) found ++ last)
   pub within : length (flat_map (λ framed. framed.bytes) found ++ last) ≤ STREAM_LIMIT
   pub takes : TakesIn before after (flat_map (λ framed. framed.ops) found)
 
@@ -73,7 +73,7 @@ pub record HearsPartly (fault : SyncFault) (old new : WireView) (before after : 
   pub found : List Framed
   pub are_frames : All (IsFrame Version2) found
   pub bytes : List ℕ
-  pub hears : Hears old new (flat_map (λ framed. framed.bytes) found ++ bytes)
+  pub hears : HeardBytes old new (flat_map (λ framed. framed.bytes) found ++ bytes)
   pub middle : OpsTaking
   pub takes : TakesIn before middle (flat_map (λ framed. framed.ops) found)
   pub stops : ReplyStopsFor fault old new middle after (length (flat_map (λ framed. framed.bytes) found)) bytes
@@ -88,7 +88,7 @@ pub record HearsNoFurther (old new : Option (List ℕ)) : Type 0 where
   pub heard : old ≡ prepend_known (flat_map (λ framed. framed.bytes) found ++ last) new
 
 -- the port was dialled, once and before all else, and all that the replica holds was said to it
-pub record Asks (old new : WireView) (port cursor : ℕ) (held : Held) : Type 0 where
+pub record IsDialled (old new : WireView) (port cursor : ℕ) (held : Held) : Type 0 where
   pub dialled : DialsOnce old new port
   pub said : Took (out_of old) (out_of new) (request_for cursor held)
   pub left : new.left ≡ old.left
@@ -96,14 +96,14 @@ pub record Asks (old new : WireView) (port cursor : ℕ) (held : Held) : Type 0 
 
 -- why not all of it was said: for want of memory nothing was done
 abbrev pub SaysNotAll : SyncFault → (old new : WireView) → Type 0
-SaysNotAll WireFault old new = Rose old.faults new.faults
+SaysNotAll WireFault old new = Faulted old.faults new.faults
 SaysNotAll NoMemory old new = new ≡ old
 SaysNotAll fault old new = ⊥
 
 -- the replica said what it holds, and took in the reply
-pub record Syncs (old new : WireView) (before after : OpsTaking) (port cursor count : ℕ) : Type 0 where
+pub record SyncsReplica (old new : WireView) (before after : OpsTaking) (port cursor count : ℕ) : Type 0 where
   pub asked : WireView
-  pub asks : Asks old asked port cursor before.replica.held
+  pub asks : IsDialled old asked port cursor before.replica.held
   pub hears : HearsReply asked new before after count
 
 -- a front of it was said to the port, and nothing was heard
@@ -117,37 +117,38 @@ pub record FailsToAsk (fault : SyncFault) (old new : WireView) (before after : O
 -- it was said, and the reply was heard up to a fault
 pub record FailsToHear (fault : SyncFault) (old new : WireView) (before after : OpsTaking) (port cursor : ℕ) : Type 0 where
   pub asked : WireView
-  pub asks : Asks old asked port cursor before.replica.held
+  pub asks : IsDialled old asked port cursor before.replica.held
   pub hears : HearsPartly fault asked new before after
 
+-- an exchange failed: as it asked, or as it heard the reply
 abbrev pub SyncFails : SyncFault → (old new : WireView) → (before after : OpsTaking) → (port cursor : ℕ) → Type 0
 SyncFails fault old new before after port cursor = FailsToAsk fault old new before after port cursor ⊎ FailsToHear fault old new before after port cursor
 
 -- calls are sure, and so many bytes fit
-abbrev pub Fits : ℕ → WireView → Type 0
-Fits count wire = (room : ℕ) × (wire.room ≡ Some room) × (count ≤ room)
+abbrev pub FitsReply : ℕ → WireView → Type 0
+FitsReply count wire = (room : ℕ) × (wire.room ≡ Some room) × (count ≤ room)
 
 -- a call on the wire is blamed only where one failed, and none fails on a sure wire which what is said fits
 pub record BlamesWire {T : Type 0} (said : ℕ) (old new : WireView) (result : Result T SyncFault) : Type 0 where
   pub later : old.faults ≤ new.faults
-  pub rose : result ≡ Err WireFault → Rose old.faults new.faults
-  pub calm : Fits said old → new.faults ≡ old.faults
-  pub sure : Fits said old → result ≢ Err WireFault
+  pub rose : result ≡ Err WireFault → Faulted old.faults new.faults
+  pub calm : FitsReply said old → new.faults ≡ old.faults
+  pub sure : FitsReply said old → result ≢ Err WireFault
 
 -- one message was heard: a frame, whose operations were taken in
-pub record TakesOne (old new : WireView) (before after : OpsTaking) (place heard : ℕ) : Type 0 where
+pub record HearsMessage (old new : WireView) (before after : OpsTaking) (place heard : ℕ) : Type 0 where
   pub ops : List Op
   pub hears : Whole (Operations ops) old new place heard []
   pub takes : TakesIn before after ops
-  pub ready : IsReady after heard
+  pub ready : CanHear after heard
 
 -- or the end of the reply
 abbrev pub HearsOne : (old new : WireView) → (before after : OpsTaking) → (place heard : ℕ) → Option ℕ → Type 0
-HearsOne old new before after place heard None = TakesOne old new before after place heard
+HearsOne old new before after place heard None = HearsMessage old new before after place heard
 HearsOne old new before after place heard (Some count) = Whole (End count) old new place heard [] × (after ≡ before)
 
 -- or a fault was met
-pub record StopsAt (fault : SyncFault) (old new : WireView) (before after : OpsTaking) (place : ℕ) : Type 0 where
+pub record StopsHearingAt (fault : SyncFault) (old new : WireView) (before after : OpsTaking) (place : ℕ) : Type 0 where
   pub bytes : List ℕ
-  pub hears : Hears old new bytes
+  pub hears : HeardBytes old new bytes
   pub stops : ReplyStopsFor fault old new before after place bytes

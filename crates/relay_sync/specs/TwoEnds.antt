@@ -8,7 +8,7 @@ use Rattle.origin_model.specs.relay.Relay.{IsRelayState, Relay}
 use Rattle.origin_model.specs.relay.Session.{Closes, Goes, Taken, TakesAll, is_logged, refusal_message, reply_from, unread}
 use Rattle.origin_model.specs.taking.Taking.{Held}
 use Rattle.relay_core.specs.OpLogs.{IsLogOf}
-use Rattle.relay_core.specs.Texts.{with_ops}
+use Rattle.relay_core.specs.Texts.{log_with_ops}
 use Rattle.relay_core.specs.declared.relay.TheConstants.{MOST_LOGGED}
 use Rattle.relay_sync.specs.Outcomes.{Ended, ReadsReply}
 use Rattle.relay_sync.specs.Saying.{request_for}
@@ -39,15 +39,15 @@ pub record IsFull (limit cursor : ℕ) (log : List (List ℕ)) (ops : List Op) (
   pub op : Op
   pub later : List Op
   pub split : ops ≡ before ++ op ∷ later
-  pub lacks : is_logged (with_ops log before) (frame op) ≡ false
-  pub full : length (with_ops log before) ≡ limit
-  pub answered : after ≡ record { log = with_ops log before; next = Closes (refusal_message 2) }
+  pub lacks : is_logged (log_with_ops log before) (frame op) ≡ false
+  pub full : length (log_with_ops log before) ≡ limit
+  pub answered : after ≡ record { log = log_with_ops log before; next = Closes (refusal_message 2) }
 
 -- all of the operations joined, and the reply is the log from the cursor on
 pub record IsReplied (limit cursor : ℕ) (log : List (List ℕ)) (ops : List Op) (after : Taken) : Type 0 where
   pub within : cursor ≤ length log
-  pub room : length (with_ops log ops) ≤ limit
-  pub answered : after ≡ record { log = with_ops log ops; next = Closes (reply_from (with_ops log ops) cursor) }
+  pub room : length (log_with_ops log ops) ≤ limit
+  pub answered : after ≡ record { log = log_with_ops log ops; next = Closes (reply_from (log_with_ops log ops) cursor) }
 
 -- a request of a replica is answered in one of these ways: it is never called no session
 abbrev pub RequestsAreAnswered : Type 0

@@ -1,6 +1,6 @@
 ghost use Rattle.std.specs.Prelude.{◌≡◌, ◌≢◌, ◌+◌, ◌≤◌, ◌∷◌, [], IfErr, IfOk, List, OnOk, length, ℕ};
 ghost use Rattle.origin_model.specs.declared.grammar.Grammar.TheVariants.{Version2 as WithRuns};
-ghost use Rattle.relay_sync.specs.Replies.{End, Hears, IsMessageFront, IsWireFault, Refusal, Stops, Whole, WholeFrame};
+ghost use Rattle.relay_sync.specs.Replies.{End, HeardBytes, IsMessageFront, IsWireFault, Refusal, StopsHearing, Whole, WholeFrame};
 ghost use Rattle.relay_sync.specs.Replies.{WireRisesFor};
 
 use crate::syncing::SyncFault;
@@ -11,12 +11,12 @@ use outer_ports::Wire;
 /// Hears one byte more of the message at the place, and nothing behind it. The one past the limit is too many.
 pub(crate) fn next_byte<W: Wire>(wire: &mut W, heard: &mut u64, place: u64) -> Result<u8, SyncFault>
     requires { heard.old ≤ STREAM_LIMIT }
-    ensures ok { IfOk result (λ byte. Hears (W.seen wire.old) (W.seen wire.new) (byte ∷ [])) }
+    ensures ok { IfOk result (λ byte. HeardBytes (W.seen wire.old) (W.seen wire.new) (byte ∷ [])) }
     ensures count { IfOk result (λ byte. heard.new ≡ heard.old + 1) }
     ensures within { IfOk result (λ byte. heard.new ≤ STREAM_LIMIT) }
     ensures err { IfErr result
         (λ fault. (before : List ℕ) → IsMessageFront before → place + length before ≡ heard.old
-        → Stops fault (W.seen wire.old) (W.seen wire.new) place before) }
+        → StopsHearing fault (W.seen wire.old) (W.seen wire.new) place before) }
     ensures told { WireRisesFor (IsWireFault result) (W.seen wire.old) (W.seen wire.new) }
 {
     let mut buffer = [0];
@@ -43,7 +43,7 @@ pub(crate) fn next_number<W: Wire>(
     requires count { heard.old ≡ place + 1 }
     ensures ok { IfOk result (λ count. Whole (End count) (W.seen wire.old) (W.seen wire.new) place heard.new
         (END ∷ [])) }
-    ensures err { IfErr result (λ fault. Stops fault (W.seen wire.old) (W.seen wire.new) place (END ∷ [])) }
+    ensures err { IfErr result (λ fault. StopsHearing fault (W.seen wire.old) (W.seen wire.new) place (END ∷ [])) }
     ensures told { WireRisesFor (IsWireFault result) (W.seen wire.old) (W.seen wire.new) }
 {
     let mut number = [0; 4];
@@ -62,7 +62,7 @@ pub(crate) fn next_code<W: Wire>(wire: &mut W, heard: &mut u64, place: u64) -> R
     requires count { heard.old ≡ place + 1 }
     ensures ok { IfOk result (λ code. Whole (Refusal code) (W.seen wire.old) (W.seen wire.new) place heard.new
         (REFUSAL ∷ [])) }
-    ensures err { IfErr result (λ fault. Stops fault (W.seen wire.old) (W.seen wire.new) place (REFUSAL ∷ [])) }
+    ensures err { IfErr result (λ fault. StopsHearing fault (W.seen wire.old) (W.seen wire.new) place (REFUSAL ∷ [])) }
     ensures told { WireRisesFor (IsWireFault result) (W.seen wire.old) (W.seen wire.new) }
 {
     let code = next_byte(wire, heard, place)?;
@@ -87,7 +87,7 @@ pub(crate) fn next_frame<W: Wire>(
     requires no_refusal { first ≢ REFUSAL }
     ensures ok { OnOk result (WholeFrame front.new.bytes (W.seen wire.old) (W.seen wire.new) place heard.new
         (first ∷ [])) }
-    ensures err { IfErr result (λ fault. Stops fault (W.seen wire.old) (W.seen wire.new) place (first ∷ [])) }
+    ensures err { IfErr result (λ fault. StopsHearing fault (W.seen wire.old) (W.seen wire.new) place (first ∷ [])) }
     ensures grammar { front.new.grammar ≡ WithRuns }
     ensures told { WireRisesFor (IsWireFault result) (W.seen wire.old) (W.seen wire.new) }
 {

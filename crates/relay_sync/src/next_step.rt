@@ -1,6 +1,6 @@
 ghost use Rattle.std.specs.Prelude.{◌≡◌, ◌≢◌, ◌≤◌, ◌∷◌, [], Err, IfErr, IfOk, IfSome, List, OnOk, length};
-ghost use Rattle.fugue_ids.specs.Causes.{Rose};
-ghost use Rattle.outer_ports.specs.declared.dock.mem_dock.MemStep.{MemStep as AnyStep};
+ghost use Rattle.fugue_ids.specs.Causes.{Faulted};
+ghost use Rattle.outer_ports.specs.declared.dock.MemStep.{MemStep as AnyStep};
 ghost use Rattle.relay_sync.specs.Sending.{DockRisesFor, GivesSteps, IsDockFault};
 ghost use Rattle.relay_sync.specs.Serving.{Spends};
 ghost use Rattle.relay_sync.specs.declared.serving.ServeFault.TheVariants.{DockFault, TooLong};
@@ -18,7 +18,7 @@ pub(crate) fn next_step<D: Dock>(alloc: Global, dock: &mut D) -> Result<MemStep,
         × IfSome (D.seen dock.old).ends (λ ends. Spends fault steps (D.seen dock.old) (D.seen dock.new))) }
     ensures calm { IfSome (D.seen dock.old).ends
         (λ ends. OnOk result ((D.seen dock.new).faults ≡ (D.seen dock.old).faults)) }
-    ensures dock_fault { result ≡ Err DockFault → Rose (D.seen dock.old).faults (D.seen dock.new).faults }
+    ensures dock_fault { result ≡ Err DockFault → Faulted (D.seen dock.old).faults (D.seen dock.new).faults }
     ensures told { DockRisesFor (IsDockFault result) (D.seen dock.old) (D.seen dock.new) }
     ensures not_long { result ≢ Err TooLong }
 {

@@ -1,5 +1,5 @@
 ghost use Rattle.std.specs.Prelude.{◌≡◌, IfOk, IsErr};
-ghost use Rattle.origin_model.specs.edits.State.{Stands};
+ghost use Rattle.origin_model.specs.edits.State.{IsSound};
 ghost use Rattle.relay_sync.specs.Replies.{WireRisesFor};
 ghost use Rattle.relay_sync.specs.Saying.{SaysText, SaysTo, request_for};
 
@@ -13,7 +13,7 @@ use std::alloc::Global;
 /// What the replica says: all that it holds, and from where on it asks for the log.
 pub(crate) fn request_of(alloc: Global, replica: &Replica, cursor: u32) -> Result<Vec<u8>, NoMemory>
     ensures text { IfOk result (λ text. text.items ≡ request_for cursor replica.now.held) }
-    ensures stands { Stands replica.now }
+    ensures stands { IsSound replica.now }
 {
     let accepted = replica.accepted();
     let mut text = Vec::new(alloc);

@@ -1,11 +1,11 @@
 ghost use Rattle.std.specs.Prelude.{◌≡◌, ◌≢◌, ◌<◌, ◌≤◌, ◌∷◌, [], Err, IfErr, List, OnOk, length, ℕ, Option as Maybe};
 ghost use Rattle.std.specs.Prelude.{OnErr, IsErr, Some};
-ghost use Rattle.fugue_ids.specs.Causes.{Rose, HasCause};
-ghost use Rattle.relay_core.specs.Sessions.{listed};
+ghost use Rattle.fugue_ids.specs.Causes.{Faulted, HasCause};
+ghost use Rattle.relay_core.specs.Sessions.{reply_list};
 ghost use Rattle.origin_model.specs.declared.relay.Reply.{Reply as AnyReply};
 ghost use Rattle.relay_sync.specs.Over.{IsOver, over_once};
 ghost use Rattle.relay_sync.specs.Sending.{DockRisesFor, IsDockFault, Replied, RepliedPartly, SendsText};
-ghost use Rattle.relay_sync.specs.Serving.{BlamesDock, NoneAfter, Serves, ServingStops, Turn, TurnStops, count_over};
+ghost use Rattle.relay_sync.specs.Serving.{BlamesDock, NoneAfter, Serves, ServingStops, ServedStep, TurnStops, count_over};
 ghost use Rattle.relay_sync.specs.Serving.{event_of as event_by, over_after, with_closed, with_gone, with_number};
 ghost use Rattle.relay_sync.specs.declared.serving.ServeFault.TheVariants.{DockFault as AtDock};
 ghost use Rattle.relay_sync.specs.declared.serving.ServeFault.TheVariants.{TooLong as TakesTooLong};
@@ -40,14 +40,14 @@ pub fn serve<B: BuildHasher, D: Dock>(
     sessions: u32,
     steps: u64,
 ) -> Result<(), ServeFault>
-    ensures ok { OnOk result ((turns : List Turn) × Serves relay.old relay.new (D.seen dock.old) (D.seen dock.new) turns
+    ensures ok { OnOk result ((turns : List ServedStep) × Serves relay.old relay.new (D.seen dock.old) (D.seen dock.new) turns
         × (sessions ≤ count_over turns) × NoneAfter sessions turns × (length turns ≤ steps)) }
-    ensures too_long { result ≡ Err TakesTooLong → (turns : List Turn)
+    ensures too_long { result ≡ Err TakesTooLong → (turns : List ServedStep)
         × Serves relay.old relay.new (D.seen dock.old) (D.seen dock.new) turns
         × (count_over turns < sessions) × NoneAfter sessions turns × (length turns ≡ steps) }
     ensures partly { IfErr result
         (λ fault. ServingStops sessions steps fault relay.old relay.new (D.seen dock.old) (D.seen dock.new)) }
-    ensures dock_fault { result ≡ Err AtDock → Rose (D.seen dock.old).faults (D.seen dock.new).faults }
+    ensures dock_fault { result ≡ Err AtDock → Faulted (D.seen dock.old).faults (D.seen dock.new).faults }
     ensures told { DockRisesFor (IsDockFault result) (D.seen dock.old) (D.seen dock.new) }
     ensures dock { BlamesDock sessions relay.old (D.seen dock.old) (D.seen dock.new) result }
 {
@@ -70,10 +70,10 @@ fn serve_step<B: BuildHasher, D: Dock>(
     dock: &mut D,
     over: &mut BTreeSet<u32>,
 ) -> Result<(), ServeFault>
-    ensures ok { OnOk result ((turn : Turn) × Serves relay.old relay.new (D.seen dock.old) (D.seen dock.new) (turn ∷ [])
+    ensures ok { OnOk result ((turn : ServedStep) × Serves relay.old relay.new (D.seen dock.old) (D.seen dock.new) (turn ∷ [])
         × ((sessions : List ℕ) → IsOver over.old sessions → IsOver over.new (over_after sessions (turn ∷ [])))) }
     ensures partly { IfErr result (λ fault. TurnStops fault relay.old relay.new (D.seen dock.old) (D.seen dock.new)) }
-    ensures dock_fault { result ≡ Err AtDock → Rose (D.seen dock.old).faults (D.seen dock.new).faults }
+    ensures dock_fault { result ≡ Err AtDock → Faulted (D.seen dock.old).faults (D.seen dock.new).faults }
     ensures told { DockRisesFor (IsDockFault result) (D.seen dock.old) (D.seen dock.new) }
     ensures not_long { result ≢ Err TakesTooLong }
 {
@@ -95,12 +95,12 @@ fn answer<D: Dock>(
     over: &mut BTreeSet<u32>,
     replies: &[Reply],
 ) -> Result<(), ServeFault>
-    ensures ok { (reply : Maybe AnyReply) → replies.now ≡ listed reply
+    ensures ok { (reply : Maybe AnyReply) → replies.now ≡ reply_list reply
         → OnOk result (Replied (D.seen dock.old) (D.seen dock.new) reply
         × ((sessions : List ℕ) → IsOver over.old sessions → IsOver over.new (with_closed sessions reply))) }
-    ensures partly { (reply : Maybe AnyReply) → replies.now ≡ listed reply
+    ensures partly { (reply : Maybe AnyReply) → replies.now ≡ reply_list reply
         → IfErr result (λ fault. RepliedPartly fault (D.seen dock.old) (D.seen dock.new) reply) }
-    ensures dock_fault { result ≡ Err AtDock → Rose (D.seen dock.old).faults (D.seen dock.new).faults }
+    ensures dock_fault { result ≡ Err AtDock → Faulted (D.seen dock.old).faults (D.seen dock.new).faults }
     ensures told { DockRisesFor (IsDockFault result) (D.seen dock.old) (D.seen dock.new) }
     ensures not_long { result ≢ Err TakesTooLong }
 {

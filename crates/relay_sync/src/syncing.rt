@@ -8,8 +8,8 @@ ghost use Rattle.replica_core.specs.Keeping.{taking_begun};
 ghost use Rattle.relay_sync.specs.Outcomes.{AnswersByReply, Ended, HeardTo, HeardUpTo};
 ghost use Rattle.relay_sync.specs.Replies.{IsWireFault, WireRisesFor};
 ghost use Rattle.relay_sync.specs.Saying.{request_for};
-ghost use Rattle.relay_sync.specs.Syncing.{BlamesWire, SyncFails, HearsOne, HearsPartly, HearsReply, IsReady, StopsAt};
-ghost use Rattle.relay_sync.specs.Syncing.{Syncs, TakesInFrame, TakesNotAll, count_so_far};
+ghost use Rattle.relay_sync.specs.Syncing.{BlamesWire, SyncFails, HearsOne, HearsPartly, HearsReply, CanHear, StopsHearingAt};
+ghost use Rattle.relay_sync.specs.Syncing.{SyncsReplica, TakesInFrame, TakesNotAll, count_so_far};
 
 use crate::hearing::{next_byte, next_code, next_frame, next_number};
 use crate::saying::{request_of, say};
@@ -83,7 +83,7 @@ pub fn sync<W: Wire>(
     kept: &mut Vec<Op>,
 ) -> Result<Synced, SyncFault>
     requires { IsSettled replica.old.held }
-    ensures ok { IfOk result (λ synced. Syncs (W.seen wire.old) (W.seen wire.new)
+    ensures ok { IfOk result (λ synced. SyncsReplica (W.seen wire.old) (W.seen wire.new)
         (taking_begun replica.old kept.old.items)
         (record { replica = replica.new; counts = synced.tally; kept = kept.new.items }) port cursor synced.cursor) }
     ensures settled { OnOk result (IsSettled replica.new.held) }
@@ -156,11 +156,11 @@ fn hear_one<W: Wire>(
 ) -> Result<Option<u32>, SyncFault>
     requires grammar { front.old.grammar ≡ WithRuns }
     requires within { heard.old ≤ STREAM_LIMIT }
-    requires ready { IsReady (record { replica = replica.old; counts = tally.old; kept = kept.old.items }) heard.old }
+    requires ready { CanHear (record { replica = replica.old; counts = tally.old; kept = kept.old.items }) heard.old }
     ensures ok { IfOk result (λ count. HearsOne (W.seen wire.old) (W.seen wire.new)
         (record { replica = replica.old; counts = tally.old; kept = kept.old.items })
         (record { replica = replica.new; counts = tally.new; kept = kept.new.items }) heard.old heard.new count) }
-    ensures err { IfErr result (λ fault. StopsAt fault (W.seen wire.old) (W.seen wire.new)
+    ensures err { IfErr result (λ fault. StopsHearingAt fault (W.seen wire.old) (W.seen wire.new)
         (record { replica = replica.old; counts = tally.old; kept = kept.old.items })
         (record { replica = replica.new; counts = tally.new; kept = kept.new.items }) heard.old) }
     ensures grammar { front.new.grammar ≡ WithRuns }

@@ -5,7 +5,7 @@ use Rattle.fugue_ids.specs.declared.op.Op.{Op}
 use Rattle.fugue_ids.specs.declared.limits.TheConstants.{GREATEST_HOLD}
 use Rattle.origin_model.specs.declared.taking.Tally.{Tally}
 use Rattle.origin_model.specs.taking.Taking.{Held, settle_step, count_joined, count_dropped, settling_counted}
-use Rattle.origin_model.specs.edits.State.{State, Stands}
+use Rattle.origin_model.specs.edits.State.{State, IsSound}
 use Rattle.replica_core.specs.Settling.{SettlesTo, Here, Step}
 use Rattle.replica_core.specs.Told.{IsTallied, Settles, SettlesOn}
 use Rattle.replica_core.specs.declared.replica.Settled.{Settled}
@@ -67,7 +67,7 @@ counted_more s t u x r e =
 -- how far settling has come, and what its loop needs
 pub record IsSettling (start now : State) (before after : Tally) : Type 0 where
   pub way : SettlesOn start now before after
-  pub stands : Stands now
+  pub stands : IsSound now
   pub few : length start.held.waiting ≤ GREATEST_HOLD
   pub accepted : before.accepted ≤ 2 ^ 31
   pub stray : before.stray < 2 ^ 31
@@ -77,7 +77,7 @@ pub settles_here : (s : State) (t : Tally) → SettlesOn s s t t
 settles_here s t = record { steps = Here s.held; counted = sym (counted-none s.held t); others = refl }
 
 -- the same, where a loop begins
-pub settling_starts : (s : State) (t : Tally) → Stands s → t.accepted ≤ 2 ^ 31 → t.stray < 2 ^ 31 → IsSettling s s t t
+pub settling_starts : (s : State) (t : Tally) → IsSound s → t.accepted ≤ 2 ^ 31 → t.stray < 2 ^ 31 → IsSettling s s t t
 settling_starts s t stands accepted stray = record {
   way = settles_here s t;
   stands = stands;
@@ -88,7 +88,7 @@ settling_starts s t stands accepted stray = record {
 
 -- one step more is counted in its turn
 pub settling_more : (start now next : State) (before after then : Tally) → IsSettling start now before after → IsTallied now.held next.held after then true
-    → next ≡ record now { held = next.held } → Stands next → IsSettling start next before then
+    → next ≡ record now { held = next.held } → IsSound next → IsSettling start next before then
 settling_more start now next before after then so step others stands = record {
   way = record {
     steps = reaches_then start.held now.held next.held so.way.steps step.0;

@@ -13,7 +13,7 @@ use Rattle.origin_model.specs.declared.operations.Verdict.{Verdict}
 use Rattle.origin_model.specs.declared.operations.Verdict.TheVariants.{Again as AgainOnHistory, Conflict as ConflictOnHistory, Stray as StrayOnHistory, Missing as MissingOnHistory, Ready as ReadyOnHistory}
 use Rattle.origin_model.specs.taking.Taking.{Held, Answer, Again, Conflict, Full, Waits, answer, answer_by, is_again, is_kept, is_taken, is_decided}
 use Rattle.replica_core.specs.declared.replica.Decision.{Decision}
-use Rattle.replica_core.specs.Decision.{decided, answer_by_decision}
+use Rattle.replica_core.specs.Decision.{decision_of, answer_by_decision}
 
 -- what is found, by the two look-ups
 abbrev found_by : (same id_waits : Bool) → Found
@@ -34,7 +34,7 @@ answer_from again taken at_most at_hold v = if again then Again else if taken th
 
 lines_agree : (again same id_accepted id_waits : Bool) (stray missing : Option Identifier) (at_most at_hold : Bool)
     → answer_from (again || same) (id_accepted || id_waits) at_most at_hold (first_line again id_accepted stray missing)
-    ≡ answer_by_decision at_hold (decided (found_by same id_waits) (first_line again id_accepted stray missing) at_most)
+    ≡ answer_by_decision at_hold (decision_of (found_by same id_waits) (first_line again id_accepted stray missing) at_most)
 lines_agree true true id_accepted id_waits stray missing at_most at_hold = refl
 lines_agree true false id_accepted true stray missing at_most at_hold = refl
 lines_agree true false id_accepted false stray missing at_most at_hold = refl
@@ -56,13 +56,13 @@ pub answer_decided : (hold most : ℕ) (s : Held) (op : Op) (found : Found)
     → ((found ≡ Same) ↔ (has_op s.waiting op ≡ true))
     → ((found ≡ Clash) ↔ ((has_op s.waiting op ≡ false) × (id_held s.waiting (id_of op) ≡ true)))
     → ((found ≡ Absent) ↔ ((has_op s.waiting op ≡ false) × (id_held s.waiting (id_of op) ≡ false)))
-    → answer hold most s op ≡ answer_by_decision (nat_eq (length s.waiting) hold) (decided found (verdict s.history op) (nat_eq (length s.history + length s.waiting) most))
+    → answer hold most s op ≡ answer_by_decision (nat_eq (length s.waiting) hold) (decision_of found (verdict s.history op) (nat_eq (length s.history + length s.waiting) most))
 unfolding verdict
 answer_decided hold most s op found same clash absent =
     lines_agree (has_op s.history op) (has_op s.waiting op) (id_held s.history (id_of op)) (id_held s.waiting (id_of op))
     (first_stray s.history (names op)) (first_missing s.history (names op))
     (nat_eq (length s.history + length s.waiting) most) (nat_eq (length s.waiting) hold)
-    ∙ ap (λ (f : Found). answer_by_decision (nat_eq (length s.waiting) hold) (decided f (verdict s.history op) (nat_eq (length s.history + length s.waiting) most)))
+    ∙ ap (λ (f : Found). answer_by_decision (nat_eq (length s.waiting) hold) (decision_of f (verdict s.history op) (nat_eq (length s.history + length s.waiting) most)))
     (sym (found_is (has_op s.waiting op) (id_held s.waiting (id_of op)) found same clash absent))
 
 -- the same, by what the calls say
@@ -71,15 +71,15 @@ pub decision_by : (hold most : ℕ) (s : Held) (op : Op) (found : Found) (v : Ve
     → ((found ≡ Clash) ↔ ((has_op s.waiting op ≡ false) × (id_held s.waiting (id_of op) ≡ true)))
     → ((found ≡ Absent) ↔ ((has_op s.waiting op ≡ false) × (id_held s.waiting (id_of op) ≡ false)))
     → v ≡ verdict s.history op → accepted_count ≡ length s.history → waiting_count ≡ length s.waiting
-    → result ≡ decided found v (nat_eq (accepted_count + waiting_count) most)
+    → result ≡ decision_of found v (nat_eq (accepted_count + waiting_count) most)
     → answer hold most s op ≡ answer_by_decision (nat_eq (length s.waiting) hold) result
 decision_by hold most s op found v accepted_count waiting_count result same clash absent is_verdict is_count is_waiting is_result =
     let held : accepted_count + waiting_count ≡ length s.history + length s.waiting =
     omega (arith, is_count, is_waiting) in
     answer_decided hold most s op found same clash absent
     ∙ ap (answer_by_decision (nat_eq (length s.waiting) hold))
-    (ap (λ (w : Verdict). decided found w (nat_eq (length s.history + length s.waiting) most)) (sym is_verdict)
-    ∙ ap (λ (n : ℕ). decided found v (nat_eq n most)) (sym held)
+    (ap (λ (w : Verdict). decision_of found w (nat_eq (length s.history + length s.waiting) most)) (sym is_verdict)
+    ∙ ap (λ (n : ℕ). decision_of found v (nat_eq n most)) (sym held)
     ∙ sym is_result)
 
 -- what an operation that is kept has

@@ -9,9 +9,9 @@ use Rattle.fugue_ids.specs.declared.op.Op.{Op}
 use Rattle.fugue_ids.specs.declared.op.Op.TheVariants.{Delete}
 use Rattle.fugue_ids.proofs.ListLemmas.{all_before, all_behind, all_from_contains}
 use Rattle.fugue_ids.proofs.RunLemmas.{none_behind, one_behind}
-use Rattle.origin_model.specs.edits.Edits.{ReadyInTurn, deletes_of, extended}
+use Rattle.origin_model.specs.edits.Edits.{ReadyInTurn, deletes_of, history_with}
 use Rattle.origin_model.specs.edits.Effect.{Gains, StopsPartly, with_ops}
-use Rattle.origin_model.specs.edits.State.{State, Stands}
+use Rattle.origin_model.specs.edits.State.{State, IsSound}
 use Rattle.origin_model.specs.operations.Verdict.{Lawful}
 use Rattle.origin_model.specs.order.Laws.{IsIn}
 use Rattle.origin_model.specs.order.Order.{order}
@@ -21,9 +21,9 @@ use Rattle.origin_model.specs.declared.operations.Place.{Place}
 use Rattle.origin_model.specs.declared.operations.Place.TheVariants.{Section as within}
 use Rattle.origin_model.proofs.SharedLemmas.{order_total, target_is_shown}
 use Rattle.origin_model.proofs.edits.MadeLemmas.{extended-append}
-use Rattle.section_catalogue.specs.Changes.{Answer}
+use Rattle.section_catalogue.specs.Changes.{AnswersUpTo}
 use Rattle.section_catalogue.specs.Contents.{Contents, place_at}
-use Rattle.section_catalogue.specs.Manuscript.{HidesAll, StandsFor, each_hidden}
+use Rattle.section_catalogue.specs.Manuscript.{HidesAll, Represents, each_hidden}
 use Rattle.section_catalogue.proofs.HolderLemmas.{in_place}
 use Rattle.replica_core.specs.Deleting.{AreWithin, deletes_from, ids_from}
 use Rattle.replica_core.specs.Edits.{CanJoin, ComeInTurn}
@@ -57,29 +57,29 @@ fewer_ready count k x h l ready =
     (subst (ReadyInTurn h) (ap (deletes_from x) e ∙ deletes_parted k (count - k) x) ready)
 
 -- the others are taken back
-pub others_taken_back : (count k left : ℕ) (x : Identifier) (h : List Op) → k ≤ count → left ≡ count - k → drop left (extended h (deletes_from x count)) ≡ extended h (deletes_from x k)
+pub others_taken_back : (count k left : ℕ) (x : Identifier) (h : List Op) → k ≤ count → left ≡ count - k → drop left (history_with h (deletes_from x count)) ≡ history_with h (deletes_from x k)
 others_taken_back count k left x h l is =
     let e : count ≡ k + left = omega (arith, l, is) in
     let front = deletes_from x k in
     let back = deletes_from (id_behind x k) left in
-    ap (λ ops. drop left (extended h ops)) (ap (deletes_from x) e ∙ deletes_parted k left x)
+    ap (λ ops. drop left (history_with h ops)) (ap (deletes_from x) e ∙ deletes_parted k left x)
     ∙ ap (drop left) (extended-append h front back)
-    ∙ ap (λ n. drop n (extended (extended h front) back)) (sym (length-from left (id_behind x k)))
-    ∙ taken_back back (extended h front)
+    ∙ ap (λ n. drop n (history_with (history_with h front) back)) (sym (length-from left (id_behind x k)))
+    ∙ taken_back back (history_with h front)
 
 -- Deletes that are Ready in their turn hide what they name
-hidden_each : (k : ℕ) (x : Identifier) (h : List Op) → ReadyInTurn h (deletes_from x k) → each_hidden x k h ≡ extended h (deletes_from x k)
+hidden_each : (k : ℕ) (x : Identifier) (h : List Op) → ReadyInTurn h (deletes_from x k) → each_hidden x k h ≡ history_with h (deletes_from x k)
 hidden_each zero x h ready = refl
 hidden_each (suc k) x h ready =
     ap (λ b. each_hidden (next_id x) k (if b then h else Delete x ∷ h)) (target_is_shown h x ready.0).1
     ∙ hidden_each k (next_id x) (Delete x ∷ h) ready.1
 
-pub stands_deleted : (m new : Contents) (count k : ℕ) (x : Identifier) (h : List Op) → k ≤ count → ReadyInTurn h (deletes_from x count) → StandsFor m h → HidesAll m new x k
-    → StandsFor new (extended h (deletes_from x k))
-stands_deleted m new count k x h l ready stands hides = subst (StandsFor new) (hidden_each k x h (fewer_ready count k x h l ready)) (hides h stands)
+pub stands_deleted : (m new : Contents) (count k : ℕ) (x : Identifier) (h : List Op) → k ≤ count → ReadyInTurn h (deletes_from x count) → Represents m h → HidesAll m new x k
+    → Represents new (history_with h (deletes_from x k))
+stands_deleted m new count k x h l ready stands hides = subst (Represents new) (hidden_each k x h (fewer_ready count k x h l ready)) (hides h stands)
 
 -- where the elements of a section stand
-pub placed_each : (k : ℕ) (x s : Identifier) (m : Contents) (h : List Op) → StandsFor m h → AreWithin s h (ids_from x k) → Answer (place_at m) x k (Some (within s))
+pub placed_each : (k : ℕ) (x s : Identifier) (m : Contents) (h : List Op) → Represents m h → AreWithin s h (ids_from x k) → AnswersUpTo (place_at m) x k (Some (within s))
 placed_each zero x s m h stands all j less = absurd (omega (arith, less))
 placed_each (suc k) x s m h stands all zero less =
     ap (place_at m) (none_behind x) ∙ stands.places x ∙ in_place (within s) h x (All-head (λ y. IsIn (within s) h y) x (ids_from (next_id x) k) all)
@@ -94,12 +94,12 @@ shown_within s h at n xs w is =
     subst (All P) (sym is) (All-take P n (drop at (shown (within s) h)) (All-drop P at (shown (within s) h) (All-filter (λ x. not (is_hidden h x)) P (order (within s) h) (all_from_contains P (order (within s) h) (λ x m. ((order_total (within s) h w).lists x).1 m)))))
 
 -- and stay so
-still_in : (ys : List Identifier) (p : Place) (h : List Op) (x : Identifier) → IsIn p h x → IsIn p (extended h (deletes_of ys)) x
+still_in : (ys : List Identifier) (p : Place) (h : List Op) (x : Identifier) → IsIn p h x → IsIn p (history_with h (deletes_of ys)) x
 still_in [] p h x i = i
 still_in (y ∷ ys) p h x i = still_in ys p (Delete y ∷ h) x (record { op = i.op; held = i.held; place = i.place })
 
-pub still_within : (ys : List Identifier) (s : Identifier) (h : List Op) (xs : List Identifier) → AreWithin s h xs → AreWithin s (extended h (deletes_of ys)) xs
-still_within ys s h xs all = All-weaker (λ x. IsIn (within s) h x) (λ x. IsIn (within s) (extended h (deletes_of ys)) x) (λ x i. still_in ys (within s) h x i) xs all
+pub still_within : (ys : List Identifier) (s : Identifier) (h : List Op) (xs : List Identifier) → AreWithin s h xs → AreWithin s (history_with h (deletes_of ys)) xs
+still_within ys s h xs all = All-weaker (λ x. IsIn (within s) h x) (λ x. IsIn (within s) (history_with h (deletes_of ys)) x) (λ x i. still_in ys (within s) h x i) xs all
 
 -- how many identifiers follow one another
 pub record IsRow (rest : List Identifier) (x : Identifier) (k count : ℕ) (last : Identifier) : Type 0 where
@@ -136,11 +136,11 @@ module _ (s : State) (xs ys : List Op) (can : CanJoin s (xs ++ ys)) where
   front_comes [] ys h w c = tt
   front_comes (x ∷ xs) ys h w c = (c.0, c.1, c.2, front_comes xs ys (x ∷ h) w c.3)
 
-  rest_comes : (xs ys h w : List Op) → ComeInTurn w h (xs ++ ys) → ComeInTurn w (extended h xs) ys
+  rest_comes : (xs ys h w : List Op) → ComeInTurn w h (xs ++ ys) → ComeInTurn w (history_with h xs) ys
   rest_comes [] ys h w c = c
   rest_comes (x ∷ xs) ys h w c = rest_comes xs ys (x ∷ h) w c.3
 
-  still_settled : (xs ys h w : List Op) → IsSettled (record { history = h; waiting = w }) → ComeInTurn w h (xs ++ ys) → IsSettled (record { history = extended h xs; waiting = w })
+  still_settled : (xs ys h w : List Op) → IsSettled (record { history = h; waiting = w }) → ComeInTurn w h (xs ++ ys) → IsSettled (record { history = history_with h xs; waiting = w })
   still_settled [] ys h w settled c = settled
   still_settled (x ∷ xs) ys h w settled c = still_settled xs ys (x ∷ h) w c.2 c.3
 
@@ -160,7 +160,7 @@ fewer_can s x count k l can =
     can_front s (deletes_from x k) (deletes_from (id_behind x k) (count - k)) (subst (CanJoin s) (ap (deletes_from x) e ∙ deletes_parted k (count - k) x) can)
 
 -- some more joined, or only the first of them
-module _ (old now new : State) (ops front rest : List Op) (j : IsJoining old now ops (front ++ rest)) (is : new ≡ with_ops now front) (stands : Stands new) where
+module _ (old now new : State) (ops front rest : List Op) (j : IsJoining old now ops (front ++ rest)) (is : new ≡ with_ops now front) (stands : IsSound new) where
   pub goes_on_all : IsJoining old new ops rest
   goes_on_all = record {
     done = j.done ++ front;
@@ -188,7 +188,7 @@ pub record IsDeletingEach (s : Identifier) (old now : State) (xs : List Identifi
 pub tail_is : (xs : List Identifier) (a : ℕ) → take (length xs - a) (drop a xs) ≡ drop a xs
 tail_is xs a = take_all (length xs - a) (drop a xs) (omega (arith, length-drop a xs))
 
-pub deleting_each : (s : Identifier) (old : State) (xs : List Identifier) → CanJoin old (deletes_of xs) → Stands old → AreWithin s old.held.history xs → IsDeletingEach s old old xs 0
+pub deleting_each : (s : Identifier) (old : State) (xs : List Identifier) → CanJoin old (deletes_of xs) → IsSound old → AreWithin s old.held.history xs → IsDeletingEach s old old xs 0
 deleting_each s old xs can stands inside = record { joining = begins old (deletes_of xs) can stands; within = inside; to = omega arith }
 
 module _ (s : Identifier) (old now : State) (xs : List Identifier) (at : ℕ) (d : IsDeletingEach s old now xs at) (x : Identifier) (less : at < length xs) (is : x ≡ get_or xs at x)
@@ -226,7 +226,7 @@ module _ (s : Identifier) (old now : State) (xs : List Identifier) (at : ℕ) (d
   long : length xs ≡ at + (count + 1) + length rest
   long = omega (arith, length-drop (at + (count + 1)) xs, few, length-drop (at + 1) xs, less)
 
-  pub row_deleted : (new : State) → new ≡ with_ops now (deletes_from x (count + 1)) → Stands new → IsDeletingEach s old new xs (at + (count + 1))
+  pub row_deleted : (new : State) → new ≡ with_ops now (deletes_from x (count + 1)) → IsSound new → IsDeletingEach s old new xs (at + (count + 1))
   row_deleted new joined stands = record {
     joining = goes_on_all old now new (deletes_of xs) (deletes_from x (count + 1)) (deletes_of rest) deletes_parted_off joined stands;
     within = subst (λ (z : State). AreWithin s z.held.history rest) (sym joined)
@@ -235,7 +235,7 @@ module _ (s : Identifier) (old now : State) (xs : List Identifier) (at : ℕ) (d
   }
 
   -- fewer than the row
-  pub row_stopped : (new : State) (done : ℕ) → done < count + 1 → new ≡ with_ops now (deletes_from x done) → Stands new → StopsPartly old new (deletes_of xs)
+  pub row_stopped : (new : State) (done : ℕ) → done < count + 1 → new ≡ with_ops now (deletes_from x done) → IsSound new → StopsPartly old new (deletes_of xs)
   row_stopped new done fewer joined stands =
       let e : count + 1 ≡ done + ((count + 1) - done) = omega (arith, fewer) in
       let more : List Op = deletes_from (id_behind x done) ((count + 1) - done) in

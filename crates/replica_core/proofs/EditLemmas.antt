@@ -7,7 +7,7 @@ use Rattle.origin_model.specs.taking.Taking.{IsSettled}
 use Rattle.origin_model.specs.edits.Edits.{Command}
 use Rattle.origin_model.specs.edits.Noting.{AreHeld, note_by, note_refusal}
 use Rattle.origin_model.specs.edits.Refusal.{made_by, refusal_message}
-use Rattle.origin_model.specs.edits.State.{State, Stands}
+use Rattle.origin_model.specs.edits.State.{State, IsSound}
 use Rattle.origin_model.proofs.edits.EditIntakeLemmas.{Comes, made_comes}
 use Rattle.origin_model.proofs.edits.NotedLemmas.{note_fits, noted_comes}
 use Rattle.origin_model.proofs.edits.RefusalLemmas.{made_fits, made_ready}
@@ -17,7 +17,7 @@ come_in_turn : (ops h w : List Op) → Comes w h ops → ComeInTurn w h ops
 come_in_turn [] h w c = tt
 come_in_turn (op ∷ ops) h w c = (c.0, c.1, c.2, come_in_turn ops (op ∷ h) w c.3)
 
-pub made_can_join : (s : State) (command : Command) → Stands s → IsSettled s.held → refusal_message s command ≡ None → CanJoin s (made_by s command)
+pub made_can_join : (s : State) (command : Command) → IsSound s → IsSettled s.held → refusal_message s command ≡ None → CanJoin s (made_by s command)
 made_can_join s command stands settled e =
     record {
       settled = settled;
@@ -26,7 +26,7 @@ made_can_join s command stands settled e =
       room = made_fits command s e;
     }
 
-pub note_can_join : (s : State) (named : List Identifier) (code : ℕ) (body : List ℕ) → Stands s → IsSettled s.held → AreHeld s.held.history named → note_refusal s ≡ None
+pub note_can_join : (s : State) (named : List Identifier) (code : ℕ) (body : List ℕ) → IsSound s → IsSettled s.held → AreHeld s.held.history named → note_refusal s ≡ None
     → CanJoin s (note_by s named code body ∷ [])
 note_can_join s named code body stands settled held e =
     record {

@@ -14,12 +14,12 @@ use Rattle.fugue_ids.proofs.RunLemmas.{length-typed, none_behind, one_behind}
 use Rattle.origin_model.specs.declared.taking.Tally.{Tally}
 use Rattle.origin_model.specs.edits.Effect.{with_ops}
 use Rattle.origin_model.specs.edits.RunLaws.{GoesIn}
-use Rattle.origin_model.specs.edits.State.{State, Stands}
-use Rattle.origin_model.specs.operations.Counters.{mentioned}
+use Rattle.origin_model.specs.edits.State.{State, IsSound}
+use Rattle.origin_model.specs.operations.Counters.{mentioned_ids}
 use Rattle.origin_model.specs.operations.History.{has_op, holds, is_own}
 use Rattle.origin_model.specs.operations.Verdict.{names, verdict}
 use Rattle.origin_model.specs.declared.operations.Verdict.TheVariants.{Ready}
-use Rattle.origin_model.specs.taking.Taking.{Accepted, Again, Answer, Full, HasPlace, Held, IsSettled, TooMany, answer, answers_from, held_from, intake, intake_counted, is_kept, kept_from, no_counts, tally_from}
+use Rattle.origin_model.specs.taking.Taking.{Accepted, Again, Answer, Full, MeetsNoLimit, Held, IsSettled, TooMany, answer, answers_from, held_from, intake, intake_counted, is_kept, kept_from, no_counts, tally_from}
 use Rattle.origin_model.proofs.SharedLemmas.{held-append, holds-other, kept-append, kept-no, kept_suffice, own_id, places-append, places-none, places-one, tally-append}
 use Rattle.origin_model.proofs.edits.EditIntakeLemmas.{comes}
 use Rattle.origin_model.proofs.edits.FreshIdLemmas.{IsUnknown}
@@ -27,7 +27,7 @@ use Rattle.origin_model.proofs.edits.RunLemmas.{runs_go_in_whole}
 use Rattle.replica_core.specs.Edits.{CanJoin}
 use Rattle.replica_core.specs.Feeding.{AreUntouched, GoesAtOnce, StopsFeeding, StopsKeeping, TakesInAll, TakesInSome}
 use Rattle.replica_core.specs.Keeping.{LeavesUnkept}
-use Rattle.replica_core.specs.Told.{Leaves, total}
+use Rattle.replica_core.specs.Told.{LeavesAfterFault, total}
 use Rattle.replica_core.specs.declared.keeping.FeedFault.{FeedFault}
 use Rattle.replica_core.specs.declared.keeping.FeedFault.TheVariants.{NoMemory as FedNoMemory, TooMany as FedTooMany}
 use Rattle.replica_core.proofs.FeedLemmas.{fed_quietly}
@@ -46,7 +46,7 @@ takes_none_in s t settled = record {
 }
 
 -- what was kept of a list behind another
-kept_behind : (s mid : State) (a b : List Op) → mid ≡ record s { held = held_from s.hold s.most s.held a }
+pub kept_behind : (s mid : State) (a b : List Op) → mid ≡ record s { held = held_from s.hold s.most s.held a }
     → kept_from s.hold s.most s.held a ++ kept_from mid.hold mid.most mid.held b ≡ kept_from s.hold s.most s.held (a ++ b)
 kept_behind s mid a b is =
     ap (λ (m : State). kept_from s.hold s.most s.held a ++ kept_from m.hold m.most m.held b) is ∙ kept-append s.hold s.most s.held a b
@@ -88,7 +88,7 @@ stops_some s op more t fault settled many =
     record { front = []; op = op; more = more; parts = refl; reached = s; counts = t; taken = takes_none_in s t settled; too_many = many }
 
 -- further on
-some_behind : (s mid : State) (a b : List Op) (t u : Tally) (fault : FeedFault) → TakesInAll s mid a t u → TakesInSome b mid u fault → TakesInSome (a ++ b) s t fault
+pub some_behind : (s mid : State) (a b : List Op) (t u : Tally) (fault : FeedFault) → TakesInAll s mid a t u → TakesInSome b mid u fault → TakesInSome (a ++ b) s t fault
 some_behind s mid a b t u fault first some =
     let most : mid.most ≡ s.most = ap (λ (m : State). m.most) first.replica in
     record {
@@ -102,16 +102,45 @@ some_behind s mid a b t u fault first some =
       too_many = subst (λ (n : ℕ). (fault ≡ FedTooMany n) ↔ (answer some.reached.hold some.reached.most some.reached.held some.op ≡ TooMany)) most some.too_many;
     }
 
+-- the first one
+pub first_stops : (s new : State) (op : Op) (more : List Op) (t u : Tally) (fault : FeedFault) → IsSettled s.held → (fault ≡ FedTooMany s.most) ↔ (answer s.hold s.most s.held op ≡ TooMany) → LeavesAfterFault s new op t u fault
+    → StopsFeeding (op ∷ more) s new t u fault
+unfolding stops_some
+first_stops s new op more t u fault settled many leaves = record { some = stops_some s op more t fault settled many; leaves = leaves }
+
+pub first_unkept : (s new : State) (op : Op) (more : List Op) (t u : Tally) (kept kept_new : List Op) (fault : FeedFault) → IsSettled s.held → (fault ≡ FedTooMany s.most) ↔ (answer s.hold s.most s.held op ≡ TooMany)
+    → LeavesUnkept s new op t u fault → kept_new ≡ kept → StopsKeeping (op ∷ more) s new t u kept kept_new fault
+unfolding stops_some
+first_unkept s new op more t u kept kept_new fault settled many leaves unkept = record { some = stops_some s op more t fault settled many; leaves = leaves; kept_are = unkept ∙ sym (append-nil kept) }
+
+-- one further on
+pub stops_on : (s mid new : State) (a b : List Op) (t u v : Tally) (fault : FeedFault) → TakesInAll s mid a t u → StopsFeeding b mid new u v fault → StopsFeeding (a ++ b) s new t v fault
+unfolding some_behind
+stops_on s mid new a b t u v fault first stops = record { some = some_behind s mid a b t u fault first stops.some; leaves = stops.leaves }
+
+pub unkept_on : (s mid new : State) (a b : List Op) (t u v : Tally) (kept kept_mid kept_new : List Op) (fault : FeedFault) → TakesInAll s mid a t u → kept_mid ≡ kept ++ kept_from s.hold s.most s.held a
+    → StopsKeeping b mid new u v kept_mid kept_new fault → StopsKeeping (a ++ b) s new t v kept kept_new fault
+unfolding some_behind
+unkept_on s mid new a b t u v kept kept_mid kept_new fault first is stops =
+    let front : List Op = stops.some.front in
+    record {
+      some = some_behind s mid a b t u fault first stops.some;
+      leaves = stops.leaves;
+      kept_are = stops.kept_are ∙ ap (λ (z : List Op). z ++ kept_from mid.hold mid.most mid.held front) is
+          ∙ append_assoc kept (kept_from s.hold s.most s.held a) (kept_from mid.hold mid.most mid.held front)
+          ∙ ap (λ (z : List Op). kept ++ z) (kept_behind s mid a front first.replica);
+    }
+
 -- on the way through a run: the first letters were taken in, and these are left
 pub record IsFeeding (s : State) (t : Tally) (ops : List Op) (now : State) (counts : Tally) (next : RunStart) (rest : List ℕ) : Type 0 where
   pub done : List Op
   pub parts : ops ≡ done ++ run_from next rest
   pub taken : TakesInAll s now done t counts
-  pub stands : Stands now
+  pub stands : IsSound now
   pub counters : 0 < length rest → next.id.counter + length rest ≤ 2 ^ 32
   pub few : total counts + length now.held.waiting + length rest ≤ 2 ^ 31
 
-pub feeding : (s : State) (t : Tally) (start : RunStart) (text : List ℕ) → Stands s → IsSettled s.held → start.id.counter + length text ≤ 2 ^ 32 → total t + length s.held.waiting + length text ≤ 2 ^ 31
+pub feeding : (s : State) (t : Tally) (start : RunStart) (text : List ℕ) → IsSound s → IsSettled s.held → start.id.counter + length text ≤ 2 ^ 32 → total t + length s.held.waiting + length text ≤ 2 ^ 31
     → IsFeeding s t (run_from start text) s t start text
 feeding s t start text stands settled counters few = record { done = []; parts = refl; taken = takes_none_in s t settled; stands = stands; counters = λ some. counters; few = few }
 
@@ -130,7 +159,7 @@ length-run start text = length-typed start.id start.section start.left start.rig
 
 -- a front more
 pub fed_on : (s now new : State) (t counts after : Tally) (ops : List Op) (start next : RunStart) (text front rest : List ℕ) (n : ℕ) → IsFeeding s t ops now counts start text
-    → n ≤ length text → TakesInAll now new (run_from start (take n text)) counts after → Stands new → front ≡ take n text → rest ≡ drop n text
+    → n ≤ length text → TakesInAll now new (run_from start (take n text)) counts after → IsSound new → front ≡ take n text → rest ≡ drop n text
     → run_from start text ≡ run_from start front ++ run_from next rest → (n < length text → next ≡ start_behind start n)
     → IsFeeding s t ops new after next rest
 fed_on s now new t counts after ops start next text front rest n f within took stands is others whole behind =
@@ -170,13 +199,13 @@ pub record IsKeeping (s : State) (t : Tally) (kept ops : List Op) (now : State) 
   pub feeds : IsFeeding s t ops now counts next rest
   pub kept_are : kept_now ≡ kept ++ kept_from s.hold s.most s.held feeds.done
 
-pub keeping : (s : State) (t : Tally) (kept : List Op) (start : RunStart) (text : List ℕ) → Stands s → IsSettled s.held → start.id.counter + length text ≤ 2 ^ 32
+pub keeping : (s : State) (t : Tally) (kept : List Op) (start : RunStart) (text : List ℕ) → IsSound s → IsSettled s.held → start.id.counter + length text ≤ 2 ^ 32
     → total t + length s.held.waiting + length text ≤ 2 ^ 31 → IsKeeping s t kept (run_from start text) s t kept start text
 unfolding feeding
 keeping s t kept start text stands settled counters few = record { feeds = feeding s t start text stands settled counters few; kept_are = sym (append-nil kept) }
 
 pub kept_on : (s now new : State) (t counts after : Tally) (kept kept_now kept_new ops : List Op) (start next : RunStart) (text front rest : List ℕ) (n : ℕ) → IsKeeping s t kept ops now counts kept_now start text
-    → n ≤ length text → TakesInAll now new (run_from start (take n text)) counts after → Stands new → kept_new ≡ kept_now ++ kept_from now.hold now.most now.held (run_from start (take n text))
+    → n ≤ length text → TakesInAll now new (run_from start (take n text)) counts after → IsSound new → kept_new ≡ kept_now ++ kept_from now.hold now.most now.held (run_from start (take n text))
     → front ≡ take n text → rest ≡ drop n text
     → run_from start text ≡ run_from start front ++ run_from next rest → (n < length text → next ≡ start_behind start n)
     → IsKeeping s t kept ops new after kept_new next rest
@@ -220,45 +249,45 @@ each_id P id (c ∷ text) each =
     (each_id P (next_id id) text (λ k l. subst P (sym (one_behind id k)) (each (suc k) (omega (arith, l)))))
 
 -- what operations neither have nor name is held by none of them
-unheld : (w : List Op) (x : Identifier) → (Contains (flat_map mentioned w) x → ⊥) → holds w x ≡ false
-unheld w x none = by_each w (all_from_contains (λ i. id_eq x i ≡ false) (flat_map mentioned w) (λ i m. ne-id_eq x i (λ e. none (subst (Contains (flat_map mentioned w)) (sym e) m))))
+unheld : (w : List Op) (x : Identifier) → (Contains (flat_map mentioned_ids w) x → ⊥) → holds w x ≡ false
+unheld w x none = by_each w (all_from_contains (λ i. id_eq x i ≡ false) (flat_map mentioned_ids w) (λ i m. ne-id_eq x i (λ e. none (subst (Contains (flat_map mentioned_ids w)) (sym e) m))))
   where
-    by_each : (w : List Op) → All (λ i. id_eq x i ≡ false) (flat_map mentioned w) → holds w x ≡ false
+    by_each : (w : List Op) → All (λ i. id_eq x i ≡ false) (flat_map mentioned_ids w) → holds w x ≡ false
     by_each [] a = refl
     by_each (o ∷ w) a =
         let P : Identifier → Type 0 = λ i. id_eq x i ≡ false in
         let named : List Identifier = map (λ named. named.0) (names o) in
         let own : is_own x o ≡ false = false_from_ne_true _ (λ t. true≢false (sym (id_eq-refl x) ∙
-        first_of P x named (subst (λ z. All P (option_to_list z ++ named)) (own_id o x t) (all_before P (mentioned o) (flat_map mentioned w) a)))) in
-        holds-other o w x own ∙ by_each w (all_behind P (mentioned o) (flat_map mentioned w) a)
+        first_of P x named (subst (λ z. All P (option_to_list z ++ named)) (own_id o x t) (all_before P (mentioned_ids o) (flat_map mentioned_ids w) a)))) in
+        holds-other o w x own ∙ by_each w (all_behind P (mentioned_ids o) (flat_map mentioned_ids w) a)
       where
         first_of : (P : Identifier → Type 0) (i : Identifier) (is : List Identifier) → All P (i ∷ is) → P i
         first_of P i is a = a 0 i (omega arith)
 
-unknown_run : (id s : Identifier) (l r : Option Identifier) (text : List ℕ) (w : List Op) → ((k : ℕ) → k < length text → Contains (flat_map mentioned w) (id_behind id k) → ⊥) → All (IsUnknown w) (in_a_row id s l r text)
+unknown_run : (id s : Identifier) (l r : Option Identifier) (text : List ℕ) (w : List Op) → ((k : ℕ) → k < length text → Contains (flat_map mentioned_ids w) (id_behind id k) → ⊥) → All (IsUnknown w) (in_a_row id s l r text)
 unknown_run id s l r [] w each = All-nil (IsUnknown w)
 unknown_run id s l r (c ∷ text) w each =
-    let none : Contains (flat_map mentioned w) id → ⊥ = λ m. each 0 (omega arith) (subst (Contains (flat_map mentioned w)) (sym (none_behind id)) m) in
+    let none : Contains (flat_map mentioned_ids w) id → ⊥ = λ m. each 0 (omega arith) (subst (Contains (flat_map mentioned_ids w)) (sym (none_behind id)) m) in
     All-cons (IsUnknown w) (Text id s l r c) (in_a_row (next_id id) s (Some id) r text)
-    (unheld w id none, all_from_contains (λ i. id_eq id i ≡ false) (flat_map mentioned w) (λ i m. ne-id_eq id i (λ e. none (subst (Contains (flat_map mentioned w)) (sym e) m))))
-    (unknown_run (next_id id) s (Some id) r text w (λ k l m. each (suc k) (omega (arith, l)) (subst (Contains (flat_map mentioned w)) (one_behind id k) m)))
+    (unheld w id none, all_from_contains (λ i. id_eq id i ≡ false) (flat_map mentioned_ids w) (λ i m. ne-id_eq id i (λ e. none (subst (Contains (flat_map mentioned_ids w)) (sym e) m))))
+    (unknown_run (next_id id) s (Some id) r text w (λ k l m. each (suc k) (omega (arith, l)) (subst (Contains (flat_map mentioned_ids w)) (one_behind id k) m)))
 
 -- a run that is untouched and whose first letter is Ready does
-at_once : (s : State) (start : RunStart) (ch : ℕ) (text : List ℕ) → Stands s → IsSettled s.held → AreUntouched s.held start.id (length (ch ∷ text)) → verdict s.held.history (text_by start ch) ≡ Ready
+at_once : (s : State) (start : RunStart) (ch : ℕ) (text : List ℕ) → IsSound s → IsSettled s.held → AreUntouched s.held start.id (length (ch ∷ text)) → verdict s.held.history (text_by start ch) ≡ Ready
     → length s.held.history + length s.held.waiting + length (ch ∷ text) ≤ s.most → GoesAtOnce s (run_from start (ch ∷ text))
 at_once s start ch text stands settled u ready room =
     let run : List Op = run_from start (ch ∷ text) in
-    let none : (k : ℕ) → k < length (ch ∷ text) → Contains (flat_map mentioned s.held.waiting) (id_behind start.id k) → ⊥ = λ k l m. u.unnamed (record { k = k; within = l; found = m }) in
+    let none : (k : ℕ) → k < length (ch ∷ text) → Contains (flat_map mentioned_ids s.held.waiting) (id_behind start.id k) → ⊥ = λ k l m. u.unnamed (record { k = k; within = l; found = m }) in
     let goes : GoesIn s.hold s.most s.held start ch text = runs_go_in_whole s.hold s.most s.held start ch text (record {
       lawful = stands.lawful;
       settled = settled;
       free = each_id (λ x. holds s.held.history x ≡ false) start.id (ch ∷ text) u.unheld;
       ready = ready;
-      unnamed = each_id (λ x. Contains (flat_map mentioned s.held.waiting) x → ⊥) start.id (ch ∷ text) none;
+      unnamed = each_id (λ x. Contains (flat_map mentioned_ids s.held.waiting) x → ⊥) start.id (ch ∷ text) none;
       room = room;
     }) in
     let again = kept_suffice s.hold s.most s.held run settled in
-    let place : HasPlace s.hold s.most s.held (kept_from s.hold s.most s.held run) =
+    let place : MeetsNoLimit s.hold s.most s.held (kept_from s.hold s.most s.held run) =
     All-weaker (λ (a : Answer). (a ≢ Full) × (a ≢ TooMany)) (λ (a : Answer). a ≢ TooMany) (λ a b. b.1) (answers_from s.hold s.most s.held (kept_from s.hold s.most s.held run)) again.within_limits in
     let many : length run ≡ length (ch ∷ text) = length-run start (ch ∷ text) in
     record {
@@ -267,7 +296,7 @@ at_once s start ch text stands settled u ready room =
         in_turn = comes run s.held.history s.held.waiting settled goes.ready (unknown_run start.id start.section start.left start.right (ch ∷ text) s.held.waiting none);
         room = omega (arith, room, many);
       };
-      has_place = subst (HasPlace s.hold s.most s.held) goes.kept place;
+      has_place = subst (MeetsNoLimit s.hold s.most s.held) goes.kept place;
       held = goes.held;
       settled = goes.settled;
       kept = goes.kept;
@@ -280,7 +309,7 @@ first_of_text (c ∷ text) zero ch some within is = absurd (omega (arith, some))
 first_of_text (c ∷ text) (suc n) ch some within is = ap (λ (z : ℕ). z ∷ take n text) (sym is)
 
 -- the front of a text that is untouched
-pub goes_at_once : (s : State) (start : RunStart) (text : List ℕ) (n ch : ℕ) → Stands s → IsSettled s.held → 0 < n → n ≤ length text → ch ≡ get_or text 0 ch → AreUntouched s.held start.id n
+pub goes_at_once : (s : State) (start : RunStart) (text : List ℕ) (n ch : ℕ) → IsSound s → IsSettled s.held → 0 < n → n ≤ length text → ch ≡ get_or text 0 ch → AreUntouched s.held start.id n
     → verdict s.held.history (text_by start ch) ≡ Ready → length s.held.history + length s.held.waiting + n ≤ s.most → GoesAtOnce s (run_from start (take n text))
 goes_at_once s start text n ch stands settled some within is u ready room =
     let front : List ℕ = take n text in
@@ -290,7 +319,7 @@ goes_at_once s start text n ch stands settled some within is u ready room =
     (at_once s start ch (drop 1 front) stands settled (subst (AreUntouched s.held start.id) (sym many) u) ready (omega (arith, room, many)))
 
 -- it is taken in, and counted
-joins_all : (s new : State) (ops : List Op) (t u : Tally) (n : ℕ) → GoesAtOnce s ops → new ≡ with_ops s ops → n ≡ length ops → u ≡ record t { accepted = t.accepted + n } → TakesInAll s new ops t u
+pub joins_all : (s new : State) (ops : List Op) (t u : Tally) (n : ℕ) → GoesAtOnce s ops → new ≡ with_ops s ops → n ≡ length ops → u ≡ record t { accepted = t.accepted + n } → TakesInAll s new ops t u
 joins_all s new ops t u n goes is many counted =
     let held_is : new.held ≡ held_from s.hold s.most s.held ops = ap (λ (x : State). x.held) is ∙ sym goes.held in
     let more : u ≡ record t { accepted = t.accepted + length ops } = counted ∙ (λ i. record t { accepted = t.accepted + many i }) in
@@ -305,7 +334,7 @@ joins_all s new ops t u n goes is many counted =
     }
 
 -- where memory is wanting for it, its first operation would be kept
-stops_joining : (s new : State) (op : Op) (ops more : List Op) (t : Tally) → CanJoin s (op ∷ ops) → new ≡ s → StopsFeeding (op ∷ more) s new t t FedNoMemory
+pub stops_joining : (s new : State) (op : Op) (ops more : List Op) (t : Tally) → CanJoin s (op ∷ ops) → new ≡ s → StopsFeeding (op ∷ more) s new t t FedNoMemory
 unfolding stops_some
 stops_joining s new op ops more t can is =
     let accepted : answer s.hold s.most s.held op ≡ Accepted = can_be_accepted s op (first_can s op ops can) in
@@ -314,7 +343,7 @@ stops_joining s new op ops more t can is =
       leaves = (ap is_kept accepted, is ∙ ap (λ (x : State). record s { held = x.held }) (sym is), inl (is, refl));
     }
 
-stops_copying : (s new : State) (op : Op) (ops more : List Op) (t : Tally) (kept kept_new : List Op) → CanJoin s (op ∷ ops) → new ≡ s → kept_new ≡ kept → StopsKeeping (op ∷ more) s new t t kept kept_new FedNoMemory
+pub stops_copying : (s new : State) (op : Op) (ops more : List Op) (t : Tally) (kept kept_new : List Op) → CanJoin s (op ∷ ops) → new ≡ s → kept_new ≡ kept → StopsKeeping (op ∷ more) s new t t kept kept_new FedNoMemory
 unfolding stops_some
 stops_copying s new op ops more t kept kept_new can is same =
     let accepted : answer s.hold s.most s.held op ≡ Accepted = can_be_accepted s op (first_can s op ops can) in
@@ -361,13 +390,13 @@ letter_fed s new start text ch op t u some is same takes =
     subst (λ (z : List Op). TakesInAll s new z t u) (ap (λ (o : Op). o ∷ []) same ∙ sym (first_letter start text ch some is).1) takes
 
 pub letter_stops : (s new : State) (start : RunStart) (text : List ℕ) (ch : ℕ) (op : Op) (t u : Tally) (fault : FeedFault) → IsSettled s.held → 0 < length text → ch ≡ get_or text 0 ch → op ≡ text_by start ch
-    → (fault ≡ FedTooMany s.most) ↔ (answer s.hold s.most s.held op ≡ TooMany) → Leaves s new op t u fault → StopsFeeding (run_from start text) s new t u fault
+    → (fault ≡ FedTooMany s.most) ↔ (answer s.hold s.most s.held op ≡ TooMany) → LeavesAfterFault s new op t u fault → StopsFeeding (run_from start text) s new t u fault
 unfolding stops_some
 letter_stops s new start text ch op t u fault settled some is same many leaves =
     let rest : List Op = in_a_row (next_id start.id) start.section (Some start.id) start.right (drop 1 text) in
     subst (λ (z : List Op). StopsFeeding z s new t u fault) (ap (λ (o : Op). o ∷ rest) same ∙ sym (first_letter start text ch some is).0) (at op rest many leaves)
   where
-    at : (op : Op) (rest : List Op) → (fault ≡ FedTooMany s.most) ↔ (answer s.hold s.most s.held op ≡ TooMany) → Leaves s new op t u fault → StopsFeeding (op ∷ rest) s new t u fault
+    at : (op : Op) (rest : List Op) → (fault ≡ FedTooMany s.most) ↔ (answer s.hold s.most s.held op ≡ TooMany) → LeavesAfterFault s new op t u fault → StopsFeeding (op ∷ rest) s new t u fault
     at op rest many leaves = record { some = stops_some s op rest t fault settled many; leaves = leaves }
 
 pub letter_unkept : (s new : State) (start : RunStart) (text : List ℕ) (ch : ℕ) (op : Op) (t u : Tally) (kept kept_new : List Op) (fault : FeedFault) → IsSettled s.held → 0 < length text → ch ≡ get_or text 0 ch
@@ -385,7 +414,7 @@ letter_unkept s new start text ch op t u kept kept_new fault settled some is sam
 
 -- what becomes of them
 record IsRepeated (hold most : ℕ) (s : Held) (ops : List Op) : Type 0 where
-  place : HasPlace hold most s ops
+  place : MeetsNoLimit hold most s ops
   held : held_from hold most s ops ≡ s
   kept : kept_from hold most s ops ≡ []
   counted : (t : Tally) → tally_from hold most s ops t ≡ record t { repeated = t.repeated + length ops }
@@ -404,7 +433,7 @@ repeated_all hold most s (op ∷ ops) settled there =
     let same : intake hold most s op ≡ s = sym (fed_quietly hold most s op Again no_counts again settled).held in
     record {
       place = All-cons (λ (a : Answer). a ≢ TooMany) (answer hold most s op) (answers_from hold most (intake hold most s op) ops) (λ many. again_or_many (sym again ∙ many))
-          (subst (λ (u : Held). HasPlace hold most u ops) (sym same) rest.place);
+          (subst (λ (u : Held). MeetsNoLimit hold most u ops) (sym same) rest.place);
       held = ap (λ (u : Held). held_from hold most u ops) same ∙ rest.held;
       kept = kept-no hold most s op ops (ap is_kept again) ∙ ap (λ (u : Held). kept_from hold most u ops) same ∙ rest.kept;
       counted = λ t.
@@ -420,7 +449,7 @@ repeated_all hold most s (op ∷ ops) settled there =
     repeated_one hold most s op here = rw (here, answer)
 
 -- they are counted, and nothing else changes
-repeats_all : (s new : State) (ops : List Op) (t u : Tally) (n : ℕ) → IsSettled s.held → All (λ op. has_op s.held.history op ≡ true) ops → new ≡ s → n ≡ length ops
+pub repeats_all : (s new : State) (ops : List Op) (t u : Tally) (n : ℕ) → IsSettled s.held → All (λ op. has_op s.held.history op ≡ true) ops → new ≡ s → n ≡ length ops
     → u ≡ record t { repeated = t.repeated + n } → TakesInAll s new ops t u
 repeats_all s new ops t u n settled there is many counted =
     let r = repeated_all s.hold s.most s.held ops settled there in

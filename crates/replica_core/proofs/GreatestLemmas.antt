@@ -10,13 +10,13 @@ use Rattle.fugue_ids.specs.declared.op.Op.{Op}
 use Rattle.fugue_ids.proofs.IdentifierLemmas.{id_eq-refl}
 use Rattle.fugue_ids.proofs.ListLemmas.{all_from_contains, contains_cases, contains_filter, contains_filter_from, contains_here, contains_map, contains_map_from, contains_none}
 use Rattle.origin_model.specs.edits.Edits.{id_at}
-use Rattle.origin_model.specs.operations.Counters.{counters, mentioned, IsGreatest}
+use Rattle.origin_model.specs.operations.Counters.{counters, mentioned_ids, IsGreatest}
 use Rattle.origin_model.specs.operations.History.{holder, holds, is_own}
 use Rattle.origin_model.specs.operations.Verdict.{Lawful, first_missing, names, verdict}
 use Rattle.origin_model.specs.declared.operations.Role.{Role}
 use Rattle.origin_model.specs.declared.operations.Verdict.TheVariants.{Ready}
 use Rattle.origin_model.proofs.SharedLemmas.{cases_held, holds-older, holds-other, holds-own, missing-held, own_id, when_ready}
-use Rattle.replica_core.specs.Index.{IsIndex, position_of}
+use Rattle.replica_core.specs.Index.{IsHistoryIndex, newest_position}
 use Rattle.std.specs.FinMap.{FinMap, get}
 use Rattle.stretch_map.specs.Rules.{IsGreatestIn}
 use Rattle.stretch_map.specs.declared.follows.Position.{Position}
@@ -38,7 +38,7 @@ names_held h (n ∷ ns) x none c =
     missing_some : Some n.0 ≡ None → ⊥
     missing_some e = cc
 
-own_or_named : (op : Op) (h : List Op) (x : Identifier) → verdict h op ≡ Ready → Contains (mentioned op) x → (id_of op ≡ Some x) ⊎ (holds h x ≡ true)
+own_or_named : (op : Op) (h : List Op) (x : Identifier) → verdict h op ≡ Ready → Contains (mentioned_ids op) x → (id_of op ≡ Some x) ⊎ (holds h x ≡ true)
 own_or_named op h x ready c =
     elim (Contains-append_cases (option_to_list (id_of op)) (map (λ named. named.0) (names op)) x c) [
       | inl own ↦ inl (the_own (id_of op) own)
@@ -49,10 +49,10 @@ own_or_named op h x ready c =
     the_own None c = absurd (contains_none x c)
     the_own (Some i) c = elim (contains_cases i [] x c) [ inl same ↦ ap (λ j. Some j) same | inr none ↦ absurd (contains_none x none) ]
 
-mentioned_held : (h : List Op) (x : Identifier) → Lawful h → Contains (flat_map mentioned h) x → holds h x ≡ true
+mentioned_held : (h : List Op) (x : Identifier) → Lawful h → Contains (flat_map mentioned_ids h) x → holds h x ≡ true
 mentioned_held [] x lawful c = absurd (contains_none x c)
 mentioned_held (op ∷ h) x lawful c =
-    elim (Contains-append_cases (mentioned op) (flat_map mentioned h) x c) [
+    elim (Contains-append_cases (mentioned_ids op) (flat_map mentioned_ids h) x c) [
       | inl newest ↦ elim (own_or_named op h x lawful.0 newest) [
         | inl own ↦ holds-own op h x (ap (λ o. is_own_id o) own ∙ id_eq-refl x)
         | inr held ↦ holds-older op h x held
@@ -63,36 +63,36 @@ mentioned_held (op ∷ h) x lawful c =
     is_own_id : Option Identifier → Bool
     is_own_id o = origin_eq o (Some x)
 
-held_mentioned : (h : List Op) (x : Identifier) → holds h x ≡ true → Contains (flat_map mentioned h) x
+held_mentioned : (h : List Op) (x : Identifier) → holds h x ≡ true → Contains (flat_map mentioned_ids h) x
 held_mentioned [] x held = cc
 held_mentioned (op ∷ h) x held =
     elim (cases_Bool (is_own x op)) [
       | inl own ↦
-          Contains-append_left (mentioned op) (flat_map mentioned h) x
+          Contains-append_left (mentioned_ids op) (flat_map mentioned_ids h) x
           (Contains-append_left (option_to_list (id_of op)) (map (λ named. named.0) (names op)) x
           (subst (λ o. Contains (option_to_list o) x) (sym (own_id op x own)) (contains_here x [])))
-      | inr other ↦ Contains-append_right (mentioned op) (flat_map mentioned h) x (held_mentioned h x (sym (holds-other op h x other) ∙ held))
+      | inr other ↦ Contains-append_right (mentioned_ids op) (flat_map mentioned_ids h) x (held_mentioned h x (sym (holds-other op h x other) ∙ held))
     ]
 
 -- a counter of the replica is one of an identifier that is held
 counter_held : (r n : ℕ) (h : List Op) → Lawful h → Contains (counters r h) n → holds h (id_at r n) ≡ true
 counter_held r n h lawful c =
-    let m = contains_map_from (λ (id : Identifier). id.counter) (filter (λ id. nat_eq id.replica r) (flat_map mentioned h)) n c in
-    let f = contains_filter_from (λ (id : Identifier). nat_eq id.replica r) (flat_map mentioned h) m.0 m.1 in
+    let m = contains_map_from (λ (id : Identifier). id.counter) (filter (λ id. nat_eq id.replica r) (flat_map mentioned_ids h)) n c in
+    let f = contains_filter_from (λ (id : Identifier). nat_eq id.replica r) (flat_map mentioned_ids h) m.0 m.1 in
     subst (λ x. holds h x ≡ true) (λ i. record { replica = eqb-true m.0.replica r f.1 i; counter = m.2 i }) (mentioned_held h m.0 lawful f.0)
 
 held_counter : (r n : ℕ) (h : List Op) → holds h (id_at r n) ≡ true → Contains (counters r h) n
 held_counter r n h held =
-    contains_map (λ (id : Identifier). id.counter) (filter (λ id. nat_eq id.replica r) (flat_map mentioned h)) (id_at r n)
-    (contains_filter (λ (id : Identifier). nat_eq id.replica r) (flat_map mentioned h) (id_at r n) (held_mentioned h (id_at r n) held) (eq-eqb r r refl))
+    contains_map (λ (id : Identifier). id.counter) (filter (λ id. nat_eq id.replica r) (flat_map mentioned_ids h)) (id_at r n)
+    (contains_filter (λ (id : Identifier). nat_eq id.replica r) (flat_map mentioned_ids h) (id_at r n) (held_mentioned h (id_at r n) held) (eq-eqb r r refl))
 
 -- the greatest counter with a position is the greatest that the operations of the history have or name
-pub greatest_held : (r : ℕ) (m t : FinMap id_cmp Position) (h : List Op) (greatest : Option ℕ) → IsIndex m t h → Lawful h
+pub greatest_held : (r : ℕ) (m t : FinMap id_cmp Position) (h : List Op) (greatest : Option ℕ) → IsHistoryIndex m t h → Lawful h
     → IsGreatestIn (get m) r greatest → IsGreatest (counters r h) greatest
 greatest_held r m t h greatest index lawful g = by_greatest greatest g
   where
     found : (n : ℕ) → is_some (get m (id_at r n)) ≡ holds h (id_at r n)
-    found n = ap is_some (index.positions_are (id_at r n)) ∙ is_some-as (position_of (is_own (id_at r n)) h) ∙ has_position h (id_at r n)
+    found n = ap is_some (index.positions_are (id_at r n)) ∙ is_some-as (newest_position (is_own (id_at r n)) h) ∙ has_position h (id_at r n)
 
     by_greatest : (o : Option ℕ) → IsGreatestIn (get m) r o → IsGreatest (counters r h) o
     by_greatest None g =

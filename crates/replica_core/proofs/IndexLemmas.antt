@@ -19,8 +19,8 @@ use Rattle.origin_model.specs.declared.operations.Verdict.TheVariants.{Ready}
 use Rattle.origin_model.proofs.SharedLemmas.{hidden-has, holder-other, holder-own, holds-other, holds-own, ready_absent, when_ready}
 use Rattle.section_catalogue.proofs.ConditionLemmas.{target_delete}
 use Rattle.replica_core.specs.Feeding.{AreUnheld}
-use Rattle.replica_core.specs.Index.{ArePositions, IsFree, IsIndex, IsUnnoted, as_position, position_of}
-use Rattle.stretch_map.specs.Rules.{AreFree, IsFollowed, later}
+use Rattle.replica_core.specs.Index.{ArePositions, IsFreeKey, IsHistoryIndex, IsUnnoted, as_position, newest_position}
+use Rattle.stretch_map.specs.Rules.{AreFree, IsFollowedBy, later}
 use Rattle.stretch_map.specs.declared.follows.Position.{Position}
 use Rattle.fugue_ids.proofs.OrderLemmas.{id_cmp_total}
 use Rattle.fugue_ids.specs.Runs.{id_behind}
@@ -32,15 +32,15 @@ pub is_new : (h : List Op) (op : Op) → verdict h op ≡ Ready → (has_op h op
 is_new h op e = (ready_absent h op e, (when_ready h op e).fresh)
 
 -- the newest operation has the position behind the others
-position-own : (test : Op → Bool) (op : Op) (h : List Op) → test op ≡ true → position_of test (op ∷ h) ≡ Some (length h)
-position-own test op h e = rw (e, position_of)
+position-own : (test : Op → Bool) (op : Op) (h : List Op) → test op ≡ true → newest_position test (op ∷ h) ≡ Some (length h)
+position-own test op h e = rw (e, newest_position)
 
 -- others have the positions that they had
-position-other : (test : Op → Bool) (op : Op) (h : List Op) → test op ≡ false → position_of test (op ∷ h) ≡ position_of test h
-position-other test op h e = rw (e, position_of)
+position-other : (test : Op → Bool) (op : Op) (h : List Op) → test op ≡ false → newest_position test (op ∷ h) ≡ newest_position test h
+position-other test op h e = rw (e, newest_position)
 
 -- an identifier has a position where it is held
-pub has_position : (h : List Op) (x : Identifier) → is_some (position_of (is_own x) h) ≡ holds h x
+pub has_position : (h : List Op) (x : Identifier) → is_some (newest_position (is_own x) h) ≡ holds h x
 has_position [] x = refl
 has_position (op ∷ h) x =
     elim (cases_Bool (is_own x op)) [
@@ -49,10 +49,10 @@ has_position (op ∷ h) x =
     ]
 
 -- a target has one where a Delete names it
-has_target : (h : List Op) (x : Identifier) → is_some (position_of (deletes x) h) ≡ has_op h (Delete x)
+has_target : (h : List Op) (x : Identifier) → is_some (newest_position (deletes x) h) ≡ has_op h (Delete x)
 has_target h x = hides h ∙ hidden-has h x
   where
-    hides : (h : List Op) → is_some (position_of (deletes x) h) ≡ is_hidden h x
+    hides : (h : List Op) → is_some (newest_position (deletes x) h) ≡ is_hidden h x
     hides [] = refl
     hides (op ∷ h) =
         elim (cases_Bool (deletes x op)) [
@@ -97,18 +97,18 @@ module _ (test : Identifier → Op → Bool) (m n : FinMap id_cmp Position) (op 
             ∙ noted-other-at x (others x e) (are x)
       ]
     where
-      noted-other-at : (x : Identifier) → test x op ≡ false → get m x ≡ option_map as_position (position_of (test x) h) → get m x ≡ option_map as_position (position_of (test x) (op ∷ h))
+      noted-other-at : (x : Identifier) → test x op ≡ false → get m x ≡ option_map as_position (newest_position (test x) h) → get m x ≡ option_map as_position (newest_position (test x) (op ∷ h))
       noted-other-at x none at = at ∙ ap (option_map as_position) (sym (position-other (test x) op h none))
 
   -- and was taken out
-  forgot-own : (i : Identifier) → n ≡ remove m i → position_of (test i) h ≡ None → ((x : Identifier) → x ≢ i → test x op ≡ false)
+  forgot-own : (i : Identifier) → n ≡ remove m i → newest_position (test i) h ≡ None → ((x : Identifier) → x ≢ i → test x op ≡ false)
       → ArePositions test m (op ∷ h) → ArePositions test n h
   forgot-own i is free others are x =
       let at : get n x ≡ cond (is_eq (id_cmp x i)) None (get m x) = ap (λ k. get k x) is ∙ get-remove id_cmp_total m i x in
       elim (cases_id x i) [
         | inl e ↦
             at ∙ ap (λ b. cond b None (get m x)) (ap (λ y. is_eq (id_cmp y i)) e ∙ id_at-same i)
-            ∙ ap (option_map as_position) (sym (ap (λ y. position_of (test y) h) e ∙ free))
+            ∙ ap (option_map as_position) (sym (ap (λ y. newest_position (test y) h) e ∙ free))
         | inr e ↦
             at ∙ ap (λ b. cond b None (get m x)) (id_at-other x i (λ d. e (sym d)))
             ∙ are x ∙ ap (option_map as_position) (position-other (test x) op h (others x e))
@@ -116,7 +116,7 @@ module _ (test : Identifier → Op → Bool) (m n : FinMap id_cmp Position) (op 
 
 module _ (op : Op) (i : Identifier) (h : List Op) where
   -- the newest operation, which has an identifier, was put in
-  pub noted_position : (m n t : FinMap id_cmp Position) (k : ℕ) → key_of op ≡ Own i → n ≡ insert m i (as_position k) → IsIndex m t h → length h ≡ k → IsIndex n t (op ∷ h)
+  pub noted_position : (m n t : FinMap id_cmp Position) (k : ℕ) → key_of op ≡ Own i → n ≡ insert m i (as_position k) → IsHistoryIndex m t h → length h ≡ k → IsHistoryIndex n t (op ∷ h)
   noted_position m n t k key put index same =
       record {
         positions_are = noted-own is_own m n op h i (put ∙ ap (λ j. insert m i (as_position j)) (sym same)) ((own_is op i i key).0 ∙ id_eq-refl i)
@@ -125,7 +125,7 @@ module _ (op : Op) (i : Identifier) (h : List Op) where
       }
 
   -- a Delete was
-  pub noted_target : (m s t : FinMap id_cmp Position) (k : ℕ) → key_of op ≡ Target i → t ≡ insert s i (as_position k) → IsIndex m s h → length h ≡ k → IsIndex m t (op ∷ h)
+  pub noted_target : (m s t : FinMap id_cmp Position) (k : ℕ) → key_of op ≡ Target i → t ≡ insert s i (as_position k) → IsHistoryIndex m s h → length h ≡ k → IsHistoryIndex m t (op ∷ h)
   noted_target m s t k key put index same =
       record {
         positions_are = noted-other is_own m m op h (λ x. (target_is op i x key).0) index.positions_are;
@@ -133,14 +133,14 @@ module _ (op : Op) (i : Identifier) (h : List Op) where
             (λ x apart. (target_is op i x key).1 ∙ no_other i x apart) index.targets_are;
       }
 
-  free_own : key_of op ≡ Own i → verdict h op ≡ Ready → position_of (is_own i) h ≡ None
-  free_own key ready = is_some-false (position_of (is_own i) h) (has_position h i ∙ ap (λ k. id_held h (own_in k)) (sym key) ∙ (is_new h op ready).1)
+  free_own : key_of op ≡ Own i → verdict h op ≡ Ready → newest_position (is_own i) h ≡ None
+  free_own key ready = is_some-false (newest_position (is_own i) h) (has_position h i ∙ ap (λ k. id_held h (own_in k)) (sym key) ∙ (is_new h op ready).1)
 
-  free_target : key_of op ≡ Target i → verdict h op ≡ Ready → position_of (deletes i) h ≡ None
-  free_target key ready = is_some-false (position_of (deletes i) h) (has_target h i ∙ ap (has_op h) (sym (target_delete op i key)) ∙ (is_new h op ready).0)
+  free_target : key_of op ≡ Target i → verdict h op ≡ Ready → newest_position (deletes i) h ≡ None
+  free_target key ready = is_some-false (newest_position (deletes i) h) (has_target h i ∙ ap (has_op h) (sym (target_delete op i key)) ∙ (is_new h op ready).0)
 
   -- the newest operation, which has an identifier, was taken out
-  pub forgot_position : (m n t : FinMap id_cmp Position) → key_of op ≡ Own i → n ≡ remove m i → IsIndex m t (op ∷ h) → verdict h op ≡ Ready → IsIndex n t h
+  pub forgot_position : (m n t : FinMap id_cmp Position) → key_of op ≡ Own i → n ≡ remove m i → IsHistoryIndex m t (op ∷ h) → verdict h op ≡ Ready → IsHistoryIndex n t h
   forgot_position m n t key gone index ready =
       record {
         positions_are = forgot-own is_own m n op h i gone (free_own key ready) (λ x apart. (own_is op i x key).0 ∙ no_other i x apart) index.positions_are;
@@ -148,7 +148,7 @@ module _ (op : Op) (i : Identifier) (h : List Op) where
       }
 
   -- the newest operation, a Delete, was taken out
-  pub forgot_target : (m s t : FinMap id_cmp Position) → key_of op ≡ Target i → t ≡ remove s i → IsIndex m s (op ∷ h) → verdict h op ≡ Ready → IsIndex m t h
+  pub forgot_target : (m s t : FinMap id_cmp Position) → key_of op ≡ Target i → t ≡ remove s i → IsHistoryIndex m s (op ∷ h) → verdict h op ≡ Ready → IsHistoryIndex m t h
   forgot_target m s t key gone index ready =
       record {
         positions_are = forgot-other is_own m m op h (λ x. (target_is op i x key).0) index.positions_are;
@@ -156,10 +156,10 @@ module _ (op : Op) (i : Identifier) (h : List Op) where
       }
 
 -- an operation that is Ready has no position
-pub unnoted : (m t : FinMap id_cmp Position) (h : List Op) (op : Op) → IsIndex m t h → verdict h op ≡ Ready → IsUnnoted m t op
+pub unnoted : (m t : FinMap id_cmp Position) (h : List Op) (op : Op) → IsHistoryIndex m t h → verdict h op ≡ Ready → IsUnnoted m t op
 unnoted m t h op index ready = by_key (key_of op) refl
   where
-    by_key : (k : OpKey) → key_of op ≡ k → IsFree m t k
+    by_key : (k : OpKey) → key_of op ≡ k → IsFreeKey m t k
     by_key (Own i) key = index.positions_are i ∙ ap (option_map as_position) (free_own op i h key ready)
     by_key (Target i) key = index.targets_are i ∙ ap (option_map as_position) (free_target op i h key ready)
 
@@ -167,7 +167,7 @@ some_same : {X : Type 0} (a b : X) → Some a ≡ Some b → a ≡ b
 some_same a b e = cc
 
 -- a position is below the number of operations
-position_below : (test : Op → Bool) (h : List Op) (k : ℕ) → position_of test h ≡ Some k → k < length h
+position_below : (test : Op → Bool) (h : List Op) (k : ℕ) → newest_position test h ≡ Some k → k < length h
 position_below test [] k e = cc
 position_below test (op ∷ h) k e =
     elim (cases_Bool (test op)) [
@@ -177,13 +177,13 @@ position_below test (op ∷ h) k e =
 
 -- none comes behind that of the newest operation
 last_position : (test : Identifier → Op → Bool) (m : FinMap id_cmp Position) (op : Op) (h : List Op) (i : Identifier) → ArePositions test m (op ∷ h) → test i op ≡ true
-    → IsFollowed (λ first p k. later p k) (get m) i → ⊥
+    → IsFollowedBy (λ first p k. later p k) (get m) i → ⊥
 last_position test m op h i are own f =
     let at : Some (as_position (length h)) ≡ Some f.value = ap (option_map as_position) (sym (position-own (test i) op h own)) ∙ sym (are i) ∙ f.held in
     let here : length h ≡ f.value.at = let same : as_position (length h) ≡ f.value = cc in ap (λ p. p.at) same in
-    behind (position_of (test (id_behind i 1)) (op ∷ h)) refl (sym (are (id_behind i 1)) ∙ f.followed) here
+    behind (newest_position (test (id_behind i 1)) (op ∷ h)) refl (sym (are (id_behind i 1)) ∙ f.followed) here
   where
-    behind : (o : Option ℕ) → position_of (test (id_behind i 1)) (op ∷ h) ≡ o → option_map as_position o ≡ Some (later f.value 1) → length h ≡ f.value.at → ⊥
+    behind : (o : Option ℕ) → newest_position (test (id_behind i 1)) (op ∷ h) ≡ o → option_map as_position o ≡ Some (later f.value 1) → length h ≡ f.value.at → ⊥
     behind None is e here = cc
     behind (Some k) is e here =
         let same : as_position k ≡ later f.value 1 = cc in
@@ -191,14 +191,14 @@ last_position test m op h i are own f =
         let below : k < suc (length h) = position_below (test (id_behind i 1)) (op ∷ h) k is in
         omega (arith, next, below, here)
 
-pub last_own : (op : Op) (i : Identifier) (h : List Op) (m : FinMap id_cmp Position) → key_of op ≡ Own i → ArePositions is_own m (op ∷ h) → IsFollowed (λ first p k. later p k) (get m) i → ⊥
+pub last_own : (op : Op) (i : Identifier) (h : List Op) (m : FinMap id_cmp Position) → key_of op ≡ Own i → ArePositions is_own m (op ∷ h) → IsFollowedBy (λ first p k. later p k) (get m) i → ⊥
 last_own op i h m key are = last_position is_own m op h i are ((own_is op i i key).0 ∙ id_eq-refl i)
 
-pub last_target : (op : Op) (i : Identifier) (h : List Op) (m : FinMap id_cmp Position) → key_of op ≡ Target i → ArePositions deletes m (op ∷ h) → IsFollowed (λ first p k. later p k) (get m) i → ⊥
+pub last_target : (op : Op) (i : Identifier) (h : List Op) (m : FinMap id_cmp Position) → key_of op ≡ Target i → ArePositions deletes m (op ∷ h) → IsFollowedBy (λ first p k. later p k) (get m) i → ⊥
 last_target op i h m key are = last_position deletes m op h i are ((target_is op i i key).1 ∙ id_eq-refl i)
 
 -- at the position of an identifier stands its holder
-held_at : (h : List Op) (x : Identifier) (k : ℕ) → position_of (is_own x) h ≡ Some k → slice_get (reverse h) k ≡ holder h x
+held_at : (h : List Op) (x : Identifier) (k : ℕ) → newest_position (is_own x) h ≡ Some k → slice_get (reverse h) k ≡ holder h x
 held_at [] x k e = cc
 held_at (op ∷ h) x k e =
     let longer : reverse (op ∷ h) ≡ reverse h ++ op ∷ [] = reverse-append (op ∷ []) h in
@@ -210,7 +210,7 @@ held_at (op ∷ h) x k e =
           ∙ slice_get-seam (reverse h) op
           ∙ sym (holder-own op h x o)
       | inr o ↦
-          let before : position_of (is_own x) h ≡ Some k = sym (position-other (is_own x) op h o) ∙ e in
+          let before : newest_position (is_own x) h ≡ Some k = sym (position-other (is_own x) op h o) ∙ e in
           ap (λ (l : List Op). slice_get l k) longer
           ∙ slice_get-append (reverse h) (op ∷ []) k (subst (λ (n : ℕ). k < n) (sym (length-reverse h)) (position_below (is_own x) h k before))
           ∙ held_at h x k before
@@ -218,26 +218,26 @@ held_at (op ∷ h) x k e =
     ]
 
 -- the operation at the position of an identifier
-pub position_held : (m t : FinMap id_cmp Position) (ops : List Op) (x : Identifier) (k : ℕ) → IsIndex m t (reverse ops) → Some k ≡ option_map (λ p. p.at) (get m x)
+pub position_held : (m t : FinMap id_cmp Position) (ops : List Op) (x : Identifier) (k : ℕ) → IsHistoryIndex m t (reverse ops) → Some k ≡ option_map (λ p. p.at) (get m x)
     → slice_get ops k ≡ holder (reverse ops) x
 position_held m t ops x k index e =
-    ap (λ (l : List Op). slice_get l k) (sym (reverse-reverse ops)) ∙ held_at (reverse ops) x k (back (position_of (is_own x) (reverse ops)) (e ∙ ap (option_map (λ p. p.at)) (index.positions_are x)))
+    ap (λ (l : List Op). slice_get l k) (sym (reverse-reverse ops)) ∙ held_at (reverse ops) x k (back (newest_position (is_own x) (reverse ops)) (e ∙ ap (option_map (λ p. p.at)) (index.positions_are x)))
   where
     back : (o : Option ℕ) → Some k ≡ option_map (λ p. p.at) (option_map as_position o) → o ≡ Some k
     back None d = cc
     back (Some j) d = cc
 
 -- an identifier without a position is not held
-pub position_free : (m t : FinMap id_cmp Position) (h : List Op) (x : Identifier) → IsIndex m t h → None ≡ option_map (λ p. p.at) (get m x) → None ≡ holder h x
-position_free m t h x index e = sym (is_some-false (holder h x) (sym (has_position h x) ∙ sym (is_some-as (position_of (is_own x) h)) ∙ ap is_some (sym (index.positions_are x)) ∙ gone (get m x) e))
+pub position_free : (m t : FinMap id_cmp Position) (h : List Op) (x : Identifier) → IsHistoryIndex m t h → None ≡ option_map (λ p. p.at) (get m x) → None ≡ holder h x
+position_free m t h x index e = sym (is_some-false (holder h x) (sym (has_position h x) ∙ sym (is_some-as (newest_position (is_own x) h)) ∙ ap is_some (sym (index.positions_are x)) ∙ gone (get m x) e))
   where
     gone : (o : Option Position) → None ≡ option_map (λ p. p.at) o → is_some o ≡ false
     gone None d = refl
     gone (Some p) d = cc
 
 -- a target is found where a Delete names it
-pub target_held : (m t : FinMap id_cmp Position) (h : List Op) (x : Identifier) → IsIndex m t h → is_some (get t x) ≡ has_op h (Delete x)
-target_held m t h x index = ap is_some (index.targets_are x) ∙ is_some-as (position_of (deletes x) h) ∙ has_target h x
+pub target_held : (m t : FinMap id_cmp Position) (h : List Op) (x : Identifier) → IsHistoryIndex m t h → is_some (get t x) ≡ has_op h (Delete x)
+target_held m t h x index = ap is_some (index.targets_are x) ∙ is_some-as (newest_position (deletes x) h) ∙ has_target h x
 
 -- a position as a number is there where the position is
 pub is_some-at : (o : Option Position) → is_some (option_map (λ p. p.at) o) ≡ is_some o
@@ -245,16 +245,16 @@ is_some-at None = refl
 is_some-at (Some p) = refl
 
 -- an identifier is held where it has a position
-pub held_by_position : (m t : FinMap id_cmp Position) (h : List Op) (x : Identifier) → IsIndex m t h → is_some (get m x) ≡ holds h x
-held_by_position m t h x index = ap is_some (index.positions_are x) ∙ is_some-as (position_of (is_own x) h) ∙ has_position h x
+pub held_by_position : (m t : FinMap id_cmp Position) (h : List Op) (x : Identifier) → IsHistoryIndex m t h → is_some (get m x) ≡ holds h x
+held_by_position m t h x index = ap is_some (index.positions_are x) ∙ is_some-as (newest_position (is_own x) h) ∙ has_position h x
 
 -- identifiers without positions are not held
-pub free_unheld : (m t : FinMap id_cmp Position) (h : List Op) (first : Identifier) (n : ℕ) → IsIndex m t h → AreFree (get m) first n → AreUnheld h first n
+pub free_unheld : (m t : FinMap id_cmp Position) (h : List Op) (first : Identifier) (n : ℕ) → IsHistoryIndex m t h → AreFree (get m) first n → AreUnheld h first n
 free_unheld m t h first n index free k less = sym (held_by_position m t h (id_behind first k) index) ∙ ap is_some (free k less)
 
-pub unheld_free : (m t : FinMap id_cmp Position) (h : List Op) (first : Identifier) (n : ℕ) → IsIndex m t h → AreUnheld h first n → AreFree (get m) first n
+pub unheld_free : (m t : FinMap id_cmp Position) (h : List Op) (first : Identifier) (n : ℕ) → IsHistoryIndex m t h → AreUnheld h first n → AreFree (get m) first n
 unheld_free m t h first n index unheld k less = is_some-false (get m (id_behind first k)) (held_by_position m t h (id_behind first k) index ∙ unheld k less)
 
 -- targets that no Delete names have no positions
-pub untargeted_free : (m t : FinMap id_cmp Position) (h : List Op) (first : Identifier) (n : ℕ) → IsIndex m t h → ((k : ℕ) → k < n → has_op h (Delete (id_behind first k)) ≡ false) → AreFree (get t) first n
+pub untargeted_free : (m t : FinMap id_cmp Position) (h : List Op) (first : Identifier) (n : ℕ) → IsHistoryIndex m t h → ((k : ℕ) → k < n → has_op h (Delete (id_behind first k)) ≡ false) → AreFree (get t) first n
 untargeted_free m t h first n index new k less = is_some-false (get t (id_behind first k)) (target_held m t h (id_behind first k) index ∙ new k less)

@@ -11,7 +11,7 @@ use Rattle.origin_model.proofs.edits.MadeLemmas.{join_at_end}
 use Rattle.replica_core.specs.Due.{due_marks}
 use Rattle.origin_model.specs.edits.Effect.{Gains, StopsPartly, with_ops}
 use Rattle.replica_core.specs.Edits.{CanJoin}
-use Rattle.origin_model.specs.edits.State.{State, Stands}
+use Rattle.origin_model.specs.edits.State.{State, IsSound}
 use Rattle.origin_model.proofs.edits.EditIntakeLemmas.{accepts}
 use Rattle.replica_core.proofs.StandingLemmas.{stands_by_accept}
 
@@ -22,8 +22,8 @@ can_be_accepted s op can =
     (ne_eqb (length s.held.history + length s.held.waiting) s.most (λ full. absurd (omega (arith, full, can.room))))
 
 -- so the replica stands with it
-pub joined_stands : (s : State) (op : Op) (new : List Op) → CanJoin s (op ∷ []) → Stands s → new ≡ op ∷ s.held.history
-    → Stands (record s { held = record { history = new; waiting = s.held.waiting } })
+pub joined_stands : (s : State) (op : Op) (new : List Op) → CanJoin s (op ∷ []) → IsSound s → new ≡ op ∷ s.held.history
+    → IsSound (record s { held = record { history = new; waiting = s.held.waiting } })
 joined_stands s op new can stands is = stands_by_accept s new op (can_be_accepted s op can) is stands
 
 -- nothing that waits is marked on either history
@@ -44,9 +44,9 @@ pub record IsJoining (old now : State) (ops rest : List Op) : Type 0 where
   pub split : ops ≡ done ++ rest
   pub others : now ≡ with_ops old done
   pub can : CanJoin now rest
-  pub stands : Stands now
+  pub stands : IsSound now
 
-pub begins : (s : State) (ops : List Op) → CanJoin s ops → Stands s → IsJoining s s ops ops
+pub begins : (s : State) (ops : List Op) → CanJoin s ops → IsSound s → IsJoining s s ops ops
 begins s ops can stands = record { done = []; split = refl; others = refl; can = can; stands = stands }
 
 -- the first one can join alone

@@ -1,5 +1,6 @@
 pub mod CountLemmas
 pub mod DecisionLemmas
+pub mod DeletesFeedingLemmas
 pub mod DeletingLemmas
 pub mod EarliestLemmas
 pub mod EditLemmas

@@ -11,14 +11,14 @@ use Rattle.origin_model.specs.declared.operations.Role.{Role}
 use Rattle.origin_model.proofs.SharedLemmas.{target_is_shown}
 use Rattle.section_catalogue.proofs.HolderLemmas.{has_holder}
 use Rattle.section_catalogue.specs.Contents.{Contents, place_at}
-use Rattle.section_catalogue.specs.Manuscript.{GrowsBy, Hides, StandsFor}
+use Rattle.section_catalogue.specs.Manuscript.{GrowsBy, Hides, Represents}
 
 -- hiding an element takes in a Delete of it that is Ready
 pub hides_grows : (old new : Contents) (x : Identifier) → Hides old new x → GrowsBy old new (Delete x)
-hides_grows old new x hides h s ready = subst (StandsFor new) (ap (λ b. if b then h else Delete x ∷ h) (target_is_shown h x ready).1) (hides h s)
+hides_grows old new x hides h s ready = subst (Represents new) (ap (λ b. if b then h else Delete x ∷ h) (target_is_shown h x ready).1) (hides h s)
 
 -- where an identifier has a place, its holder fits where the operations of that place do
-pub fits_by_place : (m : Contents) (h : List Op) (x : Identifier) (p : Place) (role : Role) (fit : Bool) → StandsFor m h → place_at m x ≡ Some p → ((op : Op) → place op ≡ Some p → fit ≡ fits role op)
+pub fits_by_place : (m : Contents) (h : List Op) (x : Identifier) (p : Place) (role : Role) (fit : Bool) → Represents m h → place_at m x ≡ Some p → ((op : Op) → place op ≡ Some p → fit ≡ fits role op)
     → Some fit ≡ option_map (fits role) (holder h x)
 fits_by_place m h x p role fit stands at told =
     let o = has_holder p (holder h x) (sym (stands.places x) ∙ at) in

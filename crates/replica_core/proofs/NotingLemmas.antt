@@ -15,7 +15,7 @@ use Rattle.fugue_ids.specs.declared.op.Op.{Op}
 use Rattle.fugue_ids.specs.declared.op.Op.TheVariants.{Delete, Text}
 use Rattle.fugue_ids.specs.declared.run.RunStart.{RunStart}
 use Rattle.fugue_ids.proofs.RunLemmas.{none_behind, one_behind, typed-append}
-use Rattle.origin_model.specs.edits.Edits.{ReadyInTurn, extended}
+use Rattle.origin_model.specs.edits.Edits.{ReadyInTurn, history_with}
 use Rattle.origin_model.specs.operations.History.{has_op, holds}
 use Rattle.origin_model.proofs.SharedLemmas.{has-append, holds-older}
 use Rattle.origin_model.proofs.edits.MadeLemmas.{extended-append, join_at_end}
@@ -25,7 +25,7 @@ use Rattle.op_runs.specs.Deletions.{deletes_by}
 use Rattle.op_runs.specs.Repeats.{same_front}
 use Rattle.replica_core.specs.Deleting.{deletes_from}
 use Rattle.replica_core.specs.Due.{newest_id}
-use Rattle.replica_core.specs.Index.{IsIndex, sections_and_notes, with_positions}
+use Rattle.replica_core.specs.Index.{IsHistoryIndex, sections_and_notes, with_positions}
 use Rattle.replica_core.proofs.FeedingLemmas.{length-front, length-run}
 use Rattle.replica_core.proofs.DeletingLemmas.{deletes_parted, length-from}
 use Rattle.replica_core.proofs.IndexLemmas.{is_new, noted_position, noted_target, unheld_free, untargeted_free}
@@ -41,16 +41,16 @@ run_unheld id s l r (c ∷ text) h (suc k) ready less =
     false_from_ne_true _ (λ t. true≢false (sym (holds-older first h (id_behind id (suc k)) t) ∙ ap (holds (first ∷ h)) (sym (one_behind id k)) ∙ later))
 
 -- so they have no positions
-pub run_free : (m t : FinMap id_cmp Position) (h : List Op) (start : RunStart) (text : List ℕ) → IsIndex m t h → ReadyInTurn h (run_from start text) → AreFree (get m) start.id (length text)
+pub run_free : (m t : FinMap id_cmp Position) (h : List Op) (start : RunStart) (text : List ℕ) → IsHistoryIndex m t h → ReadyInTurn h (run_from start text) → AreFree (get m) start.id (length text)
 run_free m t h start text index ready =
     unheld_free m t h start.id (length text) index (λ k less. run_unheld start.id start.section start.left start.right text h k ready less)
 
 -- a run has no Section and no Note
-no_sections : (id s : Identifier) (l r : Option Identifier) (text : List ℕ) (h : List Op) → sections_and_notes (extended h (in_a_row id s l r text)) ≡ sections_and_notes h
+no_sections : (id s : Identifier) (l r : Option Identifier) (text : List ℕ) (h : List Op) → sections_and_notes (history_with h (in_a_row id s l r text)) ≡ sections_and_notes h
 no_sections id s l r [] h = refl
 no_sections id s l r (c ∷ text) h = no_sections (next_id id) s (Some id) r text (Text id s l r c ∷ h) ∙ append-nil (sections_and_notes h)
 
-pub run_listed : (h : List Op) (start : RunStart) (text : List ℕ) → sections_and_notes (extended h (run_from start text)) ≡ sections_and_notes h
+pub run_listed : (h : List Op) (start : RunStart) (text : List ℕ) → sections_and_notes (history_with h (run_from start text)) ≡ sections_and_notes h
 run_listed h start text = no_sections start.id start.section start.left start.right text h
 
 take_more : (text : List ℕ) (n : ℕ) → n < length text → take (suc n) text ≡ take n text ++ get_or text n 0 ∷ []
@@ -60,35 +60,35 @@ take_more (c ∷ text) (suc n) less = ap (λ z. c ∷ z) (take_more text n (omeg
 
 -- one letter more
 one_more : (h : List Op) (start : RunStart) (text : List ℕ) (n : ℕ) → n < length text
-    → extended h (run_from start (take (suc n) text)) ≡ text_by (start_behind start n) (get_or text n 0) ∷ extended h (run_from start (take n text))
+    → history_with h (run_from start (take (suc n) text)) ≡ text_by (start_behind start n) (get_or text n 0) ∷ history_with h (run_from start (take n text))
 one_more h start text n less =
     let front : List ℕ = take n text in
     let ch : ℕ = get_or text n 0 in
     let len : length front ≡ n = length-front text n (omega (arith, less)) in
-    ap (λ z. extended h (run_from start z)) (take_more text n less)
-    ∙ ap (extended h) (typed-append start.id start.section start.left start.right front (ch ∷ []))
-    ∙ (λ i. extended h (run_from start front ++ in_a_row (id_behind start.id (len i)) start.section (left_behind start.left start.id (len i)) start.right (ch ∷ [])))
+    ap (λ z. history_with h (run_from start z)) (take_more text n less)
+    ∙ ap (history_with h) (typed-append start.id start.section start.left start.right front (ch ∷ []))
+    ∙ (λ i. history_with h (run_from start front ++ in_a_row (id_behind start.id (len i)) start.section (left_behind start.left start.id (len i)) start.right (ch ∷ [])))
     ∙ extended-append h (run_from start front) (text_by (start_behind start n) ch ∷ [])
 
-letters_noted : (m t : FinMap id_cmp Position) (h : List Op) (start : RunStart) (text : List ℕ) (n : ℕ) → n ≤ length text → IsIndex m t h
-    → IsIndex (with_positions start.id (length h) n m) t (extended h (run_from start (take n text)))
+letters_noted : (m t : FinMap id_cmp Position) (h : List Op) (start : RunStart) (text : List ℕ) (n : ℕ) → n ≤ length text → IsHistoryIndex m t h
+    → IsHistoryIndex (with_positions start.id (length h) n m) t (history_with h (run_from start (take n text)))
 letters_noted m t h start text zero within index = index
 letters_noted m t h start text (suc n) within index =
     let less : n < length text = omega (arith, within) in
     let front : List ℕ = take n text in
-    let before : List Op = extended h (run_from start front) in
+    let before : List Op = history_with h (run_from start front) in
     let a : length before ≡ length h + length (run_from start front) = length-extended (run_from start front) h in
     let b : length (run_from start front) ≡ length front = length-run start front in
     let c : length front ≡ n = length-front text n (omega (arith, within)) in
-    subst (IsIndex (with_positions start.id (length h) (suc n) m) t) (sym (one_more h start text n less))
+    subst (IsHistoryIndex (with_positions start.id (length h) (suc n) m) t) (sym (one_more h start text n less))
     (noted_position (text_by (start_behind start n) (get_or text n 0)) (id_behind start.id n) before (with_positions start.id (length h) n m) (with_positions start.id (length h) (suc n) m) t
     (length h + n) refl refl (letters_noted m t h start text n (omega (arith, within)) index) (omega (arith, a, b, c)))
 
 -- the positions of a run
-pub run_noted : (m t : FinMap id_cmp Position) (h : List Op) (start : RunStart) (text : List ℕ) → IsIndex m t h
-    → IsIndex (with_positions start.id (length h) (length text) m) t (extended h (run_from start text))
+pub run_noted : (m t : FinMap id_cmp Position) (h : List Op) (start : RunStart) (text : List ℕ) → IsHistoryIndex m t h
+    → IsHistoryIndex (with_positions start.id (length h) (length text) m) t (history_with h (run_from start text))
 run_noted m t h start text index =
-    subst (λ z. IsIndex (with_positions start.id (length h) (length text) m) t (extended h (run_from start z))) (all text) (letters_noted m t h start text (length text) (omega arith) index)
+    subst (λ z. IsHistoryIndex (with_positions start.id (length h) (length text) m) t (history_with h (run_from start z))) (all text) (letters_noted m t h start text (length text) (omega arith) index)
   where
     all : (text : List ℕ) → take (length text) text ≡ text
     all [] = refl
@@ -109,25 +109,25 @@ row_new (suc k) (suc n) x h ready less =
     false_from_ne_true _ (λ t. true≢false (sym (or_right _ _ t) ∙ ap (λ y. has_op (Delete x ∷ h) (Delete y)) (sym (one_behind x k)) ∙ later))
 
 -- so their targets have no positions
-pub row_free : (m t : FinMap id_cmp Position) (h : List Op) (x : Identifier) (n : ℕ) → IsIndex m t h → ReadyInTurn h (deletes_from x n) → AreFree (get t) x n
+pub row_free : (m t : FinMap id_cmp Position) (h : List Op) (x : Identifier) (n : ℕ) → IsHistoryIndex m t h → ReadyInTurn h (deletes_from x n) → AreFree (get t) x n
 row_free m t h x n index ready = untargeted_free m t h x n index (λ k less. row_new k n x h ready less)
 
 -- none of them is a Section or a Note
-pub row_listed : (n : ℕ) (x : Identifier) (h : List Op) → sections_and_notes (extended h (deletes_from x n)) ≡ sections_and_notes h
+pub row_listed : (n : ℕ) (x : Identifier) (h : List Op) → sections_and_notes (history_with h (deletes_from x n)) ≡ sections_and_notes h
 row_listed zero x h = refl
 row_listed (suc n) x h = row_listed n (next_id x) (Delete x ∷ h) ∙ append-nil (sections_and_notes h)
 
 -- their positions
-pub row_noted : (m t : FinMap id_cmp Position) (h : List Op) (x : Identifier) (n : ℕ) → IsIndex m t h → IsIndex m (with_positions x (length h) n t) (extended h (deletes_from x n))
+pub row_noted : (m t : FinMap id_cmp Position) (h : List Op) (x : Identifier) (n : ℕ) → IsHistoryIndex m t h → IsHistoryIndex m (with_positions x (length h) n t) (history_with h (deletes_from x n))
 row_noted m t h x zero index = index
 row_noted m t h x (suc n) index =
-    let before : List Op = extended h (deletes_from x n) in
+    let before : List Op = history_with h (deletes_from x n) in
     let last : Op = Delete (id_behind x n) in
     let up : suc n ≡ n + 1 = omega arith in
-    let longer : extended h (deletes_from x (suc n)) ≡ last ∷ before =
-    ap (λ k. extended h (deletes_from x k)) up ∙ ap (extended h) (deletes_parted n 1 x) ∙ extended-append h (deletes_from x n) (last ∷ []) in
+    let longer : history_with h (deletes_from x (suc n)) ≡ last ∷ before =
+    ap (λ k. history_with h (deletes_from x k)) up ∙ ap (history_with h) (deletes_parted n 1 x) ∙ extended-append h (deletes_from x n) (last ∷ []) in
     let len : length before ≡ length h + length (deletes_from x n) = length-extended (deletes_from x n) h in
-    subst (IsIndex m (with_positions x (length h) (suc n) t)) (sym longer)
+    subst (IsHistoryIndex m (with_positions x (length h) (suc n) t)) (sym longer)
     (noted_target last (id_behind x n) before m (with_positions x (length h) n t) (with_positions x (length h) (suc n) t) (length h + n) refl refl
     (row_noted m t h x n index) (omega (arith, len, length-from n x)))
 
@@ -137,10 +137,10 @@ row_up zero x = refl
 row_up (suc n) x = ap (λ z. Delete x ∷ z) (row_up n (next_id x))
 
 -- operations that are appended to a list join the history that it is of
-pub appended_joins : (ops new run : List Op) → new ≡ ops ++ run → reverse new ≡ extended (reverse ops) run
+pub appended_joins : (ops new run : List Op) → new ≡ ops ++ run → reverse new ≡ history_with (reverse ops) run
 appended_joins ops new run is =
     let h : List Op = reverse ops in
-    ap reverse (is ∙ ap (λ z. z ++ run) (sym (reverse-reverse ops)) ∙ sym (join_at_end h run)) ∙ reverse-reverse (extended h run)
+    ap reverse (is ∙ ap (λ z. z ++ run) (sym (reverse-reverse ops)) ∙ sym (join_at_end h run)) ∙ reverse-reverse (history_with h run)
 
 -- what is in a list is in it the other way round
 turned_found : (ops : List Op) (op : Op) → has_op ops op ≡ true → has_op (reverse ops) op ≡ true

@@ -6,10 +6,10 @@ use Rattle.fugue_ids.specs.Identifiers.{Identifier}
 use Rattle.fugue_ids.specs.Runs.{id_behind, in_a_row, next_id, run_from, start_behind, text_by}
 use Rattle.fugue_ids.specs.declared.op.Op.{Op}
 use Rattle.fugue_ids.specs.declared.run.RunStart.{RunStart}
-use Rattle.origin_model.specs.edits.Edits.{ReadyInTurn, extended, id_at}
+use Rattle.origin_model.specs.edits.Edits.{ReadyInTurn, history_with, id_at}
 use Rattle.origin_model.specs.edits.Effect.{Gains, with_ops}
 use Rattle.origin_model.proofs.edits.RunLemmas.{typed_is_run}
-use Rattle.origin_model.specs.edits.State.{State, Stands}
+use Rattle.origin_model.specs.edits.State.{State, IsSound}
 use Rattle.origin_model.specs.taking.Taking.{IsSettled}
 use Rattle.replica_core.specs.Due.{due_marks}
 use Rattle.replica_core.specs.Edits.{CanJoin, ComeInTurn, typed_at}
@@ -89,13 +89,13 @@ drop_more zero (y ∷ ys) x h e = ap (drop 1) e
 drop_more (suc n) [] x h e = cc
 drop_more (suc n) (y ∷ ys) x h e = drop_more n ys x h e
 
-pub taken_back : (ops h : List Op) → drop (length ops) (extended h ops) ≡ h
+pub taken_back : (ops h : List Op) → drop (length ops) (history_with h ops) ≡ h
 taken_back [] h = refl
-taken_back (op ∷ ops) h = drop_more (length ops) (extended (op ∷ h) ops) op h (taken_back ops (op ∷ h))
+taken_back (op ∷ ops) h = drop_more (length ops) (history_with (op ∷ h) ops) op h (taken_back ops (op ∷ h))
 
-pub length-extended : (ops h : List Op) → length (extended h ops) ≡ length h + length ops
+pub length-extended : (ops h : List Op) → length (history_with h ops) ≡ length h + length ops
 length-extended [] h = omega arith
-length-extended (op ∷ ops) h = let rest : length (extended (op ∷ h) ops) ≡ suc (length h) + length ops = length-extended ops (op ∷ h) in omega (arith, rest)
+length-extended (op ∷ ops) h = let rest : length (history_with (op ∷ h) ops) ≡ suc (length h) + length ops = length-extended ops (op ∷ h) in omega (arith, rest)
 
 -- operations that can join are Ready in their turn
 pub ready_in_turn : (ops h w : List Op) → ComeInTurn w h ops → ReadyInTurn h ops
@@ -104,11 +104,11 @@ ready_in_turn (op ∷ ops) h w c = (c.0, ready_in_turn ops (op ∷ h) w c.3)
 
 -- what a replica is with all of them
 pub record AllJoined (s : State) (ops : List Op) : Type 0 where
-  pub stands : Stands (with_ops s ops)
+  pub stands : IsSound (with_ops s ops)
   pub settled : IsSettled (with_ops s ops).held
-  pub marks : due_marks s.held.history s.held.waiting ≡ due_marks (extended s.held.history ops) s.held.waiting
+  pub marks : due_marks s.held.history s.held.waiting ≡ due_marks (history_with s.held.history ops) s.held.waiting
 
-pub all_joined : (ops : List Op) (s : State) → CanJoin s ops → Stands s → AllJoined s ops
+pub all_joined : (ops : List Op) (s : State) → CanJoin s ops → IsSound s → AllJoined s ops
 all_joined [] s can stands = record { stands = stands; settled = can.settled; marks = refl }
 all_joined (op ∷ ops) s can stands =
     let one : CanJoin s (op ∷ []) = first_can s op ops can in

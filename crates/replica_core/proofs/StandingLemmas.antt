@@ -18,8 +18,8 @@ use Rattle.origin_model.specs.operations.Verdict.{verdict, first_line, first_str
 use Rattle.origin_model.specs.declared.operations.Verdict.TheVariants.{Ready}
 use Rattle.origin_model.specs.taking.Taking.{Held, answer, is_kept, Accepted, Full, Waits}
 use Rattle.origin_model.specs.operations.History.{HaveOtherIds}
-use Rattle.origin_model.specs.edits.State.{State, Stands, IsOpen}
-use Rattle.causal_inbox.specs.Waiting.{Waiting}
+use Rattle.origin_model.specs.edits.State.{State, IsSound, IsOpen}
+use Rattle.causal_inbox.specs.Waiting.{OpenWaiting}
 use Rattle.origin_model.proofs.SharedLemmas.{accepted_is_ready, other_ids}
 use Rattle.replica_core.proofs.DecisionLemmas.{IsNew, kept_new}
 
@@ -31,8 +31,8 @@ differs (o ∷ ops) op e =
     All-cons (λ x. op ≢ x) o ops (λ same. true≢false (sym (op_eq-refl op) ∙ subst (λ x. op_eq x op ≡ false) (sym same) p.0)) (differs ops op p.1)
 
 -- an accepted operation
-pub stands_accepted : (s : State) (op : Op) → Stands s → IsNew s.most s.held op → verdict s.held.history op ≡ Ready
-    → Stands (record s { held = record { history = op ∷ s.held.history; waiting = s.held.waiting } })
+pub stands_accepted : (s : State) (op : Op) → IsSound s → IsNew s.most s.held op → verdict s.held.history op ≡ Ready
+    → IsSound (record s { held = record { history = op ∷ s.held.history; waiting = s.held.waiting } })
 stands_accepted s op t new ready =
     let h : List Op = s.held.history in
     let w : List Op = s.held.waiting in
@@ -51,8 +51,8 @@ stands_accepted s op t new ready =
     }
 
 -- an operation that comes to wait
-pub stands_waiting : (s : State) (op : Op) → Stands s → IsNew s.most s.held op → length (s.held.waiting ++ op ∷ []) ≤ s.hold
-    → Stands (record s { held = record { history = s.held.history; waiting = s.held.waiting ++ op ∷ [] } })
+pub stands_waiting : (s : State) (op : Op) → IsSound s → IsNew s.most s.held op → length (s.held.waiting ++ op ∷ []) ≤ s.hold
+    → IsSound (record s { held = record { history = s.held.history; waiting = s.held.waiting ++ op ∷ [] } })
 stands_waiting s op t new within =
     let h : List Op = s.held.history in
     let w : List Op = s.held.waiting in
@@ -103,8 +103,8 @@ length-remove (x ∷ xs) zero below = refl
 length-remove (x ∷ xs) (suc k) below = ap suc (length-remove xs k (omega (arith, below)))
 
 -- a waiting operation is dropped
-pub stands_dropped : (s : State) (k : ℕ) → Stands s → k < length s.held.waiting
-    → Stands (record s { held = record { history = s.held.history; waiting = remove s.held.waiting k } })
+pub stands_dropped : (s : State) (k : ℕ) → IsSound s → k < length s.held.waiting
+    → IsSound (record s { held = record { history = s.held.history; waiting = remove s.held.waiting k } })
 stands_dropped s k t below =
     let h : List Op = s.held.history in
     let w : List Op = s.held.waiting in
@@ -122,8 +122,8 @@ stands_dropped s k t below =
     }
 
 -- a waiting operation is accepted
-pub stands_joined : (s : State) (k : ℕ) (op : Op) → Stands s → slice_get s.held.waiting k ≡ Some op → verdict s.held.history op ≡ Ready
-    → Stands (record s { held = record { history = op ∷ s.held.history; waiting = remove s.held.waiting k } })
+pub stands_joined : (s : State) (k : ℕ) (op : Op) → IsSound s → slice_get s.held.waiting k ≡ Some op → verdict s.held.history op ≡ Ready
+    → IsSound (record s { held = record { history = op ∷ s.held.history; waiting = remove s.held.waiting k } })
 stands_joined s k op t at ready =
     let h : List Op = s.held.history in
     let w : List Op = s.held.waiting in
@@ -147,28 +147,28 @@ stands_joined s k op t at ready =
     }
 
 -- the histories are the same
-pub stands_same : (s : State) (held : Held) → held ≡ s.held → Stands s → Stands (record s { held = held })
-stands_same s held same t = subst (λ (x : Held). Stands (record s { held = x })) (sym same) t
+pub stands_same : (s : State) (held : Held) → held ≡ s.held → IsSound s → IsSound (record s { held = held })
+stands_same s held same t = subst (λ (x : Held). IsSound (record s { held = x })) (sym same) t
 
 -- an operation whose answer is Accepted joined the history
-pub stands_by_accept : (s : State) (new : List Op) (op : Op) → answer s.hold s.most s.held op ≡ Accepted → new ≡ op ∷ s.held.history → Stands s
-    → Stands (record s { held = record { history = new; waiting = s.held.waiting } })
+pub stands_by_accept : (s : State) (new : List Op) (op : Op) → answer s.hold s.most s.held op ≡ Accepted → new ≡ op ∷ s.held.history → IsSound s
+    → IsSound (record s { held = record { history = new; waiting = s.held.waiting } })
 stands_by_accept s new op answered is t =
-    subst (λ (h : List Op). Stands (record s { held = record { history = h; waiting = s.held.waiting } })) (sym is) (stands_accepted s op t (kept_new s.hold s.most s.held op (ap is_kept answered)) (accepted_is_ready s.hold s.most s.held op answered))
+    subst (λ (h : List Op). IsSound (record s { held = record { history = h; waiting = s.held.waiting } })) (sym is) (stands_accepted s op t (kept_new s.hold s.most s.held op (ap is_kept answered)) (accepted_is_ready s.hold s.most s.held op answered))
 
 -- an operation whose answer was to be looked up came to wait
-pub stands_by_push : (s : State) (inbox new : Waiting) (op : Op) → inbox.ops ≡ s.held.waiting → inbox.hold ≡ s.hold
+pub stands_by_push : (s : State) (inbox new : OpenWaiting) (op : Op) → inbox.ops ≡ s.held.waiting → inbox.hold ≡ s.hold
     → answer s.hold s.most s.held op ≡ (if nat_eq (length s.held.waiting) s.hold then Full else Waits)
-    → new ≡ record inbox { ops = inbox.ops ++ op ∷ [] } → length new.ops ≤ new.hold → Stands s
-    → Stands (record s { held = record { history = s.held.history; waiting = new.ops } })
+    → new ≡ record inbox { ops = inbox.ops ++ op ∷ [] } → length new.ops ≤ new.hold → IsSound s
+    → IsSound (record s { held = record { history = s.held.history; waiting = new.ops } })
 stands_by_push s inbox new op waits holds answered is within t =
-    let ops : new.ops ≡ s.held.waiting ++ op ∷ [] = ap (λ (i : Waiting). i.ops) is ∙ ap (λ (w : List Op). w ++ op ∷ []) waits in
-    let hold : new.hold ≡ s.hold = ap (λ (i : Waiting). i.hold) is ∙ holds in
+    let ops : new.ops ≡ s.held.waiting ++ op ∷ [] = ap (λ (i : OpenWaiting). i.ops) is ∙ ap (λ (w : List Op). w ++ op ∷ []) waits in
+    let hold : new.hold ≡ s.hold = ap (λ (i : OpenWaiting). i.hold) is ∙ holds in
     let longer : length new.ops ≡ length s.held.waiting + 1 = ap length ops ∙ length_push s.held.waiting op in
     let room : length s.held.waiting ≢ s.hold = λ full. absurd (omega (arith, full, longer, hold, within)) in
     let answered_waits : answer s.hold s.most s.held op ≡ Waits = answered ∙ ap (λ b. if b then Full else Waits) (ne_eqb _ _ room) in
     let fits : length (s.held.waiting ++ op ∷ []) ≤ s.hold = omega (arith, longer, ap length ops, hold, within) in
-    subst (λ (w : List Op). Stands (record s { held = record { history = s.held.history; waiting = w } })) (sym ops)
+    subst (λ (w : List Op). IsSound (record s { held = record { history = s.held.history; waiting = w } })) (sym ops)
     (stands_waiting s op t (kept_new s.hold s.most s.held op (ap is_kept answered_waits)) fits)
 
 -- an operation behind a list that differs from its members is not in it
@@ -213,7 +213,7 @@ unfolding verdict
 open_verdict h x a t = open_by (has_op h x) (id_held h (id_of x)) (first_stray h (names x)) (first_missing h (names x)) a t
 
 -- a waiting operation is never accepted already, and neither is another with its identifier
-pub waiting_open : (s : State) → Stands s → All (λ op. IsOpen (verdict s.held.history op)) s.held.waiting
+pub waiting_open : (s : State) → IsSound s → All (λ op. IsOpen (verdict s.held.history op)) s.held.waiting
 waiting_open s t k d below =
     let at : slice_get s.held.waiting k ≡ Some (get_or s.held.waiting k d) = slice_get-get_or s.held.waiting k d below in
     open_verdict s.held.history (get_or s.held.waiting k d)

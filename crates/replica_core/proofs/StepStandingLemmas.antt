@@ -6,8 +6,8 @@ use Rattle.fugue_ids.specs.declared.op.Op.{Op}
 use Rattle.origin_model.specs.operations.Verdict.{verdict}
 use Rattle.origin_model.specs.declared.operations.Verdict.TheVariants.{Ready}
 use Rattle.origin_model.specs.taking.Taking.{Held, decided_on}
-use Rattle.causal_inbox.specs.Waiting.{Waiting}
-use Rattle.origin_model.specs.edits.State.{State, Stands}
+use Rattle.causal_inbox.specs.Waiting.{OpenWaiting}
+use Rattle.origin_model.specs.edits.State.{State, IsSound}
 use Rattle.replica_core.specs.Told.{JoinsNext, Settles}
 use Rattle.replica_core.specs.declared.replica.Settled.{Settled}
 use Rattle.replica_core.specs.declared.replica.Settled.TheVariants.{Accepted, DroppedStray}
@@ -18,13 +18,13 @@ use Rattle.replica_core.proofs.StepLemmas.{step_joined, step_dropped}
 -- a step of settling, and what is so after it
 pub record IsStep (s : State) (new : Held) (settled : Settled) : Type 0 where
   pub settles : Settles s.held new (Some settled)
-  pub stands : Stands (record s { held = new })
+  pub stands : IsSound (record s { held = new })
 
 -- the Ready operation at the first position of a decided one was accepted and removed
-pub accepted_step : (s : State) (inbox new : Waiting) (k : ℕ) (op removed : Op) (history : List Op)
+pub accepted_step : (s : State) (inbox new : OpenWaiting) (k : ℕ) (op removed : Op) (history : List Op)
     → inbox.ops ≡ s.held.waiting → position (decided_on s.held.history) s.held.waiting ≡ Some k
     → slice_get s.held.waiting k ≡ Some op → verdict s.held.history op ≡ Ready
-    → history ≡ op ∷ s.held.history → slice_get s.held.waiting k ≡ Some removed → new.ops ≡ remove inbox.ops k → Stands s
+    → history ≡ op ∷ s.held.history → slice_get s.held.waiting k ≡ Some removed → new.ops ≡ remove inbox.ops k → IsSound s
     → IsStep s (record { history = history; waiting = new.ops }) (Accepted removed)
 accepted_step s inbox new k op removed history same first there ready is_history out is_new stands =
     let w : List Op = s.held.waiting in
@@ -41,14 +41,14 @@ accepted_step s inbox new k op removed history same first there ready is_history
         step.1 ∙ ap (λ (ops : List Op). Some (removed, ops)) (sym rest),
         longer,
       );
-      stands = subst (λ (h : Held). Stands (record s { held = h })) is_held (stands_joined s k removed stands out ready_removed);
+      stands = subst (λ (h : Held). IsSound (record s { held = h })) is_held (stands_joined s k removed stands out ready_removed);
     }
 
 -- the operation at the first position of a decided one was not Ready and was removed
-pub dropped_step : (s : State) (inbox new : Waiting) (k : ℕ) (op removed : Op)
+pub dropped_step : (s : State) (inbox new : OpenWaiting) (k : ℕ) (op removed : Op)
     → inbox.ops ≡ s.held.waiting → position (decided_on s.held.history) s.held.waiting ≡ Some k
     → slice_get s.held.waiting k ≡ Some op → (verdict s.held.history op ≡ Ready → ⊥)
-    → slice_get s.held.waiting k ≡ Some removed → new.ops ≡ remove inbox.ops k → Stands s
+    → slice_get s.held.waiting k ≡ Some removed → new.ops ≡ remove inbox.ops k → IsSound s
     → IsStep s (record { history = s.held.history; waiting = new.ops }) (DroppedStray removed)
 dropped_step s inbox new k op removed same first there other out is_new stands =
     let w : List Op = s.held.waiting in
@@ -64,7 +64,7 @@ dropped_step s inbox new k op removed same first there other out is_new stands =
         step.1 ∙ ap (λ (ops : List Op). Some (removed, ops)) (sym rest),
         refl,
       );
-      stands = subst (λ (h : Held). Stands (record s { held = h })) is_held (stands_dropped s k stands below);
+      stands = subst (λ (h : Held). IsSound (record s { held = h })) is_held (stands_dropped s k stands below);
     }
 
 -- the Ready operation at the first position of a decided one is the next to leave

@@ -9,16 +9,16 @@ use Rattle.replica_core.specs.declared.replica.Decision.{Decision}
 use Rattle.replica_core.specs.declared.replica.Decision.TheVariants.{Again as DecidedAgain, Conflict as DecidedConflict, Stray as DecidedStray, TooMany as DecidedTooMany, Ready as DecidedReady, Missing as DecidedMissing}
 
 -- the first line that applies
-abbrev pub decided : Found → Verdict → (at_most : Bool) → Decision
-decided Same verdict at_most = DecidedAgain
-decided Clash AgainOnHistory at_most = DecidedAgain
-decided Clash verdict at_most = DecidedConflict
-decided Absent AgainOnHistory at_most = DecidedAgain
-decided Absent ConflictOnHistory at_most = DecidedConflict
-decided Absent (StrayOnHistory i) at_most = DecidedStray i
-decided Absent verdict true = DecidedTooMany
-decided Absent ReadyOnHistory false = DecidedReady
-decided Absent (MissingOnHistory i) false = DecidedMissing
+abbrev pub decision_of : Found → Verdict → (at_most : Bool) → Decision
+decision_of Same verdict at_most = DecidedAgain
+decision_of Clash AgainOnHistory at_most = DecidedAgain
+decision_of Clash verdict at_most = DecidedConflict
+decision_of Absent AgainOnHistory at_most = DecidedAgain
+decision_of Absent ConflictOnHistory at_most = DecidedConflict
+decision_of Absent (StrayOnHistory i) at_most = DecidedStray i
+decision_of Absent verdict true = DecidedTooMany
+decision_of Absent ReadyOnHistory false = DecidedReady
+decision_of Absent (MissingOnHistory i) false = DecidedMissing
 
 -- the answer that a decision comes to, as many waiting as may or not
 abbrev pub answer_by_decision : (at_hold : Bool) → Decision → Answer

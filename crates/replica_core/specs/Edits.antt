@@ -4,7 +4,7 @@ use Rattle.fugue_ids.specs.Ops.{id_of}
 use Rattle.fugue_ids.specs.declared.op.Op.{Op}
 use Rattle.origin_model.specs.operations.Verdict.{id_held, verdict}
 use Rattle.origin_model.specs.taking.Taking.{IsSettled}
-use Rattle.origin_model.specs.edits.Edits.{Command, typed}
+use Rattle.origin_model.specs.edits.Edits.{Command, typed_texts}
 use Rattle.origin_model.specs.edits.Refusal.{held_count, made_by, refusal_message}
 use Rattle.origin_model.specs.edits.State.{State}
 use Rattle.origin_model.specs.declared.edit_fault.EditFault.{EditFault}
@@ -19,7 +19,7 @@ IsCauseOf fault s command = refusal_message s command ≡ Some fault
 
 -- texts that are typed at a spot
 abbrev pub typed_at : ℕ → TextSpot → List ℕ → List Op
-typed_at number spot new = typed number spot.counter spot.section spot.left spot.right new
+typed_at number spot new = typed_texts number spot.counter spot.section spot.left spot.right new
 
 -- operations come in turn: each is Ready, none that waits has its identifier, and nothing that waits is decided by it
 abbrev pub ComeInTurn : List Op → List Op → List Op → Type 0

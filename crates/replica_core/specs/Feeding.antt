@@ -5,15 +5,15 @@ use Rattle.fugue_ids.specs.Runs.{id_behind}
 use Rattle.fugue_ids.specs.declared.op.Op.{Op}
 use Rattle.origin_model.specs.declared.taking.Tally.{Tally}
 use Rattle.origin_model.specs.operations.History.{holds}
-use Rattle.origin_model.specs.taking.Taking.{HasPlace, Held, IsSettled, TooMany, answer, held_from, kept_from, tally_from}
-use Rattle.origin_model.specs.edits.Edits.{extended}
+use Rattle.origin_model.specs.taking.Taking.{MeetsNoLimit, Held, IsSettled, TooMany, answer, held_from, kept_from, tally_from}
+use Rattle.origin_model.specs.edits.Edits.{history_with}
 use Rattle.origin_model.specs.edits.State.{State}
 use Rattle.causal_inbox.specs.Naming.{AreConcerned}
 use Rattle.replica_core.specs.declared.keeping.FeedFault.{FeedFault}
 use Rattle.replica_core.specs.declared.keeping.FeedFault.TheVariants.{TooMany as FedTooMany}
 use Rattle.replica_core.specs.Edits.{CanJoin}
 use Rattle.replica_core.specs.Keeping.{LeavesUnkept}
-use Rattle.replica_core.specs.Told.{Leaves, total}
+use Rattle.replica_core.specs.Told.{LeavesAfterFault, total}
 
 -- none of the n identifiers from this one on is held
 abbrev pub AreUnheld : List Op → Identifier → ℕ → Type 0
@@ -26,7 +26,7 @@ pub record AreUntouched (s : Held) (first : Identifier) (n : ℕ) : Type 0 where
 
 -- the operations were taken in one after another and counted, and each found its place
 pub record TakesInAll (old new : State) (ops : List Op) (before after : Tally) : Type 0 where
-  pub has_place : HasPlace old.hold old.most old.held ops
+  pub has_place : MeetsNoLimit old.hold old.most old.held ops
   pub replica : new ≡ record old { held = held_from old.hold old.most old.held ops }
   pub counts : after ≡ tally_from old.hold old.most old.held ops before
   pub settled : IsSettled new.held
@@ -47,7 +47,7 @@ pub record TakesInSome (ops : List Op) (old : State) (before : Tally) (fault : F
 -- a fault of `feed_run`: the operation left what its own fault of `feed` leaves
 pub record StopsFeeding (ops : List Op) (old new : State) (before after : Tally) (fault : FeedFault) : Type 0 where
   pub some : TakesInSome ops old before fault
-  pub leaves : Leaves some.reached new some.op some.counts after fault
+  pub leaves : LeavesAfterFault some.reached new some.op some.counts after fault
 
 -- a fault of `feed_run_keeping`: the operation left what its own fault of `feed_keeping` leaves, and what was kept of those before it is behind the kept ones
 pub record StopsKeeping (ops : List Op) (old new : State) (before after : Tally) (kept kept_after : List Op) (fault : FeedFault) : Type 0 where
@@ -58,8 +58,8 @@ pub record StopsKeeping (ops : List Op) (old new : State) (before after : Tally)
 -- operations go in at once: each is accepted in its turn, and nothing that waits is decided by them
 pub record GoesAtOnce (s : State) (ops : List Op) : Type 0 where
   pub can : CanJoin s ops
-  pub has_place : HasPlace s.hold s.most s.held ops
-  pub held : held_from s.hold s.most s.held ops ≡ record { history = extended s.held.history ops; waiting = s.held.waiting }
+  pub has_place : MeetsNoLimit s.hold s.most s.held ops
+  pub held : held_from s.hold s.most s.held ops ≡ record { history = history_with s.held.history ops; waiting = s.held.waiting }
   pub settled : IsSettled (held_from s.hold s.most s.held ops)
   pub kept : kept_from s.hold s.most s.held ops ≡ ops
   pub counted : (t : Tally) → tally_from s.hold s.most s.held ops t ≡ record t { accepted = t.accepted + length ops }

@@ -13,24 +13,25 @@ use Rattle.stretch_map.specs.Rules.{later, with_run}
 use Rattle.stretch_map.specs.declared.follows.Position.{Position}
 
 -- the position of the newest operation that passes the test: how many are older
-abbrev pub position_of : (Op → Bool) → List Op → Option ℕ
-position_of test [] = None
-position_of test (op ∷ older) = if test op then Some (length older) else position_of test older
+abbrev pub newest_position : (Op → Bool) → List Op → Option ℕ
+newest_position test [] = None
+newest_position test (op ∷ older) = if test op then Some (length older) else newest_position test older
 
 -- an operation is looked up by the key
-abbrev pub has_key : OpKey → Op → Bool
-has_key (Own i) op = is_own i op
-has_key (Target i) op = deletes i op
+abbrev pub matches_key : OpKey → Op → Bool
+matches_key (Own i) op = is_own i op
+matches_key (Target i) op = deletes i op
 
+-- a position in the history
 abbrev pub as_position : ℕ → Position
 as_position k = record { at = k }
 
 -- each identifier has the position of the operation of which the test is true
 abbrev pub ArePositions : (Identifier → Op → Bool) → FinMap id_cmp Position → List Op → Type 0
-ArePositions test m history = (x : Identifier) → get m x ≡ option_map as_position (position_of (test x) history)
+ArePositions test m history = (x : Identifier) → get m x ≡ option_map as_position (newest_position (test x) history)
 
 -- the positions are those of the history's operations, and the targets those of its Deletes
-pub record IsIndex (positions targets : FinMap id_cmp Position) (history : List Op) : Type 0 where
+pub record IsHistoryIndex (positions targets : FinMap id_cmp Position) (history : List Op) : Type 0 where
   pub positions_are : ArePositions is_own positions history
   pub targets_are : ArePositions deletes targets history
 
@@ -39,14 +40,15 @@ abbrev pub with_positions : Identifier → (k n : ℕ) → FinMap id_cmp Positio
 with_positions first k n m = with_run (λ first p j. later p j) first (as_position k) n m
 
 -- nothing is found by the key
-abbrev pub IsFree : FinMap id_cmp Position → FinMap id_cmp Position → OpKey → Type 0
-IsFree positions targets (Own i) = get positions i ≡ None
-IsFree positions targets (Target i) = get targets i ≡ None
+abbrev pub IsFreeKey : FinMap id_cmp Position → FinMap id_cmp Position → OpKey → Type 0
+IsFreeKey positions targets (Own i) = get positions i ≡ None
+IsFreeKey positions targets (Target i) = get targets i ≡ None
 
 -- the operation has no position yet
 abbrev pub IsUnnoted : FinMap id_cmp Position → FinMap id_cmp Position → Op → Type 0
-IsUnnoted positions targets op = IsFree positions targets (key_of op)
+IsUnnoted positions targets op = IsFreeKey positions targets (key_of op)
 
+-- the operation is a Section or a Note
 abbrev pub is_section_or_note : Op → Bool
 is_section_or_note (Section id left right title) = true
 is_section_or_note (Text id section left right ch) = false
@@ -57,6 +59,7 @@ is_section_or_note (Note id named code body) = true
 abbrev pub if_section_or_note : Op → Option Op
 if_section_or_note op = if is_section_or_note op then Some op else None
 
+-- the operation at the position, where it is one of these
 abbrev pub section_or_note_at : List Op → ℕ → Option Op
 section_or_note_at ops position = option_and_then if_section_or_note (slice_get ops position)
 

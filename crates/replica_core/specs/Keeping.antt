@@ -2,7 +2,7 @@
 use Rattle.std.specs.Prelude.{◌≡◌, ◌≢◌, ◌⊎◌, ◌+◌, ◌++◌, ◌∷◌, [], List, length}
 use Rattle.fugue_ids.specs.declared.op.Op.{Op}
 use Rattle.origin_model.specs.declared.taking.Tally.{Tally}
-use Rattle.origin_model.specs.taking.Taking.{HasPlace, TooMany, IsSettled, answer, held_from, intake, intake_counted, kept_from, no_counts, tally_from}
+use Rattle.origin_model.specs.taking.Taking.{MeetsNoLimit, TooMany, IsSettled, answer, held_from, intake, intake_counted, kept_from, no_counts, tally_from}
 use Rattle.replica_core.specs.declared.keeping.FeedFault.{FeedFault}
 use Rattle.replica_core.specs.declared.keeping.FeedFault.TheVariants.{TooMany as FedTooMany, NoMemory}
 use Rattle.origin_model.specs.edits.State.{State}
@@ -36,7 +36,7 @@ taking_begun replica kept = record { replica = replica; counts = no_counts; kept
 
 -- the operations were taken in one after another, and each found its place
 pub record TakesIn (old new : OpsTaking) (ops : List Op) : Type 0 where
-  pub has_place : HasPlace old.replica.hold old.replica.most old.replica.held ops
+  pub has_place : MeetsNoLimit old.replica.hold old.replica.most old.replica.held ops
   pub replica : new.replica ≡ record old.replica { held = held_from old.replica.hold old.replica.most old.replica.held ops }
   pub counts : new.counts ≡ tally_from old.replica.hold old.replica.most old.replica.held ops old.counts
   pub kept : new.kept ≡ old.kept ++ kept_from old.replica.hold old.replica.most old.replica.held ops

@@ -4,7 +4,7 @@ use Rattle.fugue_ids.specs.declared.op.Op.{Op}
 use Rattle.origin_model.specs.operations.Verdict.{verdict}
 use Rattle.origin_model.specs.declared.operations.Verdict.TheVariants.{Ready}
 use Rattle.origin_model.specs.declared.taking.Tally.{Tally}
-use Rattle.origin_model.specs.taking.Taking.{Held, Answer, Again, Conflict, Stray, TooMany, Accepted, Full, Waits, answer, taken, is_kept, settle_step, earliest, settle, intake, answer_counted, settling_counted, IsSettled}
+use Rattle.origin_model.specs.taking.Taking.{Held, Answer, Again, Conflict, Stray, TooMany, Accepted, Full, Waits, answer, held_after, is_kept, settle_step, earliest, settle, intake, answer_counted, settling_counted, IsSettled}
 use Rattle.replica_core.specs.declared.replica.Taken.{Taken}
 use Rattle.replica_core.specs.declared.replica.Taken.TheVariants.{Accepted as TakenAccepted, Waits as TakenWaits, Again as TakenAgain}
 use Rattle.replica_core.specs.declared.replica.Settled.{Settled}
@@ -56,15 +56,15 @@ total tally = tally.accepted + tally.repeated + tally.conflict + tally.stray + t
 
 -- the operation stands and settling stopped on its way, before a waiting operation that joins: the tally counts what stands, and what is left of settling ends where all of it would have ended
 pub record StandsPartly (hold most : ℕ) (old new : Held) (op : Op) (before after : Tally) : Type 0 where
-  pub steps : SettlesTo (taken (answer hold most old op) old op) new
-  pub counted : after ≡ settling_counted (taken (answer hold most old op) old op) new (answer_counted (answer hold most old op) before)
+  pub steps : SettlesTo (held_after (answer hold most old op) old op) new
+  pub counted : after ≡ settling_counted (held_after (answer hold most old op) old op) new (answer_counted (answer hold most old op) before)
   pub stopped : JoinsNext new
   pub goes_on : settle new ≡ intake hold most old op
 
 -- what a fault of `feed` leaves: want of memory comes only where the operation would be kept
-abbrev pub Leaves : (old new : State) → Op → (before after : Tally) → FeedFault → Type 0
-Leaves old new op before after (FedTooMany limit) = (limit ≡ old.most) × (new ≡ old) × (after ≡ before)
-Leaves old new op before after FedNoMemory =
+abbrev pub LeavesAfterFault : (old new : State) → Op → (before after : Tally) → FeedFault → Type 0
+LeavesAfterFault old new op before after (FedTooMany limit) = (limit ≡ old.most) × (new ≡ old) × (after ≡ before)
+LeavesAfterFault old new op before after FedNoMemory =
     (is_kept (answer old.hold old.most old.held op) ≡ true) × (new ≡ record old { held = new.held }) × (((new ≡ old) × (after ≡ before)) ⊎ StandsPartly old.hold old.most old.held new.held op before after)
 
 -- a step that is counted, or there was none

@@ -4,7 +4,7 @@ ghost use Rattle.fugue_ids.specs.Runs.{run_from};
 ghost use Rattle.fugue_ids.specs.declared.op.Op.TheVariants.{Delete as DeleteOf};
 ghost use Rattle.op_runs.specs.Finding.{op_of};
 ghost use Rattle.op_runs.specs.Parts.{IsOther};
-ghost use Rattle.origin_model.specs.edits.Edits.{ReadyInTurn, extended};
+ghost use Rattle.origin_model.specs.edits.Edits.{ReadyInTurn, history_with};
 ghost use Rattle.origin_model.specs.operations.History.{accepted as accepted_list, has_op, holder as holder_on, holds as holds_on, place as place_in};
 ghost use Rattle.origin_model.specs.operations.Counters.{counters, IsGreatest};
 ghost use Rattle.origin_model.specs.order.Printed.{manuscript as manuscript_on, shown};
@@ -14,9 +14,9 @@ ghost use Rattle.origin_model.specs.declared.operations.Verdict.TheVariants.{Rea
 ghost use Rattle.replica_core.specs.Deleting.{AreWithin, deletes_from, ids_from};
 ghost use Rattle.replica_core.specs.Due.{newest_id as newest_id_of};
 ghost use Rattle.replica_core.specs.Feeding.{AreUnheld};
-ghost use Rattle.replica_core.specs.Index.{has_key, position_of, sections_and_notes as positions_in};
+ghost use Rattle.replica_core.specs.Index.{matches_key, newest_position, sections_and_notes as positions_in};
 ghost use Rattle.section_catalogue.specs.Contents.{place_count};
-ghost use Rattle.section_catalogue.specs.Manuscript.{GrowsBy, IsPlaceOf, IsReadyOn, IsTextOf, StandsFor, Stays};
+ghost use Rattle.section_catalogue.specs.Manuscript.{GrowsBy, IsOrderedPlace, IsReadyOn, IsTextOf, Represents, PlacesStay};
 
 use crate::history::History;
 use crate::look_ups::ShownSection;
@@ -39,13 +39,13 @@ pub(crate) struct Accepted {
 impl Model for Accepted {
     ghost use Rattle.std.specs.Prelude.{List};
     ghost use Rattle.fugue_ids.specs.declared.op.Op.{Op};
-    ghost use Rattle.section_catalogue.specs.Manuscript.{StandsFor};
+    ghost use Rattle.section_catalogue.specs.Manuscript.{Represents};
 
     ghost Value = { List Op };
 
     ghost view = { λ accepted. accepted.history };
 
-    ghost invariant = { λ accepted. StandsFor accepted.manuscript accepted.history };
+    ghost invariant = { λ accepted. Represents accepted.manuscript accepted.history };
 }
 
 /// Takes an operation that stands in a place and is Ready into the manuscript. After want of memory that is as before.
@@ -54,7 +54,7 @@ fn take_in(manuscript: &mut Manuscript, op: &OpRef<'_>) -> Result<(), NoMemory>
     requires ready { IsReadyOn manuscript.old (op_of op.now) }
     requires room { place_count manuscript.old (op_of op.now) < MOST_OPERATIONS }
     ensures ok { OnOk result (GrowsBy manuscript.old manuscript.new (op_of op.now)) }
-    ensures err { OnErr result (Stays manuscript.old manuscript.new) }
+    ensures err { OnErr result (PlacesStay manuscript.old manuscript.new) }
 {
     match op {
         OpRef::Letter(start, ch) => manuscript.insert(&start.text(*ch)),
@@ -68,7 +68,7 @@ fn take_in(manuscript: &mut Manuscript, op: &OpRef<'_>) -> Result<(), NoMemory>
 fn take_in_delete(manuscript: &mut Manuscript, target: ElementId) -> Result<(), NoMemory>
     requires { IsReadyOn manuscript.old (DeleteOf target) }
     ensures ok { OnOk result (GrowsBy manuscript.old manuscript.new (DeleteOf target)) }
-    ensures err { OnErr result (Stays manuscript.old manuscript.new) }
+    ensures err { OnErr result (PlacesStay manuscript.old manuscript.new) }
 {
     match manuscript.place_of(target) {
         Some(_) => manuscript.hide(target),
@@ -183,7 +183,7 @@ impl Accepted {
 
     /// How many operations are older than the one that is looked up by the key.
     pub fn position(&self, key: OpKey) -> Option<usize>
-        ensures { result ≡ position_of (has_key key) self.now }
+        ensures { result ≡ newest_position (matches_key key) self.now }
     {
         self.history.position(key)
     }
@@ -204,7 +204,7 @@ impl Accepted {
 
     /// The sections, hidden ones too.
     pub fn catalogue(&self) -> &SectionList
-        ensures { IsPlaceOf catalogue self.now result.now }
+        ensures { IsOrderedPlace catalogue self.now result.now }
     {
         self.manuscript.catalogue()
     }
@@ -223,7 +223,7 @@ impl Accepted {
 
     /// All places.
     pub fn places(&self) -> &Manuscript
-        ensures { StandsFor result.now self.now }
+        ensures { Represents result.now self.now }
     {
         &self.manuscript
     }
@@ -315,7 +315,7 @@ impl Accepted {
         requires counters { start.now.id.counter + length text.now ≤ 2 ^ 32 }
         requires ready { ReadyInTurn self.old (run_from start.now text.now) }
         requires room { length self.old + length text.now ≤ MOST_OPERATIONS }
-        ensures ok { OnOk result (self.new ≡ extended self.old (run_from start.now text.now)) }
+        ensures ok { OnOk result (self.new ≡ history_with self.old (run_from start.now text.now)) }
         ensures err { OnErr result (self.new ≡ self.old) }
     {
         self.history.push_run(start, text)?;
@@ -341,8 +341,8 @@ impl Accepted {
         requires room { length self.old + count ≤ MOST_OPERATIONS }
         requires ready { ReadyInTurn self.old (deletes_from first count) }
         requires within { AreWithin section.now self.old (ids_from first count) }
-        ensures ok { OnOk result (self.new ≡ extended self.old (deletes_from first count)) }
-        ensures err { IfErr result (λ e. self.new ≡ extended self.old (deletes_from first e.done)) }
+        ensures ok { OnOk result (self.new ≡ history_with self.old (deletes_from first count)) }
+        ensures err { IfErr result (λ e. self.new ≡ history_with self.old (deletes_from first e.done)) }
         ensures fewer { IfErr result (λ e. e.done < count) }
     {
         let Ok(()) = self.history.push_deletes(first, count) else {

@@ -3,7 +3,7 @@ ghost use Rattle.std.specs.Prelude.{◌≡◌, ◌<◌, ◌≤◌, ◌+◌, ◌^
 ghost use Rattle.std.specs.Prelude.{All, vec_len, vec_capacity, true, ◌↔◌};
 ghost use Rattle.fugue_ids.specs.Runs.{run_from, text_by};
 ghost use Rattle.fugue_ids.specs.declared.limits.TheConstants.{MOST_OPERATIONS};
-ghost use Rattle.origin_model.specs.edits.State.{Stands};
+ghost use Rattle.origin_model.specs.edits.State.{IsSound};
 ghost use Rattle.origin_model.specs.operations.History.{has_op};
 ghost use Rattle.origin_model.specs.operations.Verdict.{verdict as verdict_on};
 ghost use Rattle.origin_model.specs.declared.operations.Verdict.TheVariants.{Ready};
@@ -11,11 +11,10 @@ ghost use Rattle.origin_model.specs.taking.Taking.{IsSettled, kept_from};
 ghost use Rattle.replica_core.specs.Feeding.{AreUntouched, GoesAtOnce, StopsFeeding, StopsKeeping, TakesInAll};
 ghost use Rattle.replica_core.specs.Told.{total};
 
-use crate::replica::Settling;
+use crate::open_replica::OpenReplica;
 use crate::{FeedFault, Replica};
 use fugue_ids::{ElementId, Op, RunStart};
 use origin_model::{Tally, Verdict};
-use std::mem::replace;
 
 impl Replica {
     /// Feeds the Texts of a run, one after another: those at once that nothing is asked of, the others each alone.
@@ -34,11 +33,10 @@ impl Replica {
         ensures ok { OnOk result (TakesInAll self.old self.new (run_from start.now text.now) tally.old tally.new) }
         ensures err { IfErr result
             (λ fault. StopsFeeding (run_from start.now text.now) self.old self.new tally.old tally.new fault) }
-        ensures stands { Stands self.new }
+        ensures stands { IsSound self.new }
     {
-        let mut settling = self.open();
-        let fed = settling.feed_run(start, text, tally);
-        drop(replace(self, settling.close()));
+        let fed = self.inner.feed_run(start, text, tally);
+        self.inner.close();
         fed
     }
 
@@ -59,29 +57,30 @@ impl Replica {
         ensures err { IfErr result
             (λ fault. StopsKeeping (run_from start.now text.now) self.old self.new tally.old tally.new
             kept.old.items kept.new.items fault) }
-        ensures stands { Stands self.new }
+        ensures stands { IsSound self.new }
     {
-        let mut settling = self.open();
-        let fed = settling.feed_run_keeping(start, text, tally, kept);
-        drop(replace(self, settling.close()));
+        let fed = self.inner.feed_run_keeping(start, text, tally, kept);
+        self.inner.close();
         fed
     }
 }
 
-impl Settling {
+impl OpenReplica {
     fn feed_run(
         &mut self,
         start: &RunStart,
         text: &[char],
         tally: &mut Tally,
     ) -> Result<(), FeedFault>
-        requires settled { IsSettled self.old.held }
+        requires settled { IsSettled self.old.state.held }
         requires counters { start.now.id.counter + length text.now ≤ 2 ^ 32 }
-        requires counts_rise { total tally.old + length self.old.held.waiting + length text.now ≤ 2 ^ 31 }
-        ensures ok { OnOk result (TakesInAll self.old self.new (run_from start.now text.now) tally.old tally.new) }
+        requires counts_rise { total tally.old + length self.old.state.held.waiting + length text.now ≤ 2 ^ 31 }
+        ensures ok { OnOk result
+            (TakesInAll self.old.state self.new.state (run_from start.now text.now) tally.old tally.new) }
         ensures err { IfErr result
-            (λ fault. StopsFeeding (run_from start.now text.now) self.old self.new tally.old tally.new fault) }
-        ensures stands { Stands self.new }
+            (λ fault. StopsFeeding (run_from start.now text.now) self.old.state self.new.state
+            tally.old tally.new fault) }
+        ensures stands { IsSound self.new.state }
     {
         let _ = &self.alloc;
         let mut next = *start;
@@ -102,16 +101,17 @@ impl Settling {
         tally: &mut Tally,
         kept: &mut Vec<Op>,
     ) -> Result<(), FeedFault>
-        requires settled { IsSettled self.old.held }
+        requires settled { IsSettled self.old.state.held }
         requires counters { start.now.id.counter + length text.now ≤ 2 ^ 32 }
-        requires counts_rise { total tally.old + length self.old.held.waiting + length text.now ≤ 2 ^ 31 }
-        ensures ok { OnOk result (TakesInAll self.old self.new (run_from start.now text.now) tally.old tally.new) }
+        requires counts_rise { total tally.old + length self.old.state.held.waiting + length text.now ≤ 2 ^ 31 }
+        ensures ok { OnOk result
+            (TakesInAll self.old.state self.new.state (run_from start.now text.now) tally.old tally.new) }
         ensures kept { OnOk result (kept.new.items ≡ kept.old.items
-            ++ kept_from self.old.hold self.old.most self.old.held (run_from start.now text.now)) }
+            ++ kept_from self.old.state.hold self.old.state.most self.old.state.held (run_from start.now text.now)) }
         ensures err { IfErr result
-            (λ fault. StopsKeeping (run_from start.now text.now) self.old self.new tally.old tally.new
+            (λ fault. StopsKeeping (run_from start.now text.now) self.old.state self.new.state tally.old tally.new
             kept.old.items kept.new.items fault) }
-        ensures stands { Stands self.new }
+        ensures stands { IsSound self.new.state }
     {
         let _ = &self.alloc;
         let mut next = *start;
@@ -132,17 +132,19 @@ impl Settling {
         text: &[char],
         tally: &mut Tally,
     ) -> Result<usize, FeedFault>
-        requires settled { IsSettled self.old.held }
+        requires settled { IsSettled self.old.state.held }
         requires some { 0 < length text.now }
         requires counters { start.now.id.counter + length text.now ≤ 2 ^ 32 }
-        requires counts_rise { total tally.old + length self.old.held.waiting + length text.now ≤ 2 ^ 31 }
+        requires counts_rise { total tally.old + length self.old.state.held.waiting + length text.now ≤ 2 ^ 31 }
         ensures some { IfOk result (λ n. 0 < n) }
         ensures within { IfOk result (λ n. n ≤ length text.now) }
         ensures ok { IfOk result
-            (λ n. TakesInAll self.old self.new (run_from start.now (take n text.now)) tally.old tally.new) }
+            (λ n. TakesInAll self.old.state self.new.state (run_from start.now (take n text.now))
+            tally.old tally.new) }
         ensures err { IfErr result
-            (λ fault. StopsFeeding (run_from start.now text.now) self.old self.new tally.old tally.new fault) }
-        ensures stands { Stands self.new }
+            (λ fault. StopsFeeding (run_from start.now text.now) self.old.state self.new.state
+            tally.old tally.new fault) }
+        ensures stands { IsSound self.new.state }
     {
         let repeated = self.repeated(start, text);
         if repeated > 0 {
@@ -167,20 +169,22 @@ impl Settling {
         tally: &mut Tally,
         kept: &mut Vec<Op>,
     ) -> Result<usize, FeedFault>
-        requires settled { IsSettled self.old.held }
+        requires settled { IsSettled self.old.state.held }
         requires some { 0 < length text.now }
         requires counters { start.now.id.counter + length text.now ≤ 2 ^ 32 }
-        requires counts_rise { total tally.old + length self.old.held.waiting + length text.now ≤ 2 ^ 31 }
+        requires counts_rise { total tally.old + length self.old.state.held.waiting + length text.now ≤ 2 ^ 31 }
         ensures some { IfOk result (λ n. 0 < n) }
         ensures within { IfOk result (λ n. n ≤ length text.now) }
         ensures ok { IfOk result
-            (λ n. TakesInAll self.old self.new (run_from start.now (take n text.now)) tally.old tally.new) }
+            (λ n. TakesInAll self.old.state self.new.state (run_from start.now (take n text.now))
+            tally.old tally.new) }
         ensures kept { IfOk result (λ n. kept.new.items ≡ kept.old.items
-            ++ kept_from self.old.hold self.old.most self.old.held (run_from start.now (take n text.now))) }
+            ++ kept_from self.old.state.hold self.old.state.most self.old.state.held
+            (run_from start.now (take n text.now))) }
         ensures err { IfErr result
-            (λ fault. StopsKeeping (run_from start.now text.now) self.old self.new tally.old tally.new
+            (λ fault. StopsKeeping (run_from start.now text.now) self.old.state self.new.state tally.old tally.new
             kept.old.items kept.new.items fault) }
-        ensures stands { Stands self.new }
+        ensures stands { IsSound self.new.state }
     {
         let repeated = self.repeated(start, text);
         if repeated > 0 {
@@ -205,8 +209,9 @@ impl Settling {
     fn repeated(&self, start: &RunStart, text: &[char]) -> usize
         requires { start.now.id.counter + length text.now ≤ 2 ^ 32 }
         ensures within { result ≤ length text.now }
-        ensures there { All (λ op. has_op self.now.held.history op ≡ true) (run_from start.now (take result text.now)) }
-        ensures stands { Stands self.now }
+        ensures there { All (λ op. has_op self.now.state.held.history op ≡ true)
+            (run_from start.now (take result text.now)) }
+        ensures stands { IsSound self.now.state }
     {
         self.accepted.repeats(start, text)
     }
@@ -214,11 +219,11 @@ impl Settling {
     /// How many Texts at the front of a run go in at once: none of their identifiers is accepted, nothing that waits has
     /// or names one, the first is Ready, and there is room.
     fn joining(&self, start: &RunStart, text: &[char]) -> usize
-        requires settled { IsSettled self.now.held }
+        requires settled { IsSettled self.now.state.held }
         requires counters { start.now.id.counter + length text.now ≤ 2 ^ 32 }
         ensures within { result ≤ length text.now }
-        ensures at_once { 0 < result → GoesAtOnce self.now (run_from start.now (take result text.now)) }
-        ensures stands { Stands self.now }
+        ensures at_once { 0 < result → GoesAtOnce self.now.state (run_from start.now (take result text.now)) }
+        ensures stands { IsSound self.now.state }
     {
         // One Text alone goes the way of all operations.
         let most = text.len().min(self.room());
@@ -230,8 +235,8 @@ impl Settling {
 
     /// Whether the Text is Ready.
     fn is_ready(&self, start: &RunStart, ch: char) -> bool
-        ensures ready { IsTrue result ↔ (verdict_on self.now.held.history (text_by start.now ch) ≡ Ready) }
-        ensures stands { Stands self.now }
+        ensures ready { IsTrue result ↔ (verdict_on self.now.state.held.history (text_by start.now ch) ≡ Ready) }
+        ensures stands { IsSound self.now.state }
     {
         matches!(self.accepted.verdict(&start.text(ch)), Verdict::Ready)
     }
@@ -242,8 +247,8 @@ impl Settling {
         requires counters { first.counter + count ≤ 2 ^ 32 }
         requires few { count ≤ MOST_OPERATIONS }
         ensures within { result ≤ count }
-        ensures untouched { AreUntouched self.now.held first result }
-        ensures stands { Stands self.now }
+        ensures untouched { AreUntouched self.now.state.held first result }
+        ensures stands { IsSound self.now.state }
     {
         if self.are_untouched(first, count) {
             return count;
@@ -260,8 +265,8 @@ impl Settling {
     /// Whether nothing accepted has one of so many identifiers, from this one on, and nothing that waits has or names one.
     fn are_untouched(&self, first: ElementId, count: u32) -> bool
         requires { first.counter + count ≤ 2 ^ 32 }
-        ensures untouched { IsTrue result ↔ AreUntouched self.now.held first count }
-        ensures stands { Stands self.now }
+        ensures untouched { IsTrue result ↔ AreUntouched self.now.state.held first count }
+        ensures stands { IsSound self.now.state }
     {
         self.accepted.is_free(first, count) && !self.inbox.concerns(first, count)
     }

@@ -5,7 +5,7 @@ ghost use Rattle.fugue_ids.specs.declared.limits.TheConstants.{MOST_OPERATIONS};
 ghost use Rattle.fugue_ids.specs.declared.op.Op.{Op as AnyOp};
 ghost use Rattle.op_runs.specs.Finding.{op_of};
 ghost use Rattle.op_runs.specs.Parts.{IsOther};
-ghost use Rattle.origin_model.specs.edits.Edits.{ReadyInTurn, extended};
+ghost use Rattle.origin_model.specs.edits.Edits.{ReadyInTurn, history_with};
 ghost use Rattle.origin_model.specs.operations.History.{accepted, has_op, holder as holder_on, holds as holds_on};
 ghost use Rattle.origin_model.specs.operations.Counters.{counters, IsGreatest};
 ghost use Rattle.origin_model.specs.operations.Verdict.{fits as fits_role, verdict, Lawful};
@@ -13,7 +13,7 @@ ghost use Rattle.origin_model.specs.declared.operations.Verdict.TheVariants.{Rea
 ghost use Rattle.replica_core.specs.Deleting.{deletes_from};
 ghost use Rattle.replica_core.specs.Due.{newest_id as newest_id_of};
 ghost use Rattle.replica_core.specs.Feeding.{AreUnheld};
-ghost use Rattle.replica_core.specs.Index.{has_key, position_of, sections_and_notes as positions_in};
+ghost use Rattle.replica_core.specs.Index.{matches_key, newest_position, sections_and_notes as positions_in};
 
 use crate::index::Index;
 use fugue_ids::{ElementId, NoMemory, Op, OpKey, RunStart};
@@ -34,7 +34,7 @@ impl Model for History {
     ghost use Rattle.fugue_ids.specs.declared.op.Op.{Op};
     ghost use Rattle.origin_model.specs.operations.Verdict.{Lawful};
     ghost use Rattle.std.specs.Prelude.{◌≡◌};
-    ghost use Rattle.replica_core.specs.Index.{IsIndex, sections_and_notes};
+    ghost use Rattle.replica_core.specs.Index.{IsHistoryIndex, sections_and_notes};
 
     ghost Value = { List Op };
 
@@ -42,7 +42,7 @@ impl Model for History {
 
     ghost invariant = { λ history. record {
       lawful : Lawful (reverse history.ops);
-      indexed : IsIndex history.index.positions.values history.index.targets.values (reverse history.ops);
+      indexed : IsHistoryIndex history.index.positions.values history.index.targets.values (reverse history.ops);
       listed : history.index.sections_and_notes.items ≡ sections_and_notes (reverse history.ops);
     } };
 }
@@ -139,7 +139,7 @@ impl History {
 
     /// How many operations are older than the one that is looked up by the key.
     pub fn position(&self, key: OpKey) -> Option<usize>
-        ensures { result ≡ position_of (has_key key) self.now }
+        ensures { result ≡ newest_position (matches_key key) self.now }
     {
         self.index.find(key)
     }
@@ -202,7 +202,7 @@ impl History {
         requires counters { start.now.id.counter + length text.now ≤ 2 ^ 32 }
         requires room { length self.old + length text.now ≤ MOST_OPERATIONS }
         requires ready { ReadyInTurn self.old (run_from start.now text.now) }
-        ensures ok { OnOk result (self.new ≡ extended self.old (run_from start.now text.now)) }
+        ensures ok { OnOk result (self.new ≡ history_with self.old (run_from start.now text.now)) }
         ensures err { OnErr result (self.new ≡ self.old) }
     {
         if text.is_empty() {
@@ -223,7 +223,7 @@ impl History {
         requires counters { first.counter + count ≤ 2 ^ 32 }
         requires room { length self.old + count ≤ MOST_OPERATIONS }
         requires ready { ReadyInTurn self.old (deletes_from first count) }
-        ensures ok { OnOk result (self.new ≡ extended self.old (deletes_from first count)) }
+        ensures ok { OnOk result (self.new ≡ history_with self.old (deletes_from first count)) }
         ensures err { OnErr result (self.new ≡ self.old) }
     {
         if count == 0 {

@@ -4,7 +4,7 @@ ghost use Rattle.fugue_ids.specs.declared.op.Op.{Op as AnyOp};
 ghost use Rattle.op_runs.specs.Finding.{op_of};
 ghost use Rattle.origin_model.specs.operations.Verdict.{verdict};
 ghost use Rattle.origin_model.specs.declared.operations.Verdict.TheVariants.{Ready};
-ghost use Rattle.replica_core.specs.Index.{has_key, IsIndex, IsUnnoted, is_section_or_note as is_either, position_if, position_of, with_positions};
+ghost use Rattle.replica_core.specs.Index.{matches_key, IsHistoryIndex, IsUnnoted, is_section_or_note as is_either, position_if, newest_position, with_positions};
 ghost use Rattle.replica_core.specs.Index.{sections_and_notes as positions_in};
 ghost use Rattle.stretch_map.specs.Rules.{AreFree, IsGreatestIn};
 
@@ -35,7 +35,7 @@ fn is_section_or_note(op: &Op) -> bool
 
 impl Index {
     pub fn new(alloc: Global) -> Index
-        ensures found { IsIndex result.positions.values result.targets.values [] }
+        ensures found { IsHistoryIndex result.positions.values result.targets.values [] }
         ensures listed { result.sections_and_notes.items ≡ [] }
     {
         Index {
@@ -63,8 +63,8 @@ impl Index {
 
     /// The position of the operation that is looked up by the key.
     pub fn find(&self, key: OpKey) -> Option<usize>
-        ensures { (h : List AnyOp) → IsIndex self.now.positions.values self.now.targets.values h
-            → result ≡ position_of (has_key key) h }
+        ensures { (h : List AnyOp) → IsHistoryIndex self.now.positions.values self.now.targets.values h
+            → result ≡ newest_position (matches_key key) h }
     {
         let found = match key {
             OpKey::Own(id) => self.positions.get(id),
@@ -101,9 +101,9 @@ impl Index {
     /// One operation more, at that position. After want of memory all is as before.
     pub fn note(&mut self, op: &Op, position: usize) -> Result<(), NoMemory>
         requires { IsUnnoted self.old.positions.values self.old.targets.values op.now }
-        ensures ok { OnOk result ((h : List AnyOp) → IsIndex self.old.positions.values self.old.targets.values h
+        ensures ok { OnOk result ((h : List AnyOp) → IsHistoryIndex self.old.positions.values self.old.targets.values h
             → length h ≡ position
-            → IsIndex self.new.positions.values self.new.targets.values (op.now ∷ h)) }
+            → IsHistoryIndex self.new.positions.values self.new.targets.values (op.now ∷ h)) }
         ensures listed { OnOk result ((h : List AnyOp) → self.old.sections_and_notes.items ≡ positions_in h
             → length h ≡ position
             → self.new.sections_and_notes.items ≡ positions_in (op.now ∷ h)) }
@@ -167,9 +167,9 @@ impl Index {
 
     /// The newest operation less. This wants no memory, since no other one has the position behind it.
     pub fn forget(&mut self, op: &Op)
-        ensures found { (h : List AnyOp) → IsIndex self.old.positions.values self.old.targets.values (op.now ∷ h)
+        ensures found { (h : List AnyOp) → IsHistoryIndex self.old.positions.values self.old.targets.values (op.now ∷ h)
             → verdict h op.now ≡ Ready
-            → IsIndex self.new.positions.values self.new.targets.values h }
+            → IsHistoryIndex self.new.positions.values self.new.targets.values h }
         ensures listed { (h : List AnyOp) → self.old.sections_and_notes.items ≡ positions_in (op.now ∷ h)
             → self.new.sections_and_notes.items ≡ positions_in h }
     {
@@ -179,9 +179,9 @@ impl Index {
 
     /// The same of an operation as it stands in the list.
     pub fn forget_found(&mut self, op: &OpRef<'_>)
-        ensures found { (h : List AnyOp) → IsIndex self.old.positions.values self.old.targets.values (op_of op.now ∷ h)
+        ensures found { (h : List AnyOp) → IsHistoryIndex self.old.positions.values self.old.targets.values (op_of op.now ∷ h)
             → verdict h (op_of op.now) ≡ Ready
-            → IsIndex self.new.positions.values self.new.targets.values h }
+            → IsHistoryIndex self.new.positions.values self.new.targets.values h }
         ensures listed { (h : List AnyOp) → self.old.sections_and_notes.items ≡ positions_in (op_of op.now ∷ h)
             → self.new.sections_and_notes.items ≡ positions_in h }
     {
@@ -222,9 +222,9 @@ impl Index {
     /// The position of an operation, by its key.
     fn place(&mut self, op: &Op, position: usize) -> Result<(), NoMemory>
         requires { IsUnnoted self.old.positions.values self.old.targets.values op.now }
-        ensures ok { OnOk result ((h : List AnyOp) → IsIndex self.old.positions.values self.old.targets.values h
+        ensures ok { OnOk result ((h : List AnyOp) → IsHistoryIndex self.old.positions.values self.old.targets.values h
             → length h ≡ position
-            → IsIndex self.new.positions.values self.new.targets.values (op.now ∷ h)) }
+            → IsHistoryIndex self.new.positions.values self.new.targets.values (op.now ∷ h)) }
         ensures err { OnErr result (self.new ≡ self.old) }
         ensures listed { self.new.sections_and_notes ≡ self.old.sections_and_notes }
     {
@@ -237,9 +237,9 @@ impl Index {
 
     /// The newest operation's position less, by its key.
     fn remove(&mut self, op: &Op)
-        ensures found { (h : List AnyOp) → IsIndex self.old.positions.values self.old.targets.values (op.now ∷ h)
+        ensures found { (h : List AnyOp) → IsHistoryIndex self.old.positions.values self.old.targets.values (op.now ∷ h)
             → verdict h op.now ≡ Ready
-            → IsIndex self.new.positions.values self.new.targets.values h }
+            → IsHistoryIndex self.new.positions.values self.new.targets.values h }
         ensures listed { self.new.sections_and_notes ≡ self.old.sections_and_notes }
     {
         let _sure = match op.key() {

@@ -1,12 +1,12 @@
 //! Taking in, with a copy of each operation that is kept, for those who save what was kept.
 ghost use Rattle.std.specs.Prelude.{◌≡◌, ◌↔◌, ◌<◌, ◌++◌, ◌∷◌, [], Err, OnOk, OnErr, IfErr, IfOk, vec_len, vec_capacity};
 ghost use Rattle.origin_model.specs.taking.Taking.{answer, TooMany, IsSettled};
-ghost use Rattle.origin_model.specs.edits.State.{Stands};
+ghost use Rattle.origin_model.specs.edits.State.{IsSound};
 ghost use Rattle.replica_core.specs.Told.{StaysBelow};
 ghost use Rattle.replica_core.specs.Keeping.{TakesInKeeping, LeavesUnkept};
 
 use crate::Replica;
-use crate::replica::Settling;
+use crate::open_replica::OpenReplica;
 use fugue_ids::{NoMemory, Op};
 use origin_model::Tally;
 use std::alloc::Global;
@@ -36,7 +36,6 @@ impl Replica {
     ///
     /// The memory for the copy is taken first, but for where as many are held as may be: then nothing more is kept, and
     /// one that is too many is told as that and not as want of memory. After a fault `kept` is as before.
-    #[tactic(auto, using(crate::proofs::KeepingLemmas::full_keeps_none, crate::proofs::KeepingLemmas::room_for_one, crate::proofs::KeepingLemmas::kept_has_place))]
     pub fn feed_keeping(
         &mut self,
         op: Op,
@@ -50,53 +49,31 @@ impl Replica {
             ↔ (answer self.old.hold self.old.most self.old.held op ≡ TooMany) }
         ensures err { IfErr result (λ fault. LeavesUnkept self.old self.new op tally.old tally.new fault) }
         ensures unkept { OnErr result (kept.new.items ≡ kept.old.items) }
-        ensures stands { Stands self.new }
+        ensures stands { IsSound self.new }
     {
-        if self.room() == 0 {
-            self.feed(op, tally)?;
-            return Ok(());
-        }
-        let Ok(copy) = copy_for(self.alloc, &op, kept) else {
-            drop(op);
-            return Err(FeedFault::NoMemory);
-        };
-        match self.feed(op, tally) {
-            Ok(true) => {
-                push_reserved(kept, copy);
-                Ok(())
-            }
-            Ok(false) => {
-                drop(copy);
-                Ok(())
-            }
-            Err(fault) => {
-                drop(copy);
-                Err(fault)
-            }
-        }
+        let fed = self.inner.feed_keeping(op, tally, kept);
+        self.inner.close();
+        fed
     }
 }
 
-impl Settling {
-    /// Feeds the operation, and appends a copy of it to `kept` where it was accepted or waits.
-    ///
-    /// The memory for the copy is taken first, but for where as many are held as may be: then nothing more is kept, and
-    /// one that is too many is told as that and not as want of memory. After a fault `kept` is as before.
+impl OpenReplica {
     #[tactic(auto, using(crate::proofs::KeepingLemmas::full_keeps_none, crate::proofs::KeepingLemmas::room_for_one, crate::proofs::KeepingLemmas::kept_has_place))]
-    pub(crate) fn feed_keeping(
+    pub fn feed_keeping(
         &mut self,
         op: Op,
         tally: &mut Tally,
         kept: &mut Vec<Op>,
     ) -> Result<(), FeedFault>
-        requires settled { IsSettled self.old.held }
+        requires settled { IsSettled self.old.state.held }
         requires counts_rise { StaysBelow tally.old }
-        ensures ok { OnOk result (TakesInKeeping self.old self.new op tally.old tally.new kept.old.items kept.new.items) }
-        ensures too_many { (result ≡ Err (FeedFault.TooMany self.old.most))
-            ↔ (answer self.old.hold self.old.most self.old.held op ≡ TooMany) }
-        ensures err { IfErr result (λ fault. LeavesUnkept self.old self.new op tally.old tally.new fault) }
+        ensures ok { OnOk result (TakesInKeeping self.old.state self.new.state op tally.old tally.new
+            kept.old.items kept.new.items) }
+        ensures too_many { (result ≡ Err (FeedFault.TooMany self.old.state.most))
+            ↔ (answer self.old.state.hold self.old.state.most self.old.state.held op ≡ TooMany) }
+        ensures err { IfErr result (λ fault. LeavesUnkept self.old.state self.new.state op tally.old tally.new fault) }
         ensures unkept { OnErr result (kept.new.items ≡ kept.old.items) }
-        ensures stands { Stands self.new }
+        ensures stands { IsSound self.new.state }
     {
         if self.room() == 0 {
             self.feed(op, tally)?;

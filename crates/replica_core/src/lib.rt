@@ -2,6 +2,7 @@
 #![tactic(auto)]
 
 mod accepted;
+mod deleting;
 mod due;
 mod edits;
 mod feeding;
@@ -9,6 +10,7 @@ mod history;
 mod index;
 mod keeping;
 mod look_ups;
+mod open_replica;
 mod replica;
 mod waking;
 

@@ -5,11 +5,11 @@ ghost use Rattle.op_runs.specs.Finding.{op_of};
 ghost use Rattle.origin_model.specs.operations.History.{accepted as accepted_list, holder as holder_on, holds as holds_on};
 ghost use Rattle.origin_model.specs.order.Printed.{is_withdrawn as withdrawn_in, shown, text as text_on};
 ghost use Rattle.origin_model.specs.declared.operations.Place.TheVariants.{Catalogue as catalogue, Section as within};
-ghost use Rattle.replica_core.specs.Index.{has_key, if_section_or_note, position_of, section_or_note_at, sections_and_notes as positions_in};
+ghost use Rattle.replica_core.specs.Index.{matches_key, if_section_or_note, newest_position, section_or_note_at, sections_and_notes as positions_in};
 ghost use Rattle.section_list.specs.Cells.{section_text as text_in};
-ghost use Rattle.section_catalogue.specs.Manuscript.{IsPlaceOf, IsTextOf, LookUpsAgree, StandsFor};
+ghost use Rattle.section_catalogue.specs.Manuscript.{IsOrderedPlace, IsTextOf, LookUpsAgree, Represents};
 ghost use Rattle.origin_model.specs.edits.Refusal.{section_shown};
-ghost use Rattle.origin_model.specs.edits.State.{Stands};
+ghost use Rattle.origin_model.specs.edits.State.{IsSound};
 
 use crate::Replica;
 use fugue_ids::{ElementId, NoMemory, Op, OpKey};
@@ -30,63 +30,63 @@ pub(crate) struct ShownSection<'a> {
 impl Replica {
     /// The sections, hidden ones too.
     pub(crate) fn catalogue(&self) -> &SectionList
-        ensures catalogue { IsPlaceOf catalogue self.now.held.history result.now }
-        ensures stands { Stands self.now }
+        ensures catalogue { IsOrderedPlace catalogue self.now.held.history result.now }
+        ensures stands { IsSound self.now }
     {
-        self.accepted.catalogue()
+        self.inner.accepted.catalogue()
     }
 
     /// The section with so many shown ones before it that is shown itself.
     pub(crate) fn shown_section(&self, section: usize) -> Option<ShownSection<'_>>
         ensures id { option_map (λ s. s.id) result ≡ section_shown self.now section }
         ensures text { IfSome result (λ s. IsTextOf s.id self.now.held.history s.text.now) }
-        ensures stands { Stands self.now }
+        ensures stands { IsSound self.now }
     {
-        self.accepted.section(section)
+        self.inner.accepted.section(section)
     }
 
     /// All places: the list of each, hidden elements too, is its order.
     pub fn places(&self) -> &Manuscript
-        ensures places { StandsFor result.now self.now.held.history }
+        ensures places { Represents result.now self.now.held.history }
         ensures lists { LookUpsAgree result.now self.now.held.history }
-        ensures stands { Stands self.now }
+        ensures stands { IsSound self.now }
     {
-        self.accepted.places()
+        self.inner.accepted.places()
     }
 
     /// Whether an accepted operation has the identifier.
     pub fn holds(&self, id: ElementId) -> bool
         ensures holds { result ≡ holds_on self.now.held.history id }
-        ensures stands { Stands self.now }
+        ensures stands { IsSound self.now }
     {
-        self.accepted.holds(id)
+        self.inner.accepted.holds(id)
     }
 
     /// How many operations were accepted before the one that is looked up by the key. A `Delete` is looked up by its
     /// target.
     pub fn position(&self, key: OpKey) -> Option<usize>
-        ensures position { result ≡ position_of (has_key key) self.now.held.history }
-        ensures stands { Stands self.now }
+        ensures position { result ≡ newest_position (matches_key key) self.now.held.history }
+        ensures stands { IsSound self.now }
     {
-        self.accepted.position(key)
+        self.inner.accepted.position(key)
     }
 
     /// The positions of the Sections and Notes among the accepted operations, ascending. Where letters are many and these
     /// are few, all of them are found without a walk over the letters.
     pub fn sections_and_notes(&self) -> &[usize]
         ensures positions { result.now ≡ positions_in self.now.held.history }
-        ensures stands { Stands self.now }
+        ensures stands { IsSound self.now }
     {
-        self.accepted.sections_and_notes()
+        self.inner.accepted.sections_and_notes()
     }
 
     /// The Section or Note that was accepted behind so many operations: None where another operation stands there, or
     /// none.
     pub fn section_or_note(&self, position: usize) -> Option<&Op>
         ensures found { option_copied result ≡ section_or_note_at (accepted_list self.now.held.history) position }
-        ensures stands { Stands self.now }
+        ensures stands { IsSound self.now }
     {
-        match self.accepted.get(position) {
+        match self.inner.accepted.get(position) {
             Some(OpRef::Whole(op)) => section_or_note(op),
             _ => None,
         }
@@ -95,48 +95,48 @@ impl Replica {
     /// The operation that was accepted behind so many others.
     pub fn operation(&self, position: usize) -> Option<OpRef<'_>>
         ensures operation { option_map op_of result ≡ slice_get (accepted_list self.now.held.history) position }
-        ensures stands { Stands self.now }
+        ensures stands { IsSound self.now }
     {
-        self.accepted.get(position)
+        self.inner.accepted.get(position)
     }
 
     /// The operations that were accepted behind so many others, in order.
     pub fn accepted_from(&self, position: usize) -> OpSlice<'_>
         ensures operations { result ≡ drop position (accepted_list self.now.held.history) }
-        ensures stands { Stands self.now }
+        ensures stands { IsSound self.now }
     {
-        self.accepted.from(position)
+        self.inner.accepted.from(position)
     }
 
     /// The accepted operation that has the identifier.
     pub fn holder(&self, id: ElementId) -> Option<OpRef<'_>>
         ensures holder { option_map op_of result ≡ holder_on self.now.held.history id }
-        ensures stands { Stands self.now }
+        ensures stands { IsSound self.now }
     {
-        self.accepted.holder(id)
+        self.inner.accepted.holder(id)
     }
 
     /// Whether an accepted Delete names the note.
     pub fn is_withdrawn(&self, note: ElementId) -> bool
         ensures withdrawn { result ≡ withdrawn_in self.now.held.history note }
-        ensures stands { Stands self.now }
+        ensures stands { IsSound self.now }
     {
-        self.accepted.has_delete(note)
+        self.inner.accepted.has_delete(note)
     }
 
     /// How many sections are shown.
     pub fn section_count(&self) -> usize
         ensures count { result ≡ length (shown catalogue self.now.held.history) }
-        ensures stands { Stands self.now }
+        ensures stands { IsSound self.now }
     {
-        self.accepted.section_count()
+        self.inner.accepted.section_count()
     }
 
     /// How many scalars are shown of the section with so many shown ones before it.
     pub fn text_len(&self, section: usize) -> Option<usize>
         ensures len { result ≡ option_map (λ s. length (text_on self.now.held.history s))
             (section_shown self.now section) }
-        ensures stands { Stands self.now }
+        ensures stands { IsSound self.now }
     {
         match self.shown_section(section) {
             Some(section) => Some(section.text.visible_count()),
@@ -148,7 +148,7 @@ impl Replica {
     pub fn scalar_at(&self, section: usize, at: usize) -> Option<ElementId>
         ensures scalar { result ≡ option_and_then (λ s. slice_get (shown (within s) self.now.held.history) at)
             (section_shown self.now section) }
-        ensures stands { Stands self.now }
+        ensures stands { IsSound self.now }
     {
         match self.shown_section(section) {
             Some(section) => section.text.nth_visible(at),
@@ -161,10 +161,10 @@ impl Replica {
         ensures text { IfOk result (λ text. option_map (λ t. string_bytes t) text
             ≡ option_map (λ s. encode_utf8_all (text_on self.now.held.history s)) (section_shown self.now section)) }
         ensures none { section_shown self.now section ≡ None → result ≡ Ok None }
-        ensures stands { Stands self.now }
+        ensures stands { IsSound self.now }
     {
         match self.shown_section(section) {
-            Some(section) => Ok(Some(shown_text(self.alloc, section.text)?)),
+            Some(section) => Ok(Some(shown_text(self.inner.alloc, section.text)?)),
             None => Ok(None),
         }
     }

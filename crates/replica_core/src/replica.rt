@@ -5,33 +5,29 @@ ghost use Rattle.fugue_ids.specs.Runs.{run_from};
 ghost use Rattle.origin_model.specs.operations.History.{accepted as accepted_list};
 ghost use Rattle.origin_model.specs.operations.Verdict.{verdict as verdict_on};
 ghost use Rattle.origin_model.specs.order.Printed.{manuscript};
-ghost use Rattle.origin_model.specs.taking.Taking.{nothing_held, answer, taken, TooMany, intake, intake_counted};
+ghost use Rattle.origin_model.specs.taking.Taking.{nothing_held, answer, held_after, TooMany, intake, intake_counted};
 ghost use Rattle.origin_model.specs.taking.Taking.{is_kept, IsSettled};
 ghost use Rattle.origin_model.specs.operations.Counters.{counters, IsGreatest};
-ghost use Rattle.origin_model.specs.edits.State.{all_ops, IsOpen, IsOutside, IsWithin, Stands};
+ghost use Rattle.origin_model.specs.edits.State.{all_ops, IsOpen, IsOutside, IsWithin, IsSound};
 ghost use Rattle.origin_model.specs.edits.Refusal.{held_count};
 ghost use Rattle.origin_model.specs.edits.Effect.{with_ops};
 ghost use Rattle.replica_core.specs.Deleting.{AreWithin, deletes_from, ids_from};
 ghost use Rattle.replica_core.specs.Edits.{CanJoin};
-ghost use Rattle.replica_core.specs.Decision.{answer_by_decision, decided};
-ghost use Rattle.replica_core.specs.Told.{Answers, JoinsNext, Leaves, Settles, SettlesOrStops, StaysBelow, total};
-
-mod settling;
+ghost use Rattle.replica_core.specs.Decision.{decision_of};
+ghost use Rattle.replica_core.specs.Told.{Answers, JoinsNext, LeavesAfterFault, Settles, SettlesOrStops, StaysBelow, total};
 
 use crate::FeedFault;
 use crate::accepted::Accepted;
 use crate::due::Due;
-use crate::waking::{wait, wake};
-use causal_inbox::{Found, Inbox, PushFault};
+use crate::open_replica::OpenReplica;
+use causal_inbox::{Found, OpenInbox};
 use fugue_ids::{ElementId, Failed, GREATEST_HOLD, MOST_OPERATIONS, NoMemory, Op, RunStart};
 use op_runs::OpSlice;
 use origin_model::{Tally, Verdict};
 use outer_ports::Sink;
 use section_list::StoppedAfter;
-pub(crate) use settling::Settling;
 use std::alloc::Global;
 use std::marker::Model;
-use std::mem::replace;
 
 /// What became of an operation that was delivered and not refused.
 #[derive(Clone, Copy, Debug, PartialEq, Eq)]
@@ -78,26 +74,19 @@ pub enum Settled {
 /// One author's replica of the manuscript: the accepted operations, and those that wait for others.
 #[derive(Drop)]
 pub struct Replica {
-    pub(crate) alloc: Global,
-    number: u32,
-    hold: u32,
-    most: u32,
-    pub(crate) accepted: Accepted,
-    pub(crate) inbox: Inbox,
-    due: Due,
+    /// Its inbox has no gap. Each call that takes operations in closes it at its end.
+    pub(crate) inner: OpenReplica,
 }
 
 impl Model for Replica {
     ghost use Rattle.origin_model.specs.edits.State.{State};
-    ghost use Rattle.replica_core.specs.Replica.{IsClosed, replica_state};
+    ghost use Rattle.replica_core.specs.Replica.{IsAtRest};
 
     ghost Value = { State };
 
-    ghost view = { λ replica. replica_state replica.number replica.hold replica.most replica.accepted replica.inbox };
+    ghost view = { λ replica. replica.inner.state };
 
-    ghost invariant = { λ replica.
-        IsClosed (replica_state replica.number replica.hold replica.most replica.accepted replica.inbox) replica.inbox
-        replica.due };
+    ghost invariant = { λ replica. IsAtRest replica.inner };
 }
 
 impl Replica {
@@ -105,7 +94,7 @@ impl Replica {
     pub fn new(alloc: Global, replica: u32, hold: u32, most: u32) -> Result<Replica, NewFault>
         ensures ok { IfOk result (λ made. made
             ≡ record { number = replica; hold = hold; most = most; held = nothing_held }) }
-        ensures stands { IfOk result Stands }
+        ensures stands { IfOk result IsSound }
         ensures zero_replica { (result ≡ Err NewFault.ZeroReplica) ↔ (replica ≡ 0) }
         ensures bad_hold { (result ≡ Err NewFault.BadHold) ↔ ((replica ≢ 0) × IsOutside GREATEST_HOLD hold) }
         ensures bad_most { (result ≡ Err NewFault.BadMost)
@@ -121,63 +110,65 @@ impl Replica {
             return Err(NewFault::BadMost);
         }
         Ok(Replica {
-            alloc,
-            number: replica,
-            hold,
-            most,
-            accepted: Accepted::new(alloc),
-            inbox: Inbox::new(alloc, hold),
-            due: Due::new(alloc),
+            inner: OpenReplica {
+                alloc,
+                number: replica,
+                hold,
+                most,
+                accepted: Accepted::new(alloc),
+                inbox: OpenInbox::new(alloc, hold),
+                due: Due::new(alloc),
+            },
         })
     }
 
     /// What an operation is against the accepted ones.
     pub fn verdict(&self, op: &Op) -> Verdict
         ensures verdict { result ≡ verdict_on self.now.held.history op.now }
-        ensures stands { Stands self.now }
+        ensures stands { IsSound self.now }
     {
-        self.accepted.verdict(op)
+        self.inner.accepted.verdict(op)
     }
 
     /// Whether nothing that waits can be accepted or is stray.
     pub fn is_settled(&self) -> bool
         ensures settled { IsTrue result ↔ IsSettled self.now.held }
-        ensures stands { Stands self.now }
+        ensures stands { IsSound self.now }
     {
-        self.due.is_clear()
+        self.inner.due.is_clear()
     }
 
     /// The replica that the operations of its edits are of.
     pub fn number(&self) -> u32
         ensures number { result ≡ self.now.number }
-        ensures stands { Stands self.now }
+        ensures stands { IsSound self.now }
     {
-        self.number
+        self.inner.number
     }
 
     /// How many may wait.
     pub fn hold(&self) -> u32
         ensures hold { result ≡ self.now.hold }
-        ensures stands { Stands self.now }
+        ensures stands { IsSound self.now }
     {
-        self.hold
+        self.inner.hold
     }
 
     /// The accepted operations, in the order in which they were accepted.
     pub fn accepted(&self) -> OpSlice<'_>
         ensures accepted { result ≡ accepted_list self.now.held.history }
-        ensures stands { Stands self.now }
+        ensures stands { IsSound self.now }
     {
-        self.accepted.ops()
+        self.inner.accepted.ops()
     }
 
     /// The waiting operations, in the order in which they came.
     pub fn waiting(&self) -> &[Op]
         ensures waiting { result.now ≡ self.now.held.waiting }
         ensures not_accepted { All (λ op. IsOpen (verdict_on self.now.held.history op)) self.now.held.waiting }
-        ensures stands { Stands self.now }
+        ensures stands { IsSound self.now }
     {
-        self.inbox.ops()
+        self.inner.inbox.ops()
     }
 
     /// Ends the replica. With `drop` each crate that ends one would prove anew how all its parts are dropped.
@@ -186,29 +177,29 @@ impl Replica {
     /// Writes the sections that are shown, each with its title and its text.
     pub fn write_manuscript<O: Sink>(&self, output: &mut O) -> Result<(), Failed>
         ensures text { WritesBytes (O.seen output.old) (O.seen output.new) result (manuscript self.now.held.history) }
-        ensures stands { Stands self.now }
+        ensures stands { IsSound self.now }
     {
-        self.accepted.write_manuscript(output)
+        self.inner.accepted.write_manuscript(output)
     }
 
     /// The greatest counter of the replica's own number among the identifiers that accepted and waiting operations have
     /// or name.
     pub fn greatest_counter(&self) -> Option<u32>
         ensures greatest { IsGreatest (counters self.now.number (all_ops self.now.held)) result }
-        ensures stands { Stands self.now }
+        ensures stands { IsSound self.now }
     {
         greater(
-            self.accepted.greatest(self.number),
-            self.inbox.greatest(self.number),
+            self.inner.accepted.greatest(self.inner.number),
+            self.inner.inbox.greatest(self.inner.number),
         )
     }
 
     /// How many operations more may be accepted or wait.
     pub(crate) fn room(&self) -> usize
         ensures room { result + held_count self.now ≡ self.now.most }
-        ensures stands { Stands self.now }
+        ensures stands { IsSound self.now }
     {
-        self.most as usize - self.accepted.len() - self.inbox.len()
+        self.inner.room()
     }
 
     /// Accepts an operation that an edit makes. Nothing that waits is decided by it, so the marks stay.
@@ -217,12 +208,11 @@ impl Replica {
         ensures ok { OnOk result (self.new ≡ with_ops self.old (op ∷ [])) }
         ensures err { OnErr result (self.new ≡ self.old) }
         ensures settled { IsSettled self.new.held }
-        ensures stands { Stands self.new }
+        ensures stands { IsSound self.new }
     {
-        let Ok(()) = self.accepted.accept(op) else {
-            return Err(NoMemory);
-        };
-        Ok(())
+        let joined = self.inner.join(op);
+        self.inner.close();
+        joined
     }
 
     /// Accepts a run that an edit makes, by one call on the places. Nothing that waits is decided by it, so the marks
@@ -234,12 +224,11 @@ impl Replica {
         ensures ok { OnOk result (self.new ≡ with_ops self.old (run_from start.now text.now)) }
         ensures err { OnErr result (self.new ≡ self.old) }
         ensures settled { IsSettled self.new.held }
-        ensures stands { Stands self.new }
+        ensures stands { IsSound self.new }
     {
-        let Ok(()) = self.accepted.accept_run(start, text) else {
-            return Err(NoMemory);
-        };
-        Ok(())
+        let joined = self.inner.join_run(start, text);
+        self.inner.close();
+        joined
     }
 
     /// Accepts the Deletes of so many elements of a section, from this identifier on, that an edit makes, by one call on
@@ -258,18 +247,11 @@ impl Replica {
         ensures err { IfErr result (λ e. self.new ≡ with_ops self.old (deletes_from first e.done)) }
         ensures fewer { IfErr result (λ e. e.done < count) }
         ensures settled { IsSettled self.new.held }
-        ensures stands { Stands self.new }
+        ensures stands { IsSound self.new }
     {
-        self.accepted.accept_deletes(section, first, count)
-    }
-
-    fn decision_on(&self, op: &Op) -> Decision
-        ensures { answer self.now.hold self.now.most self.now.held op.now
-            ≡ answer_by_decision (length self.now.held.waiting == self.now.hold) result }
-    {
-        let held = self.accepted.len() + self.inbox.len();
-        let at_most = held == self.most as usize;
-        decide(self.inbox.find(op), self.accepted.verdict(op), at_most)
+        let joined = self.inner.join_deletes(section, first, count);
+        self.inner.close();
+        joined
     }
 
     /// Takes one operation in and settles nothing. A refusal changes nothing and hands it back.
@@ -278,29 +260,14 @@ impl Replica {
         ensures answer { Answers self.old.hold self.old.most op
             (answer self.old.hold self.old.most self.old.held op) result }
         ensures ok { OnOk result (self.new ≡ record self.old {
-          held = taken (answer self.old.hold self.old.most self.old.held op) self.old.held op;
+          held = held_after (answer self.old.hold self.old.most self.old.held op) self.old.held op;
         }) }
         ensures err { OnErr result (self.new ≡ self.old) }
-        ensures stands { Stands self.new }
+        ensures stands { IsSound self.new }
     {
-        match self.decision_on(&op) {
-            Decision::Again => Ok(Taken::Again),
-            Decision::Conflict => Err(DeliverFault::Conflict(op)),
-            Decision::Stray(id) => Err(DeliverFault::Stray(op, id)),
-            Decision::TooMany => Err(DeliverFault::TooMany(op, self.most)),
-            Decision::Ready => match self.accepted.accept(op) {
-                Ok(()) => {
-                    wake(&self.inbox, &self.accepted, &mut self.due);
-                    Ok(Taken::Accepted)
-                }
-                Err(refused) => Err(DeliverFault::NoMemory(refused.op)),
-            },
-            Decision::Missing => match wait(&mut self.inbox, &mut self.due, op) {
-                Ok(()) => Ok(Taken::Waits),
-                Err(PushFault::Full(op)) => Err(DeliverFault::Full(op, self.hold)),
-                Err(PushFault::NoMemory(op)) => Err(DeliverFault::NoMemory(op)),
-            },
-        }
+        let taken = self.inner.deliver(op);
+        self.inner.close();
+        taken
     }
 
     /// Lets the earliest waiting operation that can be accepted or is stray leave: None is the answer where there is
@@ -310,12 +277,11 @@ impl Replica {
         ensures others { self.new ≡ record self.old { held = self.new.held } }
         ensures err { OnErr result (self.new ≡ self.old) }
         ensures wanting { OnErr result (JoinsNext self.old.held) }
-        ensures stands { Stands self.new }
+        ensures stands { IsSound self.new }
     {
-        let mut settling = self.open();
-        let result = settling.step();
-        drop(replace(self, settling.close()));
-        result
+        let settled = self.inner.step();
+        self.inner.close();
+        settled
     }
 
     /// Delivers the operation, settles to the end and counts: the answer is whether it was accepted or waits.
@@ -336,54 +302,12 @@ impl Replica {
             ≡ total tally.old + length self.old.held.waiting + 1) }
         ensures too_many { (result ≡ Err (FeedFault.TooMany self.old.most))
             ↔ (answer self.old.hold self.old.most self.old.held op ≡ TooMany) }
-        ensures err { IfErr result (λ fault. Leaves self.old self.new op tally.old tally.new fault) }
-        ensures stands { Stands self.new }
+        ensures err { IfErr result (λ fault. LeavesAfterFault self.old self.new op tally.old tally.new fault) }
+        ensures stands { IsSound self.new }
     {
-        match self.deliver(op) {
-            Ok(Taken::Accepted) => {
-                tally.accepted += 1;
-                match self.settle(tally) {
-                    Ok(()) => Ok(true),
-                    Err(NoMemory) => Err(FeedFault::NoMemory),
-                }
-            }
-            Ok(Taken::Waits) => Ok(true),
-            Ok(Taken::Again) => {
-                tally.repeated += 1;
-                Ok(false)
-            }
-            Err(DeliverFault::Conflict(_op)) => {
-                tally.conflict += 1;
-                Ok(false)
-            }
-            Err(DeliverFault::Stray(_op, _id)) => {
-                tally.stray += 1;
-                Ok(false)
-            }
-            Err(DeliverFault::Full(_op, _hold)) => {
-                tally.full += 1;
-                Ok(false)
-            }
-            Err(DeliverFault::TooMany(_op, most)) => Err(FeedFault::TooMany(most)),
-            Err(DeliverFault::NoMemory(_op)) => Err(FeedFault::NoMemory),
-        }
-    }
-
-    /// Settles to the end, or as far as memory lasts.
-    fn settle(&mut self, tally: &mut Tally) -> Result<(), NoMemory>
-        requires stands { Stands self.old }
-        requires accepted { tally.old.accepted ≤ 2 ^ 31 }
-        requires stray { tally.old.stray < 2 ^ 31 }
-        ensures settles { SettlesOrStops self.old self.new tally.old tally.new result }
-        ensures stands { Stands self.new }
-    {
-        if self.is_settled() {
-            return Ok(());
-        }
-        let mut settling = self.open();
-        let result = settling.settle(tally);
-        drop(replace(self, settling.close()));
-        result
+        let fed = self.inner.feed(op, tally);
+        self.inner.close();
+        fed
     }
 }
 
@@ -412,7 +336,7 @@ pub(crate) enum Decision {
 }
 
 pub(crate) fn decide(found: Found, verdict: Verdict, at_most: bool) -> Decision
-    ensures { result ≡ decided found verdict at_most }
+    ensures { result ≡ decision_of found verdict at_most }
 {
     match (found, verdict) {
         (Found::Same, _) => Decision::Again,

@@ -8,11 +8,11 @@ ghost use Rattle.replica_core.specs.Due.{due_marks};
 
 use crate::accepted::Accepted;
 use crate::due::Due;
-use causal_inbox::{Inbox, PushFault, is_decided};
+use causal_inbox::{OpenInbox, PushFault, is_decided};
 use fugue_ids::{NoMemory, Op};
 
 /// Tries anew those that rest on the newest accepted operation: all others are decided as before.
-pub(crate) fn wake(inbox: &Inbox, accepted: &Accepted, due: &mut Due)
+pub(crate) fn wake(inbox: &OpenInbox, accepted: &Accepted, due: &mut Due)
     requires marks { due.old ≡ due_marks (drop 1 accepted.now) inbox.now.ops }
     requires once { AllPairs (λ a b. a ≢ b) (accepted.now ++ inbox.now.ops) }
     requires own_ids { AllPairs HaveOtherIds (accepted.now ++ inbox.now.ops) }
@@ -33,13 +33,12 @@ pub(crate) fn wake(inbox: &Inbox, accepted: &Accepted, due: &mut Due)
 }
 
 /// One more waits, which cannot leave yet. After want of memory all is as before.
-pub(crate) fn wait(inbox: &mut Inbox, due: &mut Due, op: Op) -> Result<(), PushFault>
+pub(crate) fn wait(inbox: &mut OpenInbox, due: &mut Due, op: Op) -> Result<(), PushFault>
     ensures ok { OnOk result (inbox.new ≡ record inbox.old { ops = inbox.old.ops ++ op ∷ [] }) }
     ensures mark { OnOk result (due.new ≡ due.old ++ false ∷ []) }
     ensures full { (result ≡ Err (PushFault.Full op)) ↔ (length inbox.old.ops ≡ inbox.old.hold) }
     ensures err { OnErr result (inbox.new.ops ≡ inbox.old.ops) }
     ensures hold { inbox.new.hold ≡ inbox.old.hold }
-    ensures closed { inbox.old.gaps ≡ 0 → inbox.new.gaps ≡ 0 }
     ensures marks { OnErr result (due.new ≡ due.old) }
     ensures handed_back { IfErr result (λ fault. refused_op fault ≡ op) }
     ensures within { length inbox.new.ops ≤ inbox.new.hold }
@@ -49,7 +48,6 @@ pub(crate) fn wait(inbox: &mut Inbox, due: &mut Due, op: Op) -> Result<(), PushF
             Ok(()) => Ok(()),
             Err(NoMemory) => {
                 let op = inbox.remove(inbox.len() - 1);
-                inbox.close();
                 Err(PushFault::NoMemory(op))
             }
         },
@@ -58,7 +56,7 @@ pub(crate) fn wait(inbox: &mut Inbox, due: &mut Due, op: Op) -> Result<(), PushF
 }
 
 /// The operation at the position waits no longer. Those behind it close up.
-pub(crate) fn leave(inbox: &mut Inbox, due: &mut Due, position: usize) -> Op
+pub(crate) fn leave(inbox: &mut OpenInbox, due: &mut Due, position: usize) -> Op
     requires within { position < length inbox.old.ops }
     requires marks { length due.old ≡ length inbox.old.ops }
     ensures op { slice_get inbox.old.ops position ≡ Some result }

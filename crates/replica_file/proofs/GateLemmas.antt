@@ -5,19 +5,19 @@ use Rattle.std.proofs.lemmas.List.Elements.{All-nil}
 use Rattle.std.proofs.lemmas.Bool.{cases_lt}
 use Rattle.std.proofs.lemmas.Option.{slice_get-get_or}
 use Rattle.std.specs.Prelude.{Some}
-use Rattle.outer_ports.specs.disk.States.{State, IsCrashImage, at_rest, overwritten, torn, SameOutside}
+use Rattle.outer_ports.specs.disk.States.{DiskState, IsCrashImage, at_rest, overwritten, torn_state, SameOutside}
 use Rattle.outer_ports.proofs.SharedLemmas.{free_more, same_byte, same_outside}
 use Rattle.replica_file.specs.Ends.{Agrees}
-use Rattle.replica_file.specs.Gates.{IsWritten, IsOpened}
+use Rattle.replica_file.specs.Gates.{IsWrittenBehind, IsOpened}
 
-base_image : (s : State) → IsCrashImage s s.base
+base_image : (s : DiskState) → IsCrashImage s s.base
 base_image s = record { no_shorter = omega arith; no_longer = omega arith; same = λ i below free. refl }
 
-base_long : (s : State) (n : ℕ) → Agrees s n → n ≤ length s.base
+base_long : (s : DiskState) (n : ℕ) → Agrees s n → n ≤ length s.base
 base_long s n agrees = omega (arith, ap length (agrees.each s.base (base_image s)), length-take n s.base, length-take n s.seen, agrees.inside)
 
 -- a write behind what agrees leaves that
-pub agrees_before : (s : State) (n at k : ℕ) (seen image : List ℕ) → Agrees s n → n ≤ at → IsCrashImage (torn at k seen s) image → take n image ≡ take n s.seen
+pub agrees_before : (s : DiskState) (n at k : ℕ) (seen image : List ℕ) → Agrees s n → n ≤ at → IsCrashImage (torn_state at k seen s) image → take n image ≡ take n s.seen
 agrees_before s n at k seen image agrees le is =
     let based : n ≤ length s.base = base_long s n agrees in
     let long : n ≤ length image = omega (arith, based, is.no_shorter) in
@@ -77,7 +77,7 @@ module _ (before : List ℕ) (gate : ℕ) (bytes : List ℕ) (inside : gate + 1 
 
   -- what differs from it at the gate alone
   but_for_gate : (image : List ℕ) → length behind ≤ length image
-      → ((i : ℕ) → i < length behind → (i < gate) ⊎ (gate + 1 ≤ i) → get_or image i 0 ≡ get_or behind i 0) → IsWritten before gate bytes image
+      → ((i : ℕ) → i < length behind → (i < gate) ⊎ (gate + 1 ≤ i) → get_or image i 0 ≡ get_or behind i 0) → IsWrittenBehind before gate bytes image
   but_for_gate image long same = record {
     inside = omega (arith, reach, long);
     front = same_take gate image behind (omega (arith, reach, long)) (omega (arith, reach)) (λ i below. same i (omega (arith, below, reach)) (inl below))
@@ -89,7 +89,7 @@ module _ (before : List ℕ) (gate : ℕ) (bytes : List ℕ) (inside : gate + 1 
   }
 
   -- while the gate is opened
-  pub while_opened : (seen image : List ℕ) → IsCrashImage (torn gate 1 seen (at_rest behind)) image → IsWritten before gate bytes image
+  pub while_opened : (seen image : List ℕ) → IsCrashImage (torn_state gate 1 seen (at_rest behind)) image → IsWrittenBehind before gate bytes image
   while_opened seen image is =
       but_for_gate image is.no_shorter (λ i below outside. is.same i below (free_more [] (gate, 1) i (All-nil (λ (range : ℕ × ℕ). (i < range.0) ⊎ (range.0 + range.1 ≤ i))) outside))
 
@@ -97,7 +97,7 @@ module _ (before : List ℕ) (gate : ℕ) (bytes : List ℕ) (inside : gate + 1 
   abbrev pub open_gate : List ℕ
   open_gate = overwritten behind gate (1 ∷ [])
 
-  pub once_opened : IsWritten before gate bytes open_gate
+  pub once_opened : IsWrittenBehind before gate bytes open_gate
   once_opened =
       let only : SameOutside gate 1 behind open_gate = same_outside gate (1 ∷ []) behind (omega (arith, reach)) in
       but_for_gate open_gate only.no_shorter (λ i below outside. same_byte gate 1 i behind open_gate only outside)

@@ -10,18 +10,18 @@ use Rattle.fugue_ids.specs.declared.limits.TheConstants.{MOST_OPERATIONS}
 use Rattle.origin_model.specs.operations.Verdict.{verdict}
 use Rattle.origin_model.specs.declared.operations.Verdict.{Verdict}
 use Rattle.origin_model.specs.declared.operations.Verdict.TheVariants as verdict_is
-use Rattle.origin_model.specs.taking.Taking.{Accepted, Again, IsSettled, Conflict, Full, HasPlace, Held, Stray, Waits, Answer, TooMany as AnswersTooMany, answer, answer_by, answers_from, held, held_from, intake, is_again, is_kept, is_taken, nothing_held, taken, settle, settle_step, settled_within}
+use Rattle.origin_model.specs.taking.Taking.{Accepted, Again, IsSettled, Conflict, Full, MeetsNoLimit, Held, Stray, Waits, Answer, TooMany as AnswersTooMany, answer, answer_by, answers_from, held, held_from, intake, is_again, is_kept, is_taken, nothing_held, held_after, settle, settle_step, settled_within}
 use Rattle.origin_model.proofs.SharedLemmas.{answers-append, held-append, places-append, places-one}
-use Rattle.origin_model.specs.edits.State.{State, Stands}
+use Rattle.origin_model.specs.edits.State.{State, IsSound}
 use Rattle.replica_core.specs.Feeding.{StopsFeeding, TakesInAll}
-use Rattle.replica_core.specs.Told.{Leaves}
+use Rattle.replica_core.specs.Told.{LeavesAfterFault}
 use Rattle.replica_core.proofs.KeepingLemmas.{full_keeps_none}
 use Rattle.replica_core.proofs.StepLemmas.{step_moves}
 use Rattle.replica_core.specs.declared.keeping.FeedFault.{FeedFault}
 use Rattle.replica_core.specs.declared.keeping.FeedFault.TheVariants.{TooMany as FedTooMany, NoMemory as FedNoMemory}
 use Rattle.origin_model.specs.declared.taking.Tally.{Tally}
 use Rattle.replica_file.specs.Load.{AreTooMany, FindPlace}
-use Rattle.replica_file.specs.Loading.{AreIn, Fed, Feeds, IsReady, IsSameButHeld, WantsMemory}
+use Rattle.replica_file.specs.Loading.{AreIn, Fed, Feeds, CanTake, IsSameButHeld, WantsMemory}
 
 -- the answer by the two tests that come first
 abbrev by_tests : (again known at_most at_hold : Bool) → Verdict → Answer
@@ -86,7 +86,7 @@ unfolding settle
 settle_few s = within_few s.waiting s
 
 -- an answer adds the operation where it is kept
-count_kept : (a : Answer) (s : Held) (op : Op) → is_kept a ≡ true → count (taken a s op) ≡ count s + 1
+count_kept : (a : Answer) (s : Held) (op : Op) → is_kept a ≡ true → count (held_after a s op) ≡ count s + 1
 count_kept Accepted s op kept = omega arith
 count_kept Waits s op kept = omega (arith, length-append s.waiting (op ∷ []))
 count_kept Again s op kept = absurd (cc kept)
@@ -95,7 +95,7 @@ count_kept (Stray i) s op kept = absurd (cc kept)
 count_kept AnswersTooMany s op kept = absurd (cc kept)
 count_kept Full s op kept = absurd (cc kept)
 
-count_unkept : (a : Answer) (s : Held) (op : Op) → is_kept a ≡ false → count (taken a s op) ≡ count s
+count_unkept : (a : Answer) (s : Held) (op : Op) → is_kept a ≡ false → count (held_after a s op) ≡ count s
 count_unkept Accepted s op kept = absurd (cc kept)
 count_unkept Waits s op kept = absurd (cc kept)
 count_unkept Again s op kept = refl
@@ -109,31 +109,31 @@ few_on : (hold most : ℕ) (s : Held) (op : Op) → count s ≤ most → count (
 few_on hold most s op few = by (is_kept (answer hold most s op)) refl
   where
     by : (kept : Bool) → is_kept (answer hold most s op) ≡ kept → count (intake hold most s op) ≤ most
-    by false is = omega (arith, settle_few (taken (answer hold most s op) s op), count_unkept (answer hold most s op) s op is, few)
+    by false is = omega (arith, settle_few (held_after (answer hold most s op) s op), count_unkept (answer hold most s op) s op is, few)
     by true is =
         let below : count s < most = elim (cases_order (count s) most) [
           | inl full ↦ absurd (let no = sym is ∙ full_keeps_none hold most s op full in cc no)
           | inr (inl less) ↦ less
           | inr (inr more) ↦ absurd (omega (arith, few, more))
         ] in
-        omega (arith, settle_few (taken (answer hold most s op) s op), count_kept (answer hold most s op) s op is, below)
+        omega (arith, settle_few (held_after (answer hold most s op) s op), count_kept (answer hold most s op) s op is, below)
 
 -- a greater limit changes nothing where all find their place
-same_held : (hold most : ℕ) (s : Held) (ops : List Op) → count s ≤ most → most ≤ MOST_OPERATIONS → HasPlace hold most s ops → held_from hold most s ops ≡ held_from hold MOST_OPERATIONS s ops
+same_held : (hold most : ℕ) (s : Held) (ops : List Op) → count s ≤ most → most ≤ MOST_OPERATIONS → MeetsNoLimit hold most s ops → held_from hold most s ops ≡ held_from hold MOST_OPERATIONS s ops
 same_held hold most s [] few within place = refl
 same_held hold most s (op ∷ ops) few within place =
     let a : Answer = answer hold most s op in
     let t : Held = intake hold most s op in
     let here : a ≢ AnswersTooMany = All-head (λ (b : Answer). b ≢ AnswersTooMany) a (answers_from hold most t ops) place in
-    let later : HasPlace hold most t ops = All-tail (λ (b : Answer). b ≢ AnswersTooMany) a (answers_from hold most t ops) place in
+    let later : MeetsNoLimit hold most t ops = All-tail (λ (b : Answer). b ≢ AnswersTooMany) a (answers_from hold most t ops) place in
     same_held hold most t ops (few_on hold most s op few) within later
-    ∙ ap (λ (b : Answer). held_from hold MOST_OPERATIONS (settle (taken b s op)) ops) (same_answer hold most s op few within here)
+    ∙ ap (λ (b : Answer). held_from hold MOST_OPERATIONS (settle (held_after b s op)) ops) (same_answer hold most s op few within here)
 
 -- more that find their place
-are_more : (r : State) (ops more : List Op) → Stands r → HasPlace r.hold r.most r.held more → AreIn r ops
+are_more : (r : State) (ops more : List Op) → IsSound r → MeetsNoLimit r.hold r.most r.held more → AreIn r ops
     → AreIn (record r { held = held_from r.hold r.most r.held more }) (ops ++ more)
 are_more r ops more stands place are = record {
-  place = places-append r.hold r.most nothing_held ops more are.place (subst (λ (s : Held). HasPlace r.hold r.most s more) are.held_is place);
+  place = places-append r.hold r.most nothing_held ops more are.place (subst (λ (s : Held). MeetsNoLimit r.hold r.most s more) are.held_is place);
   held_is = ap (λ (s : Held). held_from r.hold r.most s more) are.held_is ∙ held-append r.hold r.most nothing_held ops more;
   same = same_held r.hold r.most r.held more stands.few stands.most_within.1 place ∙ ap (λ (s : Held). held_from r.hold MOST_OPERATIONS s more) are.same
       ∙ held-append r.hold MOST_OPERATIONS nothing_held ops more;
@@ -159,11 +159,11 @@ pub feeds_dropped : (was : Bool) (r : State) (ops : List Op) → was ≡ false �
 feeds_dropped was r ops is = subst (λ (b : Bool). Feeds b r b r ops) (sym is) (record { behind = λ before many. still_many r.hold r.most before ops many })
 
 -- the operations found their place, one after another
-pub feeds_taken : (r new : State) (ops : List Op) → Stands r → HasPlace r.hold r.most r.held ops → new ≡ record r { held = held_from r.hold r.most r.held ops } → Feeds true r true new ops
+pub feeds_taken : (r new : State) (ops : List Op) → IsSound r → MeetsNoLimit r.hold r.most r.held ops → new ≡ record r { held = held_from r.hold r.most r.held ops } → Feeds true r true new ops
 feeds_taken r new ops stands place same = record { behind = λ before are. subst (λ (s : State). AreIn s (before ++ ops)) (sym same) (are_more r before ops stands place are) }
 
 -- the same of one
-pub feeds_one : (was : Bool) (r new : State) (op : Op) → was ≡ true → Stands r → answer r.hold r.most r.held op ≢ AnswersTooMany → new ≡ record r { held = intake r.hold r.most r.held op } → Feeds was r was new (op ∷ [])
+pub feeds_one : (was : Bool) (r new : State) (op : Op) → was ≡ true → IsSound r → answer r.hold r.most r.held op ≢ AnswersTooMany → new ≡ record r { held = intake r.hold r.most r.held op } → Feeds was r was new (op ∷ [])
 feeds_one was r new op is stands other same = subst (λ (b : Bool). Feeds b r b new (op ∷ [])) (sym is) (feeds_taken r new (op ∷ []) stands (places-one r.hold r.most r.held op other) same)
 
 pub feeds_refused : (was : Bool) (r new : State) (op : Op) → was ≡ true → answer r.hold r.most r.held op ≡ AnswersTooMany → new ≡ r → Feeds was r false new (op ∷ [])
@@ -183,18 +183,18 @@ failed_by fault = Err fault
 
 -- a refusal because there are too many
 pub refused_many : (old new : State) (op : Op) (before after : Tally) (fault : FeedFault) (count : ℕ) → fault ≡ FedTooMany count
-    → ((failed_by fault ≡ failed_by (FedTooMany old.most)) ↔ (answer old.hold old.most old.held op ≡ AnswersTooMany)) → Leaves old new op before after fault
+    → ((failed_by fault ≡ failed_by (FedTooMany old.most)) ↔ (answer old.hold old.most old.held op ≡ AnswersTooMany)) → LeavesAfterFault old new op before after fault
     → (answer old.hold old.most old.held op ≡ AnswersTooMany) × (new ≡ old)
 refused_many old new op before after fault count is exactly leaves =
-    let left = subst (Leaves old new op before after) is leaves in
+    let left = subst (LeavesAfterFault old new op before after) is leaves in
     (exactly.0 (ap failed_by (is ∙ ap FedTooMany left.0)), left.1)
 
 -- an operation for which memory was wanting would be kept
-pub wanted_kept : (old new : State) (op : Op) (before after : Tally) (fault : FeedFault) → fault ≡ FedNoMemory → Leaves old new op before after fault
+pub wanted_kept : (old new : State) (op : Op) (before after : Tally) (fault : FeedFault) → fault ≡ FedNoMemory → LeavesAfterFault old new op before after fault
     → is_kept (answer old.hold old.most old.held op) ≡ true
-wanted_kept old new op before after fault is leaves = (subst (Leaves old new op before after) is leaves).0
+wanted_kept old new op before after fault is leaves = (subst (LeavesAfterFault old new op before after) is leaves).0
 
-pub wants_one : (was : Bool) (old new : State) (op : Op) (before after : Tally) (fault : FeedFault) → was ≡ true → fault ≡ FedNoMemory → Leaves old new op before after fault → WantsMemory was old (op ∷ [])
+pub wants_one : (was : Bool) (old new : State) (op : Op) (before after : Tally) (fault : FeedFault) → was ≡ true → fault ≡ FedNoMemory → LeavesAfterFault old new op before after fault → WantsMemory was old (op ∷ [])
 wants_one was old new op before after fault found is leaves = record {
   front = [];
   op = op;
@@ -206,7 +206,7 @@ wants_one was old new op before after fault found is leaves = record {
   kept = wanted_kept old new op before after fault is leaves;
 }
 
-module _ (old new : State) (ops : List Op) (before after : Tally) (ready : IsReady old) where
+module _ (old new : State) (ops : List Op) (before after : Tally) (ready : CanTake old) where
   -- operations that found their place, by one call
   pub run_feeds : (was : Bool) → was ≡ true → TakesInAll old new ops before after → Feeds was old was new ops
   run_feeds was found taken = subst (λ (b : Bool). Feeds b old b new ops) (sym found) (feeds_taken old new ops ready.stands taken.has_place taken.replica)
@@ -227,7 +227,7 @@ module _ (old new : State) (ops : List Op) (before after : Tally) (ready : IsRea
     -- one of them is one too many: those before it stand
     module _ (count : ℕ) (is : fault ≡ FedTooMany count) where
       left : (count ≡ reached.most) × (new ≡ reached) × (after ≡ stops.some.counts)
-      left = subst (Leaves reached new stops.some.op stops.some.counts after) is stops.leaves
+      left = subst (LeavesAfterFault reached new stops.some.op stops.some.counts after) is stops.leaves
 
       refused : answer reached.hold reached.most reached.held stops.some.op ≡ AnswersTooMany
       refused = stops.some.too_many.0 (is ∙ ap FedTooMany (left.0 ∙ ap (λ (s : State). s.most) front_same))

@@ -1,6 +1,6 @@
 -- The moments of a file, batch by batch.
 use Rattle.std.proofs.Common.{◌≡◌, ℕ, ◌+◌, ◌<◌, List, [], ◌∷◌, ◌++◌, length, drop, refl, ap, sym, subst, ◌∙◌, append_assoc, arith, length-append}
-use Rattle.std.specs.Prelude.{Bool, Err, IfErr, IfOk, Ok, Result, true}
+use Rattle.std.specs.Prelude.{Bool, true}
 use Rattle.std.proofs.lemmas.List.{append-nil}
 use Rattle.origin_model.specs.files.Image.{BadBatch, Batch, Content, HasImage, Holds, Image, IsBatch, NotReplica, OpenSlots, content_of, header_of, last_slot, slots_of}
 use Rattle.origin_model.proofs.SharedLemmas.{Closed}
@@ -10,7 +10,7 @@ use Rattle.origin_model.specs.edits.State.{State}
 use Rattle.replica_file.specs.declared.load_file.End.{End}
 use Rattle.replica_file.specs.declared.gate.Gate.{Gate}
 use Rattle.replica_file.specs.Loading.{IsSameButHeld}
-use Rattle.replica_file.specs.Moments.{HasMoments, OneListOfMoments, WalkedWith, WalksOutWith, accepted_by, loaded_of, moment, moments_behind, moments_of}
+use Rattle.replica_file.specs.Moments.{HasMoments, OneListOfMoments, WalkedWith, WalksOutWith, accepted_by, new_moment, moments_behind, moments_of}
 use Rattle.replica_file.specs.Slots.{TakesSlot, Walked}
 use Rattle.replica_file.proofs.AppendLemmas.{same_content}
 use Rattle.replica_file.proofs.ImageLemmas.{has_one_image}
@@ -19,14 +19,14 @@ use Rattle.replica_file.proofs.WalkLemmas.{gate_behind, walk_on, walk_on_adds}
 
 -- one batch more
 moments_next : (hold : ℕ) (earlier batches : List Batch) (batch : Batch) → moments_behind hold earlier (batches ++ batch ∷ [])
-    ≡ moments_behind hold earlier batches ++ moment (accepted_by hold (earlier ++ batches)) (accepted_by hold ((earlier ++ batches) ++ batch ∷ []))
+    ≡ moments_behind hold earlier batches ++ new_moment (accepted_by hold (earlier ++ batches)) (accepted_by hold ((earlier ++ batches) ++ batch ∷ []))
 moments_next hold earlier [] batch =
-    append-nil (moment (accepted_by hold earlier) (accepted_by hold (earlier ++ batch ∷ [])))
-    ∙ ap (λ (l : List Batch). moment (accepted_by hold l) (accepted_by hold (l ++ batch ∷ []))) (sym (append-nil earlier))
+    append-nil (new_moment (accepted_by hold earlier) (accepted_by hold (earlier ++ batch ∷ [])))
+    ∙ ap (λ (l : List Batch). new_moment (accepted_by hold l) (accepted_by hold (l ++ batch ∷ []))) (sym (append-nil earlier))
 moments_next hold earlier (first ∷ batches) batch =
-    let here = moment (accepted_by hold earlier) (accepted_by hold (earlier ++ first ∷ [])) in
+    let here = new_moment (accepted_by hold earlier) (accepted_by hold (earlier ++ first ∷ [])) in
     let rest = moments_behind hold (earlier ++ first ∷ []) batches in
-    let last : List Batch → List ℕ = λ l. moment (accepted_by hold l) (accepted_by hold (l ++ batch ∷ [])) in
+    let last : List Batch → List ℕ = λ l. new_moment (accepted_by hold l) (accepted_by hold (l ++ batch ∷ [])) in
     ap (λ (l : List ℕ). here ++ l) (moments_next hold (earlier ++ first ∷ []) batches batch)
     ∙ sym (append_assoc here rest (last ((earlier ++ first ∷ []) ++ batches)))
     ∙ ap (λ (l : List Batch). (here ++ rest) ++ last l) (append_assoc earlier (first ∷ []) batches)
@@ -40,13 +40,13 @@ module _ (bytes : List ℕ) (slots : ℕ) (gate : Gate) (r : State) (moments : L
   adds = walk_on_adds bytes slots gate r w.walked open_now next was now s was_so few same took found
 
   -- the slot is taken in, and its moment noted
-  pub walk_noting : (more : List ℕ) → more ≡ moments ++ moment (length r.held.history) (length s.held.history) → WalkedWith bytes (slots + 1) next s more
+  pub walk_noting : (more : List ℕ) → more ≡ moments ++ new_moment (length r.held.history) (length s.held.history) → WalkedWith bytes (slots + 1) next s more
   walk_noting more is = record {
     walked = further;
     are = is
-        ∙ (λ i. w.are i ++ moment (length (ap (λ (h : Held). h.history) w.walked.fed.same i)) (length (ap (λ (h : Held). h.history) further.fed.same i)))
-        ∙ ap (λ (h : ℕ). moments_of h w.walked.batches ++ moment (accepted_by h w.walked.batches) (accepted_by s.hold further.batches)) (sym (ap (λ (t : State). t.hold) same))
-        ∙ ap (λ (l : List Batch). moments_of s.hold w.walked.batches ++ moment (accepted_by s.hold w.walked.batches) (accepted_by s.hold l)) adds ∙ sym (moments_next s.hold [] w.walked.batches took.batch)
+        ∙ (λ i. w.are i ++ new_moment (length (ap (λ (h : Held). h.history) w.walked.fed.same i)) (length (ap (λ (h : Held). h.history) further.fed.same i)))
+        ∙ ap (λ (h : ℕ). moments_of h w.walked.batches ++ new_moment (accepted_by h w.walked.batches) (accepted_by s.hold further.batches)) (sym (ap (λ (t : State). t.hold) same))
+        ∙ ap (λ (l : List Batch). moments_of s.hold w.walked.batches ++ new_moment (accepted_by s.hold w.walked.batches) (accepted_by s.hold l)) adds ∙ sym (moments_next s.hold [] w.walked.batches took.batch)
         ∙ ap (moments_of s.hold) (sym adds);
   }
 
@@ -76,20 +76,6 @@ walk_ends bytes end r moments with_moments =
       };
       are = with_moments.are ∙ ap (λ (h : ℕ). moments_of h w.batches) w.hold_is;
     }
-
--- what is said of what was loaded, with the moments and without them
-module _ {M E : Type 0} where
-  pub ok_alone : (P : State × End → Type 0) (r : Result (State × End × M) E) → IfOk r (λ loaded. P (loaded.0, loaded.1)) → IfOk (loaded_of r) P
-  ok_alone P (Ok loaded) is = is
-  ok_alone P (Err fault) is = tt
-
-  pub ok_whole : (P : State × End → Type 0) (r : Result (State × End × M) E) → IfOk (loaded_of r) P → IfOk r (λ loaded. P (loaded.0, loaded.1))
-  ok_whole P (Ok loaded) is = is
-  ok_whole P (Err fault) is = tt
-
-  pub err_alone : (P : E → Type 0) (r : Result (State × End × M) E) → IfErr r P → IfErr (loaded_of r) P
-  err_alone P (Ok loaded) is = tt
-  err_alone P (Err fault) is = is
 
 -- a list that is as long with more behind it
 no_more : (batches all more : List Batch) → all ≡ batches ++ more → length batches ≡ length all → all ≡ batches

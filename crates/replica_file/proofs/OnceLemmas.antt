@@ -1,11 +1,10 @@
 -- Loading comes to one answer.
 use Rattle.std.proofs.Common.{◌≡◌, ◌≢◌, ℕ, ◌+◌, ◌≤◌, List, [], ◌∷◌, ◌++◌, length, refl, ap, sym, subst, ◌∙◌, arith, append_assoc}
-use Rattle.std.specs.Prelude.{Option, Some, None, IfSome, IfOk, IfErr, Result, Ok, Err}
+use Rattle.std.specs.Prelude.{Result, Ok, Err}
 use Rattle.std.specs.List.{AllByRecursion}
 use Rattle.std.proofs.lemmas.Bool.{false≢true}
 use Rattle.std.proofs.lemmas.Grind.{flat_map-append}
 use Rattle.std.proofs.lemmas.List.Elements.{recursion_from_All}
-use Rattle.outer_ports.specs.disk.Moments.{History}
 use Rattle.origin_model.specs.files.Image.{BadBatch, Batch, Content, Holds, IsBatch, IsNoBatch, OpenSlots, batch_ops, last_slot, open_slot, open_slots, slots_of, state}
 use Rattle.origin_model.proofs.SharedLemmas.{Bad, Closed, Ends, image_once, no_open_slot, same_batch, slots_not_empty}
 use Rattle.origin_model.specs.edits.State.{State}
@@ -87,14 +86,8 @@ answers_once most bytes (Err fault_is.DiskFault) b p q l k = absurd p
 answers_once most bytes (Err fault_is.NoMemory) b p q l k = absurd p
 
 -- an answer with its cause comes exactly where the bytes say so
-exact : (most : ℕ) (bytes : List ℕ) (result : Result (State × End) LoadFault) → LoadAnswerIs most bytes result → LoadAnswersBy result most bytes
+pub exact : (most : ℕ) (bytes : List ℕ) (result : Result (State × End) LoadFault) → LoadAnswerIs most bytes result → LoadAnswersBy result most bytes
 exact most bytes result cause by answer other = (
   λ same. subst (LoadAnswerIs most bytes) same cause,
   λ is. answers_once most bytes result answer by other cause is,
 )
-
-pub answers_exactly : (most : ℕ) (o : Option History) (result : Result (State × End) LoadFault) → IfOk result (λ loaded. IfSome o (λ h. Loads most h.last.seen loaded.0 loaded.1))
-    → IfErr result (λ fault. IfSome o (λ h. LoadAnswerIs most h.last.seen (Err fault))) → IfSome o (λ h. LoadAnswersBy result most h.last.seen)
-answers_exactly most None result ok err = tt
-answers_exactly most (Some h) (Ok x) ok err = exact most h.last.seen (Ok x) ok
-answers_exactly most (Some h) (Err e) ok err = exact most h.last.seen (Err e) err

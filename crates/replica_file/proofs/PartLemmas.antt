@@ -15,9 +15,9 @@ use Rattle.origin_model.specs.edits.State.{State}
 use Rattle.origin_model.specs.taking.Taking.{Held}
 use Rattle.origin_model.proofs.SharedLemmas.{bytes_of}
 use Rattle.replica_file.specs.Loading.{IsSameButHeld}
-use Rattle.replica_file.specs.Pieces.{AreBad, Lacks, TakesPiece}
-use Rattle.replica_file.specs.Slots.{EndsOff, HasNoFrames, TakesFrames, TakesSome}
-use Rattle.replica_file.specs.Wanting.{ArePieces, AreWhole, BeginsPiece, ForContent, ForOperation, ForPiece, IsWanting, part_of}
+use Rattle.replica_file.specs.Pieces.{AreBad, Lacks, TakesInPiece}
+use Rattle.replica_file.specs.Slots.{EndsOff, HasNoFrames, TakesFrames, TakesInSlots}
+use Rattle.replica_file.specs.Wanting.{AreFilePieces, AreWholeFrames, BeginsPiece, ForContent, ForOperation, ForPiece, IsWanting, file_part}
 use Rattle.replica_file.proofs.LoadingLemmas.{feeds_none, feeds_then, same_then}
 use Rattle.op_frame.proofs.StepLemmas.{asks_too, front_short}
 use Rattle.replica_file.proofs.ReadingLemmas.{drop_twice}
@@ -84,7 +84,7 @@ module _ (grammar : Grammar) (bytes : List ℕ) (at left size : ℕ) (piece : Li
   more : List ℕ
   more = take (left - size) (drop size (drop at bytes))
 
-  part_is : part_of bytes at left ≡ piece ++ more
+  part_is : file_part bytes at left ≡ piece ++ more
   unfolding more
   part_is =
       ap (λ (n : ℕ). take n (drop at bytes)) {x = left} {y = size + (left - size)} (omega (arith, within)) ∙ take-add size (left - size) (drop at bytes)
@@ -95,7 +95,7 @@ module _ (grammar : Grammar) (bytes : List ℕ) (at left size : ℕ) (piece : Li
   piece_short short = omega (arith, ap length is, length-take size (drop at bytes), within, short)
 
   -- no frame stands in the piece
-  pub piece_bad : AreBad grammar piece → EndsOff grammar (part_of bytes at left)
+  pub piece_bad : AreBad grammar piece → EndsOff grammar (file_part bytes at left)
   piece_bad bad = subst (EndsOff grammar) (sym part_is) (record {
     ops = bad.ops;
     rest = bad.rest ++ more;
@@ -104,10 +104,10 @@ module _ (grammar : Grammar) (bytes : List ℕ) (at left size : ℕ) (piece : Li
   })
 
   -- not even one frame is whole in a piece that is long enough for each, or in what is left
-  pub piece_none : (ops : List Op) → AreWhole grammar piece 0 ops → size ≤ length piece → 0 < size → size ≡ min left 65536 → EndsOff grammar (part_of bytes at left)
+  pub piece_none : (ops : List Op) → AreWholeFrames grammar piece 0 ops → size ≤ length piece → 0 < size → size ≡ min left 65536 → EndsOff grammar (file_part bytes at left)
   piece_none ops whole long some smaller = by_ends whole.ends
     where
-      by_ends : (drop 0 piece ≡ []) ⊎ IsPartial grammar (drop 0 piece) → EndsOff grammar (part_of bytes at left)
+      by_ends : (drop 0 piece ≡ []) ⊎ IsPartial grammar (drop 0 piece) → EndsOff grammar (file_part bytes at left)
       by_ends (inl none) = absurd (omega (arith, ap length none, long, some))
       by_ends (inr partial) =
           let short : length piece < 4096 = front_short grammar piece partial in
@@ -120,7 +120,7 @@ module _ (grammar : Grammar) (bytes : List ℕ) (at left size : ℕ) (piece : Li
           })
 
   -- whole frames of the piece are some of the part
-  pub piece_took : (len : ℕ) (was now : Bool) (old new : State) → TakesPiece grammar piece len was old now new → TakesSome grammar bytes at left len was old now new
+  pub piece_took : (len : ℕ) (was now : Bool) (old new : State) → TakesInPiece grammar piece len was old now new → TakesInSlots grammar bytes at left len was old now new
   piece_took len was now old new took = record {
     ops = took.ops;
     inside = omega (arith, took.whole.inside, ap length part_is, length-append piece more);
@@ -130,92 +130,92 @@ module _ (grammar : Grammar) (bytes : List ℕ) (at left size : ℕ) (piece : Li
   }
 
   -- memory was wanting in the piece
-  pub piece_lacks : (was : Bool) (old : State) → Lacks grammar (λ rest. rest ≡ piece) piece was old → Lacks grammar (λ rest. rest ≡ part_of bytes at left) (part_of bytes at left) was old
+  pub piece_lacks : (was : Bool) (old : State) → Lacks grammar (λ rest. rest ≡ piece) piece was old → Lacks grammar (λ rest. rest ≡ file_part bytes at left) (file_part bytes at left) was old
   piece_lacks was old lacks = record {
     ops = lacks.ops;
     now = lacks.now;
     new = lacks.new;
     feeds = lacks.feeds;
     same = lacks.same;
-    wants = subst (λ (l : List ℕ). IsWanting grammar (λ rest. rest ≡ part_of bytes at left) l lacks.ops lacks.new.hold lacks.new.most lacks.new.held (lacks.now ≡ true)) (sym part_is)
-        (wanting_further grammar (λ rest. rest ≡ piece) (λ rest. rest ≡ part_of bytes at left) piece lacks.ops lacks.new.hold lacks.new.most lacks.new.held (lacks.now ≡ true) more
+    wants = subst (λ (l : List ℕ). IsWanting grammar (λ rest. rest ≡ file_part bytes at left) l lacks.ops lacks.new.hold lacks.new.most lacks.new.held (lacks.now ≡ true)) (sym part_is)
+        (wanting_further grammar (λ rest. rest ≡ piece) (λ rest. rest ≡ file_part bytes at left) piece lacks.ops lacks.new.hold lacks.new.most lacks.new.held (lacks.now ≡ true) more
         (λ rest whole. ap (λ (l : List ℕ). l ++ more) whole ∙ sym part_is) lacks.wants);
   }
 
   -- whole frames of a piece
-  pub piece_whole : (len : ℕ) (ops : List Op) → AreWhole grammar piece len ops → size ≡ min left 65536 → (found : List Op) × AreWhole grammar (part_of bytes at (min left 65536)) len found
+  pub piece_whole : (len : ℕ) (ops : List Op) → AreWholeFrames grammar piece len ops → size ≡ min left 65536 → (found : List Op) × AreWholeFrames grammar (file_part bytes at (min left 65536)) len found
   piece_whole len ops whole smaller =
-      (ops, subst (λ (l : List ℕ). AreWhole grammar l len ops) (is ∙ ap (λ (n : ℕ). take n (drop at bytes)) smaller) whole)
+      (ops, subst (λ (l : List ℕ). AreWholeFrames grammar l len ops) (is ∙ ap (λ (n : ℕ). take n (drop at bytes)) smaller) whole)
 
 -- the pieces of a part that were read
 pub record Pieces (grammar : Grammar) (bytes : List ℕ) (at len taken : ℕ) : Type 0 where
   pub pieces : List ℕ
-  pub are_pieces : ArePieces grammar bytes at len pieces taken
+  pub are_pieces : AreFilePieces grammar bytes at len pieces taken
 
 pub no_pieces : (grammar : Grammar) (bytes : List ℕ) (at len : ℕ) → Pieces grammar bytes at len 0
 no_pieces grammar bytes at len = record { pieces = []; are_pieces = refl }
 
 pub one_piece_more : (grammar : Grammar) (bytes : List ℕ) (at len taken n : ℕ) → Pieces grammar bytes at len taken
-    → ((ops : List Op) × AreWhole grammar (part_of bytes (at + taken) (min (len - taken) 65536)) n ops) → Pieces grammar bytes at len (taken + n)
+    → ((ops : List Op) × AreWholeFrames grammar (file_part bytes (at + taken) (min (len - taken) 65536)) n ops) → Pieces grammar bytes at len (taken + n)
 one_piece_more grammar bytes at len taken n read whole = record { pieces = n ∷ read.pieces; are_pieces = (taken, refl, whole, read.are_pieces) }
 
 module _ (grammar : Grammar) (bytes : List ℕ) (at len taken : ℕ) (within : taken ≤ len) where
   -- what is left of a part
-  left_is : part_of bytes (at + taken) (len - taken) ≡ drop taken (part_of bytes at len)
+  left_is : file_part bytes (at + taken) (len - taken) ≡ drop taken (file_part bytes at len)
   left_is =
       ap (take (len - taken)) (sym (drop_twice taken at bytes)) ∙ sym (drop-take taken (len - taken) (drop at bytes))
       ∙ ap (λ (n : ℕ). drop taken (take n (drop at bytes))) {x = taken + (len - taken)} {y = len} (omega (arith, within))
 
-  pub frames_more : (l : ℕ) (a b c : Bool) (r s t : State) → TakesSome grammar bytes at len taken a r b s → TakesSome grammar bytes (at + taken) (len - taken) l b s c t
-      → TakesSome grammar bytes at len (taken + l) a r c t
+  pub frames_more : (l : ℕ) (a b c : Bool) (r s t : State) → TakesInSlots grammar bytes at len taken a r b s → TakesInSlots grammar bytes (at + taken) (len - taken) l b s c t
+      → TakesInSlots grammar bytes at len (taken + l) a r c t
   frames_more l a b c r s t one two =
-      let behind : Starts grammar (drop taken (part_of bytes at len)) two.ops (drop l (drop taken (part_of bytes at len))) = subst (λ (x : List ℕ). Starts grammar x two.ops (drop l x)) left_is two.starts in
+      let behind : Starts grammar (drop taken (file_part bytes at len)) two.ops (drop l (drop taken (file_part bytes at len))) = subst (λ (x : List ℕ). Starts grammar x two.ops (drop l x)) left_is two.starts in
       record {
         ops = one.ops ++ two.ops;
-        inside = omega (arith, one.inside, two.inside, ap length left_is, length-drop taken (part_of bytes at len));
-        starts = starts_then grammar (part_of bytes at len) (drop taken (part_of bytes at len)) (drop (taken + l) (part_of bytes at len)) one.ops two.ops one.starts
-            (subst (Starts grammar (drop taken (part_of bytes at len)) two.ops) (drop_twice l taken (part_of bytes at len)) behind);
+        inside = omega (arith, one.inside, two.inside, ap length left_is, length-drop taken (file_part bytes at len));
+        starts = starts_then grammar (file_part bytes at len) (drop taken (file_part bytes at len)) (drop (taken + l) (file_part bytes at len)) one.ops two.ops one.starts
+            (subst (Starts grammar (drop taken (file_part bytes at len)) two.ops) (drop_twice l taken (file_part bytes at len)) behind);
         feeds = feeds_then a b c r s t one.ops two.ops one.feeds two.feeds;
       }
 
-  pub frames_bad : (a b : Bool) (r s : State) → TakesSome grammar bytes at len taken a r b s → HasNoFrames grammar bytes (at + taken) (len - taken) → HasNoFrames grammar bytes at len
+  pub frames_bad : (a b : Bool) (r s : State) → TakesInSlots grammar bytes at len taken a r b s → HasNoFrames grammar bytes (at + taken) (len - taken) → HasNoFrames grammar bytes at len
   frames_bad a b r s one (inl short) = inl (omega (arith, short, length-drop (at + taken) bytes, length-drop at bytes))
   frames_bad a b r s one (inr off) =
-      let behind : EndsOff grammar (drop taken (part_of bytes at len)) = subst (EndsOff grammar) left_is off in
+      let behind : EndsOff grammar (drop taken (file_part bytes at len)) = subst (EndsOff grammar) left_is off in
       inr (record {
         ops = one.ops ++ behind.ops;
         rest = behind.rest;
-        starts = starts_then grammar (part_of bytes at len) (drop taken (part_of bytes at len)) behind.rest one.ops behind.ops one.starts behind.starts;
+        starts = starts_then grammar (file_part bytes at len) (drop taken (file_part bytes at len)) behind.rest one.ops behind.ops one.starts behind.starts;
         ends = behind.ends;
       })
 
   -- memory was wanting in what is left
-  pub frames_lacks : (a b : Bool) (r s : State) → IsSameButHeld r s → TakesSome grammar bytes at len taken a r b s → Pieces grammar bytes at len taken
-      → Lacks grammar (λ rest. rest ≡ part_of bytes (at + taken) (len - taken)) (part_of bytes (at + taken) (len - taken)) b s
-      → Lacks grammar (BeginsPiece grammar bytes at len) (part_of bytes at len) a r
+  pub frames_lacks : (a b : Bool) (r s : State) → IsSameButHeld r s → TakesInSlots grammar bytes at len taken a r b s → Pieces grammar bytes at len taken
+      → Lacks grammar (λ rest. rest ≡ file_part bytes (at + taken) (len - taken)) (file_part bytes (at + taken) (len - taken)) b s
+      → Lacks grammar (BeginsPiece grammar bytes at len) (file_part bytes at len) a r
   frames_lacks a b r s same one pieces lacks = record {
     ops = one.ops ++ lacks.ops;
     now = lacks.now;
     new = lacks.new;
     feeds = feeds_then a b lacks.now r s lacks.new one.ops lacks.ops one.feeds lacks.feeds;
     same = same_then r s lacks.new same lacks.same;
-    wants = wanting_then grammar (λ rest. rest ≡ part_of bytes (at + taken) (len - taken)) (BeginsPiece grammar bytes at len) (part_of bytes (at + taken) (len - taken)) lacks.ops
-        lacks.new.hold lacks.new.most lacks.new.held (lacks.now ≡ true) (part_of bytes at len) one.ops (subst (Starts grammar (part_of bytes at len) one.ops) (sym left_is) one.starts)
+    wants = wanting_then grammar (λ rest. rest ≡ file_part bytes (at + taken) (len - taken)) (BeginsPiece grammar bytes at len) (file_part bytes (at + taken) (len - taken)) lacks.ops
+        lacks.new.hold lacks.new.most lacks.new.held (lacks.now ≡ true) (file_part bytes at len) one.ops (subst (Starts grammar (file_part bytes at len) one.ops) (sym left_is) one.starts)
         (λ rest whole. record { taken = taken; pieces = pieces.pieces; are_pieces = pieces.are_pieces; rest_is = whole ∙ left_is }) lacks.wants;
   }
 
-pub frames_begin : (grammar : Grammar) (bytes : List ℕ) (at len : ℕ) (a : Bool) (r : State) → TakesSome grammar bytes at len 0 a r a r
-frames_begin grammar bytes at len a r = record { ops = []; inside = omega arith; starts = starts_none grammar (part_of bytes at len); feeds = feeds_none a r }
+pub frames_begin : (grammar : Grammar) (bytes : List ℕ) (at len : ℕ) (a : Bool) (r : State) → TakesInSlots grammar bytes at len 0 a r a r
+frames_begin grammar bytes at len a r = record { ops = []; inside = omega arith; starts = starts_none grammar (file_part bytes at len); feeds = feeds_none a r }
 
-pub frames_over : (grammar : Grammar) (bytes : List ℕ) (at len taken : ℕ) (a b : Bool) (r s : State) → taken ≤ len → len ≤ taken → TakesSome grammar bytes at len taken a r b s
+pub frames_over : (grammar : Grammar) (bytes : List ℕ) (at len taken : ℕ) (a b : Bool) (r s : State) → taken ≤ len → len ≤ taken → TakesInSlots grammar bytes at len taken a r b s
     → TakesFrames grammar bytes at len a r b s
 frames_over grammar bytes at len taken a b r s within all one =
-    let long : length (part_of bytes at len) ≡ len = omega (arith, one.inside, within, all, length-take len (drop at bytes)) in
-    let none : drop taken (part_of bytes at len) ≡ [] = nil_from_length (drop taken (part_of bytes at len)) (omega (arith, length-drop taken (part_of bytes at len), long, all)) in
+    let long : length (file_part bytes at len) ≡ len = omega (arith, one.inside, within, all, length-take len (drop at bytes)) in
+    let none : drop taken (file_part bytes at len) ≡ [] = nil_from_length (drop taken (file_part bytes at len)) (omega (arith, length-drop taken (file_part bytes at len), long, all)) in
     record {
       ops = one.ops;
       long = long;
-      reads = record { found = one.starts.found; are_frames = one.starts.are_frames; ops_are = one.starts.ops_are; rest = drop taken (part_of bytes at len); split = one.starts.split; ends = none };
+      reads = record { found = one.starts.found; are_frames = one.starts.are_frames; ops_are = one.starts.ops_are; rest = drop taken (file_part bytes at len); split = one.starts.split; ends = none };
       feeds = one.feeds;
     }
 

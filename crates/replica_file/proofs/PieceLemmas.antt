@@ -15,8 +15,8 @@ use Rattle.op_frame.specs.Readers.{AnswersBy, Chains, FrameReading, Gave, Nexts,
 use Rattle.op_frame.specs.declared.fault.FrameFault.TheVariants as frame_fault
 use Rattle.origin_model.specs.edits.State.{State}
 use Rattle.replica_file.specs.Loading.{Feeds, IsSameButHeld, WantsMemory}
-use Rattle.replica_file.specs.Pieces.{AreBad, IsReading, Lacks, LacksBehind, PieceSteps, TakesPiece}
-use Rattle.replica_file.specs.Wanting.{AreWhole, ForContent, ForOperation, ForPiece, IsWanting}
+use Rattle.replica_file.specs.Pieces.{AreBad, IsReading, Lacks, LacksBehind, PieceSteps, TakesInPiece}
+use Rattle.replica_file.specs.Wanting.{AreWholeFrames, ForContent, ForOperation, ForPiece, IsWanting}
 use Rattle.replica_file.proofs.PartLemmas.{starts_none}
 use Rattle.replica_file.proofs.LoadingLemmas.{feeds_none, feeds_then, same_then}
 use Rattle.replica_file.specs.declared.stop.Stop.{Stop}
@@ -24,7 +24,7 @@ use Rattle.replica_file.specs.declared.stop.Stop.TheVariants as stop_is
 
 module _ (bytes : List ℕ) (ops : List Op) (old new : FrameReading) (before after : SourceView) (reading : IsReading bytes ops old before) where
   -- the piece is over
-  pub over : Chains old new before after (Ok None) → (len : ℕ) → len ≡ length bytes → AreWhole old.grammar bytes len ops
+  pub over : Chains old new before after (Ok None) → (len : ℕ) → len ≡ length bytes → AreWholeFrames old.grammar bytes len ops
   over chains len is =
       let follows = chains (Some bytes) ops reading.gave in
       let reads = follows.ends.1 in
@@ -43,7 +43,7 @@ module _ (bytes : List ℕ) (ops : List Op) (old new : FrameReading) (before aft
       drop_all_of (x ∷ l) = drop_all_of l
 
   -- the piece ends inside of a frame
-  pub cut : (k : ℕ) → Chains old new before after (Err (frame_fault.CutShort k)) → AreWhole old.grammar bytes k ops
+  pub cut : (k : ℕ) → Chains old new before after (Err (frame_fault.CutShort k)) → AreWholeFrames old.grammar bytes k ops
   cut k chains =
       let follows = chains (Some bytes) ops reading.gave in
       let reads = follows.ends.1 in
@@ -182,7 +182,7 @@ module _ (grammar : Grammar) (bytes : List ℕ) (ops : List Op) (was now : Bool)
 
 -- the last step
 pub takes_piece : (grammar : Grammar) (bytes : List ℕ) (ops : List Op) (first was now : Bool) (begin old new : State) (len : ℕ) → Feeds first begin was old ops
-    → AreWhole grammar bytes len ops × (now ≡ was) × (new ≡ old) → TakesPiece grammar bytes len first begin now new
+    → AreWholeFrames grammar bytes len ops × (now ≡ was) × (new ≡ old) → TakesInPiece grammar bytes len first begin now new
 takes_piece grammar bytes ops first was now begin old new len feeds last = record {
   ops = ops;
   whole = last.0;

@@ -2,7 +2,7 @@
 use Rattle.std.proofs.Common.{◌≡◌, ℕ, ◌+◌, ◌≤◌, List, length, take, ap, arith, length-append, subst, sym}
 use Rattle.std.specs.Prelude.{Option, Some, None, Result, Ok, Err, IfOk, OnOk, option_map}
 use Rattle.std.proofs.lemmas.List.{length-take-le}
-use Rattle.outer_ports.specs.disk.Disks.{DiskView, reached}
+use Rattle.outer_ports.specs.disk.Disks.{DiskView, reach_after}
 use Rattle.replica_file.specs.Looks.{ReachesTo, ReadsMore, ReadsNoFurther}
 use Rattle.replica_file.specs.declared.gate.Gate.{Gate}
 use Rattle.replica_file.specs.declared.stop.Stop.{Stop}
@@ -16,10 +16,10 @@ reaches_none n o p same = subst (ReachesTo n o) (sym same) (stays o)
     stays (Some before) = omega arith
 
 -- one range was
-pub reaches_once : (at count n : ℕ) (o p : Option ℕ) → at + count ≤ n → p ≡ option_map (reached at count) o → ReachesTo n o p
+pub reaches_once : (at count n : ℕ) (o p : Option ℕ) → at + count ≤ n → p ≡ option_map (reach_after at count) o → ReachesTo n o p
 reaches_once at count n o p within is = subst (ReachesTo n o) (sym is) (once o)
   where
-    once : (o : Option ℕ) → ReachesTo n o (option_map (reached at count) o)
+    once : (o : Option ℕ) → ReachesTo n o (option_map (reach_after at count) o)
     once None = tt
     once (Some before) = omega (arith, within)
 

@@ -10,7 +10,7 @@ use Rattle.origin_model.specs.frames.Frames.{Reads, Whole}
 use Rattle.origin_model.specs.edits.State.{State}
 use Rattle.replica_file.specs.Pieces.{Lacks}
 use Rattle.replica_file.specs.Slots.{HasNoFrames, HasNoWord, IsGate, IsWord, LacksInSlot, TakesFrames, TakesSlot}
-use Rattle.replica_file.specs.Wanting.{BeginsPiece, ForPiece, part_of}
+use Rattle.replica_file.specs.Wanting.{BeginsPiece, ForPiece, file_part}
 use Rattle.replica_file.specs.declared.gate.Gate.{Gate}
 use Rattle.replica_file.specs.declared.slot.Word.{Word}
 use Rattle.replica_file.proofs.PartLemmas.{never_whole, starts_none}
@@ -35,17 +35,17 @@ module _ (bytes : List ℕ) (at : ℕ) where
     -- the frames are not all there, or no frames
     pub bad_frames : HasNoFrames word.grammar bytes (at + 5) word.len → (slot : ℕ) → IsNoBatch slot behind
     bad_frames (inl short) slot = CutShort (omega (arith, ap length frames_behind, short, is.len_is))
-    bad_frames (inr off) slot = NoFrames word.grammar is.tagged (λ ops reads. never_whole word.grammar (part_of bytes (at + 5) word.len) off ops
+    bad_frames (inr off) slot = NoFrames word.grammar is.tagged (λ ops reads. never_whole word.grammar (file_part bytes (at + 5) word.len) off ops
         (subst (λ (l : List ℕ). Reads word.grammar l ops Whole) ((λ i. take (sym is.len_is i) (frames_behind i))) reads))
 
     -- memory was wanting for the frames
     pub slot_lacks : (was : Bool) (old : State) → word.len ≤ LONGEST_BATCH
-        → Lacks word.grammar (BeginsPiece word.grammar bytes (at + 5) word.len) (part_of bytes (at + 5) word.len) was old → LacksInSlot bytes at was old
+        → Lacks word.grammar (BeginsPiece word.grammar bytes (at + 5) word.len) (file_part bytes (at + 5) word.len) was old → LacksInSlot bytes at was old
     slot_lacks was old short lacks = record {
       grammar = word.grammar;
       tagged = is.tagged;
       short = omega (arith, is.len_is, short);
-      lacks = subst (λ (n : ℕ). Lacks word.grammar (BeginsPiece word.grammar bytes (at + 5) n) (part_of bytes (at + 5) n) was old) is.len_is lacks;
+      lacks = subst (λ (n : ℕ). Lacks word.grammar (BeginsPiece word.grammar bytes (at + 5) n) (file_part bytes (at + 5) n) was old) is.len_is lacks;
     }
 
     -- memory was wanting before the first of them was read
@@ -56,11 +56,11 @@ module _ (bytes : List ℕ) (at : ℕ) where
       new = old;
       feeds = feeds_none was old;
       same = refl;
-      wants = ForPiece (part_of bytes (at + 5) word.len) (starts_none word.grammar (part_of bytes (at + 5) word.len)) (record { taken = 0; pieces = []; are_pieces = refl; rest_is = refl });
+      wants = ForPiece (file_part bytes (at + 5) word.len) (starts_none word.grammar (file_part bytes (at + 5) word.len)) (record { taken = 0; pieces = []; are_pieces = refl; rest_is = refl });
     })
 
     -- no byte is there behind them
-    pub bad_gate : length (part_of bytes (at + 5) word.len) ≡ word.len → length bytes ≤ at + 5 + word.len → (slot : ℕ) → IsNoBatch slot behind
+    pub bad_gate : length (file_part bytes (at + 5) word.len) ≡ word.len → length bytes ≤ at + 5 + word.len → (slot : ℕ) → IsNoBatch slot behind
     bad_gate long ends slot =
         NoGate (omega (arith, ap length frames_behind, is.len_is, long, ends, length-drop (at + 5) bytes, length-take word.len (drop (at + 5) bytes)))
 
@@ -70,7 +70,7 @@ module _ (bytes : List ℕ) (at : ℕ) where
     slot_took next was now old new short took gate next_is =
         let rest : drop word.len (drop (at + 5) bytes) ≡ drop next.at bytes = drop_twice word.len (at + 5) bytes ∙ ap (λ (n : ℕ). drop n bytes) (sym next_is) in
         record {
-          batch = record { word = take 4 behind; bytes = part_of bytes (at + 5) word.len; grammar = word.grammar; ops = took.ops };
+          batch = record { word = take 4 behind; bytes = file_part bytes (at + 5) word.len; grammar = word.grammar; ops = took.ops };
           is_batch = record {
             four_bytes = length-take-le 4 behind is.there;
             tagged = is.tagged;
@@ -79,8 +79,8 @@ module _ (bytes : List ℕ) (at : ℕ) where
             reads = took.reads;
           };
           split = sym (take-append-drop 4 behind)
-              ∙ ap (λ (l : List ℕ). take 4 behind ++ l) (frames_behind ∙ sym (take-append-drop word.len (drop (at + 5) bytes)) ∙ ap (λ (l : List ℕ). part_of bytes (at + 5) word.len ++ l) rest)
-              ∙ sym (append_assoc (take 4 behind) (part_of bytes (at + 5) word.len) (drop next.at bytes));
+              ∙ ap (λ (l : List ℕ). take 4 behind ++ l) (frames_behind ∙ sym (take-append-drop word.len (drop (at + 5) bytes)) ∙ ap (λ (l : List ℕ). file_part bytes (at + 5) word.len ++ l) rest)
+              ∙ sym (append_assoc (take 4 behind) (file_part bytes (at + 5) word.len) (drop next.at bytes));
           next_at = next_is ∙ ap (λ (n : ℕ). at + 5 + n) (sym took.long);
           gate = gate;
           feeds = took.feeds;

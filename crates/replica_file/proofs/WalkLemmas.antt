@@ -15,7 +15,7 @@ use Rattle.replica_file.specs.declared.gate.Gate.{Gate}
 use Rattle.replica_file.specs.Load.{AreTooMany, FindPlace, FindsBadBatch, FindsTooMany, LacksMemory, Loads, hold_of}
 use Rattle.replica_file.specs.Loading.{AreIn, Fed, IsSameButHeld}
 use Rattle.replica_file.specs.Slots.{IsGate, LacksInSlot, TakesSlot, Walked, WalksOut}
-use Rattle.replica_file.specs.Wanting.{BeginsPiece, ForContent, ForOperation, ForPiece, IsWanting, part_of}
+use Rattle.replica_file.specs.Wanting.{BeginsPiece, ForContent, ForOperation, ForPiece, IsWanting, file_part}
 
 -- a gate, and what stands behind it
 pub gate_behind : (bytes : List ℕ) (at byte : ℕ) → slice_get bytes at ≡ Some byte → drop at bytes ≡ byte ∷ drop (at + 1) bytes
@@ -63,7 +63,7 @@ module _ (bytes : List ℕ) (slots : ℕ) (gate : Gate) (r : State) (w : Walked 
       begins = BeginsPiece slot.grammar bytes (gate.at + 5) (length_at (gate.at + 1) bytes)
 
       abbrev part : List ℕ
-      part = part_of bytes (gate.at + 5) (length_at (gate.at + 1) bytes)
+      part = file_part bytes (gate.at + 5) (length_at (gate.at + 1) bytes)
 
       by_wants : IsWanting slot.grammar begins part slot.lacks.ops slot.lacks.new.hold slot.lacks.new.most slot.lacks.new.held (slot.lacks.now ≡ true)
           → IsWanting slot.grammar begins part slot.lacks.ops (hold_of bytes) most (held (hold_of bytes) most reached) (FindPlace (hold_of bytes) most reached)

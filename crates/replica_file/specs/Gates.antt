@@ -1,22 +1,22 @@
 -- Bytes that are written behind a closed gate, which is opened then.
 use Rattle.std.specs.Prelude.{◌≡◌, ◌⊎◌, ℕ, ◌+◌, ◌<◌, ◌≤◌, List, [], ◌∷◌, length, take, drop, slice_get, Option, Some, None}
-use Rattle.outer_ports.specs.disk.States.{State, at_rest, wrote, durable}
-use Rattle.outer_ports.specs.disk.Moments.{History, after}
-use Rattle.outer_ports.specs.disk.Disks.{RoomView, spent}
+use Rattle.outer_ports.specs.disk.States.{DiskState, at_rest, wrote, durable}
+use Rattle.outer_ports.specs.disk.Moments.{History, after_moment}
+use Rattle.outer_ports.specs.disk.Disks.{RoomView, spent_by_write}
 
 -- the bytes stand behind the gate, of which nothing is said, and what stood before it stands
-pub record IsWritten (before : List ℕ) (gate : ℕ) (bytes image : List ℕ) : Type 0 where
+pub record IsWrittenBehind (before : List ℕ) (gate : ℕ) (bytes image : List ℕ) : Type 0 where
   pub inside : gate < length image
   pub front : take gate image ≡ take gate before
   pub behind : take (length bytes) (drop (gate + 1) image) ≡ bytes
 
 -- nothing differs up to and including the gate, or the bytes stand behind it
 abbrev pub BeforeOrWritten : List ℕ → ℕ → List ℕ → List ℕ → Type 0
-BeforeOrWritten before gate bytes image = (take (gate + 1) image ≡ take (gate + 1) before) ⊎ IsWritten before gate bytes image
+BeforeOrWritten before gate bytes image = (take (gate + 1) image ≡ take (gate + 1) before) ⊎ IsWrittenBehind before gate bytes image
 
 -- the bytes stand behind the open gate, and a crash leaves nothing else
-pub record IsOpened (before : List ℕ) (gate : ℕ) (bytes : List ℕ) (s : State) : Type 0 where
-  pub written : IsWritten before gate bytes s.seen
+pub record IsOpened (before : List ℕ) (gate : ℕ) (bytes : List ℕ) (s : DiskState) : Type 0 where
+  pub written : IsWrittenBehind before gate bytes s.seen
   pub opened : slice_get s.seen gate ≡ Some 1
   pub settled : s ≡ at_rest s.seen
 
@@ -27,13 +27,13 @@ OpenedTo before gate bytes (Some h) = IsOpened before gate bytes h.last
 
 -- the bytes are written behind the gate and settled, and then the gate is opened and that is settled
 abbrev pub gate_opened : ℕ → List ℕ → Option History → Option History
-gate_opened gate bytes past = after durable (after (wrote gate (1 ∷ [])) (after durable (after (wrote (gate + 1) bytes) past)))
+gate_opened gate bytes past = after_moment durable (after_moment (wrote gate (1 ∷ [])) (after_moment durable (after_moment (wrote (gate + 1) bytes) past)))
 
 -- the same of the room
 abbrev pub spent_opening : List ℕ → Option RoomView → Option RoomView
-spent_opening bytes room = spent 0 (spent 1 (spent 0 (spent (length bytes) room)))
+spent_opening bytes room = spent_by_write 0 (spent_by_write 1 (spent_by_write 0 (spent_by_write (length bytes) room)))
 
 -- the room lasts for these four calls
-pub record LastsFor (bytes : List ℕ) (room : RoomView) : Type 0 where
+pub record LastsForCalls (bytes : List ℕ) (room : RoomView) : Type 0 where
   pub bytes_fit : length bytes + 1 ≤ room.bytes
   pub calls_fit : 4 ≤ room.calls

@@ -1,4 +1,5 @@
 pub mod Ends
+pub mod Faults
 pub mod Gates
 pub mod Create
 pub mod Append
@@ -6,6 +7,7 @@ pub mod Wanting
 pub mod Load
 pub mod Looks
 pub mod Loading
+pub mod Loaded
 pub mod Pieces
 pub mod Slots
 pub mod Moments

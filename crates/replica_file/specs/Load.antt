@@ -5,9 +5,9 @@ use Rattle.outer_ports.specs.disk.Disks.{RoomView}
 use Rattle.origin_model.specs.declared.files.TheConstants.{LONGEST_BATCH}
 use Rattle.origin_model.specs.declared.grammar.Grammar.{Grammar}
 use Rattle.origin_model.specs.files.Image.{Batch, Content, EndsBadly, HasImage, Holds, OpenSlots, batch_ops, has_header, header_of, last_slot, length_at, number_at, open_slots, slots_of, state, tag_of, word_tag}
-use Rattle.origin_model.specs.taking.Taking.{HasPlace, TooMany as AnswersTooMany, answers_from, held, nothing_held}
+use Rattle.origin_model.specs.taking.Taking.{MeetsNoLimit, TooMany as AnswersTooMany, answers_from, held, nothing_held}
 use Rattle.origin_model.specs.edits.State.{State}
-use Rattle.replica_file.specs.Wanting.{BeginsPiece, IsWanting, part_of}
+use Rattle.replica_file.specs.Wanting.{BeginsPiece, IsWanting, file_part}
 use Rattle.replica_file.specs.declared.load_file.End.{End}
 use Rattle.replica_file.specs.declared.load_file.LoadFault.{LoadFault}
 use Rattle.replica_file.specs.declared.load_file.LoadFault.TheVariants.{NotReplica, BadBatch, DiskFault, TooMany, NoMemory}
@@ -18,7 +18,7 @@ hold_of bytes = number_at 9 (header_of bytes)
 
 -- all of the operations can be taken in by a replica that holds nothing
 abbrev pub FindPlace : (hold most : ℕ) → List Op → Type 0
-FindPlace hold most ops = HasPlace hold most nothing_held ops
+FindPlace hold most ops = MeetsNoLimit hold most nothing_held ops
 
 -- one of them is one too many
 abbrev pub AreTooMany : (hold most : ℕ) → List Op → Type 0
@@ -67,7 +67,7 @@ pub record LacksMemory (most : ℕ) (bytes : List ℕ) : Type 0 where
   pub short : length_at (at + 1) bytes ≤ LONGEST_BATCH
   -- the operations of the slot that were taken in
   pub ops : List Op
-  pub wants : IsWanting grammar (BeginsPiece grammar bytes (at + 5) (length_at (at + 1) bytes)) (part_of bytes (at + 5) (length_at (at + 1) bytes)) ops (hold_of bytes) most
+  pub wants : IsWanting grammar (BeginsPiece grammar bytes (at + 5) (length_at (at + 1) bytes)) (file_part bytes (at + 5) (length_at (at + 1) bytes)) ops (hold_of bytes) most
       (held (hold_of bytes) most (batch_ops earlier ++ ops)) (FindPlace (hold_of bytes) most (batch_ops earlier ++ ops))
 
 -- the bytes decide such an answer: it is no fault of the disk, and no want of memory

@@ -3,13 +3,13 @@ use Rattle.std.specs.Prelude.{◌≡◌, Bool, true, false, List, ◌++◌, ◌�
 use Rattle.fugue_ids.specs.declared.op.Op.{Op}
 use Rattle.fugue_ids.specs.declared.limits.TheConstants.{MOST_OPERATIONS}
 use Rattle.origin_model.specs.taking.Taking.{IsSettled, answer, held, is_kept}
-use Rattle.origin_model.specs.edits.State.{State, Stands}
+use Rattle.origin_model.specs.edits.State.{State, IsSound}
 use Rattle.replica_file.specs.Load.{AreTooMany, FindPlace}
 
 -- one operation more can be taken in
-pub record IsReady (replica : State) : Type 0 where
+pub record CanTake (replica : State) : Type 0 where
   pub settled : IsSettled replica.held
-  pub stands : Stands replica
+  pub stands : IsSound replica
 
 -- all operations found their place, and the replica holds what they leave
 pub record AreIn (replica : State) (ops : List Op) : Type 0 where

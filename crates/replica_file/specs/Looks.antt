@@ -1,6 +1,6 @@
 -- What looking at a disk does to it, and what it gives.
 use Rattle.std.specs.Prelude.{◌≡◌, ℕ, ◌+◌, ◌-◌, ◌≤◌, max, List, ◌++◌, length, take, Option, Some, None, Result, IfSome}
-use Rattle.fugue_ids.specs.Causes.{Rose}
+use Rattle.fugue_ids.specs.Causes.{Faulted}
 use Rattle.outer_ports.specs.disk.Disks.{DiskTells, DiskView, ReadsAt}
 
 -- how far a disk was read grew to this offset at most, where it is told
@@ -20,7 +20,7 @@ pub record LooksOnly (old new : DiskView) (failed : Type 0) : Type 0 where
   pub room : new.room ≡ old.room
   pub sizes : new.sizes ≡ old.sizes
   pub later : old.faults ≤ new.faults
-  pub rose : failed → Rose old.faults new.faults
+  pub rose : failed → Faulted old.faults new.faults
   pub sure : IfSome old.room (λ room. failed → ⊥)
   pub calm : IfSome old.room (λ room. new.faults ≡ old.faults)
   pub calm_told : DiskTells old → (failed → ⊥) → new.faults ≡ old.faults

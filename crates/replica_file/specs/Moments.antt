@@ -13,15 +13,16 @@ abbrev pub accepted_by : (hold : ℕ) → List Batch → ℕ
 accepted_by hold batches = length (held hold MOST_OPERATIONS (batch_ops batches)).history
 
 -- how many are accepted, where they are more than before
-abbrev pub moment : (before now : ℕ) → List ℕ
-moment before now = if nat_lt before now then now ∷ [] else []
+abbrev pub new_moment : (before now : ℕ) → List ℕ
+new_moment before now = if nat_lt before now then now ∷ [] else []
 
 -- the moments of batches that come behind others: of each one with which more are accepted, how many are
 abbrev pub moments_behind : (hold : ℕ) (earlier batches : List Batch) → List ℕ
 moments_behind hold earlier [] = []
 moments_behind hold earlier (batch ∷ batches) =
-    moment (accepted_by hold earlier) (accepted_by hold (earlier ++ batch ∷ [])) ++ moments_behind hold (earlier ++ batch ∷ []) batches
+    new_moment (accepted_by hold earlier) (accepted_by hold (earlier ++ batch ∷ [])) ++ moments_behind hold (earlier ++ batch ∷ []) batches
 
+-- how many operations were accepted after each batch
 abbrev pub moments_of : (hold : ℕ) → List Batch → List ℕ
 moments_of hold batches = moments_behind hold [] batches
 
@@ -37,6 +38,7 @@ pub record WalkedWith (bytes : List ℕ) (slots : ℕ) (gate : Gate) (replica : 
   pub walked : Walked bytes slots gate replica
   pub are : moments ≡ moments_of replica.hold walked.batches
 
+-- a file was walked to its end, with its moments
 pub record WalksOutWith (bytes : List ℕ) (end : End) (replica : State) (moments : List ℕ) : Type 0 where
   pub out : WalksOut bytes end replica
   pub are : moments ≡ moments_of replica.hold out.walked.batches

@@ -7,7 +7,7 @@ use Rattle.origin_model.specs.frames.Frames.{IsBad, Starts}
 use Rattle.op_frame.specs.Readers.{Gave, FrameReading}
 use Rattle.origin_model.specs.edits.State.{State}
 use Rattle.replica_file.specs.Loading.{Feeds, IsSameButHeld}
-use Rattle.replica_file.specs.Wanting.{AreWhole, IsWanting}
+use Rattle.replica_file.specs.Wanting.{AreWholeFrames, IsWanting}
 use Rattle.replica_file.specs.declared.stop.Stop.{Stop}
 use Rattle.replica_file.specs.declared.stop.Stop.TheVariants.{Bad, Disk, NoMemory}
 
@@ -37,15 +37,15 @@ pub record LacksBehind (grammar : Grammar) (bytes : List ℕ) (ops : List Op) (w
 -- one step over a piece: some operations more were taken in, or the whole frames are over, or what follows is bad, or memory was wanting
 abbrev pub PieceSteps : Grammar → List ℕ → List Op → (was : Bool) (old : State) (now : Bool) (new : State) → FrameReading → SourceView → Result (Option ℕ) Stop → Type 0
 PieceSteps grammar bytes ops was old now new reader source (Ok None) = (more : List Op) × IsReading bytes (ops ++ more) reader source × Feeds was old now new more
-PieceSteps grammar bytes ops was old now new reader source (Ok (Some len)) = AreWhole grammar bytes len ops × (now ≡ was) × (new ≡ old)
+PieceSteps grammar bytes ops was old now new reader source (Ok (Some len)) = AreWholeFrames grammar bytes len ops × (now ≡ was) × (new ≡ old)
 PieceSteps grammar bytes ops was old now new reader source (Err Bad) = AreBad grammar bytes
 PieceSteps grammar bytes ops was old now new reader source (Err Disk) = ⊥
 PieceSteps grammar bytes ops was old now new reader source (Err NoMemory) = LacksBehind grammar bytes ops was old
 
 -- the whole frames at the front of a piece were taken in
-pub record TakesPiece (grammar : Grammar) (bytes : List ℕ) (len : ℕ) (was : Bool) (old : State) (now : Bool) (new : State) : Type 0 where
+pub record TakesInPiece (grammar : Grammar) (bytes : List ℕ) (len : ℕ) (was : Bool) (old : State) (now : Bool) (new : State) : Type 0 where
   pub ops : List Op
-  pub whole : AreWhole grammar bytes len ops
+  pub whole : AreWholeFrames grammar bytes len ops
   pub feeds : Feeds was old now new ops
 
 -- The operations at the front of the bytes were taken in, and memory was wanting for what stands behind them: to read

@@ -9,7 +9,7 @@ use Rattle.origin_model.specs.edits.State.{State}
 use Rattle.replica_file.specs.Load.{LoadAnswerIs}
 use Rattle.replica_file.specs.Loading.{AreIn, Feeds}
 use Rattle.replica_file.specs.Pieces.{Lacks}
-use Rattle.replica_file.specs.Wanting.{BeginsPiece, part_of}
+use Rattle.replica_file.specs.Wanting.{BeginsPiece, file_part}
 use Rattle.replica_file.specs.declared.load_file.End.{End}
 use Rattle.replica_file.specs.declared.header.Header.{Header}
 use Rattle.replica_file.specs.declared.load_file.LoadFault.{LoadFault}
@@ -17,17 +17,17 @@ use Rattle.replica_file.specs.declared.gate.Gate.{Gate}
 use Rattle.replica_file.specs.declared.slot.Word.{Word}
 
 -- frames of the operations are the first so many bytes of a part, and they were taken in
-pub record TakesSome (grammar : Grammar) (bytes : List ℕ) (at len taken : ℕ) (was : Bool) (old : State) (now : Bool) (new : State) : Type 0 where
+pub record TakesInSlots (grammar : Grammar) (bytes : List ℕ) (at len taken : ℕ) (was : Bool) (old : State) (now : Bool) (new : State) : Type 0 where
   pub ops : List Op
-  pub inside : taken ≤ length (part_of bytes at len)
-  pub starts : Starts grammar (part_of bytes at len) ops (drop taken (part_of bytes at len))
+  pub inside : taken ≤ length (file_part bytes at len)
+  pub starts : Starts grammar (file_part bytes at len) ops (drop taken (file_part bytes at len))
   pub feeds : Feeds was old now new ops
 
 -- the part is all there and whole frames, and they were taken in
 pub record TakesFrames (grammar : Grammar) (bytes : List ℕ) (at len : ℕ) (was : Bool) (old : State) (now : Bool) (new : State) : Type 0 where
   pub ops : List Op
-  pub long : length (part_of bytes at len) ≡ len
-  pub reads : Reads grammar (part_of bytes at len) ops Whole
+  pub long : length (file_part bytes at len) ≡ len
+  pub reads : Reads grammar (file_part bytes at len) ops Whole
   pub feeds : Feeds was old now new ops
 
 -- behind some frames stand bytes that are no whole frame and begin none
@@ -39,14 +39,14 @@ pub record EndsOff (grammar : Grammar) (bytes : List ℕ) : Type 0 where
 
 -- the part is not all there, or it is not whole frames
 abbrev pub HasNoFrames : Grammar → List ℕ → (at len : ℕ) → Type 0
-HasNoFrames grammar bytes at len = (length (drop at bytes) < len) ⊎ EndsOff grammar (part_of bytes at len)
+HasNoFrames grammar bytes at len = (length (drop at bytes) < len) ⊎ EndsOff grammar (file_part bytes at len)
 
 -- the word of the batch behind a gate was read, and memory was wanting for its frames
 pub record LacksInSlot (bytes : List ℕ) (at : ℕ) (was : Bool) (old : State) : Type 0 where
   pub grammar : Grammar
   pub tagged : word_tag (number_at (at + 1) bytes) ≡ tag_of grammar
   pub short : length_at (at + 1) bytes ≤ LONGEST_BATCH
-  pub lacks : Lacks grammar (BeginsPiece grammar bytes (at + 5) (length_at (at + 1) bytes)) (part_of bytes (at + 5) (length_at (at + 1) bytes)) was old
+  pub lacks : Lacks grammar (BeginsPiece grammar bytes (at + 5) (length_at (at + 1) bytes)) (file_part bytes (at + 5) (length_at (at + 1) bytes)) was old
 
 -- the four bytes at an offset are a slot's word
 pub record IsWord (bytes : List ℕ) (at : ℕ) (word : Word) : Type 0 where
@@ -104,7 +104,7 @@ pub record IsHeader (bytes : List ℕ) (header : Header) : Type 0 where
   pub hold_is : header.hold ≡ number_at 9 (header_of bytes)
 
 -- what stands in front of a file's slots, and the first gate
-pub record IsFront (bytes : List ℕ) (header : Header) (gate : Gate) : Type 0 where
+pub record IsFileFront (bytes : List ℕ) (header : Header) (gate : Gate) : Type 0 where
   pub has : has_header bytes ≡ true
   pub header_is : IsHeader bytes header
   pub is_gate : IsGate bytes gate

@@ -1,10 +1,10 @@
 ghost use Rattle.std.specs.Prelude.{◌≡◌, ◌+◌, ◌<◌, ◌≤◌, ◌^◌, min, List, IfSome, IfOk, OnOk};
 ghost use Rattle.fugue_ids.specs.declared.op.Op.{Op};
-ghost use Rattle.replica_file.specs.Loading.{IsReady, IsSameButHeld};
+ghost use Rattle.replica_file.specs.Loading.{CanTake, IsSameButHeld};
 ghost use Rattle.replica_file.specs.Looks.{LooksOnly, ReadsNoFurther};
 ghost use Rattle.replica_file.specs.Pieces.{Lacks};
-ghost use Rattle.replica_file.specs.Wanting.{AreWhole, BeginsPiece, part_of};
-ghost use Rattle.replica_file.specs.Slots.{HasNoFrames, TakesFrames, TakesSome};
+ghost use Rattle.replica_file.specs.Wanting.{AreWholeFrames, BeginsPiece, file_part};
+ghost use Rattle.replica_file.specs.Slots.{HasNoFrames, TakesFrames, TakesInSlots};
 
 use crate::loading::Loading;
 use crate::piece::{PIECE, take_piece};
@@ -25,15 +25,15 @@ pub(crate) fn take_frames<H: Disk>(
     loading: &mut Loading,
 ) -> Result<(), Stop>
     requires small { at + word.len < 2 ^ 64 }
-    requires ready { IsReady loading.old.replica }
+    requires ready { CanTake loading.old.replica }
     ensures took { OnOk result (IfSome (H.seen disk.old).past (λ h. TakesFrames word.grammar h.last.seen at word.len
         loading.old.finds_place loading.old.replica loading.new.finds_place loading.new.replica)) }
     ensures bad { result ≡ Err Stop.Bad → IfSome (H.seen disk.old).past (λ h.
         HasNoFrames word.grammar h.last.seen at word.len) }
     ensures memory { result ≡ Err Stop.NoMemory → IfSome (H.seen disk.old).past (λ h.
-        Lacks word.grammar (BeginsPiece word.grammar h.last.seen at word.len) (part_of h.last.seen at word.len)
+        Lacks word.grammar (BeginsPiece word.grammar h.last.seen at word.len) (file_part h.last.seen at word.len)
         loading.old.finds_place loading.old.replica) }
-    ensures ready { OnOk result (IsReady loading.new.replica) }
+    ensures ready { OnOk result (CanTake loading.new.replica) }
     ensures same { OnOk result (IsSameButHeld loading.old.replica loading.new.replica) }
     ensures looks { LooksOnly (H.seen disk.old) (H.seen disk.new) (result ≡ Err Stop.Disk) }
     ensures reach { OnOk result (ReadsNoFurther (at + word.len) (H.seen disk.old) (H.seen disk.new)) }
@@ -59,18 +59,18 @@ fn take_some<H: Disk>(
 ) -> Result<u64, Stop>
     requires small { at + left.len < 2 ^ 64 }
     requires some { 0 < left.len }
-    requires ready { IsReady loading.old.replica }
+    requires ready { CanTake loading.old.replica }
     ensures within { IfOk result (λ len. (0 < len) × (len ≤ left.len)) }
-    ensures took { IfOk result (λ len. IfSome (H.seen disk.old).past (λ h. TakesSome left.grammar h.last.seen at left.len len
+    ensures took { IfOk result (λ len. IfSome (H.seen disk.old).past (λ h. TakesInSlots left.grammar h.last.seen at left.len len
         loading.old.finds_place loading.old.replica loading.new.finds_place loading.new.replica)) }
     ensures bad { result ≡ Err Stop.Bad → IfSome (H.seen disk.old).past (λ h.
         HasNoFrames left.grammar h.last.seen at left.len) }
     ensures memory { result ≡ Err Stop.NoMemory → IfSome (H.seen disk.old).past (λ h. Lacks left.grammar
-        (λ rest. rest ≡ part_of h.last.seen at left.len) (part_of h.last.seen at left.len)
+        (λ rest. rest ≡ file_part h.last.seen at left.len) (file_part h.last.seen at left.len)
         loading.old.finds_place loading.old.replica) }
     ensures whole { IfOk result (λ len. IfSome (H.seen disk.old).past (λ h. (ops : List Op)
-        × AreWhole left.grammar (part_of h.last.seen at (min left.len 65536)) len ops)) }
-    ensures ready { OnOk result (IsReady loading.new.replica) }
+        × AreWholeFrames left.grammar (file_part h.last.seen at (min left.len 65536)) len ops)) }
+    ensures ready { OnOk result (CanTake loading.new.replica) }
     ensures same { OnOk result (IsSameButHeld loading.old.replica loading.new.replica) }
     ensures looks { LooksOnly (H.seen disk.old) (H.seen disk.new) (result ≡ Err Stop.Disk) }
     ensures reach { OnOk result (ReadsNoFurther (at + left.len) (H.seen disk.old) (H.seen disk.new)) }

@@ -2,7 +2,7 @@ ghost use Rattle.std.specs.Prelude.{◌≡◌, ◌≢◌, ◌<◌, ◌≤◌, fa
 ghost use Rattle.origin_model.specs.files.Image.{has_header};
 ghost use Rattle.fugue_ids.specs.declared.limits.TheConstants.{GREATEST_HOLD};
 ghost use Rattle.replica_file.specs.Looks.{LooksOnly, ReadsNoFurther};
-ghost use Rattle.replica_file.specs.Slots.{IsFront, SlotStopsFor};
+ghost use Rattle.replica_file.specs.Slots.{IsFileFront, SlotStopsFor};
 
 use crate::LoadFault;
 use crate::gate::Gate;
@@ -21,7 +21,7 @@ pub(crate) struct Front {
 /// The front of a file.
 pub(crate) fn read_front<H: Disk>(disk: &mut H) -> Result<Front, LoadFault>
     ensures told { IfOk result
-        (λ front. IfSome (H.seen disk.old).past (λ h. IsFront h.last.seen front.header front.gate)) }
+        (λ front. IfSome (H.seen disk.old).past (λ h. IsFileFront h.last.seen front.header front.gate)) }
     ensures at { IfOk result (λ front. front.gate.at ≡ 13) }
     ensures within { IfOk result (λ front.
         (0 < front.header.replica) × (0 < front.header.hold) × (front.header.hold ≤ GREATEST_HOLD)) }
@@ -40,7 +40,7 @@ pub(crate) fn read_front<H: Disk>(disk: &mut H) -> Result<Front, LoadFault>
 
 fn read_both<H: Disk>(disk: &mut H) -> Result<Front, Stop>
     ensures told { IfOk result
-        (λ front. IfSome (H.seen disk.old).past (λ h. IsFront h.last.seen front.header front.gate)) }
+        (λ front. IfSome (H.seen disk.old).past (λ h. IsFileFront h.last.seen front.header front.gate)) }
     ensures at { IfOk result (λ front. front.gate.at ≡ 13) }
     ensures within { IfOk result (λ front.
         (0 < front.header.replica) × (0 < front.header.hold) × (front.header.hold ≤ GREATEST_HOLD)) }

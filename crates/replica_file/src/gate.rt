@@ -4,7 +4,7 @@ ghost use Rattle.outer_ports.specs.disk.Disks.{DiskTells};
 ghost use Rattle.outer_ports.specs.disk.Moments.{LeavesOnlyTo};
 ghost use Rattle.outer_ports.specs.disk.States.{IsHonest};
 ghost use Rattle.replica_file.specs.Ends.{Agrees};
-ghost use Rattle.replica_file.specs.Gates.{BeforeOrWritten, OpenedTo, LastsFor, gate_opened, spent_opening};
+ghost use Rattle.replica_file.specs.Gates.{BeforeOrWritten, OpenedTo, LastsForCalls, gate_opened, spent_opening};
 
 use fugue_ids::Failed;
 use outer_ports::Disk;
@@ -35,9 +35,9 @@ pub(crate) fn write_behind<H: Disk>(disk: &mut H, gate: u64, bytes: &[u8]) -> Re
         → IfSome (H.seen disk.new).past (λ k. IsHonest k.last) }
     ensures room { OnOk result ((H.seen disk.new).room ≡ spent_opening bytes.now (H.seen disk.old).room) }
     ensures cause { HasCause (H.seen disk.old).faults (H.seen disk.new).faults result }
-    ensures sure { IfSome (H.seen disk.old).room (λ room. LastsFor bytes.now room → OnErr result ⊥) }
+    ensures sure { IfSome (H.seen disk.old).room (λ room. LastsForCalls bytes.now room → OnErr result ⊥) }
     ensures calm { IfSome (H.seen disk.old).room (λ room.
-        LastsFor bytes.now room → (H.seen disk.new).faults ≡ (H.seen disk.old).faults) }
+        LastsForCalls bytes.now room → (H.seen disk.new).faults ≡ (H.seen disk.old).faults) }
     ensures calm_told { DiskTells (H.seen disk.old)
         → OnOk result ((H.seen disk.new).faults ≡ (H.seen disk.old).faults) }
 {

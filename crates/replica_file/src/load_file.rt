@@ -1,15 +1,11 @@
-ghost use Rattle.std.specs.Prelude.{◌≡◌, ◌≢◌, ◌⊎◌, ◌<◌, ◌≤◌, ◌+◌, IfSome, IfOk, IfErr, OnOk};
-ghost use Rattle.fugue_ids.specs.Causes.{Rose};
+ghost use Rattle.std.specs.Prelude.{◌≡◌, ◌<◌, ◌≤◌, ◌+◌, IfSome, IfOk};
 ghost use Rattle.fugue_ids.specs.declared.limits.TheConstants.{MOST_OPERATIONS};
-ghost use Rattle.outer_ports.specs.disk.Disks.{DiskTells, spent};
-ghost use Rattle.outer_ports.specs.disk.Moments.{LeavesOnlyTo, MayLeave, after};
-ghost use Rattle.outer_ports.specs.disk.States.{durable};
-ghost use Rattle.replica_file.specs.Ends.{EndsAt, IsWithinReach};
-ghost use Rattle.replica_file.specs.Load.{LoadAnswersBy, LacksMemory, LastsToLoad, Loads};
-ghost use Rattle.replica_file.specs.Loading.{IsReady};
+ghost use Rattle.replica_file.specs.Ends.{IsWithinReach};
+ghost use Rattle.replica_file.specs.Load.{LoadAnswerIs};
+ghost use Rattle.replica_file.specs.Loaded.{LoadMeets};
+ghost use Rattle.replica_file.specs.Loading.{CanTake};
 ghost use Rattle.replica_file.specs.Looks.{LooksOnly, ReadsNoFurther};
 ghost use Rattle.replica_file.specs.Moments.{HasMoments, OneListOfMoments, loaded_of};
-ghost use Rattle.replica_file.specs.Slots.{SlotStopsFor};
 ghost use Rattle.replica_file.specs.Laws.{OneImage};
 
 use crate::front::read_front;
@@ -78,27 +74,7 @@ impl From<NoMemory> for LoadFault {
 pub fn load<H: Disk>(alloc: Global, disk: &mut H, most: u32) -> Result<(Replica, End), LoadFault>
     requires some { 0 < most }
     requires within { most ≤ MOST_OPERATIONS }
-    ensures exactly { IfSome (H.seen disk.old).past (λ h. LoadAnswersBy result most h.last.seen) }
-    ensures memory { result ≡ Err LoadFault.NoMemory
-        → IfSome (H.seen disk.old).past (λ h. LacksMemory most h.last.seen) }
-    ensures ready { IfOk result (λ loaded. IsReady loaded.0) }
-    ensures ends { IfOk result (λ loaded. IfSome (H.seen disk.new).past (λ h. EndsAt h.last loaded.1)) }
-    ensures reaches { IfOk result (λ loaded. IsWithinReach loaded.1) }
-    ensures synced { ((H.seen disk.new).past ≡ after durable (H.seen disk.old).past)
-        ⊎ ((result ≡ Err LoadFault.DiskFault) × ((H.seen disk.new).past ≡ (H.seen disk.old).past)) }
-    ensures moments { IfSome (H.seen disk.old).past (λ h. LeavesOnlyTo h (H.seen disk.new).past (MayLeave h)) }
-    ensures room { ((H.seen disk.new).room ≡ spent 0 (H.seen disk.old).room)
-        ⊎ ((result ≡ Err LoadFault.DiskFault) × ((H.seen disk.new).room ≡ (H.seen disk.old).room)) }
-    ensures no_size { (H.seen disk.new).sizes ≡ (H.seen disk.old).sizes }
-    ensures reach { IfOk result
-        (λ loaded. ReadsNoFurther (loaded.1.at + 1) (H.seen disk.old) (H.seen disk.new)) }
-    ensures later { (H.seen disk.old).faults ≤ (H.seen disk.new).faults }
-    ensures cause { result ≡ Err LoadFault.DiskFault → Rose (H.seen disk.old).faults (H.seen disk.new).faults }
-    ensures sure { IfSome (H.seen disk.old).room (λ room. LastsToLoad room → result ≢ Err LoadFault.DiskFault) }
-    ensures calm { IfSome (H.seen disk.old).room (λ room.
-        LastsToLoad room → (H.seen disk.new).faults ≡ (H.seen disk.old).faults) }
-    ensures calm_told { DiskTells (H.seen disk.old) → result ≢ Err LoadFault.DiskFault
-        → (H.seen disk.new).faults ≡ (H.seen disk.old).faults }
+    ensures { LoadMeets most (H.seen disk.old) (H.seen disk.new) result }
 {
     match load_moments(alloc, disk, most) {
         Ok((replica, end, _moments)) => Ok((replica, end)),
@@ -115,29 +91,9 @@ pub fn load_moments<H: Disk>(
 ) -> Result<(Replica, End, Vec<u32>), LoadFault>
     requires some { 0 < most }
     requires within { most ≤ MOST_OPERATIONS }
-    ensures exactly { IfSome (H.seen disk.old).past (λ h. LoadAnswersBy (loaded_of result) most h.last.seen) }
-    ensures memory { result ≡ Err LoadFault.NoMemory
-        → IfSome (H.seen disk.old).past (λ h. LacksMemory most h.last.seen) }
-    ensures ready { IfOk result (λ loaded. IsReady loaded.0) }
-    ensures ends { IfOk result (λ loaded. IfSome (H.seen disk.new).past (λ h. EndsAt h.last loaded.1)) }
-    ensures reaches { IfOk result (λ loaded. IsWithinReach loaded.1) }
-    ensures synced { ((H.seen disk.new).past ≡ after durable (H.seen disk.old).past)
-        ⊎ ((result ≡ Err LoadFault.DiskFault) × ((H.seen disk.new).past ≡ (H.seen disk.old).past)) }
-    ensures moments_are { IfOk result (λ loaded. IfSome (H.seen disk.old).past (λ h.
+    ensures meets { LoadMeets most (H.seen disk.old) (H.seen disk.new) (loaded_of result) }
+    ensures moments { IfOk result (λ loaded. IfSome (H.seen disk.old).past (λ h.
         HasMoments h.last.seen loaded.2.items)) }
-    ensures moments { IfSome (H.seen disk.old).past (λ h. LeavesOnlyTo h (H.seen disk.new).past (MayLeave h)) }
-    ensures room { ((H.seen disk.new).room ≡ spent 0 (H.seen disk.old).room)
-        ⊎ ((result ≡ Err LoadFault.DiskFault) × ((H.seen disk.new).room ≡ (H.seen disk.old).room)) }
-    ensures no_size { (H.seen disk.new).sizes ≡ (H.seen disk.old).sizes }
-    ensures reach { IfOk result
-        (λ loaded. ReadsNoFurther (loaded.1.at + 1) (H.seen disk.old) (H.seen disk.new)) }
-    ensures later { (H.seen disk.old).faults ≤ (H.seen disk.new).faults }
-    ensures cause { result ≡ Err LoadFault.DiskFault → Rose (H.seen disk.old).faults (H.seen disk.new).faults }
-    ensures sure { IfSome (H.seen disk.old).room (λ room. LastsToLoad room → result ≢ Err LoadFault.DiskFault) }
-    ensures calm { IfSome (H.seen disk.old).room (λ room.
-        LastsToLoad room → (H.seen disk.new).faults ≡ (H.seen disk.old).faults) }
-    ensures calm_told { DiskTells (H.seen disk.old) → result ≢ Err LoadFault.DiskFault
-        → (H.seen disk.new).faults ≡ (H.seen disk.old).faults }
 {
     disk.sync()?;
     read_all(alloc, disk, most)
@@ -151,12 +107,10 @@ fn read_all<H: Disk>(
 ) -> Result<(Replica, End, Vec<u32>), LoadFault>
     requires some { 0 < most }
     requires within { most ≤ MOST_OPERATIONS }
-    ensures loads { IfOk result
-        (λ loaded. IfSome (H.seen disk.old).past (λ h. Loads most h.last.seen loaded.0 loaded.1)) }
+    ensures cause { IfSome (H.seen disk.old).past (λ h. LoadAnswerIs most h.last.seen (loaded_of result)) }
     ensures moments_are { IfOk result
         (λ loaded. IfSome (H.seen disk.old).past (λ h. HasMoments h.last.seen loaded.2.items)) }
-    ensures stops { IfErr result (λ fault. IfSome (H.seen disk.old).past (λ h. SlotStopsFor most h.last.seen fault)) }
-    ensures ready { IfOk result (λ loaded. IsReady loaded.0) }
+    ensures ready { IfOk result (λ loaded. CanTake loaded.0) }
     ensures reaches { IfOk result (λ loaded. IsWithinReach loaded.1) }
     ensures looks { LooksOnly (H.seen disk.old) (H.seen disk.new) (result ≡ Err LoadFault.DiskFault) }
     ensures reach { IfOk result

@@ -1,13 +1,14 @@
 ghost use Rattle.std.specs.Prelude.{◌≡◌, ◌<◌, ◌≤◌, ◌+◌, ◌^◌, ◌∷◌, [], true, length, OnOk, OnErr};
 ghost use Rattle.fugue_ids.specs.Runs.{run_from};
+ghost use Rattle.op_runs.specs.Deletions.{deletes_up};
 ghost use Rattle.fugue_ids.specs.declared.limits.TheConstants.{BUFFER, GREATEST_HOLD, MOST_OPERATIONS};
-ghost use Rattle.op_frame.specs.NextRuns.{IsSound, ops_given};
+ghost use Rattle.op_frame.specs.NextRuns.{AreSoundRuns, ops_given};
 ghost use Rattle.origin_model.specs.taking.Taking.{nothing_held};
-ghost use Rattle.origin_model.specs.edits.State.{Stands};
-ghost use Rattle.replica_file.specs.Loading.{Feeds, IsReady, IsSameButHeld, WantsMemory};
+ghost use Rattle.origin_model.specs.edits.State.{IsSound};
+ghost use Rattle.replica_file.specs.Loading.{Feeds, CanTake, IsSameButHeld, WantsMemory};
 
 use crate::header::Header;
-use fugue_ids::{NoMemory, Op, RunStart};
+use fugue_ids::{ElementId, NoMemory, Op, RunStart};
 use op_frame::NextOps;
 use origin_model::Tally;
 use replica_core::{FeedFault, Replica};
@@ -31,7 +32,7 @@ impl Loading {
         requires most_within { most ≤ MOST_OPERATIONS }
         ensures replica { result.replica
             ≡ record { number = header.replica; hold = header.hold; most = most; held = nothing_held } }
-        ensures ready { IsReady result.replica }
+        ensures ready { CanTake result.replica }
         ensures finds_place { result.finds_place ≡ true }
     {
         Loading {
@@ -46,34 +47,35 @@ impl Loading {
         self.replica
     }
 
-    /// Takes in the next operations: a run's Texts, or one alone. Refusals change nothing and are no faults, but one too
+    /// Takes in the next operations: a run's Texts, Deletes of neighbours, or one alone. Refusals change nothing and are no faults, but one too
     /// many is noted.
     pub(crate) fn take(&mut self, next: NextOps, text: &[char]) -> Result<(), NoMemory>
-        requires ready { IsReady self.old.replica }
-        requires sound { IsSound next text.now }
+        requires ready { CanTake self.old.replica }
+        requires sound { AreSoundRuns next text.now }
         requires short { length text.now ≤ BUFFER }
         ensures feeds { OnOk result (Feeds self.old.finds_place self.old.replica
             self.new.finds_place self.new.replica (ops_given next text.now)) }
         ensures memory { OnErr result
             (WantsMemory self.old.finds_place self.old.replica (ops_given next text.now)) }
-        ensures ready { OnOk result (IsReady self.new.replica) }
+        ensures ready { OnOk result (CanTake self.new.replica) }
         ensures same { OnOk result (IsSameButHeld self.old.replica self.new.replica) }
     {
         match next {
             NextOps::Run(start) => self.take_run(&start, text),
+            NextOps::Deletes(first, count) => self.take_deletes(first, count),
             NextOps::Single(op) => self.take_one(op),
         }
     }
 
     fn take_run(&mut self, start: &RunStart, text: &[char]) -> Result<(), NoMemory>
-        requires ready { IsReady self.old.replica }
+        requires ready { CanTake self.old.replica }
         requires counters { start.now.id.counter + length text.now ≤ 2 ^ 32 }
         requires short { length text.now ≤ BUFFER }
         ensures feeds { OnOk result (Feeds self.old.finds_place self.old.replica
             self.new.finds_place self.new.replica (run_from start.now text.now)) }
         ensures memory { OnErr result
             (WantsMemory self.old.finds_place self.old.replica (run_from start.now text.now)) }
-        ensures ready { OnOk result (IsReady self.new.replica) }
+        ensures ready { OnOk result (CanTake self.new.replica) }
         ensures same { OnOk result (IsSameButHeld self.old.replica self.new.replica) }
     {
         if !self.finds_place {
@@ -90,12 +92,37 @@ impl Loading {
         }
     }
 
+    fn take_deletes(&mut self, first: ElementId, count: u32) -> Result<(), NoMemory>
+        requires ready { CanTake self.old.replica }
+        requires counters { first.counter + count ≤ 2 ^ 32 }
+        requires short { count ≤ BUFFER }
+        ensures feeds { OnOk result (Feeds self.old.finds_place self.old.replica
+            self.new.finds_place self.new.replica (deletes_up first count)) }
+        ensures memory { OnErr result
+            (WantsMemory self.old.finds_place self.old.replica (deletes_up first count)) }
+        ensures ready { OnOk result (CanTake self.new.replica) }
+        ensures same { OnOk result (IsSameButHeld self.old.replica self.new.replica) }
+    {
+        if !self.finds_place {
+            return Ok(());
+        }
+        let mut tally = Tally::default();
+        match self.replica.feed_deletes(first, count, &mut tally) {
+            Ok(()) => Ok(()),
+            Err(FeedFault::TooMany(_most)) => {
+                self.finds_place = false;
+                Ok(())
+            }
+            Err(FeedFault::NoMemory) => Err(NoMemory),
+        }
+    }
+
     fn take_one(&mut self, op: Op) -> Result<(), NoMemory>
-        requires { IsReady self.old.replica }
+        requires { CanTake self.old.replica }
         ensures feeds { OnOk result (Feeds self.old.finds_place self.old.replica
             self.new.finds_place self.new.replica (op ∷ [])) }
         ensures memory { OnErr result (WantsMemory self.old.finds_place self.old.replica (op ∷ [])) }
-        ensures ready { OnOk result (IsReady self.new.replica) }
+        ensures ready { OnOk result (CanTake self.new.replica) }
         ensures same { OnOk result (IsSameButHeld self.old.replica self.new.replica) }
     {
         if !self.finds_place {
@@ -125,7 +152,7 @@ fn new_replica(alloc: Global, header: Header, most: u32) -> Replica
       most = most;
       held = nothing_held;
     } }
-    ensures stands { Stands result }
+    ensures stands { IsSound result }
 {
     match Replica::new(alloc, header.replica, header.hold, most) {
         Ok(replica) => replica,

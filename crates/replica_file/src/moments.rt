@@ -1,7 +1,7 @@
 //! The moments of a file.
 ghost use Rattle.std.specs.Prelude.{◌≡◌, ◌<◌, ◌++◌, length, vec_len, vec_capacity, OnOk};
-ghost use Rattle.origin_model.specs.edits.State.{Stands};
-ghost use Rattle.replica_file.specs.Moments.{moment};
+ghost use Rattle.origin_model.specs.edits.State.{IsSound};
+ghost use Rattle.replica_file.specs.Moments.{new_moment};
 
 use fugue_ids::NoMemory;
 use replica_core::Replica;
@@ -9,7 +9,7 @@ use replica_core::Replica;
 /// How many operations the replica has accepted.
 pub(crate) fn accepted_count(replica: &Replica) -> u32
     ensures count { result ≡ length replica.now.held.history }
-    ensures stands { Stands replica.now }
+    ensures stands { IsSound replica.now }
 {
     replica.accepted().len() as u32
 }
@@ -26,7 +26,7 @@ pub(crate) fn make_room(moments: &mut Vec<u32>) -> Result<(), NoMemory>
 /// Notes how many operations are accepted, where they are more than before.
 pub(crate) fn note_moment(moments: &mut Vec<u32>, before: u32, now: u32)
     requires { vec_len moments.old < vec_capacity moments.old }
-    ensures { moments.new.items ≡ moments.old.items ++ moment before now }
+    ensures { moments.new.items ≡ moments.old.items ++ new_moment before now }
 {
     if before < now && moments.push(now).is_err() {
         unreachable!()

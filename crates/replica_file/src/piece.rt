@@ -1,7 +1,7 @@
 ghost use Rattle.std.specs.Prelude.{◌≡◌, ◌≢◌, ◌<◌, ◌≤◌, ◌+◌, ◌*◌, [], None, length, List, ℕ, IfOk, OnOk, vec_capacity};
 ghost use Rattle.fugue_ids.specs.declared.op.Op.{Op};
-ghost use Rattle.replica_file.specs.Loading.{IsReady, IsSameButHeld};
-ghost use Rattle.replica_file.specs.Pieces.{AreBad, IsReading, Lacks, PieceSteps, TakesPiece};
+ghost use Rattle.replica_file.specs.Loading.{CanTake, IsSameButHeld};
+ghost use Rattle.replica_file.specs.Pieces.{AreBad, IsReading, Lacks, PieceSteps, TakesInPiece};
 
 use crate::loading::Loading;
 use crate::stop::Stop;
@@ -53,7 +53,7 @@ impl Piece {
     fn take_next(&mut self, loading: &mut Loading) -> Result<Option<u64>, Stop>
         requires no_fault { self.old.reader.fault ≡ None }
         requires room { 0 < vec_capacity self.old.text }
-        requires ready { IsReady loading.old.replica }
+        requires ready { CanTake loading.old.replica }
         ensures steps { (bytes : List ℕ) (ops : List Op)
             → IsReading bytes ops self.old.reader (⟦<SureSource as Source>⟧.seen self.old.source)
             → self.old.len ≡ length bytes
@@ -68,7 +68,7 @@ impl Piece {
         ensures grammar { self.new.reader.grammar ≡ self.old.reader.grammar }
         ensures len { self.new.len ≡ self.old.len }
         ensures room { 0 < vec_capacity self.new.text }
-        ensures ready { OnOk result (IsReady loading.new.replica) }
+        ensures ready { OnOk result (CanTake loading.new.replica) }
         ensures same { OnOk result (IsSameButHeld loading.old.replica loading.new.replica) }
         ensures not_disk { result ≢ Err Stop.Disk }
     {
@@ -95,13 +95,13 @@ pub(crate) fn take_piece(
     grammar: Grammar,
     loading: &mut Loading,
 ) -> Result<u64, Stop>
-    requires { IsReady loading.old.replica }
-    ensures took { IfOk result (λ len. TakesPiece grammar bytes.items len loading.old.finds_place loading.old.replica
+    requires { CanTake loading.old.replica }
+    ensures took { IfOk result (λ len. TakesInPiece grammar bytes.items len loading.old.finds_place loading.old.replica
         loading.new.finds_place loading.new.replica) }
     ensures bad { result ≡ Err Stop.Bad → AreBad grammar bytes.items }
     ensures memory { result ≡ Err Stop.NoMemory
         → Lacks grammar (λ rest. rest ≡ bytes.items) bytes.items loading.old.finds_place loading.old.replica }
-    ensures ready { OnOk result (IsReady loading.new.replica) }
+    ensures ready { OnOk result (CanTake loading.new.replica) }
     ensures same { OnOk result (IsSameButHeld loading.old.replica loading.new.replica) }
     ensures not_disk { result ≢ Err Stop.Disk }
 {

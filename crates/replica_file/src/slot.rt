@@ -2,7 +2,7 @@ ghost use Rattle.std.specs.Prelude.{◌≡◌, ◌≢◌, ◌⊎◌, ◌↔◌, 
 ghost use Rattle.origin_model.specs.declared.files.TheConstants.{LONGEST_BATCH};
 ghost use Rattle.origin_model.specs.declared.grammar.Grammar.{Grammar as AnyGrammar};
 ghost use Rattle.origin_model.specs.files.Image.{IsNoBatch, tag_of};
-ghost use Rattle.replica_file.specs.Loading.{IsReady, IsSameButHeld};
+ghost use Rattle.replica_file.specs.Loading.{CanTake, IsSameButHeld};
 ghost use Rattle.replica_file.specs.Looks.{LooksOnly, ReadsNoFurther};
 ghost use Rattle.replica_file.specs.Slots.{HasNoWord, IsGate, IsWord, LacksInSlot, TakesSlot};
 
@@ -27,7 +27,7 @@ pub(crate) fn take_slot<H: Disk>(
     moments: &mut Vec<u32>,
 ) -> Result<Gate, Stop>
     requires small { at + 268435470 < 2 ^ 64 }
-    requires ready { IsReady loading.old.replica }
+    requires ready { CanTake loading.old.replica }
     ensures took { IfOk result (λ next. IfSome (H.seen disk.old).past (λ h. TakesSlot h.last.seen at next
         loading.old.finds_place loading.old.replica loading.new.finds_place loading.new.replica)) }
     ensures bad { result ≡ Err Stop.Bad → IfSome (H.seen disk.old).past (λ h.
@@ -35,7 +35,7 @@ pub(crate) fn take_slot<H: Disk>(
     ensures memory { result ≡ Err Stop.NoMemory → IfSome (H.seen disk.old).past (λ h.
         LacksInSlot h.last.seen at loading.old.finds_place loading.old.replica) }
     ensures reaches { IfOk result (λ next. next.at ≤ at + 268435461) }
-    ensures ready { OnOk result (IsReady loading.new.replica) }
+    ensures ready { OnOk result (CanTake loading.new.replica) }
     ensures same { OnOk result (IsSameButHeld loading.old.replica loading.new.replica) }
     ensures looks { LooksOnly (H.seen disk.old) (H.seen disk.new) (result ≡ Err Stop.Disk) }
     ensures onward { IfOk result (λ next. at < next.at) }

@@ -1,6 +1,6 @@
 ghost use Rattle.std.specs.Prelude.{◌≡◌, ◌+◌, ◌*◌, ◌<◌, ◌≤◌, true, IfSome, IfOk, IfErr, OnOk};
 ghost use Rattle.replica_file.specs.Ends.{IsWithinReach};
-ghost use Rattle.replica_file.specs.Loading.{IsReady, IsSameButHeld};
+ghost use Rattle.replica_file.specs.Loading.{CanTake, IsSameButHeld};
 ghost use Rattle.replica_file.specs.Looks.{LooksOnly, ReadsNoFurther};
 ghost use Rattle.replica_file.specs.Moments.{WalkedWith, WalksOutWith};
 ghost use Rattle.replica_file.specs.Slots.{SlotStopsFor};
@@ -27,7 +27,7 @@ pub(crate) fn take_slots<H: Disk>(
     requires walked { IfSome (H.seen disk.old).past (λ h.
         WalkedWith h.last.seen 0 first loading.old.replica moments.old.items) }
     requires at { first.at ≡ 13 }
-    requires ready { IsReady loading.old.replica }
+    requires ready { CanTake loading.old.replica }
     requires finds_place { loading.old.finds_place ≡ true }
     requires most { loading.old.replica.most ≡ most }
     ensures ends { IfOk result
@@ -36,7 +36,7 @@ pub(crate) fn take_slots<H: Disk>(
     ensures stops { IfErr result (λ fault. IfSome (H.seen disk.old).past (λ h.
         SlotStopsFor most h.last.seen fault)) }
     ensures reaches { IfOk result IsWithinReach }
-    ensures ready { OnOk result (IsReady loading.new.replica) }
+    ensures ready { OnOk result (CanTake loading.new.replica) }
     ensures same { OnOk result (IsSameButHeld loading.old.replica loading.new.replica) }
     ensures looks { LooksOnly (H.seen disk.old) (H.seen disk.new) (result ≡ Err LoadFault.DiskFault) }
     ensures behind { IfOk result (λ end. 13 ≤ end.at) }
@@ -65,7 +65,7 @@ fn next_gate<H: Disk>(
         WalkedWith h.last.seen slots gate loading.old.replica moments.old.items) }
     requires open { gate.open ≡ true }
     requires reaches { gate.at ≤ 13 + 268435461 * slots }
-    requires ready { IsReady loading.old.replica }
+    requires ready { CanTake loading.old.replica }
     requires finds_place { loading.old.finds_place ≡ true }
     requires most { loading.old.replica.most ≡ most }
     ensures walked { IfOk result (λ next. IfSome (H.seen disk.old).past (λ h.
@@ -75,7 +75,7 @@ fn next_gate<H: Disk>(
     ensures more { OnOk result (slots < 4294967295) }
     ensures reaches { IfOk result (λ next. next.at ≤ 13 + 268435461 * (slots + 1)) }
     ensures finds_place { OnOk result (loading.new.finds_place ≡ true) }
-    ensures ready { OnOk result (IsReady loading.new.replica) }
+    ensures ready { OnOk result (CanTake loading.new.replica) }
     ensures same { OnOk result (IsSameButHeld loading.old.replica loading.new.replica) }
     ensures looks { LooksOnly (H.seen disk.old) (H.seen disk.new) (result ≡ Err LoadFault.DiskFault) }
     ensures onward { IfOk result (λ next. gate.at < next.at) }

@@ -13,10 +13,9 @@ use Rattle.node_rope.specs.Items.{value_under}
 use Rattle.node_rope.specs.Places.{StandsAt, weight_sum}
 use Rattle.run_store.specs.Cells.{cell_ids, cells_shown, shown_before}
 use Rattle.run_store.specs.Heads.{typed_cells}
-use Rattle.run_store.specs.Runs.{AreRuns, IsRun, IsSpot, all_cells, cells_in, first_of, letters_of, visible_weight}
+use Rattle.run_store.specs.Runs.{AreRuns, IsRun, IsCellSpot, Kept, all_cells, cells_in, first_of, letters_of, visible_weight}
 use Rattle.run_store.specs.declared.cell.Cell.{Cell}
 use Rattle.run_store.specs.declared.run.Run.{Run}
-use Rattle.run_store.specs.declared.run.Runs.{Runs}
 use Rattle.run_store.proofs.CellLemmas.{Others, index-at}
 use Rattle.run_store.proofs.HeadLemmas.{behind-id, length-typed}
 use Rattle.run_store.proofs.PlaceLemmas.{placed-at, stands-run}
@@ -42,7 +41,7 @@ shown-few (c ∷ cs) = elim (cases_Bool c.hidden) [
 abbrev pub within : Run → ℕ → ℕ
 within run o = if run.hidden then 0 else o
 
-module _ (r : Runs) (s : AreRuns r) (x : Identifier) (run : Run) (o : ℕ) (spot : IsSpot r.rope x run o) (i : ℕ) (stands : StandsAt r.rope i run.id) where
+module _ (r : Kept) (s : AreRuns r) (x : Identifier) (run : Run) (o : ℕ) (spot : IsCellSpot r.rope x run o) (i : ℕ) (stands : StandsAt r.rope i run.id) where
   pub shown_before-spot : shown_before (cells_in r) x ≡ weight_sum visible_weight (take i r.rope) + within run o
   shown_before-spot =
       let L = r.letters in
@@ -66,9 +65,9 @@ module _ (r : Runs) (s : AreRuns r) (x : Identifier) (run : Run) (o : ℕ) (spot
       ∙ (λ j. first j + own j)
 
 -- the runs before one show no more cells than there may be
-pub weight-few : (r : Runs) → AreRuns r → (run : Run) (i : ℕ) → StandsAt r.rope i run.id → value_under run.id r.rope ≡ Some run → weight_sum visible_weight (take i r.rope) ≤ MOST_OPERATIONS
+pub weight-few : (r : Kept) → AreRuns r → (run : Run) (i : ℕ) → StandsAt r.rope i run.id → value_under run.id r.rope ≡ Some run → weight_sum visible_weight (take i r.rope) ≤ MOST_OPERATIONS
 weight-few r s run i stands held =
-    let spot : IsSpot r.rope run.id run 0 = record {
+    let spot : IsCellSpot r.rope run.id run 0 = record {
       held = held;
       inside = (kept-run r s run.id run held).some;
       is = sym (behind-id 0 (first_of run) ∙ none_behind run.id);

@@ -9,16 +9,15 @@ use Rattle.fugue_ids.specs.Identifiers.{Identifier, id_eq}
 use Rattle.fugue_ids.proofs.IdentifierLemmas.{ne-id_eq}
 use Rattle.fugue_ids.proofs.ListLemmas.{all_before, all_behind}
 use Rattle.fugue_ids.specs.Runs.{id_behind}
-use Rattle.node_rope.specs.Beside.{put_under, rekeyed}
+use Rattle.node_rope.specs.Beside.{put_under, items_rekeyed}
 use Rattle.node_rope.specs.Items.{value_under}
 use Rattle.node_rope.specs.Places.{StandsAt}
-use Rattle.run_store.specs.Borders.{IsBorder, IsHiding, IsMove, IsTakenFirst, IsTakenLast, run_continues, last_shown, shifted, together}
+use Rattle.run_store.specs.Borders.{IsBorder, IsHiding, IsMove, IsTakenFirst, IsTakenLast, run_continues, last_shown, border_shifted, together}
 use Rattle.run_store.specs.Cells.{cells_hiding}
 use Rattle.run_store.specs.Heads.{head_behind, typed_cells}
-use Rattle.run_store.specs.Runs.{AreRuns, IsRun, all_cells, cells_in, first_of, run_from, run_to}
+use Rattle.run_store.specs.Runs.{AreRuns, IsRun, Kept, all_cells, cells_in, first_of, run_behind, run_to}
 use Rattle.run_store.specs.declared.cell.Cell.{Cell}
 use Rattle.run_store.specs.declared.run.Run.{Run}
-use Rattle.run_store.specs.declared.run.Runs.{Runs}
 use Rattle.run_store.proofs.ContinueLemmas.{continued-is}
 use Rattle.run_store.proofs.CutLemmas.{back-part, front-part, rest-fresh}
 use Rattle.run_store.proofs.HeadLemmas.{behind-behind, behind-depth, behind-id, behind-marked, behind-other, behind-right, typed-append}
@@ -29,7 +28,7 @@ use Rattle.run_store.proofs.RopeLemmas.{OtherKeys, put-at, rekeyed-at, value-at}
 use Rattle.run_store.proofs.RunsLemmas.{Item, cells-append, kept-run, keys-apart}
 
 -- a run that goes on from another one is the rest of both
-passage-is : (a b : Run) → 0 < a.len → run_continues a b ≡ true → b ≡ run_from a.len (together a b)
+passage-is : (a b : Run) → 0 < a.len → run_continues a b ≡ true → b ≡ run_behind a.len (together a b)
 passage-is a b some t =
     let k = a.len - 1 in
     let n : suc k ≡ a.len = omega (arith, some) in
@@ -61,10 +60,10 @@ passage-is a b some t =
       start = from i;
       len = len i;
     })
-    ∙ ap (λ m. run_from m (together a b)) n
+    ∙ ap (λ m. run_behind m (together a b)) n
 
 -- the next run of a rope, where it goes on from the one before it
-pub border-found : (r : Runs) → AreRuns r → (a b : Run) (k : Identifier) → value_under a.id r.rope ≡ Some a → (i : ℕ) × StandsAt r.rope i a.id × StandsAt r.rope (i + 1) k
+pub border-found : (r : Kept) → AreRuns r → (a b : Run) (k : Identifier) → value_under a.id r.rope ≡ Some a → (i : ℕ) × StandsAt r.rope i a.id × StandsAt r.rope (i + 1) k
     → value_under k r.rope ≡ Some b → run_continues a b ≡ true → IsBorder r.rope a b
 border-found r s a b k held next v t =
     let i = next.0 in
@@ -79,7 +78,7 @@ border-found r s a b k held next v t =
       passage = passage-is a b (kept-run r s a.id a held).some t;
     }
 
-module _ (r : Runs) (s : AreRuns r) (a b : Run) (border : IsBorder r.rope a b) where
+module _ (r : Kept) (s : AreRuns r) (a b : Run) (border : IsBorder r.rope a b) where
   abbrev whole : Run
   whole = together a b
 
@@ -137,7 +136,7 @@ module _ (r : Runs) (s : AreRuns r) (a b : Run) (border : IsBorder r.rope a b) w
 
   -- the second run with the border at the place n, and all items
   abbrev pub rest : ℕ → Run
-  rest n = run_from n (together a b)
+  rest n = run_behind n (together a b)
 
   abbrev pub items : ℕ → List Item
   items n = border.before ++ (a.id, run_to n a) ∷ ((rest n).id, rest n) ∷ border.behind
@@ -172,25 +171,25 @@ module _ (r : Runs) (s : AreRuns r) (a b : Run) (border : IsBorder r.rope a b) w
         sides : (k m : ℕ) → k ≢ m → (k < m) ⊎ (m < k)
         sides k m o = grind (arith, o)
 
-    rekeyed-is : rekeyed b.id ((rest n).id, rest n) r.rope ≡ border.before ++ (a.id, a) ∷ ((rest n).id, rest n) ∷ border.behind
+    rekeyed-is : items_rekeyed b.id ((rest n).id, rest n) r.rope ≡ border.before ++ (a.id, a) ∷ ((rest n).id, rest n) ∷ border.behind
     rekeyed-is =
-        ap (rekeyed b.id ((rest n).id, rest n)) around
+        ap (items_rekeyed b.id ((rest n).id, rest n)) around
         ∙ rekeyed-at b.id b ((rest n).id, rest n) (border.before ++ (a.id, a) ∷ []) border.behind back-apart.0 back-apart.1
         ∙ append_assoc border.before ((a.id, a) ∷ []) (((rest n).id, rest n) ∷ border.behind)
 
     -- the first run is held still
-    pub still-held : value_under a.id (rekeyed b.id ((rest n).id, rest n) r.rope) ≡ Some a
+    pub still-held : value_under a.id (items_rekeyed b.id ((rest n).id, rest n) r.rope) ≡ Some a
     still-held = ap (value_under a.id) rekeyed-is ∙ value-at a.id a border.before (((rest n).id, rest n) ∷ border.behind) front-apart.0
 
-    shifted-is : shifted n a b r.rope ≡ items n
+    shifted-is : border_shifted n a b r.rope ≡ items n
     shifted-is =
         ap (put_under a.id (run_to n a)) rekeyed-is
         ∙ put-at a.id a (run_to n a) border.before (((rest n).id, rest n) ∷ border.behind) front-apart.0 (rest-other, front-apart.1.1)
 
-    abbrev pub shifted_runs : Runs
-    shifted_runs = record { rope = shifted n a b r.rope; letters = r.letters; count = r.count }
+    abbrev pub shifted_runs : Kept
+    shifted_runs = record { rope = border_shifted n a b r.rope; letters = r.letters; count = r.count }
 
-    shifted-each : All P (shifted n a b r.rope)
+    shifted-each : All P (border_shifted n a b r.rope)
     shifted-each =
         let front = marked-run r.letters r.count a.id (run_to n whole) a.hidden (front-part r.letters r.count whole n whole-is move.some move.rest) in
         let back = back-part r.letters r.count whole n whole-is move.some move.rest in
@@ -198,9 +197,9 @@ module _ (r : Runs) (s : AreRuns r) (a b : Run) (border : IsBorder r.rope a b) w
         (All-append P border.before ((a.id, run_to n a) ∷ ((rest n).id, rest n) ∷ border.behind) (all_before P border.before ((a.id, a) ∷ (b.id, b) ∷ border.behind) runs)
         (All-cons P (a.id, run_to n a) (((rest n).id, rest n) ∷ border.behind) front (All-cons P ((rest n).id, rest n) border.behind back rest-are)))
 
-    pub shifted-length : length (shifted n a b r.rope) ≡ length r.rope
+    pub shifted-length : length (border_shifted n a b r.rope) ≡ length r.rope
     shifted-length =
-        length-map (rekeyed b.id ((rest n).id, rest n) r.rope) (λ (x : Item). (x.0, cond (id_eq x.0 a.id) (run_to n a) x.1))
+        length-map (items_rekeyed b.id ((rest n).id, rest n) r.rope) (λ (x : Item). (x.0, cond (id_eq x.0 a.id) (run_to n a) x.1))
         ∙ length-map r.rope (λ (x : Item). cond (id_eq x.0 b.id) ((rest n).id, rest n) x)
 
   -- the cells with the border before k of them, from the place m on, and behind these: they differ in the marks of these
@@ -287,7 +286,7 @@ module _ (r : Runs) (s : AreRuns r) (a b : Run) (border : IsBorder r.rope a b) w
         let i : n + k ≤ a.len + b.len = omega (arith, t.at) in
         takes-front n k i (items-now ∙ ap items (sym t.at)) t.hidden ∙ ap (λ q. cells_hiding q k (cells_in r)) (sym t.is)
 
-    pub taken-cells : IsTakenFirst x k a b n ⊎ IsTakenLast x k a b n → all_cells r.letters (shifted n a b r.rope) ≡ cells_hiding x k (cells_in r)
+    pub taken-cells : IsTakenFirst x k a b n ⊎ IsTakenLast x k a b n → all_cells r.letters (border_shifted n a b r.rope) ≡ cells_hiding x k (cells_in r)
     taken-cells taken = ap (all_cells r.letters) (shifted-is n move) ∙ elim taken [
       | inl t ↦ first-hidden t
       | inr t ↦ last-hidden t

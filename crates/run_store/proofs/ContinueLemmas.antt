@@ -1,5 +1,5 @@
 -- A cell that continues a run.
-use Rattle.std.proofs.Common.{◌≡◌, ◌⊎◌, ℕ, suc, ◌+◌, ◌<◌, ◌≤◌, Bool, true, false, not, ap, arith, inl, inr, refl, subst, sym, ◌∙◌}
+use Rattle.std.proofs.Common.{◌≡◌, ℕ, suc, ◌+◌, ◌<◌, Bool, true, false, ap, arith, inl, inr, refl, subst, sym, ◌∙◌}
 use Rattle.std.specs.Prelude.{Some, if◌then◌else◌}
 use Rattle.std.proofs.lemmas.Bool.{and_parts, cases_lt, not-true}
 use Rattle.fugue_ids.proofs.IdentifierLemmas.{id_eq-true, origin_eq-refl, origin_eq-true}
@@ -7,13 +7,12 @@ use Rattle.fugue_ids.specs.Runs.{id_behind, next_id}
 use Rattle.node_rope.specs.Items.{value_under}
 use Rattle.std.specs.List.{Contains}
 use Rattle.run_store.specs.Cells.{cell_of_origin, cell_ids}
-use Rattle.run_store.specs.Growth.{IsNew}
-use Rattle.run_store.specs.Heads.{head_behind, lettered}
+use Rattle.run_store.specs.Growth.{MayComeTo}
+use Rattle.run_store.specs.Heads.{head_behind, cell_with_letter}
 use Rattle.run_store.specs.NewCells.{cell_depth, forest_beside, has_right, is_continued, shares_right}
-use Rattle.run_store.specs.Runs.{AreRuns, cells_in, first_of}
+use Rattle.run_store.specs.Runs.{AreRuns, Kept, cells_in, first_of}
 use Rattle.run_store.specs.declared.cell.Head.{Head}
 use Rattle.run_store.specs.declared.run.Run.{Run}
-use Rattle.run_store.specs.declared.run.Runs.{Runs}
 use Rattle.run_store.proofs.FindLemmas.{cell-found, spot-held}
 use Rattle.run_store.proofs.InsertLemmas.{fresh-first}
 use Rattle.run_store.proofs.HeadLemmas.{behind-depth, behind-hidden, behind-id, behind-right}
@@ -26,7 +25,7 @@ pub record IsNext (last h : Head) : Type 0 where
   pub right : h.right ≡ last.right
   pub shown : last.hidden ≡ false
 
-pub continued-is : (last h : Head) (ch : ℕ) → is_continued (Some (lettered last ch)) h.id h.left h.right ≡ true → IsNext last h
+pub continued-is : (last h : Head) (ch : ℕ) → is_continued (Some (cell_with_letter last ch)) h.id h.left h.right ≡ true → IsNext last h
 continued-is last h ch t =
     let a = and_parts _ _ t in
     let b = and_parts _ _ a.1 in
@@ -39,10 +38,10 @@ continued-is last h ch t =
     }
 
 -- the same of an answer
-pub next-by : (b : Bool) (last k h : Head) → b ≡ is_continued (Some (lettered last 0)) h.id h.left h.right → b ≡ true → last ≡ k → IsNext k h
+pub next-by : (b : Bool) (last k h : Head) → b ≡ is_continued (Some (cell_with_letter last 0)) h.id h.left h.right → b ≡ true → last ≡ k → IsNext k h
 next-by b last k h e t same = subst (λ (j : Head). IsNext j h) same (continued-is last h 0 (sym e ∙ t))
 
-module _ (r : Runs) (s : AreRuns r) (run : Run) (o : ℕ) (v : value_under run.id r.rope ≡ Some run) (l : o < run.len) (h : Head) (count : ℕ) (new : IsNew (cells_in r) h count)
+module _ (r : Kept) (s : AreRuns r) (run : Run) (o : ℕ) (v : value_under run.id r.rope ≡ Some run) (l : o < run.len) (h : Head) (count : ℕ) (new : MayComeTo (cells_in r) h count)
     (n : IsNext (head_behind o (first_of run)) h) where
   abbrev last : Head
   last = head_behind o (first_of run)

@@ -8,10 +8,9 @@ use Rattle.fugue_ids.proofs.IdentifierLemmas.{id_eq-false, id_eq-true}
 use Rattle.node_rope.specs.Items.{value_under}
 use Rattle.run_store.specs.Cells.{cell_ids}
 use Rattle.run_store.specs.Heads.{head_behind}
-use Rattle.run_store.specs.Runs.{AreRuns, IsSpot, all_cells, cells_in, cells_of, first_of, letters_of}
+use Rattle.run_store.specs.Runs.{AreRuns, IsCellSpot, Kept, all_cells, cells_in, cells_of, first_of, letters_of}
 use Rattle.run_store.specs.Standings.{cells_to}
 use Rattle.run_store.specs.declared.run.Run.{Run}
-use Rattle.run_store.specs.declared.run.Runs.{Runs}
 use Rattle.run_store.proofs.HeadLemmas.{length-typed}
 use Rattle.run_store.proofs.InsertLemmas.{index-placed}
 use Rattle.run_store.proofs.PlaceLemmas.{placed-at, run-at}
@@ -39,7 +38,7 @@ compared i j v w less more same = elim (cases_order i j) [
   ]
 ]
 
-module _ (r : Runs) (s : AreRuns r) where
+module _ (r : Kept) (s : AreRuns r) where
   pub run-width : (i j : ℕ) (x : Item) → slice_get r.rope i ≡ Some x → i < j → cells_to r.letters r.rope i + x.1.len ≤ cells_to r.letters r.rope j
   run-width i j x e l =
       omega (
@@ -50,12 +49,12 @@ module _ (r : Runs) (s : AreRuns r) where
       )
 
   -- the index of the cell at a spot
-  pub index-spot : (x : Identifier) (run : Run) (o i : ℕ) → IsSpot r.rope x run o → slice_get r.rope i ≡ Some (run.id, run) → index_of (cell_ids (cells_in r)) x ≡ cells_to r.letters r.rope i + o
+  pub index-spot : (x : Identifier) (run : Run) (o i : ℕ) → IsCellSpot r.rope x run o → slice_get r.rope i ≡ Some (run.id, run) → index_of (cell_ids (cells_in r)) x ≡ cells_to r.letters r.rope i + o
   index-spot x run o i at e =
       ap (index_of (cell_ids (cells_in r))) at.is ∙ index-placed r (take i r.rope) run o _ (placed-at r s i run o e at.inside) at.inside
 
   -- the cells of different runs stand as these do
-  pub earlier-runs : (x y : Identifier) (run other : Run) (o p i j : ℕ) → id_eq run.id other.id ≡ false → IsSpot r.rope x run o → IsSpot r.rope y other p → slice_get r.rope i ≡ Some (run.id, run)
+  pub earlier-runs : (x y : Identifier) (run other : Run) (o p i j : ℕ) → id_eq run.id other.id ≡ false → IsCellSpot r.rope x run o → IsCellSpot r.rope y other p → slice_get r.rope i ≡ Some (run.id, run)
       → slice_get r.rope j ≡ Some (other.id, other) → nat_lt i j ≡ nat_lt (index_of (cell_ids (cells_in r)) x) (index_of (cell_ids (cells_in r)) y)
   earlier-runs x y run other o p i j apart at by e f =
       let a = index-spot x run o i at e in
@@ -70,7 +69,7 @@ module _ (r : Runs) (s : AreRuns r) where
       same_key k l q = let same : k ≡ l = cc in ap (λ (z : Item). z.0) same
 
   -- and those of one run by their offsets
-  pub earlier-within : (x y : Identifier) (run other : Run) (o p : ℕ) → id_eq run.id other.id ≡ true → IsSpot r.rope x run o → IsSpot r.rope y other p
+  pub earlier-within : (x y : Identifier) (run other : Run) (o p : ℕ) → id_eq run.id other.id ≡ true → IsCellSpot r.rope x run o → IsCellSpot r.rope y other p
       → nat_lt o p ≡ nat_lt (index_of (cell_ids (cells_in r)) x) (index_of (cell_ids (cells_in r)) y)
   earlier-within x y run other o p t at by =
       let v : Some run ≡ Some other = sym at.held ∙ ap (λ k. value_under k r.rope) (id_eq-true run.id other.id t) ∙ by.held in

@@ -2,7 +2,7 @@
 use Rattle.std.proofs.Common.{◌≡◌, ◌+◌, ◌≤◌, ℕ, arith, refl, subst, sym, true}
 use Rattle.std.proofs.lemmas.Bool.{true≢false}
 use Rattle.std.specs.Prelude.{IfNone, IfSome, Option, None, Some, is_some, Result, Ok, Err, OnErr, OnOk}
-use Rattle.run_store.specs.Stored.{IsRaised}
+use Rattle.run_store.specs.Stored.{IsRaisedBy}
 
 module _ {X T E : Type 0} (P : X → Type 0) where
   pub either : (res : Result T E) (a b now : X) → OnOk res (now ≡ a) → OnErr res (now ≡ b) → P a → P b → P now
@@ -17,16 +17,16 @@ module _ {X T E : Type 0} (P : X → Type 0) where
   where-err (Ok t) b now err q = tt
   where-err (Err e) b now err q = subst P (sym err) q
 
-pub kept-raised : (most n : ℕ) → IsRaised most n n
+pub kept-raised : (most n : ℕ) → IsRaisedBy most n n
 kept-raised most n = record { kept = omega arith; bound = omega arith }
 
-pub one-raised : (n m : ℕ) → m ≡ n + 1 → IsRaised 1 n m
+pub one-raised : (n m : ℕ) → m ≡ n + 1 → IsRaisedBy 1 n m
 one-raised n m e = record { kept = omega (arith, e); bound = omega (arith, e) }
 
-pub raised-more : (a b n m : ℕ) → a ≤ b → IsRaised a n m → IsRaised b n m
+pub raised-more : (a b n m : ℕ) → a ≤ b → IsRaisedBy a n m → IsRaisedBy b n m
 raised-more a b n m l r = record { kept = r.kept; bound = omega (arith, l, r.bound) }
 
-pub raised-twice : (a b n m k : ℕ) → IsRaised a n m → IsRaised b m k → IsRaised (a + b) n k
+pub raised-twice : (a b n m k : ℕ) → IsRaisedBy a n m → IsRaisedBy b m k → IsRaisedBy (a + b) n k
 raised-twice a b n m k r s = record { kept = omega (arith, r.kept, s.kept); bound = omega (arith, r.bound, s.bound) }
 
 -- what holds whatever was answered

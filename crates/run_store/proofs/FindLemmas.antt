@@ -12,23 +12,22 @@ use Rattle.std.proofs.lemmas.List.{map-append}
 use Rattle.std.proofs.lemmas.Option.{none-some}
 use Rattle.run_store.specs.Cells.{cell_of, cell_ids}
 use Rattle.run_store.specs.Heads.{head_behind}
-use Rattle.run_store.specs.Runs.{AreRuns, IsSpot, cells_in, first_of}
+use Rattle.run_store.specs.Runs.{AreRuns, IsCellSpot, Kept, cells_in, first_of}
 use Rattle.run_store.specs.declared.cell.Cell.{Cell}
 use Rattle.run_store.specs.declared.run.Run.{Run}
-use Rattle.run_store.specs.declared.run.Runs.{Runs}
 use Rattle.run_store.proofs.CellLemmas.{cell-at, cell-none, others-absent}
 use Rattle.run_store.proofs.FloorLemmas.{contains-run, floor-is}
 use Rattle.run_store.proofs.HeadLemmas.{behind-depth, behind-id}
 use Rattle.run_store.proofs.CutLemmas.{cell-fits}
 use Rattle.run_store.proofs.RunsLemmas.{cell_there, cells_before, cells_behind, kept-run, located}
 
-module _ (r : Runs) (s : AreRuns r) (x : Identifier) where
+module _ (r : Kept) (s : AreRuns r) (x : Identifier) where
   pub no-floor : IsFloor r.rope x None → Contains (cell_ids (cells_in r)) x → ⊥
   no-floor f c = let p = contains-run r.letters r.count r.rope x s.each c in none-some p.run.id (floor-is r s x None f p).0
 
   -- a cell whose identifier is one of those of a run
   pub spot-in : (k : Identifier) (run : Run) (o : ℕ) → value_under k r.rope ≡ Some run → k.replica ≡ x.replica → x.counter ≡ k.counter + o → o < run.len
-      → IsSpot r.rope x run o
+      → IsCellSpot r.rope x run o
   spot-in k run o v e d l =
       let n : k ≡ run.id = (kept-run r s k run v).named in
       record {
@@ -53,7 +52,7 @@ module _ (r : Runs) (s : AreRuns r) (x : Identifier) where
     counters-up e = let up = at_most_from_le k x f.1 in grind (arith, up, e)
 
   -- the cell at a spot
-  pub cell-found : (run : Run) (o : ℕ) → IsSpot r.rope x run o → cell_of (cells_in r) x ≡ Some (cell_there r.letters run o)
+  pub cell-found : (run : Run) (o : ℕ) → IsCellSpot r.rope x run o → cell_of (cells_in r) x ≡ Some (cell_there r.letters run o)
   cell-found run o spot =
       let l = located r s run o spot.held spot.inside in
       let e = sym spot.is in
@@ -64,7 +63,7 @@ module _ (r : Runs) (s : AreRuns r) (x : Identifier) where
   pub cell-missing : (Contains (cell_ids (cells_in r)) x → ⊥) → cell_of (cells_in r) x ≡ None
   cell-missing n = cell-none x (cells_in r) (others-absent x (cells_in r) n)
 
-  pub spot-held : (run : Run) (o : ℕ) → IsSpot r.rope x run o → Contains (cell_ids (cells_in r)) x
+  pub spot-held : (run : Run) (o : ℕ) → IsCellSpot r.rope x run o → Contains (cell_ids (cells_in r)) x
   spot-held run o spot =
       let l = located r s run o spot.held spot.inside in
       let as_ids = map-append (λ (z : Cell). z.id) (cells_before r.letters l.front run o) (cell_there r.letters run o ∷ cells_behind r.letters run (suc o) l.back) in
@@ -73,12 +72,12 @@ module _ (r : Runs) (s : AreRuns r) (x : Identifier) where
       (contains_middle (cell_ids (cells_before r.letters l.front run o)) (head_behind o (first_of run)).id (cell_ids (cells_behind r.letters run (suc o) l.back))))
 
   -- the numbers of the cell at a spot
-  pub spot-depth : (run : Run) (o : ℕ) → IsSpot r.rope x run o → (head_behind o (first_of run)).key.depth ≤ length (cells_in r)
+  pub spot-depth : (run : Run) (o : ℕ) → IsCellSpot r.rope x run o → (head_behind o (first_of run)).key.depth ≤ length (cells_in r)
   spot-depth run o spot = let k = kept-run r s run.id run spot.held in omega (arith, behind-depth o (first_of run), k.depths, spot.inside, s.counted)
 
-  pub spot-forest : (run : Run) (o : ℕ) → IsSpot r.rope x run o → (head_behind o (first_of run)).key.forest ≤ length (cells_in r)
+  pub spot-forest : (run : Run) (o : ℕ) → IsCellSpot r.rope x run o → (head_behind o (first_of run)).key.forest ≤ length (cells_in r)
   spot-forest run zero spot = let k = kept-run r s run.id run spot.held in omega (arith, k.forests, s.counted)
   spot-forest run (suc o) spot = omega arith
 
-  pub spot-fits : (run : Run) (o : ℕ) → IsSpot r.rope x run o → (run.id.counter + o < 2 ^ 32) × (run.key.depth + o < 2 ^ 32) × (run.start + o < 2 ^ 32)
+  pub spot-fits : (run : Run) (o : ℕ) → IsCellSpot r.rope x run o → (run.id.counter + o < 2 ^ 32) × (run.key.depth + o < 2 ^ 32) × (run.start + o < 2 ^ 32)
   spot-fits run o spot = cell-fits r s run.id run o spot.held spot.inside

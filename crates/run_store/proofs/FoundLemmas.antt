@@ -6,10 +6,9 @@ use Rattle.fugue_ids.specs.Keys.{HasKey}
 use Rattle.fugue_ids.specs.Listed.{index_of}
 use Rattle.run_store.specs.Cells.{cell_ids, keyed_cells}
 use Rattle.run_store.specs.Heads.{head_behind}
-use Rattle.run_store.specs.Runs.{AreRuns, cells_in, first_of}
-use Rattle.run_store.specs.Standings.{BeginsBehind, EndsBefore, IsFound, found_at, index_at}
+use Rattle.run_store.specs.Runs.{AreRuns, Kept, cells_in, first_of}
+use Rattle.run_store.specs.Standings.{BeginsBehind, EndsBefore, IsFoundCell, found_at, index_at}
 use Rattle.run_store.specs.declared.run.Run.{Run}
-use Rattle.run_store.specs.declared.run.Runs.{Runs}
 use Rattle.run_store.specs.declared.standing.Found.{Found}
 use Rattle.run_store.proofs.EarlierLemmas.{index-spot}
 use Rattle.run_store.proofs.FindLemmas.{cell-found, spot-held}
@@ -17,13 +16,13 @@ use Rattle.run_store.proofs.KeyLemmas.{has-key}
 use Rattle.run_store.proofs.PlaceLemmas.{value-there}
 use Rattle.run_store.proofs.RunsLemmas.{cell_there, kept-run}
 
-module _ (r : Runs) (s : AreRuns r) where
+module _ (r : Kept) (s : AreRuns r) where
   -- a cell of the run at a place
-  pub found-in : (run : Run) (i o : ℕ) (f : Found) → f ≡ found_at i o (head_behind o (first_of run)) → slice_get r.rope i ≡ Some (run.id, run) → o < run.len → IsFound r.rope f
+  pub found-in : (run : Run) (i o : ℕ) (f : Found) → f ≡ found_at i o (head_behind o (first_of run)) → slice_get r.rope i ≡ Some (run.id, run) → o < run.len → IsFoundCell r.rope f
   found-in run i o f e at inside =
-      subst (IsFound r.rope) (sym e) (record { run = run; at = at; spot = record { held = value-there r s i run.id run at; inside = inside; is = refl }; key = refl })
+      subst (IsFoundCell r.rope) (sym e) (record { run = run; at = at; spot = record { held = value-there r s i run.id run at; inside = inside; is = refl }; key = refl })
 
-  module _ (f : Found) (is : IsFound r.rope f) where
+  module _ (f : Found) (is : IsFoundCell r.rope f) where
     -- it is one of the cells
     pub found-held : Contains (cell_ids (cells_in r)) f.id
     found-held = spot-held r s f.id is.run f.at.offset is.spot

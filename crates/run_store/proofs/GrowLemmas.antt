@@ -4,7 +4,7 @@ use Rattle.std.specs.Prelude.{slice_index_or, slice_set}
 use Rattle.std.specs.List.{All}
 use Rattle.std.proofs.lemmas.List.{drop-append-le, length-set, length-take-le, take_all}
 use Rattle.std.proofs.lemmas.List.Elements.{All-head, All-tail, All-cons, All-nil}
-use Rattle.run_store.specs.Growth.{AreGrown, IsLonger}
+use Rattle.run_store.specs.Growth.{AreGrown, HasMoreLetters}
 use Rattle.run_store.specs.Heads.{typed_cells}
 use Rattle.run_store.specs.Runs.{IsRun, all_cells, first_of, letters_of}
 use Rattle.run_store.specs.declared.run.Run.{Run}
@@ -89,7 +89,7 @@ part-longer start n xs more e =
     ∙ ap (λ ys. ys ++ more) (sym (take_all n (drop start xs) (omega (arith, l))))
 
 pub longer-pushed : (L : List (List ℕ)) (run : Run) (text : List ℕ) → 0 < run.len → run.start + run.len ≡ length (slice_index_or L run.stretch [])
-    → IsLonger L (slice_set L run.stretch (slice_index_or L run.stretch [] ++ text)) run text (record run { len = run.len + length text })
+    → HasMoreLetters L (slice_set L run.stretch (slice_index_or L run.stretch [] ++ text)) run text (record run { len = run.len + length text })
 longer-pushed L run text some e =
     let old = slice_index_or L run.stretch [] in
     let there = stretch-there L run.stretch (omega (arith, some, e)) in
@@ -108,7 +108,7 @@ longer-pushed L run text some e =
     }
 
 pub longer-copied : (L : List (List ℕ)) (run : Run) (text : List ℕ) (n : ℕ) → 0 < length text → n ≡ length L → run.start + run.len ≤ length (slice_index_or L run.stretch [])
-    → IsLonger L (L ++ (letters_of L run ++ text) ∷ []) run text (record run { stretch = n; start = 0; len = run.len + length text })
+    → HasMoreLetters L (L ++ (letters_of L run ++ text) ∷ []) run text (record run { stretch = n; start = 0; len = run.len + length text })
 longer-copied L run text n some is within =
     let new = letters_of L run ++ text in
     let now = ap (λ k. slice_index_or (L ++ new ∷ []) k []) is ∙ new-stretch L new in

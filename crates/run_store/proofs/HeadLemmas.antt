@@ -3,7 +3,7 @@ use Rattle.std.proofs.Common.{◌≡◌, ◌≢◌, ℕ, zero, suc, ◌+◌, ◌
 use Rattle.std.specs.Prelude.{Bool, Some}
 use Rattle.fugue_ids.specs.Identifiers.{Identifier}
 use Rattle.fugue_ids.specs.Runs.{id_behind}
-use Rattle.run_store.specs.Heads.{head_behind, lettered, next_head, typed_cells}
+use Rattle.run_store.specs.Heads.{head_behind, cell_with_letter, next_head, typed_cells}
 use Rattle.run_store.specs.declared.cell.Head.{Head}
 use Rattle.fugue_ids.proofs.RunLemmas.{none_behind}
 
@@ -50,7 +50,7 @@ behind-depth (suc n) h = refl
 pub typed-append : (h : Head) (xs ys : List ℕ) → typed_cells h (xs ++ ys) ≡ typed_cells h xs ++ typed_cells (head_behind (length xs) h) ys
 typed-append h [] ys = refl
 typed-append h (x ∷ xs) ys =
-    ap (λ cs. lettered h x ∷ cs) (typed-append (next_head h) xs ys ∙ ap (λ k. typed_cells (next_head h) xs ++ typed_cells k ys) (behind-next (length xs) h))
+    ap (λ cs. cell_with_letter h x ∷ cs) (typed-append (next_head h) xs ys ∙ ap (λ k. typed_cells (next_head h) xs ++ typed_cells k ys) (behind-next (length xs) h))
 
 pub length-typed : (h : Head) (xs : List ℕ) → length (typed_cells h xs) ≡ length xs
 length-typed h [] = refl
@@ -58,14 +58,14 @@ length-typed h (x ∷ xs) = ap suc (length-typed (next_head h) xs)
 
 -- the cell at a place of a run
 pub typed-at : (h : Head) (o : ℕ) (xs : List ℕ) → o < length xs
-    → typed_cells h xs ≡ typed_cells h (take o xs) ++ lettered (head_behind o h) (get_or xs o 0) ∷ typed_cells (head_behind (suc o) h) (drop (suc o) xs)
+    → typed_cells h xs ≡ typed_cells h (take o xs) ++ cell_with_letter (head_behind o h) (get_or xs o 0) ∷ typed_cells (head_behind (suc o) h) (drop (suc o) xs)
 typed-at h o [] l = absurd (omega (arith, l))
-typed-at h zero (x ∷ xs) l = ap (λ k. lettered h x ∷ typed_cells k xs) (behind-next 0 h)
+typed-at h zero (x ∷ xs) l = ap (λ k. cell_with_letter h x ∷ typed_cells k xs) (behind-next 0 h)
 typed-at h (suc o) (x ∷ xs) l =
     let r : o < length xs = omega (arith, l) in
-    ap (λ cs. lettered h x ∷ cs)
+    ap (λ cs. cell_with_letter h x ∷ cs)
     (typed-at (next_head h) o xs r
-    ∙ (λ i. typed_cells (next_head h) (take o xs) ++ lettered (behind-next o h i) (get_or xs o 0) ∷ typed_cells (behind-next (suc o) h i) (drop (suc o) xs)))
+    ∙ (λ i. typed_cells (next_head h) (take o xs) ++ cell_with_letter (behind-next o h i) (get_or xs o 0) ∷ typed_cells (behind-next (suc o) h i) (drop (suc o) xs)))
 
 pub behind-forest : (n : ℕ) (h : Head) → 0 < n → (head_behind n h).key.forest ≡ 0
 behind-forest zero h l = absurd (omega (arith, l))

@@ -11,13 +11,12 @@ use Rattle.node_rope.specs.Beside.{put_under}
 use Rattle.node_rope.specs.Items.{value_under}
 use Rattle.run_store.specs.Cells.{cell_hiding, cell_ids, cells_hiding, is_hidden_cell}
 use Rattle.run_store.specs.Changes.{HidesPart, MakesCells}
-use Rattle.run_store.specs.Heads.{head_behind, lettered, next_head, typed_cells}
-use Rattle.run_store.specs.Runs.{AreLetters, AreRuns, IsRun, IsSpot, all_cells, cells_in, first_of, letters_of, parted}
-use Rattle.run_store.specs.Stored.{IsRaised}
+use Rattle.run_store.specs.Heads.{head_behind, cell_with_letter, next_head, typed_cells}
+use Rattle.run_store.specs.Runs.{AreLetters, AreRuns, IsRun, IsCellSpot, Kept, all_cells, cells_in, first_of, letters_of, rope_parted}
+use Rattle.run_store.specs.Stored.{IsRaisedBy}
 use Rattle.run_store.specs.declared.cell.Cell.{Cell}
 use Rattle.run_store.specs.declared.cell.Head.{Head}
 use Rattle.run_store.specs.declared.run.Run.{Run}
-use Rattle.run_store.specs.declared.run.Runs.{Runs}
 use Rattle.run_store.proofs.CellLemmas.{hidden-at, hiding-at, others-back, others-front}
 use Rattle.run_store.proofs.CutLemmas.{cut-cells, cut-longer, cut-sound, cut_runs}
 use Rattle.run_store.proofs.EitherLemmas.{any-ok, either, kept-raised, on-ok, one-raised, raised-twice, where-err, where-ok}
@@ -52,7 +51,7 @@ hiding-more (suc m) n x cs =
     ∙ ap (λ k. cells_hiding x k cs) e
 
 -- a store whose cells are those of another one with some hidden
-pub marked-sound : (r : Runs) → AreRuns r → (x : Identifier) (n : ℕ) (now : Runs) → now.count ≡ r.count → now.letters ≡ r.letters → All (IsRun now.letters now.count) now.rope
+pub marked-sound : (r : Kept) → AreRuns r → (x : Identifier) (n : ℕ) (now : Kept) → now.count ≡ r.count → now.letters ≡ r.letters → All (IsRun now.letters now.count) now.rope
     → cells_in now ≡ cells_hiding x n (cells_in r) → AreRuns now
 marked-sound r s x n now count letters each cells = record {
   each = each;
@@ -74,9 +73,9 @@ pub hides-typed : (ls : List ℕ) (h : Head) (front back cs : List Cell) → All
     → cells_hiding h.id (length ls) cs ≡ front ++ (typed_cells (record h { hidden = true }) ls ++ back)
 hides-typed [] h front back cs d e = e
 hides-typed (ch ∷ ls) h front back cs d e =
-    let hidden : Cell = lettered (record h { hidden = true }) ch in
+    let hidden : Cell = cell_with_letter (record h { hidden = true }) ch in
     let rest : List Cell = typed_cells (next_head h) ls ++ back in
-    let one : map (cell_hiding h.id) cs ≡ front ++ hidden ∷ rest = hides-one cs d front (lettered h ch) rest e in
+    let one : map (cell_hiding h.id) cs ≡ front ++ hidden ∷ rest = hides-one cs d front (cell_with_letter h ch) rest e in
     let apart = subst (AllPairs (λ x y. x ≢ y)) (sym (ids-hiding h.id cs)) d in
     hides-typed ls (next_head h) (front ++ hidden ∷ []) back (map (cell_hiding h.id) cs) apart (one ∙ sym (append_assoc front (hidden ∷ []) rest))
     ∙ append_assoc front (hidden ∷ []) (typed_cells (next_head (record h { hidden = true })) ls ++ back)
@@ -95,7 +94,7 @@ marked-run L n k run m this = record {
 }
 
 -- the mark of the cell at a spot is that of its run
-module _ (r : Runs) (s : AreRuns r) (x : Identifier) (run : Run) (o : ℕ) (spot : IsSpot r.rope x run o) where
+module _ (r : Kept) (s : AreRuns r) (x : Identifier) (run : Run) (o : ℕ) (spot : IsCellSpot r.rope x run o) where
   pub spot-hidden : is_hidden_cell (cells_in r) x ≡ run.hidden
   spot-hidden =
       let l = located r s run o spot.held spot.inside in
@@ -136,11 +135,11 @@ module _ (r : Runs) (s : AreRuns r) (x : Identifier) (run : Run) (o : ℕ) (spot
       ∙ (λ i. cells_hiding (sym spot.is i) (there i) (cells_in r))
 
 -- a run, hidden
-module _ (r : Runs) (s : AreRuns r) (run : Run) (v : value_under run.id r.rope ≡ Some run) where
+module _ (r : Kept) (s : AreRuns r) (run : Run) (v : value_under run.id r.rope ≡ Some run) where
   abbrev pub hidden_run : Run
   hidden_run = record run { hidden = true }
 
-  abbrev pub hidden_runs : Runs
+  abbrev pub hidden_runs : Kept
   hidden_runs = record { rope = put_under run.id hidden_run r.rope; letters = r.letters; count = r.count }
 
   this : IsRun r.letters r.count (run.id, run)
@@ -179,36 +178,44 @@ module _ (r : Runs) (s : AreRuns r) (run : Run) (v : value_under run.id r.rope �
   hiding-length = length-map r.rope (λ (x : Item). (x.0, cond (id_eq x.0 run.id) hidden_run x.1))
 
 -- a part of a run, hidden
-module _ (r : Runs) (s : AreRuns r) (run : Run) (at : ℕ) (v : value_under run.id r.rope ≡ Some run) (behind : 0 < at) (before : at < run.len) (part : Run)
-    (held : value_under part.id (parted at run r.rope) ≡ Some part) where
-  abbrev cut : Runs
+module _ (r : Kept) (s : AreRuns r) (run : Run) (at : ℕ) (v : value_under run.id r.rope ≡ Some run) (behind : 0 < at) (before : at < run.len) (part : Run)
+    (held : value_under part.id (rope_parted at run r.rope) ≡ Some part) where
+  abbrev cut : Kept
   cut = cut_runs r s run at v behind before
 
   sound : AreRuns cut
   sound = cut-sound r s run at v behind before
 
-  pub hides-part : {T E : Type 0} (res : Result T E) (now : Runs) (rope : List Item) → rope ≡ put_under part.id (record part { hidden = true }) (parted at run r.rope)
-      → OnOk res (now ≡ record { rope = rope; letters = r.letters; count = r.count }) → OnErr res (now ≡ r) → HidesPart res r now part.id part.len
-  hides-part res now rope e ok err =
-      let to = hidden_runs cut sound part held in
-      let is : ◌≡◌ {A = Runs} (record { rope = rope; letters = r.letters; count = r.count }) to = λ i. record { rope = e i; letters = r.letters; count = r.count } in
-      let made = on-ok res (now ≡ record { rope = rope; letters = r.letters; count = r.count }) (now ≡ to) (λ q. q ∙ is) ok in
-      record {
-        sound = either AreRuns res to r now made err (hiding-sound cut sound part held) s;
-        ok = where-ok (λ (n : Runs). cells_in n ≡ cells_hiding part.id part.len (cells_in r)) res to now made
-            (hiding-cells cut sound part held ∙ ap (cells_hiding part.id part.len) (cut-cells r s run at v behind before));
-        raised = either (λ (n : Runs). IsRaised 1 (length r.rope) (length n.rope)) res to r now made err
-            (one-raised (length r.rope) (length to.rope) (hiding-length cut sound part held ∙ cut-longer r s run at v behind before)) (kept-raised 1 (length r.rope));
-        err = err;
-      }
+  abbrev to : Kept
+  to = hidden_runs cut sound part held
+
+  abbrev with_rope : List Item → Kept
+  with_rope xs = record { rope = xs; letters = r.letters; count = r.count }
+
+  -- what a call left that puts it so, or changes nothing for want of memory
+  module _ {T E : Type 0} (res : Result T E) (now rope : List Item) (e : rope ≡ put_under part.id (record part { hidden = true }) (rope_parted at run r.rope)) (ok : OnOk res (now ≡ rope))
+      (err : OnErr res (now ≡ r.rope)) where
+    made : OnOk res (now ≡ to.rope)
+    made = on-ok res (now ≡ rope) (now ≡ to.rope) (λ q. q ∙ e) ok
+
+    pub hides-sound : AreRuns (with_rope now)
+    hides-sound = either (λ (xs : List Item). AreRuns (with_rope xs)) res to.rope r.rope now made err (hiding-sound cut sound part held) s
+
+    pub hides-part : HidesPart res r (with_rope now) part.id part.len
+    hides-part = record {
+      ok = where-ok (λ (xs : List Item). cells_in (with_rope xs) ≡ cells_hiding part.id part.len (cells_in r)) res to.rope now made
+          (hiding-cells cut sound part held ∙ ap (cells_hiding part.id part.len) (cut-cells r s run at v behind before));
+      raised = either (λ (xs : List Item). IsRaisedBy 1 (length r.rope) (length xs)) res to.rope r.rope now made err
+          (one-raised (length r.rope) (length to.rope) (hiding-length cut sound part held ∙ cut-longer r s run at v behind before)) (kept-raised 1 (length r.rope));
+      err = where-err (λ (xs : List Item). ◌≡◌ {A = Kept} (with_rope xs) r) res r.rope now err refl;
+    }
 
 -- by at most one run more is by at most two
-pub hides-makes : {T E : Type 0} (res : Result T E) (old cut new : Runs) (x : Identifier) (n : ℕ) → cells_in cut ≡ cells_in old → IsRaised 1 (length old.rope) (length cut.rope)
+pub hides-makes : {T E : Type 0} (res : Result T E) (old cut new : Kept) (x : Identifier) (n : ℕ) → cells_in cut ≡ cells_in old → IsRaisedBy 1 (length old.rope) (length cut.rope)
     → HidesPart res cut new x n → MakesCells res old new (cells_hiding x n (cells_in old))
 hides-makes res old cut new x n cells more h = record {
-  sound = h.sound;
   ok = on-ok res (cells_in new ≡ cells_hiding x n (cells_in cut)) (cells_in new ≡ cells_hiding x n (cells_in old)) (λ q. q ∙ ap (cells_hiding x n) cells) h.ok;
-  err = where-err (λ (z : Runs). cells_in z ≡ cells_in old) res cut new h.err cells;
-  raised = any-ok res (IsRaised 2 (length old.rope) (length new.rope)) (raised-twice 1 1 (length old.rope) (length cut.rope) (length new.rope) more h.raised);
-  refused = where-err (λ (z : Runs). IsRaised 1 (length old.rope) (length z.rope)) res cut new h.err more;
+  err = where-err (λ (z : Kept). cells_in z ≡ cells_in old) res cut new h.err cells;
+  raised = any-ok res (IsRaisedBy 2 (length old.rope) (length new.rope)) (raised-twice 1 1 (length old.rope) (length cut.rope) (length new.rope) more h.raised);
+  refused = where-err (λ (z : Kept). IsRaisedBy 1 (length old.rope) (length z.rope)) res cut new h.err more;
 }

@@ -5,50 +5,47 @@ use Rattle.fugue_ids.specs.Identifiers.{Identifier}
 use Rattle.fugue_ids.specs.Runs.{id_behind}
 use Rattle.run_store.specs.Cells.{cell_ids, cells_hiding, is_hidden_cell}
 use Rattle.run_store.specs.Changes.{HidesSome, IsHiddenTo}
-use Rattle.run_store.specs.Hiding.{AreHeld, AreHidden}
-use Rattle.run_store.specs.Runs.{AreRuns, cells_in}
-use Rattle.run_store.specs.declared.run.Runs.{Runs}
+use Rattle.run_store.specs.Hiding.{HaveCells, AreHidden}
+use Rattle.run_store.specs.Runs.{Kept, cells_in}
 use Rattle.run_store.proofs.HideLemmas.{hiding-ids, hiding-more}
 
-module _ (old : Runs) (x : Identifier) (count : ℕ) where
+module _ (old : Kept) (x : Identifier) (count : ℕ) where
   -- the first are hidden; where all were, nothing has changed
-  pub record IsHidingRun (now : Runs) (done : ℕ) : Type 0 where
+  pub record IsHidingRun (now : Kept) (done : ℕ) : Type 0 where
     pub within : done ≤ count
     pub hidden : IsHiddenTo old x done 0 now
     pub again : AreHidden (cells_in old) x count → now ≡ old
 
-  pub hiding-none : AreRuns old → IsHidingRun old 0
-  hiding-none s = record { within = omega arith; hidden = record { sound = s; cells = refl; raised = record { kept = omega arith; bound = omega arith } }; again = λ a. refl }
+  pub hiding-none : IsHidingRun old 0
+  hiding-none = record { within = omega arith; hidden = record { cells = refl; raised = record { kept = omega arith; bound = omega arith } }; again = λ a. refl }
 
-  pub hiding-all : (now : Runs) (done : ℕ) → IsHidingRun now done → count ≤ done → IsHiddenTo old x count 0 now
+  pub hiding-all : (now : Kept) (done : ℕ) → IsHidingRun now done → count ≤ done → IsHiddenTo old x count 0 now
   hiding-all now done w all = let e : done ≡ count = omega (arith, w.within, all) in subst (λ n. IsHiddenTo old x n 0 now) e w.hidden
 
-  module _ (now : Runs) (done : ℕ) (w : IsHidingRun now done) (less : done < count) where
-    pub next-held : AreHeld (cells_in old) x count → Contains (cell_ids (cells_in now)) (id_behind x done)
+  module _ (now : Kept) (done : ℕ) (w : IsHidingRun now done) (less : done < count) where
+    pub next-held : HaveCells (cells_in old) x count → Contains (cell_ids (cells_in now)) (id_behind x done)
     next-held held = subst (λ ids. Contains ids (id_behind x done)) (sym (ap cell_ids w.hidden.cells ∙ hiding-ids done x (cells_in old))) (held done less)
 
-    module _ (next : Runs) (again : is_hidden_cell (cells_in now) (id_behind x done) ≡ true → next ≡ now) where
+    module _ (next : Kept) (again : is_hidden_cell (cells_in now) (id_behind x done) ≡ true → next ≡ now) where
       pub stays-hidden : AreHidden (cells_in old) x count → next ≡ old
       stays-hidden a =
           let same = w.again a in
-          again (subst (λ (z : Runs). is_hidden_cell (cells_in z) (id_behind x done) ≡ true) (sym same) (a done less)) ∙ same
+          again (subst (λ (z : Kept). is_hidden_cell (cells_in z) (id_behind x done) ≡ true) (sym same) (a done less)) ∙ same
 
       pub hiding-next : {E : Type 0} (n : ℕ) → HidesSome {E = E} (Ok n) now next (id_behind x done) (count - done) → IsHidingRun next (done + n)
       hiding-next n h =
           record {
             within = omega (arith, w.within, h.bound);
             hidden = record {
-              sound = h.sound;
               cells = h.ok ∙ ap (cells_hiding (id_behind x done) n) w.hidden.cells ∙ hiding-more done n x (cells_in old);
               raised = record { kept = omega (arith, w.hidden.raised.kept, h.raised.kept); bound = omega (arith, w.hidden.raised.bound, h.raised.bound, h.some) };
             };
             again = stays-hidden;
           }
 
-    pub hiding-stopped : {E : Type 0} (e : E) (next : Runs) → HidesSome {E = E} (Err e) now next (id_behind x done) (count - done) → IsHiddenTo old x done 1 next
+    pub hiding-stopped : {E : Type 0} (e : E) (next : Kept) → HidesSome {E = E} (Err e) now next (id_behind x done) (count - done) → IsHiddenTo old x done 1 next
     hiding-stopped e next h =
         record {
-          sound = h.sound;
           cells = h.err ∙ w.hidden.cells;
           raised = record { kept = omega (arith, w.hidden.raised.kept, h.refused.kept); bound = omega (arith, w.hidden.raised.bound, h.refused.bound) };
         }

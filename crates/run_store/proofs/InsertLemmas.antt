@@ -10,13 +10,12 @@ use Rattle.fugue_ids.specs.Listed.{index_of}
 use Rattle.fugue_ids.specs.Runs.{id_behind}
 use Rattle.fugue_ids.proofs.ListLemmas.{all_from_contains, all_pairs_across, all_pairs_append, all_pairs_before, all_pairs_behind, all_pairs_nil, contains_cases, contains_none}
 use Rattle.run_store.specs.Cells.{cell_ids}
-use Rattle.run_store.specs.Growth.{AreFresh, IsNew, inserted_at}
+use Rattle.run_store.specs.Growth.{AreFresh, MayComeTo, inserted_at}
 use Rattle.run_store.specs.Heads.{head_behind, next_head, typed_cells}
-use Rattle.run_store.specs.Runs.{AreLetters, AreRuns, IsRun, all_cells, cells_in, cells_of, first_of, letters_of}
+use Rattle.run_store.specs.Runs.{AreLetters, AreRuns, IsRun, Kept, all_cells, cells_in, cells_of, first_of, letters_of}
 use Rattle.run_store.specs.declared.cell.Cell.{Cell}
 use Rattle.run_store.specs.declared.cell.Head.{Head}
 use Rattle.run_store.specs.declared.run.Run.{Run}
-use Rattle.run_store.specs.declared.run.Runs.{Runs}
 use Rattle.run_store.proofs.CellLemmas.{index-at}
 use Rattle.run_store.proofs.GrowLemmas.{part-longer, set-stretch}
 use Rattle.run_store.proofs.HeadLemmas.{length-typed}
@@ -83,7 +82,7 @@ distinct-inserted cs k h text d fresh =
     ]))))
 
 -- the place of the cell at a place of a run
-pub index-placed : (r : Runs) (front : List Item) (run : Run) (o : ℕ) (back : List Item) → IsPlaced r front run o back → o < run.len
+pub index-placed : (r : Kept) (front : List Item) (run : Run) (o : ℕ) (back : List Item) → IsPlaced r front run o back → o < run.len
     → index_of (cell_ids (cells_in r)) (head_behind o (first_of run)).id ≡ length (all_cells r.letters front) + o
 index-placed r front run o back p l =
     let x = (head_behind o (first_of run)).id in
@@ -101,12 +100,12 @@ length-inserted cs new k within =
     omega (arith, length-append (take k cs) (new ++ drop k cs), length-append new (drop k cs), length-append (take k cs) (drop k cs), ap length e)
 
 -- the first identifier of new cells is fresh
-pub fresh-first : (cs : List Cell) (h : Head) (n : ℕ) → IsNew cs h n → Contains (cell_ids cs) h.id → ⊥
+pub fresh-first : (cs : List Cell) (h : Head) (n : ℕ) → MayComeTo cs h n → Contains (cell_ids cs) h.id → ⊥
 fresh-first cs h n new m = new.fresh 0 new.some (subst (Contains (cell_ids cs)) (sym (none_behind h.id)) m)
 
 -- a new store whose cells are the old ones with new ones
-module _ (r : Runs) (s : AreRuns r) (h : Head) (text : List ℕ) (new : IsNew (cells_in r) h (length text)) where
-  pub joined-sound : (now : Runs) (k : ℕ) → k ≤ length (cells_in r) → All (IsRun now.letters now.count) now.rope → cells_in now ≡ inserted_at k (typed_cells h text) (cells_in r)
+module _ (r : Kept) (s : AreRuns r) (h : Head) (text : List ℕ) (new : MayComeTo (cells_in r) h (length text)) where
+  pub joined-sound : (now : Kept) (k : ℕ) → k ≤ length (cells_in r) → All (IsRun now.letters now.count) now.rope → cells_in now ≡ inserted_at k (typed_cells h text) (cells_in r)
       → now.count ≡ r.count + length text → AreLetters now.letters now.count → AreRuns now
   joined-sound now k within each cells count letters =
       let n = ap length cells ∙ length-inserted (cells_in r) (typed_cells h text) k within in

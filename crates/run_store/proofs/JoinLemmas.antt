@@ -10,13 +10,12 @@ use Rattle.fugue_ids.proofs.ListLemmas.{all_before, all_behind}
 use Rattle.node_rope.specs.Beside.{put_under}
 use Rattle.node_rope.specs.Items.{value_under}
 use Rattle.run_store.specs.Cells.{cell_ids}
-use Rattle.run_store.specs.Growth.{IsLonger, IsNew, cells_inserted_before, cells_inserted_behind, inserted_at, last_id_of_run}
+use Rattle.run_store.specs.Growth.{HasMoreLetters, MayComeTo, cells_inserted_before, cells_inserted_behind, inserted_at, last_id_of_run}
 use Rattle.run_store.specs.Heads.{head_behind, typed_cells}
-use Rattle.run_store.specs.Runs.{AreRuns, IsRun, all_cells, cells_in, cells_of, first_of, letters_of}
+use Rattle.run_store.specs.Runs.{AreRuns, IsRun, Kept, all_cells, cells_in, cells_of, first_of, letters_of}
 use Rattle.run_store.specs.declared.cell.Cell.{Cell}
 use Rattle.run_store.specs.declared.cell.Head.{Head}
 use Rattle.run_store.specs.declared.run.Run.{Run}
-use Rattle.run_store.specs.declared.run.Runs.{Runs}
 use Rattle.run_store.proofs.CellLemmas.{inserted-at, others-absent}
 use Rattle.run_store.proofs.GrowLemmas.{grown-cells, grown-runs}
 use Rattle.run_store.proofs.HeadLemmas.{behind-id, length-typed, typed-append}
@@ -25,7 +24,7 @@ use Rattle.run_store.proofs.PartLemmas.{all-between}
 use Rattle.run_store.proofs.RopeLemmas.{found, put-at, value-none}
 use Rattle.run_store.proofs.RunsLemmas.{Item, cells-append, few-runs, kept-run, keys-apart, keys-other, length-letters, placed}
 
-module _ (r : Runs) (s : AreRuns r) where
+module _ (r : Kept) (s : AreRuns r) where
   -- a run, and where it stands
   module _ (run : Run) (front back : List Item) (is : r.rope ≡ front ++ (run.id, run) ∷ back) (this : IsRun r.letters r.count (run.id, run)) where
     abbrev pub to_run : List Cell
@@ -69,7 +68,7 @@ module _ (r : Runs) (s : AreRuns r) where
         let e = cells-there ∙ append_assoc (all_cells r.letters front) (cells_of r.letters run) (all_cells r.letters back) in
         sym (inserted-at (all_cells r.letters front) new rest) ∙ (λ i. inserted_at (sym index-first i) new (sym e i))
 
-  module _ (h : Head) (text : List ℕ) (new : IsNew (cells_in r) h (length text)) where
+  module _ (h : Head) (text : List ℕ) (new : MayComeTo (cells_in r) h (length text)) where
     -- the new identifier is no key
     pub fresh-key : value_under h.id r.rope ≡ None
     fresh-key = value-none h.id r.rope (keys-other r.letters r.count h.id r.rope s.each (others-absent h.id (cells_in r) (fresh-first (cells_in r) h (length text) new)))
@@ -82,8 +81,8 @@ module _ (r : Runs) (s : AreRuns r) where
 
     -- a run with more letters
     module _ (run : Run) (v : value_under run.id r.rope ≡ Some run) (next : h ≡ head_behind run.len (first_of run)) (M : List (List ℕ)) (longer : Run)
-        (il : IsLonger r.letters M run text longer) where
-      abbrev pub extended : Runs
+        (il : HasMoreLetters r.letters M run text longer) where
+      abbrev pub extended : Kept
       extended = record { rope = put_under run.id longer r.rope; letters = M; count = r.count + length text }
 
       this : IsRun r.letters r.count (run.id, run)

@@ -14,10 +14,9 @@ use Rattle.fugue_ids.specs.declared.key.Key.{Key}
 use Rattle.fugue_ids.specs.declared.limits.TheConstants.{MOST_OPERATIONS}
 use Rattle.run_store.specs.Cells.{cell_of, cell_ids, keyed_cells}
 use Rattle.run_store.specs.Heads.{next_head, typed_cells}
-use Rattle.run_store.specs.Runs.{AreRuns, IsRun, all_cells, cells_in, cells_of, first_of, letters_of}
+use Rattle.run_store.specs.Runs.{AreRuns, IsRun, Kept, all_cells, cells_in, cells_of, first_of, letters_of}
 use Rattle.run_store.specs.declared.cell.Cell.{Cell}
 use Rattle.run_store.specs.declared.cell.Head.{Head}
-use Rattle.run_store.specs.declared.run.Runs.{Runs}
 use Rattle.run_store.proofs.RunsLemmas.{Item, length-letters}
 
 abbrev keyed_cell : Cell → Keyed
@@ -41,7 +40,7 @@ fit-runs L n few (x ∷ xs) a =
     (fit-runs L n few xs (All-tail (IsRun L n) x xs a)))
 
 -- the keys fit
-pub all-fit : (r : Runs) → AreRuns r → All IsFit (keyed_cells (cells_in r))
+pub all-fit : (r : Kept) → AreRuns r → All IsFit (keyed_cells (cells_in r))
 all-fit r s = fit-runs r.letters r.count s.few r.rope s.each
 
 -- what the test of an identifier leaves to show of a key

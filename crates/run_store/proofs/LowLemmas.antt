@@ -14,7 +14,7 @@ use Rattle.fugue_ids.proofs.PartLemmas.{no_first, no_last}
 use Rattle.fugue_ids.proofs.PartedLemmas.{first_front, last_push, last_some, last_tail}
 use Rattle.node_rope.specs.Low.{first_low as first_run, if_low, last_low as last_run, or_else}
 use Rattle.run_store.specs.Cells.{keyed_cells}
-use Rattle.run_store.specs.Heads.{head_behind, lettered, next_head, rank_of, typed_cells}
+use Rattle.run_store.specs.Heads.{head_behind, cell_with_letter, next_head, rank_of, typed_cells}
 use Rattle.run_store.specs.Runs.{IsRun, all_cells, cells_of, first_of, letters_of}
 use Rattle.run_store.specs.declared.cell.Cell.{Cell}
 use Rattle.run_store.specs.declared.cell.Head.{Head}
@@ -88,7 +88,7 @@ module _ (k : Key) where
   pub last-offset : (h : Head) (ls : List ℕ) (o : ℕ) → 0 < o → o < length ls → h.key.depth + o ≤ k.depth → (suc o < length ls → k.depth ≤ h.key.depth + o)
       → last_low k (keyed_cells (typed_cells h ls)) ≡ Some (head_behind o h).id
   last-offset h ls o p l d n =
-      let c : Cell = lettered (head_behind o h) (get_or ls o 0) in
+      let c : Cell = cell_with_letter (head_behind o h) (get_or ls o 0) in
       let behind : List Cell = typed_cells (head_behind (suc o) h) (drop (suc o) ls) in
       let low = deep-low (head_behind o h).key (omega (arith, d, behind-depth o h)) (behind-forest o h p) in
       ap (λ cs. last_low k (keyed_cells cs)) (typed-at h o ls l)
@@ -97,10 +97,10 @@ module _ (k : Key) where
   -- it is the first one, where no other is low
   pub last-first : (h : Head) (ls : List ℕ) → 0 < length ls → not (key_lt k h.key) ≡ true → (1 < length ls → k.depth ≤ h.key.depth) → last_low k (keyed_cells (typed_cells h ls)) ≡ Some h.id
   last-first h [] l e n = absurd (omega (arith, l))
-  last-first h (c ∷ []) l e n = last-at [] (lettered h c) [] e refl
+  last-first h (c ∷ []) l e n = last-at [] (cell_with_letter h c) [] e refl
   last-first h (c ∷ d ∷ cs) l e n =
       let deeper : k.depth < (next_head h).key.depth = omega (arith, n (omega arith)) in
-      last-at [] (lettered h c) (typed_cells (next_head h) (d ∷ cs)) e (none-low (next_head h) (d ∷ cs) (deep-high (next_head h).key deeper))
+      last-at [] (cell_with_letter h c) (typed_cells (next_head h) (d ∷ cs)) e (none-low (next_head h) (d ∷ cs) (deep-high (next_head h).key deeper))
 
   -- and there is none, where the first is not low
   pub last-high : (h : Head) (ls : List ℕ) → not (key_lt k h.key) ≡ false → last_low k (keyed_cells (typed_cells h ls)) ≡ None

@@ -12,9 +12,8 @@ use Rattle.fugue_ids.proofs.LowLemmas.{low_held}
 use Rattle.fugue_ids.proofs.PartedLemmas.{Apart}
 use Rattle.fugue_ids.proofs.ListLemmas.{all_pairs_head, all_pairs_tail, contains_cases, contains_here, contains_none, contains_there}
 use Rattle.run_store.specs.Cells.{cell_ids, keyed_cells}
-use Rattle.run_store.specs.Standings.{IsPart, IsWithin, begin_index, end_index}
-use Rattle.run_store.specs.Runs.{AreRuns, cells_in}
-use Rattle.run_store.specs.declared.run.Runs.{Runs}
+use Rattle.run_store.specs.Standings.{IsStandingPart, IsMemberWithin, begin_index, end_index}
+use Rattle.run_store.specs.Runs.{AreRuns, Kept, cells_in}
 use Rattle.run_store.specs.declared.standing.Found.{Found}
 use Rattle.run_store.specs.declared.standing.Part.{Part}
 use Rattle.run_store.proofs.KeyLemmas.{keyed-ids}
@@ -82,7 +81,7 @@ no-ids : (es : List Keyed) → ids_of es ≡ [] → es ≡ []
 no-ids [] e = refl
 no-ids (x ∷ es) e = cc
 
-module _ (r : Runs) (s : AreRuns r) (from to : Option Identifier) (held : HoldsOrigin (cell_ids (cells_in r)) from) (behind : HoldsOrigin (ids_of (rest_of from (keyed_cells (cells_in r)))) to) where
+module _ (r : Kept) (s : AreRuns r) (from to : Option Identifier) (held : HoldsOrigin (cell_ids (cells_in r)) from) (behind : HoldsOrigin (ids_of (rest_of from (keyed_cells (cells_in r)))) to) where
   abbrev xs : List Identifier
   xs = cell_ids (cells_in r)
 
@@ -121,7 +120,7 @@ module _ (r : Runs) (s : AreRuns r) (from to : Option Identifier) (held : HoldsO
   none-between : end_index xs to ≤ n → between from to es ≡ []
   none-between l = let z : w ≡ 0 = omega (arith, apart, l) in no-ids (between from to es) (part ∙ ap (λ k. take k (drop n xs)) z)
 
-  one-between : (m : Identifier) → IsWithin xs n (end_index xs to) m → Contains (ids_of (between from to es)) m
+  one-between : (m : Identifier) → IsMemberWithin xs n (end_index xs to) m → Contains (ids_of (between from to es)) m
   one-between m i = subst (λ is. Contains is m) (sym part) (within-part xs n w m i.held i.from (omega (arith, i.to, apart)))
 
   some-between : (m : Identifier) → Contains (ids_of (between from to es)) m → between from to es ≡ [] → ⊥
@@ -129,23 +128,23 @@ module _ (r : Runs) (s : AreRuns r) (from to : Option Identifier) (held : HoldsO
 
   -- a cell whose index is between theirs stands between them, and where there is no such index none does
   module _ (low high : ℕ) (begins : low ≡ n) (ends : high ≡ end_index xs to) where
-    as_within : (m : Identifier) → IsWithin xs low high m → IsWithin xs n (end_index xs to) m
+    as_within : (m : Identifier) → IsMemberWithin xs low high m → IsMemberWithin xs n (end_index xs to) m
     as_within m i = record { held = i.held; from = omega (arith, i.from, begins); to = omega (arith, i.to, ends) }
 
-    pub none-answers : (o : Option Found) → IfSome o (λ m. IsWithin xs low high m.id) → IfNone o (high ≤ low) → (IsNone o → between from to es ≡ []) × (between from to es ≡ [] → IsNone o)
+    pub none-answers : (o : Option Found) → IfSome o (λ m. IsMemberWithin xs low high m.id) → IfNone o (high ≤ low) → (IsNone o → between from to es ≡ []) × (between from to es ≡ [] → IsNone o)
     none-answers None some none = ((λ z. none-between (omega (arith, none, begins, ends))), (λ z. refl))
     none-answers (Some m) some none = ((λ z. absurd (cc z)), (λ z. absurd (some-between m.id (one-between m.id (as_within m.id some)) z)))
 
-    pub some-answers : (o : Option Found) → IfSome o (λ m. IsWithin xs low high m.id) → IfSome o (λ m. Contains (ids_of (between from to es)) m.id)
+    pub some-answers : (o : Option Found) → IfSome o (λ m. IsMemberWithin xs low high m.id) → IfSome o (λ m. Contains (ids_of (between from to es)) m.id)
     some-answers None some = tt
     some-answers (Some m) some = one-between m.id (as_within m.id some)
 
 -- no cell comes twice
-pub cells-apart : (r : Runs) → AreRuns r → Apart (keyed_cells (cells_in r))
+pub cells-apart : (r : Kept) → AreRuns r → Apart (keyed_cells (cells_in r))
 cells-apart r s = subst (AllPairs (λ x y. x ≢ y)) (sym (keyed-ids (cells_in r))) s.distinct
 
 -- the ends of a part are held
-module _ (r : Runs) (p : Part) (is : IsPart r p) where
+module _ (r : Kept) (p : Part) (is : IsStandingPart r p) where
   pub part-from : HoldsOrigin (cell_ids (cells_in r)) p.from
   part-from = subst (λ xs. HoldsOrigin xs p.from) (keyed-ids (cells_in r)) (low_held p.most (keyed_cells (cells_in r)) p.from is.from)
 

@@ -7,25 +7,24 @@ use Rattle.fugue_ids.specs.Keys.{Keyed, between}
 use Rattle.fugue_ids.specs.Passing.{Falls, IsTest, last_passing}
 use Rattle.fugue_ids.proofs.HalvesLemmas.{Halves, IsSearched, halves, search_before, search_begins, search_behind, search_ends}
 use Rattle.run_store.specs.Cells.{keyed_cells}
-use Rattle.run_store.specs.Runs.{AreRuns, cells_in}
-use Rattle.run_store.specs.Standings.{IsFound, IsPart, low_cells}
-use Rattle.run_store.specs.declared.run.Runs.{Runs}
+use Rattle.run_store.specs.Runs.{AreRuns, Kept, cells_in}
+use Rattle.run_store.specs.Standings.{IsFoundCell, IsStandingPart, low_cells}
 use Rattle.run_store.specs.declared.standing.Found.{Found}
 use Rattle.run_store.specs.declared.standing.Part.{Part}
 use Rattle.run_store.proofs.FoundLemmas.{found-begin, found-end}
 use Rattle.run_store.proofs.MiddleLemmas.{cells-apart}
 
-module _ (r : Runs) (post : Identifier → Bool → Type 0) (whole : Part) where
+module _ (r : Kept) (post : Identifier → Bool → Type 0) (whole : Part) where
   abbrev es : List Keyed
   es = keyed_cells (cells_in r)
 
   -- the search in a part has come down to the rest of it
   pub record IsHalved (rest : Part) (seen : Option Identifier) : Type 0 where
-    pub part : IsPart r rest
+    pub part : IsStandingPart r rest
     pub searched : (g : Identifier → Bool) → IsTest post g → Falls g (low_cells r whole) → IsSearched g (low_cells r whole) es rest.most rest.from rest.to seen
 
   -- at the beginning it is the whole part
-  pub halving : IsPart r whole → IsHalved whole None
+  pub halving : IsStandingPart r whole → IsHalved whole None
   halving p = record { part = p; searched = λ g t f. search_begins g es whole.most whole.from whole.to f }
 
   module _ (rest : Part) (seen : Option Identifier) (is : IsHalved rest seen) where
@@ -43,7 +42,7 @@ module _ (r : Runs) (post : Identifier → Bool → Type 0) (whole : Part) where
       pub shorter-before : length (between rest.from (Some f.id) es) < length (between rest.from rest.to es)
       shorter-before = at_low.front_shorter
 
-      module _ (at : IsFound r.rope f) where
+      module _ (at : IsFoundCell r.rope f) where
         -- it goes on behind a low cell that passes
         pub halved-behind : post f.id true → IsHalved (record rest { from = Some f.id; begin = record { place = f.at.place; offset = f.at.offset + 1 } }) (Some f.id)
         halved-behind passes = record {

@@ -11,12 +11,11 @@ use Rattle.fugue_ids.proofs.ListLemmas.{all_behind}
 use Rattle.node_rope.specs.Items.{value_under}
 use Rattle.node_rope.specs.Places.{StandsAt}
 use Rattle.run_store.specs.Cells.{keyed_cells}
-use Rattle.run_store.specs.Heads.{head_behind, lettered, next_head, typed_cells}
-use Rattle.run_store.specs.Runs.{AreRuns, IsRun, all_cells, first_of, letters_of}
+use Rattle.run_store.specs.Heads.{head_behind, cell_with_letter, next_head, typed_cells}
+use Rattle.run_store.specs.Runs.{AreRuns, IsRun, Kept, all_cells, first_of, letters_of}
 use Rattle.run_store.specs.declared.cell.Cell.{Cell}
 use Rattle.run_store.specs.declared.cell.Head.{Head}
 use Rattle.run_store.specs.declared.run.Run.{Run}
-use Rattle.run_store.specs.declared.run.Runs.{Runs}
 use Rattle.run_store.proofs.HeadLemmas.{behind-next}
 use Rattle.run_store.proofs.RopeLemmas.{value-at}
 use Rattle.run_store.proofs.RunsLemmas.{IsPlaced, Item, cell_there, cells-around, cells_before, cells_behind, keys-apart, length-letters, placed}
@@ -54,7 +53,7 @@ module _ {T : Type 0} where
   keys-get (x ∷ xs) zero = refl
   keys-get (x ∷ xs) (suc i) = keys-get xs i
 
-module _ (r : Runs) (s : AreRuns r) where
+module _ (r : Kept) (s : AreRuns r) where
   -- the run at a place
   pub run-at : (i : ℕ) (k : Identifier) (run : Run) → slice_get r.rope i ≡ Some (k, run) → IsRun r.letters r.count (k, run)
   run-at i k run e =
@@ -135,9 +134,9 @@ module _ (L : List (List ℕ)) (n : ℕ) where
       ap (λ cs. all_cells L front ++ cs) (more (first_of run) o ls m)
       ∙ sym (append_assoc (all_cells L front) (typed_cells (first_of run) (take o ls)) (cell_there L run o ∷ []))
     where
-      more : (h : Head) (k : ℕ) (xs : List ℕ) → k < length xs → typed_cells h (take (suc k) xs) ≡ typed_cells h (take k xs) ++ lettered (head_behind k h) (get_or xs k 0) ∷ []
+      more : (h : Head) (k : ℕ) (xs : List ℕ) → k < length xs → typed_cells h (take (suc k) xs) ≡ typed_cells h (take k xs) ++ cell_with_letter (head_behind k h) (get_or xs k 0) ∷ []
       more h k [] m = absurd (omega (arith, m))
       more h zero (x ∷ xs) m = refl
       more h (suc k) (x ∷ xs) m =
-          ap (λ cs. lettered h x ∷ cs)
-          (more (next_head h) k xs (omega (arith, m)) ∙ (λ i. typed_cells (next_head h) (take k xs) ++ lettered (behind-next k h i) (get_or xs k 0) ∷ []))
+          ap (λ cs. cell_with_letter h x ∷ cs)
+          (more (next_head h) k xs (omega (arith, m)) ∙ (λ i. typed_cells (next_head h) (take k xs) ++ cell_with_letter (behind-next k h i) (get_or xs k 0) ∷ []))

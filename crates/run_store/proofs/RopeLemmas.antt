@@ -4,7 +4,7 @@ use Rattle.std.specs.Prelude.{None, Some, cond}
 use Rattle.std.proofs.lemmas.Bool.{cases_Bool}
 use Rattle.fugue_ids.specs.Identifiers.{Identifier, id_eq}
 use Rattle.fugue_ids.proofs.IdentifierLemmas.{id_eq-refl, id_eq-true}
-use Rattle.node_rope.specs.Beside.{placed_after, placed_before, put_under, rekeyed}
+use Rattle.node_rope.specs.Beside.{placed_after, placed_before, put_under, items_rekeyed}
 use Rattle.node_rope.specs.Items.{value_under}
 
 module _ {T : Type 0} where
@@ -77,11 +77,11 @@ module _ {T : Type 0} where
   before-at k v new (x ∷ front) back p q =
       ap (λ b. cond b (new ∷ x ∷ []) (x ∷ []) ++ placed_before k new (front ++ (k, v) ∷ back)) p.0 ∙ ap (λ ys. x ∷ ys) (before-at k v new front back p.1 q)
 
-  pub rekeyed-none : (k : Identifier) (new : Identifier × T) (xs : List (Identifier × T)) → OtherKeys k xs → rekeyed k new xs ≡ xs
+  pub rekeyed-none : (k : Identifier) (new : Identifier × T) (xs : List (Identifier × T)) → OtherKeys k xs → items_rekeyed k new xs ≡ xs
   rekeyed-none k new [] o = refl
   rekeyed-none k new (x ∷ xs) o = λ i. cond (o.0 i) new x ∷ rekeyed-none k new xs o.1 i
 
   pub rekeyed-at : (k : Identifier) (v : T) (new : Identifier × T) (front back : List (Identifier × T)) → OtherKeys k front → OtherKeys k back
-      → rekeyed k new (front ++ (k, v) ∷ back) ≡ front ++ new ∷ back
+      → items_rekeyed k new (front ++ (k, v) ∷ back) ≡ front ++ new ∷ back
   rekeyed-at k v new [] back p q = λ i. cond (id_eq-refl k i) new (k, v) ∷ rekeyed-none k new back q i
   rekeyed-at k v new (x ∷ front) back p q = λ i. cond (p.0 i) new x ∷ rekeyed-at k v new front back p.1 q i

@@ -5,11 +5,10 @@ use Rattle.std.proofs.lemmas.List.{length-map, take_all}
 use Rattle.fugue_ids.specs.Identifiers.{Identifier}
 use Rattle.run_store.specs.Cells.{cell_ids}
 use Rattle.run_store.specs.Heads.{head_behind}
-use Rattle.run_store.specs.Runs.{AreRuns, all_cells, cells_in, cells_of, first_of, letters_of}
-use Rattle.run_store.specs.Standings.{IsBegin, IsEnd, IsInRun, IsWithin, cells_to, index_at}
+use Rattle.run_store.specs.Runs.{AreRuns, Kept, all_cells, cells_in, cells_of, first_of, letters_of}
+use Rattle.run_store.specs.Standings.{IsBegin, IsEndStanding, IsInRun, IsMemberWithin, cells_to, index_at}
 use Rattle.run_store.specs.declared.cell.Cell.{Cell}
 use Rattle.run_store.specs.declared.run.Run.{Run}
-use Rattle.run_store.specs.declared.run.Runs.{Runs}
 use Rattle.run_store.proofs.EarlierLemmas.{index-spot, run-width}
 use Rattle.run_store.proofs.FindLemmas.{spot-held}
 use Rattle.run_store.proofs.HeadLemmas.{length-typed}
@@ -17,7 +16,7 @@ use Rattle.run_store.proofs.PlaceLemmas.{at-within, run-at, value-there}
 use Rattle.run_store.proofs.RunsLemmas.{Item, length-letters}
 use Rattle.std.proofs.lemmas.Bool.{cases_lt}
 
-module _ (r : Runs) (s : AreRuns r) where
+module _ (r : Kept) (s : AreRuns r) where
   -- the end of all
   pub end-index : index_at r (length r.rope) 0 ≡ length (cell_ids (cells_in r))
   end-index =
@@ -47,7 +46,7 @@ module _ (r : Runs) (s : AreRuns r) where
       by_rope (x ∷ xs) (suc k) l = by_rope xs k (omega (arith, l))
 
   -- where cells begin, and where they end
-  module _ (i o j p : ℕ) (b : IsBegin r.rope i o) (e : IsEnd r.rope j p) where
+  module _ (i o j p : ℕ) (b : IsBegin r.rope i o) (e : IsEndStanding r.rope j p) where
     abbrev low : ℕ
     low = index_at r i o
 
@@ -85,13 +84,13 @@ module _ (r : Runs) (s : AreRuns r) where
         cases_up : (a c : ℕ) → (a ≤ c) ⊎ (c < a)
         cases_up a c = grind arith
 
-    within-by : (k from to : ℕ) (x : Identifier) → (c : IsInRun r.rope k from to x) → low ≤ cells_to r.letters r.rope k + c.offset → cells_to r.letters r.rope k + c.offset < high → IsWithin (cell_ids (cells_in r)) low high x
+    within-by : (k from to : ℕ) (x : Identifier) → (c : IsInRun r.rope k from to x) → low ≤ cells_to r.letters r.rope k + c.offset → cells_to r.letters r.rope k + c.offset < high → IsMemberWithin (cell_ids (cells_in r)) low high x
     within-by k from to x c l h =
         let n = index-spot r s x c.run c.offset k c.spot c.at in
         record { held = spot-held r s x c.run c.offset c.spot; from = omega (arith, n, l); to = omega (arith, n, h) }
 
     -- both in one run
-    pub some-same : i ≡ j → (x : Identifier) → IsInRun r.rope i o p x → IsWithin (cell_ids (cells_in r)) low high x
+    pub some-same : i ≡ j → (x : Identifier) → IsInRun r.rope i o p x → IsMemberWithin (cell_ids (cells_in r)) low high x
     some-same q x c =
         let n = ap (cells_to r.letters r.rope) q in
         within-by i o p x c (omega (arith, c.from)) (omega (arith, c.to, n))
@@ -110,16 +109,16 @@ module _ (r : Runs) (s : AreRuns r) where
         ]
 
     -- the first cell of a run between
-    pub some-half : (k : ℕ) → i < k → k < j → (x : Identifier) → IsInRun r.rope k 0 1 x → IsWithin (cell_ids (cells_in r)) low high x
+    pub some-half : (k : ℕ) → i < k → k < j → (x : Identifier) → IsInRun r.rope k 0 1 x → IsMemberWithin (cell_ids (cells_in r)) low high x
     some-half k l m x c =
         within-by k 0 1 x c (omega (arith, begin-before k l (omega (arith, m, end-within))))
         (omega (arith, c.spot.inside, run-width r s k j (c.run.id, c.run) c.at m))
 
     -- the run with the beginning, where that with the end is the next one
-    pub some-first : i < j → (to : ℕ) (x : Identifier) → IsInRun r.rope i o to x → IsWithin (cell_ids (cells_in r)) low high x
+    pub some-first : i < j → (to : ℕ) (x : Identifier) → IsInRun r.rope i o to x → IsMemberWithin (cell_ids (cells_in r)) low high x
     some-first l to x c = within-by i o to x c (omega (arith, c.from)) (omega (arith, c.spot.inside, run-width r s i j (c.run.id, c.run) c.at l))
 
-    pub some-second : i < j → (x : Identifier) → IsInRun r.rope j 0 p x → IsWithin (cell_ids (cells_in r)) low high x
+    pub some-second : i < j → (x : Identifier) → IsInRun r.rope j 0 p x → IsMemberWithin (cell_ids (cells_in r)) low high x
     some-second l x c = within-by j 0 p x c (omega (arith, begin-before j l end-within)) (omega (arith, c.to))
 
     pub none-next : j ≡ suc i → (to : ℕ) → to ≡ 4294967295 → ((x : Item) → slice_get r.rope i ≡ Some x → o < to → x.1.len ≤ o) → ((x : Item) → slice_get r.rope j ≡ Some x → 0 < p → x.1.len ≤ 0) → high ≤ low

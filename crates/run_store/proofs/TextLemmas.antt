@@ -8,12 +8,11 @@ use Rattle.fugue_ids.proofs.TextLemmas.{encode-append}
 use Rattle.fugue_ids.specs.Gathers.{GathersText}
 use Rattle.fugue_ids.specs.Outs.{OutView}
 use Rattle.run_store.specs.Cells.{cell_text, cells_shown}
-use Rattle.run_store.specs.Heads.{lettered, next_head, typed_cells}
-use Rattle.run_store.specs.Runs.{AreRuns, all_cells, cells_of}
+use Rattle.run_store.specs.Heads.{cell_with_letter, next_head, typed_cells}
+use Rattle.run_store.specs.Runs.{AreRuns, Kept, all_cells, cells_of}
 use Rattle.run_store.specs.declared.cell.Cell.{Cell}
 use Rattle.run_store.specs.declared.cell.Head.{Head}
 use Rattle.run_store.specs.declared.run.Run.{Run}
-use Rattle.run_store.specs.declared.run.Runs.{Runs}
 use Rattle.run_store.proofs.PlaceLemmas.{drop-first, run-named}
 use Rattle.run_store.proofs.RunsLemmas.{Item}
 use Rattle.run_store.proofs.VisibleLemmas.{visible-append}
@@ -41,13 +40,13 @@ text-runs L (x ∷ xs) =
 pub text-shown : (h : Head) (ls : List ℕ) → h.hidden ≡ false → cell_text (typed_cells h ls) ≡ ls
 text-shown h [] e = refl
 text-shown h (l ∷ ls) e =
-    ap (λ b. map (λ (c : Cell). c.ch) (if not b then lettered h l ∷ cells_shown (typed_cells (next_head h) ls) else cells_shown (typed_cells (next_head h) ls))) e
+    ap (λ b. map (λ (c : Cell). c.ch) (if not b then cell_with_letter h l ∷ cells_shown (typed_cells (next_head h) ls) else cells_shown (typed_cells (next_head h) ls))) e
     ∙ ap (λ zs. l ∷ zs) (text-shown (next_head h) ls e)
 
 pub text-hidden : (h : Head) (ls : List ℕ) → h.hidden ≡ true → cell_text (typed_cells h ls) ≡ []
 text-hidden h [] e = refl
 text-hidden h (l ∷ ls) e =
-    ap (λ b. map (λ (c : Cell). c.ch) (if not b then lettered h l ∷ cells_shown (typed_cells (next_head h) ls) else cells_shown (typed_cells (next_head h) ls))) e
+    ap (λ b. map (λ (c : Cell). c.ch) (if not b then cell_with_letter h l ∷ cells_shown (typed_cells (next_head h) ls) else cells_shown (typed_cells (next_head h) ls))) e
     ∙ text-hidden (next_head h) ls e
 
 -- the first runs were gathered, and a walk has the others
@@ -57,7 +56,7 @@ pub record IsUnderWay (L : List (List ℕ)) (rope : List Item) (u v : OutView) (
   pub gathered : GathersText {T = Unit {0}} u v p q (Ok tt) (flat_map (run_text L) (take place rope))
 
 -- what comes first of a walk that has the runs from a place on
-pub next-run : (r : Runs) → AreRuns r → (walk : List Item) (i : ℕ) → walk ≡ drop i r.rope → (run : Run) → Some run ≡ option_map (λ (x : Item). x.1) (slice_get walk 0) → slice_get r.rope i ≡ Some (run.id, run)
+pub next-run : (r : Kept) → AreRuns r → (walk : List Item) (i : ℕ) → walk ≡ drop i r.rope → (run : Run) → Some run ≡ option_map (λ (x : Item). x.1) (slice_get walk 0) → slice_get r.rope i ≡ Some (run.id, run)
 next-run r s walk i left run first =
     run-named r s i run (sym (first ∙ ap (λ ys. option_map (λ (x : Item). x.1) (slice_get ys 0)) left ∙ ap (option_map (λ (x : Item). x.1)) (drop-first r.rope i)))
 

@@ -13,14 +13,13 @@ use Rattle.fugue_ids.proofs.ListLemmas.{all_before, all_behind, slice_get-behind
 use Rattle.node_rope.specs.Items.{value_under}
 use Rattle.node_rope.specs.Places.{IsUnit, weight_sum}
 use Rattle.run_store.specs.Cells.{cell_ids, cells_shown}
-use Rattle.run_store.specs.Heads.{head_behind, lettered, next_head, typed_cells}
-use Rattle.run_store.specs.Runs.{AreRuns, IsRun, all_cells, cells_in, cells_of, first_of, letters_of, visible_weight}
+use Rattle.run_store.specs.Heads.{head_behind, cell_with_letter, next_head, typed_cells}
+use Rattle.run_store.specs.Runs.{AreRuns, IsRun, Kept, all_cells, cells_in, cells_of, first_of, letters_of, visible_weight}
 use Rattle.run_store.specs.Shown.{IsInHand}
 use Rattle.run_store.specs.declared.cell.Cell.{Cell}
 use Rattle.run_store.specs.declared.find.Spot.{Spot}
 use Rattle.run_store.specs.declared.cell.Head.{Head}
 use Rattle.run_store.specs.declared.run.Run.{Run}
-use Rattle.run_store.specs.declared.run.Runs.{Runs}
 use Rattle.run_store.proofs.HeadLemmas.{behind-next, length-typed}
 use Rattle.run_store.proofs.RopeLemmas.{value-at}
 use Rattle.run_store.proofs.RunsLemmas.{Item, cells-append, kept-run, keys-apart, length-letters}
@@ -31,13 +30,13 @@ visible-append = filter-append (λ c. not c.hidden)
 pub visible-typed : (h : Head) (ls : List ℕ) → h.hidden ≡ false → cells_shown (typed_cells h ls) ≡ typed_cells h ls
 visible-typed h [] e = refl
 visible-typed h (l ∷ ls) e =
-    ap (λ b. if not b then lettered h l ∷ cells_shown (typed_cells (next_head h) ls) else cells_shown (typed_cells (next_head h) ls)) e
-    ∙ ap (λ cs. lettered h l ∷ cs) (visible-typed (next_head h) ls e)
+    ap (λ b. if not b then cell_with_letter h l ∷ cells_shown (typed_cells (next_head h) ls) else cells_shown (typed_cells (next_head h) ls)) e
+    ∙ ap (λ cs. cell_with_letter h l ∷ cs) (visible-typed (next_head h) ls e)
 
 pub hidden-typed : (h : Head) (ls : List ℕ) → h.hidden ≡ true → cells_shown (typed_cells h ls) ≡ []
 hidden-typed h [] e = refl
 hidden-typed h (l ∷ ls) e =
-    ap (λ b. if not b then lettered h l ∷ cells_shown (typed_cells (next_head h) ls) else cells_shown (typed_cells (next_head h) ls)) e ∙ hidden-typed (next_head h) ls e
+    ap (λ b. if not b then cell_with_letter h l ∷ cells_shown (typed_cells (next_head h) ls) else cells_shown (typed_cells (next_head h) ls)) e ∙ hidden-typed (next_head h) ls e
 
 pub get-typed : (h : Head) (ls : List ℕ) (o : ℕ) (cs : List Cell) → o < length ls → slice_get (cell_ids (typed_cells h ls ++ cs)) o ≡ Some (head_behind o h).id
 get-typed h [] o cs l = absurd (omega (arith, l))
@@ -74,7 +73,7 @@ is-shown true m v l = absurd (omega (arith, l))
 is-shown false m v l = (refl, omega (arith, l))
 
 -- the visible cell of a unit of weight
-module _ (r : Runs) (s : AreRuns r) where
+module _ (r : Kept) (s : AreRuns r) where
   pub visible-all : length (cells_shown (cells_in r)) ≡ weight_sum visible_weight r.rope
   visible-all = visible-weight r.letters r.count s.few r.rope s.each
 

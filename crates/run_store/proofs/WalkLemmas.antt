@@ -13,14 +13,13 @@ use Rattle.node_rope.specs.Items.{value_under}
 use Rattle.node_rope.specs.Places.{StandsAt}
 use Rattle.run_store.specs.Cells.{keyed_cells}
 use Rattle.run_store.specs.Heads.{head_behind}
-use Rattle.run_store.specs.Runs.{AreRuns, IsRun, IsSpot, all_cells, cells_in, first_of, letters_of}
+use Rattle.run_store.specs.Runs.{AreRuns, IsRun, IsCellSpot, Kept, all_cells, cells_in, first_of, letters_of}
 use Rattle.run_store.specs.declared.run.Run.{Run}
-use Rattle.run_store.specs.declared.run.Runs.{Runs}
 use Rattle.run_store.proofs.CellLemmas.{front-at, rest-at}
 use Rattle.run_store.proofs.PlaceLemmas.{before-more, behind-all, cells-to, drop-first, first-cells, first-typed, keys-get, last-keyed, placed-at, run-at, stands-run}
 use Rattle.run_store.proofs.RunsLemmas.{IsPlaced, Item, cell_there, cells_before, cells_behind, length-letters, located}
 
-module _ (r : Runs) (s : AreRuns r) where
+module _ (r : Kept) (s : AreRuns r) where
   abbrev P : Item → Type 0
   P = IsRun r.letters r.count
 
@@ -39,7 +38,7 @@ module _ (r : Runs) (s : AreRuns r) where
       take-more (y ∷ xs) zero x f = let same : y ≡ x = cc in ap (λ z. z ∷ []) same
       take-more (y ∷ xs) (suc k) x f = ap (λ zs. y ∷ zs) (take-more xs k x f)
 
-  module _ (x : Identifier) (run : Run) (o : ℕ) (spot : IsSpot r.rope x run o) where
+  module _ (x : Identifier) (run : Run) (o : ℕ) (spot : IsCellSpot r.rope x run o) where
     -- what stands before the cell at a spot, and behind it
     pub front-spot : (front back : List Item) → IsPlaced r front run o back → front_of (Some x) (keyed_cells (cells_in r)) ≡ keyed_cells (cells_before r.letters front run o)
     front-spot front back p =

@@ -1,10 +1,10 @@
 -- Two runs that stand next to each other and are one passage, but for their marks.
 use Rattle.std.specs.Prelude.{◌≡◌, ◌≢◌, ◌⊎◌, ◌<◌, Bool, true, false, ◌&&◌, nat_eq, ℕ, ◌+◌, ◌-◌, List, ◌∷◌, ◌++◌, Some}
 use Rattle.fugue_ids.specs.Identifiers.{Identifier}
-use Rattle.node_rope.specs.Beside.{put_under, rekeyed}
-use Rattle.run_store.specs.Heads.{head_behind, lettered}
+use Rattle.node_rope.specs.Beside.{put_under, items_rekeyed}
+use Rattle.run_store.specs.Heads.{head_behind, cell_with_letter}
 use Rattle.run_store.specs.NewCells.{is_continued}
-use Rattle.run_store.specs.Runs.{first_of, run_from, run_to}
+use Rattle.run_store.specs.Runs.{first_of, run_behind, run_to}
 use Rattle.run_store.specs.declared.cell.Head.{Head}
 use Rattle.run_store.specs.declared.run.Run.{Run}
 
@@ -19,7 +19,7 @@ last_shown a = record (head_behind (a.len - 1) (first_of a)) { hidden = false }
 -- the first cell of b continues a, whatever the marks, and so do the letters
 abbrev pub run_continues : Run → Run → Bool
 run_continues a b =
-    is_continued (Some (lettered (last_shown a) 0)) b.id b.left b.right
+    is_continued (Some (cell_with_letter (last_shown a) 0)) b.id b.left b.right
     && (nat_eq b.key.depth ((last_shown a).key.depth + 1) && (nat_eq b.key.forest 0 && (nat_eq b.stretch a.stretch && nat_eq b.start (a.start + a.len))))
 
 -- b stands directly behind a, and goes on from it
@@ -27,7 +27,7 @@ pub record IsBorder (rope : List (Identifier × Run)) (a b : Run) : Type 0 where
   pub before : List (Identifier × Run)
   pub behind : List (Identifier × Run)
   pub is : rope ≡ before ++ (a.id, a) ∷ (b.id, b) ∷ behind
-  pub passage : b ≡ run_from a.len (together a b)
+  pub passage : b ≡ run_behind a.len (together a b)
 
 -- another place where the passage can be parted
 pub record IsMove (a b : Run) (n : ℕ) : Type 0 where
@@ -36,8 +36,8 @@ pub record IsMove (a b : Run) (n : ℕ) : Type 0 where
   pub other : n ≢ a.len
 
 -- the rope with the border at the place n of the passage
-abbrev pub shifted : ℕ → Run → Run → List (Identifier × Run) → List (Identifier × Run)
-shifted n a b rope = let new = run_from n (together a b) in put_under a.id (run_to n a) (rekeyed b.id (new.id, new) rope)
+abbrev pub border_shifted : ℕ → Run → Run → List (Identifier × Run) → List (Identifier × Run)
+border_shifted n a b rope = let new = run_behind n (together a b) in put_under a.id (run_to n a) (items_rekeyed b.id (new.id, new) rope)
 
 -- the first k cells of b, from that of x on, come to the hidden run before it
 pub record IsTakenFirst (x : Identifier) (k : ℕ) (a b : Run) (n : ℕ) : Type 0 where

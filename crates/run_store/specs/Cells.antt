@@ -38,8 +38,8 @@ cell_of_origin cells None = None
 cell_of_origin cells (Some x) = cell_of cells x
 
 -- the origins of the cell of x
-abbrev pub origins_of : List Cell → Identifier → Option (Option Identifier × Option Identifier)
-origins_of cells x = option_map (λ c. (c.left, c.right)) (cell_of cells x)
+abbrev pub origins_in_cell : List Cell → Identifier → Option (Option Identifier × Option Identifier)
+origins_in_cell cells x = option_map (λ c. (c.left, c.right)) (cell_of cells x)
 
 -- a cell of x is hidden
 abbrev pub is_hidden_cell : List Cell → Identifier → Bool

@@ -18,7 +18,7 @@ abbrev pub AreGrown : (old new : List (List ℕ)) → Type 0
 AreGrown old new = (s : ℕ) → (rest : List ℕ) × (slice_index_or new s [] ≡ slice_index_or old s [] ++ rest)
 
 -- a run with more letters
-pub record IsLonger (old new : List (List ℕ)) (run : Run) (text : List ℕ) (longer : Run) : Type 0 where
+pub record HasMoreLetters (old new : List (List ℕ)) (run : Run) (text : List ℕ) (longer : Run) : Type 0 where
   pub same : longer ≡ record run { stretch = longer.stretch; start = longer.start; len = run.len + length text }
   pub grown : AreGrown old new
   pub letters : letters_of new longer ≡ letters_of old run ++ text
@@ -38,7 +38,7 @@ abbrev pub AreFresh : List Cell → Identifier → ℕ → Type 0
 AreFresh cells id n = (k : ℕ) → k < n → Contains (cell_ids cells) (id_behind id k) → ⊥
 
 -- n cells that may come to these, each behind the one before it
-pub record IsNew (cells : List Cell) (h : Head) (n : ℕ) : Type 0 where
+pub record MayComeTo (cells : List Cell) (h : Head) (n : ℕ) : Type 0 where
   pub head : IsHead cells h
   pub some : 0 < n
   pub fresh : AreFresh cells h.id n
@@ -57,5 +57,6 @@ inserted_at i new cells = splice cells i i new
 abbrev pub cells_inserted_behind : Identifier → List Cell → List Cell → List Cell
 cells_inserted_behind x new cells = inserted_at (suc (index_of (cell_ids cells) x)) new cells
 
+-- cells with new ones in front of that of x
 abbrev pub cells_inserted_before : Identifier → List Cell → List Cell → List Cell
 cells_inserted_before x new cells = inserted_at (index_of (cell_ids cells) x) new cells

@@ -16,16 +16,17 @@ head_behind (suc n) h =
     record { id = id_behind h.id (suc n); left = Some (id_behind h.id n); right = h.right; hidden = h.hidden; key = record { depth = h.key.depth + suc n; forest = 0 } }
 
 -- a cell with its letter, and without
-abbrev pub lettered : Head → ℕ → Cell
-lettered h ch = record { id = h.id; left = h.left; right = h.right; ch = ch; hidden = h.hidden; key = h.key }
+abbrev pub cell_with_letter : Head → ℕ → Cell
+cell_with_letter h ch = record { id = h.id; left = h.left; right = h.right; ch = ch; hidden = h.hidden; key = h.key }
 
+-- the head that begins a run with this cell
 abbrev pub run_head_of : Cell → Head
 run_head_of c = record { id = c.id; left = c.left; right = c.right; hidden = c.hidden; key = c.key }
 
 -- the cells of letters of which each stands behind the one before it
 abbrev pub typed_cells : Head → List ℕ → List Cell
 typed_cells h [] = []
-typed_cells h (ch ∷ chs) = lettered h ch ∷ typed_cells (next_head h) chs
+typed_cells h (ch ∷ chs) = cell_with_letter h ch ∷ typed_cells (next_head h) chs
 
 -- a key as one number: comparing the numbers is comparing the keys
 abbrev pub rank_of : Key → ℕ

@@ -6,8 +6,8 @@ use Rattle.run_store.specs.Cells.{cell_ids, is_hidden_cell}
 use Rattle.run_store.specs.declared.cell.Cell.{Cell}
 
 -- the first n identifiers from this one on have cells
-abbrev pub AreHeld : List Cell → Identifier → ℕ → Type 0
-AreHeld cells id n = (k : ℕ) → k < n → Contains (cell_ids cells) (id_behind id k)
+abbrev pub HaveCells : List Cell → Identifier → ℕ → Type 0
+HaveCells cells id n = (k : ℕ) → k < n → Contains (cell_ids cells) (id_behind id k)
 
 -- and these are hidden
 abbrev pub AreHidden : List Cell → Identifier → ℕ → Type 0

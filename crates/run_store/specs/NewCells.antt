@@ -15,6 +15,7 @@ abbrev pub cell_depth : Option Cell → ℕ
 cell_depth None = 0
 cell_depth (Some c) = c.key.depth
 
+-- the depth of an element with this left origin
 abbrev pub depth_under : List Cell → Option Identifier → ℕ
 depth_under cells left = cell_depth (cell_of_origin cells left)
 
@@ -32,6 +33,7 @@ abbrev pub cell_forest : Option Cell → Option Identifier → ℕ
 cell_forest None left = 0
 cell_forest (Some c) left = if origin_eq c.left left then suc c.key.forest else 0
 
+-- the forest of the right origin, where that has this left origin
 abbrev pub forest_beside : List Cell → Option Identifier → Option Identifier → ℕ
 forest_beside cells left right = cell_forest (cell_of_origin cells right) left
 

@@ -9,10 +9,10 @@ id_if zero counter = None
 id_if (suc n) counter = Some (record { replica = suc n; counter = counter })
 
 -- none is two zeros
-abbrev pub parts_of : Option Identifier → Inside
-parts_of None = record { replica = 0; counter = 0 }
-parts_of (Some id) = record { replica = id.replica; counter = id.counter }
+abbrev pub origin_parts : Option Identifier → Inside
+origin_parts None = record { replica = 0; counter = 0 }
+origin_parts (Some id) = record { replica = id.replica; counter = id.counter }
 
 -- no other numbers stand for the same
 abbrev pub IsExact : Inside → Type 0
-IsExact o = parts_of (id_if o.replica o.counter) ≡ o
+IsExact o = origin_parts (id_if o.replica o.counter) ≡ o

@@ -9,7 +9,12 @@ use Rattle.run_store.specs.Heads.{head_behind, typed_cells}
 use Rattle.run_store.specs.declared.cell.Cell.{Cell}
 use Rattle.run_store.specs.declared.cell.Head.{Head}
 use Rattle.run_store.specs.declared.run.Run.{Run}
-use Rattle.run_store.specs.declared.run.Runs.{Runs}
+
+-- runs in order, each under its first identifier, with the stretches of their letters, and how many cells they have
+pub record Kept : Type 0 where
+  pub rope : List (Identifier × Run)
+  pub letters : List (List ℕ)
+  pub count : ℕ
 
 -- the first cell of a run
 abbrev pub first_of : Run → Head
@@ -19,6 +24,7 @@ first_of r = record { id = r.id; left = r.left; right = r.right; hidden = r.hidd
 abbrev pub letters_of : List (List ℕ) → Run → List ℕ
 letters_of letters r = take r.len (drop r.start (slice_index_or letters r.stretch []))
 
+-- the cells of a run
 abbrev pub cells_of : List (List ℕ) → Run → List Cell
 cells_of letters r = typed_cells (first_of r) (letters_of letters r)
 
@@ -26,7 +32,8 @@ cells_of letters r = typed_cells (first_of r) (letters_of letters r)
 abbrev pub all_cells : List (List ℕ) → List (Identifier × Run) → List Cell
 all_cells letters = flat_map (λ x. cells_of letters x.1)
 
-abbrev pub cells_in : Runs → List Cell
+-- those of all runs
+abbrev pub cells_in : Kept → List Cell
 cells_in r = all_cells r.letters r.rope
 
 -- a run under its first identifier: it is not empty, it has its letters, and its numbers fit
@@ -47,7 +54,7 @@ pub record AreLetters (letters : List (List ℕ)) (count : ℕ) : Type 0 where
   pub others : length letters ≤ count + 1
 
 -- the runs keep distinct cells, and the count is theirs
-pub record AreRuns (r : Runs) : Type 0 where
+pub record AreRuns (r : Kept) : Type 0 where
   pub each : All (IsRun r.letters r.count) r.rope
   pub distinct : AllPairs (λ x y. x ≢ y) (cell_ids (cells_in r))
   pub counted : r.count ≡ length (cells_in r)
@@ -59,7 +66,7 @@ abbrev pub visible_weight : Run → ℕ
 visible_weight r = if r.hidden then 0 else min r.len MOST_OPERATIONS
 
 -- the cell of x stands behind `offset` others in a run
-pub record IsSpot (rope : List (Identifier × Run)) (x : Identifier) (run : Run) (offset : ℕ) : Type 0 where
+pub record IsCellSpot (rope : List (Identifier × Run)) (x : Identifier) (run : Run) (offset : ℕ) : Type 0 where
   pub held : value_under run.id rope ≡ Some run
   pub inside : offset < run.len
   pub is : x ≡ (head_behind offset (first_of run)).id
@@ -68,8 +75,9 @@ pub record IsSpot (rope : List (Identifier × Run)) (x : Identifier) (run : Run)
 abbrev pub run_to : ℕ → Run → Run
 run_to n r = record r { len = n }
 
-abbrev pub run_from : ℕ → Run → Run
-run_from n r =
+-- the run behind its first n letters
+abbrev pub run_behind : ℕ → Run → Run
+run_behind n r =
     let h = head_behind n (first_of r) in
     record { id = h.id; left = h.left; right = h.right; hidden = h.hidden; key = h.key; stretch = r.stretch; start = r.start + n; len = r.len - n }
 
@@ -78,5 +86,5 @@ abbrev pub parted_as : Identifier → Run → Run → List (Identifier × Run) �
 parted_as key front back rope = put_under key front (placed_after key (back.id, back) rope)
 
 -- the rope with a run parted at a place
-abbrev pub parted : ℕ → Run → List (Identifier × Run) → List (Identifier × Run)
-parted n r rope = parted_as r.id (run_to n r) (run_from n r) rope
+abbrev pub rope_parted : ℕ → Run → List (Identifier × Run) → List (Identifier × Run)
+rope_parted n r rope = parted_as r.id (run_to n r) (run_behind n r) rope

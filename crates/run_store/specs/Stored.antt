@@ -4,6 +4,7 @@ use Rattle.fugue_ids.specs.declared.key.Gap.{Gap}
 use Rattle.fugue_ids.specs.declared.key.Gap.TheVariants.{Alone}
 use Rattle.run_store.specs.declared.cell.Cell.{Cell}
 
+-- what contracts see of a store
 pub record Stored : Type 0 where
   -- the cells, in order
   pub cells : List Cell
@@ -15,6 +16,6 @@ abbrev pub IsAloneWhereEmpty : Gap → List Cell → Type 0
 IsAloneWhereEmpty gap cells = (gap ≡ Alone) ↔ (cells ≡ [])
 
 -- the number of runs is as before, or at most `most` more
-pub record IsRaised (most before now : ℕ) : Type 0 where
+pub record IsRaisedBy (most before now : ℕ) : Type 0 where
   pub kept : before ≤ now
   pub bound : now ≤ before + most

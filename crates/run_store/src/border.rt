@@ -1,15 +1,16 @@
 // The border between a hidden run and its neighbour moves over cells, which are so hidden without a run of their own.
-ghost use Rattle.std.specs.Prelude.{◌≡◌, ◌<◌, ◌≤◌, ◌+◌, ◌-◌, ◌^◌, IfSome, Some, OnErr, OnOk};
+ghost use Rattle.std.specs.Prelude.{◌≡◌, ◌<◌, ◌≤◌, ◌+◌, ◌-◌, ◌^◌, IfSome, Some, OnErr, OnOk, ℕ};
+ghost use Rattle.fugue_ids.specs.Identifiers.{Identifier};
 ghost use Rattle.node_rope.specs.Items.{value_under};
-ghost use Rattle.run_store.specs.Borders.{IsBorder, IsHiding, IsMove, run_continues as continues, shifted};
+ghost use Rattle.run_store.specs.Borders.{IsBorder, IsHiding, run_continues as continues, border_shifted};
 ghost use Rattle.run_store.specs.Borders.{together as both};
 ghost use Rattle.run_store.specs.Heads.{head_behind};
-ghost use Rattle.run_store.specs.Runs.{AreRuns, first_of};
+ghost use Rattle.run_store.specs.Runs.{first_of};
 
 use crate::cell::Head;
 use crate::find::Spot;
 use crate::new_cells::is_continued;
-use crate::parts::{cell_at, first_cell, key_of, run_from, run_to};
+use crate::parts::{cell_at, first_cell, key_of, run_behind, run_to};
 use crate::run::{Run, Runs};
 use fugue_ids::NoMemory;
 
@@ -66,8 +67,7 @@ fn goes_on(front: &Run, back: &Run) -> bool
 impl Runs {
     /// The run directly behind this one, if it goes on from it.
     fn continuation(&self, front: &Run) -> Option<Run>
-        requires sound { AreRuns self.now }
-        requires held { value_under front.now.id self.now.rope ≡ Some front.now }
+        requires { value_under front.now.id self.now.rope ≡ Some front.now }
         ensures { IfSome result (λ back. IsBorder self.now.rope front.now back) }
     {
         match self.rope.next_item(front.id) {
@@ -78,12 +78,12 @@ impl Runs {
 
     /// The border over which the first n cells of a run come to a hidden one before it.
     fn border_before(&self, run: &Run, n: u32) -> Option<Border>
-        requires sound { AreRuns self.now }
         requires held { value_under run.now.id self.now.rope ≡ Some run.now }
         requires some { 0 < n }
         requires more { n < run.now.len }
         ensures { IfSome result (λ b. IsHiding self.now.rope run.now.id n b.front b.back b.at) }
     {
+        self.sound();
         let left = run.left.id()?;
         let spot = self.find(left)?;
         let front = spot.run;
@@ -104,7 +104,6 @@ impl Runs {
 
     /// The border over which the last n cells of a run come to a hidden one behind it.
     fn border_behind(&self, run: &Run, n: u32) -> Option<Border>
-        requires sound { AreRuns self.now }
         requires held { value_under run.now.id self.now.rope ≡ Some run.now }
         requires some { 0 < n }
         requires more { n < run.now.len }
@@ -125,7 +124,6 @@ impl Runs {
     /// The border over which n cells from the spot on come to a hidden run: they stand at an end of their own run, which
     /// has others.
     pub(crate) fn border(&self, spot: &Spot, n: u32) -> Option<Border>
-        requires sound { AreRuns self.now }
         requires held { value_under spot.now.run.id self.now.rope ≡ Some spot.now.run }
         requires some { 0 < n }
         requires inside { spot.now.offset + n ≤ spot.now.run.len }
@@ -146,18 +144,18 @@ impl Runs {
 
     /// Moves a border. No letter is copied.
     pub(crate) fn shift(&mut self, border: &Border) -> Result<(), NoMemory>
-        requires sound { AreRuns self.old }
-        requires beside { IsBorder self.old.rope border.now.front border.now.back }
-        requires to { IsMove border.now.front border.now.back border.now.at }
+        requires { (x : Identifier) × (n : ℕ)
+            × IsHiding self.old.rope x n border.now.front border.now.back border.now.at }
         ensures ok { OnOk result (self.new
             ≡ record {
-              rope = shifted border.now.at border.now.front border.now.back self.old.rope;
+              rope = border_shifted border.now.at border.now.front border.now.back self.old.rope;
               letters = self.old.letters;
               count = self.old.count;
             }) }
         ensures err { OnErr result (self.new ≡ self.old) }
     {
-        let rest = run_from(&together(&border.front, &border.back), border.at);
+        self.sound();
+        let rest = run_behind(&together(&border.front, &border.back), border.at);
         match self.rope.rekey(key_of(&border.back), key_of(&rest), rest) {
             Ok(_) => {
                 self.rope

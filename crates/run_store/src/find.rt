@@ -5,7 +5,7 @@ ghost use Rattle.fugue_ids.specs.Identifiers.{Identifier};
 ghost use Rattle.node_rope.specs.Items.{value_under};
 ghost use Rattle.run_store.specs.Cells.{cell_of, cell_ids};
 ghost use Rattle.run_store.specs.Heads.{run_head_of};
-ghost use Rattle.run_store.specs.Runs.{AreRuns, IsSpot, cells_in};
+ghost use Rattle.run_store.specs.Runs.{IsCellSpot, cells_in};
 
 use crate::cell::Head;
 use crate::parts::cell_at;
@@ -51,8 +51,7 @@ impl Runs {
 
     /// How many runs stand before this one.
     pub(crate) fn place_of(&self, run: &Run) -> usize
-        requires sound { AreRuns self.now }
-        requires held { value_under run.now.id self.now.rope ≡ Some run.now }
+        requires { value_under run.now.id self.now.rope ≡ Some run.now }
         ensures { slice_get self.now.rope result ≡ Some (run.now.id, run.now) }
     {
         match self.rope.place(run.id) {
@@ -64,8 +63,7 @@ impl Runs {
     /// Where the cell of this identifier is, if it is in the run that was used last.
     #[inline]
     fn find_near(&self, id: ElementId) -> Option<Spot>
-        requires { AreRuns self.now }
-        ensures { IfSome result (λ s. IsSpot self.now.rope id s.run s.offset) }
+        ensures { IfSome result (λ s. IsCellSpot self.now.rope id s.run s.offset) }
     {
         let key = self.rope.at_hand()?;
         let run = self.run(key)?;
@@ -76,8 +74,7 @@ impl Runs {
     /// Where the cell of this identifier is. In the run that was used last this costs no search.
     #[inline]
     pub(crate) fn find(&self, id: ElementId) -> Option<Spot>
-        requires { AreRuns self.now }
-        ensures some { IfSome result (λ s. IsSpot self.now.rope id s.run s.offset) }
+        ensures some { IfSome result (λ s. IsCellSpot self.now.rope id s.run s.offset) }
         ensures none { IfNone result (Contains (cell_ids (cells_in self.now)) id → ⊥) }
     {
         match self.find_near(id) {
@@ -88,7 +85,6 @@ impl Runs {
 
     /// The run of the cell is at hand from now on.
     pub(crate) fn look_at(&mut self, id: ElementId)
-        requires { AreRuns self.old }
         ensures { self.new ≡ self.old }
     {
         if self.find_near(id).is_none() {
@@ -100,8 +96,7 @@ impl Runs {
     /// at the run that was used last can be inlined.
     #[inline(never)]
     fn find_by_key(&self, id: ElementId) -> Option<Spot>
-        requires { AreRuns self.now }
-        ensures some { IfSome result (λ s. IsSpot self.now.rope id s.run s.offset) }
+        ensures some { IfSome result (λ s. IsCellSpot self.now.rope id s.run s.offset) }
         ensures none { IfNone result (Contains (cell_ids (cells_in self.now)) id → ⊥) }
     {
         match self.rope.floor_item(id) {
@@ -118,8 +113,7 @@ impl Runs {
 
     /// Where the cell of this identifier is, if it is in the run directly behind the one that was used last.
     fn find_next(&self, id: ElementId) -> Option<Spot>
-        requires { AreRuns self.now }
-        ensures { IfSome result (λ s. IsSpot self.now.rope id s.run s.offset) }
+        ensures { IfSome result (λ s. IsCellSpot self.now.rope id s.run s.offset) }
     {
         let key = self.rope.at_hand()?;
         match self.rope.next_item(key) {
@@ -137,8 +131,7 @@ impl Runs {
     /// Where the cell of this identifier is, if it is in the run that was used last or in the one behind it. This costs
     /// no search.
     fn find_close(&self, id: ElementId) -> Option<Spot>
-        requires { AreRuns self.now }
-        ensures { IfSome result (λ s. IsSpot self.now.rope id s.run s.offset) }
+        ensures { IfSome result (λ s. IsCellSpot self.now.rope id s.run s.offset) }
     {
         match self.find_near(id) {
             Some(spot) => Some(spot),
@@ -148,8 +141,7 @@ impl Runs {
 
     /// Where the cell of this identifier is, which is looked for close to the run that was used last first.
     fn find_beside(&self, id: ElementId) -> Option<Spot>
-        requires { AreRuns self.now }
-        ensures some { IfSome result (λ s. IsSpot self.now.rope id s.run s.offset) }
+        ensures some { IfSome result (λ s. IsCellSpot self.now.rope id s.run s.offset) }
         ensures none { IfNone result (Contains (cell_ids (cells_in self.now)) id → ⊥) }
     {
         match self.find_close(id) {
@@ -160,8 +152,7 @@ impl Runs {
 
     /// The same for a cell that is to be changed: if it is not close, its run is at hand from now on.
     pub(crate) fn reach(&mut self, id: ElementId) -> Option<Spot>
-        requires { AreRuns self.old }
-        ensures some { IfSome result (λ s. IsSpot self.old.rope id s.run s.offset) }
+        ensures some { IfSome result (λ s. IsCellSpot self.old.rope id s.run s.offset) }
         ensures none { IfNone result (Contains (cell_ids (cells_in self.old)) id → ⊥) }
         ensures same { self.new ≡ self.old }
     {
@@ -176,13 +167,13 @@ impl Runs {
 
     /// What the cell of this identifier says of itself, by where it was found; None where it was not.
     fn head_at(&self, id: ElementId, spot: Option<Spot>) -> Option<Head>
-        requires sound { AreRuns self.now }
-        requires some { IfSome spot (λ s. IsSpot self.now.rope id s.run s.offset) }
+        requires some { IfSome spot (λ s. IsCellSpot self.now.rope id s.run s.offset) }
         requires none { IfNone spot (Contains (cell_ids (cells_in self.now)) id → ⊥) }
         ensures is { result ≡ option_map run_head_of (cell_of (cells_in self.now) id) }
         ensures depths { IfSome result (λ h. h.key.depth ≤ length (cells_in self.now)) }
         ensures forests { IfSome result (λ h. h.key.forest ≤ length (cells_in self.now)) }
     {
+        self.sound();
         // The contract alone needs the identifier.
         let _ = id;
         match spot {
@@ -193,7 +184,6 @@ impl Runs {
 
     /// What the cell of this identifier says of itself.
     pub(crate) fn head(&self, id: ElementId) -> Option<Head>
-        requires { AreRuns self.now }
         ensures is { result ≡ option_map run_head_of (cell_of (cells_in self.now) id) }
         ensures depths { IfSome result (λ h. h.key.depth ≤ length (cells_in self.now)) }
         ensures forests { IfSome result (λ h. h.key.forest ≤ length (cells_in self.now)) }
@@ -203,7 +193,6 @@ impl Runs {
 
     /// The same of a cell that mostly stands near the run that was used last.
     pub(crate) fn head_beside(&self, id: ElementId) -> Option<Head>
-        requires { AreRuns self.now }
         ensures is { result ≡ option_map run_head_of (cell_of (cells_in self.now) id) }
         ensures depths { IfSome result (λ h. h.key.depth ≤ length (cells_in self.now)) }
         ensures forests { IfSome result (λ h. h.key.forest ≤ length (cells_in self.now)) }

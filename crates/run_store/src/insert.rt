@@ -7,11 +7,10 @@ ghost use Rattle.node_rope.specs.Items.{value_under};
 ghost use Rattle.run_store.specs.Beginning.{CanBegin, begun_run, placed_at};
 ghost use Rattle.run_store.specs.Changes.{MakesCells};
 ghost use Rattle.run_store.specs.Cells.{cell_of, cell_ids};
-ghost use Rattle.run_store.specs.Growth.{IsLonger, IsNew, cells_inserted_before, cells_inserted_behind, last_id_of_run};
-ghost use Rattle.run_store.specs.Heads.{head_behind, lettered, typed_cells};
+ghost use Rattle.run_store.specs.Growth.{HasMoreLetters, MayComeTo, cells_inserted_before, cells_inserted_behind, last_id_of_run};
+ghost use Rattle.run_store.specs.Heads.{head_behind, cell_with_letter, typed_cells};
 ghost use Rattle.run_store.specs.NewCells.{cell_before, is_continued as continues};
-ghost use Rattle.run_store.specs.Runs.{AreRuns, IsSpot, cells_in, first_of};
-ghost use Rattle.run_store.specs.Stored.{IsRaised};
+ghost use Rattle.run_store.specs.Runs.{cells_in, first_of};
 
 use crate::cell::Head;
 use crate::find::Spot;
@@ -54,7 +53,7 @@ fn lengthened(letters: &mut Letters, run: &Run, text: &[char]) -> Result<Run, No
     requires few { run.now.start + run.now.len + length text.now < 2 ^ 31 }
     requires within { run.now.start + run.now.len ≤ length (slice_index_or letters.old run.now.stretch []) }
     requires stretches { length letters.old < 2 ^ 32 }
-    ensures ok { IfOk result (λ longer. IsLonger letters.old letters.new run.now text.now longer) }
+    ensures ok { IfOk result (λ longer. HasMoreLetters letters.old letters.new run.now text.now longer) }
     ensures err { OnErr result (letters.new ≡ letters.old) }
 {
     let end = run.start as usize + run.len as usize;
@@ -110,11 +109,9 @@ fn place(rope: &mut Rope<Run>, at: Beginning, key: ElementId, run: Run) -> Resul
 impl Runs {
     /// The run with the cells that continue it.
     fn extend(&mut self, run: &Run, head: &Head, text: &[char]) -> Result<(), NoMemory>
-        requires sound { AreRuns self.old }
         requires held { value_under run.now.id self.old.rope ≡ Some run.now }
-        requires new { IsNew (cells_in self.old) head.now (length text.now) }
+        requires new { MayComeTo (cells_in self.old) head.now (length text.now) }
         requires next { head.now ≡ head_behind run.now.len (first_of run.now) }
-        ensures sound { AreRuns self.new }
         ensures ok { OnOk result (cells_in self.new
             ≡ cells_inserted_behind (last_id_of_run run.now) (typed_cells head.now text.now) (cells_in self.old)) }
         ensures kept { OnOk result (length self.new.rope ≡ length self.old.rope) }
@@ -135,10 +132,8 @@ impl Runs {
         head: &Head,
         text: &[char],
     ) -> Result<(), NoMemory>
-        requires sound { AreRuns self.old }
         requires held { CanBegin at self.old.rope }
-        requires new { IsNew (cells_in self.old) head.now (length text.now) }
-        ensures sound { AreRuns self.new }
+        requires new { MayComeTo (cells_in self.old) head.now (length text.now) }
         ensures ok { OnOk result (cells_in self.new ≡ begun_run at (typed_cells head.now text.now) (cells_in self.old)) }
         ensures raised { OnOk result (length self.new.rope ≡ length self.old.rope + 1) }
         ensures err { OnErr result (self.new ≡ self.old) }
@@ -163,14 +158,14 @@ impl Runs {
 
     /// A new run directly behind the cell at the spot.
     fn insert_between(&mut self, spot: &Spot, head: &Head, text: &[char]) -> Result<(), NoMemory>
-        requires sound { AreRuns self.old }
         requires held { value_under spot.now.run.id self.old.rope ≡ Some spot.now.run }
         requires inside { spot.now.offset < spot.now.run.len }
-        requires new { IsNew (cells_in self.old) head.now (length text.now) }
+        requires new { MayComeTo (cells_in self.old) head.now (length text.now) }
         ensures { MakesCells result self.old self.new
             (cells_inserted_behind (head_behind spot.now.offset (first_of spot.now.run)).id (typed_cells head.now text.now)
             (cells_in self.old)) }
     {
+        self.sound();
         let end = spot.offset + 1;
         self.cut_behind(&spot.run, end)?;
         self.begin(Beginning::Behind(run_to(&spot.run, end)), head, text)
@@ -178,18 +173,18 @@ impl Runs {
 
     /// New cells directly behind the one at the spot.
     fn insert_at(&mut self, spot: &Spot, head: &Head, text: &[char]) -> Result<(), NoMemory>
-        requires sound { AreRuns self.old }
         requires held { value_under spot.now.run.id self.old.rope ≡ Some spot.now.run }
         requires inside { spot.now.offset < spot.now.run.len }
-        requires new { IsNew (cells_in self.old) head.now (length text.now) }
+        requires new { MayComeTo (cells_in self.old) head.now (length text.now) }
         ensures makes { MakesCells result self.old self.new
             (cells_inserted_behind (head_behind spot.now.offset (first_of spot.now.run)).id (typed_cells head.now text.now)
             (cells_in self.old)) }
         ensures continued { OnOk result
-            (continues (Some (lettered
+            (continues (Some (cell_with_letter
             (head_behind spot.now.offset (first_of spot.now.run)) 0)) head.now.id head.now.left head.now.right ≡ true
             → length self.new.rope ≡ length self.old.rope) }
     {
+        self.sound();
         if is_continued(&cell_at(&spot.run, spot.offset), head) {
             self.extend(&spot.run, head, text)
         } else {
@@ -204,15 +199,15 @@ impl Runs {
         head: &Head,
         text: &[char],
     ) -> Result<(), NoMemory>
-        requires sound { AreRuns self.old }
         requires held { Contains (cell_ids (cells_in self.old)) at }
-        requires new { IsNew (cells_in self.old) head.now (length text.now) }
+        requires new { MayComeTo (cells_in self.old) head.now (length text.now) }
         ensures makes { MakesCells result self.old self.new
             (cells_inserted_behind at (typed_cells head.now text.now) (cells_in self.old)) }
         ensures continued { OnOk result
             (continues (cell_of (cells_in self.old) at) head.now.id head.now.left head.now.right ≡ true
             → length self.new.rope ≡ length self.old.rope) }
     {
+        self.sound();
         match self.find(at) {
             Some(spot) => self.insert_at(&spot, head, text),
             None => unreachable!(),
@@ -226,9 +221,8 @@ impl Runs {
         head: &Head,
         text: &[char],
     ) -> Result<(), NoMemory>
-        requires sound { AreRuns self.old }
         requires held { Contains (cell_ids (cells_in self.old)) next }
-        requires new { IsNew (cells_in self.old) head.now (length text.now) }
+        requires new { MayComeTo (cells_in self.old) head.now (length text.now) }
         ensures makes { MakesCells result self.old self.new
             (cells_inserted_before next (typed_cells head.now text.now) (cells_in self.old)) }
         ensures continued { OnOk result
@@ -236,6 +230,7 @@ impl Runs {
             (index_of (cell_ids (cells_in self.old)) next)) head.now.id head.now.left head.now.right ≡ true
             → length self.new.rope ≡ length self.old.rope) }
     {
+        self.sound();
         match self.before(Some(next)) {
             Some(behind) => self.insert_behind(behind, head, text),
             None => self.begin(Beginning::Before(next), head, text),

@@ -6,7 +6,7 @@ ghost use Rattle.fugue_ids.specs.Gathers.{GathersText};
 ghost use Rattle.fugue_ids.specs.Listed.{index_of};
 ghost use Rattle.fugue_ids.specs.Outs.{WritesBytes};
 ghost use Rattle.origin_model.specs.edits.Landing.{following};
-ghost use Rattle.run_store.specs.Cells.{cell_ids, is_hidden_cell as hidden_in, origins_of, cell_text, cells_shown, shown_before};
+ghost use Rattle.run_store.specs.Cells.{cell_ids, is_hidden_cell as hidden_in, origins_in_cell, cell_text, cells_shown, shown_before};
 ghost use Rattle.run_store.specs.Shown.{IsInHand};
 
 use crate::find::Spot;
@@ -21,14 +21,15 @@ impl RunStore {
         ensures distinct { AllPairs (λ x y. x ≢ y) (cell_ids self.now.cells) }
         ensures few { length self.now.cells ≤ MOST_OPERATIONS }
     {
-        self.runs.count
+        self.runs.sound();
+        self.runs.len()
     }
 
     /// How many runs keep the cells.
     pub fn runs(&self) -> usize
         ensures { result ≡ self.now.runs }
     {
-        self.runs.rope.len()
+        self.runs.run_count()
     }
 
     /// How many cells are not hidden.
@@ -42,6 +43,7 @@ impl RunStore {
     pub fn holds(&self, id: ElementId) -> bool
         ensures { IsTrue result ↔ Contains (cell_ids self.now.cells) id }
     {
+        self.runs.sound();
         match self.runs.find(id) {
             Some(_) => true,
             None => false,
@@ -52,6 +54,7 @@ impl RunStore {
     pub fn is_hidden(&self, id: ElementId) -> bool
         ensures { result ≡ hidden_in self.now.cells id }
     {
+        self.runs.sound();
         match self.runs.head(id) {
             Some(head) => head.hidden,
             None => false,
@@ -60,7 +63,7 @@ impl RunStore {
 
     /// The left origin and the right one. None is the answer for a cell that is not held.
     pub fn origins(&self, id: ElementId) -> Option<(Option<ElementId>, Option<ElementId>)>
-        ensures { result ≡ origins_of self.now.cells id }
+        ensures { result ≡ origins_in_cell self.now.cells id }
     {
         match self.runs.head(id) {
             Some(head) => Some((head.left, head.right)),

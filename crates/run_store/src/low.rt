@@ -4,7 +4,7 @@ ghost use Rattle.fugue_ids.specs.Keys.{first_low as first_low_in, front_of, key_
 ghost use Rattle.fugue_ids.specs.Listed.{HoldsOrigin};
 ghost use Rattle.run_store.specs.Cells.{cell_ids, keyed_cells};
 ghost use Rattle.run_store.specs.Heads.{head_behind, typed_cells};
-ghost use Rattle.run_store.specs.Runs.{AreRuns, all_cells, cells_in, first_of};
+ghost use Rattle.run_store.specs.Runs.{all_cells, cells_in, first_of};
 
 use crate::parts::cell_at;
 use crate::run::{Run, Runs, rank_of};
@@ -61,7 +61,6 @@ fn first_low_of(run: &Run, from: u32, most: Key) -> Option<ElementId>
 impl Runs {
     /// The first low cell of the runs behind this many.
     fn first_low_from(&self, runs: usize, most: Key) -> Option<ElementId>
-        requires sound { AreRuns self.now }
         ensures { result ≡ first_low_in most (keyed_cells (all_cells self.now.letters (drop runs self.now.rope))) }
     {
         self.rope.first_low(runs, rank_of(most))
@@ -69,7 +68,6 @@ impl Runs {
 
     /// The last low cell of this many runs.
     fn last_low_to(&self, runs: usize, most: Key) -> Option<ElementId>
-        requires sound { AreRuns self.now }
         ensures { result ≡ last_low_in most (keyed_cells (all_cells self.now.letters (take runs self.now.rope))) }
     {
         match self.rope.last_low_item(runs, rank_of(most)) {
@@ -80,10 +78,10 @@ impl Runs {
 
     /// The first low cell behind this one, or behind the beginning.
     pub(crate) fn first_low(&self, id: Option<ElementId>, most: Key) -> Option<ElementId>
-        requires sound { AreRuns self.now }
-        requires held { HoldsOrigin (cell_ids (cells_in self.now)) id }
+        requires { HoldsOrigin (cell_ids (cells_in self.now)) id }
         ensures { result ≡ first_low_in most (rest_of id (keyed_cells (cells_in self.now))) }
     {
+        self.sound();
         let id = match id {
             Some(id) => id,
             None => return self.first_low_from(0, most),
@@ -97,13 +95,13 @@ impl Runs {
 
     /// The last low cell before this one, or before the end.
     pub(crate) fn last_low(&self, id: Option<ElementId>, most: Key) -> Option<ElementId>
-        requires sound { AreRuns self.now }
-        requires held { HoldsOrigin (cell_ids (cells_in self.now)) id }
+        requires { HoldsOrigin (cell_ids (cells_in self.now)) id }
         ensures { result ≡ last_low_in most (front_of id (keyed_cells (cells_in self.now))) }
     {
+        self.sound();
         let id = match id {
             Some(id) => id,
-            None => return self.last_low_to(self.rope.len(), most),
+            None => return self.last_low_to(self.run_count(), most),
         };
         let spot = self.find(id)?;
         match last_low_of(&spot.run, spot.offset, most) {

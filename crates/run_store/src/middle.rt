@@ -6,9 +6,9 @@ ghost use Rattle.fugue_ids.specs.Keys.{between, rest_of, ids as ids_of};
 ghost use Rattle.fugue_ids.specs.Listed.{HoldsOrigin};
 ghost use Rattle.run_store.specs.Cells.{cell_ids, keyed_cells};
 ghost use Rattle.run_store.specs.Heads.{head_behind};
-ghost use Rattle.run_store.specs.Standings.{BeginsBehind, EndsBefore, IsBegin, IsEnd, IsFound, IsInRun, IsPart, IsWithin};
+ghost use Rattle.run_store.specs.Standings.{BeginsBehind, EndsBefore, IsBegin, IsEndStanding, IsFoundCell, IsInRun, IsStandingPart, IsMemberWithin};
 ghost use Rattle.run_store.specs.Standings.{found_at, index_at};
-ghost use Rattle.run_store.specs.Runs.{AreRuns, cells_in, first_of};
+ghost use Rattle.run_store.specs.Runs.{cells_in, first_of};
 ghost use Rattle.run_store.specs.declared.run.Run.{Run};
 
 use crate::parts::cell_at;
@@ -33,11 +33,11 @@ fn found_in(run: &Run, place: usize, offset: u32) -> Found
 impl Runs {
     /// The cell of this identifier, which is there.
     pub(crate) fn found(&self, id: ElementId) -> Found
-        requires sound { AreRuns self.now }
-        requires held { Contains (cell_ids (cells_in self.now)) id }
-        ensures found { IsFound self.now.rope result }
+        requires { Contains (cell_ids (cells_in self.now)) id }
+        ensures found { IsFoundCell self.now.rope result }
         ensures same { result.id ≡ id }
     {
+        self.sound();
         match self.find(id) {
             Some(spot) => found_in(&spot.run, self.place_of(&spot.run), spot.offset),
             None => unreachable!(),
@@ -46,10 +46,10 @@ impl Runs {
 
     /// Where the cells behind this one begin.
     pub(crate) fn begin_of(&self, from: &Option<ElementId>) -> Standing
-        requires sound { AreRuns self.now }
-        requires held { HoldsOrigin (cell_ids (cells_in self.now)) from.now }
+        requires { HoldsOrigin (cell_ids (cells_in self.now)) from.now }
         ensures { BeginsBehind self.now from.now result }
     {
+        self.sound();
         match *from {
             Some(id) => {
                 let cell = self.found(id);
@@ -67,14 +67,14 @@ impl Runs {
 
     /// Where the cells before this one end.
     pub(crate) fn end_of(&self, to: Option<ElementId>) -> Standing
-        requires sound { AreRuns self.now }
-        requires held { HoldsOrigin (cell_ids (cells_in self.now)) to }
+        requires { HoldsOrigin (cell_ids (cells_in self.now)) to }
         ensures { EndsBefore self.now to result }
     {
+        self.sound();
         match to {
             Some(id) => self.found(id).at,
             None => Standing {
-                place: self.rope.len(),
+                place: self.run_count(),
                 offset: 0,
             },
         }
@@ -82,12 +82,12 @@ impl Runs {
 
     /// A cell of the run at the place, in the middle between two offsets.
     fn middle_of_run(&self, place: usize, from: u32, to: u32) -> Option<Found>
-        requires { AreRuns self.now }
         ensures some { IfSome result (λ m. IsInRun self.now.rope place from to m.id) }
-        ensures found { IfSome result (IsFound self.now.rope) }
+        ensures found { IfSome result (IsFoundCell self.now.rope) }
         ensures none { IfNone result
             ((x : Identifier × Run) → slice_get self.now.rope place ≡ Some x → from < to → x.1.len ≤ from) }
     {
+        self.sound();
         let run = self.run_at(place)?;
         let to = to.min(run.len);
         if from < to {
@@ -100,11 +100,10 @@ impl Runs {
     /// The first cell of a run at a place from `from` on and before `to`: of the run that stands highest in the tree, which
     /// no clause says.
     fn head_within(&self, from: usize, to: usize) -> Option<Found>
-        requires { AreRuns self.now }
         ensures from { IfSome result (λ m. from ≤ m.at.place) }
         ensures to { IfSome result (λ m. m.at.place < to) }
         ensures some { IfSome result (λ m. IsInRun self.now.rope m.at.place 0 1 m.id) }
-        ensures found { IfSome result (IsFound self.now.rope) }
+        ensures found { IfSome result (IsFoundCell self.now.rope) }
         ensures none { IfNone result (from < to → length self.now.rope ≤ from) }
     {
         let (place, run) = self.rope.item_within(from, to)?;
@@ -114,16 +113,16 @@ impl Runs {
     /// A cell between the two places, if there is one: the first one of a run that stands between theirs, or else one in
     /// the middle of what is left of a run at an end.
     fn middle_between(&self, begin: Standing, end: Standing) -> Option<Found>
-        requires sound { AreRuns self.now }
         requires from { IsBegin self.now.rope begin.place begin.offset }
-        requires to { IsEnd self.now.rope end.place end.offset }
+        requires to { IsEndStanding self.now.rope end.place end.offset }
         requires order { index_at self.now begin.place begin.offset ≤ index_at self.now end.place end.offset }
-        ensures some { IfSome result (λ m. IsWithin (cell_ids (cells_in self.now))
+        ensures some { IfSome result (λ m. IsMemberWithin (cell_ids (cells_in self.now))
             (index_at self.now begin.place begin.offset) (index_at self.now end.place end.offset) m.id) }
-        ensures found { IfSome result (IsFound self.now.rope) }
+        ensures found { IfSome result (IsFoundCell self.now.rope) }
         ensures none { IfNone result
             (index_at self.now end.place end.offset ≤ index_at self.now begin.place begin.offset) }
     {
+        self.sound();
         if begin.place == end.place {
             return self.middle_of_run(begin.place, begin.offset, end.offset);
         }
@@ -138,14 +137,14 @@ impl Runs {
 
     /// A cell of the part, if it has any.
     pub(crate) fn middle(&self, part: &Part) -> Option<Found>
-        requires sound { AreRuns self.now }
-        requires part { IsPart self.now part.now }
+        requires { IsStandingPart self.now part.now }
         ensures none { IsNone result
             ↔ (between part.now.from part.now.to (keyed_cells (cells_in self.now)) ≡ []) }
         ensures some { IfSome result
             (λ m. Contains (ids_of (between part.now.from part.now.to (keyed_cells (cells_in self.now)))) m.id) }
-        ensures found { IfSome result (IsFound self.now.rope) }
+        ensures found { IfSome result (IsFoundCell self.now.rope) }
     {
+        self.sound();
         self.middle_between(part.begin, part.end)
     }
 }

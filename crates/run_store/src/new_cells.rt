@@ -4,10 +4,10 @@ ghost use Rattle.fugue_ids.specs.Identifiers.{id_eq};
 ghost use Rattle.fugue_ids.specs.Runs.{next_id};
 ghost use Rattle.run_store.specs.Cells.{cell_of_origin};
 ghost use Rattle.run_store.specs.Growth.{IsHead};
-ghost use Rattle.run_store.specs.Heads.{run_head_of, lettered};
+ghost use Rattle.run_store.specs.Heads.{run_head_of, cell_with_letter};
 ghost use Rattle.run_store.specs.NewCells.{depth_under, forest_beside as forest_by, is_continued as continues};
 ghost use Rattle.run_store.specs.NewCells.{new_head as head_of, shares_right};
-ghost use Rattle.run_store.specs.Runs.{AreRuns, cells_in};
+ghost use Rattle.run_store.specs.Runs.{cells_in};
 
 use crate::cell::Head;
 use crate::run::Runs;
@@ -22,7 +22,7 @@ fn is_next(last: &ElementId, id: &ElementId) -> bool
 
 /// Whether a new cell directly behind this one continues its run.
 pub(crate) fn is_continued(last: &Head, new: &Head) -> bool
-    ensures { result ≡ continues (Some (lettered last.now 0)) new.now.id new.now.left new.now.right }
+    ensures { result ≡ continues (Some (cell_with_letter last.now 0)) new.now.id new.now.left new.now.right }
 {
     if new.left != Some(last.id) {
         return false;
@@ -36,7 +36,6 @@ pub(crate) fn is_continued(last: &Head, new: &Head) -> bool
 impl Runs {
     /// What the cell of a left origin says of itself.
     fn left_origin(&self, origin: &Option<ElementId>) -> Option<Head>
-        requires { AreRuns self.now }
         ensures is { result ≡ option_map run_head_of (cell_of_origin (cells_in self.now) origin.now) }
         ensures depths { IfSome result (λ h. h.key.depth ≤ length (cells_in self.now)) }
         ensures forests { IfSome result (λ h. h.key.forest ≤ length (cells_in self.now)) }
@@ -49,7 +48,6 @@ impl Runs {
 
     /// The same of a right origin, which mostly stands directly behind the left one: that is at hand.
     fn right_origin(&self, origin: &Option<ElementId>) -> Option<Head>
-        requires { AreRuns self.now }
         ensures is { result ≡ option_map run_head_of (cell_of_origin (cells_in self.now) origin.now) }
         ensures depths { IfSome result (λ h. h.key.depth ≤ length (cells_in self.now)) }
         ensures forests { IfSome result (λ h. h.key.forest ≤ length (cells_in self.now)) }
@@ -62,8 +60,7 @@ impl Runs {
 
     /// One more than the forest of the right origin, where that has the same left origin.
     fn forest_beside(&self, left: &Option<ElementId>, right: &Option<ElementId>) -> u32
-        requires sound { AreRuns self.now }
-        requires room { length (cells_in self.now) < MOST_OPERATIONS }
+        requires { length (cells_in self.now) < MOST_OPERATIONS }
         ensures is { result ≡ forest_by (cells_in self.now) left.now right.now }
         ensures small { result ≤ suc (length (cells_in self.now)) }
     {
@@ -81,7 +78,6 @@ impl Runs {
 
     /// The depth of the left origin, and whether that has the right origin itself.
     fn parent(&self, left: &Option<ElementId>, right: &Option<ElementId>) -> (u32, bool)
-        requires { AreRuns self.now }
         ensures depth { result.0 ≡ depth_under (cells_in self.now) left.now }
         ensures small { result.0 ≤ length (cells_in self.now) }
         ensures shares { result.1 ≡ shares_right (cells_in self.now) left.now right.now }
@@ -99,8 +95,7 @@ impl Runs {
         left: Option<ElementId>,
         right: Option<ElementId>,
     ) -> Head
-        requires sound { AreRuns self.now }
-        requires room { length (cells_in self.now) < MOST_OPERATIONS }
+        requires { length (cells_in self.now) < MOST_OPERATIONS }
         ensures is { result ≡ head_of (cells_in self.now) id left right }
         ensures head { IsHead (cells_in self.now) result }
     {

@@ -1,7 +1,7 @@
 // Cells of a run, and parts of it as runs.
 ghost use Rattle.std.specs.Prelude.{◌≡◌, ◌+◌, ◌<◌, ◌≤◌, ◌^◌};
 ghost use Rattle.run_store.specs.Heads.{head_behind};
-ghost use Rattle.run_store.specs.Runs.{first_of, run_from as rest_by, run_to as front_by};
+ghost use Rattle.run_store.specs.Runs.{first_of, run_behind as rest_by, run_to as front_by};
 
 use crate::cell::Head;
 use crate::run::{Origin, Run};
@@ -56,7 +56,7 @@ pub(crate) fn run_to(run: &Run, n: u32) -> Run
 }
 
 /// The cells of a run from the place n on, as a run.
-pub(crate) fn run_from(run: &Run, n: u32) -> Run
+pub(crate) fn run_behind(run: &Run, n: u32) -> Run
     requires counters { run.now.id.counter + n < 2 ^ 32 }
     requires depths { run.now.key.depth + n < 2 ^ 32 }
     requires within { n ≤ run.now.len }

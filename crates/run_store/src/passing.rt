@@ -7,8 +7,8 @@ ghost use Rattle.fugue_ids.specs.Keys.{low_ids, rest_of};
 ghost use Rattle.fugue_ids.specs.Listed.{HoldsOrigin};
 ghost use Rattle.fugue_ids.specs.Passing.{Falls, IsTest, last_passing as last_passing_of};
 ghost use Rattle.run_store.specs.Cells.{keyed_cells};
-ghost use Rattle.run_store.specs.Standings.{IsFound, IsPart, low_cells};
-ghost use Rattle.run_store.specs.Runs.{AreRuns, cells_in};
+ghost use Rattle.run_store.specs.Standings.{IsFoundCell, IsStandingPart, low_cells};
+ghost use Rattle.run_store.specs.Runs.{cells_in};
 
 use crate::low::is_at_most;
 use crate::run::Runs;
@@ -23,11 +23,11 @@ impl Runs {
         to: Option<ElementId>,
         most: Key,
     ) -> Option<ElementId>
-        requires sound { AreRuns self.now }
         requires from { HoldsOrigin (ids_of (keyed_cells (cells_in self.now))) from }
         requires to { HoldsOrigin (low_ids most (rest_of from (keyed_cells (cells_in self.now)))) to }
         ensures { result ≡ first_low_of most (between from to (keyed_cells (cells_in self.now))) }
     {
+        self.sound();
         let first = self.first_low(from, most);
         if first == to { None } else { first }
     }
@@ -39,24 +39,24 @@ impl Runs {
         to: Option<ElementId>,
         most: Key,
     ) -> Option<ElementId>
-        requires sound { AreRuns self.now }
         requires from { HoldsOrigin (low_ids most (keyed_cells (cells_in self.now))) from.now }
         requires to { HoldsOrigin (ids_of (rest_of from.now (keyed_cells (cells_in self.now)))) to }
         ensures { result ≡ last_low_of most (between from.now to (keyed_cells (cells_in self.now))) }
     {
+        self.sound();
         let last = self.last_low(to, most);
         if last == *from { None } else { last }
     }
 
     /// The last low cell of the part, up to this one of it, or else the first one behind it.
     fn low_beside(&self, part: &Part, middle: ElementId) -> Option<ElementId>
-        requires sound { AreRuns self.now }
-        requires part { IsPart self.now part.now }
+        requires part { IsStandingPart self.now part.now }
         requires inside { Contains (ids_of (between part.now.from part.now.to (keyed_cells (cells_in self.now))))
             middle }
         ensures none { IsNone result ↔ (low_cells self.now part.now ≡ []) }
         ensures some { IfSome result (Contains (low_cells self.now part.now)) }
     {
+        self.sound();
         let next = self.behind(Some(middle));
         match self.last_low_in(&part.from, next, part.most) {
             Some(low) => Some(low),
@@ -66,12 +66,12 @@ impl Runs {
 
     /// A low cell of the part, if it has any: one near the middle.
     fn near_middle(&self, part: &Part) -> Option<Found>
-        requires sound { AreRuns self.now }
-        requires part { IsPart self.now part.now }
+        requires { IsStandingPart self.now part.now }
         ensures none { IsNone result ↔ (low_cells self.now part.now ≡ []) }
         ensures some { IfSome result (λ f. Contains (low_cells self.now part.now) f.id) }
-        ensures found { IfSome result (IsFound self.now.rope) }
+        ensures found { IfSome result (IsFoundCell self.now.rope) }
     {
+        self.sound();
         let middle = self.middle(part)?;
         if is_at_most(middle.key, part.most) {
             return Some(middle);
@@ -87,14 +87,14 @@ impl Runs {
         mut rest: Part,
         test: P,
     ) -> Option<ElementId>
-        requires sound { AreRuns self.now }
-        requires part { IsPart self.now rest }
+        requires part { IsStandingPart self.now rest }
         requires callable { P.IsAlwaysCallable test }
         ensures { (g : Identifier → Bool) → IsTest (P.post test) g → Falls g (low_cells self.now rest)
             → result ≡ last_passing_of g (low_cells self.now rest) }
     {
         let mut passing = None;
         'halve: while let Some(low) = self.near_middle(&rest) {
+            self.sound();
             if test(low.id) {
                 passing = Some(low.id);
                 rest.from = Some(low.id);
@@ -119,7 +119,6 @@ impl Runs {
         most: Key,
         test: P,
     ) -> Option<ElementId>
-        requires sound { AreRuns self.now }
         requires from { HoldsOrigin (low_ids most (keyed_cells (cells_in self.now))) from }
         requires to { HoldsOrigin (low_ids most (rest_of from (keyed_cells (cells_in self.now)))) to }
         requires callable { P.IsAlwaysCallable test }
@@ -127,6 +126,7 @@ impl Runs {
             → Falls g (low_ids most (between from to (keyed_cells (cells_in self.now))))
             → result ≡ last_passing_of g (low_ids most (between from to (keyed_cells (cells_in self.now)))) }
     {
+        self.sound();
         let last = self.last_low_in(&from, to, most)?;
         if test(last) {
             return Some(last);

@@ -1,9 +1,11 @@
-ghost use Rattle.std.specs.Prelude.{◌≡◌};
+ghost use Rattle.std.specs.Prelude.{◌≡◌, ◌∷◌, [], length};
 ghost use Rattle.run_store.specs.Heads.{rank_of as number_of};
+ghost use Rattle.run_store.specs.Runs.{AreRuns, cells_in};
 
 use crate::letters::Letters;
 use fugue_ids::{ElementId, Key, MOST_OPERATIONS};
 use node_rope::{Rope, Weigh};
+use std::alloc::Global;
 use std::marker::Model;
 use std::mem::size_of;
 
@@ -17,7 +19,7 @@ pub struct Origin {
 impl Model for Origin {
     ghost use Rattle.std.specs.Prelude.{Option};
     ghost use Rattle.fugue_ids.specs.Identifiers.{Identifier};
-    ghost use Rattle.run_store.specs.Origins.{IsExact, id_if, parts_of};
+    ghost use Rattle.run_store.specs.Origins.{IsExact, id_if, origin_parts};
 
     ghost Value = { Option Identifier };
 
@@ -25,7 +27,7 @@ impl Model for Origin {
 
     ghost invariant = { IsExact };
 
-    ghost inverse = { parts_of };
+    ghost inverse = { origin_parts };
 
     ghost inverse_ok = { λ o exact. exact };
 }
@@ -53,12 +55,57 @@ impl Origin {
     }
 }
 
-/// Runs of cells, each under its first identifier, with their letters and a count of all cells.
+/// Runs of cells, each under its first identifier, with their letters and a count of all cells. They are seen as these.
 #[derive(Drop)]
 pub struct Runs {
     pub(crate) rope: Rope<Run>,
     pub(crate) letters: Letters,
     pub(crate) count: usize,
+}
+
+impl Model for Runs {
+    ghost use Rattle.run_store.specs.Runs.{AreRuns, Kept};
+
+    ghost Value = { Kept };
+
+    ghost view = { λ r. record { rope = r.rope; letters = r.letters; count = r.count } };
+
+    ghost invariant = { λ r. AreRuns (record { rope = r.rope; letters = r.letters; count = r.count }) };
+}
+
+impl Runs {
+    /// No runs. It takes no memory.
+    pub(crate) fn new(alloc: Global) -> Runs
+        ensures { result ≡ record { rope = []; letters = [] ∷ []; count = 0 } }
+    {
+        Runs {
+            rope: Rope::new(alloc),
+            letters: Letters::new(alloc),
+            count: 0,
+        }
+    }
+
+    /// What is so of all runs, for a proof that needs it: nothing is done.
+    #[inline]
+    pub(crate) fn sound(&self)
+        ensures { AreRuns self.now }
+    {
+        let _ = &self.rope;
+    }
+
+    /// How many runs there are.
+    pub(crate) fn run_count(&self) -> usize
+        ensures { result ≡ length self.now.rope }
+    {
+        self.rope.len()
+    }
+
+    /// How many cells there are.
+    pub(crate) fn len(&self) -> usize
+        ensures { result ≡ length (cells_in self.now) }
+    {
+        self.count
+    }
 }
 
 /// Cells that stand next to each other: each but the first is the letter behind the one before it. What it says of

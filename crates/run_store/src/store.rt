@@ -7,21 +7,18 @@ ghost use Rattle.fugue_ids.specs.Outs.{WritesBytes};
 ghost use Rattle.origin_model.specs.sides.Slot.{IsBeside};
 ghost use Rattle.origin_model.specs.sides.KeyedGap.{gap_index};
 ghost use Rattle.origin_model.specs.edits.Landing.{following};
-ghost use Rattle.run_store.specs.Cells.{cell_hiding, cells_hiding, cell_ids, is_hidden_cell as hidden_in, keyed_cells, origins_of};
-ghost use Rattle.run_store.specs.Cells.{cell_text, cells_shown};
-ghost use Rattle.run_store.specs.Hiding.{AreHeld, AreHidden};
+ghost use Rattle.run_store.specs.Cells.{cell_hiding, cells_hiding, cell_ids, is_hidden_cell as hidden_in, keyed_cells};
+ghost use Rattle.run_store.specs.Hiding.{HaveCells, AreHidden};
 ghost use Rattle.run_store.specs.Growth.{AreFresh, inserted_at};
 ghost use Rattle.run_store.specs.NewCells.{continues, new_cell, new_cells};
-ghost use Rattle.run_store.specs.Stored.{IsAloneWhereEmpty, IsRaised};
+ghost use Rattle.run_store.specs.Stored.{IsAloneWhereEmpty, IsRaisedBy};
 
 use crate::insert::Beginning;
-use crate::letters::Letters;
 use crate::run::Runs;
 use crate::shown::Shown;
 use fugue_ids::{
     ElementId, Failed, Gap, Gather, Key, MOST_OPERATIONS, NoMemory, OrderOf, Out, Sink,
 };
-use node_rope::Rope;
 use std::alloc::Global;
 use std::marker::Model;
 
@@ -43,11 +40,9 @@ impl Model for RunStore {
 
     ghost Value = { Stored };
 
-    ghost use Rattle.run_store.specs.Runs.{AreRuns, cells_in};
+    ghost use Rattle.run_store.specs.Runs.{cells_in};
 
     ghost view = { λ s. record { cells = cells_in s.runs; runs = length s.runs.rope } };
-
-    ghost invariant = { λ s. AreRuns s.runs };
 }
 
 impl RunStore {
@@ -56,11 +51,7 @@ impl RunStore {
         ensures { result ≡ record { cells = []; runs = 0 } }
     {
         RunStore {
-            runs: Runs {
-                rope: Rope::new(alloc),
-                letters: Letters::new(alloc),
-                count: 0,
-            },
+            runs: Runs::new(alloc),
         }
     }
 
@@ -90,8 +81,8 @@ impl RunStore {
         ensures err { OnErr result (self.new.cells ≡ self.old.cells) }
         ensures continued { OnOk result
             (continues self.old.cells gap id left right ≡ true → self.new.runs ≡ self.old.runs) }
-        ensures raised { OnOk result (IsRaised 2 self.old.runs self.new.runs) }
-        ensures refused { OnErr result (IsRaised 1 self.old.runs self.new.runs) }
+        ensures raised { OnOk result (IsRaisedBy 2 self.old.runs self.new.runs) }
+        ensures refused { OnErr result (IsRaisedBy 1 self.old.runs self.new.runs) }
     {
         let counter = id.counter;
         prove!(counter <= u32::MAX);
@@ -120,9 +111,10 @@ impl RunStore {
         ensures err { OnErr result (self.new.cells ≡ self.old.cells) }
         ensures continued { OnOk result
             (continues self.old.cells gap id left right ≡ true → self.new.runs ≡ self.old.runs) }
-        ensures raised { OnOk result (IsRaised 2 self.old.runs self.new.runs) }
-        ensures refused { OnErr result (IsRaised 1 self.old.runs self.new.runs) }
+        ensures raised { OnOk result (IsRaisedBy 2 self.old.runs self.new.runs) }
+        ensures refused { OnErr result (IsRaisedBy 1 self.old.runs self.new.runs) }
     {
+        self.runs.sound();
         let head = self.runs.new_head(id, left, right);
         match gap {
             Gap::Alone => self.runs.begin(Beginning::First, &head, text),
@@ -136,8 +128,8 @@ impl RunStore {
         requires held { Contains (cell_ids self.old.cells) id }
         ensures ok { OnOk result (self.new.cells ≡ map (cell_hiding id) self.old.cells) }
         ensures err { OnErr result (self.new.cells ≡ self.old.cells) }
-        ensures raised { OnOk result (IsRaised 2 self.old.runs self.new.runs) }
-        ensures refused { OnErr result (IsRaised 1 self.old.runs self.new.runs) }
+        ensures raised { OnOk result (IsRaisedBy 2 self.old.runs self.new.runs) }
+        ensures refused { OnErr result (IsRaisedBy 1 self.old.runs self.new.runs) }
         ensures again { hidden_in self.old.cells id ≡ true → self.new ≡ self.old }
     {
         let counter = id.counter;
@@ -152,12 +144,12 @@ impl RunStore {
     /// Want of memory leaves fewer hidden, and tells how many.
     pub fn hide_run(&mut self, first: ElementId, count: u32) -> Result<(), StoppedAfter>
         requires counters { first.counter + count ≤ 2 ^ 32 }
-        requires held { AreHeld self.old.cells first count }
+        requires held { HaveCells self.old.cells first count }
         ensures ok { OnOk result (self.new.cells ≡ cells_hiding first count self.old.cells) }
         ensures err { IfErr result (λ e. self.new.cells ≡ cells_hiding first e.done self.old.cells) }
         ensures fewer { IfErr result (λ e. e.done < count) }
-        ensures raised { OnOk result (IsRaised (2 * count) self.old.runs self.new.runs) }
-        ensures refused { IfErr result (λ e. IsRaised (2 * e.done + 1) self.old.runs self.new.runs) }
+        ensures raised { OnOk result (IsRaisedBy (2 * count) self.old.runs self.new.runs) }
+        ensures refused { IfErr result (λ e. IsRaisedBy (2 * e.done + 1) self.old.runs self.new.runs) }
         ensures again { AreHidden self.old.cells first count → self.new ≡ self.old }
     {
         self.runs.hide_run(first, count)
@@ -176,6 +168,7 @@ impl OrderOf for RunStore {
     }
 
     fn key(&self, id: ElementId) -> Key {
+        self.runs.sound();
         match self.runs.head(id) {
             Some(head) => head.key,
             None => Key {
@@ -208,6 +201,7 @@ impl OrderOf for RunStore {
         most: Key,
         test: P,
     ) -> Option<ElementId> {
+        self.runs.sound();
         self.runs.last_passing(from, to, most, test)
     }
 }

@@ -4,7 +4,7 @@ ghost use Rattle.std.specs.Prelude.{slice_get};
 ghost use Rattle.std.specs.Str.{encode_utf8_all};
 ghost use Rattle.fugue_ids.specs.Gathers.{GathersText};
 ghost use Rattle.run_store.specs.Cells.{cell_text, cell_ids, cells_shown, shown_before};
-ghost use Rattle.run_store.specs.Runs.{AreRuns, cells_in, cells_of, visible_weight};
+ghost use Rattle.run_store.specs.Runs.{cells_in, cells_of, visible_weight};
 ghost use Rattle.run_store.specs.Shown.{IsInHand};
 ghost use Rattle.node_rope.specs.Items.{value_under};
 ghost use Rattle.node_rope.specs.Places.{StandsAt, weight_sum};
@@ -61,7 +61,6 @@ fn visible_within(spot: &Spot) -> usize
 impl Runs {
     /// Puts the letters of all runs that are not hidden.
     pub(crate) fn put_text<O: Out>(&self, gather: &mut Gather, output: &mut O) -> Result<(), Failed>
-        requires { AreRuns self.now }
         ensures { GathersText (O.seen output.old) (O.seen output.new) gather.old gather.new result
             (encode_utf8_all (cell_text (cells_in self.now))) }
     {
@@ -77,7 +76,6 @@ impl Runs {
 
 impl Runs {
     pub(crate) fn visible_count(&self) -> usize
-        requires { AreRuns self.now }
         ensures { result ≡ length (cells_shown (cells_in self.now)) }
     {
         self.rope.total() as usize
@@ -85,7 +83,6 @@ impl Runs {
 
     /// Where the visible cell behind i others is.
     pub(crate) fn visible_spot(&self, i: usize) -> Option<Spot>
-        requires { AreRuns self.now }
         ensures some { IfSome result (λ s. IsInHand (cell_ids (cells_shown (cells_in self.now))) i s.run s.offset) }
         ensures none { IfNone result (slice_get (cell_ids (cells_shown (cells_in self.now))) i ≡ None) }
     {
@@ -100,11 +97,11 @@ impl Runs {
 
     /// How many visible cells stand before this one, which may be hidden itself.
     pub(crate) fn visible_before(&self, id: ElementId) -> Option<usize>
-        requires { AreRuns self.now }
         ensures some { IfSome result (λ n. n ≡ shown_before (cells_in self.now) id) }
         ensures held { IfSome result (λ n. Contains (cell_ids (cells_in self.now)) id) }
         ensures none { IfNone result (Contains (cell_ids (cells_in self.now)) id → ⊥) }
     {
+        self.sound();
         match self.find(id) {
             Some(spot) => Some(self.visible_to(&spot.run) + visible_within(&spot)),
             None => None,
@@ -113,8 +110,7 @@ impl Runs {
 
     /// How many visible cells stand before the run.
     fn visible_to(&self, run: &Run) -> usize
-        requires sound { AreRuns self.now }
-        requires held { value_under run.now.id self.now.rope ≡ Some run.now }
+        requires { value_under run.now.id self.now.rope ≡ Some run.now }
         ensures visible { (i : ℕ) × StandsAt self.now.rope i run.now.id
             × (result ≡ weight_sum visible_weight (take i self.now.rope)) }
         ensures few { result ≤ MOST_OPERATIONS }
@@ -123,7 +119,6 @@ impl Runs {
     }
 
     pub(crate) fn nth_visible(&self, i: usize) -> Option<ElementId>
-        requires { AreRuns self.now }
         ensures { result ≡ slice_get (cell_ids (cells_shown (cells_in self.now))) i }
     {
         let spot = self.visible_spot(i)?;

@@ -5,7 +5,7 @@ ghost use Rattle.fugue_ids.specs.Keys.{first_id, front_of, last_id, rest_of};
 ghost use Rattle.fugue_ids.specs.Listed.{HoldsOrigin, index_of};
 ghost use Rattle.node_rope.specs.Items.{value_under};
 ghost use Rattle.run_store.specs.Cells.{cell_ids, keyed_cells};
-ghost use Rattle.run_store.specs.Runs.{AreRuns, IsSpot, all_cells, cells_in};
+ghost use Rattle.run_store.specs.Runs.{IsCellSpot, all_cells, cells_in};
 
 use crate::find::Spot;
 use crate::parts::cell_at;
@@ -15,9 +15,9 @@ use fugue_ids::ElementId;
 impl Runs {
     /// The cell behind this one.
     fn behind_cell(&self, id: ElementId) -> Option<ElementId>
-        requires { AreRuns self.now }
         ensures { result ≡ first_id (rest_of (Some id) (keyed_cells (cells_in self.now))) }
     {
+        self.sound();
         let spot = self.find(id)?;
         if spot.offset + 1 < spot.run.len {
             Some(cell_at(&spot.run, spot.offset + 1).id)
@@ -28,7 +28,6 @@ impl Runs {
 
     /// The cell behind this one; the first one behind the beginning.
     pub(crate) fn behind(&self, id: Option<ElementId>) -> Option<ElementId>
-        requires { AreRuns self.now }
         ensures { result ≡ first_id (rest_of id (keyed_cells (cells_in self.now))) }
     {
         match id {
@@ -39,10 +38,10 @@ impl Runs {
 
     /// The last cell of this many runs.
     fn last_of(&self, runs: usize) -> Option<ElementId>
-        requires sound { AreRuns self.now }
-        requires within { runs ≤ length self.now.rope }
+        requires { runs ≤ length self.now.rope }
         ensures { result ≡ last_id (keyed_cells (all_cells self.now.letters (take runs self.now.rope))) }
     {
+        self.sound();
         if runs == 0 {
             return None;
         }
@@ -52,10 +51,10 @@ impl Runs {
 
     /// The cell before this one.
     fn before_cell(&self, id: ElementId) -> Option<ElementId>
-        requires sound { AreRuns self.now }
-        requires held { Contains (cell_ids (cells_in self.now)) id }
+        requires { Contains (cell_ids (cells_in self.now)) id }
         ensures { result ≡ last_id (front_of (Some id) (keyed_cells (cells_in self.now))) }
     {
+        self.sound();
         let spot = self.find(id)?;
         if spot.offset > 0 {
             Some(cell_at(&spot.run, spot.offset - 1).id)
@@ -66,26 +65,25 @@ impl Runs {
 
     /// The cell before this one; the last one before the end.
     pub(crate) fn before(&self, id: Option<ElementId>) -> Option<ElementId>
-        requires sound { AreRuns self.now }
-        requires held { HoldsOrigin (cell_ids (cells_in self.now)) id }
+        requires { HoldsOrigin (cell_ids (cells_in self.now)) id }
         ensures { result ≡ last_id (front_of id (keyed_cells (cells_in self.now))) }
     {
         match id {
             Some(id) => self.before_cell(id),
-            None => self.last_of(self.rope.len()),
+            None => self.last_of(self.run_count()),
         }
     }
 
     /// Whether the cell at a spot stands before that at another. Within a run their offsets tell.
     fn stands_before(&self, x: &Spot, y: &Spot) -> bool
-        requires sound { AreRuns self.now }
         requires first { value_under x.now.run.id self.now.rope ≡ Some x.now.run }
         requires second { value_under y.now.run.id self.now.rope ≡ Some y.now.run }
-        ensures { (a b : Identifier) → IsSpot self.now.rope a x.now.run x.now.offset
-            → IsSpot self.now.rope b y.now.run y.now.offset
+        ensures { (a b : Identifier) → IsCellSpot self.now.rope a x.now.run x.now.offset
+            → IsCellSpot self.now.rope b y.now.run y.now.offset
             → result ≡ nat_lt (index_of (cell_ids (cells_in self.now)) a)
             (index_of (cell_ids (cells_in self.now)) b) }
     {
+        self.sound();
         if x.run.id == y.run.id {
             return x.offset < y.offset;
         }
@@ -94,13 +92,13 @@ impl Runs {
 
     /// Whether a stands before b. Of a cell that is not held the answer is no.
     pub(crate) fn is_before(&self, a: ElementId, b: ElementId) -> bool
-        requires { AreRuns self.now }
         ensures both { Contains (cell_ids (cells_in self.now)) a → Contains (cell_ids (cells_in self.now)) b
             → result ≡ nat_lt (index_of (cell_ids (cells_in self.now)) a)
             (index_of (cell_ids (cells_in self.now)) b) }
         ensures none { ((Contains (cell_ids (cells_in self.now)) a → ⊥)
             ⊎ (Contains (cell_ids (cells_in self.now)) b → ⊥)) → result ≡ false }
     {
+        self.sound();
         let Some(x) = self.find(a) else {
             return false;
         };

@@ -13,7 +13,7 @@ use Rattle.section_catalogue.specs.declared.tables.Section.{Section as Titled}
 use Rattle.section_catalogue.specs.Contents.{Contents, section_count_at, listed_count, place_count, section_at}
 use Rattle.section_catalogue.specs.Place.{Lists, cell_in}
 use Rattle.origin_model.proofs.SharedLemmas.{order_bounded}
-use Rattle.section_catalogue.specs.Manuscript.{StandsFor}
+use Rattle.section_catalogue.specs.Manuscript.{Represents}
 
 -- what lists a place has at most one member for each operation
 listed_bounded : (p : Place) (h : List Op) (s : Listing) → Lists p h s → length s.cells ≤ length h
@@ -25,7 +25,7 @@ text_bounded s h None l = omega arith
 text_bounded s h (Some e) l = listed_bounded (within s) h e.text l
 
 -- no place has more elements than the history has operations, so where the history has room, each place has
-pub places_bounded : (m : Contents) (h : List Op) (op : Op) → StandsFor m h → place_count m op ≤ length h
+pub places_bounded : (m : Contents) (h : List Op) (op : Op) → Represents m h → place_count m op ≤ length h
 places_bounded m h op s = by_place (place op)
   where
     by_place : (o : Option Place) → (elim o [ None ↦ 0 | Some p ↦ section_count_at m p ]) ≤ length h

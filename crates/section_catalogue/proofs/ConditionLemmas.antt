@@ -17,10 +17,10 @@ use Rattle.origin_model.specs.declared.operations.Place.TheVariants.{Catalogue a
 use Rattle.origin_model.specs.declared.operations.Verdict.TheVariants.{Ready}
 use Rattle.section_list.specs.SectionList.{Listing}
 use Rattle.section_catalogue.specs.declared.tables.Section.{Section as Titled}
-use Rattle.section_catalogue.specs.Changes.{HoldsAt}
+use Rattle.section_catalogue.specs.Changes.{IsElementAt}
 use Rattle.section_catalogue.specs.Contents.{Contents, place_at, section_at}
 use Rattle.section_catalogue.specs.Place.{Lists, place_held, title_held}
-use Rattle.section_catalogue.specs.Manuscript.{IsReadyOn, StandsFor}
+use Rattle.section_catalogue.specs.Manuscript.{IsReadyOn, Represents}
 use Rattle.origin_model.proofs.SharedLemmas.{holder-other, holder-own, order_by_nodes, ready_is_new, section_first, stands_element}
 use Rattle.section_catalogue.proofs.HolderLemmas.{is_in, none_held}
 use Rattle.section_catalogue.proofs.ListingLemmas.{is_new, node_alike, node_of}
@@ -59,13 +59,13 @@ not_there None e = refl
 not_there (Some x) e = cc
 
 -- a section of the catalogue is there
-entry_there : (m : Contents) (h : List Op) (s : Identifier) → StandsFor m h → IsIn catalogue h s → IsSome (section_at m s)
+entry_there : (m : Contents) (h : List Op) (s : Identifier) → Represents m h → IsIn catalogue h s → IsSome (section_at m s)
 entry_there m h s k i =
     let n = titled i.op s i.place in
     is_there (section_at m s) n.0 (k.titles s ∙ ap title_held i.held ∙ n.1)
 
 -- a place holds the elements that it has
-pub held_at : (m : Contents) (h : List Op) (p : Place) (x : Identifier) → StandsFor m h → place_at m x ≡ Some p → HoldsAt m p x
+pub held_at : (m : Contents) (h : List Op) (p : Place) (x : Identifier) → Represents m h → place_at m x ≡ Some p → IsElementAt m p x
 held_at m h catalogue x k e =
     node_alike m.catalogue.nodes (nodes catalogue h) k.sections.same_nodes x
     ∙ ((order_by_nodes catalogue h k.lawful).same_members x).0 (is_in catalogue h x (sym (k.places x) ∙ e))
@@ -82,7 +82,7 @@ held_at m h (within s) x k e =
 pub ready_here : (old now : Contents) (op o : Op) → old ≡ now → op ≡ o → IsReadyOn now op → IsReadyOn old o
 ready_here old now op o v e r = record {
   history = r.history;
-  stands = subst (λ m. StandsFor m r.history) (sym v) r.stands;
+  stands = subst (λ m. Represents m r.history) (sym v) r.stands;
   ready = subst (λ z. verdict r.history z ≡ Ready) e r.ready;
 }
 
@@ -113,5 +113,5 @@ target_delete (Delete y) x e = let same : y ≡ x = cc in ap Delete same
 target_delete _ x e = cc
 
 -- a manuscript has a place for each element of the histories that it stands for, so it can hide each
-pub held_has_place : (m : Contents) (h : List Op) (x : Identifier) (op : Op) → StandsFor m h → holder h x ≡ Some op → IsSome (place op) → IsSome (place_at m x)
+pub held_has_place : (m : Contents) (h : List Op) (x : Identifier) (op : Op) → Represents m h → holder h x ≡ Some op → IsSome (place op) → IsSome (place_at m x)
 held_has_place m h x op s held placed = subst IsSome (sym (s.places x ∙ ap place_held held)) placed

@@ -21,7 +21,7 @@ use Rattle.section_catalogue.specs.declared.tables.Section.{Section as Titled}
 use Rattle.section_catalogue.specs.Changes.{AddsSection, AddsText}
 use Rattle.section_catalogue.specs.Contents.{Contents, place_at, section_at}
 use Rattle.section_catalogue.specs.Place.{Lists, cell_in, place_held, scalar_held, title_held}
-use Rattle.section_catalogue.specs.Manuscript.{StandsFor}
+use Rattle.section_catalogue.specs.Manuscript.{Represents}
 use Rattle.section_catalogue.proofs.HolderLemmas.{cell-older, holder-new, holder-older, nodes-other, none_held, order-nothing, order-other}
 use Rattle.section_catalogue.proofs.ListingLemmas.{grown, node_of, unmoved}
 use Rattle.section_catalogue.proofs.TextLemmas.{each_text, if_some, titles_stay}
@@ -82,8 +82,8 @@ no_text op h s w f n =
 
 -- a section came
 pub section_stands : (old new : Contents) (h : List Op) (id : Identifier) (left right : Option Identifier) (title : List ℕ)
-    → StandsFor old h → verdict h (Section id left right title) ≡ Ready → AddsSection old new (record { id = id; left = left; right = right }) title
-    → StandsFor new (Section id left right title ∷ h)
+    → Represents old h → verdict h (Section id left right title) ≡ Ready → AddsSection old new (record { id = id; left = left; right = right }) title
+    → Represents new (Section id left right title ∷ h)
 section_stands old new h id left right title s ready c =
     let op : Op = Section id left right title in
     let w : Lawful (op ∷ h) = (ready, s.lawful) in
@@ -103,8 +103,8 @@ section_stands old new h id left right title s ready c =
 
 -- an element of a section came
 pub text_stands : (old new : Contents) (h : List Op) (id section : Identifier) (left right : Option Identifier) (ch : ℕ)
-    → StandsFor old h → verdict h (Text id section left right ch) ≡ Ready → AddsText old new section (record { id = id; left = left; right = right }) ch
-    → StandsFor new (Text id section left right ch ∷ h)
+    → Represents old h → verdict h (Text id section left right ch) ≡ Ready → AddsText old new section (record { id = id; left = left; right = right }) ch
+    → Represents new (Text id section left right ch ∷ h)
 text_stands old new h id section left right ch s ready c =
     let op : Op = Text id section left right ch in
     let w : Lawful (op ∷ h) = (ready, s.lawful) in
@@ -121,7 +121,7 @@ text_stands old new h id section left right ch s ready c =
 
 -- a note came: it stands in no place
 pub note_stands : (m : Contents) (h : List Op) (id : Identifier) (named : List Identifier) (code : ℕ) (body : List ℕ)
-    → StandsFor m h → verdict h (Note id named code body) ≡ Ready → StandsFor m (Note id named code body ∷ h)
+    → Represents m h → verdict h (Note id named code body) ≡ Ready → Represents m (Note id named code body ∷ h)
 note_stands m h id named code body s ready =
     let op : Op = Note id named code body in
     let w : Lawful (op ∷ h) = (ready, s.lawful) in

@@ -20,7 +20,7 @@ use Rattle.section_catalogue.specs.declared.tables.Section.{Section as Titled}
 use Rattle.section_catalogue.specs.Changes.{HidesAt, HidesSection, HidesText}
 use Rattle.section_catalogue.specs.Contents.{Contents, place_at, section_at}
 use Rattle.section_catalogue.specs.Place.{Lists, cell_in, place_held, scalar_held, title_held}
-use Rattle.section_catalogue.specs.Manuscript.{Hides, StandsFor, once_hidden}
+use Rattle.section_catalogue.specs.Manuscript.{Hides, Represents, once_hidden}
 use Rattle.origin_model.proofs.SharedLemmas.{shown_can_go, target_is_shown}
 use Rattle.section_catalogue.proofs.HolderLemmas.{has_holder, nodes-other, order-other}
 use Rattle.section_catalogue.proofs.ListingLemmas.{hidden, unmoved}
@@ -99,7 +99,7 @@ module _ (x : Identifier) (h now : List Op) (k : IsHiding x h now) where
   elsewhere q s w n l = unmoved q h now x s w l n (k.nodes q) (k.orders q) cell-other
 
   -- where the place of x is the catalogue
-  section_hidden : (old new : Contents) → StandsFor old h → place_held (holder h x) ≡ Some catalogue → HidesSection old new x → StandsFor new now
+  section_hidden : (old new : Contents) → Represents old h → place_held (holder h x) ≡ Some catalogue → HidesSection old new x → Represents new now
   section_hidden old new s p c =
       record {
         lawful = k.lawful;
@@ -112,7 +112,7 @@ module _ (x : Identifier) (h now : List Op) (k : IsHiding x h now) where
       }
 
   -- where it is a section
-  text_hidden : (old new : Contents) (section : Identifier) → StandsFor old h → place_held (holder h x) ≡ Some (within section) → HidesText old new section x → StandsFor new now
+  text_hidden : (old new : Contents) (section : Identifier) → Represents old h → place_held (holder h x) ≡ Some (within section) → HidesText old new section x → Represents new now
   text_hidden old new section s p c =
       let hide : Titled → Titled = λ t. record t { text = with_hidden x t.text } in
       record {
@@ -134,7 +134,7 @@ stands_hidden old new (within section) x e c h s =
     text_hidden x h (once_hidden x h) (once x h s.lawful (ap is_some ((has_holder (within section) (holder h x) p).1))) old new section s p c
 
 -- a Delete of what stands in no place hides nothing
-pub stands_withdrawn : (m : Contents) (x : Identifier) (h : List Op) → place_at m x ≡ None → StandsFor m h → verdict h (Delete x) ≡ Ready → StandsFor m (Delete x ∷ h)
+pub stands_withdrawn : (m : Contents) (x : Identifier) (h : List Op) → place_at m x ≡ None → Represents m h → verdict h (Delete x) ≡ Ready → Represents m (Delete x ∷ h)
 stands_withdrawn m x h e s ready =
     let t = target_is_shown h x ready in
     let now : List Op = Delete x ∷ h in

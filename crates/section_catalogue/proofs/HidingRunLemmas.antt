@@ -9,11 +9,11 @@ use Rattle.fugue_ids.proofs.IdentifierLemmas.{cases_id}
 use Rattle.fugue_ids.proofs.RunLemmas.{none_behind, one_behind}
 use Rattle.origin_model.specs.sides.Node.{has_node}
 use Rattle.origin_model.specs.declared.operations.Place.TheVariants.{Section as within}
-use Rattle.section_list.specs.SectionList.{AreHeld, with_hidden}
+use Rattle.section_list.specs.SectionList.{AreAllNodes, with_hidden}
 use Rattle.section_catalogue.specs.declared.tables.Section.{Section as Titled}
-use Rattle.section_catalogue.specs.Changes.{Answer, HidesRun, HidesText, IsUnchanged, section_with_run_hidden, with_hidden_text}
+use Rattle.section_catalogue.specs.Changes.{AnswersUpTo, HidesRun, HidesText, IsUnchanged, section_with_run_hidden, with_hidden_text}
 use Rattle.section_catalogue.specs.Contents.{Contents, entry_at, place_at, section_at}
-use Rattle.section_catalogue.specs.Manuscript.{HidesAll, StandsFor, once_hidden}
+use Rattle.section_catalogue.specs.Manuscript.{HidesAll, Represents, once_hidden}
 use Rattle.section_catalogue.proofs.ConditionLemmas.{held_at}
 use Rattle.section_catalogue.proofs.HidingLemmas.{stands_hidden}
 use Rattle.section_catalogue.proofs.RunLemmas.{entry-other, entry-own}
@@ -69,33 +69,33 @@ rest_hides old mid new s x k one c = record {
 }
 
 -- a manuscript stands for the history with a Delete of each, once they are hidden
-pub run_hidden : (k : ℕ) (old new : Contents) (s x : Identifier) → Answer (place_at old) x k (Some (within s)) → HidesRun old new s x k → HidesAll old new x k
+pub run_hidden : (k : ℕ) (old new : Contents) (s x : Identifier) → AnswersUpTo (place_at old) x k (Some (within s)) → HidesRun old new s x k → HidesAll old new x k
 run_hidden zero old new s x placed c h stands = still old new (nothing_hidden old new s x c) h stands
 run_hidden (suc k) old new s x placed c h stands =
     let mid : Contents = with_first_hidden old s x in
     let one : HidesText old mid s x = first_hides old s x in
     let here : place_at old x ≡ Some (within s) = ap (place_at old) (sym (none_behind x)) ∙ placed 0 (omega arith) in
-    let others : Answer (place_at mid) (next_id x) k (Some (within s)) =
+    let others : AnswersUpTo (place_at mid) (next_id x) k (Some (within s)) =
     λ j less. one.places (id_behind (next_id x) j) ∙ ap (place_at old) (one_behind x j) ∙ placed (suc j) (omega (arith, less)) in
     run_hidden k mid new s (next_id x) others (rest_hides old mid new s x k one c) (once_hidden x h) (stands_hidden old mid (within s) x here one h stands)
 
 -- what hiding them asks of a manuscript
 pub record RunHeld (m : Contents) (s x : Identifier) (k : ℕ) : Type 0 where
   pub there : IsSome (section_at m s)
-  pub held : IfSome (section_at m s) (λ (t : Titled). AreHeld t.text.nodes x k)
+  pub held : IfSome (section_at m s) (λ (t : Titled). AreAllNodes t.text.nodes x k)
 
-pub run_held : (m : Contents) (h : List Op) (s x : Identifier) (k : ℕ) → StandsFor m h → 0 < k → Answer (place_at m) x k (Some (within s)) → RunHeld m s x k
+pub run_held : (m : Contents) (h : List Op) (s x : Identifier) (k : ℕ) → Represents m h → 0 < k → AnswersUpTo (place_at m) x k (Some (within s)) → RunHeld m s x k
 run_held m h s x k stands some placed = record {
   there = (held_at m h (within s) (id_behind x 0) stands (placed 0 some)).there;
   held = each (section_at m s) (λ j less. (held_at m h (within s) (id_behind x j) stands (placed j less)).held);
 }
   where
-    each : (o : Option Titled) → ((j : ℕ) → j < k → IfSome o (λ (t : Titled). has_node t.text.nodes (id_behind x j) ≡ true)) → IfSome o (λ (t : Titled). AreHeld t.text.nodes x k)
+    each : (o : Option Titled) → ((j : ℕ) → j < k → IfSome o (λ (t : Titled). has_node t.text.nodes (id_behind x j) ≡ true)) → IfSome o (λ (t : Titled). AreAllNodes t.text.nodes x k)
     each None f = tt
     each (Some t) f = f
 
 -- the first of them, as many as were hidden
-pub fewer_placed : (m : Contents) (s x : Identifier) (n k : ℕ) → k ≤ n → Answer (place_at m) x n (Some (within s)) → Answer (place_at m) x k (Some (within s))
+pub fewer_placed : (m : Contents) (s x : Identifier) (n k : ℕ) → k ≤ n → AnswersUpTo (place_at m) x n (Some (within s)) → AnswersUpTo (place_at m) x k (Some (within s))
 fewer_placed m s x n k l placed j less = placed j (omega (arith, l, less))
 
 -- what follows, however many were hidden

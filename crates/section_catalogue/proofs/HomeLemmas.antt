@@ -9,7 +9,7 @@ use Rattle.fugue_ids.proofs.IdentifierLemmas.{cases_id, id_at-other, id_at-same}
 use Rattle.origin_model.specs.declared.operations.Place.{Place}
 use Rattle.fugue_ids.specs.Runs.{id_behind}
 use Rattle.stretch_map.specs.Contents.{Mapped}
-use Rattle.stretch_map.specs.Rules.{IsFollowed, with_run}
+use Rattle.stretch_map.specs.Rules.{IsFollowedBy, with_run}
 use Rattle.section_catalogue.specs.Changes.{IsFilled}
 use Rattle.section_catalogue.specs.Contents.{entry_at, places_of}
 use Rattle.section_catalogue.specs.declared.homes.Home.{Home}
@@ -101,7 +101,7 @@ pub record IsForgetting (old now : Mapped Home) (first : Identifier) (count left
 
 -- the next one can go without memory
 pub can_forget : (old now : Mapped Home) (first : Identifier) (count left : ℕ) → 0 < left → IsForgetting old now first count left → (key : Identifier) → key ≡ id_behind first (left - 1)
-    → (now.newest ≡ Some key) ⊎ (IsFollowed (λ f home k. home) (get now.values) key → ⊥)
+    → (now.newest ≡ Some key) ⊎ (IsFollowedBy (λ f home k. home) (get now.values) key → ⊥)
 can_forget old now first count left some is key at =
     elim (cases_whole left count is.within) [
       | inl e ↦ inl (is.newest e ∙ ap Some (ap (λ n. id_behind first (n - 1)) (sym e) ∙ sym at))

@@ -10,7 +10,7 @@ use Rattle.fugue_ids.specs.declared.op.Op.{Op}
 use Rattle.fugue_ids.specs.declared.op.Op.TheVariants.{Text}
 use Rattle.fugue_ids.proofs.IdentifierLemmas.{cases_id, id_at-other, id_at-same}
 use Rattle.fugue_ids.proofs.RunLemmas.{none_behind, one_behind}
-use Rattle.origin_model.specs.edits.Edits.{ReadyInTurn, extended}
+use Rattle.origin_model.specs.edits.Edits.{ReadyInTurn, history_with}
 use Rattle.origin_model.specs.order.Laws.{IsIn}
 use Rattle.origin_model.specs.operations.History.{holder, holds}
 use Rattle.origin_model.specs.operations.Verdict.{Lawful}
@@ -21,9 +21,9 @@ use Rattle.origin_model.specs.declared.operations.Place.TheVariants.{Section as 
 use Rattle.origin_model.proofs.SharedLemmas.{holds-older, order_by_nodes, ready_is_new}
 use Rattle.section_list.specs.SectionList.{Listing, next_node, with_element}
 use Rattle.section_catalogue.specs.declared.tables.Section.{Section as Titled}
-use Rattle.section_catalogue.specs.Changes.{AddsRun, AddsText, Answer, AnswersSame, CanFollow, IsFilled, IsUnchanged, section_with_run, section_with_text}
+use Rattle.section_catalogue.specs.Changes.{AddsTyped, AddsText, AnswersUpTo, AnswersSame, CanFollow, IsFilled, IsUnchanged, section_with_run, section_with_text}
 use Rattle.section_catalogue.specs.Contents.{Contents, entry_at, listed_count, place_at, section_at}
-use Rattle.section_catalogue.specs.Manuscript.{AreReadyOn, IsReadyOn, StandsFor}
+use Rattle.section_catalogue.specs.Manuscript.{AreReadyOn, IsReadyOn, Represents}
 use Rattle.section_catalogue.specs.Place.{Lists, place_held}
 use Rattle.section_catalogue.proofs.ConditionLemmas.{new_in, section_of}
 use Rattle.section_catalogue.proofs.GrowthLemmas.{text_stands}
@@ -53,7 +53,7 @@ cases_among y first (suc k) =
     cases_last j k less = grind (arith, less)
 
 -- what was filled with a place and emptied again is as before
-pub emptied : {X : Type 0} (old mid new : Identifier → X) (first : Identifier) (k : ℕ) (value none : X) → Answer old first k none → IsFilled old mid first k value → IsFilled mid new first k none → AnswersSame old new
+pub emptied : {X : Type 0} (old mid new : Identifier → X) (first : Identifier) (k : ℕ) (value none : X) → AnswersUpTo old first k none → IsFilled old mid first k value → IsFilled mid new first k none → AnswersSame old new
 emptied old mid new first k value none before put gone y =
     elim (cases_among y first k) [
       | inl w ↦ ap new w.2 ∙ gone.here w.0 w.1 ∙ sym (before w.0 w.1) ∙ ap old (sym w.2)
@@ -107,7 +107,7 @@ run_parts n ch text None = refl
 run_parts n ch text (Some t) = refl
 
 -- a run without letters
-nothing_added : (old new : Contents) (s : Identifier) (n : Node) → AddsRun old new s n [] → IsUnchanged old new
+nothing_added : (old new : Contents) (s : Identifier) (n : Node) → AddsTyped old new s n [] → IsUnchanged old new
 nothing_added old new s n adds = record {
   listed = adds.listed;
   sections = λ y. elim (cases_id y s) [
@@ -118,7 +118,7 @@ nothing_added old new s n adds = record {
 }
 
 -- the rest of a run comes to the contents with its first element
-rest_adds : (old mid new : Contents) (s : Identifier) (n : Node) (ch : ℕ) (text : List ℕ) → AddsText old mid s n ch → AddsRun old new s n (ch ∷ text) → AddsRun mid new s (next_node n) text
+rest_adds : (old mid new : Contents) (s : Identifier) (n : Node) (ch : ℕ) (text : List ℕ) → AddsText old mid s n ch → AddsTyped old new s n (ch ∷ text) → AddsTyped mid new s (next_node n) text
 rest_adds old mid new s n ch text one adds = record {
   listed = adds.listed ∙ sym one.listed;
   sections = record {
@@ -139,8 +139,8 @@ rest_adds old mid new s n ch text one adds = record {
 }
 
 -- a manuscript stands for the history with a run, once its elements have come
-pub run_stands : (text : List ℕ) (old new : Contents) (h : List Op) (id section : Identifier) (left right : Option Identifier) → StandsFor old h → ReadyInTurn h (in_a_row id section left right text)
-    → AddsRun old new section (first_node id left right) text → StandsFor new (extended h (in_a_row id section left right text))
+pub run_stands : (text : List ℕ) (old new : Contents) (h : List Op) (id section : Identifier) (left right : Option Identifier) → Represents old h → ReadyInTurn h (in_a_row id section left right text)
+    → AddsTyped old new section (first_node id left right) text → Represents new (history_with h (in_a_row id section left right text))
 run_stands [] old new h id section left right s ready adds = still old new (nothing_added old new section (first_node id left right) adds) h s
 run_stands (ch ∷ text) old new h id section left right s ready adds =
     let n : Node = first_node id left right in
@@ -173,7 +173,7 @@ unheld_node p h s x w l unheld =
     ]
 
 -- what a run asks of the manuscript to which it comes
-module _ (m : Contents) (h : List Op) (stands : StandsFor m h) (id section : Identifier) (left right : Option Identifier) (ch : ℕ) (text : List ℕ)
+module _ (m : Contents) (h : List Op) (stands : Represents m h) (id section : Identifier) (left right : Option Identifier) (ch : ℕ) (text : List ℕ)
     (ready : ReadyInTurn h (in_a_row id section left right (ch ∷ text))) where
   abbrev first_ready : IsReadyOn m (Text id section left right ch)
   first_ready = record { history = h; stands = stands; ready = ready.0 }
@@ -181,7 +181,7 @@ module _ (m : Contents) (h : List Op) (stands : StandsFor m h) (id section : Ide
   pub run_there : IsSome (section_at m section)
   run_there = section_of m id section left right ch first_ready
 
-  pub run_unplaced : Answer (place_at m) id (length (ch ∷ text)) None
+  pub run_unplaced : AnswersUpTo (place_at m) id (length (ch ∷ text)) None
   run_unplaced j less =
       let x : Identifier = id_behind id j in
       stands.places x ∙ ap place_held (none_held (holder h x) (run_unheld (ch ∷ text) h id section left right ready j less))
@@ -202,9 +202,9 @@ module _ (m : Contents) (h : List Op) (stands : StandsFor m h) (id section : Ide
 pub record RunAsks (m : Contents) (n : Node) (section : Identifier) (count : ℕ) : Type 0 where
   pub there : IsSome (section_at m section)
   pub new : IfSome (section_at m section) (λ (t : Titled). CanFollow t.text.nodes n count)
-  pub unplaced : Answer (place_at m) n.id count None
+  pub unplaced : AnswersUpTo (place_at m) n.id count None
 
-pub run_asks : (m : Contents) (h : List Op) → StandsFor m h → (id section : Identifier) (left right : Option Identifier) (text : List ℕ) → 0 < length text
+pub run_asks : (m : Contents) (h : List Op) → Represents m h → (id section : Identifier) (left right : Option Identifier) (text : List ℕ) → 0 < length text
     → ReadyInTurn h (in_a_row id section left right text) → RunAsks m (first_node id left right) section (length text)
 run_asks m h stands id section left right [] some ready = absurd (omega (arith, some))
 run_asks m h stands id section left right (ch ∷ text) some ready = record {
@@ -215,7 +215,7 @@ run_asks m h stands id section left right (ch ∷ text) some ready = record {
 
 -- the condition, of what the manuscript keeps
 pub all_ready_here : (old now : Contents) (ops : List Op) → old ≡ now → AreReadyOn now ops → AreReadyOn old ops
-all_ready_here old now ops v r = record { history = r.history; stands = subst (λ m. StandsFor m r.history) (sym v) r.stands; ready = r.ready }
+all_ready_here old now ops v r = record { history = r.history; stands = subst (λ m. Represents m r.history) (sym v) r.stands; ready = r.ready }
 
 -- room in a text that may be there
 pub room_in : (o : Option Titled) (n : ℕ) → listed_count (option_map (λ (e : Titled). e.text) o) + n ≤ MOST_OPERATIONS → IfSome o (λ (e : Titled). length e.text.cells + n ≤ MOST_OPERATIONS)

@@ -24,7 +24,7 @@ use Rattle.section_catalogue.specs.declared.tables.Section.{Section as Titled}
 use Rattle.section_catalogue.specs.Contents.{Contents, section_at}
 use Rattle.section_catalogue.specs.Section.{printed_at, printed_entry}
 use Rattle.section_catalogue.specs.Place.{Lists, cell_in, place_held, scalar_held, title_held}
-use Rattle.section_catalogue.specs.Manuscript.{IsPlaceOf, IsTextOf, LookUpsAreDefinitions, StandsFor}
+use Rattle.section_catalogue.specs.Manuscript.{IsOrderedPlace, IsTextOf, LookUpsAreDefinitions, Represents}
 use Rattle.section_catalogue.proofs.HolderLemmas.{in_place}
 use Rattle.section_catalogue.proofs.ListingLemmas.{ids-cells}
 
@@ -76,7 +76,7 @@ module _ (h : List Op) where
           ]
 
   -- what a place lists is the order of the definitions
-  is_place_of : (p : Place) (s : Listing) → Lawful h → Lists p h s → IsPlaceOf p h s
+  is_place_of : (p : Place) (s : Listing) → Lawful h → Lists p h s → IsOrderedPlace p h s
   is_place_of p s w l =
       let all : section_cell_ids s.cells ≡ order p h = ap section_cell_ids l.cells ∙ ids-cells h (order p h) in
       record {
@@ -92,11 +92,11 @@ flat_map-alike f g [] k = refl
 flat_map-alike f g (x ∷ xs) k = λ i. k x (contains_here x xs) i ++ flat_map-alike f g xs (λ y m. k y (contains_there x xs y m)) i
 
 -- the shown sections
-pub catalogue_shown : (m : Contents) (h : List Op) → StandsFor m h → section_cell_ids (section_cells_shown m.catalogue.cells) ≡ shown catalogue h
+pub catalogue_shown : (m : Contents) (h : List Op) → Represents m h → section_cell_ids (section_cells_shown m.catalogue.cells) ≡ shown catalogue h
 catalogue_shown m h s = (is_place_of h catalogue m.catalogue s.lawful s.sections).visible
 
 -- how many there are
-pub count_shown : (m : Contents) (h : List Op) → StandsFor m h → length (section_cells_shown m.catalogue.cells) ≡ length (shown catalogue h)
+pub count_shown : (m : Contents) (h : List Op) → Represents m h → length (section_cells_shown m.catalogue.cells) ≡ length (shown catalogue h)
 count_shown m h s = sym (length-map (section_cells_shown m.catalogue.cells) (λ (c : Cell). c.id)) ∙ ap length (catalogue_shown m h s)
 
 -- an element of a section has a scalar
@@ -105,7 +105,7 @@ one_scalar s (Some (Text id section left right ch)) e = refl
 one_scalar s _ e = cc
 
 -- the text of a section
-text_shown : (m : Contents) (h : List Op) (s : Identifier) (cs : List Cell) → StandsFor m h → cs ≡ map (cell_in h) (order (within s) h) → section_text cs ≡ text_on h s
+text_shown : (m : Contents) (h : List Op) (s : Identifier) (cs : List Cell) → Represents m h → cs ≡ map (cell_in h) (order (within s) h) → section_text cs ≡ text_on h s
 text_shown m h s cs k e =
     ap section_text e ∙ shown_text h (order (within s) h) (λ x i. one_scalar s (holder h x) (in_place (within s) h x ((((order_total (within s) h k.lawful).lists x).1) i)))
 
@@ -120,7 +120,7 @@ entry_there None t P k p = cc
 entry_there (Some e) t P k p = let d : e.title ≡ t = cc in (e, refl, d, p)
 
 -- a section is printed
-section_printed : (m : Contents) (h : List Op) (s : Identifier) → StandsFor m h → IsIn catalogue h s → printed_entry (section_at m s) ≡ printed_section h s
+section_printed : (m : Contents) (h : List Op) (s : Identifier) → Represents m h → IsIn catalogue h s → printed_entry (section_at m s) ≡ printed_section h s
 section_printed m h s k i =
     let n = titled i.op s i.place in
     let e = entry_there (section_at m s) n.0 (λ (t : Titled). Lists (within s) h t.text) (k.titles s ∙ ap title_held i.held ∙ n.1) (k.texts s) in
@@ -130,7 +130,7 @@ section_printed m h s k i =
     ∙ (λ j. codes "# " ++ encode_utf8_all (title j) ++ 10 ∷ encode_utf8_all (body j) ++ 10 ∷ [])
 
 -- what the shown sections add is the manuscript
-pub manuscript_parts : (m : Contents) (h : List Op) → StandsFor m h → flat_map (printed_at m.sections) (section_cell_ids (section_cells_shown m.catalogue.cells)) ≡ manuscript h
+pub manuscript_parts : (m : Contents) (h : List Op) → Represents m h → flat_map (printed_at m.sections) (section_cell_ids (section_cells_shown m.catalogue.cells)) ≡ manuscript h
 unfolding manuscript
 manuscript_parts m h k =
     ap (flat_map (printed_at m.sections)) (catalogue_shown m h k)

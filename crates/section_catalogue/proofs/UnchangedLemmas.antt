@@ -7,14 +7,14 @@ use Rattle.section_catalogue.specs.declared.tables.Section.{Section as Titled}
 use Rattle.section_catalogue.specs.Changes.{IsUnchanged}
 use Rattle.section_catalogue.specs.Contents.{Contents}
 use Rattle.section_catalogue.specs.Place.{Lists}
-use Rattle.section_catalogue.specs.Manuscript.{StandsFor, Stays}
+use Rattle.section_catalogue.specs.Manuscript.{Represents, PlacesStay}
 
 -- look-ups that are as before, the other way
 back : (old new : Contents) → IsUnchanged old new → IsUnchanged new old
 back old new u = record { listed = sym u.listed; sections = λ y. sym (u.sections y); places = λ y. sym (u.places y) }
 
 -- it stands for what it stood for
-pub still : (old new : Contents) → IsUnchanged old new → (h : List Op) → StandsFor old h → StandsFor new h
+pub still : (old new : Contents) → IsUnchanged old new → (h : List Op) → Represents old h → Represents new h
 still old new u h s =
     record {
       lawful = s.lawful;
@@ -24,7 +24,7 @@ still old new u h s =
       places = λ y. u.places y ∙ s.places y;
     }
 
-pub stays : (old new : Contents) → IsUnchanged old new → Stays old new
+pub stays : (old new : Contents) → IsUnchanged old new → PlacesStay old new
 stays old new u h = (still old new u h, still new old (back old new u) h)
 
 -- what follows from a call, whether it went well or not

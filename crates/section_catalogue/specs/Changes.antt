@@ -7,7 +7,7 @@ use Rattle.origin_model.specs.sides.Node.{has_node, has_origin}
 use Rattle.origin_model.specs.declared.operations.node.Node.{Node}
 use Rattle.origin_model.specs.declared.operations.Place.{Place}
 use Rattle.origin_model.specs.declared.operations.Place.TheVariants.{Catalogue as catalogue, Section as within}
-use Rattle.section_list.specs.SectionList.{AreUnheld, empty_listing as no_elements, with_element, with_elements, with_hidden, with_run_hidden}
+use Rattle.section_list.specs.SectionList.{AreNoNodes, empty_listing as no_elements, with_element, with_elements, with_hidden, with_run_hidden}
 use Rattle.section_catalogue.specs.declared.tables.Section.{Section as Titled}
 use Rattle.section_catalogue.specs.Contents.{Contents, section_at, place_at}
 
@@ -36,17 +36,17 @@ abbrev pub section_with_run_hidden : Identifier → ℕ → Option Titled → Op
 section_with_run_hidden x k e = option_map (λ (t : Titled). record t { text = with_run_hidden x k t.text }) e
 
 -- the first k identifiers from this one on have this answer
-abbrev pub Answer : {X : Type 0} → (Identifier → X) → Identifier → ℕ → X → Type 0
-Answer f first k value = (j : ℕ) → j < k → f (id_behind first j) ≡ value
+abbrev pub AnswersUpTo : {X : Type 0} → (Identifier → X) → Identifier → ℕ → X → Type 0
+AnswersUpTo f first k value = (j : ℕ) → j < k → f (id_behind first j) ≡ value
 
 -- the first k identifiers from this one on have this answer now, and each other one has its own as before
 pub record IsFilled {X : Type 0} (old new : Identifier → X) (first : Identifier) (k : ℕ) (value : X) : Type 0 where
-  pub here : Answer new first k value
+  pub here : AnswersUpTo new first k value
   pub others : (y : Identifier) → ((j : ℕ) → j < k → y ≢ id_behind first j) → new y ≡ old y
 
 -- a node and so many behind it may come to these: none of their identifiers is there, and the origins of the first are
 pub record CanFollow (ns : List Node) (n : Node) (k : ℕ) : Type 0 where
-  pub fresh : AreUnheld ns n.id k
+  pub fresh : AreNoNodes ns n.id k
   pub left : has_origin ns n.left ≡ true
   pub right : has_origin ns n.right ≡ true
 
@@ -63,7 +63,7 @@ pub record AddsText (old new : Contents) (s : Identifier) (n : Node) (ch : ℕ) 
   pub places : IsReplaced (place_at old) (place_at new) n.id (Some (within s))
 
 -- elements of the section s came, one for each letter: n, and then each typed behind the one before it
-pub record AddsRun (old new : Contents) (s : Identifier) (n : Node) (text : List ℕ) : Type 0 where
+pub record AddsTyped (old new : Contents) (s : Identifier) (n : Node) (text : List ℕ) : Type 0 where
   pub listed : new.catalogue ≡ old.catalogue
   pub sections : IsReplaced (section_at old) (section_at new) s (section_with_run n text (section_at old s))
   pub places : IsFilled (place_at old) (place_at new) n.id (length text) (Some (within s))
@@ -92,9 +92,9 @@ pub record HoldsText (e : Option Titled) (x : Identifier) : Type 0 where
   pub held : IfSome e (λ (t : Titled). has_node t.text.nodes x ≡ true)
 
 -- x is an element of the place p
-abbrev pub HoldsAt : Contents → Place → Identifier → Type 0
-HoldsAt m catalogue x = has_node m.catalogue.nodes x ≡ true
-HoldsAt m (within s) x = HoldsText (section_at m s) x
+abbrev pub IsElementAt : Contents → Place → Identifier → Type 0
+IsElementAt m catalogue x = has_node m.catalogue.nodes x ≡ true
+IsElementAt m (within s) x = HoldsText (section_at m s) x
 
 -- the element x was hidden in the place p
 abbrev pub HidesAt : Contents → Contents → Place → Identifier → Type 0

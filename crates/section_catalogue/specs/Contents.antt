@@ -13,6 +13,7 @@ use Rattle.section_catalogue.specs.declared.homes.Home.{Home}
 use Rattle.section_catalogue.specs.declared.tables.Section.{Section as Titled}
 use Rattle.section_catalogue.specs.declared.tables.Tables.{Tables}
 
+-- what contracts see of a manuscript
 pub record Contents : Type 0 where
   -- the sections in order, each with a space for its scalar
   pub catalogue : Listing

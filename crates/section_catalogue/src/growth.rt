@@ -1,9 +1,9 @@
 //! Elements more, and hidden ones.
 ghost use Rattle.std.specs.Prelude.{◌≡◌, ◌<◌, ◌≤◌, ◌+◌, ◌^◌, None, IfErr, IfSome, IsSome, OnErr, OnOk, length, Some, true};
 ghost use Rattle.origin_model.specs.sides.Node.{IsNew, has_node};
-ghost use Rattle.section_catalogue.specs.Changes.{AddsRun, AddsSection, Answer, AnswersSame, CanFollow, IsUnchanged};
+ghost use Rattle.section_catalogue.specs.Changes.{AddsTyped, AddsSection, AnswersUpTo, AnswersSame, CanFollow, IsUnchanged};
 ghost use Rattle.section_catalogue.specs.Changes.{HidesRun, section_with_run, section_with_run_hidden, with_hidden_text};
-ghost use Rattle.section_list.specs.SectionList.{AreHeld};
+ghost use Rattle.section_list.specs.SectionList.{AreAllNodes};
 ghost use Rattle.section_catalogue.specs.Contents.{contents_of, entry_at, place_at};
 ghost use Rattle.fugue_ids.specs.Keyed.{IsReplaced};
 
@@ -64,8 +64,8 @@ pub(crate) fn add_run(
         (λ e. CanFollow e.text.nodes first.now (length text.now)) }
     requires room { IfSome (entry_at tables.old.sections.entries section.now)
         (λ e. length e.text.cells + length text.now ≤ MOST_OPERATIONS) }
-    requires unplaced { Answer (place_at (contents_of tables.old)) first.now.id (length text.now) None }
-    ensures ok { OnOk result (AddsRun (contents_of tables.old) (contents_of tables.new) section.now first.now text.now) }
+    requires unplaced { AnswersUpTo (place_at (contents_of tables.old)) first.now.id (length text.now) None }
+    ensures ok { OnOk result (AddsTyped (contents_of tables.old) (contents_of tables.new) section.now first.now text.now) }
     ensures err { OnErr result (IsUnchanged (contents_of tables.old) (contents_of tables.new)) }
 {
     let count = text.len() as u32;
@@ -155,7 +155,7 @@ fn hide_texts(
 ) -> Result<(), StoppedAfter>
     requires counters { first.counter + count ≤ 2 ^ 32 }
     requires there { IsSome (entry_at sections.old.entries section.now) }
-    requires held { IfSome (entry_at sections.old.entries section.now) (λ e. AreHeld e.text.nodes first count) }
+    requires held { IfSome (entry_at sections.old.entries section.now) (λ e. AreAllNodes e.text.nodes first count) }
     ensures ok { OnOk result (IsReplaced (entry_at sections.old.entries) (entry_at sections.new.entries) section.now
         (section_with_run_hidden first count (entry_at sections.old.entries section.now))) }
     ensures err { IfErr result (λ f. IsReplaced (entry_at sections.old.entries) (entry_at sections.new.entries) section.now
@@ -178,7 +178,7 @@ pub(crate) fn hide_run(
     requires counters { first.counter + count ≤ 2 ^ 32 }
     requires there { IsSome (entry_at tables.old.sections.entries section.now) }
     requires held { IfSome (entry_at tables.old.sections.entries section.now)
-        (λ e. AreHeld e.text.nodes first count) }
+        (λ e. AreAllNodes e.text.nodes first count) }
     ensures ok { OnOk result (HidesRun (contents_of tables.old) (contents_of tables.new) section.now first count) }
     ensures err { IfErr result
         (λ f. HidesRun (contents_of tables.old) (contents_of tables.new) section.now first f.done) }

@@ -2,7 +2,7 @@
 ghost use Rattle.std.specs.Prelude.{◌≡◌, ◌<◌, ◌≤◌, ◌+◌, ◌-◌, ◌^◌, None, Some, OnErr, OnOk, ℕ, refl};
 ghost use Rattle.fugue_ids.specs.Keyed.{IsReplaced};
 ghost use Rattle.fugue_ids.specs.Runs.{id_behind};
-ghost use Rattle.section_catalogue.specs.Changes.{Answer, IsFilled};
+ghost use Rattle.section_catalogue.specs.Changes.{AnswersUpTo, IsFilled};
 ghost use Rattle.section_catalogue.specs.Contents.{entry_at, places_of};
 
 use fugue_ids::{ElementId, NoMemory};
@@ -65,7 +65,7 @@ pub(crate) fn note_homes(
 ) -> Result<(), NoMemory>
     requires some { 0 < count }
     requires counters { first.counter + count ≤ 2 ^ 32 }
-    requires unplaced { Answer (entry_at (places_of homes.old.values)) first count None }
+    requires unplaced { AnswersUpTo (entry_at (places_of homes.old.values)) first count None }
     ensures ok { OnOk result (IsFilled (entry_at (places_of homes.old.values))
         (entry_at (places_of homes.new.values)) first count (Some place)) }
     ensures newest { OnOk result (homes.new.newest ≡ Some (id_behind first (count - 1))) }

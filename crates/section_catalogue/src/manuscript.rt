@@ -6,9 +6,9 @@ ghost use Rattle.origin_model.specs.declared.operations.Place.TheVariants.{Catal
 ghost use Rattle.fugue_ids.specs.Runs.{run_from};
 ghost use Rattle.section_catalogue.specs.Contents.{place_at, place_count, section_count_at, text_at, contents_of};
 ghost use Rattle.section_catalogue.specs.Manuscript.{AreReadyOn, GrowsBy, GrowsByAll, HasHistory, Hides, HidesAll, IsReadyOn, OnEach};
-ghost use Rattle.section_catalogue.specs.Manuscript.{StandsFor, Stays};
+ghost use Rattle.section_catalogue.specs.Manuscript.{Represents, PlacesStay};
 ghost use Rattle.section_catalogue.specs.Manuscript.{empty_contents, LookUpsAreDefinitions};
-ghost use Rattle.section_catalogue.specs.Changes.{Answer, HidesAt, HoldsAt, IsUnchanged};
+ghost use Rattle.section_catalogue.specs.Changes.{AnswersUpTo, HidesAt, IsElementAt, IsUnchanged};
 
 use crate::growth::{add_run, add_section, hide_run, hide_text};
 use crate::homes::home_of;
@@ -46,7 +46,7 @@ impl Manuscript {
     /// A manuscript without elements. It takes no memory.
     pub fn new(alloc: Global) -> Manuscript
         ensures nothing { result ≡ empty_contents }
-        ensures stands { StandsFor result [] }
+        ensures stands { Represents result [] }
         ensures has_history { HasHistory result }
     {
         Manuscript {
@@ -104,7 +104,7 @@ impl Manuscript {
         requires placed { IsSome (place op.now) }
         requires room { place_count self.old op.now < MOST_OPERATIONS }
         ensures ok { OnOk result (GrowsBy self.old self.new op.now) }
-        ensures err { OnErr result (Stays self.old self.new) }
+        ensures err { OnErr result (PlacesStay self.old self.new) }
         ensures has_history { HasHistory self.new }
     {
         match op {
@@ -143,7 +143,7 @@ impl Manuscript {
         requires ready { AreReadyOn self.old (run_from start.now text.now) }
         requires room { section_count_at self.old (within start.now.section) + length text.now ≤ MOST_OPERATIONS }
         ensures ok { OnOk result (GrowsByAll self.old self.new (run_from start.now text.now)) }
-        ensures err { OnErr result (Stays self.old self.new) }
+        ensures err { OnErr result (PlacesStay self.old self.new) }
         ensures has_history { HasHistory self.new }
     {
         let first = Node {
@@ -158,7 +158,7 @@ impl Manuscript {
     pub fn hide(&mut self, id: ElementId) -> Result<(), NoMemory>
         requires { IsSome (place_at self.old id) }
         ensures ok { OnOk result (Hides self.old self.new id) }
-        ensures err { OnErr result (Stays self.old self.new) }
+        ensures err { OnErr result (PlacesStay self.old self.new) }
         ensures has_history { HasHistory self.new }
     {
         match home_of(&self.tables.places, id) {
@@ -177,7 +177,7 @@ impl Manuscript {
     ) -> Result<(), StoppedAfter>
         requires some { 0 < count }
         requires counters { first.counter + count ≤ 2 ^ 32 }
-        requires placed { Answer (place_at self.old) first count (Some (within section.now)) }
+        requires placed { AnswersUpTo (place_at self.old) first count (Some (within section.now)) }
         ensures ok { OnOk result (HidesAll self.old self.new first count) }
         ensures err { IfErr result (λ e. HidesAll self.old self.new first e.done) }
         ensures fewer { IfErr result (λ e. e.done < count) }
@@ -209,7 +209,7 @@ pub fn look_ups_are_the_definitions()
 
 /// Hides an element of the place.
 pub(crate) fn hide_at(tables: &mut Tables, place: &Place, id: ElementId) -> Result<(), NoMemory>
-    requires { HoldsAt (contents_of tables.old) place.now id }
+    requires { IsElementAt (contents_of tables.old) place.now id }
     ensures ok { OnOk result (HidesAt (contents_of tables.old) (contents_of tables.new) place.now id) }
     ensures err { OnErr result (IsUnchanged (contents_of tables.old) (contents_of tables.new)) }
 {

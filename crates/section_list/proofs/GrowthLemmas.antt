@@ -26,22 +26,22 @@ use Rattle.origin_model.proofs.SharedLemmas.{gap_at, gap_within, nodes-lawful, n
 use Rattle.origin_model.proofs.edits.LandsBehindLeafLemmas.{lands_behind_newest}
 use Rattle.run_store.specs.Cells.{cell_ids as stored_ids, keyed_cells}
 use Rattle.run_store.specs.Growth.{AreFresh, inserted_at}
-use Rattle.run_store.specs.Heads.{lettered, next_head, typed_cells}
+use Rattle.run_store.specs.Heads.{cell_with_letter, next_head, typed_cells}
 use Rattle.run_store.specs.NewCells.{cell_depth, forest_beside, has_right, new_cell, new_cell_key, new_cells, new_head, shares_right}
 use Rattle.run_store.specs.Stored.{IsAloneWhereEmpty}
 use Rattle.run_store.specs.declared.cell.Cell.{Cell as StoredCell}
 use Rattle.run_store.specs.declared.cell.Head.{Head}
 use Rattle.run_store.proofs.CellLemmas.{inserted-at}
 use Rattle.section_list.specs.Cells.{Cell, section_cell_ids}
-use Rattle.section_list.specs.Kept.{IsOfNode, KeepsNodes, node_of, plain}
-use Rattle.section_list.specs.SectionList.{AreUnheld, IsInOrder, Listing, with_element, with_elements}
+use Rattle.section_list.specs.Kept.{IsOfNode, KeepsNodes, node_of, plain_cell}
+use Rattle.section_list.specs.SectionList.{AreNoNodes, IsInOrder, Listing, with_element, with_elements}
 use Rattle.sided_tree.specs.Rows.{next_node, run_nodes}
 use Rattle.section_list.proofs.KeptLemmas.{find_cell, keeps_more}
 use Rattle.section_list.proofs.PlainLemmas.{plain_ids, plain_insert}
 
 -- what readers see of a store
 abbrev pub seen : List Node → List StoredCell → Listing
-seen ns cs = record { nodes = ns; cells = map plain cs }
+seen ns cs = record { nodes = ns; cells = map plain_cell cs }
 
 -- it is in order
 pub seen_in_order : (ns : List Node) (cs : List StoredCell) → KeepsNodes ns cs → IsInOrder (seen ns cs)
@@ -53,12 +53,12 @@ keyed_of [] = refl
 keyed_of (c ∷ cs) = ap (λ t. c.id ∷ t) (keyed_of cs)
 
 -- are those that readers see
-pub listed_ids : (cs : List StoredCell) → keyed_ids (keyed_cells cs) ≡ section_cell_ids (map plain cs)
+pub listed_ids : (cs : List StoredCell) → keyed_ids (keyed_cells cs) ≡ section_cell_ids (map plain_cell cs)
 listed_ids cs = keyed_of cs ∙ sym (plain_ids cs)
 
 -- as many cells as the store has
-pub seen_length : (cs : List StoredCell) → length (map plain cs) ≡ length cs
-seen_length cs = length-map cs plain
+pub seen_length : (cs : List StoredCell) → length (map plain_cell cs) ≡ length cs
+seen_length cs = length-map cs plain_cell
 
 -- no nodes have no order
 none_in_order : node_order [] ≡ []
@@ -120,8 +120,8 @@ module _ (ns : List Node) (cs : List StoredCell) (k : KeepsNodes ns cs) (n : Nod
   one_grown ch =
       let here : index_of (node_order (n ∷ ns)) n.id ≡ index = ap (λ xs. index_of xs n.id) placed ∙ index_of-insert (stored_ids cs) index n.id within unheld in
       let cell : Cell = record { id = n.id; ch = ch; hidden = false } in
-      let cells : map plain (insert cs index (new_cell cs n.id n.left n.right ch)) ≡ insert (map plain cs) (index_of (node_order (n ∷ ns)) n.id) cell =
-      plain_insert cs index (new_cell cs n.id n.left n.right ch) ∙ ap (λ i. insert (map plain cs) i cell) (sym here) in
+      let cells : map plain_cell (insert cs index (new_cell cs n.id n.left n.right ch)) ≡ insert (map plain_cell cs) (index_of (node_order (n ∷ ns)) n.id) cell =
+      plain_insert cs index (new_cell cs n.id n.left n.right ch) ∙ ap (λ i. insert (map plain_cell cs) i cell) (sym here) in
       λ i. record { nodes = n ∷ ns; cells = cells i }
 
 -- an origin of an older node is there still
@@ -189,12 +189,12 @@ module _ (older : List Node) (n : Node) (front : List StoredCell) (c : StoredCel
 
 -- the letters behind the newest one go in one after another
 rest_grown : (older : List Node) (n : Node) (front : List StoredCell) (h : Head) (ch : ℕ) (back : List StoredCell) → h.id ≡ n.id → h.right ≡ n.right → h.hidden ≡ false
-    → KeepsNodes (n ∷ older) ((front ++ lettered h ch ∷ []) ++ back) → (text : List ℕ) → AreUnheld (n ∷ older) (next_id n.id) (length text)
-    → Grown (run_nodes (next_node n) (length text) (n ∷ older)) ((front ++ lettered h ch ∷ []) ++ (typed_cells (next_head h) text ++ back))
-    (with_elements (next_node n) text (seen (n ∷ older) ((front ++ lettered h ch ∷ []) ++ back)))
+    → KeepsNodes (n ∷ older) ((front ++ cell_with_letter h ch ∷ []) ++ back) → (text : List ℕ) → AreNoNodes (n ∷ older) (next_id n.id) (length text)
+    → Grown (run_nodes (next_node n) (length text) (n ∷ older)) ((front ++ cell_with_letter h ch ∷ []) ++ (typed_cells (next_head h) text ++ back))
+    (with_elements (next_node n) text (seen (n ∷ older) ((front ++ cell_with_letter h ch ∷ []) ++ back)))
 rest_grown older n front h ch back own right shown k [] fresh = (k, refl)
 rest_grown older n front h ch back own right shown k (next ∷ text) fresh =
-    let c : StoredCell = lettered h ch in
+    let c : StoredCell = cell_with_letter h ch in
     let ns : List Node = n ∷ older in
     let one : List StoredCell = front ++ c ∷ [] in
     let cs : List StoredCell = one ++ back in
@@ -203,21 +203,21 @@ rest_grown older n front h ch back own right shown k (next ∷ text) fresh =
     let order = next_order older n front c back own k first in
     let within : length one ≤ length (stored_ids cs) = omega (arith, length-append one back, length-map cs (λ (z : StoredCell). z.id)) in
     let key = next_key older n front c back own k in
-    let cell : new_cell cs (next_id n.id) (Some n.id) n.right next ≡ lettered (next_head h) next =
+    let cell : new_cell cs (next_id n.id) (Some n.id) n.right next ≡ cell_with_letter (next_head h) next =
     λ i. record { id = next_id (sym own i); left = Some (sym own i); right = sym right i; ch = next; hidden = sym shown i; key = key i } in
-    let cells : insert cs (length one) (new_cell cs (next_id n.id) (Some n.id) n.right next) ≡ (one ++ lettered (next_head h) next ∷ []) ++ back =
-    ap (insert cs (length one)) cell ∙ inserted-at one (lettered (next_head h) next ∷ []) back ∙ sym (append_assoc one (lettered (next_head h) next ∷ []) back) in
-    let kept : KeepsNodes (next_node n ∷ ns) ((one ++ lettered (next_head h) next ∷ []) ++ back) =
+    let cells : insert cs (length one) (new_cell cs (next_id n.id) (Some n.id) n.right next) ≡ (one ++ cell_with_letter (next_head h) next ∷ []) ++ back =
+    ap (insert cs (length one)) cell ∙ inserted-at one (cell_with_letter (next_head h) next ∷ []) back ∙ sym (append_assoc one (cell_with_letter (next_head h) next ∷ []) back) in
+    let kept : KeepsNodes (next_node n ∷ ns) ((one ++ cell_with_letter (next_head h) next ∷ []) ++ back) =
     subst (KeepsNodes (next_node n ∷ ns)) cells (keeps_more ns cs k (next_node n) new (length one) next order) in
-    let is : seen (next_node n ∷ ns) ((one ++ lettered (next_head h) next ∷ []) ++ back) ≡ with_element (next_node n) next (seen ns cs) =
+    let is : seen (next_node n ∷ ns) ((one ++ cell_with_letter (next_head h) next ∷ []) ++ back) ≡ with_element (next_node n) next (seen ns cs) =
     ap (seen (next_node n ∷ ns)) (sym cells) ∙ one_grown ns cs k (next_node n) new (length one) within order next in
-    let more : AreUnheld (next_node n ∷ ns) (next_id (next_id n.id)) (length text) = λ j less.
+    let more : AreNoNodes (next_node n ∷ ns) (next_id (next_id n.id)) (length text) = λ j less.
     let up : next_id n.id ≢ id_behind (next_id (next_id n.id)) j = λ e. let c : n.id.counter + 1 ≡ n.id.counter + 1 + 1 + j = ap (λ (x : Identifier). x.counter) e in absurd (omega (arith, c)) in
     ap (λ b. is_some (if b then Some (next_node n) else find_node ns (id_behind (next_id (next_id n.id)) j))) (ne-id_eq (next_id n.id) (id_behind (next_id (next_id n.id)) j) up)
     ∙ ap (has_node ns) (one_behind (next_id n.id) j) ∙ fresh (suc j) (omega (arith, less)) in
     let grown = rest_grown ns (next_node n) one (next_head h) next back (ap next_id own) right shown kept text more in
-    let same : (one ++ lettered (next_head h) next ∷ []) ++ (typed_cells (next_head (next_head h)) text ++ back) ≡ one ++ (typed_cells (next_head h) (next ∷ text) ++ back) =
-    append_assoc one (lettered (next_head h) next ∷ []) (typed_cells (next_head (next_head h)) text ++ back) in (
+    let same : (one ++ cell_with_letter (next_head h) next ∷ []) ++ (typed_cells (next_head (next_head h)) text ++ back) ≡ one ++ (typed_cells (next_head h) (next ∷ text) ++ back) =
+    append_assoc one (cell_with_letter (next_head h) next ∷ []) (typed_cells (next_head (next_head h)) text ++ back) in (
       subst (KeepsNodes (run_nodes (next_node (next_node n)) (length text) (next_node n ∷ ns))) same grown.0,
       ap (seen (run_nodes (next_node (next_node n)) (length text) (next_node n ∷ ns))) (sym same) ∙ grown.1 ∙ ap (with_elements (next_node (next_node n)) text) is,
     )
@@ -231,25 +231,25 @@ module _ (ns : List Node) (cs : List StoredCell) (n : Node) (gap : Gap) (j : Joi
   placed = j.place ∙ gap_at gap n.id (stored_ids cs) j.beside
 
   -- cells with identifiers that no node has are fresh
-  pub are_fresh : (count : ℕ) → AreUnheld ns n.id count → AreFresh cs n.id count
+  pub are_fresh : (count : ℕ) → AreNoNodes ns n.id count → AreFresh cs n.id count
   are_fresh count free i less m = true≢false (sym ((nodes_listed ns j.kept.are_nodes (id_behind n.id i)).1 (subst (λ t. Contains t (id_behind n.id i)) j.kept.in_order m)) ∙ free i less)
 
   -- the longer place
-  module _ (longer : List Node) (more : List StoredCell) (text : List ℕ) (some : 0 < length text) (free : AreUnheld ns n.id (length text)) (l : longer ≡ run_nodes n (length text) ns)
+  module _ (longer : List Node) (more : List StoredCell) (text : List ℕ) (some : 0 < length text) (free : AreNoNodes ns n.id (length text)) (l : longer ≡ run_nodes n (length text) ns)
       (m : more ≡ inserted_at index (new_cells cs n.id n.left n.right text) cs) where
-    all_grown : (letters : List ℕ) → 0 < length letters → AreUnheld ns n.id (length letters)
+    all_grown : (letters : List ℕ) → 0 < length letters → AreNoNodes ns n.id (length letters)
         → Grown (run_nodes n (length letters) ns) (inserted_at index (new_cells cs n.id n.left n.right letters) cs) (with_elements n letters (seen ns cs))
     all_grown [] none unheld = absurd (omega (arith, none))
     all_grown (ch ∷ rest) _ unheld =
         let h : Head = new_head cs n.id n.left n.right in
         let front : List StoredCell = take index cs in
         let back : List StoredCell = drop index cs in
-        let c : StoredCell = lettered h ch in
+        let c : StoredCell = cell_with_letter h ch in
         let same : (front ++ c ∷ []) ++ back ≡ insert cs index c = append_assoc front (c ∷ []) back in
         let within : index ≤ length (stored_ids cs) = gap_within gap (stored_ids cs) j.beside in
         let kept : KeepsNodes (n ∷ ns) ((front ++ c ∷ []) ++ back) = subst (KeepsNodes (n ∷ ns)) (sym same) (keeps_more ns cs j.kept n j.new index ch placed) in
         let is : seen (n ∷ ns) ((front ++ c ∷ []) ++ back) ≡ with_element n ch (seen ns cs) = ap (seen (n ∷ ns)) same ∙ one_grown ns cs j.kept n j.new index within placed ch in
-        let behind : AreUnheld (n ∷ ns) (next_id n.id) (length rest) = λ i less.
+        let behind : AreNoNodes (n ∷ ns) (next_id n.id) (length rest) = λ i less.
         let up : n.id ≢ id_behind (next_id n.id) i = λ e. let k : n.id.counter ≡ n.id.counter + 1 + i = ap (λ (x : Identifier). x.counter) e in absurd (omega (arith, k)) in
         ap (λ b. is_some (if b then Some n else find_node ns (id_behind (next_id n.id) i))) (ne-id_eq n.id (id_behind (next_id n.id) i) up)
         ∙ ap (has_node ns) (one_behind n.id i) ∙ unheld (suc i) (omega (arith, less)) in
@@ -263,7 +263,7 @@ module _ (ns : List Node) (cs : List StoredCell) (n : Node) (gap : Gap) (j : Joi
     grown_kept = subst (λ t. KeepsNodes t more) (sym l) (subst (KeepsNodes (run_nodes n (length text) ns)) (sym m) (all_grown text some free).0)
 
     pub is_grown : seen longer more ≡ with_elements n text (seen ns cs)
-    is_grown = (λ i. record { nodes = l i; cells = map plain (m i) }) ∙ (all_grown text some free).1
+    is_grown = (λ i. record { nodes = l i; cells = map plain_cell (m i) }) ∙ (all_grown text some free).1
 
 -- a store without cells keeps no nodes
 pub nothing_kept : (ns : List Node) (cs : List StoredCell) → ns ≡ [] → cs ≡ [] → KeepsNodes ns cs

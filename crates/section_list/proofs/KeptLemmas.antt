@@ -14,11 +14,11 @@ use Rattle.fugue_ids.specs.Keys.{Keyed}
 use Rattle.fugue_ids.specs.Runs.{id_behind}
 use Rattle.origin_model.specs.operations.History.{holder, left_of}
 use Rattle.origin_model.specs.order.Order.{has_left, right_beside}
-use Rattle.origin_model.specs.sides.Keys.{depth_above, forest_above, search_key_of, keyed as keyed_in, keyed_order, new_key}
+use Rattle.origin_model.specs.sides.Keys.{depth_above, forest_above, search_key_of, with_keys as keyed_in, keyed_order, new_key}
 use Rattle.origin_model.specs.sides.Node.{IsNew, as_op, as_ops, find_node, has_node, has_origin, node_order}
 use Rattle.origin_model.specs.declared.operations.node.Node.{Node}
 use Rattle.origin_model.proofs.SharedLemmas.{holder-nodes, key-other, never_both, newest_key, nodes-lawful, nodes_listed, op_of}
-use Rattle.run_store.specs.Cells.{cell_of, cell_hiding, cell_ids, cells_hiding, keyed_cells, origins_of}
+use Rattle.run_store.specs.Cells.{cell_of, cell_hiding, cell_ids, cells_hiding, keyed_cells, origins_in_cell}
 use Rattle.run_store.specs.NewCells.{cell_depth, depth_under, forest_beside, cell_forest as forest_held, has_right, new_cell, new_cell_key as stored_key, shares_right}
 use Rattle.run_store.specs.declared.cell.Cell.{Cell as StoredCell}
 use Rattle.run_store.proofs.CellLemmas.{cell-none, others-absent}
@@ -84,7 +84,7 @@ module _ (ns : List Node) (cs : List StoredCell) (k : KeepsNodes ns cs) where
   key_at x f = (All-contains (IsOfNode ns) cs f.cell k.each f.member).key ∙ ap (search_key_of h) f.own
 
   -- a look-up among the nodes finds what the store has of its cell
-  pub found_kept : (x : Identifier) → find_node ns x ≡ option_map (node_with x) (origins_of cs x)
+  pub found_kept : (x : Identifier) → find_node ns x ≡ option_map (node_with x) (origins_in_cell cs x)
   found_kept x =
       elim (cases_Bool (has_node ns x)) [
         | inl t ↦

@@ -4,6 +4,7 @@ use Rattle.std.specs.List.{list_any}
 use Rattle.fugue_ids.specs.Identifiers.{Identifier, id_eq}
 use Rattle.fugue_ids.specs.Listed.{index_of}
 
+-- an element as it is listed: its identifier, its scalar, and whether it is hidden
 pub record Cell : Type 0 where
   pub id : Identifier
   pub ch : ℕ

@@ -9,8 +9,8 @@ use Rattle.run_store.specs.declared.cell.Cell.{Cell as StoredCell}
 use Rattle.section_list.specs.Cells.{Cell}
 
 -- a stored cell without origins and key
-abbrev pub plain : StoredCell → Cell
-plain c = record { id = c.id; ch = c.ch; hidden = c.hidden }
+abbrev pub plain_cell : StoredCell → Cell
+plain_cell c = record { id = c.id; ch = c.ch; hidden = c.hidden }
 
 -- the node of a stored cell
 abbrev pub node_of : StoredCell → Node

@@ -9,6 +9,7 @@ use Rattle.origin_model.specs.declared.operations.node.Node.{Node}
 pub use Rattle.sided_tree.specs.Rows.{next_node}
 use Rattle.section_list.specs.Cells.{Cell, section_cell_ids, section_hiding}
 
+-- what contracts see of a list
 pub record Listing : Type 0 where
   -- the elements with their origins, the newest first
   pub nodes : List Node
@@ -20,6 +21,7 @@ pub record IsInOrder (s : Listing) : Type 0 where
   pub are_nodes : AreNodes s.nodes
   pub in_order : section_cell_ids s.cells ≡ node_order s.nodes
 
+-- no element
 abbrev pub empty_listing : Listing
 empty_listing = record { nodes = []; cells = [] }
 
@@ -35,12 +37,12 @@ with_elements n [] s = s
 with_elements n (ch ∷ text) s = with_elements (next_node n) text (with_element n ch s)
 
 -- none of the first k identifiers from this one on is a node's
-abbrev pub AreUnheld : List Node → Identifier → ℕ → Type 0
-AreUnheld ns id k = (j : ℕ) → j < k → has_node ns (id_behind id j) ≡ false
+abbrev pub AreNoNodes : List Node → Identifier → ℕ → Type 0
+AreNoNodes ns id k = (j : ℕ) → j < k → has_node ns (id_behind id j) ≡ false
 
 -- the first k identifiers from this one on are nodes'
-abbrev pub AreHeld : List Node → Identifier → ℕ → Type 0
-AreHeld ns id k = (j : ℕ) → j < k → has_node ns (id_behind id j) ≡ true
+abbrev pub AreAllNodes : List Node → Identifier → ℕ → Type 0
+AreAllNodes ns id k = (j : ℕ) → j < k → has_node ns (id_behind id j) ≡ true
 
 -- the element x hidden
 abbrev pub with_hidden : Identifier → Listing → Listing

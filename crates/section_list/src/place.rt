@@ -11,7 +11,7 @@ ghost use Rattle.origin_model.specs.sides.Node.{IsNew, has_node, has_origin, nod
 ghost use Rattle.origin_model.specs.sides.Slot.{IsBeside, at_gap};
 ghost use Rattle.section_list.specs.Cells.{section_cell_ids, is_hidden_in_section as hidden_in, section_text};
 ghost use Rattle.section_list.specs.Cells.{section_cells_shown, section_shown_before};
-ghost use Rattle.section_list.specs.SectionList.{AreHeld, AreUnheld, IsInOrder, empty_listing, with_element, with_elements};
+ghost use Rattle.section_list.specs.SectionList.{AreAllNodes, AreNoNodes, IsInOrder, empty_listing, with_element, with_elements};
 ghost use Rattle.section_list.specs.SectionList.{with_hidden, with_run_hidden};
 
 use fugue_ids::{ElementId, Failed, Gap, Gather, MOST_OPERATIONS, NoMemory, Out, Sink};
@@ -31,12 +31,12 @@ pub struct SectionList {
 
 impl Model for SectionList {
     ghost use Rattle.std.specs.Prelude.{map};
-    ghost use Rattle.section_list.specs.Kept.{KeepsNodes, plain};
+    ghost use Rattle.section_list.specs.Kept.{KeepsNodes, plain_cell};
     ghost use Rattle.section_list.specs.SectionList.{Listing};
 
     ghost Value = { Listing };
 
-    ghost view = { λ s. record { nodes = s.ages.nodes; cells = map plain s.store.cells } };
+    ghost view = { λ s. record { nodes = s.ages.nodes; cells = map plain_cell s.store.cells } };
 
     ghost invariant = { λ s. KeepsNodes s.ages.nodes s.store.cells };
 }
@@ -169,7 +169,7 @@ impl SectionList {
     pub fn insert_run(&mut self, first: &Node, text: &[char]) -> Result<(), NoMemory>
         requires some { 0 < length text.now }
         requires counters { first.now.id.counter + length text.now ≤ 2 ^ 32 }
-        requires fresh { AreUnheld self.old.nodes first.now.id (length text.now) }
+        requires fresh { AreNoNodes self.old.nodes first.now.id (length text.now) }
         requires left { has_origin self.old.nodes first.now.left ≡ true }
         requires right { has_origin self.old.nodes first.now.right ≡ true }
         requires room { length self.old.cells + length text.now ≤ MOST_OPERATIONS }
@@ -222,7 +222,7 @@ impl SectionList {
     /// as they are. Want of memory leaves fewer hidden, and tells how many.
     pub fn hide_run(&mut self, first: ElementId, count: u32) -> Result<(), StoppedAfter>
         requires counters { first.counter + count ≤ 2 ^ 32 }
-        requires held { AreHeld self.old.nodes first count }
+        requires held { AreAllNodes self.old.nodes first count }
         ensures ok { OnOk result (self.new ≡ with_run_hidden first count self.old) }
         ensures err { IfErr result (λ e. self.new ≡ with_run_hidden first e.done self.old) }
         ensures fewer { IfErr result (λ e. e.done < count) }

@@ -2,7 +2,7 @@
 use Rattle.std.proofs.Common.{Bool, ◌&&◌, ◌||◌, List, [], ap, arith, drop, get_or, length, nat_eq, refl, true, false, ℕ, ◌+◌, ◌-◌, ◌<◌, ◌≤◌, ◌∙◌, ◌∷◌, ◌≡◌, cond, reverse, suc}
 use Rattle.std.specs.List.{common_prefix_len, list_any}
 use Rattle.std.specs.Char.Unicode.Alphabetic.{is_alphabetic}
-use Rattle.section_plan.specs.Likeness.{alike, longer, shares_third}
+use Rattle.section_plan.specs.Likeness.{alike, longer_text, shares_third}
 use Rattle.std.proofs.Common.{eq-eqb, inl, inr}
 use Rattle.std.proofs.lemmas.Bool.{cases_lt, lt-leb, ne_eqb}
 use Rattle.std.proofs.lemmas.List.{drop_all, drop_more, get_or-reverse, length-reverse}
@@ -78,9 +78,9 @@ none_shared (x ∷ long) = ap (λ b. list_any is_alphabetic (x ∷ long) && (b |
 
 -- an empty text is alike with none
 pub empty_old : (b : List ℕ) → alike [] b ≡ false
-empty_old b = none_shared (longer [] b)
+empty_old b = none_shared (longer_text [] b)
 
 pub empty_new : (a : List ℕ) → alike a [] ≡ false
 empty_new a =
-    (λ i. list_any is_alphabetic (longer a []) && (shares_third (none_right a i) (length (longer a [])) || shares_third (none_right (reverse a) i) (length (longer a []))))
-    ∙ none_shared (longer a [])
+    (λ i. list_any is_alphabetic (longer_text a []) && (shares_third (none_right a i) (length (longer_text a [])) || shares_third (none_right (reverse a) i) (length (longer_text a []))))
+    ∙ none_shared (longer_text a [])

@@ -8,8 +8,8 @@ use Rattle.std.proofs.lemmas.List.Sums.{common_prefix_len-le}
 use Rattle.std.proofs.lemmas.List.{get_or_append_left, get_or_push, length-reverse, length_push, take_more}
 use Rattle.std.proofs.lemmas.Option.{same_Some, slice_get_within}
 use Rattle.section_plan.specs.Alike.{NoneAmong}
-use Rattle.section_plan.specs.Likeness.{alike, longer, shares_third}
-use Rattle.section_plan.specs.Marks.{AreThirds, AreTried, IsFirst, IsFrom, IsIndex, NoneFronted, NoneMarked, earlier, mark_from, mark_of, next_mark, third_mark, turns}
+use Rattle.section_plan.specs.Likeness.{alike, longer_text, shares_third}
+use Rattle.section_plan.specs.Marks.{AreThirds, AreTried, IsFirst, IsNotBefore, IsTextIndex, NoneFronted, NoneMarked, earlier, mark_from, mark_of_text, next_mark, third_mark, turns_left}
 use Rattle.section_plan.specs.Matching.{part_of}
 use Rattle.section_plan.specs.declared.alike.Scalars.{Scalars}
 use Rattle.section_plan.specs.declared.marks.Marks.{Marks}
@@ -20,10 +20,10 @@ mark_push : (m : ℕ) (xs : List ℕ) (c : ℕ) → mark_from m (xs ++ c ∷ [])
 mark_push m [] c = refl
 mark_push m (x ∷ xs) c = mark_push (next_mark m x) xs c
 
-pub mark_more : (xs : List ℕ) (i c : ℕ) → i < length xs → get_or xs i 0 ≡ c → mark_of (take (i + 1) xs) ≡ next_mark (mark_of (take i xs)) c
-mark_more xs i c l e = ap mark_of (take_more xs i 0 l ∙ ap (λ d. take i xs ++ d ∷ []) e) ∙ mark_push 0 (take i xs) c
+pub mark_more : (xs : List ℕ) (i c : ℕ) → i < length xs → get_or xs i 0 ≡ c → mark_of_text (take (i + 1) xs) ≡ next_mark (mark_of_text (take i xs)) c
+mark_more xs i c l e = ap mark_of_text (take_more xs i 0 l ∙ ap (λ d. take i xs ++ d ∷ []) e) ∙ mark_push 0 (take i xs) c
 
-pub mark_next : (xs : List ℕ) (i m c n : ℕ) → i < length xs → get_or xs i 0 ≡ c → m ≡ mark_of (take i xs) → n ≡ next_mark m c → n ≡ mark_of (take (i + 1) xs)
+pub mark_next : (xs : List ℕ) (i m c n : ℕ) → i < length xs → get_or xs i 0 ≡ c → m ≡ mark_of_text (take i xs) → n ≡ next_mark m c → n ≡ mark_of_text (take (i + 1) xs)
 mark_next xs i m c n l e was is = is ∙ (ap (λ k. next_mark k c) was ∙ sym (mark_more xs i c l e))
 
 -- the same scalars are at the front as far as two lists are the same
@@ -73,7 +73,7 @@ module _ (p : Pairs) (sections : List Scalars) (marks : List ℕ) (mark : ℕ) (
       there None first j e = cc e
       there (Some i) first j e = let d : i ≡ j = same_Some i j e in (omega (arith, first.1, d), ap (λ n. get_or marks n 0) (sym d) ∙ (first.2 ∙ here_mark))
 
-      from_next : (o : Option ℕ) → IsFirst marks (k + 1) (get_or marks k 0) o → (j : ℕ) → k + 1 ≤ j → j < length marks → get_or marks j 0 ≡ mark → IsFrom o j
+      from_next : (o : Option ℕ) → IsFirst marks (k + 1) (get_or marks k 0) o → (j : ℕ) → k + 1 ≤ j → j < length marks → get_or marks j 0 ≡ mark → IsNotBefore o j
       from_next None first j l within same = first j l within (same ∙ sym here_mark)
       from_next (Some i) first j l within same = first.3 j l within (same ∙ sym here_mark)
 
@@ -82,19 +82,19 @@ module _ (p : Pairs) (sections : List Scalars) (marks : List ℕ) (mark : ℕ) (
   tried_all was k s at same free = elim (was.tried k s at same free) [ inl out ↦ out | inr none ↦ absurd none ]
 
 -- the next place is behind
-pub falls : (marks : List ℕ) (k mark : ℕ) (o : Option ℕ) → k < length marks → IsFirst marks (k + 1) mark o → turns (length marks) o < length marks - k
+pub falls : (marks : List ℕ) (k mark : ℕ) (o : Option ℕ) → k < length marks → IsFirst marks (k + 1) mark o → turns_left (length marks) o < length marks - k
 falls marks k mark None l first = omega (arith, l)
 falls marks k mark (Some i) l first = omega (arith, first.0, first.1)
 
 -- one front more
-pub fronted_more : (p : Pairs) (sections : List Scalars) (marks list text : List ℕ) (n mark : ℕ) → NoneFronted p sections marks list n text → mark ≡ mark_of (take n list) → NoneMarked p sections marks mark text
+pub fronted_more : (p : Pairs) (sections : List Scalars) (marks list text : List ℕ) (n mark : ℕ) → NoneFronted p sections marks list n text → mark ≡ mark_of_text (take n list) → NoneMarked p sections marks mark text
     → NoneFronted p sections marks list (n + 1) text
 fronted_more p sections marks list text n mark was is none w l = elim (cases_eq w n) [
-  | inl e ↦ subst (λ m. NoneMarked p sections marks m text) (is ∙ ap (λ i. mark_of (take i list)) (sym e)) none
+  | inl e ↦ subst (λ m. NoneMarked p sections marks m text) (is ∙ ap (λ i. mark_of_text (take i list)) (sym e)) none
   | inr ne ↦ was w (omega (arith, l, ne))
 ]
 
-pub fronted_next : (p : Pairs) (sections : List Scalars) (marks list text : List ℕ) (n mark : ℕ) (found marked : Option ℕ) → IfNone found (NoneFronted p sections marks list n text) → mark ≡ mark_of (take n list)
+pub fronted_next : (p : Pairs) (sections : List Scalars) (marks list text : List ℕ) (n mark : ℕ) (found marked : Option ℕ) → IfNone found (NoneFronted p sections marks list n text) → mark ≡ mark_of_text (take n list)
     → IfNone marked (NoneMarked p sections marks mark text) → IfNone (earlier found marked) (NoneFronted p sections marks list (n + 1) text)
 fronted_next p sections marks list text n mark None None was is none = fronted_more p sections marks list text n mark was is none
 fronted_next p sections marks list text n mark None (Some j) was is none = tt
@@ -111,31 +111,31 @@ earlier_is P (Some k) (Some j) f g = elim (cases_Bool (nat_le k j)) [
 ]
 
 -- the longer one of two texts is as long as each of them
-longer_long : (a b : List ℕ) → (length a ≤ length (longer a b)) × (length b ≤ length (longer a b))
+longer_long : (a b : List ℕ) → (length a ≤ length (longer_text a b)) × (length b ≤ length (longer_text a b))
 longer_long a b = by (cases_Bool (nat_lt (length a) (length b)))
   where
-    by : (nat_lt (length a) (length b) ≡ true) ⊎ (nat_lt (length a) (length b) ≡ false) → (length a ≤ length (longer a b)) × (length b ≤ length (longer a b))
+    by : (nat_lt (length a) (length b) ≡ true) ⊎ (nat_lt (length a) (length b) ≡ false) → (length a ≤ length (longer_text a b)) × (length b ≤ length (longer_text a b))
     by (inl e) =
-        let is : length (longer a b) ≡ length b = ap (λ t. length (cond t b a)) e in
+        let is : length (longer_text a b) ≡ length b = ap (λ t. length (cond t b a)) e in
         let less : length a < length b = ltb-true (length a) (length b) e in
         (omega (arith, is, less), omega (arith, is))
     by (inr e) =
-        let is : length (longer a b) ≡ length a = ap (λ t. length (cond t b a)) e in
+        let is : length (longer_text a b) ≡ length a = ap (λ t. length (cond t b a)) e in
         let more : length b ≤ length a = ltb-false (length a) (length b) e in
         (omega (arith, is), omega (arith, is, more))
 
 -- a third of a text that is common is a front of both
-third_front : (a b xs ys : List ℕ) → length xs ≡ length a → length ys ≡ length b → shares_third (common_prefix_len nat_eq xs ys) (length (longer a b)) ≡ true
-    → (length xs / 3 < length ys + 1) × (third_mark xs ≡ mark_of (take (length xs / 3) ys))
+third_front : (a b xs ys : List ℕ) → length xs ≡ length a → length ys ≡ length b → shares_third (common_prefix_len nat_eq xs ys) (length (longer_text a b)) ≡ true
+    → (length xs / 3 < length ys + 1) × (third_mark xs ≡ mark_of_text (take (length xs / 3) ys))
 third_front a b xs ys l m e =
-    let le : length (longer a b) ≤ 3 * common_prefix_len nat_eq xs ys = leb-true (length (longer a b)) (3 * common_prefix_len nat_eq xs ys) e in
+    let le : length (longer_text a b) ≤ 3 * common_prefix_len nat_eq xs ys = leb-true (length (longer_text a b)) (3 * common_prefix_len nat_eq xs ys) e in
     let long = longer_long a b in
     let bound = common_prefix_len-le nat_eq xs ys in
     let w : length xs / 3 ≤ common_prefix_len nat_eq xs ys = omega (arith, le, long.0, l) in
-    (omega (arith, w, bound.1), ap mark_of (front_same xs ys (length xs / 3) w))
+    (omega (arith, w, bound.1), ap mark_of_text (front_same xs ys (length xs / 3) w))
 
 -- where none that has the mark of a front is alike, nor of an end, none is
-pub none_among : (p : Pairs) (texts : List Scalars) (front end : Marks) (text back : List ℕ) → IsIndex texts front end → back ≡ reverse text → NoneFronted p texts front.marks.items text (length text + 1) text
+pub none_among : (p : Pairs) (texts : List Scalars) (front end : Marks) (text back : List ℕ) → IsTextIndex texts front end → back ≡ reverse text → NoneFronted p texts front.marks.items text (length text + 1) text
     → NoneFronted p texts end.marks.items back (length back + 1) text → NoneAmong p texts (length texts) text
 none_among p texts front end text back is reversed fronts ends k s l at free = by (cases_Bool (alike s.list.items text))
   where
@@ -151,13 +151,13 @@ none_among p texts front end text back is reversed fronts ends k s l at free = b
               let t = third_front s.list.items text s.list.items text refl refl f in
               fronts (length s.list.items / 3) t.0 k s at (is.by_front.thirds.each k s l at ∙ t.1) free
           | inr f ↦
-              let g : shares_third (common_prefix_len nat_eq s.reversed.items back) (length (longer s.list.items text)) ≡ true =
-              (λ i. shares_third (common_prefix_len nat_eq (back_is i) (reversed i)) (length (longer s.list.items text))) ∙ f in
+              let g : shares_third (common_prefix_len nat_eq s.reversed.items back) (length (longer_text s.list.items text)) ≡ true =
+              (λ i. shares_third (common_prefix_len nat_eq (back_is i) (reversed i)) (length (longer_text s.list.items text))) ∙ f in
               let t = third_front s.list.items text s.reversed.items back (ap length back_is ∙ length-reverse s.list.items) (ap length reversed ∙ length-reverse text) g in
               ends (length s.reversed.items / 3) t.0 k s at (is.by_end.thirds.each k s l at ∙ t.1) free
         ]
 
-pub none_found : (p : Pairs) (texts : List Scalars) (front end : Marks) (text back : List ℕ) (one other : Option ℕ) → IsIndex texts front end → back ≡ reverse text
+pub none_found : (p : Pairs) (texts : List Scalars) (front end : Marks) (text back : List ℕ) (one other : Option ℕ) → IsTextIndex texts front end → back ≡ reverse text
     → IfNone one (NoneFronted p texts front.marks.items text (length text + 1) text) → IfNone other (NoneFronted p texts end.marks.items back (length back + 1) text) → IfNone (earlier one other) (NoneAmong p texts (length texts) text)
 none_found p texts front end text back None None is reversed fronts ends = none_among p texts front end text back is reversed fronts ends
 none_found p texts front end text back None (Some j) is reversed fronts ends = tt

@@ -2,8 +2,8 @@
 use Rattle.std.proofs.Common.{ℕ, ◌+◌, ◌<◌, List, refl, sym, ap, arith, subst, ◌≡◌, ◌⊎◌, inl, inr, ◌∙◌, Some, Option, length}
 use Rattle.std.specs.Prelude.{None}
 use Rattle.std.proofs.lemmas.Bool.{cases_eq}
-use Rattle.section_plan.specs.Completing.{AddsSamePart, HasKeysOfFree, IsCompletedTo, IsDone}
-use Rattle.section_plan.specs.Matching.{AreKept, GrowsBy, HadText, IsMatching, KeepsText, NoneIsLeft, TextsAreKept, key_at, part_at, part_of, section_of}
+use Rattle.section_plan.specs.Completing.{AddsSamePart, HasKeysOfFree, IsCompletedTo, IsSettledPart}
+use Rattle.section_plan.specs.Matching.{AreKept, GainsPairs, HadText, IsMatching, HasPartWithText, NoneIsLeft, TextsAreMatched, key_at, part_at, part_of, section_of}
 use Rattle.section_plan.specs.declared.keys.Key.{Key}
 use Rattle.section_plan.specs.declared.keys.Key.TheVariants.{Text}
 use Rattle.section_plan.specs.declared.pairs.Pairs.{Pairs}
@@ -36,7 +36,7 @@ keys_stay sections parts old new key n matching kept m has i wanted l free =
 
 -- a part more is done
 pub completed_more : (start mid new : Pairs) (sections parts : List Part) (key : Key) (place : ℕ) → IsMatching (length sections) (length parts) start → IsCompletedTo start mid sections parts key place → AreKept mid new
-    → AddsSamePart mid new sections key place (key_at key parts place) → IsDone new sections key place (part_at parts place) → IsCompletedTo start new sections parts key (place + 1)
+    → AddsSamePart mid new sections key place (key_at key parts place) → IsSettledPart new sections key place (part_at parts place) → IsCompletedTo start new sections parts key (place + 1)
 completed_more start mid new sections parts key place m to kept same done = record {
   grows = record { kept = kept_both start mid new to.grows.kept kept; same = λ i j e. from_mid i j (same i j e) };
   done = λ j l. by j l (cases_eq j place);
@@ -46,16 +46,16 @@ completed_more start mid new sections parts key place m to kept same done = reco
     from_mid i j (inl e) = to.grows.same i j e
     from_mid i j (inr e) = inr (e.1 ∙ ap (λ k. key_at key parts k) (sym e.0))
 
-    by : (j : ℕ) → j < place + 1 → (j ≡ place) ⊎ (j ≡ place → ⊥) → IsDone new sections key j (part_at parts j)
-    by j l (inl e) = subst (λ k. IsDone new sections key k (part_at parts k)) (sym e) done
+    by : (j : ℕ) → j < place + 1 → (j ≡ place) ⊎ (j ≡ place → ⊥) → IsSettledPart new sections key j (part_at parts j)
+    by j l (inl e) = subst (λ k. IsSettledPart new sections key k (part_at parts k)) (sym e) done
     by j l (inr ne) = λ none keyed i free.
         to.done j (omega arith) (part_free_before mid new kept j none) keyed i
         (record { within = free.within; free = free_before (length sections) (length parts) mid new (to.grows.kept.matching (length sections) (length parts) m) kept i free.free; same = free.same })
 
-pub grows_none : (key : Key) (sections parts : List Part) (a : Pairs) → GrowsBy key sections parts a a
+pub grows_none : (key : Key) (sections parts : List Part) (a : Pairs) → GainsPairs key sections parts a a
 grows_none key sections parts a = record { kept = record { matching = λ s p m. m; stay = λ i j e. e }; same = λ i j e. inl e }
 
-pub grows_both : (key : Key) (sections parts : List Part) (a b c : Pairs) → GrowsBy key sections parts a b → GrowsBy key sections parts b c → GrowsBy key sections parts a c
+pub grows_both : (key : Key) (sections parts : List Part) (a b c : Pairs) → GainsPairs key sections parts a b → GainsPairs key sections parts b c → GainsPairs key sections parts a c
 grows_both key sections parts a b c g h = record { kept = kept_both a b c g.kept h.kept; same = λ i j e. by i j (h.same i j e) }
   where
     by : (i j : ℕ) → (section_of b j ≡ Some i) ⊎ (key_at key sections i ≡ key_at key parts j) → (section_of a j ≡ Some i) ⊎ (key_at key sections i ≡ key_at key parts j)
@@ -63,8 +63,8 @@ grows_both key sections parts a b c g h = record { kept = kept_both a b c g.kept
     by i j (inr e) = inr e
 
 -- where none was paired at first, and then those with the same text, texts are kept by what stays of these pairs
-pub texts_kept : (sections parts : List Part) (none mid new : Pairs) → IsMatching (length sections) (length parts) none → ((j : ℕ) → section_of none j ≡ None) → GrowsBy Text sections parts none mid
-    → NoneIsLeft mid sections parts Text → AreKept mid new → TextsAreKept new sections parts
+pub texts_kept : (sections parts : List Part) (none mid new : Pairs) → IsMatching (length sections) (length parts) none → ((j : ℕ) → section_of none j ≡ None) → GainsPairs Text sections parts none mid
+    → NoneIsLeft mid sections parts Text → AreKept mid new → TextsAreMatched new sections parts
 texts_kept sections parts none mid new m empty grows done kept i j li lj same keyed = by (part_of mid i) refl (section_of mid j) refl
   where
     mid_matching : IsMatching (length sections) (length parts) mid
@@ -77,7 +77,7 @@ texts_kept sections parts none mid new m empty grows done kept i j li lj same ke
         from (inl f) = let g = empty k in cc
         from (inr f) = f
 
-    by : (o : Option ℕ) → part_of mid i ≡ o → (s : Option ℕ) → section_of mid j ≡ s → KeepsText new sections parts i ⊎ HadText new sections parts j
+    by : (o : Option ℕ) → part_of mid i ≡ o → (s : Option ℕ) → section_of mid j ≡ s → HasPartWithText new sections parts i ⊎ HadText new sections parts j
     by (Some k) e s f =
         let pair = (mid_matching.inverse i k).1 e in
         inl (k, ((kept.matching (length sections) (length parts) mid_matching).inverse i k).0 (kept.stay i k pair), sym (equal i k pair))

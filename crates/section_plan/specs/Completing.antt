@@ -7,7 +7,7 @@ use denote.Ref.{Bor}
 use Rattle.section_plan.specs.declared.keys.Key.{Key}
 use Rattle.section_plan.specs.declared.pairs.Pairs.{Pairs}
 use Rattle.section_plan.specs.declared.part.Part.{Part}
-use Rattle.section_plan.specs.Matching.{GrowsBy, is_keyed, key_at, key_in, part_at, part_of, section_of}
+use Rattle.section_plan.specs.Matching.{GainsPairs, is_keyed, key_at, key_in, part_at, part_of, section_of}
 
 -- what a map has for a text
 abbrev pub found_for : BTreeMap (Bor (List ℕ)) ℕ → List ℕ → Option ℕ
@@ -28,14 +28,14 @@ abbrev pub AddsSamePart : (old new : Pairs) → (sections : List Part) → Key �
 AddsSamePart old new sections key place wanted = (i j : ℕ) → section_of new j ≡ Some i → (section_of old j ≡ Some i) ⊎ ((j ≡ place) × (key_at key sections i ≡ wanted))
 
 -- the part has a section, or no free section has its key
-abbrev pub IsDone : Pairs → (sections : List Part) → Key → (place : ℕ) → Part → Type 0
-IsDone p sections key place part = section_of p place ≡ None → is_keyed key part ≡ true → (i : ℕ) → IsFreeWith p sections key (key_in key part) i → ⊥
+abbrev pub IsSettledPart : Pairs → (sections : List Part) → Key → (place : ℕ) → Part → Type 0
+IsSettledPart p sections key place part = section_of p place ≡ None → is_keyed key part ≡ true → (i : ℕ) → IsFreeWith p sections key (key_in key part) i → ⊥
 
 -- so has each part in front of a place
 abbrev pub AreDone : Pairs → (sections parts : List Part) → Key → (place : ℕ) → Type 0
-AreDone p sections parts key place = (j : ℕ) → j < place → IsDone p sections key j (part_at parts j)
+AreDone p sections parts key place = (j : ℕ) → j < place → IsSettledPart p sections key j (part_at parts j)
 
 -- up to a place
 pub record IsCompletedTo (start now : Pairs) (sections parts : List Part) (key : Key) (place : ℕ) : Type 0 where
-  pub grows : GrowsBy key sections parts start now
+  pub grows : GainsPairs key sections parts start now
   pub done : AreDone now sections parts key place

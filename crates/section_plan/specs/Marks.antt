@@ -18,8 +18,9 @@ abbrev pub mark_from : ℕ → List ℕ → ℕ
 mark_from mark [] = mark
 mark_from mark (c ∷ cs) = mark_from (next_mark mark c) cs
 
-abbrev pub mark_of : List ℕ → ℕ
-mark_of text = mark_from 0 text
+-- the mark of a text: a number by which texts that differ are told apart at once
+abbrev pub mark_of_text : List ℕ → ℕ
+mark_of_text text = mark_from 0 text
 
 -- of the marks from a place on the first one that is this one: None where there is none
 abbrev pub IsFirst : (marks : List ℕ) → (from mark : ℕ) → Option ℕ → Type 0
@@ -37,14 +38,14 @@ abbrev pub NoneMarked : Pairs → List Scalars → (marks : List ℕ) → (mark 
 NoneMarked p sections marks mark text = (k : ℕ) (s : Scalars) → slice_get sections k ≡ Some s → slice_index marks k ≡ mark → part_of p s.place ≡ None → alike s.list.items text ≡ false
 
 -- the place is not in front of the next one
-abbrev pub IsFrom : Option ℕ → ℕ → Type 0
-IsFrom None j = ⊥
-IsFrom (Some k) j = k ≤ j
+abbrev pub IsNotBefore : Option ℕ → ℕ → Type 0
+IsNotBefore None j = ⊥
+IsNotBefore (Some k) j = k ≤ j
 
 -- the next place has this mark, and of those in front of it that have it no free section is alike
 pub record AreTried (p : Pairs) (sections : List Scalars) (marks : List ℕ) (mark : ℕ) (text : List ℕ) (next : Option ℕ) : Type 0 where
   pub there : (k : ℕ) → next ≡ Some k → (k < length marks) × (slice_index marks k ≡ mark)
-  pub tried : (k : ℕ) (s : Scalars) → slice_get sections k ≡ Some s → slice_index marks k ≡ mark → part_of p s.place ≡ None → (alike s.list.items text ≡ false) ⊎ IsFrom next k
+  pub tried : (k : ℕ) (s : Scalars) → slice_get sections k ≡ Some s → slice_index marks k ≡ mark → part_of p s.place ≡ None → (alike s.list.items text ≡ false) ⊎ IsNotBefore next k
 
 -- the first one of two places, where there are any
 abbrev pub earlier : (one other : Option ℕ) → Option ℕ
@@ -54,25 +55,27 @@ earlier (Some k) (Some j) = Some (min k j)
 
 -- none that has the mark of one of the first fronts of a list is alike
 abbrev pub NoneFronted : Pairs → List Scalars → (marks : List ℕ) → (list : List ℕ) → (first : ℕ) → (text : List ℕ) → Type 0
-NoneFronted p sections marks list first text = (w : ℕ) → w < first → NoneMarked p sections marks (mark_of (take w list)) text
+NoneFronted p sections marks list first text = (w : ℕ) → w < first → NoneMarked p sections marks (mark_of_text (take w list)) text
 
 -- of so many places, so many turns are left at most
-abbrev pub turns : (places : ℕ) → Option ℕ → ℕ
-turns places None = 0
-turns places (Some k) = places - k
+abbrev pub turns_left : (places : ℕ) → Option ℕ → ℕ
+turns_left places None = 0
+turns_left places (Some k) = places - k
 
 -- the marks of the first thirds of lists
 abbrev pub third_mark : List ℕ → ℕ
-third_mark list = mark_of (take (length list / 3) list)
+third_mark list = mark_of_text (take (length list / 3) list)
 
 -- each of the first texts has the mark of the first third of a list of it
 pub record AreThirds (list : Scalars → List ℕ) (texts : List Scalars) (first : ℕ) (marks : List ℕ) : Type 0 where
   pub long : length marks ≡ first
   pub each : (k : ℕ) (s : Scalars) → k < first → slice_get texts k ≡ Some s → slice_index marks k ≡ third_mark (list s)
 
+-- the scalars of a text
 abbrev pub list_of : Scalars → List ℕ
 list_of s = s.list.items
 
+-- the scalars of a text, the last one first
 abbrev pub reversed_of : Scalars → List ℕ
 reversed_of s = s.reversed.items
 
@@ -86,7 +89,7 @@ pub record IsMarkedBy (list : Scalars → List ℕ) (texts : List Scalars) (m : 
   pub marked : AreMarked m.marks.items 0 (get nat_cmp m.first) m.next.items
 
 -- the texts by their fronts and by their ends
-pub record IsIndex (texts : List Scalars) (front end : Marks) : Type 0 where
+pub record IsTextIndex (texts : List Scalars) (front end : Marks) : Type 0 where
   pub reversed : AreReversed texts
   pub by_front : IsMarkedBy list_of texts front
   pub by_end : IsMarkedBy reversed_of texts end

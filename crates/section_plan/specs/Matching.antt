@@ -11,6 +11,7 @@ use Rattle.section_plan.specs.declared.keys.Key.TheVariants.{Text, Title}
 abbrev pub section_of : Pairs → ℕ → Option ℕ
 section_of p part = slice_index_or p.of_part.items part None
 
+-- the part of a section, where it has one
 abbrev pub part_of : Pairs → ℕ → Option ℕ
 part_of p section = slice_index_or p.of_section.items section None
 
@@ -52,6 +53,7 @@ no_part = record { title = record { ref_ptr = (0, 0); now = [] }; text = record 
 abbrev pub part_at : List Part → ℕ → Part
 part_at ps i = slice_index_or ps i no_part
 
+-- the key of the part at a place
 abbrev pub key_at : Key → List Part → ℕ → List ℕ
 key_at key ps i = key_in key (part_at ps i)
 
@@ -65,27 +67,28 @@ NoneIsLeft p sections parts key = (i j : ℕ) → i < length sections → j < le
     → is_keyed key (part_at parts j) ≡ true → key_at key sections i ≢ key_at key parts j
 
 -- the scalars of the text at a place
-abbrev pub text_at : List Part → ℕ → List ℕ
-text_at ps i = chars (key_at Text ps i)
+abbrev pub text_at_place : List Part → ℕ → List ℕ
+text_at_place ps i = chars (key_at Text ps i)
 
 -- no section and no part that are left without a pair have texts that are alike
-abbrev pub NoneIsAlike : Pairs → (sections parts : List Part) → Type 0
-NoneIsAlike p sections parts = (i j : ℕ) → i < length sections → j < length parts → part_of p i ≡ None → section_of p j ≡ None → alike (text_at sections i) (text_at parts j) ≡ false
+abbrev pub NoPairIsAlike : Pairs → (sections parts : List Part) → Type 0
+NoPairIsAlike p sections parts = (i j : ℕ) → i < length sections → j < length parts → part_of p i ≡ None → section_of p j ≡ None → alike (text_at_place sections i) (text_at_place parts j) ≡ false
 
 -- pairs came, of sections and parts that have the same key, and none went
-pub record GrowsBy (key : Key) (sections parts : List Part) (old new : Pairs) : Type 0 where
+pub record GainsPairs (key : Key) (sections parts : List Part) (old new : Pairs) : Type 0 where
   pub kept : AreKept old new
   pub same : AddsSame old new sections parts key
 
 -- a section has a part with its text; a part has a section with its text
-abbrev pub KeepsText : Pairs → (sections parts : List Part) → ℕ → Type 0
-KeepsText p sections parts i = (j : ℕ) × (part_of p i ≡ Some j) × (key_at Text parts j ≡ key_at Text sections i)
+abbrev pub HasPartWithText : Pairs → (sections parts : List Part) → ℕ → Type 0
+HasPartWithText p sections parts i = (j : ℕ) × (part_of p i ≡ Some j) × (key_at Text parts j ≡ key_at Text sections i)
 
+-- the section of a part has the text of it
 abbrev pub HadText : Pairs → (sections parts : List Part) → ℕ → Type 0
 HadText p sections parts j = (i : ℕ) × (section_of p j ≡ Some i) × (key_at Text sections i ≡ key_at Text parts j)
 
 -- where a section and a part have the same text, and it is not empty, the section keeps it, or the part has it from another
 -- section: so as many keep a text as there can be
-abbrev pub TextsAreKept : Pairs → (sections parts : List Part) → Type 0
-TextsAreKept p sections parts = (i j : ℕ) → i < length sections → j < length parts → key_at Text sections i ≡ key_at Text parts j → is_keyed Text (part_at parts j) ≡ true
-    → KeepsText p sections parts i ⊎ HadText p sections parts j
+abbrev pub TextsAreMatched : Pairs → (sections parts : List Part) → Type 0
+TextsAreMatched p sections parts = (i j : ℕ) → i < length sections → j < length parts → key_at Text sections i ≡ key_at Text parts j → is_keyed Text (part_at parts j) ≡ true
+    → HasPartWithText p sections parts i ⊎ HadText p sections parts j

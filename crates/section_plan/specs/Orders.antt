@@ -9,17 +9,17 @@ pub record IsOrder (order : List ℕ) : Type 0 where
   pub all : (part : ℕ) → part < length order → (a : ℕ) × (a < length order) × (slice_index order a ≡ part)
 
 -- the part is in front of one, or its section is one of those that stay
-abbrev pub IsPlaced : List Bool → (next part : ℕ) → Type 0
-IsPlaced stays next part = (part < next) ⊎ (slice_index_or stays part false ≡ true)
+abbrev pub IsPartPlaced : List Bool → (next part : ℕ) → Type 0
+IsPartPlaced stays next part = (part < next) ⊎ (slice_index_or stays part false ≡ true)
 
 -- the sections of such parts stand in the order of the parts
 abbrev pub ArePlaced : List ℕ → List Bool → (next : ℕ) → Type 0
-ArePlaced order stays next = (a b : ℕ) → a < b → b < length order → IsPlaced stays next (slice_index order a) → IsPlaced stays next (slice_index order b)
+ArePlaced order stays next = (a b : ℕ) → a < b → b < length order → IsPartPlaced stays next (slice_index order a) → IsPartPlaced stays next (slice_index order b)
     → slice_index order a < slice_index order b
 
 -- a member goes to another place
-abbrev pub moved : List ℕ → (from to part : ℕ) → List ℕ
-moved order from to part = insert (remove order from) to part
+abbrev pub moved_place : List ℕ → (from to part : ℕ) → List ℕ
+moved_place order from to part = insert (remove order from) to part
 
 -- where a part stands, and where it would stand behind the part before it, or in front of all
 pub record IsStepOf (order : List ℕ) (part from to : ℕ) : Type 0 where
@@ -32,4 +32,4 @@ pub record IsStepOf (order : List ℕ) (part from to : ℕ) : Type 0 where
 -- the section of a part was placed: by a step, which it wants since it does not stay and stands elsewhere, or by none
 abbrev pub Places : (old new : List ℕ) → List Bool → (part : ℕ) → Option Step → Type 0
 Places old new stays part None = new ≡ old
-Places old new stays part (Some step) = (new ≡ moved old step.from step.to part) × IsStepOf old part step.from step.to × (slice_index_or stays part false ≡ false) × (step.from ≢ step.to)
+Places old new stays part (Some step) = (new ≡ moved_place old step.from step.to part) × IsStepOf old part step.from step.to × (slice_index_or stays part false ≡ false) × (step.from ≢ step.to)

@@ -2,10 +2,10 @@
 
 ghost use Rattle.std.specs.Prelude.{◌≡◌, ◌↔◌, ◌<◌, IfNone, IfOk, IfSome, IsTrue, None, OnOk, length, reverse, true};
 ghost use Rattle.std.specs.Str.{chars};
-ghost use Rattle.section_plan.specs.Alike.{AreWithin, HasTexts, IsServed, NoneAmong};
+ghost use Rattle.section_plan.specs.Alike.{AreThere, HasSectionTexts, IsServed, NoneAmong};
 ghost use Rattle.section_plan.specs.Likeness.{alike};
-ghost use Rattle.section_plan.specs.Marks.{AreThirds, IsIndex, list_of, reversed_of};
-ghost use Rattle.section_plan.specs.Matching.{AreKept, IsMatching, NoneIsAlike, part_of as part_in};
+ghost use Rattle.section_plan.specs.Marks.{AreThirds, IsTextIndex, list_of, reversed_of};
+ghost use Rattle.section_plan.specs.Matching.{AreKept, IsMatching, NoPairIsAlike, part_of as part_in};
 
 use crate::likeness::are_alike;
 use crate::marks::{Marks, earlier, find_fronted, third_mark};
@@ -38,7 +38,7 @@ fn reversed_in(alloc: Global, text: &str) -> Result<Vec<char>, NoMemory>
 
 /// The scalars of the texts of the free sections that are not empty: an empty one is alike with none.
 fn scalars_of(alloc: Global, pairs: &Pairs, sections: &[Part<'_>]) -> Result<Vec<Scalars>, NoMemory>
-    ensures { IfOk result (λ texts. HasTexts pairs.now sections.now (length sections.now) texts.items) }
+    ensures { IfOk result (λ texts. HasSectionTexts pairs.now sections.now (length sections.now) texts.items) }
 {
     let mut texts = Vec::new(alloc);
     'sections: for (place, section) in sections.iter().enumerate() {
@@ -94,8 +94,8 @@ fn end_marks(alloc: Global, texts: &[Scalars]) -> Result<Vec<u64>, NoMemory>
 
 /// The texts of the free sections.
 fn index_of(alloc: Global, pairs: &Pairs, sections: &[Part<'_>]) -> Result<Index, NoMemory>
-    ensures texts { IfOk result (λ index. HasTexts pairs.now sections.now (length sections.now) index.texts.items) }
-    ensures is { IfOk result (λ index. IsIndex index.texts.items index.front index.end) }
+    ensures texts { IfOk result (λ index. HasSectionTexts pairs.now sections.now (length sections.now) index.texts.items) }
+    ensures is { IfOk result (λ index. IsTextIndex index.texts.items index.front index.end) }
 {
     let texts = scalars_of(alloc, pairs, sections)?;
     let front = Marks::of(alloc, front_marks(alloc, texts.as_slice())?)?;
@@ -105,8 +105,8 @@ fn index_of(alloc: Global, pairs: &Pairs, sections: &[Part<'_>]) -> Result<Index
 
 /// The first free section whose text is alike.
 fn find_alike(pairs: &Pairs, index: &Index, text: &[char], reversed: &[char]) -> Option<usize>
-    requires index { IsIndex index.now.texts.items index.now.front index.now.end }
-    requires within { AreWithin (length pairs.now.of_section.items) index.now.texts.items }
+    requires index { IsTextIndex index.now.texts.items index.now.front index.now.end }
+    requires within { AreThere (length pairs.now.of_section.items) index.now.texts.items }
     requires reversed { reversed.now ≡ reverse text.now }
     ensures within { IfSome result (λ place. place < length pairs.now.of_section.items) }
     ensures free { IfSome result (λ place. part_in pairs.now place ≡ None) }
@@ -127,8 +127,8 @@ fn serve_part(
     text: &str,
 ) -> Result<(), NoMemory>
     requires part { place < length pairs.old.of_part.items }
-    requires index { IsIndex index.now.texts.items index.now.front index.now.end }
-    requires within { AreWithin (length pairs.old.of_section.items) index.now.texts.items }
+    requires index { IsTextIndex index.now.texts.items index.now.front index.now.end }
+    requires within { AreThere (length pairs.old.of_section.items) index.now.texts.items }
     ensures kept { AreKept pairs.old pairs.new }
     ensures served { OnOk result (IsServed pairs.new index.now.texts.items place (chars text.now)) }
 {
@@ -155,7 +155,7 @@ pub(crate) fn pair_alike(
 ) -> Result<(), NoMemory>
     requires { IsMatching (length sections.now) (length parts.now) pairs.old }
     ensures kept { AreKept pairs.old pairs.new }
-    ensures done { OnOk result (NoneIsAlike pairs.new sections.now parts.now) }
+    ensures done { OnOk result (NoPairIsAlike pairs.new sections.now parts.now) }
 {
     let index = index_of(alloc, pairs, sections)?;
     'parts: for (place, part) in parts.iter().enumerate() {

@@ -1,8 +1,8 @@
 //! Pairs of sections and parts that are the same in a key, until none of them is left.
 
 ghost use Rattle.std.specs.Prelude.{◌≡◌, ◌↔◌, ℕ, ◌<◌, IfNone, IfOk, IfSome, IsSome, IsTrue, OnOk, length};
-ghost use Rattle.section_plan.specs.Completing.{AddsSamePart, HasKeysOfFree, found_for, IsDone, IsFreeWith};
-ghost use Rattle.section_plan.specs.Matching.{AreKept, GrowsBy, IsMatching, NoneIsLeft, key_in};
+ghost use Rattle.section_plan.specs.Completing.{AddsSamePart, HasKeysOfFree, found_for, IsSettledPart, IsFreeWith};
+ghost use Rattle.section_plan.specs.Matching.{AreKept, GainsPairs, IsMatching, NoneIsLeft, key_in};
 
 use crate::keys::{Key, has_key, key_of};
 use crate::pairs::Pairs;
@@ -70,7 +70,7 @@ fn complete_part(
     requires keys { HasKeysOfFree pairs.old sections.now key (length sections.now) keys.now }
     ensures kept { AreKept pairs.old pairs.new }
     ensures same { AddsSamePart pairs.old pairs.new sections.now key place (key_in key part.now) }
-    ensures done { IsDone pairs.new sections.now key place part.now }
+    ensures done { IsSettledPart pairs.new sections.now key place part.now }
 {
     let wanted = key_of(part, key);
     if pairs.section_of(place).is_some() || !has_key(part, key) {
@@ -93,7 +93,7 @@ pub(crate) fn complete(
     key: Key,
 ) -> Result<(), NoMemory>
     requires { IsMatching (length sections.now) (length parts.now) pairs.old }
-    ensures grows { GrowsBy key sections.now parts.now pairs.old pairs.new }
+    ensures grows { GainsPairs key sections.now parts.now pairs.old pairs.new }
     ensures done { OnOk result (NoneIsLeft pairs.new sections.now parts.now key) }
 {
     let keys = keys_of_free(alloc, pairs, sections, key)?;

@@ -3,8 +3,8 @@
 ghost use Rattle.std.specs.Prelude.{◌≡◌, ◌+◌, ◌*◌, ◌<◌, ◌≤◌, IfNone, IfOk, IfSome, None, Some, length, slice_get, slice_index_or};
 ghost use Rattle.std.specs.Ordering.{nat_cmp};
 ghost use Rattle.std.specs.BTreeMap.{get};
-ghost use Rattle.section_plan.specs.Alike.{AreWithin};
-ghost use Rattle.section_plan.specs.Marks.{AreMarked, NoneFronted, NoneMarked, earlier as earlier_of, mark_of as mark_in, next_mark as mark_with, third_mark as third_in};
+ghost use Rattle.section_plan.specs.Alike.{AreThere};
+ghost use Rattle.section_plan.specs.Marks.{AreMarked, NoneFronted, NoneMarked, earlier as earlier_of, mark_of_text as mark_in, next_mark as mark_with, third_mark as third_in};
 ghost use Rattle.section_plan.specs.Matching.{part_of as part_in};
 
 use crate::alike::{Scalars, is_candidate};
@@ -83,7 +83,7 @@ fn find_marked(
 ) -> Option<usize>
     requires marked { AreMarked marks.now.marks.items 0 (get nat_cmp marks.now.first) marks.now.next.items }
     requires long { length marks.now.marks.items ≡ length sections.now }
-    requires within { AreWithin (length pairs.now.of_section.items) sections.now }
+    requires within { AreThere (length pairs.now.of_section.items) sections.now }
     ensures within { IfSome result (λ place. place < length pairs.now.of_section.items) }
     ensures free { IfSome result (λ place. part_in pairs.now place ≡ None) }
     ensures none { IfNone result (NoneMarked pairs.now sections.now marks.now.marks.items mark text.now) }
@@ -120,7 +120,7 @@ pub(crate) fn find_fronted(
 ) -> Option<usize>
     requires marked { AreMarked marks.now.marks.items 0 (get nat_cmp marks.now.first) marks.now.next.items }
     requires long { length marks.now.marks.items ≡ length sections.now }
-    requires within { AreWithin (length pairs.now.of_section.items) sections.now }
+    requires within { AreThere (length pairs.now.of_section.items) sections.now }
     ensures within { IfSome result (λ place. place < length pairs.now.of_section.items) }
     ensures free { IfSome result (λ place. part_in pairs.now place ≡ None) }
     ensures none { IfNone result (NoneFronted pairs.now sections.now marks.now.marks.items list.now (length list.now + 1) text.now) }

@@ -1,7 +1,7 @@
 //! Which section each part of a draft is.
 
 ghost use Rattle.std.specs.Prelude.{IfOk, length};
-ghost use Rattle.section_plan.specs.Matching.{IsMatching, NoneIsAlike, NoneIsLeft, TextsAreKept};
+ghost use Rattle.section_plan.specs.Matching.{IsMatching, NoPairIsAlike, NoneIsLeft, TextsAreMatched};
 ghost use Rattle.section_plan.specs.declared.keys.Key.TheVariants.{Title as title_key};
 
 use crate::alike::pair_alike;
@@ -22,9 +22,9 @@ pub fn match_sections(
     parts: &[Part<'_>],
 ) -> Result<Pairs, NoMemory>
     ensures matching { IfOk result (λ pairs. IsMatching (length sections.now) (length parts.now) pairs) }
-    ensures texts { IfOk result (λ pairs. TextsAreKept pairs sections.now parts.now) }
+    ensures texts { IfOk result (λ pairs. TextsAreMatched pairs sections.now parts.now) }
     ensures titles { IfOk result (λ pairs. NoneIsLeft pairs sections.now parts.now title_key) }
-    ensures alike { IfOk result (λ pairs. NoneIsAlike pairs sections.now parts.now) }
+    ensures alike { IfOk result (λ pairs. NoPairIsAlike pairs sections.now parts.now) }
 {
     let mut pairs = Pairs::none(alloc, sections.len(), parts.len())?;
     pair_by_text(alloc, &mut pairs, sections, parts)?;

@@ -1,7 +1,7 @@
 //! Pairs of sections and parts that are the same in a key: which of several goes with which.
 
 ghost use Rattle.std.specs.Prelude.{◌<◌, OnOk, length};
-ghost use Rattle.section_plan.specs.Matching.{GrowsBy, IsMatching, NoneIsLeft};
+ghost use Rattle.section_plan.specs.Matching.{GainsPairs, IsMatching, NoneIsLeft};
 ghost use Rattle.section_plan.specs.declared.keys.Key.TheVariants.{Text as text};
 
 use crate::completing::{complete, has_same};
@@ -22,7 +22,7 @@ pub(crate) fn pair_by_text(
     parts: &[Part<'_>],
 ) -> Result<(), NoMemory>
     requires { IsMatching (length sections.now) (length parts.now) pairs.old }
-    ensures grows { GrowsBy text sections.now parts.now pairs.old pairs.new }
+    ensures grows { GainsPairs text sections.now parts.now pairs.old pairs.new }
     ensures done { OnOk result (NoneIsLeft pairs.new sections.now parts.now text) }
 {
     let titled = propose_once(alloc, pairs, sections, parts, Key::Title)?;
@@ -42,7 +42,7 @@ pub(crate) fn pair_by(
     key: Key,
 ) -> Result<(), NoMemory>
     requires { IsMatching (length sections.now) (length parts.now) pairs.old }
-    ensures grows { GrowsBy key sections.now parts.now pairs.old pairs.new }
+    ensures grows { GainsPairs key sections.now parts.now pairs.old pairs.new }
     ensures done { OnOk result (NoneIsLeft pairs.new sections.now parts.now key) }
 {
     let old = free_sections(alloc, pairs, sections.len())?;
@@ -112,7 +112,7 @@ fn pair_same(
     part: usize,
 )
     requires { IsMatching (length sections.now) (length parts.now) pairs.old }
-    ensures { GrowsBy key sections.now parts.now pairs.old pairs.new }
+    ensures { GainsPairs key sections.now parts.now pairs.old pairs.new }
 {
     if section >= sections.len() || part >= parts.len() {
         return;
@@ -156,7 +156,7 @@ fn pair_from(
     new: &[usize],
 )
     requires { IsMatching (length sections.now) (length parts.now) pairs.old }
-    ensures { GrowsBy key sections.now parts.now pairs.old pairs.new }
+    ensures { GainsPairs key sections.now parts.now pairs.old pairs.new }
 {
     'places: for far in 0..old.len().min(new.len()) {
         let part = place_from(end, new, far);
@@ -205,7 +205,7 @@ fn pair_proposed(
     proposals: &[Proposal],
 )
     requires { IsMatching (length sections.now) (length parts.now) pairs.old }
-    ensures { GrowsBy key sections.now parts.now pairs.old pairs.new }
+    ensures { GainsPairs key sections.now parts.now pairs.old pairs.new }
 {
     'proposals: for proposal in proposals {
         pair_same(pairs, sections, parts, key, proposal.section, proposal.part);

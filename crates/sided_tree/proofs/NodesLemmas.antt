@@ -9,7 +9,7 @@ use Rattle.origin_model.specs.sides.Detached.{NoOrigin, without}
 use Rattle.origin_model.specs.sides.Node.{find_node}
 use Rattle.origin_model.specs.declared.operations.node.Node.{Node}
 use Rattle.origin_model.proofs.SharedLemmas.{found_without}
-use Rattle.stretch_map.specs.Rules.{IsFollowed, typed_behind}
+use Rattle.stretch_map.specs.Rules.{IsFollowedBy, typed_behind}
 use Rattle.stretch_map.specs.declared.follows.Typed.{Typed}
 use Rattle.fugue_ids.proofs.OrderLemmas.{id_cmp_total}
 use Rattle.fugue_ids.specs.Runs.{id_behind}
@@ -63,7 +63,7 @@ other_left x y (k ∷ ns) n free e =
     ]
 
 -- the element behind what no node has as an origin was not typed there
-pub not_followed : (m : FinMap id_cmp Typed) (ns : List Node) (x : Identifier) → IsNodeMap m ns → NoOrigin x ns → IsFollowed typed_behind (get m) x → ⊥
+pub not_followed : (m : FinMap id_cmp Typed) (ns : List Node) (x : Identifier) → IsNodeMap m ns → NoOrigin x ns → IsFollowedBy typed_behind (get m) x → ⊥
 not_followed m ns x is free followed =
     let next : Identifier = id_behind x 1 in
     let typed : Typed = typed_behind x followed.value 1 in

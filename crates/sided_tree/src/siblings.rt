@@ -1,7 +1,7 @@
 ghost use Rattle.std.specs.Prelude.{◌≡◌, ◌∷◌};
 ghost use Rattle.fugue_ids.specs.Keys.{ids};
 ghost use Rattle.fugue_ids.specs.Listed.{HoldsOrigin};
-ghost use Rattle.origin_model.specs.order.Order.{has_left as has_left_on, right_at, index_of_origin, ranked};
+ghost use Rattle.origin_model.specs.order.Order.{has_left as has_left_on, right_at, index_of_origin, precedes};
 ghost use Rattle.origin_model.specs.sides.Keys.{keyed_order};
 ghost use Rattle.origin_model.specs.sides.Node.{AreNodes, as_ops};
 ghost use Rattle.origin_model.specs.sides.Slot.{slot_by};
@@ -73,7 +73,7 @@ fn goes_first<F: OrderOf>(
 ) -> bool
     requires here_stands { HoldsOrigin (ids (F.listed order.now)) here }
     requires there_stands { HoldsOrigin (ids (F.listed order.now)) there }
-    ensures { result ≡ ranked (index_of_origin (ids (F.listed order.now)) here)
+    ensures { result ≡ precedes (index_of_origin (ids (F.listed order.now)) here)
         (index_of_origin (ids (F.listed order.now)) there) a b }
 {
     match (here, there) {

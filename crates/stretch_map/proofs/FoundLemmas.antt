@@ -14,7 +14,7 @@ use Rattle.std.proofs.lemmas.Map.Keys.{IsDistinct-from_sorted}
 use Rattle.fugue_ids.proofs.ListLemmas.{contains_cases, contains_here, contains_none, contains_there}
 use Rattle.fugue_ids.specs.Identifiers.{Identifier, id_cmp}
 use Rattle.fugue_ids.proofs.IdentifierLemmas.{cases_id, id_at-other, id_at-same, nat_at-other, nat_at-same}
-use Rattle.stretch_map.specs.Contents.{Entry, Latest, Layout, entries_with, run, spread, value_in}
+use Rattle.stretch_map.specs.Contents.{StretchEntry, Latest, Layout, entries_with, run, spread, value_in}
 use Rattle.stretch_map.specs.Stretches.{AreStretches, Covers, Has, IsLaid, IsLatest, IsReadIn, KeepsEntry, kept_at, latest_at}
 use Rattle.stretch_map.specs.declared.stretches.Stretch.{Stretch}
 use Rattle.fugue_ids.proofs.OrderLemmas.{id_cmp_total}
@@ -60,7 +60,7 @@ pub cases_le : (a b : ℕ) → (a ≤ b) ⊎ (b < a)
 cases_le a b = grind arith
 
 -- a stretch has an identifier or not
-pub cases_covers : {V : Type 0} (e : Entry V) (q : Identifier) → Covers e q ⊎ (Covers e q → ⊥)
+pub cases_covers : {V : Type 0} (e : StretchEntry V) (q : Identifier) → Covers e q ⊎ (Covers e q → ⊥)
 cases_covers e q =
     elim (cases_number e.0.replica q.replica) [
       | inr n ↦ inr (λ c. n c.replica)
@@ -76,9 +76,9 @@ cases_covers e q =
     ]
 
 -- what is found is the value of a stretch
-found_in : {V : Type 0} (nth : Identifier → V → ℕ → V) (q : Identifier) (es : List (Entry V))
-    → ((find id_cmp q (spread nth es) ≡ None) × ((e : Entry V) → Contains es e → Covers e q → ⊥))
-    ⊎ ((e : Entry V) × Contains es e × Covers e q × (find id_cmp q (spread nth es) ≡ Some (nth e.0 e.1.value (q.counter - e.0.counter))))
+found_in : {V : Type 0} (nth : Identifier → V → ℕ → V) (q : Identifier) (es : List (StretchEntry V))
+    → ((find id_cmp q (spread nth es) ≡ None) × ((e : StretchEntry V) → Contains es e → Covers e q → ⊥))
+    ⊎ ((e : StretchEntry V) × Contains es e × Covers e q × (find id_cmp q (spread nth es) ≡ Some (nth e.0 e.1.value (q.counter - e.0.counter))))
 found_in nth q [] = inl (refl, λ e m c. contains_none e m)
 found_in {V} nth q (x ∷ xs) =
     elim (cases_covers x q) [
@@ -90,13 +90,13 @@ found_in {V} nth q (x ∷ xs) =
           let past : find id_cmp q (run nth x.0 x.1.value (suc x.1.last - x.0.counter) ++ spread nth xs) ≡ find id_cmp q (spread nth xs) =
           past_run nth x.0 x.1.value (suc x.1.last - x.0.counter) q (spread nth xs) (λ r a b. n (record { replica = r; from = a; to = omega arith })) in
           elim (found_in nth q xs) [
-            | inl w ↦ inl (past ∙ w.0, λ e m c. elim (contains_cases x xs e m) [ inl d ↦ n (subst (λ (y : Entry V). Covers y q) (sym d) c) | inr k ↦ w.1 e k c ])
+            | inl w ↦ inl (past ∙ w.0, λ e m c. elim (contains_cases x xs e m) [ inl d ↦ n (subst (λ (y : StretchEntry V). Covers y q) (sym d) c) | inr k ↦ w.1 e k c ])
             | inr w ↦ inr (w.0, contains_there x xs w.0 w.1, w.2, past ∙ w.3)
           ]
     ]
 
 -- what a look-up finds is an entry
-kept_in : {V : Type 0} (f : Identifier) (s : Stretch V) (es : List (Entry V)) → lookup (is_at (id_cmp f)) es ≡ Some s → Contains es (f, s)
+kept_in : {V : Type 0} (f : Identifier) (s : Stretch V) (es : List (StretchEntry V)) → lookup (is_at (id_cmp f)) es ≡ Some s → Contains es (f, s)
 kept_in f s [] e = absurd (cc e)
 kept_in f s (x ∷ xs) e =
     elim (cases_id x.0 f) [
@@ -108,15 +108,15 @@ kept_in f s (x ∷ xs) e =
     ]
 
 -- an entry is found by a look-up
-in_kept : {V : Type 0} (es : List (Entry V)) → IsStrictlySortedBy id_cmp (keys_of es) → (e : Entry V) → Contains es e → KeepsEntry es e
+in_kept : {V : Type 0} (es : List (StretchEntry V)) → IsStrictlySortedBy id_cmp (keys_of es) → (e : StretchEntry V) → Contains es e → KeepsEntry es e
 in_kept es ordered e i = lookup-from_Contains (eq_by_cmp_equiv id_cmp_total) e.0 e.1 es (IsDistinct-from_sorted id_cmp (keys_of es) ordered) i
 
 -- one stretch is kept under an identifier
-pub same_kept : {V : Type 0} (es : List (Entry V)) (e f : Entry V) → KeepsEntry es e → KeepsEntry es f → e.0 ≡ f.0 → e.1 ≡ f.1
+pub same_kept : {V : Type 0} (es : List (StretchEntry V)) (e f : StretchEntry V) → KeepsEntry es e → KeepsEntry es f → e.0 ≡ f.0 → e.1 ≡ f.1
 same_kept es e f k l d = let both : Some e.1 ≡ Some f.1 = sym k ∙ ap (kept_at es) d ∙ l in cc
 
 -- a replica has one last stretch
-pub same_latest : {V : Type 0} (ls : List (ℕ × Latest V)) (e f : Entry V) → IsLatest ls e → IsLatest ls f → e.0.replica ≡ f.0.replica → e ≡ f
+pub same_latest : {V : Type 0} (ls : List (ℕ × Latest V)) (e f : StretchEntry V) → IsLatest ls e → IsLatest ls f → e.0.replica ≡ f.0.replica → e ≡ f
 same_latest {V} ls e f k l d =
     let a : Latest V = (e.0.counter, e.1) in
     let b : Latest V = (f.0.counter, f.1) in
@@ -125,7 +125,7 @@ same_latest {V} ls e f k l d =
     λ i. (record { replica = d i; counter = (same i).0 }, (same i).1)
 
 -- a last stretch is not kept
-pub not_both : {V : Type 0} (l : Layout V) → IsLaid l → (x y : Entry V) → IsLatest l.0 x → KeepsEntry l.1 y → y.0 ≢ x.0
+pub not_both : {V : Type 0} (l : Layout V) → IsLaid l → (x y : StretchEntry V) → IsLatest l.0 x → KeepsEntry l.1 y → y.0 ≢ x.0
 not_both l laid x y a b d =
     let r : y.0.replica ≡ x.0.replica = ap (λ (z : Identifier). z.replica) d in
     let c : y.0.counter ≡ x.0.counter = ap (λ (z : Identifier). z.counter) d in
@@ -133,12 +133,12 @@ not_both l laid x y a b d =
     omega arith
 
 -- one stretch has a first identifier
-pub same_has : {V : Type 0} (reaches : Identifier → V → ℕ → Type 0) (l : Layout V) → AreStretches reaches l → (e f : Entry V) → Has l e → Has l f → e.0 ≡ f.0 → e.1 ≡ f.1
+pub same_has : {V : Type 0} (reaches : Identifier → V → ℕ → Type 0) (l : Layout V) → AreStretches reaches l → (e f : StretchEntry V) → Has l e → Has l f → e.0 ≡ f.0 → e.1 ≡ f.1
 same_has {V} reaches l are e f h k d =
     elim h [
       | inl a ↦
           elim k [
-            | inl b ↦ ap (λ (x : Entry V). x.1) (same_latest l.0 e f a b (ap (λ (x : Identifier). x.replica) d))
+            | inl b ↦ ap (λ (x : StretchEntry V). x.1) (same_latest l.0 e f a b (ap (λ (x : Identifier). x.replica) d))
             | inr b ↦ absurd (not_both l are.laid e f a b (sym d))
           ]
       | inr a ↦
@@ -165,34 +165,34 @@ in_latest : {V : Type 0} (ls : List (ℕ × Latest V)) → IsStrictlySortedBy na
 in_latest ls ordered r x i = lookup-from_Contains (eq_by_cmp_equiv nat_cmp_total) r x ls (IsDistinct-from_sorted nat_cmp (keys_of ls) ordered) i
 
 -- a member of all stretches is a last one or a kept one
-parts : {V : Type 0} (ls : List (ℕ × Latest V)) (es : List (Entry V)) (e : Entry V) → Contains (entries_with ls es) e → Contains ls (e.0.replica, (e.0.counter, e.1)) ⊎ Contains es e
+parts : {V : Type 0} (ls : List (ℕ × Latest V)) (es : List (StretchEntry V)) (e : StretchEntry V) → Contains (entries_with ls es) e → Contains ls (e.0.replica, (e.0.counter, e.1)) ⊎ Contains es e
 parts [] es e i = inr i
 parts {V} (x ∷ xs) es e i =
     elim (contains_cases (record { replica = x.0; counter = x.1.0 }, x.1.1) (entries_with xs es) e i) [
-      | inl d ↦ inl (subst (Contains (x ∷ xs)) (ap (λ (z : Entry V). (z.0.replica, (z.0.counter, z.1))) d) (contains_here x xs))
+      | inl d ↦ inl (subst (Contains (x ∷ xs)) (ap (λ (z : StretchEntry V). (z.0.replica, (z.0.counter, z.1))) d) (contains_here x xs))
       | inr k ↦ elim (parts xs es e k) [ inl h ↦ inl (contains_there x xs _ h) | inr h ↦ inr h ]
     ]
 
 -- and each of these is a member of all
-kept_part : {V : Type 0} (ls : List (ℕ × Latest V)) (es : List (Entry V)) (e : Entry V) → Contains es e → Contains (entries_with ls es) e
+kept_part : {V : Type 0} (ls : List (ℕ × Latest V)) (es : List (StretchEntry V)) (e : StretchEntry V) → Contains es e → Contains (entries_with ls es) e
 kept_part [] es e i = i
 kept_part (x ∷ xs) es e i = contains_there (record { replica = x.0; counter = x.1.0 }, x.1.1) (entries_with xs es) e (kept_part xs es e i)
 
-latest_part : {V : Type 0} (ls : List (ℕ × Latest V)) (es : List (Entry V)) (e : Entry V) → Contains ls (e.0.replica, (e.0.counter, e.1)) → Contains (entries_with ls es) e
+latest_part : {V : Type 0} (ls : List (ℕ × Latest V)) (es : List (StretchEntry V)) (e : StretchEntry V) → Contains ls (e.0.replica, (e.0.counter, e.1)) → Contains (entries_with ls es) e
 latest_part [] es e i = absurd (contains_none _ i)
 latest_part {V} (x ∷ xs) es e i =
-    let f : Entry V = (record { replica = x.0; counter = x.1.0 }, x.1.1) in
+    let f : StretchEntry V = (record { replica = x.0; counter = x.1.0 }, x.1.1) in
     elim (contains_cases x xs (e.0.replica, (e.0.counter, e.1)) i) [
       | inl d ↦ subst (Contains (f ∷ entries_with xs es)) (λ j. (record { replica = (d j).0; counter = (d j).1.0 }, (d j).1.1)) (contains_here f (entries_with xs es))
       | inr k ↦ contains_there f (entries_with xs es) e (latest_part xs es e k)
     ]
 
 -- a member of all stretches is one of them
-has_from_in : {V : Type 0} (l : Layout V) → IsLaid l → (e : Entry V) → Contains (entries_with l.0 l.1) e → Has l e
+has_from_in : {V : Type 0} (l : Layout V) → IsLaid l → (e : StretchEntry V) → Contains (entries_with l.0 l.1) e → Has l e
 has_from_in l laid e i =
     elim (parts l.0 l.1 e i) [ inl h ↦ inl (in_latest l.0 laid.latest e.0.replica (e.0.counter, e.1) h) | inr h ↦ inr (in_kept l.1 laid.kept e h) ]
 
-in_from_has : {V : Type 0} (l : Layout V) (e : Entry V) → Has l e → Contains (entries_with l.0 l.1) e
+in_from_has : {V : Type 0} (l : Layout V) (e : StretchEntry V) → Has l e → Contains (entries_with l.0 l.1) e
 in_from_has l e h =
     elim h [
       | inl a ↦ latest_part l.0 l.1 e (latest_in e.0.replica (e.0.counter, e.1) l.0 a)
@@ -202,8 +202,8 @@ in_from_has l e h =
 module _ {V : Type 0} (nth : Identifier → V → ℕ → V) (reaches : Identifier → V → ℕ → Type 0) (l : Layout V) (are : AreStretches reaches l) where
   -- what is found is the value of a stretch
   pub found : (q : Identifier)
-      → ((value_in nth l q ≡ None) × ((e : Entry V) → Has l e → Covers e q → ⊥))
-      ⊎ ((e : Entry V) × Has l e × Covers e q × (value_in nth l q ≡ Some (nth e.0 e.1.value (q.counter - e.0.counter))))
+      → ((value_in nth l q ≡ None) × ((e : StretchEntry V) → Has l e → Covers e q → ⊥))
+      ⊎ ((e : StretchEntry V) × Has l e × Covers e q × (value_in nth l q ≡ Some (nth e.0 e.1.value (q.counter - e.0.counter))))
   found q =
       elim (found_in nth q (entries_with l.0 l.1)) [
         | inl w ↦ inl (w.0, λ e k c. w.1 e (in_from_has l e k) c)
@@ -211,15 +211,15 @@ module _ {V : Type 0} (nth : Identifier → V → ℕ → V) (reaches : Identifi
       ]
 
   -- nothing is found that no stretch has
-  pub uncovered : (q : Identifier) → ((e : Entry V) → Has l e → Covers e q → ⊥) → value_in nth l q ≡ None
+  pub uncovered : (q : Identifier) → ((e : StretchEntry V) → Has l e → Covers e q → ⊥) → value_in nth l q ≡ None
   uncovered q none = elim (found q) [ inl w ↦ w.0 | inr w ↦ absurd (none w.0 w.1 w.2) ]
 
   -- and no stretch has what is not found
-  pub not_covered : (q : Identifier) → value_in nth l q ≡ None → (e : Entry V) → Has l e → Covers e q → ⊥
+  pub not_covered : (q : Identifier) → value_in nth l q ≡ None → (e : StretchEntry V) → Has l e → Covers e q → ⊥
   not_covered q none e k c = elim (found q) [ inl w ↦ w.1 e k c | inr w ↦ let both = sym none ∙ w.3 in cc ]
 
   -- no two stretches have one identifier
-  pub one_covers : (q : Identifier) (e f : Entry V) → Has l e → Has l f → Covers e q → Covers f q → e.0 ≡ f.0
+  pub one_covers : (q : Identifier) (e f : StretchEntry V) → Has l e → Has l f → Covers e q → Covers f q → e.0 ≡ f.0
   one_covers q e f k h c d =
       let r : e.0.replica ≡ f.0.replica = c.replica ∙ sym d.replica in
       let a1 : e.0.counter ≤ q.counter = c.from in
@@ -236,7 +236,7 @@ module _ {V : Type 0} (nth : Identifier → V → ℕ → V) (reaches : Identifi
       ]
 
   -- the value at an identifier is that of the stretch that has it
-  pub covered : (q : Identifier) (e : Entry V) → Has l e → Covers e q → value_in nth l q ≡ Some (nth e.0 e.1.value (q.counter - e.0.counter))
+  pub covered : (q : Identifier) (e : StretchEntry V) → Has l e → Covers e q → value_in nth l q ≡ Some (nth e.0 e.1.value (q.counter - e.0.counter))
   covered q e k c =
       elim (found q) [
         | inl w ↦ absurd (w.1 e k c)

@@ -11,7 +11,7 @@ use Rattle.std.specs.declared.ops.Bound.TheVariants.{Excluded, Included, Unbound
 use Rattle.std.proofs.lemmas.Bool.{true≢false}
 use Rattle.std.proofs.lemmas.Bool.Decides.{nat_tests}
 use Rattle.fugue_ids.specs.Identifiers.{Identifier, id_cmp}
-use Rattle.stretch_map.specs.Contents.{Entry, Latest, Layout, value_in}
+use Rattle.stretch_map.specs.Contents.{StretchEntry, Latest, Layout, value_in}
 use Rattle.stretch_map.specs.Rules.{IsGreatestIn}
 use Rattle.stretch_map.specs.Stretches.{AreStretches, Has, IsGreatestOf, IsLastOf, KeepsEntry, latest_at}
 use Rattle.stretch_map.specs.declared.stretches.Stretch.{Stretch}
@@ -41,14 +41,14 @@ at_least r a c from = grind (arith, nat_tests)
 at_most : (r a c : ℕ) → ordering_then (nat_cmp a (r + 1)) (nat_cmp c 0) ≡ Less → a ≤ r
 at_most r a c before = grind (arith, nat_tests)
 
-module _ {V : Type 0} {A : Type 0} (entry : A → Entry V) (r : ℕ) (m : BTreeMap Identifier (Stretch V)) (es rest : List (Entry V)) where
+module _ {V : Type 0} {A : Type 0} (entry : A → StretchEntry V) (r : ℕ) (m : BTreeMap Identifier (Stretch V)) (es rest : List (StretchEntry V)) where
   -- the last one of a part of the map, if there is one
   abbrev IsLast : Option A → Type 0
   IsLast last = MatchOption last ((es ≡ []) × (rest ≡ [])) (λ a. es ≡ rest ++ entry a ∷ [])
 
   -- the last of a part that has all stretches of the replica is its last one, or it has none
-  abbrev IsLastIn : Option (Entry V) → Type 0
-  IsLastIn o = IfNone o ((e : Entry V) → KeepsEntry m.entries e → e.0.replica ≡ r → ⊥) × IfSome o (IsLastOf (KeepsEntry m.entries) r)
+  abbrev IsLastIn : Option (StretchEntry V) → Type 0
+  IsLastIn o = IfNone o ((e : StretchEntry V) → KeepsEntry m.entries e → e.0.replica ≡ r → ⊥) × IfSome o (IsLastOf (KeepsEntry m.entries) r)
 
   last_in : (lo hi : Bound Identifier) (last : Option A) → IsRangeOf id_cmp lo hi m es → IsLast last → ((n : ℕ) → IsInRange id_cmp lo hi (id_at r n))
       → IfSome last (λ a. IsInRange id_cmp lo hi (entry a).0 → (entry a).0.replica ≡ r) → IsLastIn (option_map entry last)
@@ -95,7 +95,7 @@ module _ {V : Type 0} {A : Type 0} (entry : A → Entry V) (r : ℕ) (m : BTreeM
 
 module _ {V : Type 0} (nth : Identifier → V → ℕ → V) (reaches : Identifier → V → ℕ → Type 0) (l : Layout V) (are : AreStretches reaches l) (r : ℕ) where
   -- the last kept stretch of the replica has the greatest counter of them
-  pub greatest_by_last : (e : Entry V) → IsLastOf (KeepsEntry l.1) r e → IsGreatestOf (KeepsEntry l.1) r (Some e.1.last)
+  pub greatest_by_last : (e : StretchEntry V) → IsLastOf (KeepsEntry l.1) r e → IsGreatestOf (KeepsEntry l.1) r (Some e.1.last)
   greatest_by_last e is =
       record {
         none = tt;
@@ -126,7 +126,7 @@ module _ {V : Type 0} (nth : Identifier → V → ℕ → V) (reaches : Identifi
     bound = tt;
   }
   in_all (Some n) is =
-      let e : Entry V = is.some.0.0 in
+      let e : StretchEntry V = is.some.0.0 in
       let last : e.1.last ≡ n = is.some.0.3 in
       let begun : e.0.counter ≤ e.1.last = are.begun e is.some.0.1 in
       record {
@@ -139,21 +139,21 @@ module _ {V : Type 0} (nth : Identifier → V → ℕ → V) (reaches : Identifi
       }
 
   -- the last kept stretch of the replica, if there is one
-  pub greatest_by : (o : Option (Entry V)) → IfNone o ((e : Entry V) → KeepsEntry l.1 e → e.0.replica ≡ r → ⊥) → IfSome o (IsLastOf (KeepsEntry l.1) r)
-      → IsGreatestOf (KeepsEntry l.1) r (option_map (λ (e : Entry V). e.1.last) o)
+  pub greatest_by : (o : Option (StretchEntry V)) → IfNone o ((e : StretchEntry V) → KeepsEntry l.1 e → e.0.replica ≡ r → ⊥) → IfSome o (IsLastOf (KeepsEntry l.1) r)
+      → IsGreatestOf (KeepsEntry l.1) r (option_map (λ (e : StretchEntry V). e.1.last) o)
   greatest_by None none some = record { none = none; some = tt }
   greatest_by (Some e) none some = greatest_by_last e some
 
   -- the last stretch of the replica has the greatest counter
   pub greatest_by_latest : (x : Latest V) → latest_at l.0 r ≡ Some x → IsGreatestIn (value_in nth l) r (Some x.1.last)
   greatest_by_latest x at =
-      let e : Entry V = (id_at r x.0, x.1) in
+      let e : StretchEntry V = (id_at r x.0, x.1) in
       in_all (Some x.1.last) (record {
         none = tt;
         some = (
           (e, inl at, refl, refl),
           λ f h mine. elim h [
-            | inl a ↦ let last : f.1.last ≡ x.1.last = ap (λ (z : Entry V). z.1.last) (same_latest l.0 f e a at mine) in omega (arith, last)
+            | inl a ↦ let last : f.1.last ≡ x.1.last = ap (λ (z : StretchEntry V). z.1.last) (same_latest l.0 f e a at mine) in omega (arith, last)
             | inr k ↦
                 let less : f.0.counter < x.0 = are.laid.before e f at k mine in
                 let far : f.1.last < x.0 = are.apart f e (inr k) (inl at) mine less in
@@ -167,7 +167,7 @@ module _ {V : Type 0} (nth : Identifier → V → ℕ → V) (reaches : Identifi
   pub greatest_by_kept : latest_at l.0 r ≡ None → (o : Option ℕ) → IsGreatestOf (KeepsEntry l.1) r o → IsGreatestIn (value_in nth l) r o
   greatest_by_kept none o is = in_all o (in_kept o is)
     where
-      kept : (f : Entry V) → Has l f → f.0.replica ≡ r → KeepsEntry l.1 f
+      kept : (f : StretchEntry V) → Has l f → f.0.replica ≡ r → KeepsEntry l.1 f
       kept f h mine = elim h [
         | inl a ↦ let own : Latest V = (f.0.counter, f.1) in let both : None ≡ Some own = sym none ∙ ap (latest_at l.0) (sym mine) ∙ a in absurd cc
         | inr k ↦ k

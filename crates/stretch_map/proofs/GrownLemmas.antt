@@ -4,43 +4,43 @@ use Rattle.std.specs.Prelude.{Some}
 use Rattle.fugue_ids.specs.Identifiers.{Identifier}
 use Rattle.fugue_ids.specs.Runs.{id_behind}
 use Rattle.fugue_ids.proofs.IdentifierLemmas.{cases_id}
-use Rattle.stretch_map.specs.Contents.{Entry, Layout, value_in}
-use Rattle.stretch_map.specs.Stretches.{Adds, AreStretches, CanCome, Covers, EndsAt, GoesOn, Has, last_id, up_to}
+use Rattle.stretch_map.specs.Contents.{StretchEntry, Layout, value_in}
+use Rattle.stretch_map.specs.Stretches.{Adds, AreStretches, CanCome, Covers, EndsAt, GoesOn, Has, last_identifier, up_to}
 use Rattle.stretch_map.proofs.FoundLemmas.{cases_le, covered, not_covered}
 use Rattle.stretch_map.proofs.SetLemmas.{Fits, Sets, set_are, value_stays, value_within}
 
-module _ {V : Type 0} (nth : Identifier → V → ℕ → V) (reaches : Identifier → V → ℕ → Type 0) (l : Layout V) (are : AreStretches reaches l) (run : Entry V) (comes : CanCome nth reaches l run) where
+module _ {V : Type 0} (nth : Identifier → V → ℕ → V) (reaches : Identifier → V → ℕ → Type 0) (l : Layout V) (are : AreStretches reaches l) (run : StretchEntry V) (comes : CanCome nth reaches l run) where
   -- no stretch has an identifier of the new one
-  pub not_in_new : (q : Identifier) → Covers run q → (e : Entry V) → Has l e → Covers e q → ⊥
+  pub not_in_new : (q : Identifier) → Covers run q → (e : StretchEntry V) → Has l e → Covers e q → ⊥
   not_in_new q c e h d = not_covered nth reaches l are q (comes.free q c) e h d
 
   -- so none has its first one
-  pub first_not_in : (e : Entry V) → Has l e → e.0.replica ≡ run.0.replica → e.0.counter ≤ run.0.counter → run.0.counter ≤ e.1.last → ⊥
+  pub first_not_in : (e : StretchEntry V) → Has l e → e.0.replica ≡ run.0.replica → e.0.counter ≤ run.0.counter → run.0.counter ≤ e.1.last → ⊥
   first_not_in e h r from to =
       let begun : run.0.counter ≤ run.1.last = comes.begun in
       not_in_new run.0 (record { replica = refl; from = omega arith; to = begun }) e h (record { replica = r; from = from; to = to })
 
   -- and none begins in it
-  pub none_begins_in : (e : Entry V) → Has l e → run.0.replica ≡ e.0.replica → run.0.counter ≤ e.0.counter → e.0.counter ≤ run.1.last → ⊥
+  pub none_begins_in : (e : StretchEntry V) → Has l e → run.0.replica ≡ e.0.replica → run.0.counter ≤ e.0.counter → e.0.counter ≤ run.1.last → ⊥
   none_begins_in e h r from to =
       let begun : e.0.counter ≤ e.1.last = are.begun e h in
       not_in_new e.0 (record { replica = r; from = from; to = to }) e h (record { replica = refl; from = omega arith; to = begun })
 
   module _ (k : Layout V) where
     -- a stretch that ends with the new one is the only one that has its end
-    set_ends : (e : Entry V) → e.1.last ≡ run.1.last → Sets l k e → EndsAt k (last_id run)
+    set_ends : (e : StretchEntry V) → e.1.last ≡ run.1.last → Sets l k e → EndsAt k (last_identifier run)
     set_ends e last sets = λ x h c.
         elim (sets.cases x h) [
-          | inl d ↦ let same : x.1.last ≡ e.1.last = ap (λ (z : Entry V). z.1.last) d in omega (arith, same, last)
+          | inl d ↦ let same : x.1.last ≡ e.1.last = ap (λ (z : StretchEntry V). z.1.last) d in omega (arith, same, last)
           | inr d ↦
               let begun : run.0.counter ≤ run.1.last = comes.begun in
-              absurd (not_in_new (last_id run) (record { replica = refl; from = begun; to = omega arith }) x d.1 c)
+              absurd (not_in_new (last_identifier run) (record { replica = refl; from = begun; to = omega arith }) x d.1 c)
         ]
 
     module _ (joins : (first : Identifier) (v : V) (j : ℕ) → reaches first v j → reaches (id_behind first j) (nth first v j) 1 → reaches first v (j + 1))
         (adds : (first : Identifier) (v : V) (j k : ℕ) → nth (id_behind first j) (nth first v j) k ≡ nth first v (j + k))
         (goes_on : (first : Identifier) (v : V) (j k : ℕ) → reaches first v (j + k) → reaches (id_behind first j) (nth first v j) k)
-        (e : Entry V) (old : Has l e) (goes : GoesOn nth reaches e run.0 run.1.value) (sets : Sets l k (up_to e run.1.last)) where
+        (e : StretchEntry V) (old : Has l e) (goes : GoesOn nth reaches e run.0 run.1.value) (sets : Sets l k (up_to e run.1.last)) where
       -- how many steps the new one is behind the first identifier of the one that goes on
       abbrev steps : ℕ
       steps = run.0.counter - e.0.counter
@@ -162,7 +162,7 @@ module _ {V : Type 0} (nth : Identifier → V → ℕ → V) (reaches : Identifi
             inside = λ q c. covered nth reaches k added_are q run sets.here c;
             outside = λ q d.
                 value_stays nth reaches l k are added_are q
-                (λ x h c. elim (sets.cases x h) [ inl i ↦ absurd (d (subst (λ (z : Entry V). Covers z q) i c)) | inr i ↦ (x, i.1, c) ])
+                (λ x h c. elim (sets.cases x h) [ inl i ↦ absurd (d (subst (λ (z : StretchEntry V). Covers z q) i c)) | inr i ↦ (x, i.1, c) ])
                 (λ x h c.
                 elim (cases_id x.0 run.0) [
                   | inl i ↦

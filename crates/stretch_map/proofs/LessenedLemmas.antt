@@ -3,27 +3,27 @@ use Rattle.std.proofs.Common.{ap, arith, inl, inr, refl, subst, sym, ℕ, ◌-�
 use Rattle.std.specs.Prelude.{None}
 use Rattle.fugue_ids.specs.Identifiers.{Identifier}
 use Rattle.fugue_ids.proofs.IdentifierLemmas.{cases_id}
-use Rattle.stretch_map.specs.Contents.{Entry, Layout, value_in}
+use Rattle.stretch_map.specs.Contents.{StretchEntry, Layout, value_in}
 use Rattle.stretch_map.specs.Stretches.{AreStretches, Covers, Has, IsLaid, Loses, up_to}
 use Rattle.stretch_map.proofs.FoundLemmas.{one_covers, same_has, uncovered}
 use Rattle.stretch_map.proofs.SetLemmas.{Sets, by_key, set_are, value_stays, value_within}
 
 -- the stretch under an identifier is gone, and the others are those of l
 pub record Drops {V : Type 0} (l k : Layout V) (first : Identifier) : Type 0 where
-  pub cases : (x : Entry V) → Has k x → (x.0 ≢ first) × Has l x
-  pub stays : (x : Entry V) → x.0 ≢ first → Has l x → Has k x
+  pub cases : (x : StretchEntry V) → Has k x → (x.0 ≢ first) × Has l x
+  pub stays : (x : StretchEntry V) → x.0 ≢ first → Has l x → Has k x
   pub laid : IsLaid k
 
 -- h and t are stretches of k, and the others are those of l
-pub record Splits {V : Type 0} (l k : Layout V) (h t : Entry V) : Type 0 where
+pub record Splits {V : Type 0} (l k : Layout V) (h t : StretchEntry V) : Type 0 where
   pub head : Has k h
   pub tail : Has k t
-  pub cases : (x : Entry V) → Has k x → (x ≡ h) ⊎ ((x ≡ t) ⊎ ((x.0 ≢ h.0) × (x.0 ≢ t.0) × Has l x))
-  pub stays : (x : Entry V) → x.0 ≢ h.0 → x.0 ≢ t.0 → Has l x → Has k x
+  pub cases : (x : StretchEntry V) → Has k x → (x ≡ h) ⊎ ((x ≡ t) ⊎ ((x.0 ≢ h.0) × (x.0 ≢ t.0) × Has l x))
+  pub stays : (x : StretchEntry V) → x.0 ≢ h.0 → x.0 ≢ t.0 → Has l x → Has k x
   pub laid : IsLaid k
 
 module _ {V : Type 0} (nth : Identifier → V → ℕ → V) (reaches : Identifier → V → ℕ → Type 0) (l k : Layout V) (are : AreStretches reaches l) where
-  module _ (key : Identifier) (e : Entry V) (old : Has l e) (own : Covers e key) (ends : e.1.last ≡ key.counter) where
+  module _ (key : Identifier) (e : StretchEntry V) (old : Has l e) (own : Covers e key) (ends : e.1.last ≡ key.counter) where
     module _ (longer : e.0.counter < e.1.last) (sets : Sets l k (up_to e (e.1.last - 1))) where
       shortened_are : AreStretches reaches k
       shortened_are =
@@ -47,7 +47,7 @@ module _ {V : Type 0} (nth : Identifier → V → ℕ → V) (reaches : Identifi
                 (λ x h c.
                 elim (sets.cases x h) [
                   | inl i ↦
-                      let cover : Covers (up_to e (e.1.last - 1)) q = subst (λ (z : Entry V). Covers z q) i c in
+                      let cover : Covers (up_to e (e.1.last - 1)) q = subst (λ (z : StretchEntry V). Covers z q) i c in
                       let high : q.counter ≤ e.1.last - 1 = cover.to in
                       let qc : q.counter ≡ key.counter = ap (λ x. x.counter) d in
                       absurd (omega (arith, ends, longer))
@@ -88,7 +88,7 @@ module _ {V : Type 0} (nth : Identifier → V → ℕ → V) (reaches : Identifi
                 elim (cases_id x.0 e.0) [
                   | inl i ↦
                       let value : x.1 ≡ e.1 = same_has reaches l are x e h old i in
-                      let cover : Covers e q = subst (λ (z : Entry V). Covers z q) (λ j. (i j, value j)) c in
+                      let cover : Covers e q = subst (λ (z : StretchEntry V). Covers z q) (λ j. (i j, value j)) c in
                       let low : e.0.counter ≤ q.counter = cover.from in
                       let high : q.counter ≤ e.1.last = cover.to in
                       let rep : q.replica ≡ key.replica = sym cover.replica ∙ own.replica in

@@ -6,8 +6,8 @@ use Rattle.std.specs.Ordering.{is_eq}
 use Rattle.fugue_ids.specs.Identifiers.{Identifier, id_cmp}
 use Rattle.fugue_ids.proofs.IdentifierLemmas.{cases_id, id_at-other, id_at-same}
 use Rattle.fugue_ids.proofs.RunLemmas.{none_behind}
-use Rattle.stretch_map.specs.Contents.{Entry, Layout, entries_with, contents, spread, value_in}
-use Rattle.stretch_map.specs.Rules.{AreFree, IsFollowed, ReachesRun, with_run}
+use Rattle.stretch_map.specs.Contents.{StretchEntry, Layout, entries_with, contents, spread, value_in}
+use Rattle.stretch_map.specs.Rules.{AreFree, IsFollowedBy, ReachesRun, with_run}
 use Rattle.stretch_map.specs.Stretches.{Adds, AreFreeTo, AreStretches, CanCome, EndsAt, IsAmong, IsSame, Loses}
 use Rattle.stretch_map.proofs.FoundLemmas.{cases_covers, cases_le, covered}
 use Rattle.fugue_ids.proofs.OrderLemmas.{id_cmp-IsAntisymmetric, id_cmp_total}
@@ -92,7 +92,7 @@ module _ {V : Type 0} (nth : Identifier → V → ℕ → V) where
   pub contents-adds : (reaches : Identifier → V → ℕ → Type 0) (l k : Layout V) (first : Identifier) (v : V) (count last : ℕ) → 0 < count → last ≡ first.counter + (count - 1)
       → Adds nth reaches l k (first, record { value = v; last = last }) → contents nth k ≡ with_run nth first v count (contents nth l)
   contents-adds reaches l k first v count last some is adds =
-      let run : Entry V = (first, record { value = v; last = last }) in
+      let run : StretchEntry V = (first, record { value = v; last = last }) in
       same_map id_cmp_total id_cmp-IsAntisymmetric (contents nth k) (with_run nth first v count (contents nth l))
       (λ q.
       get-contents k q
@@ -128,7 +128,7 @@ module _ {V : Type 0} (nth : Identifier → V → ℕ → V) where
 
   -- where the next identifier has not the value that follows, a stretch ends with the key
   pub ends_unless_followed : (reaches : Identifier → V → ℕ → Type 0) → ((first : Identifier) (value : V) (j k : ℕ) → nth (id_behind first j) (nth first value j) k ≡ nth first value (j + k))
-      → (l : Layout V) → AreStretches reaches l → (key : Identifier) → (IsFollowed nth (value_in nth l) key → ⊥) → EndsAt l key
+      → (l : Layout V) → AreStretches reaches l → (key : Identifier) → (IsFollowedBy nth (value_in nth l) key → ⊥) → EndsAt l key
   ends_unless_followed reaches adds l are key not e has cover =
       elim (cases_le e.1.last key.counter) [
         | inl low ↦ low

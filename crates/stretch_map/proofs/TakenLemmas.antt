@@ -6,8 +6,8 @@ use Rattle.std.specs.Ordering.{is_eq}
 use Rattle.fugue_ids.specs.Identifiers.{Identifier, id_cmp}
 use Rattle.fugue_ids.proofs.IdentifierLemmas.{cases_id, id_at-other}
 use Rattle.fugue_ids.specs.Runs.{id_behind}
-use Rattle.stretch_map.specs.Contents.{Entry, Latest, Layout}
-use Rattle.stretch_map.specs.Stretches.{AreStretches, Covers, IsCut, IsFloor, IsLatest, IsLatestUpTo, IsParted, IsReadIn, IsSame, IsShorter, IsTakenFrom, IsTakenFromLatest, KeepsEntry, KeptBecomes, LatestBecomes, Loses, rest_behind, up_to}
+use Rattle.stretch_map.specs.Contents.{StretchEntry, Latest, Layout}
+use Rattle.stretch_map.specs.Stretches.{AreStretches, Covers, IsSplit, IsFloor, IsLatest, IsLatestUpTo, IsSplitBefore, IsReadIn, IsSame, IsShorter, IsTakenFrom, IsTakenFromLatest, KeepsEntry, KeptBecomes, LatestBecomes, Loses, rest_behind, up_to}
 use Rattle.stretch_map.specs.declared.stretches.Stretch.{Stretch}
 use Rattle.stretch_map.proofs.FoundLemmas.{not_both, one_covers, same_kept, same_latest}
 use Rattle.stretch_map.proofs.KeptLemmas.{drops_kept, drops_latest, kept_becomes, sets_kept, sets_latest}
@@ -16,9 +16,9 @@ use Rattle.stretch_map.proofs.PartedLemmas.{parted_are, parted_found}
 use Rattle.stretch_map.proofs.ReadLemmas.{floor_covers, value_kept}
 
 -- what two changes of a map make of a stretch
-pub cut_by : {V : Type 0} (nth : Identifier → V → ℕ → V) (m k n : BTreeMap Identifier (Stretch V)) (e : Entry V) (key : Identifier) → Covers e key
+pub cut_by : {V : Type 0} (nth : Identifier → V → ℕ → V) (m k n : BTreeMap Identifier (Stretch V)) (e : StretchEntry V) (key : Identifier) → Covers e key
     → UpdatesBy id_cmp (id_cmp (rest_behind nth e (key.counter - e.0.counter + 1)).0) m k (Some (rest_behind nth e (key.counter - e.0.counter + 1)).1)
-    → UpdatesBy id_cmp (id_cmp e.0) k n (Some (up_to e key.counter).1) → IsOrdered id_cmp n → IsCut nth m.entries n.entries e key
+    → UpdatesBy id_cmp (id_cmp e.0) k n (Some (up_to e key.counter).1) → IsOrdered id_cmp n → IsSplit nth m.entries n.entries e key
 cut_by nth m k n e key cover u w ordered =
     let g : Identifier = id_behind e.0 (key.counter - e.0.counter + 1) in
     let apart : g ≢ e.0 = λ d. let same : e.0.counter + (key.counter - e.0.counter + 1) ≡ e.0.counter = ap (λ (x : Identifier). x.counter) d in absurd (omega arith) in
@@ -31,29 +31,29 @@ cut_by nth m k n e key cover u w ordered =
 
 module _ {V : Type 0} (nth : Identifier → V → ℕ → V) (reaches : Identifier → V → ℕ → Type 0) (l : Layout V) (are : AreStretches reaches l) (key : Identifier) where
   -- a last stretch is without its last identifier
-  pub shorter_latest : (e : Entry V) → IsLatest l.0 e → Covers e key → e.1.last ≡ key.counter → (ls : List (ℕ × Latest V)) → IsTakenFromLatest l.0 ls e → Loses nth reaches l (ls, l.1) key
+  pub shorter_latest : (e : StretchEntry V) → IsLatest l.0 e → Covers e key → e.1.last ≡ key.counter → (ls : List (ℕ × Latest V)) → IsTakenFromLatest l.0 ls e → Loses nth reaches l (ls, l.1) key
   shorter_latest e old cover ends ls taken = by_rest taken.left taken.shorter taken.becomes
     where
-      by_rest : (r : Option (Entry V)) → IsShorter e r → LatestBecomes l.0 ls e.0.replica (option_map (λ x. (x.0.counter, x.1)) r) → Loses nth reaches l (ls, l.1) key
+      by_rest : (r : Option (StretchEntry V)) → IsShorter e r → LatestBecomes l.0 ls e.0.replica (option_map (λ x. (x.0.counter, x.1)) r) → Loses nth reaches l (ls, l.1) key
       by_rest None short becomes = dropped nth reaches l (ls, l.1) are key e (inl old) cover ends short.0 (drops_latest l (ls, l.1) are.laid e old becomes refl)
       by_rest (Some x) short becomes =
           shortened nth reaches l (ls, l.1) are key e (inl old) cover ends short.1.0
-          (sets_latest l (ls, l.1) are.laid (up_to e (e.1.last - 1)) (λ y a r. ap (λ (z : Entry V). z.0) (same_latest l.0 y e a old r)) (λ y h r. are.laid.before e y old h r)
-          (subst (λ (z : Entry V). LatestBecomes l.0 ls e.0.replica (Some (z.0.counter, z.1))) short.1.1 becomes) refl)
+          (sets_latest l (ls, l.1) are.laid (up_to e (e.1.last - 1)) (λ y a r. ap (λ (z : StretchEntry V). z.0) (same_latest l.0 y e a old r)) (λ y h r. are.laid.before e y old h r)
+          (subst (λ (z : StretchEntry V). LatestBecomes l.0 ls e.0.replica (Some (z.0.counter, z.1))) short.1.1 becomes) refl)
 
   -- a kept stretch is without its last identifier
-  pub shorter_kept : (e : Entry V) → KeepsEntry l.1 e → Covers e key → e.1.last ≡ key.counter → (es : List (Entry V)) → IsTakenFrom l.1 es e → Loses nth reaches l (l.0, es) key
+  pub shorter_kept : (e : StretchEntry V) → KeepsEntry l.1 e → Covers e key → e.1.last ≡ key.counter → (es : List (StretchEntry V)) → IsTakenFrom l.1 es e → Loses nth reaches l (l.0, es) key
   shorter_kept e old cover ends es taken = by_rest taken.left taken.shorter taken.becomes
     where
-      by_rest : (r : Option (Entry V)) → IsShorter e r → KeptBecomes l.1 es e.0 (option_map (λ x. x.1) r) → Loses nth reaches l (l.0, es) key
+      by_rest : (r : Option (StretchEntry V)) → IsShorter e r → KeptBecomes l.1 es e.0 (option_map (λ x. x.1) r) → Loses nth reaches l (l.0, es) key
       by_rest None short becomes = dropped nth reaches l (l.0, es) are key e (inr old) cover ends short.0 (drops_kept l (l.0, es) are.laid e old becomes refl)
       by_rest (Some x) short becomes =
           shortened nth reaches l (l.0, es) are key e (inr old) cover ends short.1.0
           (sets_kept l (l.0, es) are.laid (up_to e (e.1.last - 1)) (λ y a r. are.laid.before y e a old r)
-          (subst (λ (z : Entry V). KeptBecomes l.1 es e.0 (Some z.1)) short.1.1 becomes) refl)
+          (subst (λ (z : StretchEntry V). KeptBecomes l.1 es e.0 (Some z.1)) short.1.1 becomes) refl)
 
   -- a stretch that ends with the key already
-  pub parted_there : (e : Entry V) → KeepsEntry l.1 e → Covers e key → e.1.last ≤ key.counter → IsParted nth reaches l l e key
+  pub parted_there : (e : StretchEntry V) → KeepsEntry l.1 e → Covers e key → e.1.last ≤ key.counter → IsSplitBefore nth reaches l l e key
   parted_there e kept cover low =
       let to : key.counter ≤ e.1.last = cover.to in
       let same : e.1.last ≡ key.counter = omega arith in
@@ -62,7 +62,7 @@ module _ {V : Type 0} (nth : Identifier → V → ℕ → V) (reaches : Identifi
   -- a kept stretch cut in two
   pub parted_kept : ((first : Identifier) (value : V) (j k : ℕ) → nth (id_behind first j) (nth first value j) k ≡ nth first value (j + k))
       → ((first : Identifier) (value : V) (j k : ℕ) → reaches first value (j + k) → reaches (id_behind first j) (nth first value j) k)
-      → (e : Entry V) → KeepsEntry l.1 e → Covers e key → key.counter < e.1.last → (es : List (Entry V)) → IsCut nth l.1 es e key → IsParted nth reaches l (l.0, es) e key
+      → (e : StretchEntry V) → KeepsEntry l.1 e → Covers e key → key.counter < e.1.last → (es : List (StretchEntry V)) → IsSplit nth l.1 es e key → IsSplitBefore nth reaches l (l.0, es) e key
   parted_kept adds goes_on e old cover inside es cut =
       record {
         are = parted_are nth reaches adds goes_on l (l.0, es) are e (inr old) (key.counter - e.0.counter + 1) (omega arith) within splits;
@@ -77,7 +77,7 @@ module _ {V : Type 0} (nth : Identifier → V → ℕ → V) (reaches : Identifi
       same_head = let from : e.0.counter ≤ key.counter = cover.from in let c : key.counter ≡ e.0.counter + (key.counter - e.0.counter + 1) - 1 = omega arith in ap (up_to e) c
 
       -- a last stretch begins elsewhere than the rest
-      not_rest : (x : Entry V) → IsLatest l.0 x → x.0 ≢ id_behind e.0 (key.counter - e.0.counter + 1)
+      not_rest : (x : StretchEntry V) → IsLatest l.0 x → x.0 ≢ id_behind e.0 (key.counter - e.0.counter + 1)
       not_rest x a d =
           let begun : x.0.counter ≤ x.1.last = are.begun x (inl a) in
           let there : e.0.counter + (key.counter - e.0.counter + 1) ≤ e.1.last = within in
@@ -86,7 +86,7 @@ module _ {V : Type 0} (nth : Identifier → V → ℕ → V) (reaches : Identifi
           not_both l are.laid x e a old (sym (one_covers nth reaches l are (id_behind e.0 (key.counter - e.0.counter + 1)) x e (inl a) (inr old) own rest))
 
       -- a kept stretch after the cut is one of both parts, or was kept
-      kept_parts : (x : Entry V) → KeepsEntry es x
+      kept_parts : (x : StretchEntry V) → KeepsEntry es x
           → (x ≡ up_to e key.counter) ⊎ ((x ≡ rest_behind nth e (key.counter - e.0.counter + 1)) ⊎ ((x.0 ≢ e.0) × (x.0 ≢ id_behind e.0 (key.counter - e.0.counter + 1)) × KeepsEntry l.1 x))
       kept_parts x a =
           elim (cases_id x.0 e.0) [
@@ -99,18 +99,18 @@ module _ {V : Type 0} (nth : Identifier → V → ℕ → V) (reaches : Identifi
           ]
 
       -- they begin before the last stretch of their replica
-      before : (y x : Entry V) → IsLatest l.0 y → KeepsEntry es x → x.0.replica ≡ y.0.replica → x.0.counter < y.0.counter
+      before : (y x : StretchEntry V) → IsLatest l.0 y → KeepsEntry es x → x.0.replica ≡ y.0.replica → x.0.counter < y.0.counter
       before y x a h r =
           elim (kept_parts x h) [
             | inl d ↦
-                let c : x.0.counter ≡ e.0.counter = ap (λ (z : Entry V). z.0.counter) d in
-                let less : e.0.counter < y.0.counter = are.laid.before y e a old (sym (ap (λ (z : Entry V). z.0.replica) d) ∙ r) in
+                let c : x.0.counter ≡ e.0.counter = ap (λ (z : StretchEntry V). z.0.counter) d in
+                let less : e.0.counter < y.0.counter = are.laid.before y e a old (sym (ap (λ (z : StretchEntry V). z.0.replica) d) ∙ r) in
                 omega arith
             | inr d ↦
                 elim d [
                   | inl f ↦
-                      let c : x.0.counter ≡ e.0.counter + (key.counter - e.0.counter + 1) = ap (λ (z : Entry V). z.0.counter) f in
-                      let rr : e.0.replica ≡ y.0.replica = sym (ap (λ (z : Entry V). z.0.replica) f) ∙ r in
+                      let c : x.0.counter ≡ e.0.counter + (key.counter - e.0.counter + 1) = ap (λ (z : StretchEntry V). z.0.counter) f in
+                      let rr : e.0.replica ≡ y.0.replica = sym (ap (λ (z : StretchEntry V). z.0.replica) f) ∙ r in
                       let far : e.1.last < y.0.counter = are.apart e y (inr old) (inl a) rr (are.laid.before y e a old rr) in
                       omega (arith, c, far, within)
                   | inr f ↦ are.laid.before y x a f.2 r
@@ -120,7 +120,7 @@ module _ {V : Type 0} (nth : Identifier → V → ℕ → V) (reaches : Identifi
       splits : Splits l (l.0, es) (up_to e (e.0.counter + (key.counter - e.0.counter + 1) - 1)) (rest_behind nth e (key.counter - e.0.counter + 1))
       splits =
           record {
-            head = inr (subst (λ (z : Entry V). KeepsEntry es z) same_head cut.head);
+            head = inr (subst (λ (z : StretchEntry V). KeepsEntry es z) same_head cut.head);
             tail = inr cut.tail;
             cases = λ x h. elim h [
               | inl a ↦ inr (inr ((λ d. not_both l are.laid x e a old (sym d)), not_rest x a, inl a))
@@ -134,7 +134,7 @@ module _ {V : Type 0} (nth : Identifier → V → ℕ → V) (reaches : Identifi
           }
 
   -- a stretch cut in two, and then its last value gone
-  pub loses_after : (k t : Layout V) (e : Entry V) → IsParted nth reaches l k e key → Loses nth reaches k t key → Loses nth reaches l t key
+  pub loses_after : (k t : Layout V) (e : StretchEntry V) → IsSplitBefore nth reaches l k e key → Loses nth reaches k t key → Loses nth reaches l t key
   loses_after k t e cut lost = record { are = lost.are; found = λ q. lost.found q ∙ ap (cond (is_eq (id_cmp q key)) None) (cut.found q) }
 
   -- the same after stretches were kept differently
@@ -142,26 +142,26 @@ module _ {V : Type 0} (nth : Identifier → V → ℕ → V) (reaches : Identifi
   loses_same k t same lost = record { are = lost.are; found = λ q. lost.found q ∙ ap (cond (is_eq (id_cmp q key)) None) (same.found q) }
 
   -- where no stretch has the key, nothing is lost
-  pub none_to_lose : ((e : Entry V) → IsLatest l.0 e → Covers e key → ⊥) → IsReadIn nth (KeepsEntry l.1) key None → Loses nth reaches l l key
+  pub none_to_lose : ((e : StretchEntry V) → IsLatest l.0 e → Covers e key → ⊥) → IsReadIn nth (KeepsEntry l.1) key None → Loses nth reaches l l key
   none_to_lose apart none = loses_none nth reaches l l are key (sym (value_kept nth reaches l are key None apart none))
 
   -- what the last stretch of the replica does not have, no other one does
-  pub no_other : (e : Entry V) → IsLatestUpTo l.0 key e → (Covers e key → ⊥) → (x : Entry V) → IsLatest l.0 x → Covers x key → ⊥
-  no_other e is not x a c = not (subst (λ (z : Entry V). Covers z key) (same_latest l.0 x e a is.latest (c.replica ∙ sym is.replica)) c)
+  pub no_other : (e : StretchEntry V) → IsLatestUpTo l.0 key e → (Covers e key → ⊥) → (x : StretchEntry V) → IsLatest l.0 x → Covers x key → ⊥
+  no_other e is not x a c = not (subst (λ (z : StretchEntry V). Covers z key) (same_latest l.0 x e a is.latest (c.replica ∙ sym is.replica)) c)
 
   -- nor where the floor does not have it
-  pub none_by_floor : (e : Entry V) → IsFloor l.1 key e → (Covers e key → ⊥) → IsReadIn nth (KeepsEntry l.1) key None
+  pub none_by_floor : (e : StretchEntry V) → IsFloor l.1 key e → (Covers e key → ⊥) → IsReadIn nth (KeepsEntry l.1) key None
   none_by_floor e floor not = record { none = λ f h c. not (floor_covers reaches l are key e floor f h c); some = tt }
 
 -- a kept stretch cut in two, and then its last value taken
-pub taken_after : {V : Type 0} (nth : Identifier → V → ℕ → V) (reaches : Identifier → V → ℕ → Type 0) (l : Layout V) → AreStretches reaches l → (key : Identifier) (k : Layout V) (e : Entry V)
-    → IsParted nth reaches l k e key → Covers e key → (es : List (Entry V)) (last : ℕ) → last ≡ key.counter → IsTakenFrom k.1 es (up_to e last) → Loses nth reaches l (k.0, es) key
+pub taken_after : {V : Type 0} (nth : Identifier → V → ℕ → V) (reaches : Identifier → V → ℕ → Type 0) (l : Layout V) → AreStretches reaches l → (key : Identifier) (k : Layout V) (e : StretchEntry V)
+    → IsSplitBefore nth reaches l k e key → Covers e key → (es : List (StretchEntry V)) (last : ℕ) → last ≡ key.counter → IsTakenFrom k.1 es (up_to e last) → Loses nth reaches l (k.0, es) key
 taken_after nth reaches l are key k e parted cover es last same taken =
     loses_after nth reaches l are key k (k.0, es) e parted
     (shorter_kept nth reaches k parted.are key (up_to e key.counter) parted.head (record { replica = cover.replica; from = cover.from; to = omega arith }) refl es
     (subst (λ (c : ℕ). IsTakenFrom k.1 es (up_to e c)) same taken))
 
 -- what is left of a stretch is written in the map of kept ones
-pub taken_from : {V : Type 0} (m n : BTreeMap Identifier (Stretch V)) (e : Entry V) (left : Option (Entry V)) → IsShorter e left → UpdatesBy id_cmp (id_cmp e.0) m n (option_map (λ x. x.1) left)
+pub taken_from : {V : Type 0} (m n : BTreeMap Identifier (Stretch V)) (e : StretchEntry V) (left : Option (StretchEntry V)) → IsShorter e left → UpdatesBy id_cmp (id_cmp e.0) m n (option_map (λ x. x.1) left)
     → IsOrdered id_cmp n → IsTakenFrom m.entries n.entries e
 taken_from m n e left short u ordered = record { left = left; shorter = short; becomes = kept_becomes m n e.0 (option_map (λ x. x.1) left) u ordered }

@@ -34,8 +34,8 @@ spread nth [] = []
 spread nth (e ∷ es) = run nth e.0 e.1.value (suc e.1.last - e.0.counter) ++ spread nth es
 
 -- a stretch, under its first identifier
-abbrev pub Entry : Type 0 → Type 0
-Entry V = Identifier × Stretch V
+abbrev pub StretchEntry : Type 0 → Type 0
+StretchEntry V = Identifier × Stretch V
 
 -- the last stretch of a replica: the counter that it begins with, and the stretch
 abbrev pub Latest : Type 0 → Type 0
@@ -43,13 +43,14 @@ Latest V = ℕ × Stretch V
 
 -- how stretches are kept: at most one of each replica, the last one of it, under that replica, and the others
 abbrev pub Layout : Type 0 → Type 0
-Layout V = List (ℕ × Latest V) × List (Entry V)
+Layout V = List (ℕ × Latest V) × List (StretchEntry V)
 
+-- all that the map holds
 abbrev pub layout : {V : Type 0} → Stretches V → Layout V
 layout s = (s.latest.by_replica.entries, s.kept.entries)
 
 -- all stretches
-abbrev pub entries_with : {V : Type 0} → List (ℕ × Latest V) → List (Entry V) → List (Entry V)
+abbrev pub entries_with : {V : Type 0} → List (ℕ × Latest V) → List (StretchEntry V) → List (StretchEntry V)
 entries_with [] es = es
 entries_with (x ∷ xs) es = (record { replica = x.0; counter = x.1.0 }, x.1.1) ∷ entries_with xs es
 

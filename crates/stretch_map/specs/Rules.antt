@@ -32,7 +32,7 @@ with_run nth first value zero m = m
 with_run nth first value (suc n) m = insert (with_run nth first value n m) (id_behind first n) (nth first value n)
 
 -- the value is the one that follows that of the identifier before
-pub record IsNext {V : Type 0} (nth : Identifier → V → ℕ → V) (reaches : Identifier → V → ℕ → Type 0) (value_of : Identifier → Option V) (key : Identifier) (value : V) : Type 0 where
+pub record FollowsByRule {V : Type 0} (nth : Identifier → V → ℕ → V) (reaches : Identifier → V → ℕ → Type 0) (value_of : Identifier → Option V) (key : Identifier) (value : V) : Type 0 where
   pub before : Identifier
   pub at_key : id_behind before 1 ≡ key
   pub value_before : V
@@ -41,7 +41,7 @@ pub record IsNext {V : Type 0} (nth : Identifier → V → ℕ → V) (reaches :
   pub follows : nth before value_before 1 ≡ value
 
 -- the next identifier has the value that follows
-pub record IsFollowed {V : Type 0} (nth : Identifier → V → ℕ → V) (value_of : Identifier → Option V) (key : Identifier) : Type 0 where
+pub record IsFollowedBy {V : Type 0} (nth : Identifier → V → ℕ → V) (value_of : Identifier → Option V) (key : Identifier) : Type 0 where
   pub value : V
   pub held : value_of key ≡ Some value
   pub followed : value_of (id_behind key 1) ≡ Some (nth key value 1)

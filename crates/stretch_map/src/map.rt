@@ -2,7 +2,7 @@ ghost use Rattle.std.specs.Prelude.{◌≡◌, ◌⊎◌, ◌↔◌, ◌<◌, �
 ghost use Rattle.std.specs.Prelude.{OnOk};
 ghost use Rattle.std.specs.FinMap as map;
 ghost use Rattle.fugue_ids.specs.Runs.{id_behind};
-ghost use Rattle.stretch_map.specs.Rules.{AreFree, IsFollowed, IsGreatestIn, IsNext, ReachesRun, with_run};
+ghost use Rattle.stretch_map.specs.Rules.{AreFree, IsFollowedBy, IsGreatestIn, FollowsByRule, ReachesRun, with_run};
 
 use crate::follows::Follows;
 use crate::free::is_free;
@@ -100,7 +100,7 @@ impl<V: Follows> StretchMap<V> {
         ensures ok { OnOk result (self.new
             ≡ record { values = map.insert self.old.values key value; newest = Some key }) }
         ensures err { OnErr result (self.new ≡ self.old) }
-        ensures sure { IsNext V.nth V.reaches (map.get self.old.values) key value → IsOk result }
+        ensures sure { FollowsByRule V.nth V.reaches (map.get self.old.values) key value → IsOk result }
     {
         self.insert_run(key, 1, value)
     }
@@ -117,7 +117,7 @@ impl<V: Follows> StretchMap<V> {
           newest = Some (id_behind first (count - 1));
         }) }
         ensures err { OnErr result (self.new ≡ self.old) }
-        ensures sure { IsNext V.nth V.reaches (map.get self.old.values) first value → IsOk result }
+        ensures sure { FollowsByRule V.nth V.reaches (map.get self.old.values) first value → IsOk result }
     {
         let last = first.counter + (count - 1);
         put(&mut self.stretches, first, Stretch { value, last })?;
@@ -135,7 +135,7 @@ impl<V: Follows> StretchMap<V> {
         ensures ok { OnOk result (self.new ≡ record { values = map.remove self.old.values key; newest = None }) }
         ensures err { OnErr result (self.new ≡ self.old) }
         ensures sure { (self.old.newest ≡ Some key)
-            ⊎ (IsFollowed V.nth (map.get self.old.values) key → ⊥) → IsOk result }
+            ⊎ (IsFollowedBy V.nth (map.get self.old.values) key → ⊥) → IsOk result }
     {
         let value = take_out(&mut self.stretches, key)?;
         self.newest = None;

@@ -1,9 +1,9 @@
 //! One stretch of values more.
 ghost use Rattle.std.specs.Prelude.{◌≡◌, ◌≤◌, IfNone, IfSome, IsFalse, IsTrue, OnErr, OnOk};
 ghost use Rattle.std.specs.BTreeMap.{IsUnchanged};
-ghost use Rattle.stretch_map.specs.Contents.{Entry, layout};
+ghost use Rattle.stretch_map.specs.Contents.{StretchEntry, layout};
 ghost use Rattle.stretch_map.specs.Stretches.{Adds, AreStretches, CanCome, GoesOn, Grows, IsBehindAll, IsFloor};
-ghost use Rattle.stretch_map.specs.Stretches.{IsLatestUpTo, KeepsEntry, NoLatestUpTo, Puts, up_to};
+ghost use Rattle.stretch_map.specs.Stretches.{IsLatestUpTo, KeepsEntry, NoLatestUpTo, PutsStretch, up_to};
 
 use crate::follows::Follows;
 use crate::greatest::last_kept;
@@ -45,10 +45,10 @@ fn extend_kept<V: Follows>(
     key: ElementId,
     run: &Stretch<V>,
 ) -> bool
-    requires { (e : Entry V) → KeepsEntry kept.old.entries e → e.0.counter ≤ e.1.last }
+    requires { (e : StretchEntry V) → KeepsEntry kept.old.entries e → e.0.counter ≤ e.1.last }
     ensures on { IsTrue result → Grows V.nth V.reaches kept.old.entries kept.new.entries (key, run.now) }
     ensures off { IsFalse result → IsUnchanged kept.old kept.new }
-    ensures goes_not { IsFalse result → (e : Entry V) → IsFloor kept.old.entries key e
+    ensures goes_not { IsFalse result → (e : StretchEntry V) → IsFloor kept.old.entries key e
         → GoesOn V.nth V.reaches e key run.now.value → ⊥ }
 {
     let Some((first, stretch)) = floor(kept, key) else {
@@ -107,7 +107,7 @@ fn put_before<V: Follows>(
     requires are { AreStretches V.reaches (layout stretches.old) }
     requires comes { CanCome V.nth V.reaches (layout stretches.old) (key, run) }
     requires before { NoLatestUpTo stretches.old.latest.by_replica.entries key }
-    ensures { Puts V.nth V.reaches (layout stretches.old) (layout stretches.new) (key, run) result }
+    ensures { PutsStretch V.nth V.reaches (layout stretches.old) (layout stretches.new) (key, run) result }
 {
     if extend_kept(&mut stretches.kept, key, &run) {
         return Ok(());
@@ -126,7 +126,7 @@ fn put_behind<V: Follows>(
     requires are { AreStretches V.reaches (layout stretches.old) }
     requires comes { CanCome V.nth V.reaches (layout stretches.old) (key, run) }
     requires behind { IsLatestUpTo stretches.old.latest.by_replica.entries key (first, stretch.now) }
-    ensures { Puts V.nth V.reaches (layout stretches.old) (layout stretches.new) (key, run) result }
+    ensures { PutsStretch V.nth V.reaches (layout stretches.old) (layout stretches.new) (key, run) result }
 {
     if let Some(longer) = longer(first, stretch, key, &run) {
         stretches.latest.replace(first, longer);
@@ -145,7 +145,7 @@ pub(crate) fn put<V: Follows>(
 ) -> Result<(), NoMemory>
     requires are { AreStretches V.reaches (layout stretches.old) }
     requires comes { CanCome V.nth V.reaches (layout stretches.old) (key, run) }
-    ensures { Puts V.nth V.reaches (layout stretches.old) (layout stretches.new) (key, run) result }
+    ensures { PutsStretch V.nth V.reaches (layout stretches.old) (layout stretches.new) (key, run) result }
 {
     match stretches.latest.up_to(key) {
         Some((first, stretch)) => put_behind(stretches, first, &stretch, key, run),

@@ -1,7 +1,7 @@
 //! The value of an identifier.
 ghost use Rattle.std.specs.Prelude.{◌≡◌, ◌-◌, IfNone, IfSome};
 ghost use Rattle.stretch_map.specs.Contents.{layout, value_at_id};
-ghost use Rattle.stretch_map.specs.Stretches.{AreStretches, Covers, IsReached, IsReadIn, KeepsEntry};
+ghost use Rattle.stretch_map.specs.Stretches.{AreStretches, Covers, IsReachedByRule, IsReadIn, KeepsEntry};
 
 use crate::follows::Follows;
 use crate::stretches::{Stretch, Stretches, floor};
@@ -9,7 +9,7 @@ use fugue_ids::ElementId;
 
 /// The value that the stretch has at the key.
 fn value_in<V: Follows>(first: ElementId, stretch: &Stretch<V>, key: ElementId) -> Option<V>
-    requires { IsReached V.reaches (first, stretch.now) }
+    requires { IsReachedByRule V.reaches (first, stretch.now) }
     ensures none { IfNone result (Covers (first, stretch.now) key → ⊥) }
     ensures some { IfSome result
         (λ value. Covers (first, stretch.now) key

@@ -1,8 +1,8 @@
 //! One value less.
 ghost use Rattle.std.specs.Prelude.{◌≡◌, ◌+◌, ◌<◌, ◌≤◌, IfOk, IsFalse, IsOk, IsTrue, OnErr, OnOk};
 ghost use Rattle.std.specs.BTreeMap.{IsUnchanged};
-ghost use Rattle.stretch_map.specs.Contents.{Entry, layout, value_at_id};
-ghost use Rattle.stretch_map.specs.Stretches.{AreStretches, Covers, EndsAt, IsCut, IsLatest, IsParted, IsReached};
+ghost use Rattle.stretch_map.specs.Contents.{StretchEntry, layout, value_at_id};
+ghost use Rattle.stretch_map.specs.Stretches.{AreStretches, Covers, EndsAt, IsSplit, IsLatest, IsSplitBefore, IsReachedByRule};
 ghost use Rattle.stretch_map.specs.Stretches.{IsSame, IsShorter, IsTakenFrom, IsTakenFromLatest, KeepsEntry, Loses};
 
 use crate::follows::Follows;
@@ -49,7 +49,7 @@ fn shorten_latest<V: Follows>(stretches: &mut Stretches<V>, key: ElementId) -> b
     requires { AreStretches V.reaches (layout stretches.old) }
     ensures on { IsTrue result → Loses V.nth V.reaches (layout stretches.old) (layout stretches.new) key }
     ensures off { IsFalse result → layout stretches.new ≡ layout stretches.old }
-    ensures goes_on { IsFalse result → (e : Entry V) → IsLatest stretches.old.latest.by_replica.entries e → Covers e key
+    ensures goes_on { IsFalse result → (e : StretchEntry V) → IsLatest stretches.old.latest.by_replica.entries e → Covers e key
         → key.counter < e.1.last }
 {
     let Some((first, stretch)) = stretches.latest.up_to(key) else {
@@ -67,9 +67,9 @@ fn shorten_latest<V: Follows>(stretches: &mut Stretches<V>, key: ElementId) -> b
 fn shelve_over<V: Follows>(stretches: &mut Stretches<V>, key: ElementId) -> Result<(), NoMemory>
     requires { AreStretches V.reaches (layout stretches.old) }
     ensures same { OnOk result (IsSame V.nth V.reaches (layout stretches.old) (layout stretches.new)) }
-    ensures apart { OnOk result ((e : Entry V) → IsLatest stretches.new.latest.by_replica.entries e → Covers e key → ⊥) }
+    ensures apart { OnOk result ((e : StretchEntry V) → IsLatest stretches.new.latest.by_replica.entries e → Covers e key → ⊥) }
     ensures err { OnErr result (layout stretches.new ≡ layout stretches.old) }
-    ensures sure { ((e : Entry V) → IsLatest stretches.old.latest.by_replica.entries e → Covers e key → ⊥) → IsOk result }
+    ensures sure { ((e : StretchEntry V) → IsLatest stretches.old.latest.by_replica.entries e → Covers e key → ⊥) → IsOk result }
 {
     let Some((first, stretch)) = stretches.latest.up_to(key) else {
         return Ok(());
@@ -113,10 +113,10 @@ fn cut_behind<V: Follows>(
     key: ElementId,
 ) -> Result<(), NoMemory>
     requires there { KeepsEntry kept.old.entries (first, record { value = value; last = last }) }
-    requires reached { IsReached V.reaches (first, record { value = value; last = last }) }
+    requires reached { IsReachedByRule V.reaches (first, record { value = value; last = last }) }
     requires covers { Covers {V = V} (first, record { value = value; last = last }) key }
     requires inside { key.counter < last }
-    ensures ok { OnOk result (IsCut V.nth kept.old.entries kept.new.entries (first, record { value = value; last = last }) key) }
+    ensures ok { OnOk result (IsSplit V.nth kept.old.entries kept.new.entries (first, record { value = value; last = last }) key) }
     ensures err { OnErr result (IsUnchanged kept.old kept.new) }
 {
     let steps = key.counter - first.counter + 1;
@@ -146,7 +146,7 @@ fn end_at<V: Follows>(
     requires are { AreStretches V.reaches (layout stretches.old) }
     requires there { KeepsEntry stretches.old.kept.entries (first, stretch.now) }
     requires covers { Covers (first, stretch.now) key }
-    ensures ok { OnOk result (IsParted V.nth V.reaches (layout stretches.old) (layout stretches.new)
+    ensures ok { OnOk result (IsSplitBefore V.nth V.reaches (layout stretches.old) (layout stretches.new)
         (first, stretch.now) key) }
     ensures err { OnErr result (layout stretches.new ≡ layout stretches.old) }
     ensures sure { stretch.now.last ≤ key.counter → IsOk result }
@@ -161,7 +161,7 @@ fn end_at<V: Follows>(
 /// A kept stretch without the key, which no replica's last one has. After want of memory all is as before.
 fn take_kept<V: Follows>(stretches: &mut Stretches<V>, key: ElementId) -> Result<(), NoMemory>
     requires are { AreStretches V.reaches (layout stretches.old) }
-    requires apart { (e : Entry V) → IsLatest stretches.old.latest.by_replica.entries e → Covers e key → ⊥ }
+    requires apart { (e : StretchEntry V) → IsLatest stretches.old.latest.by_replica.entries e → Covers e key → ⊥ }
     ensures ok { OnOk result (Loses V.nth V.reaches (layout stretches.old) (layout stretches.new) key) }
     ensures err { OnErr result (layout stretches.new ≡ layout stretches.old) }
     ensures sure { EndsAt (layout stretches.old) key → IsOk result }

@@ -5,11 +5,11 @@ use Rattle.std.proofs.lemmas.List.{append-nil, reverse-append, take_min}
 use Rattle.std.proofs.Math.Seq.{take-append_seam}
 use Rattle.std.proofs.lemmas.List.Elements.{All-nil}
 use Rattle.origin_model.specs.declared.operations.Verdict.TheVariants.{Ready}
-use Rattle.origin_model.specs.edits.Edits.{ReadyInTurn, extended}
+use Rattle.origin_model.specs.edits.Edits.{ReadyInTurn, history_with}
 use Rattle.origin_model.specs.edits.Effect.{with_ops}
-use Rattle.origin_model.specs.edits.State.{State, Stands}
+use Rattle.origin_model.specs.edits.State.{State, IsSound}
 use Rattle.origin_model.specs.operations.Verdict.{id_held}
-use Rattle.origin_model.specs.taking.Taking.{Accepted, Held, IsSettled, answer, held_from, taken}
+use Rattle.origin_model.specs.taking.Taking.{Accepted, Held, IsSettled, answer, held_from, held_after}
 use Rattle.origin_model.proofs.edits.EditIntakeLemmas.{Comes, accepts, state_of, takes}
 use Rattle.origin_model.proofs.edits.MadeLemmas.{extended-append, extended_length, lawful_front, ready_front}
 use Rattle.fugue_ids.specs.Runs.{in_a_row, next_id, run_from}
@@ -20,21 +20,21 @@ use Rattle.version_views.specs.Accepting.{CanAccept, IsAccepting}
 use Rattle.origin_model.proofs.SharedLemmas.{id_held-nil}
 
 -- operations that make a history lawful were Ready in their turn
-pub ready_of : (h ops : List Op) → Lawful (extended h ops) → ReadyInTurn h ops
+pub ready_of : (h ops : List Op) → Lawful (history_with h ops) → ReadyInTurn h ops
 ready_of h [] w = tt
 ready_of h (op ∷ ops) w = ((lawful_front ops (op ∷ h) w).0, ready_of (op ∷ h) ops w)
 
-ready_behind : (h xs ys : List Op) → ReadyInTurn h (xs ++ ys) → ReadyInTurn (extended h xs) ys
+ready_behind : (h xs ys : List Op) → ReadyInTurn h (xs ++ ys) → ReadyInTurn (history_with h xs) ys
 ready_behind h [] ys r = r
 ready_behind h (op ∷ xs) ys r = ready_behind (op ∷ h) xs ys r.1
 
 -- the newest one is the last of them
-extended_is : (h ops : List Op) → extended h ops ≡ reverse ops ++ h
+extended_is : (h ops : List Op) → history_with h ops ≡ reverse ops ++ h
 extended_is h [] = refl
 extended_is h (op ∷ ops) =
     extended_is (op ∷ h) ops ∙ sym (append_assoc (reverse ops) (op ∷ []) h) ∙ ap (λ z. z ++ h) (sym (reverse-append (op ∷ []) ops))
 
-pub from_nothing : (ops : List Op) → extended [] ops ≡ reverse ops
+pub from_nothing : (ops : List Op) → history_with [] ops ≡ reverse ops
 from_nothing ops = extended_is [] ops ∙ append-nil (reverse ops)
 
 -- ---- accepted where nothing waits
@@ -52,31 +52,31 @@ come_alone h (op ∷ ops) r = (r.0, id_held-nil (id_of op), settled_alone (op �
 accepted_alone : (hold most : ℕ) (h : List Op) (op : Op) → verdict h op ≡ Ready → length h < most → answer hold most (state_of h []) op ≡ Accepted
 accepted_alone hold most h op r l = accepts hold most h [] op (settled_alone h) r (id_held-nil (id_of op)) (ne_eqb (length h + 0) most (λ e. omega (arith, e, l)))
 
-pub next_is : (s new : State) (op : Op) → CanAccept s (op ∷ []) → new ≡ record s { held = taken (answer s.hold s.most s.held op) s.held op } → new ≡ with_ops s (op ∷ [])
+pub next_is : (s new : State) (op : Op) → CanAccept s (op ∷ []) → new ≡ record s { held = held_after (answer s.hold s.most s.held op) s.held op } → new ≡ with_ops s (op ∷ [])
 next_is s new op can is =
     let alone : answer s.hold s.most (state_of s.held.history []) op ≡ Accepted = accepted_alone s.hold s.most s.held.history op can.ready.0 (omega (arith, can.room)) in
     let a : answer s.hold s.most s.held op ≡ Accepted = (λ i. answer s.hold s.most (state_of s.held.history (can.quiet i)) op) ∙ alone in
-    is ∙ ap (λ z. record s { held = taken z s.held op }) a
+    is ∙ ap (λ z. record s { held = held_after z s.held op }) a
 
 -- and so are all, one after another
 pub all_are : (s new : State) (ops : List Op) → CanAccept s ops → new ≡ record s { held = held_from s.hold s.most s.held ops } → new ≡ with_ops s ops
 all_are s new ops can is =
     let room : length s.held.history + 0 + length ops ≤ s.most = omega (arith, can.room) in
-    let alone : held_from s.hold s.most (state_of s.held.history []) ops ≡ state_of (extended s.held.history ops) [] =
+    let alone : held_from s.hold s.most (state_of s.held.history []) ops ≡ state_of (history_with s.held.history ops) [] =
     (takes s.hold s.most ops s.held.history [] (settled_alone s.held.history) (come_alone s.held.history ops can.ready) room).state in
     is ∙ ap (λ z. record s { held = z })
-    ((λ i. held_from s.hold s.most (state_of s.held.history (can.quiet i)) ops) ∙ alone ∙ (λ i. state_of (extended s.held.history ops) (sym can.quiet i)))
+    ((λ i. held_from s.hold s.most (state_of s.held.history (can.quiet i)) ops) ∙ alone ∙ (λ i. state_of (history_with s.held.history ops) (sym can.quiet i)))
 
 -- ---- part by part
 pub with_more : (s now new : State) (done more : List Op) → now ≡ with_ops s done → new ≡ with_ops now more → new ≡ with_ops s (done ++ more)
 with_more s now new done more was is =
     is ∙ ap (λ (t : State). with_ops t more) was ∙ ap (λ h. record s { held = record { history = h; waiting = s.held.waiting } }) (sym (extended-append s.held.history done more))
 
-pub next_can : (s now : State) (ops done more rest : List Op) → CanAccept s ops → ops ≡ done ++ (more ++ rest) → now ≡ with_ops s done → Stands now → CanAccept now more
+pub next_can : (s now : State) (ops done more rest : List Op) → CanAccept s ops → ops ≡ done ++ (more ++ rest) → now ≡ with_ops s done → IsSound now → CanAccept now more
 next_can s now ops done more rest can parts was stands =
     let h : List Op = s.held.history in
     let ready : ReadyInTurn h (done ++ (more ++ rest)) = subst (ReadyInTurn h) parts can.ready in
-    let here : ReadyInTurn (extended h done) more = ready_front (extended h done) more rest (ready_behind h done (more ++ rest) ready) in
+    let here : ReadyInTurn (history_with h done) more = ready_front (history_with h done) more rest (ready_behind h done (more ++ rest) ready) in
     let long : length ops ≡ length done + (length more + length rest) = ap length parts ∙ length-append done (more ++ rest) ∙ ap (λ k. length done + k) (length-append more rest) in
     record {
       stands = stands;
@@ -101,7 +101,7 @@ module _ (s now : State) (ops rest mid next : List Op) (left : ℕ) (can : CanAc
   pub some_can : CanAccept now (take left mid)
   some_can = next_can s now ops at.done (take left mid) (take (left - length mid) next) can here at.accepted at.stands
 
-  pub goes_on : (new : State) (count : ℕ) → count ≡ min (length mid) left → new ≡ with_ops now (take left mid) → Stands new → IsAccepting s new ops next (left - count)
+  pub goes_on : (new : State) (count : ℕ) → count ≡ min (length mid) left → new ≡ with_ops now (take left mid) → IsSound new → IsAccepting s new ops next (left - count)
   goes_on new count counted accepted stands =
       let e : left - length mid ≡ left - count = omega (arith, counted) in
       record {

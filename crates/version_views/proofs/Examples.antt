@@ -3,14 +3,14 @@ use Rattle.version_views.proofs.Words.{Delete, Identifier, List, None, Note, Op,
 use lib.Utf8.{encode}
 use Rattle.std.specs.List.{repeat}
 unfoldable use Rattle.std.specs.Fmt.{digits}
-use Rattle.origin_model.specs.edits.Edits.{Add, Command, Cut, DropSection, Put, extended, made, noted}
+use Rattle.origin_model.specs.edits.Edits.{Add, Command, Cut, DropSection, Put, history_with, made, noted}
 use Rattle.version_views.specs.Versions.{is_name, version_with, versions}
 use Rattle.version_views.specs.Views.{versions_text, view}
 
 -- the history after edits of replica 1, one after another, where nothing waits
 abbrev edited : List Op → List Command → List Op
 edited h [] = h
-edited h (c ∷ cs) = edited (extended h (made 1 h [] c)) cs
+edited h (c ∷ cs) = edited (history_with h (made 1 h [] c)) cs
 
 -- and after a version is named
 abbrev named : List Op → List ℕ → List Op

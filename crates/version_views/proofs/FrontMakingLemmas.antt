@@ -3,13 +3,13 @@ use Rattle.version_views.proofs.Words.{Lawful, List, None, Op, Some, [], ap, ari
 use Rattle.std.proofs.Common.{append_assoc, length-drop, length-take, reverse}
 use Rattle.std.proofs.lemmas.Bool.{le-ltb, lt-ltb}
 use Rattle.std.proofs.lemmas.List.{length-reverse, reverse-append, reverse-reverse}
-use Rattle.origin_model.specs.edits.Edits.{ReadyInTurn, extended}
+use Rattle.origin_model.specs.edits.Edits.{ReadyInTurn, history_with}
 use Rattle.origin_model.specs.edits.Effect.{Gains, with_ops}
-use Rattle.origin_model.specs.edits.State.{State, Stands}
+use Rattle.origin_model.specs.edits.State.{State, IsSound}
 use Rattle.origin_model.specs.taking.Taking.{Held, held, held_from, nothing_held}
 use Rattle.origin_model.proofs.SharedLemmas.{Lawful-append, first_accepted, held-append}
 use Rattle.version_views.specs.Accepting.{CanAccept}
-use Rattle.version_views.specs.Fronts.{EditsGrow, FilesGrow, FirstStay, Grows, IntakesGrow, NotesGrow, PartsGrow, front_at, front_most, front_of}
+use Rattle.version_views.specs.Fronts.{EditsGrow, FilesGrow, FirstStay, GrowsHistory, IntakesGrow, NotesGrow, PartsGrow, front_at, front_most, replica_at}
 use Rattle.version_views.specs.Views.{first_ops}
 use Rattle.version_views.proofs.AcceptingLemmas.{from_nothing, ready_of}
 use Rattle.version_views.proofs.ViewLemmas.{first_stay, parts}
@@ -34,20 +34,20 @@ pub first_lawful : (n : ℕ) (h : List Op) → Lawful h → Lawful (reverse (tak
 first_lawful n h w =
     subst Lawful (sym (first_taken n h)) (Lawful-append (take (length h - n) h) (first_ops n h) (subst Lawful (sym (parts n h)) w))
 
-pub first_fit : (n : ℕ) (s : State) → n ≤ length s.held.history → Stands s → length (take n (reverse s.held.history)) ≤ front_most n s
+pub first_fit : (n : ℕ) (s : State) → n ≤ length s.held.history → IsSound s → length (take n (reverse s.held.history)) ≤ front_most n s
 first_fit n s l st = omega (arith, l, st.few, st.most_within.1, length-take n (reverse s.held.history), length-reverse s.held.history)
 
-pub front_is : (n : ℕ) (s begun new : State) → begun ≡ record (front_of n s) { held = nothing_held }
-    → new ≡ with_ops begun (take n (reverse s.held.history)) → new ≡ front_of n s
+pub front_is : (n : ℕ) (s begun new : State) → begun ≡ record (replica_at n s) { held = nothing_held }
+    → new ≡ with_ops begun (take n (reverse s.held.history)) → new ≡ replica_at n s
 front_is n s begun new b e =
     let first : List Op = take n (reverse s.held.history) in
-    e ∙ ap (λ (t : State). with_ops t first) b ∙ ap (λ h. record (front_of n s) { held = record { history = h; waiting = [] } }) (from_nothing first ∙ first_taken n s.held.history)
+    e ∙ ap (λ (t : State). with_ops t first) b ∙ ap (λ h. record (replica_at n s) { held = record { history = h; waiting = [] } }) (from_nothing first ∙ first_taken n s.held.history)
 
 -- the replica that holds nothing yet can accept them
-pub first_can : (n : ℕ) (s begun : State) → n ≤ length s.held.history → Stands s → Stands begun → begun ≡ record (front_of n s) { held = nothing_held } → CanAccept begun (take n (reverse s.held.history))
+pub first_can : (n : ℕ) (s begun : State) → n ≤ length s.held.history → IsSound s → IsSound begun → begun ≡ record (replica_at n s) { held = nothing_held } → CanAccept begun (take n (reverse s.held.history))
 first_can n s begun l st stands b =
     let first : List Op = take n (reverse s.held.history) in
-    let lawful : Lawful (extended [] first) = subst Lawful (sym (from_nothing first)) (first_lawful n s.held.history st.lawful) in
+    let lawful : Lawful (history_with [] first) = subst Lawful (sym (from_nothing first)) (first_lawful n s.held.history st.lawful) in
     let room : 0 + length first ≤ front_most n s = omega (arith, first_fit n s l st) in
     record {
       stands = stands;
@@ -56,21 +56,21 @@ first_can n s begun l st stands b =
       room = subst (λ (t : State). length t.held.history + length first ≤ t.most) (sym b) room;
     }
 
-pub some_front : (n : ℕ) (s new : State) → n ≤ length s.held.history → new ≡ front_of n s → Some new ≡ front_at n s
+pub some_front : (n : ℕ) (s new : State) → n ≤ length s.held.history → new ≡ replica_at n s → Some new ≡ front_at n s
 some_front n s new l e = rw (le-ltb (length s.held.history) n l) (ap Some e)
 
 pub no_front : (n : ℕ) (s : State) → length s.held.history < n → None ≡ front_at n s
 no_front n s l = rw (lt-ltb (length s.held.history) n l) refl
 
 -- ---- what was accepted stays
-grown_by : (ops h : List Op) → Grows h (extended h ops)
+grown_by : (ops h : List Op) → GrowsHistory h (history_with h ops)
 grown_by [] h = record { newer = []; grown = refl }
 grown_by (op ∷ ops) h =
     let later = grown_by ops (op ∷ h) in
     record { newer = later.newer ++ op ∷ []; grown = later.grown ∙ sym (append_assoc later.newer (op ∷ []) h) }
 
-grown_gaining : (old new : State) (ops : List Op) → Gains old new ops → Grows old.held.history new.held.history
-grown_gaining old new ops g = subst (λ (s : State). Grows old.held.history s.held.history) (sym g.others) (grown_by ops old.held.history)
+grown_gaining : (old new : State) (ops : List Op) → Gains old new ops → GrowsHistory old.held.history new.held.history
+grown_gaining old new ops g = subst (λ (s : State). GrowsHistory old.held.history s.held.history) (sym g.others) (grown_by ops old.held.history)
 
 pub intakes_grow : IntakesGrow
 intakes_grow hold most s ops =
@@ -83,7 +83,7 @@ intakes_grow hold most s ops =
 
 pub files_grow : FilesGrow
 files_grow hold most ops more =
-    subst (λ (s : Held). Grows (held hold most ops).history s.history) (held-append hold most nothing_held ops more)
+    subst (λ (s : Held). GrowsHistory (held hold most ops).history s.history) (held-append hold most nothing_held ops more)
     (intakes_grow hold most (held hold most ops) more)
 
 pub edits_grow : EditsGrow

@@ -4,8 +4,8 @@ use Rattle.std.specs.List.{Contains}
 use Rattle.std.proofs.lemmas.Bool.{eqb-true}
 use Rattle.std.proofs.lemmas.List.Elements.{Contains-append_cases, Contains-append_left, Contains-append_right}
 use Rattle.fugue_ids.proofs.ListLemmas.{contains_cases, contains_here, contains_none}
-use Rattle.version_views.specs.Laws.{IsGiven, VersionsAreGiven}
-use Rattle.version_views.specs.Versions.{Version, is_withdrawn, name_given, name_in, op_behind, versions_up_to}
+use Rattle.version_views.specs.Laws.{GivesName, VersionsAreGiven}
+use Rattle.version_views.specs.Versions.{Version, is_withdrawn_version, name_given, name_in, op_behind, versions_up_to}
 
 -- an operation among the oldest ones names the version
 record Names (r : ℕ) (history ops : List Op) (v : Version) : Type 0 where
@@ -75,9 +75,9 @@ is_there r history (op ∷ older) v n =
 pub versions_are_given : VersionsAreGiven
 versions_are_given h r v = ((λ c. by_names (names_it r h h v c)), (λ g. is_there r h h v (record { op = g.op; stands = g.stands; named = ap (named_by r g.op) g.not_withdrawn ∙ g.gives })))
   where
-    by_names : Names r h h v → IsGiven h r v
+    by_names : Names r h h v → GivesName h r v
     by_names n =
-        elim (cases_Bool (is_withdrawn h n.op)) [
+        elim (cases_Bool (is_withdrawn_version h n.op)) [
           | inl k ↦ let e : None ≡ Some v.name = sym (ap (named_by r n.op) k) ∙ n.named in cc
           | inr k ↦ record { op = n.op; stands = n.stands; gives = sym (ap (named_by r n.op) k) ∙ n.named; not_withdrawn = k }
         ]

@@ -6,7 +6,7 @@ use Rattle.origin_model.specs.declared.edit_fault.EditFault.{EditFault}
 use Rattle.origin_model.specs.declared.edit_fault.EditFault.TheVariants.{IdsSpent as NoteIdsSpent, NoMemory as NoteNoMemory, NoSection, OutOfRange, TooMany as NoteTooMany}
 use Rattle.origin_model.specs.edits.Effect.{with_ops}
 use Rattle.origin_model.specs.edits.Noting.{RefusesNote, note_by}
-use Rattle.origin_model.specs.edits.State.{Stands, State}
+use Rattle.origin_model.specs.edits.State.{IsSound, State}
 use Rattle.origin_model.proofs.SharedLemmas.{not_hidden_before, when_ready}
 use Rattle.version_views.specs.declared.limits.TheConstants.{VERSION_CODE}
 use Rattle.version_views.specs.declared.naming.VersionFault.{VersionFault}
@@ -27,10 +27,10 @@ counts h id name good w =
     ∙ ap (λ o. elim o [ None ↦ false | Some body ↦ pointwise nat_eq body name ]) given ∙ nat_list_eq_equiv.refl name in
     last_is_newest id.replica (op ∷ h) name (op ∷ h) ∙ ap (λ b. if b then Some (length h) else newest id.replica (op ∷ h) name h) is_it
 
-pub named_counts : (old new : State) (name : List ℕ) → is_name name ≡ true → new ≡ with_ops old (note_by old [] VERSION_CODE name ∷ []) → Stands new
+pub named_counts : (old new : State) (name : List ℕ) → is_name name ≡ true → new ≡ with_ops old (note_by old [] VERSION_CODE name ∷ []) → IsSound new
     → version_with new.held.history new.number name ≡ Some (length old.held.history)
 named_counts old new name good is stands =
-    let after : Stands (with_ops old (note_by old [] VERSION_CODE name ∷ [])) = subst Stands is stands in
+    let after : IsSound (with_ops old (note_by old [] VERSION_CODE name ∷ [])) = subst IsSound is stands in
     subst (λ s. version_with s.held.history s.number name ≡ Some (length old.held.history)) (sym is) (counts old.held.history _ name good after.lawful)
 
 not_memory : (fault : VersionFault) → fault ≢ NoMemory → as_note_fault fault ≢ NoteNoMemory

@@ -8,7 +8,7 @@ use Rattle.version_views.proofs.Words.{Delete, Note, Section, Text, take}
 use Rattle.replica_core.specs.Index.{is_section_or_note}
 use Rattle.replica_core.proofs.WalkLemmas.{passed_more}
 use Rattle.version_views.specs.Laws.{LaterOpsLeaveVersion, LaterOpsLeaveWritten, VersionIsWithin, leaves_version}
-use Rattle.version_views.specs.Versions.{Version, is_version, is_version_at, is_withdrawn, last_named, name_given, name_in, name_in_at, op_behind, version_with, versions_up_to, withdraws, withdraws_note}
+use Rattle.version_views.specs.Versions.{Version, is_version, is_version_at, is_withdrawn_version, last_named, name_given, name_in, name_in_at, op_behind, version_with, versions_up_to, withdraws, withdraws_note}
 use Rattle.version_views.specs.Views.{view}
 use Rattle.version_views.proofs.ViewLemmas.{later_ops_leave_view}
 
@@ -100,7 +100,7 @@ abbrev named_by : ℕ → List ℕ → Op → Bool → Bool
 named_by r name op b = elim (if b then None else name_given r op) [ None ↦ false | Some body ↦ pointwise nat_eq body name ]
 
 -- what is withdrawn stays so
-withdrawn_stays : (new h : List Op) (op : Op) → is_withdrawn h op ≡ true → is_withdrawn (new ++ h) op ≡ true
+withdrawn_stays : (new h : List Op) (op : Op) → is_withdrawn_version h op ≡ true → is_withdrawn_version (new ++ h) op ≡ true
 withdrawn_stays new h op e =
     elim (id_of op) as (λ (o : Option Identifier). (elim o [ None ↦ false | Some i ↦ is_hidden h i ]) ≡ true → (elim o [ None ↦ false | Some i ↦ is_hidden (new ++ h) i ]) ≡ true) [
       | None ↦ λ k. k
@@ -110,9 +110,9 @@ withdrawn_stays new h op e =
 -- what is no version becomes none
 none_stays : (r : ℕ) (new h : List Op) (name : List ℕ) (op : Op) → is_version r h name op ≡ false → is_version r (new ++ h) name op ≡ false
 none_stays r new h name op e =
-    elim (cases_Bool (is_withdrawn (new ++ h) op)) [
+    elim (cases_Bool (is_withdrawn_version (new ++ h) op)) [
       | inl k ↦ ap (named_by r name op) k
-      | inr k ↦ elim (cases_Bool (is_withdrawn h op)) [
+      | inr k ↦ elim (cases_Bool (is_withdrawn_version h op)) [
         | inl w ↦ absurd (true≢false (sym (withdrawn_stays new h op w) ∙ k))
         | inr w ↦ ap (named_by r name op) (k ∙ sym w) ∙ e
       ]
@@ -122,7 +122,7 @@ none_stays r new h name op e =
 abbrev kept_by : List Op → Op → Bool
 kept_by new op = elim (id_of op) [ None ↦ true | Some i ↦ not (is_hidden new i) ]
 
-withdrawn_same : (new h : List Op) (op : Op) → kept_by new op ≡ true → is_withdrawn (new ++ h) op ≡ is_withdrawn h op
+withdrawn_same : (new h : List Op) (op : Op) → kept_by new op ≡ true → is_withdrawn_version (new ++ h) op ≡ is_withdrawn_version h op
 withdrawn_same new h op e =
     elim (id_of op) as (λ (o : Option Identifier). (elim o [ None ↦ true | Some i ↦ not (is_hidden new i) ]) ≡ true
     → (elim o [ None ↦ false | Some i ↦ is_hidden (new ++ h) i ]) ≡ (elim o [ None ↦ false | Some i ↦ is_hidden h i ])) [
@@ -141,7 +141,7 @@ newest_stays r new h name (op ∷ older) f =
       | inl k ↦
           let found : newest r h name (op ∷ older) ≡ Some (length older) = ap (step h) k in
           let at : op_behind (op ∷ older) (length older) ≡ Some op = ap (λ b. if b then Some op else op_behind older (length older)) (eq-eqb (length older) (length older) refl) in
-          let same : is_withdrawn (new ++ h) op ≡ is_withdrawn h op = withdrawn_same new h op (f (length older) op found at) in
+          let same : is_withdrawn_version (new ++ h) op ≡ is_withdrawn_version h op = withdrawn_same new h op (f (length older) op found at) in
           ap (step (new ++ h)) (ap (named_by r name op) same ∙ k) ∙ sym found
       | inr k ↦
           ap (step (new ++ h)) (none_stays r new h name op k)

@@ -8,7 +8,7 @@ use Rattle.std.proofs.lemmas.Bool.{or_right}
 use Rattle.version_views.specs.Laws.{FirstByFilter, LaterOpsLeaveView, OrderByFilter, ShownByFilter}
 use Rattle.std.specs.Prelude.{Some, if◌then◌else◌, is_some, ◌||◌}
 use Rattle.origin_model.specs.order.Printed.{deletes}
-use Rattle.replica_core.specs.Index.{position_of}
+use Rattle.replica_core.specs.Index.{newest_position}
 use Rattle.version_views.specs.Views.{first_ops}
 
 -- the order of a lawful front is the order of the whole, filtered
@@ -39,7 +39,7 @@ pub later_ops_leave_view : LaterOpsLeaveView
 later_ops_leave_view n new h l = ap manuscript (first_stay n new h l)
 
 -- a target has a position where a Delete names it
-pub has_position : (h : List Op) (x : Identifier) → is_some (position_of (deletes x) h) ≡ is_hidden h x
+pub has_position : (h : List Op) (x : Identifier) → is_some (newest_position (deletes x) h) ≡ is_hidden h x
 has_position [] x = refl
 has_position (op ∷ h) x =
-    elim (deletes x op) as (λ (b : Bool). is_some (if b then Some (length h) else position_of (deletes x) h) ≡ (b || is_hidden h x)) [ true ↦ refl | false ↦ has_position h x ]
+    elim (deletes x op) as (λ (b : Bool). is_some (if b then Some (length h) else newest_position (deletes x) h) ≡ (b || is_hidden h x)) [ true ↦ refl | false ↦ has_position h x ]

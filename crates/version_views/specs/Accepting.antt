@@ -3,11 +3,11 @@ use Rattle.std.specs.Prelude.{◌≡◌, ℕ, ◌+◌, ◌≤◌, List, [], ◌+
 use Rattle.fugue_ids.specs.declared.op.Op.{Op}
 use Rattle.origin_model.specs.edits.Edits.{ReadyInTurn}
 use Rattle.origin_model.specs.edits.Effect.{with_ops}
-use Rattle.origin_model.specs.edits.State.{State, Stands}
+use Rattle.origin_model.specs.edits.State.{State, IsSound}
 
 -- the operations can be accepted, one after another
 pub record CanAccept (s : State) (ops : List Op) : Type 0 where
-  pub stands : Stands s
+  pub stands : IsSound s
   pub quiet : s.held.waiting ≡ []
   pub ready : ReadyInTurn s.held.history ops
   pub room : length s.held.history + length ops ≤ s.most
@@ -17,4 +17,4 @@ pub record IsAccepting (begun now : State) (ops rest : List Op) (left : ℕ) : T
   pub done : List Op
   pub parts : ops ≡ done ++ take left rest
   pub accepted : now ≡ with_ops begun done
-  pub stands : Stands now
+  pub stands : IsSound now

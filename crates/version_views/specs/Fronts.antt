@@ -20,8 +20,8 @@ abbrev pub front_most : ℕ → State → ℕ
 front_most n s = max (MOST_OPERATIONS - held_besides n s) 1
 
 -- the replica as it was when it had accepted n operations, with nothing pending
-abbrev pub front_of : ℕ → State → State
-front_of n s = record {
+abbrev pub replica_at : ℕ → State → State
+replica_at n s = record {
   number = s.number;
   hold = s.hold;
   most = front_most n s;
@@ -30,31 +30,33 @@ front_of n s = record {
 
 -- None where fewer were accepted
 abbrev pub front_at : ℕ → State → Option State
-front_at n s = if nat_lt (length s.held.history) n then None else Some (front_of n s)
+front_at n s = if nat_lt (length s.held.history) n then None else Some (replica_at n s)
 
 -- what was accepted stays: what came later is newer, and nothing is gone
-pub record Grows (old new : List Op) : Type 0 where
+pub record GrowsHistory (old new : List Op) : Type 0 where
   pub newer : List Op
   pub grown : new ≡ newer ++ old
 
 -- operations that are taken in leave what was accepted, whatever the answers
 abbrev pub IntakesGrow : Type 0
-IntakesGrow = (hold most : ℕ) (s : Held) (ops : List Op) → Grows s.history (held_from hold most s ops).history
+IntakesGrow = (hold most : ℕ) (s : Held) (ops : List Op) → GrowsHistory s.history (held_from hold most s ops).history
 
 -- and so do operations that a file gains
 abbrev pub FilesGrow : Type 0
-FilesGrow = (hold most : ℕ) (ops more : List Op) → Grows (held hold most ops).history (held hold most (ops ++ more)).history
+FilesGrow = (hold most : ℕ) (ops more : List Op) → GrowsHistory (held hold most ops).history (held hold most (ops ++ more)).history
 
 -- so do edits, whole or in part, and notes
 abbrev pub EditsGrow : Type 0
-EditsGrow = (old new : State) (command : Command) (n : ℕ) → IsMade old new command n → Grows old.held.history new.held.history
+EditsGrow = (old new : State) (command : Command) (n : ℕ) → IsMade old new command n → GrowsHistory old.held.history new.held.history
 
+-- what an edit leaves that was stopped on its way has the old history at its beginning
 abbrev pub PartsGrow : Type 0
-PartsGrow = (old new : State) (ops : List Op) → StopsPartly old new ops → Grows old.held.history new.held.history
+PartsGrow = (old new : State) (ops : List Op) → StopsPartly old new ops → GrowsHistory old.held.history new.held.history
 
+-- what a note leaves has the old history at its beginning
 abbrev pub NotesGrow : Type 0
-NotesGrow = (old new : State) (named : List Identifier) (code : ℕ) (body : List ℕ) (n : ℕ) → IsNoted old new named code body n → Grows old.held.history new.held.history
+NotesGrow = (old new : State) (named : List Identifier) (code : ℕ) (body : List ℕ) (n : ℕ) → IsNoted old new named code body n → GrowsHistory old.held.history new.held.history
 
 -- so the first operations are the same ones later
 abbrev pub FirstStay : Type 0
-FirstStay = (n : ℕ) (old new : List Op) → Grows old new → n ≤ length old → first_ops n new ≡ first_ops n old
+FirstStay = (n : ℕ) (old new : List Op) → GrowsHistory old new → n ≤ length old → first_ops n new ≡ first_ops n old

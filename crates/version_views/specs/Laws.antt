@@ -7,7 +7,7 @@ use Rattle.origin_model.specs.operations.History.{holds}
 use Rattle.origin_model.specs.operations.Verdict.{Lawful}
 use Rattle.origin_model.specs.order.Order.{order}
 use Rattle.origin_model.specs.order.Printed.{is_hidden, shown}
-use Rattle.version_views.specs.Versions.{Version, is_version, is_withdrawn, name_given, op_behind, version_with, versions, withdraws}
+use Rattle.version_views.specs.Versions.{Version, is_version, is_withdrawn_version, name_given, op_behind, version_with, versions, withdraws}
 use Rattle.version_views.specs.Views.{first_ops, view}
 
 -- the order of the operations that were accepted first is that of all, without what they lack
@@ -49,15 +49,15 @@ LaterOpsLeaveWritten = (r : ℕ) (name : List ℕ) (new h : List Op) → All (λ
     → view_named (new ++ h) r name ≡ view_named h r name
 
 -- the operation that has so many before it gives the name in a file of the replica r, and no Delete names it
-pub record IsGiven (h : List Op) (r : ℕ) (v : Version) : Type 0 where
+pub record GivesName (h : List Op) (r : ℕ) (v : Version) : Type 0 where
   pub op : Op
   pub stands : op_behind h v.count ≡ Some op
   pub gives : name_given r op ≡ Some v.name
-  pub not_withdrawn : is_withdrawn h op ≡ false
+  pub not_withdrawn : is_withdrawn_version h op ≡ false
 
 -- a file has just the versions that are given
 abbrev pub VersionsAreGiven : Type 0
-VersionsAreGiven = (h : List Op) (r : ℕ) (v : Version) → Contains (versions h r) v ↔ IsGiven h r v
+VersionsAreGiven = (h : List Op) (r : ℕ) (v : Version) → Contains (versions h r) v ↔ GivesName h r v
 
 -- a version has operations of the history, and not its own note
 abbrev pub VersionIsWithin : Type 0

@@ -24,12 +24,12 @@ name_given r (Note id [] code body) = if nat_eq code VERSION_CODE && nat_eq id.r
 name_given r _ = None
 
 -- a Delete of the history withdraws the note
-abbrev pub is_withdrawn : List Op → Op → Bool
-is_withdrawn history op = elim (id_of op) [ None ↦ false | Some i ↦ note_withdrawn history i ]
+abbrev pub is_withdrawn_version : List Op → Op → Bool
+is_withdrawn_version history op = elim (id_of op) [ None ↦ false | Some i ↦ note_withdrawn history i ]
 
 -- the name of the version that an operation is
 abbrev pub name_in : ℕ → List Op → Op → Option (List ℕ)
-name_in r history op = if is_withdrawn history op then None else name_given r op
+name_in r history op = if is_withdrawn_version history op then None else name_given r op
 
 -- that of the operation that has n before it
 abbrev pub name_in_at : ℕ → List Op → ℕ → Option (List ℕ)

@@ -4,7 +4,7 @@ ghost use Rattle.fugue_ids.specs.Runs.{run_from};
 ghost use Rattle.op_runs.specs.Deletions.{CountersFit, deletes_by};
 ghost use Rattle.op_runs.specs.Slices.{HasCounters, stretch_ops};
 ghost use Rattle.origin_model.specs.edits.Effect.{with_ops};
-ghost use Rattle.origin_model.specs.edits.State.{Stands};
+ghost use Rattle.origin_model.specs.edits.State.{IsSound};
 ghost use Rattle.version_views.specs.Accepting.{CanAccept};
 
 use fugue_ids::{NoMemory, Op, RunStart};
@@ -16,7 +16,7 @@ use std::alloc::Global;
 fn accept(front: &mut Replica, op: Op) -> Result<(), NoMemory>
     requires { CanAccept front.old (op ∷ []) }
     ensures ok { OnOk result (front.new ≡ with_ops front.old (op ∷ [])) }
-    ensures stands { OnOk result (Stands front.new) }
+    ensures stands { OnOk result (IsSound front.new) }
 {
     match front.deliver(op) {
         Ok(_) => Ok(()),
@@ -29,7 +29,7 @@ fn accept_run(front: &mut Replica, start: &RunStart, text: &[char]) -> Result<()
     requires counters { start.now.id.counter + length text.now ≤ 2 ^ 32 }
     requires can { CanAccept front.old (run_from start.now text.now) }
     ensures ok { OnOk result (front.new ≡ with_ops front.old (run_from start.now text.now)) }
-    ensures stands { OnOk result (Stands front.new) }
+    ensures stands { OnOk result (IsSound front.new) }
 {
     let mut tally = Tally::default();
     match front.feed_run(start, text, &mut tally) {
@@ -45,7 +45,7 @@ fn accept_deletes(front: &mut Replica, deletes: &Deletes, count: u32) -> Result<
     requires can { CanAccept front.old (deletes_by deletes.now.down deletes.now.target count) }
     ensures ok { OnOk result (front.new
         ≡ with_ops front.old (deletes_by deletes.now.down deletes.now.target count)) }
-    ensures stands { OnOk result (Stands front.new) }
+    ensures stands { OnOk result (IsSound front.new) }
 {
     let mut done = 0;
     'deletes: while done < count {
@@ -68,7 +68,7 @@ fn accept_some(
     requires can { CanAccept front.old (take most (stretch_ops stretch.now)) }
     ensures count { IfOk result (λ count. count ≡ min (length (stretch_ops stretch.now)) most) }
     ensures ok { OnOk result (front.new ≡ with_ops front.old (take most (stretch_ops stretch.now))) }
-    ensures stands { OnOk result (Stands front.new) }
+    ensures stands { OnOk result (IsSound front.new) }
 {
     match stretch {
         Stretch::Typed(start, text) => {
@@ -97,7 +97,7 @@ pub(crate) fn accept_all(
 ) -> Result<(), NoMemory>
     requires { CanAccept front.old (take count ops) }
     ensures ok { OnOk result (front.new ≡ with_ops front.old (take count ops.entry)) }
-    ensures stands { OnOk result (Stands front.new) }
+    ensures stands { OnOk result (IsSound front.new) }
 {
     let mut rest = ops;
     let mut left = count;

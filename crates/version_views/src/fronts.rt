@@ -1,9 +1,9 @@
 //! A replica as it was when it had accepted so many operations.
 ghost use Rattle.std.specs.Prelude.{◌≡◌, ◌<◌, ◌≤◌, IfOk, IfSome, None, Ok, length};
 ghost use Rattle.fugue_ids.specs.declared.limits.TheConstants.{MOST_OPERATIONS as most_operations};
-ghost use Rattle.origin_model.specs.edits.State.{Stands};
+ghost use Rattle.origin_model.specs.edits.State.{IsSound};
 ghost use Rattle.origin_model.specs.taking.Taking.{IsSettled, nothing_held};
-ghost use Rattle.version_views.specs.Fronts.{front_at, front_most as front_most_of, front_of};
+ghost use Rattle.version_views.specs.Fronts.{front_at, front_most as front_most_of, replica_at};
 
 use crate::accepting::accept_all;
 use fugue_ids::{MOST_OPERATIONS, NoMemory};
@@ -16,7 +16,7 @@ fn front_most(replica: &Replica, count: usize) -> u32
     ensures most { result ≡ front_most_of count replica.now }
     ensures some { 0 < result }
     ensures within { result ≤ most_operations }
-    ensures stands { Stands replica.now }
+    ensures stands { IsSound replica.now }
 {
     let besides = replica.accepted().len() - count + replica.waiting().len();
     (MOST_OPERATIONS - besides as u32).max(1)
@@ -25,8 +25,8 @@ fn front_most(replica: &Replica, count: usize) -> u32
 /// What the front of so many was before it accepted anything.
 fn new_front(alloc: Global, replica: &Replica, count: usize) -> Replica
     requires { count ≤ length replica.now.held.history }
-    ensures new { result ≡ record (front_of count replica.now) { held = nothing_held } }
-    ensures stands { Stands result }
+    ensures new { result ≡ record (replica_at count replica.now) { held = nothing_held } }
+    ensures stands { IsSound result }
 {
     let most = front_most(replica, count);
     match Replica::new(alloc, replica.number(), replica.hold(), most) {
@@ -43,11 +43,11 @@ fn new_front(alloc: Global, replica: &Replica, count: usize) -> Replica
 pub fn front(alloc: Global, replica: &Replica, count: usize) -> Result<Option<Replica>, NoMemory>
     ensures front { IfOk result (λ front. front ≡ front_at count replica.now) }
     ensures none { result ≡ Ok None → length replica.now.held.history < count }
-    ensures some { IfOk result (λ front. IfSome front (λ f. f ≡ front_of count replica.now)) }
+    ensures some { IfOk result (λ front. IfSome front (λ f. f ≡ replica_at count replica.now)) }
     ensures within { IfOk result (λ front. IfSome front (λ f. count ≤ length replica.now.held.history)) }
     ensures settled { IfOk result (λ front. IfSome front (λ f. IsSettled f.held)) }
-    ensures fronts_stand { IfOk result (λ front. IfSome front (λ f. Stands f)) }
-    ensures stands { Stands replica.now }
+    ensures fronts_stand { IfOk result (λ front. IfSome front (λ f. IsSound f)) }
+    ensures stands { IsSound replica.now }
 {
     let ops = replica.accepted();
     if ops.len() < count {

@@ -1,6 +1,6 @@
 ghost use Rattle.std.specs.Prelude.{◌≡◌, option_map};
-ghost use Rattle.origin_model.specs.edits.State.{Stands};
-ghost use Rattle.version_views.specs.Versions.{is_name as is_name_of, is_withdrawn as withdrawn_in};
+ghost use Rattle.origin_model.specs.edits.State.{IsSound};
+ghost use Rattle.version_views.specs.Versions.{is_name as is_name_of, is_withdrawn_version as withdrawn_in};
 ghost use Rattle.version_views.specs.Versions.{is_version_at, name_given, name_in, name_in_at, version_with};
 
 use crate::{LONGEST_NAME, VERSION_CODE};
@@ -83,7 +83,7 @@ fn is_named(replica: &Replica, count: usize, name: &str) -> bool
 /// How many operations the version with the name has: the last one of that name.
 pub fn find_version(replica: &Replica, name: &str) -> Option<usize>
     ensures version { result ≡ version_with replica.now.held.history replica.now.number name.now }
-    ensures stands { Stands replica.now }
+    ensures stands { IsSound replica.now }
 {
     let mut found = None;
     'walk: for count in replica.sections_and_notes() {

@@ -1,6 +1,6 @@
 ghost use Rattle.std.specs.Prelude.{◌≡◌, [], Some, true, length, IfOk, OnErr, OnOk};
 ghost use Rattle.origin_model.specs.edits.Noting.{IsNoted, ShowsAsBefore};
-ghost use Rattle.origin_model.specs.edits.State.{Stands};
+ghost use Rattle.origin_model.specs.edits.State.{IsSound};
 ghost use Rattle.origin_model.specs.taking.Taking.{IsSettled};
 ghost use Rattle.version_views.specs.Naming.{RefusesVersion, without_position};
 ghost use Rattle.version_views.specs.Versions.{is_name as is_name_of, version_with};
@@ -30,7 +30,7 @@ pub fn name_version(replica: &mut Replica, name: Body) -> Result<u32, VersionFau
     ensures shown { ShowsAsBefore replica.old replica.new }
     ensures unmade { OnErr result (replica.new ≡ replica.old) }
     ensures settled { IsSettled replica.new.held }
-    ensures stands { Stands replica.new }
+    ensures stands { IsSound replica.new }
 {
     let names = NoteNames::read(&[]).unwrap();
     match replica.note(names, VERSION_CODE, name) {

@@ -7,7 +7,7 @@ ghost use Rattle.fugue_ids.specs.Gathers.{GathersText};
 ghost use Rattle.fugue_ids.specs.Outs.{WritesBytes};
 ghost use Rattle.op_runs.specs.Finding.{op_of};
 ghost use Rattle.origin_model.specs.declared.operations.Place.TheVariants.{Catalogue as catalogue, Section as within};
-ghost use Rattle.origin_model.specs.edits.State.{Stands};
+ghost use Rattle.origin_model.specs.edits.State.{IsSound};
 ghost use Rattle.origin_model.specs.operations.History.{holder};
 ghost use Rattle.origin_model.specs.order.Order.{order};
 ghost use Rattle.origin_model.specs.order.Printed.{is_hidden as hidden_in, scalar_of, title_of};
@@ -128,7 +128,7 @@ fn put_elements<O: Out>(
 fn elements_of(replica: &Replica, section: ElementId) -> &SectionList
     requires { Contains (order catalogue replica.now.held.history) section }
     ensures elements { section_cell_ids result.now.cells ≡ order (within section) replica.now.held.history }
-    ensures stands { Stands replica.now }
+    ensures stands { IsSound replica.now }
 {
     let list = replica.places().section(section).unwrap();
     list
@@ -175,7 +175,7 @@ fn put_sections<O: Out>(
     requires { n ≤ length replica.now.held.history }
     ensures text { GathersText (O.seen output.old) (O.seen output.new) gather.old gather.new result
         (view replica.now.held.history n) }
-    ensures stands { Stands replica.now }
+    ensures stands { IsSound replica.now }
 {
     let catalogue = replica.places().catalogue();
     let mut next = catalogue.after(None);
@@ -189,7 +189,7 @@ fn put_sections<O: Out>(
 fn write_first<O: Sink>(replica: &Replica, n: usize, output: &mut O) -> Result<(), Failed>
     requires { n ≤ length replica.now.held.history }
     ensures text { WritesBytes (O.seen output.old) (O.seen output.new) result (view replica.now.held.history n) }
-    ensures stands { Stands replica.now }
+    ensures stands { IsSound replica.now }
 {
     let mut gather = Gather::new();
     put_sections(&mut gather, output, replica, n)?;
@@ -202,7 +202,7 @@ pub fn write_view<O: Sink>(replica: &Replica, n: usize, output: &mut O) -> Resul
     requires { n ≤ length replica.now.held.history }
     ensures text { WritesBytes (O.seen output.old) (O.seen output.new) result (view replica.now.held.history n) }
     ensures memory { result ≢ Err ViewFault.NoMemory }
-    ensures stands { Stands replica.now }
+    ensures stands { IsSound replica.now }
 {
     match write_first(replica, n, output) {
         Ok(()) => Ok(()),

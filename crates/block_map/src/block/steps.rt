@@ -5,7 +5,7 @@ ghost use Rattle.std.specs.Ordering.{nat_cmp};
 ghost use Rattle.fugue_ids.specs.Keyed.{IsReplaced};
 ghost use Rattle.block_map.specs.Blocks.{value_at};
 ghost use Rattle.block_map.specs.Columns.{IsFitFor, IsGapFor, IsPlaceOf};
-ghost use Rattle.block_map.specs.Floors.{HasNone, IsGreatest};
+ghost use Rattle.block_map.specs.Floors.{HasNone, IsGreatestKey};
 ghost use Rattle.block_map.specs.Renames.{IsRenamed};
 
 use super::Block;
@@ -140,7 +140,7 @@ impl<V: Copy> Block<V> {
     /// The greatest counter with a value that is at most this one, and its value.
     pub fn floor(&self, counter: u32) -> Option<(u32, V)>
         ensures none { IfNone result (HasNone (λ c. c ≤ counter) (value_at self.now)) }
-        ensures some { IfSome result (IsGreatest nat_cmp (λ c. c ≤ counter) (value_at self.now)) }
+        ensures some { IfSome result (IsGreatestKey nat_cmp (λ c. c ≤ counter) (value_at self.now)) }
     {
         match self.place(counter) {
             Ok(at) => Some((counter, self.values[at])),
@@ -151,7 +151,7 @@ impl<V: Copy> Block<V> {
     /// The greatest counter with a value, and its value.
     pub fn last(&self) -> Option<(u32, V)>
         ensures none { IfNone result (length self.now.counters.items ≡ 0) }
-        ensures some { IfSome result (IsGreatest nat_cmp (λ _. ⊤) (value_at self.now)) }
+        ensures some { IfSome result (IsGreatestKey nat_cmp (λ _. ⊤) (value_at self.now)) }
     {
         self.before(self.counters.len())
     }

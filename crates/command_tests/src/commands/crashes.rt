@@ -7,7 +7,7 @@ use crate::files::PICKS;
 use crate::frames::{NEW, PRINTED};
 use crate::memory::list;
 use manuscript_cli::Status;
-use outer_ports::MemDisk;
+use memory_ports::MemDisk;
 use std::process::Abort;
 
 /// A command that saves: the file, the words, the input and what is noted, and the command that shows the file, with

@@ -6,7 +6,8 @@ use crate::files::has_bytes;
 use crate::frames::{NEW, SAVED};
 use crate::memory::list;
 use manuscript_cli::Status;
-use outer_ports::{MemDisk, MemSink};
+use memory_ports::MemDisk;
+use outer_ports::MemSink;
 use std::process::Abort;
 
 /// It makes of the new file what is saved.

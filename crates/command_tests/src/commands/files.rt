@@ -6,7 +6,8 @@ use crate::assertions::{equal_at, holds_at};
 use crate::frames::{NEW, PRINTED, S, SAVED};
 use crate::memory::list;
 use manuscript_cli::{Status, files_of, read_words};
-use outer_ports::{MemDisk, MemSink, Opening};
+use memory_ports::MemDisk;
+use outer_ports::{MemSink, Opening};
 use std::process::Abort;
 
 /// The frames of the batch of the saved file.

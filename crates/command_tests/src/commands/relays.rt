@@ -5,7 +5,8 @@ use crate::memory::list;
 use crate::sessions::Coming::{Goes, Opens, Says};
 use crate::sessions::{Coming, HELLO, steps};
 use manuscript_cli::Status;
-use outer_ports::{Dock, DockStep, FileDisk, MemDock, MemSink, MemSource, MemWire, SureDock};
+use memory_ports::{MemDock, MemSource, MemWire, SureDock};
+use outer_ports::{Dock, DockStep, FileDisk, MemSink};
 use std::process::Abort;
 
 /// Two sessions bring a frame each, the second one first, and end their texts, the second one first.

@@ -5,7 +5,8 @@ use crate::assertions::{equal, equal_at};
 use crate::frames::{A, B, CUT, D, LOWER_A, LOWER_B, S, X, Y, stream};
 use crate::memory::list;
 use manuscript_cli::Status;
-use outer_ports::{MemSink, MemSource};
+use memory_ports::MemSource;
+use outer_ports::MemSink;
 
 /// The frame of A with a kind that there is not.
 const NO_KIND: &[u8] = b"\0\0\0\0\x01\0\0\0\x01\0\0\0\x09\0\0\0\0\0\x01\0\0\0\x01\0\0\0\0\0\0A";

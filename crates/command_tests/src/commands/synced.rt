@@ -5,9 +5,8 @@ use crate::files::has_bytes;
 use crate::frames::{BEHIND_A, NEW, S, stream};
 use crate::memory::{list, sure_sink};
 use manuscript_cli::Status;
-use outer_ports::{
-    Disk, FileDisk, MemDisk, MemDock, MemSink, MemSource, MemWire, Sink, SureDisk, SureWire, Wire,
-};
+use memory_ports::{MemDisk, MemDock, MemSource, MemWire, SureDisk, SureWire};
+use outer_ports::{Disk, FileDisk, MemSink, Sink, Wire};
 use std::process::Abort;
 
 /// Runs on a file and a wire alone.

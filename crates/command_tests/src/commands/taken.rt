@@ -3,7 +3,8 @@ use crate::assertions::holds_at;
 use crate::frames::{BEHIND_A, NEW, S, stream};
 use crate::memory::{list, sure_disk, sure_sink};
 use manuscript_cli::Status;
-use outer_ports::{MemDisk, MemSink, MemSource, SureDisk};
+use memory_ports::{MemDisk, MemSource, SureDisk};
+use outer_ports::MemSink;
 use std::process::Abort;
 
 /// Frames that are saved at once.

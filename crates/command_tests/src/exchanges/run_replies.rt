@@ -1,10 +1,10 @@
 use super::syncs::{UNCOUNTED, exchanged, replied};
 use crate::assertions::{equal, equal_at};
 use crate::frames::{S, stream};
+use memory_ports::MemWire;
 use op_frame::encode_all;
 use op_runs::OpSlice;
 use origin_model::Tally;
-use outer_ports::MemWire;
 use relay_sync::{SyncFault, Synced};
 use replica_core::Replica;
 

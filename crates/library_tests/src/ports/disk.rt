@@ -2,7 +2,8 @@ mod slow;
 
 use crate::assertions::{equal, equal_at, holds_at};
 use fugue_ids::Failed;
-use outer_ports::{Disk, FileDisk, MemDisk, Opening, Pick, SureDisk};
+use memory_ports::{MemDisk, Pick, SureDisk};
+use outer_ports::{Disk, FileDisk, Opening};
 use slow::leaves;
 use std::fs;
 use std::process::Abort;

@@ -1,12 +1,11 @@
 ghost use Rattle.std.specs.Prelude.{All, IfOk};
-ghost use Rattle.outer_ports.specs.dock.Steps.{HasBytes};
+ghost use Rattle.outer_ports.specs.dock.Steps.{BringsSome};
 
 use super::wire::{self, passes};
 use crate::assertions::{equal, equal_at, holds_at};
 use fugue_ids::{ByteList, Failed};
-use outer_ports::{
-    Dock, DockStep, Latest, Listening, MemDock, MemStep, SureDock, TcpDock, TcpWire,
-};
+use memory_ports::{MemDock, SureDock};
+use outer_ports::{Dock, DockStep, Latest, Listening, MemStep, TcpDock, TcpWire};
 use std::alloc::Global;
 use std::io;
 use std::process::Abort;
@@ -14,7 +13,7 @@ use std::test::Fail;
 
 /// Session 7 says three bytes.
 fn steps(alloc: Global) -> Result<Vec<MemStep>, Fail>
-    ensures { IfOk result (λ steps. All HasBytes steps.items) }
+    ensures { IfOk result (λ steps. All BringsSome steps.items) }
 {
     let bytes = ByteList::new([b'a', b'b', b'c'].to_vec(alloc)?);
     let mut steps = Vec::with_capacity(alloc, 3)?;

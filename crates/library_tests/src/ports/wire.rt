@@ -1,6 +1,7 @@
 use crate::assertions::{equal, holds_at};
 use fugue_ids::Failed;
-use outer_ports::{Dial, Latest, MemWire, SureWire, Wire};
+use memory_ports::{MemWire, SureWire};
+use outer_ports::{Dial, Latest, Wire};
 use std::process::Abort;
 use std::test::Fail;
 

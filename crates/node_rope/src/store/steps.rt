@@ -5,7 +5,7 @@ ghost use Rattle.node_rope.specs.Made.{IsMade, IsKept, IsLess, IsMore, made_coun
 ghost use Rattle.node_rope.specs.Shapes.{shape_at};
 ghost use Rattle.node_rope.specs.Filed.{IsFiled};
 ghost use Rattle.node_rope.specs.Rising.{more};
-ghost use Rattle.node_rope.specs.Reweighed.{shifted};
+ghost use Rattle.node_rope.specs.Reweighed.{reweighed_node};
 
 use super::Store;
 use crate::cells::{Link, Node, Own, Shape};
@@ -70,7 +70,7 @@ impl<T: Drop> Store<T> {
         requires covers { less ≤ (shape_at (shapes_of self.old) link.number).weight + more }
         ensures parent { result ≡ (shape_at (shapes_of self.old) link.number).parent }
         ensures shapes { shapes_of self.new ≡ slice_set (shapes_of self.old) link.number
-            (shifted less more (shape_at (shapes_of self.old) link.number)) }
+            (reweighed_node less more (shape_at (shapes_of self.old) link.number)) }
         ensures values { values_of self.new ≡ values_of self.old }
         ensures count { made_count self.new ≡ made_count self.old }
         ensures kept { IsKept self.old self.new }

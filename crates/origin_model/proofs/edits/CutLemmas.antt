@@ -4,7 +4,7 @@ use Rattle.std.proofs.lemmas.List.{drop-drop}
 use Rattle.origin_model.proofs.operations.ElementLemmas.{one_place}
 use Rattle.origin_model.proofs.operations.FoundedLemmas.{shown_can_go}
 use Rattle.origin_model.proofs.order.{IsIn-held, filter_no, filter_yes, order-member, order-none, order_total}
-use Rattle.origin_model.specs.edits.Edits.{Cut, DropSection, IsEdit, ReadyInTurn, cut_in, deletes_of, extended, made}
+use Rattle.origin_model.specs.edits.Edits.{Cut, DropSection, IsEdit, ReadyInTurn, cut_in, deletes_of, history_with, made}
 use Rattle.origin_model.proofs.edits.SplitLemmas.{Distinct, is_shown, filter_all, get_split}
 use Rattle.std.proofs.lemmas.List.Kept.{AllPairs-filter}
 use Rattle.std.proofs.lemmas.Bool.{not-true}
@@ -49,10 +49,10 @@ shown_without q x h = ap (filter (is_shown (Delete x ∷ h))) (order-none q (Del
 -- what Deletes do
 record Taken (p : Place) (h ops : List Op) (left : List Identifier) : Type 0 where
   ready : ReadyInTurn h ops
-  lawful : Lawful (extended h ops)
-  orders : (q : Place) → order q (extended h ops) ≡ order q h
-  here : shown p (extended h ops) ≡ left
-  elsewhere : (q : Place) → q ≢ p → shown q (extended h ops) ≡ shown q h
+  lawful : Lawful (history_with h ops)
+  orders : (q : Place) → order q (history_with h ops) ≡ order q h
+  here : shown p (history_with h ops) ≡ left
+  elsewhere : (q : Place) → q ≢ p → shown q (history_with h ops) ≡ shown q h
 
 -- another place does not show an element
 not_there : (p q : Place) (h : List Op) (x y : Identifier) → Lawful h → q ≢ p → Contains (order p h) x → Contains (shown q h) y → not (id_eq x y) ≡ true
@@ -80,7 +80,7 @@ taking (x ∷ xs) p h a b w e =
     }
 
 -- a cut in a section that is there
-cut_in_takes : (h : List Op) (s : Identifier) (at n : ℕ) → Lawful h → IsEdit (within s) h (cut_in h s at n) at n [] × ((p : Place) → order p (extended h (cut_in h s at n)) ≡ order p h)
+cut_in_takes : (h : List Op) (s : Identifier) (at n : ℕ) → Lawful h → IsEdit (within s) h (cut_in h s at n) at n [] × ((p : Place) → order p (history_with h (cut_in h s at n)) ≡ order p h)
 cut_in_takes h s at n w =
     let p : Place = within s in
     let xs : List Identifier = shown p h in
@@ -98,21 +98,21 @@ cut_in_takes h s at n w =
 -- a cut takes what it was asked for
 pub cut_takes : (r : ℕ) (h w : List Op) (k at n : ℕ) (s : Identifier) → Lawful h → slice_get (shown catalogue h) k ≡ Some s
     → let ops = made r h w (Cut k at n) in
-    IsEdit (within s) h ops at n [] × ((p : Place) → order p (extended h ops) ≡ order p h)
+    IsEdit (within s) h ops at n [] × ((p : Place) → order p (history_with h ops) ≡ order p h)
 cut_takes r h w k at n s v e =
     let ops : made r h w (Cut k at n) ≡ cut_in h s at n = ap (λ o. elim o [ None ↦ [] | Some s ↦ cut_in h s at n ]) e in
-    subst (λ ops. IsEdit (within s) h ops at n [] × ((p : Place) → order p (extended h ops) ≡ order p h)) (sym ops) (cut_in_takes h s at n v)
+    subst (λ ops. IsEdit (within s) h ops at n [] × ((p : Place) → order p (history_with h ops) ≡ order p h)) (sym ops) (cut_in_takes h s at n v)
 
 -- a section is dropped
 pub drop_takes : (r : ℕ) (h w : List Op) (k : ℕ) (s : Identifier) → Lawful h → slice_get (shown catalogue h) k ≡ Some s
     → let ops = made r h w (DropSection k) in
-    IsEdit catalogue h ops k 1 [] × ((p : Place) → order p (extended h ops) ≡ order p h)
+    IsEdit catalogue h ops k 1 [] × ((p : Place) → order p (history_with h ops) ≡ order p h)
 drop_takes r h w k s v e =
     let xs : List Identifier = shown catalogue h in
     let t = taking (s ∷ []) catalogue h (take k xs) (drop (suc k) xs) v (get_split xs k s e) in
     let more : suc k ≡ k + 1 = omega arith in
     let ops : made r h w (DropSection k) ≡ Delete s ∷ [] = ap (λ o. elim o [ None ↦ [] | Some s ↦ Delete s ∷ [] ]) e in
-    subst (λ ops. IsEdit catalogue h ops k 1 [] × ((p : Place) → order p (extended h ops) ≡ order p h)) (sym ops) (
+    subst (λ ops. IsEdit catalogue h ops k 1 [] × ((p : Place) → order p (history_with h ops) ≡ order p h)) (sym ops) (
       record {
         ready = t.ready;
         lawful = t.lawful;

@@ -1,11 +1,11 @@
 -- Small edits, computed from the definitions, at replica 1 that begins with nothing.
 use Rattle.origin_model.proofs.Words.{Delete, Identifier, List, None, Op, Section, Some, Text, [], chain, codes, order, refl, text, within, ℕ, ◌∷◌, ◌≡◌}
-use Rattle.origin_model.specs.edits.Edits.{Command, Put, Cut, Add, DropSection, extended, id_at, made, next_counter, spliced}
+use Rattle.origin_model.specs.edits.Edits.{Command, Put, Cut, Add, DropSection, history_with, id_at, made, next_counter, splice}
 
 -- the history after edits, one after another, where nothing waits
 abbrev edited : List Op → List Command → List Op
 edited h [] = h
-edited h (c ∷ cs) = edited (extended h (made 1 h [] c)) cs
+edited h (c ∷ cs) = edited (history_with h (made 1 h [] c)) cs
 
 -- the section that the first edit makes
 abbrev section : Identifier
@@ -69,5 +69,5 @@ named_by_waiting_ones : next_counter 1 [] (Delete (id_at 1 6) ∷ Delete (id_at 
 named_by_waiting_ones = refl
 
 -- two members give way to one
-splices : spliced {X = ℕ} (1 ∷ 2 ∷ 3 ∷ 4 ∷ []) 1 2 (9 ∷ []) ≡ 1 ∷ 9 ∷ 4 ∷ []
+splices : splice {X = ℕ} (1 ∷ 2 ∷ 3 ∷ 4 ∷ []) 1 2 (9 ∷ []) ≡ 1 ∷ 9 ∷ 4 ∷ []
 splices = refl

@@ -1,7 +1,7 @@
 -- On a settled state an edit is the taking in of its operations: each is accepted, and nothing that waits is decided.
 use Rattle.origin_model.proofs.Words.{All, All-head, All-tail, List, Op, Ready, [], ap, arith, false, false_from_ne_true, has_op, id_held, id_of, if◌then◌else◌, length, nat_eq, ne_eqb, refl, sym, true≢false, verdict, ℕ, ◌+◌, ◌||◌, ◌∙◌, ◌∷◌, ◌≡◌, ◌≤◌}
-use Rattle.origin_model.specs.edits.Edits.{Command, ReadyInTurn, extended, made}
-use Rattle.origin_model.specs.taking.Taking.{Accepted, Again, IsSettled, Conflict, Held, answer, answer_by, held_from, intake, is_again, is_decided, is_kept, is_taken, kept_from, settle, taken}
+use Rattle.origin_model.specs.edits.Edits.{Command, ReadyInTurn, history_with, made}
+use Rattle.origin_model.specs.taking.Taking.{Accepted, Again, IsSettled, Conflict, Held, answer, answer_by, held_from, intake, is_again, is_decided, is_kept, is_taken, kept_from, settle, held_after}
 use Rattle.origin_model.proofs.edits.FreshIdLemmas.{IsUnknown}
 use Rattle.origin_model.proofs.edits.UndecidedLemmas.{Undecided, made_unknown, stays}
 use Rattle.origin_model.proofs.operations.CauseLemmas.{ready_absent}
@@ -10,7 +10,7 @@ use Rattle.origin_model.proofs.taking.SettlingLemmas.{settle-settled, undecided_
 
 -- taking in the operations gives the state that the edit leaves, and all are kept
 pub record IsTakenIn (hold most : ℕ) (h w ops : List Op) : Type 0 where
-  pub state : held_from hold most (record { history = h; waiting = w }) ops ≡ record { history = extended h ops; waiting = w }
+  pub state : held_from hold most (record { history = h; waiting = w }) ops ≡ record { history = history_with h ops; waiting = w }
   pub all_kept : kept_from hold most (record { history = h; waiting = w }) ops ≡ ops
 
 -- the state of a history and of what waits
@@ -51,7 +51,7 @@ takes hold most [] h w a c l = record { state = refl; all_kept = refl }
 takes hold most (op ∷ ops) h w a c l =
     let room : nat_eq (length h + length w) most ≡ false = ne_eqb (length h + length w) most (λ e. omega (arith, e, l)) in
     let ok : answer hold most (state_of h w) op ≡ Accepted = accepts hold most h w op a c.0 c.1 room in
-    let next : intake hold most (state_of h w) op ≡ state_of (op ∷ h) w = ap (λ z. settle (taken z (state_of h w) op)) ok ∙ settle-settled (state_of (op ∷ h) w) c.2 in
+    let next : intake hold most (state_of h w) op ≡ state_of (op ∷ h) w = ap (λ z. settle (held_after z (state_of h w) op)) ok ∙ settle-settled (state_of (op ∷ h) w) c.2 in
     let rest = takes hold most ops (op ∷ h) w c.2 c.3 (omega (arith, l)) in
     record {
       state = ap (λ s. held_from hold most s ops) next ∙ rest.state;

@@ -3,7 +3,7 @@ use Rattle.origin_model.proofs.Words.{All, All-head, All-tail, Contains, Identif
 use Rattle.std.proofs.lemmas.Grind.{flat_map-append}
 use Rattle.origin_model.proofs.operations.LookupLemmas.{held_not_own, holder-other, holder-own, when_ready}
 use Rattle.origin_model.proofs.order.{order-member}
-use Rattle.origin_model.specs.edits.Edits.{Add, Cut, DropSection, IsEdit, Put, ReadyInTurn, extended, id_at, left_for, made, next_counter, put_in, right_for, spliced, typed, typed_ids}
+use Rattle.origin_model.specs.edits.Edits.{Add, Cut, DropSection, IsEdit, Put, ReadyInTurn, history_with, id_at, left_for, made, next_counter, put_in, right_for, splice, typed_texts, typed_ids}
 use Rattle.origin_model.proofs.edits.PutLemmas.{add_lands, put_lands}
 use Rattle.origin_model.proofs.edits.MadeLemmas.{put_made}
 use Rattle.origin_model.proofs.edits.CutLemmas.{cut_takes, drop_takes}
@@ -11,11 +11,11 @@ use Rattle.std.proofs.lemmas.List.Elements.{All-take, All-drop}
 
 -- an edit of a section's text, by scalars: it replaces n of them from `at` on, and leaves the other texts
 pub record IsTextEdit (h ops : List Op) (s : Identifier) (at n : ℕ) (new : List ℕ) : Type 0 where
-  pub here : text (extended h ops) s ≡ spliced (text h s) at n new
-  pub elsewhere : (t : Identifier) → t ≢ s → text (extended h ops) t ≡ text h t
+  pub here : text (history_with h ops) s ≡ splice (text h s) at n new
+  pub elsewhere : (t : Identifier) → t ≢ s → text (history_with h ops) t ≡ text h t
 
 -- what was held stays held as operations join
-holder_stays : (ops h : List Op) (x : Identifier) (o : Op) → ReadyInTurn h ops → holder h x ≡ Some o → holder (extended h ops) x ≡ Some o
+holder_stays : (ops h : List Op) (x : Identifier) (o : Op) → ReadyInTurn h ops → holder h x ≡ Some o → holder (history_with h ops) x ≡ Some o
 holder_stays [] h x o r e = e
 holder_stays (op ∷ ops) h x o r e = holder_stays ops (op ∷ h) x o r.1 (holder-other op h x (held_not_own op h x (when_ready h op r.0) (ap is_some e)) ∙ e)
 
@@ -69,16 +69,16 @@ singles h s w =
     (λ x m. let k = member (within s) h x w m in let o = op_single s k.op x k.place in (o.0, ap scalar_of k.held ∙ o.1))
 
 -- shown elements keep their scalars
-same_scalars : (p : Place) (h ops : List Op) → Lawful h → ReadyInTurn h ops → All (λ x. scalars_at (extended h ops) x ≡ scalars_at h x) (shown p h)
+same_scalars : (p : Place) (h ops : List Op) → Lawful h → ReadyInTurn h ops → All (λ x. scalars_at (history_with h ops) x ≡ scalars_at h x) (shown p h)
 same_scalars p h ops w r =
-    all_from_contains (λ x. scalars_at (extended h ops) x ≡ scalars_at h x) (shown p h)
+    all_from_contains (λ x. scalars_at (history_with h ops) x ≡ scalars_at h x) (shown p h)
     (λ x m. let k = member p h x w m in ap scalar_of (holder_stays ops h x k.op r k.held ∙ sym k.held))
 
 -- what was shown, spliced, is spliced in the text
-text_here : (h ops : List Op) (s : Identifier) (at n : ℕ) (ids : List Identifier) (new : List ℕ) → Lawful h → IsEdit (within s) h ops at n ids → flat_map (scalars_at (extended h ops)) ids ≡ new
-    → text (extended h ops) s ≡ spliced (text h s) at n new
+text_here : (h ops : List Op) (s : Identifier) (at n : ℕ) (ids : List Identifier) (new : List ℕ) → Lawful h → IsEdit (within s) h ops at n ids → flat_map (scalars_at (history_with h ops)) ids ≡ new
+    → text (history_with h ops) s ≡ splice (text h s) at n new
 text_here h ops s at n ids new w e k =
-    let f : Identifier → List ℕ = scalars_at (extended h ops) in
+    let f : Identifier → List ℕ = scalars_at (history_with h ops) in
     let g : Identifier → List ℕ = scalars_at h in
     let xs : List Identifier = shown (within s) h in
     let same = same_scalars (within s) h ops w e.ready in
@@ -92,10 +92,10 @@ text_here h ops s at n ids new w e k =
     ∙ (λ i. front i ++ k i ++ back i)
 
 -- another section keeps its text
-text_there : (p : Place) (h ops : List Op) (at n : ℕ) (ids : List Identifier) (t : Identifier) → Lawful h → IsEdit p h ops at n ids → within t ≢ p → text (extended h ops) t ≡ text h t
+text_there : (p : Place) (h ops : List Op) (at n : ℕ) (ids : List Identifier) (t : Identifier) → Lawful h → IsEdit p h ops at n ids → within t ≢ p → text (history_with h ops) t ≡ text h t
 text_there p h ops at n ids t w e d =
-    ap (flat_map (scalars_at (extended h ops))) (e.elsewhere (within t) d)
-    ∙ flat_agree (scalars_at (extended h ops)) (scalars_at h) (shown (within t) h) (same_scalars (within t) h ops w e.ready)
+    ap (flat_map (scalars_at (history_with h ops))) (e.elsewhere (within t) d)
+    ∙ flat_agree (scalars_at (history_with h ops)) (scalars_at h) (shown (within t) h) (same_scalars (within t) h ops w e.ready)
 
 -- another section is another place
 pub other_place : (t s : Identifier) → t ≢ s → within t ≢ within s
@@ -106,17 +106,17 @@ not_catalogue : (t : Identifier) → within t ≢ catalogue
 not_catalogue t e = cc e
 
 -- an edit of what is shown is one of the text
-text_edit : (h ops : List Op) (s : Identifier) (at n : ℕ) (ids : List Identifier) (new : List ℕ) → Lawful h → IsEdit (within s) h ops at n ids → flat_map (scalars_at (extended h ops)) ids ≡ new → IsTextEdit h ops s at n new
+text_edit : (h ops : List Op) (s : Identifier) (at n : ℕ) (ids : List Identifier) (new : List ℕ) → Lawful h → IsEdit (within s) h ops at n ids → flat_map (scalars_at (history_with h ops)) ids ≡ new → IsTextEdit h ops s at n new
 text_edit h ops s at n ids new w e k =
     record { here = text_here h ops s at n ids new w e k; elsewhere = λ t d. text_there (within s) h ops at n ids t w e (other_place t s d) }
 
 -- the new elements have the scalars that were typed
-typed_scalars : (chs : List ℕ) (r c : ℕ) (s : Identifier) (l q : Option Identifier) (h : List Op) → ReadyInTurn h (typed r c s l q chs) → flat_map (scalars_at (extended h (typed r c s l q chs))) (typed_ids r c chs) ≡ chs
+typed_scalars : (chs : List ℕ) (r c : ℕ) (s : Identifier) (l q : Option Identifier) (h : List Op) → ReadyInTurn h (typed_texts r c s l q chs) → flat_map (scalars_at (history_with h (typed_texts r c s l q chs))) (typed_ids r c chs) ≡ chs
 typed_scalars [] r c s l q h ready = refl
 typed_scalars (ch ∷ chs) r c s l q h ready =
     let x : Identifier = id_at r c in
     let op : Op = Text x s l q ch in
-    let hold = holder_stays (typed r (suc c) s (Some x) q chs) (op ∷ h) x op ready.1 (holder-own op h x (id_eq-refl x)) in
+    let hold = holder_stays (typed_texts r (suc c) s (Some x) q chs) (op ∷ h) x op ready.1 (holder-own op h x (id_eq-refl x)) in
     λ i. scalar_of (hold i) ++ typed_scalars chs r (suc c) s (Some x) q (op ∷ h) ready.1 i
 
 -- a put writes its scalars
@@ -137,12 +137,12 @@ cut_erases r h w k at n s v e = text_edit h (made r h w (Cut k at n)) s at n [] 
 
 -- a section that is dropped leaves the texts
 pub drop_keeps_texts : (r : ℕ) (h w : List Op) (k : ℕ) (s t : Identifier) → Lawful h → slice_get (shown catalogue h) k ≡ Some s
-    → text (extended h (made r h w (DropSection k))) t ≡ text h t
+    → text (history_with h (made r h w (DropSection k))) t ≡ text h t
 drop_keeps_texts r h w k s t v e = text_there catalogue h (made r h w (DropSection k)) k 1 [] t v (drop_takes r h w k s v e).0 (not_catalogue t)
 
 -- a section that is added leaves the texts
 pub add_keeps_texts : (r : ℕ) (h w : List Op) (at : ℕ) (title : List ℕ) (t : Identifier) → Lawful h → at ≤ length (shown catalogue h)
-    → text (extended h (made r h w (Add at title))) t ≡ text h t
+    → text (history_with h (made r h w (Add at title))) t ≡ text h t
 add_keeps_texts r h w at title t v l = text_there catalogue h (made r h w (Add at title)) at 0 (id_at r (next_counter r h w) ∷ []) t v (add_lands r h w at title v l).0 (not_catalogue t)
 
 -- a text is as long as what is shown

@@ -3,7 +3,7 @@ use Rattle.origin_model.proofs.Words.{All, All-cons, All-head, All-nil, All-weak
 use Rattle.std.proofs.lemmas.Grind.{flat_map-append}
 use Rattle.fugue_ids.proofs.ListLemmas.{all_from_filter}
 use Rattle.origin_model.specs.edits.Edits.{above_all, id_at, next_counter}
-use Rattle.origin_model.specs.operations.Counters.{counters, mentioned}
+use Rattle.origin_model.specs.operations.Counters.{counters, mentioned_ids}
 use Rattle.origin_model.proofs.operations.LookupLemmas.{holds-other, own_id}
 use Rattle.std.proofs.Common.{cond, inl, inr}
 use Rattle.std.proofs.lemmas.Bool.{cases_lt, eqb-true, true≢false}
@@ -15,7 +15,7 @@ IsBelow r c i = nat_eq i.replica r ≡ true → i.counter < c
 
 -- each that operations have or name is so
 abbrev pub BelowAll : (r c : ℕ) → List Op → Type 0
-BelowAll r c ops = All (IsBelow r c) (flat_map mentioned ops)
+BelowAll r c ops = All (IsBelow r c) (flat_map mentioned_ids ops)
 
 -- what is above all numbers is above each
 members_below : (ns : List ℕ) → All (λ n. n < above_all ns) ns
@@ -26,7 +26,7 @@ members_below (n ∷ ns) =
 -- the next counter is above all that operations have or name
 next_below : (r : ℕ) (h w : List Op) → BelowAll r (next_counter r h w) (h ++ w)
 next_below r h w =
-    let ids : List Identifier = flat_map mentioned (h ++ w) in
+    let ids : List Identifier = flat_map mentioned_ids (h ++ w) in
     let own : Identifier → Bool = λ i. nat_eq i.replica r in
     all_from_filter own (λ i. i.counter < next_counter r h w) ids
     (all_from_map (λ i. i.counter) (λ n. n < next_counter r h w) (filter own ids) (members_below (counters r (h ++ w))))
@@ -35,13 +35,13 @@ next_below r h w =
 pub history_below : (r : ℕ) (h w : List Op) → BelowAll r (next_counter r h w) h
 history_below r h w =
     let P : Identifier → Type 0 = IsBelow r (next_counter r h w) in
-    all_before P (flat_map mentioned h) (flat_map mentioned w) (subst (All P) (flat_map-append mentioned h w) (next_below r h w))
+    all_before P (flat_map mentioned_ids h) (flat_map mentioned_ids w) (subst (All P) (flat_map-append mentioned_ids h w) (next_below r h w))
 
 -- and all that waiting ones have or name
 pub waiting_below : (r : ℕ) (h w : List Op) → BelowAll r (next_counter r h w) w
 waiting_below r h w =
     let P : Identifier → Type 0 = IsBelow r (next_counter r h w) in
-    all_behind P (flat_map mentioned h) (flat_map mentioned w) (subst (All P) (flat_map-append mentioned h w) (next_below r h w))
+    all_behind P (flat_map mentioned_ids h) (flat_map mentioned_ids w) (subst (All P) (flat_map-append mentioned_ids h w) (next_below r h w))
 
 -- an identifier from c on is none of them
 not_mine : (r c n : ℕ) (i : Identifier) → IsBelow r c i → c ≤ n → id_eq (id_at r n) i ≡ false
@@ -57,7 +57,7 @@ abbrev pub NoneFrom : (r c : ℕ) → List Op → Type 0
 NoneFrom r c h = (n : ℕ) → c ≤ n → holds h (id_at r n) ≡ false
 
 -- an identifier from c on is not the operation's own
-own_below : (r c n : ℕ) (op : Op) → All (IsBelow r c) (mentioned op) → c ≤ n → is_own (id_at r n) op ≡ false
+own_below : (r c n : ℕ) (op : Op) → All (IsBelow r c) (mentioned_ids op) → c ≤ n → is_own (id_at r n) op ≡ false
 own_below r c n op b k =
     false_from_ne_true _ (λ t.
     let named : List Identifier = map (λ named. named.0) (names op) in
@@ -69,23 +69,23 @@ own_below r c n op b k =
 pub none_from : (r c : ℕ) (h : List Op) → BelowAll r c h → NoneFrom r c h
 none_from r c [] b n k = refl
 none_from r c (op ∷ h) b n k =
-    holds-other op h (id_at r n) (own_below r c n op (all_before (IsBelow r c) (mentioned op) (flat_map mentioned h) b) k)
-    ∙ none_from r c h (all_behind (IsBelow r c) (mentioned op) (flat_map mentioned h) b) n k
+    holds-other op h (id_at r n) (own_below r c n op (all_before (IsBelow r c) (mentioned_ids op) (flat_map mentioned_ids h) b) k)
+    ∙ none_from r c h (all_behind (IsBelow r c) (mentioned_ids op) (flat_map mentioned_ids h) b) n k
 
 -- no operation that waits has or names the operation's own identifier
 abbrev pub IsUnknown : List Op → Op → Type 0
-IsUnknown w op = (id_held w (id_of op) ≡ false) × All (λ i. is_own i op ≡ false) (flat_map mentioned w)
+IsUnknown w op = (id_held w (id_of op) ≡ false) × All (λ i. is_own i op ≡ false) (flat_map mentioned_ids w)
 
 -- a new operation is unknown
 pub new_unknown : (r c n : ℕ) (w : List Op) (op : Op) → id_of op ≡ Some (id_at r n) → BelowAll r c w → c ≤ n → IsUnknown w op
 new_unknown r c n w op e b k = (
   ap (id_held w) e ∙ none_from r c w b n k,
-  All-weaker (IsBelow r c) (λ i. is_own i op ≡ false) (λ i l. ap (λ o. origin_eq o (Some i)) e ∙ not_mine r c n i l k) (flat_map mentioned w) b,
+  All-weaker (IsBelow r c) (λ i. is_own i op ≡ false) (λ i l. ap (λ o. origin_eq o (Some i)) e ∙ not_mine r c n i l k) (flat_map mentioned_ids w) b,
 )
 
 -- a Delete has no identifier
 pub delete_unknown : (w : List Op) (x : Identifier) → IsUnknown w (Delete x)
-delete_unknown w x = (refl, all_from_contains (λ i. is_own i (Delete x) ≡ false) (flat_map mentioned w) (λ i m. refl))
+delete_unknown w x = (refl, all_from_contains (λ i. is_own i (Delete x) ≡ false) (flat_map mentioned_ids w) (λ i m. refl))
 
 -- where each counter is below a number, so is what is next
 pub above_below : (ns : List ℕ) (c : ℕ) → All (λ m. m < c) ns → above_all ns ≤ c

@@ -2,30 +2,30 @@
 use Rattle.origin_model.proofs.Words.{Delete, Identifier, Lawful, List, None, Op, Option, Some, Text, [], accepted, ap, append-nil, append_assoc, arith, catalogue, drop, length, length-take-le, refl, reverse, reverse-append, shown, slice_get, suc, sym, take, within, zero, ℕ, ◌++◌, ◌+◌, ◌∙◌, ◌∷◌, ◌≡◌, ◌≤◌}
 use Rattle.std.proofs.Math.Seq.{take-nil}
 use Rattle.std.proofs.lemmas.List.{length-drop, length-map}
-use Rattle.origin_model.specs.edits.Edits.{ReadyInTurn, Cut, DropSection, extended, Put, cut_in, deletes_of, id_at, left_for, made, next_counter, put_in, right_for, typed}
+use Rattle.origin_model.specs.edits.Edits.{ReadyInTurn, Cut, DropSection, history_with, Put, cut_in, deletes_of, id_at, left_for, made, next_counter, put_in, right_for, typed_texts}
 
 -- the operations stand at the end of the accepted ones
-pub join_at_end : (h ops : List Op) → accepted (extended h ops) ≡ accepted h ++ ops
+pub join_at_end : (h ops : List Op) → accepted (history_with h ops) ≡ accepted h ++ ops
 join_at_end h [] = sym (append-nil (reverse h))
 join_at_end h (op ∷ ops) = join_at_end (op ∷ h) ops ∙ ap (λ z. z ++ ops) (reverse-append (op ∷ []) h) ∙ append_assoc (reverse h) (op ∷ []) ops
 
 -- operations that join after others
-pub extended-append : (h xs ys : List Op) → extended h (xs ++ ys) ≡ extended (extended h xs) ys
+pub extended-append : (h xs ys : List Op) → history_with h (xs ++ ys) ≡ history_with (history_with h xs) ys
 extended-append h [] ys = refl
 extended-append h (op ∷ xs) ys = extended-append (op ∷ h) xs ys
 
 -- as many as there were, and those that join
-pub extended_length : (h ops : List Op) → length (extended h ops) ≡ length h + length ops
+pub extended_length : (h ops : List Op) → length (history_with h ops) ≡ length h + length ops
 extended_length h [] = omega arith
-extended_length h (op ∷ ops) = let e : length (extended (op ∷ h) ops) ≡ length (op ∷ h) + length ops = extended_length (op ∷ h) ops in omega (arith, e)
+extended_length h (op ∷ ops) = let e : length (history_with (op ∷ h) ops) ≡ length (op ∷ h) + length ops = extended_length (op ∷ h) ops in omega (arith, e)
 
 -- operations that are Ready in turn keep a history lawful
-pub ready_lawful : (h ops : List Op) → Lawful h → ReadyInTurn h ops → Lawful (extended h ops)
+pub ready_lawful : (h ops : List Op) → Lawful h → ReadyInTurn h ops → Lawful (history_with h ops)
 ready_lawful h [] w r = w
 ready_lawful h (op ∷ ops) w r = ready_lawful (op ∷ h) ops (r.0, w) r.1
 
 -- two lists that are Ready in turn, one after the other
-pub ready-append : (h xs ys : List Op) → ReadyInTurn h xs → ReadyInTurn (extended h xs) ys → ReadyInTurn h (xs ++ ys)
+pub ready-append : (h xs ys : List Op) → ReadyInTurn h xs → ReadyInTurn (history_with h xs) ys → ReadyInTurn h (xs ++ ys)
 ready-append h [] ys a b = b
 ready-append h (op ∷ xs) ys a b = (a.0, ready-append (op ∷ h) xs ys a.1 b)
 
@@ -35,7 +35,7 @@ ready_front h [] ys r = tt
 ready_front h (op ∷ xs) ys r = (r.0, ready_front (op ∷ h) xs ys r.1)
 
 -- as many texts as scalars
-typed_length : (r c : ℕ) (s : Identifier) (l q : Option Identifier) (new : List ℕ) → length (typed r c s l q new) ≡ length new
+typed_length : (r c : ℕ) (s : Identifier) (l q : Option Identifier) (new : List ℕ) → length (typed_texts r c s l q new) ≡ length new
 typed_length r c s l q [] = refl
 typed_length r c s l q (ch ∷ chs) = ap suc (typed_length r (suc c) s (Some (id_at r c)) q chs)
 
@@ -64,7 +64,7 @@ pub cut_counted : (r : ℕ) (h w : List Op) (k : ℕ) (s : Identifier) (at n : �
 cut_counted r h w k s at n e l = ap length (cut_made r h w k s at n e) ∙ length-map (take n (drop at (shown (within s) h))) (λ x. Delete x) ∙ part_length (shown (within s) h) at n l
 
 -- the first texts are those of the first scalars
-typed_front : (j r c : ℕ) (s : Identifier) (l q : Option Identifier) (new : List ℕ) → take j (typed r c s l q new) ≡ typed r c s l q (take j new)
+typed_front : (j r c : ℕ) (s : Identifier) (l q : Option Identifier) (new : List ℕ) → take j (typed_texts r c s l q new) ≡ typed_texts r c s l q (take j new)
 typed_front zero r c s l q new = refl
 typed_front (suc j) r c s l q [] = refl
 typed_front (suc j) r c s l q (ch ∷ chs) = ap (λ z. Text (id_at r c) s l q ch ∷ z) (typed_front j r (suc c) s (Some (id_at r c)) q chs)
@@ -93,6 +93,6 @@ cut_front r h w k j at n l =
     ]
 
 -- the history in front of operations is lawful
-pub lawful_front : (ops h : List Op) → Lawful (extended h ops) → Lawful h
+pub lawful_front : (ops h : List Op) → Lawful (history_with h ops) → Lawful h
 lawful_front [] h w = w
 lawful_front (op ∷ ops) h w = (lawful_front ops (op ∷ h) w).1

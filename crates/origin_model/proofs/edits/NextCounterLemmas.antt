@@ -4,7 +4,7 @@ use Rattle.std.proofs.Common.{max}
 use Rattle.std.proofs.Math.Nat.{le-max_left, le-max_right}
 use Rattle.std.proofs.lemmas.Grind.{flat_map-append}
 use Rattle.std.proofs.lemmas.List.{map-append}
-use Rattle.origin_model.specs.operations.Counters.{counters, counters_among, IsGreatest, mentioned}
+use Rattle.origin_model.specs.operations.Counters.{counters, counters_among, IsGreatest, mentioned_ids}
 use Rattle.origin_model.specs.edits.Edits.{above_all, next_counter, next_above}
 
 -- what no number is above
@@ -45,9 +45,9 @@ above-append (x ∷ xs) ys = let e : above_all (xs ++ ys) ≡ max (above_all xs)
 -- the counters of two lists of operations
 pub counters-append : (r : ℕ) (h w : List Op) → counters r (h ++ w) ≡ counters r h ++ counters r w
 counters-append r h w =
-    ap (counters_among r) (flat_map-append mentioned h w)
-    ∙ ap (map (λ id. id.counter)) (filter-append (λ id. nat_eq id.replica r) (flat_map mentioned h) (flat_map mentioned w))
-    ∙ map-append (λ id. id.counter) (filter (λ id. nat_eq id.replica r) (flat_map mentioned h)) (filter (λ id. nat_eq id.replica r) (flat_map mentioned w))
+    ap (counters_among r) (flat_map-append mentioned_ids h w)
+    ∙ ap (map (λ id. id.counter)) (filter-append (λ id. nat_eq id.replica r) (flat_map mentioned_ids h) (flat_map mentioned_ids w))
+    ∙ map-append (λ id. id.counter) (filter (λ id. nat_eq id.replica r) (flat_map mentioned_ids h)) (filter (λ id. nat_eq id.replica r) (flat_map mentioned_ids w))
 
 -- the next counter, by two greatest ones
 pub next_by_two : (r : ℕ) (h w : List Op) (accepted waiting : Option ℕ) → IsGreatest (counters r h) accepted → IsGreatest (counters r w) waiting

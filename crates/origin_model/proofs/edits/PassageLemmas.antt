@@ -1,5 +1,5 @@
 -- Subtrees stand together, what hangs on an element's left stands directly before it, ties go by identifier, and passages are never mixed.
-use Rattle.origin_model.proofs.Words.{All, AllByRecursion, Bool, Contains, Identifier, IsIn, Lawful, List, Op, Passes, Place, Some, [], ap, append-nil, append_assoc, append_cancel_left, arith, before, before_in, cases_id, chain_before, false, fork_before, has_left, holder, id_lt, index_of_origin, inl, inr, left_at, left_of, lefts, next_left, next_right, older_of, order, ranked, refl, right_at, right_of, rights, sibling, subst, sym, true, true≢false, ℕ, ◌++◌, ◌∙◌, ◌∷◌, ◌≡◌, ◌≢◌}
+use Rattle.origin_model.proofs.Words.{All, AllByRecursion, Bool, Contains, Identifier, IsIn, Lawful, List, Op, Passes, Place, Some, [], ap, append-nil, append_assoc, append_cancel_left, arith, before, before_in, cases_id, chain_before, false, fork_before, has_left, holder, id_lt, index_of_origin, inl, inr, left_at, left_of, lefts, next_left, next_right, older_of, order, precedes, refl, right_at, right_of, rights, sibling, subst, sym, true, true≢false, ℕ, ◌++◌, ◌∙◌, ◌∷◌, ◌≡◌, ◌≢◌}
 use Rattle.std.proofs.lemmas.Bool.Decides.{nat_tests}
 use Rattle.std.proofs.lemmas.List.Elements.{All-from_recursion}
 use Rattle.origin_model.specs.sides.Slot.{slot_by}
@@ -69,13 +69,13 @@ module _ (p : Place) (h : List Op) (w : Lawful h) where
       ∙ (λ i. over h (slot_by h (sym (left_at-is h x o.0 o.1) i) (sym (right_at-is x o.0 o.1) i)) ++ x ∷ [])
 
   -- with equal right origins the identifiers decide
-  fork_same : (n : ℕ) (x y : Identifier) → ranked n n x y ≡ id_lt x y
+  fork_same : (n : ℕ) (x y : Identifier) → precedes n n x y ≡ id_lt x y
   fork_same n x y = grind (arith, nat_tests)
 
   -- so it is at a fork
   fork_by_id : (x y : Identifier) → right_at h x ≡ right_at h y → F x y ≡ id_lt x y
   fork_by_id x y e =
-      (λ i. ranked (index_of_origin (order p (older_of h)) (e i)) (index_of_origin (order p (older_of h)) (right_at h y)) x y)
+      (λ i. precedes (index_of_origin (order p (older_of h)) (e i)) (index_of_origin (order p (older_of h)) (right_at h y)) x y)
       ∙ fork_same (index_of_origin (order p (older_of h)) (right_at h y)) x y
 
   -- e stands at or below u, whose chain of right origins goes through x, which has the same left origin

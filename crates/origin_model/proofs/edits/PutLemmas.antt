@@ -5,7 +5,7 @@ use Rattle.origin_model.proofs.operations.LookupLemmas.{Fits, all_fit, has-holde
 use Rattle.origin_model.proofs.operations.ElementLemmas.{element_fits, none_elsewhere, role_in}
 use Rattle.origin_model.proofs.operations.FoundedLemmas.{not_hidden_before}
 use Rattle.origin_model.proofs.order.{IsIn-older, Stands, order-member, order-none, order_total}
-use Rattle.origin_model.specs.edits.Edits.{Add, IsEdit, Put, ReadyInTurn, extended, id_at, left_for, made, next_counter, put_in, right_for, typed, typed_ids}
+use Rattle.origin_model.specs.edits.Edits.{Add, IsEdit, Put, ReadyInTurn, history_with, id_at, left_for, made, next_counter, put_in, right_for, typed_texts, typed_ids}
 use Rattle.origin_model.specs.edits.Landing.{StandsBehind, following, first_after}
 use Rattle.fugue_ids.specs.Listed.{last_before}
 use Rattle.origin_model.proofs.edits.FreshIdLemmas.{NoneFrom, history_below, none_from}
@@ -43,10 +43,10 @@ section_ready h x l r t w k a b =
 -- what operations that are elements of one place do
 record Landed (p : Place) (h ops : List Op) (ids front back : List Identifier) : Type 0 where
   ready : ReadyInTurn h ops
-  lawful : Lawful (extended h ops)
-  after : order p (extended h ops) ≡ front ++ ids ++ back
-  hidden : (x : Identifier) → is_hidden (extended h ops) x ≡ is_hidden h x
-  elsewhere : (q : Place) → q ≢ p → order q (extended h ops) ≡ order q h
+  lawful : Lawful (history_with h ops)
+  after : order p (history_with h ops) ≡ front ++ ids ++ back
+  hidden : (x : Identifier) → is_hidden (history_with h ops) x ≡ is_hidden h x
+  elsewhere : (q : Place) → q ≢ p → order q (history_with h ops) ≡ order q h
 
 -- a text is an element of its section
 pub text_here : (x s : Identifier) (l r : Option Identifier) (ch : ℕ) → element_of (within s) (Text x s l r ch) ≡ Some x
@@ -62,7 +62,7 @@ none_next r c h op e none n k =
 -- texts that are typed land in their order
 typing : (chs : List ℕ) (r c : ℕ) (s : Identifier) (h : List Op) (left right : Option Identifier) (front back : List Identifier)
     → Lawful h → IsIn catalogue h s → NoneFrom r c h → order (within s) h ≡ front ++ back → left ≡ last_before front → right ≡ first_after back
-    → Landed (within s) h (typed r c s left right chs) (typed_ids r c chs) front back
+    → Landed (within s) h (typed_texts r c s left right chs) (typed_ids r c chs) front back
 typing [] r c s h left right front back w m none o a b = record { ready = tt; lawful = w; after = o ∙ ap (λ f. f ++ back) (sym (append-nil front)); hidden = λ x. refl; elsewhere = λ q n. refl }
 typing (ch ∷ chs) r c s h left right front back w m none o a b =
     let p : Place = within s in
@@ -90,10 +90,10 @@ typed_shown (ch ∷ chs) r c h w none =
     All-cons (λ x. not (is_hidden h x) ≡ true) (id_at r c) (typed_ids r (suc c) chs) (ap not (not_hidden_before h (id_at r c) w (none c (omega arith)))) (typed_shown chs r (suc c) h w (λ n k. none n (omega (arith, k))))
 
 -- an edit whose elements land in the gap of the place `at`
-inserted : (p : Place) (h ops : List Op) (at : ℕ) (ids : List Identifier) (s : Split (is_shown h) (order p h) at) → All (λ x. is_shown h x ≡ true) ids → Landed p h ops ids s.front s.back → IsEdit p h ops at 0 ids × StandsBehind (left_for p h at) ids (order p h) (order p (extended h ops))
+inserted : (p : Place) (h ops : List Op) (at : ℕ) (ids : List Identifier) (s : Split (is_shown h) (order p h) at) → All (λ x. is_shown h x ≡ true) ids → Landed p h ops ids s.front s.back → IsEdit p h ops at 0 ids × StandsBehind (left_for p h at) ids (order p h) (order p (history_with h ops))
 inserted p h ops at ids s each l =
     let k : Identifier → Bool = is_shown h in
-    let same : (q : Place) → shown q (extended h ops) ≡ filter k (order q (extended h ops)) = λ q. (λ i. filter (λ x. not (l.hidden x i)) (order q (extended h ops))) in
+    let same : (q : Place) → shown q (history_with h ops) ≡ filter k (order q (history_with h ops)) = λ q. (λ i. filter (λ x. not (l.hidden x i)) (order q (history_with h ops))) in
     let zero_more : at ≡ at + 0 = omega arith in (
       record {
         ready = l.ready;
@@ -128,7 +128,7 @@ shown_in p h k x w e = order-member p h x w (contains_filter_from (is_shown h) (
 
 -- a put in a section that is there
 put_in_lands : (r : ℕ) (h w : List Op) (s : Identifier) (at : ℕ) (new : List ℕ) → Lawful h → IsIn catalogue h s → at ≤ length (shown (within s) h)
-    → IsEdit (within s) h (put_in r h w s at new) at 0 (typed_ids r (next_counter r h w) new) × StandsBehind (left_for (within s) h at) (typed_ids r (next_counter r h w) new) (order (within s) h) (order (within s) (extended h (put_in r h w s at new)))
+    → IsEdit (within s) h (put_in r h w s at new) at 0 (typed_ids r (next_counter r h w) new) × StandsBehind (left_for (within s) h at) (typed_ids r (next_counter r h w) new) (order (within s) h) (order (within s) (history_with h (put_in r h w s at new)))
 put_in_lands r h w s at new v m l =
     let p : Place = within s in
     let c : ℕ = next_counter r h w in
@@ -142,18 +142,18 @@ pub put_lands : (r : ℕ) (h w : List Op) (k at : ℕ) (new : List ℕ) (s : Ide
     → slice_get (shown catalogue h) k ≡ Some s → at ≤ length (shown (within s) h)
     → let ops = made r h w (Put k at new) in
     let ids = typed_ids r (next_counter r h w) new in
-    IsEdit (within s) h ops at 0 ids × StandsBehind (left_for (within s) h at) ids (order (within s) h) (order (within s) (extended h ops))
+    IsEdit (within s) h ops at 0 ids × StandsBehind (left_for (within s) h at) ids (order (within s) h) (order (within s) (history_with h ops))
 put_lands r h w k at new s v e l =
     let c : List Identifier = typed_ids r (next_counter r h w) new in
     let ops : made r h w (Put k at new) ≡ put_in r h w s at new = ap (λ o. elim o [ None ↦ [] | Some s ↦ put_in r h w s at new ]) e in
-    subst (λ ops. IsEdit (within s) h ops at 0 c × StandsBehind (left_for (within s) h at) c (order (within s) h) (order (within s) (extended h ops))) (sym ops)
+    subst (λ ops. IsEdit (within s) h ops at 0 c × StandsBehind (left_for (within s) h at) c (order (within s) h) (order (within s) (history_with h ops))) (sym ops)
     (put_in_lands r h w s at new v (shown_in catalogue h k s v e) l)
 
 -- a section lands where it was asked
 pub add_lands : (r : ℕ) (h w : List Op) (at : ℕ) (title : List ℕ) → Lawful h → at ≤ length (shown catalogue h)
     → let ops = made r h w (Add at title) in
     let ids = id_at r (next_counter r h w) ∷ [] in
-    IsEdit catalogue h ops at 0 ids × StandsBehind (left_for catalogue h at) ids (order catalogue h) (order catalogue (extended h ops))
+    IsEdit catalogue h ops at 0 ids × StandsBehind (left_for catalogue h at) ids (order catalogue h) (order catalogue (history_with h ops))
 add_lands r h w at title v l =
     let c : ℕ = next_counter r h w in
     let x : Identifier = id_at r c in

@@ -4,11 +4,11 @@ use Rattle.fugue_ids.specs.Runs.{id_behind, ids_in_a_row, in_a_row, left_behind,
 use Rattle.fugue_ids.specs.declared.run.RunStart.{RunStart}
 use Rattle.fugue_ids.proofs.RunLemmas.{left_one, length-typed, none_behind, one_behind}
 use Rattle.origin_model.specs.declared.taking.Tally.{Tally}
-use Rattle.origin_model.specs.edits.Edits.{ReadyInTurn, extended, id_at}
+use Rattle.origin_model.specs.edits.Edits.{ReadyInTurn, history_with, id_at}
 use Rattle.origin_model.specs.edits.RunLaws.{RunLands, RunsGoInWhole, TypedIsRun}
-use Rattle.origin_model.specs.operations.Counters.{mentioned}
+use Rattle.origin_model.specs.operations.Counters.{mentioned_ids}
 use Rattle.origin_model.specs.sides.Keys.{depth_above, depth_of, forest_of, new_key, search_key_of}
-use Rattle.origin_model.specs.taking.Taking.{Accepted, Held, IsSettled, answer, answer_counted, intake, settle, settling_counted, taken, tally_from}
+use Rattle.origin_model.specs.taking.Taking.{Accepted, Held, IsSettled, answer, answer_counted, intake, settle, settling_counted, held_after, tally_from}
 use Rattle.origin_model.proofs.operations.CauseLemmas.{becomes_ready}
 use Rattle.origin_model.proofs.operations.ElementLemmas.{none_elsewhere}
 use Rattle.origin_model.proofs.operations.LookupLemmas.{ElementFits, Fits, all_fit, element_ready, holder-own, holds-other, own_id, when_ready}
@@ -25,15 +25,15 @@ use Rattle.origin_model.proofs.edits.UndecidedLemmas.{Undecided, all_stay}
 
 -- Longer histories
 
-within_extended : (h ops : List Op) → Lawful (extended h ops) → Within h (extended h ops)
+within_extended : (h ops : List Op) → Lawful (history_with h ops) → Within h (history_with h ops)
 within_extended h [] w = λ i op e. e
-within_extended h (op ∷ ops) w = within-older op h (extended (op ∷ h) ops) (when_ready h op (lawful_front ops (op ∷ h) w).0) (within_extended (op ∷ h) ops w)
+within_extended h (op ∷ ops) w = within-older op h (history_with (op ∷ h) ops) (when_ready h op (lawful_front ops (op ∷ h) w).0) (within_extended (op ∷ h) ops w)
 
 -- Where the elements stand
 
-row_lands : (id s : Identifier) (l r : Option Identifier) (ch : ℕ) (text : List ℕ) (h : List Op) (front back : List Identifier) → Lawful (extended h (in_a_row id s l r (ch ∷ text)))
+row_lands : (id s : Identifier) (l r : Option Identifier) (ch : ℕ) (text : List ℕ) (h : List Op) (front back : List Identifier) → Lawful (history_with h (in_a_row id s l r (ch ∷ text)))
     → order (within s) (Text id s l r ch ∷ h) ≡ front ++ id ∷ back
-    → order (within s) (extended h (in_a_row id s l r (ch ∷ text))) ≡ front ++ ids_in_a_row id (ch ∷ text) ++ back
+    → order (within s) (history_with h (in_a_row id s l r (ch ∷ text))) ≡ front ++ ids_in_a_row id (ch ∷ text) ++ back
 row_lands id s l r ch [] h front back w whole = whole ∙ sym (append_assoc front (id ∷ []) back)
 row_lands id s l r ch (next ∷ text) h front back w whole =
     let first : Op = Text id s l r ch in
@@ -47,7 +47,7 @@ row_lands id s l r ch (next ∷ text) h front back w whole =
 pub run_lands : RunLands
 run_lands start ch text h front back w whole = row_lands start.id start.section start.left start.right ch text h front back w whole
 
-row_elsewhere : (id s : Identifier) (l r : Option Identifier) (text : List ℕ) (h : List Op) (p : Place) → p ≢ within s → order p (extended h (in_a_row id s l r text)) ≡ order p h
+row_elsewhere : (id s : Identifier) (l r : Option Identifier) (text : List ℕ) (h : List Op) (p : Place) → p ≢ within s → order p (history_with h (in_a_row id s l r text)) ≡ order p h
 row_elsewhere id s l r [] h p n = refl
 row_elsewhere id s l r (ch ∷ text) h p n =
     let first : Op = Text id s l r ch in
@@ -97,22 +97,22 @@ row_ready id s l r ch (next ∷ text) h w ready f =
 -- Nothing that waits is decided
 
 -- what operations neither have nor name is not held among them
-unheld : (w : List Op) (x : Identifier) → All (λ i. id_eq x i ≡ false) (flat_map mentioned w) → holds w x ≡ false
+unheld : (w : List Op) (x : Identifier) → All (λ i. id_eq x i ≡ false) (flat_map mentioned_ids w) → holds w x ≡ false
 unheld [] x a = refl
 unheld (o ∷ w) x a =
     let P : Identifier → Type 0 = λ i. id_eq x i ≡ false in
     let named : List Identifier = map (λ named. named.0) (names o) in
     let own : is_own x o ≡ false = false_from_ne_true _ (λ t. true≢false (sym (id_eq-refl x) ∙
-    All-head P x named (subst (λ z. All P (option_to_list z ++ named)) (own_id o x t) (all_before P (mentioned o) (flat_map mentioned w) a)))) in
-    holds-other o w x own ∙ unheld w x (all_behind P (mentioned o) (flat_map mentioned w) a)
+    All-head P x named (subst (λ z. All P (option_to_list z ++ named)) (own_id o x t) (all_before P (mentioned_ids o) (flat_map mentioned_ids w) a)))) in
+    holds-other o w x own ∙ unheld w x (all_behind P (mentioned_ids o) (flat_map mentioned_ids w) a)
 
-row_unknown : (id s : Identifier) (l r : Option Identifier) (text : List ℕ) (w : List Op) → All (λ x. Contains (flat_map mentioned w) x → ⊥) (ids_in_a_row id text) → All (IsUnknown w) (in_a_row id s l r text)
+row_unknown : (id s : Identifier) (l r : Option Identifier) (text : List ℕ) (w : List Op) → All (λ x. Contains (flat_map mentioned_ids w) x → ⊥) (ids_in_a_row id text) → All (IsUnknown w) (in_a_row id s l r text)
 row_unknown id s l r [] w a = All-nil (IsUnknown w)
 row_unknown id s l r (ch ∷ text) w a =
-    let P : Identifier → Type 0 = λ x. Contains (flat_map mentioned w) x → ⊥ in
+    let P : Identifier → Type 0 = λ x. Contains (flat_map mentioned_ids w) x → ⊥ in
     let none : P id = All-head P id (ids_in_a_row (next_id id) text) a in
-    let apart : All (λ i. id_eq id i ≡ false) (flat_map mentioned w) =
-    all_from_contains (λ i. id_eq id i ≡ false) (flat_map mentioned w) (λ i m. ne-id_eq id i (λ e. none (subst (Contains (flat_map mentioned w)) (sym e) m))) in
+    let apart : All (λ i. id_eq id i ≡ false) (flat_map mentioned_ids w) =
+    all_from_contains (λ i. id_eq id i ≡ false) (flat_map mentioned_ids w) (λ i m. ne-id_eq id i (λ e. none (subst (Contains (flat_map mentioned_ids w)) (sym e) m))) in
     All-cons (IsUnknown w) (Text id s l r ch) (in_a_row (next_id id) s (Some id) r text) (unheld w id apart, apart)
     (row_unknown (next_id id) s (Some id) r text w (All-tail P id (ids_in_a_row (next_id id) text) a))
 
@@ -125,12 +125,12 @@ counts hold most (op ∷ ops) h w t a c l =
     let after : Held = state_of (op ∷ h) w in
     let room : nat_eq (length h + length w) most ≡ false = ne_eqb (length h + length w) most (λ e. omega (arith, e, l)) in
     let ok : answer hold most s op ≡ Accepted = accepts hold most h w op a c.0 c.1 room in
-    let next : intake hold most s op ≡ after = ap (λ z. settle (taken z s op)) ok ∙ settle-settled after c.2 in
+    let next : intake hold most s op ≡ after = ap (λ z. settle (held_after z s op)) ok ∙ settle-settled after c.2 in
     let now : Tally = settling_counted after after (answer_counted Accepted t) in
     let one : now.accepted ≡ t.accepted + 1 = omega arith in
     let none : now.stray ≡ t.stray = omega arith in
     let more : t.accepted + 1 + length ops ≡ t.accepted + suc (length ops) = omega arith in
-    (λ i. tally_from hold most (next i) ops (settling_counted (taken (ok i) s op) (next i) (answer_counted (ok i) t)))
+    (λ i. tally_from hold most (next i) ops (settling_counted (held_after (ok i) s op) (next i) (answer_counted (ok i) t)))
     ∙ counts hold most ops (op ∷ h) w now c.2 c.3 (omega (arith, l))
     ∙ (λ i. record t { accepted = one i + length ops; stray = none i })
     ∙ (λ i. record t { accepted = more i })
@@ -144,27 +144,27 @@ record IsText (h : List Op) (x : Identifier) (left right : Option Identifier) : 
   left_is : left_of op ≡ left
   right_is : right_of op ≡ right
 
-row_has : (id s : Identifier) (l r : Option Identifier) (text : List ℕ) (h : List Op) (k : ℕ) → Lawful (extended h (in_a_row id s l r text)) → k < length text
-    → IsText (extended h (in_a_row id s l r text)) (id_behind id k) (left_behind l id k) r
+row_has : (id s : Identifier) (l r : Option Identifier) (text : List ℕ) (h : List Op) (k : ℕ) → Lawful (history_with h (in_a_row id s l r text)) → k < length text
+    → IsText (history_with h (in_a_row id s l r text)) (id_behind id k) (left_behind l id k) r
 row_has id s l r [] h k w less = absurd (omega (arith, less))
 row_has id s l r (ch ∷ text) h zero w less =
     let first : Op = Text id s l r ch in
     let rest : List Op = in_a_row (next_id id) s (Some id) r text in
     record {
       op = first;
-      held = ap (holder (extended (first ∷ h) rest)) (none_behind id) ∙ within_extended (first ∷ h) rest w id first (holder-own first h id (id_eq-refl id));
+      held = ap (holder (history_with (first ∷ h) rest)) (none_behind id) ∙ within_extended (first ∷ h) rest w id first (holder-own first h id (id_eq-refl id));
       left_is = refl;
       right_is = refl;
     }
 row_has id s l r (ch ∷ text) h (suc k) w less =
     let first : Op = Text id s l r ch in
-    let g : List Op = extended (first ∷ h) (in_a_row (next_id id) s (Some id) r text) in
+    let g : List Op = history_with (first ∷ h) (in_a_row (next_id id) s (Some id) r text) in
     let there = row_has (next_id id) s (Some id) r text (first ∷ h) k w (omega (arith, less)) in
     record { op = there.op; held = ap (holder g) (sym (one_behind id k)) ∙ there.held; left_is = there.left_is ∙ left_one id k; right_is = there.right_is }
 
-module _ (start : RunStart) (ch : ℕ) (text : List ℕ) (h : List Op) (w : Lawful (extended h (run_from start (ch ∷ text)))) where
+module _ (start : RunStart) (ch : ℕ) (text : List ℕ) (h : List Op) (w : Lawful (history_with h (run_from start (ch ∷ text)))) where
   abbrev g : List Op
-  g = extended h (run_from start (ch ∷ text))
+  g = history_with h (run_from start (ch ∷ text))
 
   abbrev first : Op
   first = text_by start ch
@@ -210,7 +210,7 @@ runs_go_in_whole hold most s start ch text can =
     let free : All (λ x. holds s.history x ≡ false) (ids_in_a_row (next_id start.id) text) = All-tail (λ x. holds s.history x ≡ false) start.id (ids_in_a_row (next_id start.id) text) can.free in
     let ready : ReadyInTurn s.history run = row_ready start.id start.section start.left start.right ch text s.history can.lawful can.ready free in
     let unknown : All (IsUnknown s.waiting) run = row_unknown start.id start.section start.left start.right (ch ∷ text) s.waiting can.unnamed in
-    let lawful : Lawful (extended s.history run) = ready_lawful s.history run can.lawful ready in
+    let lawful : Lawful (history_with s.history run) = ready_lawful s.history run can.lawful ready in
     let comes_so = comes run s.history s.waiting can.settled ready unknown in
     let len : length run ≡ suc (length text) = length-typed start.id start.section start.left start.right (ch ∷ text) in
     let room : length s.history + length s.waiting + length run ≤ most = omega (arith, len, can.room) in

@@ -2,8 +2,8 @@
 use Rattle.origin_model.proofs.Words.{All, All-cons, All-head, All-nil, All-tail, Bool, Delete, Identifier, List, None, Op, Option, Role, Section, Some, Text, [], all_before, all_behind, all_from_contains, all_from_map, arith, catalogue, drop, false, false≢true, first_line, first_missing, first_stray, fits, flat_map, has_op, id_held, id_of, if◌then◌else◌, is_own, map, names, op_eq, option_to_list, or_right, refl, shown, slice_get, suc, take, true, verdict, within, ℕ, ◌∙◌, ◌∷◌, ◌≡◌, ◌≤◌}
 use Rattle.std.proofs.Math.Nat.{le_refl}
 use Rattle.std.proofs.lemmas.List.Elements.{All-map}
-use Rattle.origin_model.specs.edits.Edits.{Add, Command, Cut, DropSection, Put, cut_in, deletes_of, extended, id_at, left_for, made, next_counter, put_in, right_for, typed}
-use Rattle.origin_model.specs.operations.Counters.{mentioned}
+use Rattle.origin_model.specs.edits.Edits.{Add, Command, Cut, DropSection, Put, cut_in, deletes_of, history_with, id_at, left_for, made, next_counter, put_in, right_for, typed_texts}
+use Rattle.origin_model.specs.operations.Counters.{mentioned_ids}
 use Rattle.origin_model.specs.taking.Taking.{IsSettled, decided_on, is_decided}
 use Rattle.origin_model.proofs.edits.FreshIdLemmas.{BelowAll, IsUnknown, delete_unknown, new_unknown, waiting_below}
 use Rattle.origin_model.proofs.operations.LookupLemmas.{holder-other, holds-older}
@@ -40,7 +40,7 @@ id_stays op h None e = e
 id_stays op h (Some i) e = holds-older op h i e
 
 -- an operation that another does not speak of does not decide it
-undecided_one : (op : Op) (h : List Op) (o : Op) → All (λ i. is_own i op ≡ false) (mentioned o) → decided_on h o ≡ false → decided_on (op ∷ h) o ≡ false
+undecided_one : (op : Op) (h : List Op) (o : Op) → All (λ i. is_own i op ≡ false) (mentioned_ids o) → decided_on h o ≡ false → decided_on (op ∷ h) o ≡ false
 unfolding verdict
 undecided_one op h o a e =
     let P : Identifier → Type 0 = λ i. is_own i op ≡ false in
@@ -57,18 +57,18 @@ Undecided h w = All (λ op. decided_on h op ≡ false) w
 pub stays : (op : Op) (h w : List Op) → IsUnknown w op → Undecided h w → Undecided (op ∷ h) w
 stays op h w u a = each w u.1 a
   where
-    each : (w : List Op) → All (λ i. is_own i op ≡ false) (flat_map mentioned w) → Undecided h w → Undecided (op ∷ h) w
+    each : (w : List Op) → All (λ i. is_own i op ≡ false) (flat_map mentioned_ids w) → Undecided h w → Undecided (op ∷ h) w
     each [] u a = All-nil (λ o. decided_on (op ∷ h) o ≡ false)
     each (o ∷ w) u a =
         let P : Identifier → Type 0 = λ i. is_own i op ≡ false in
-        let rest = each w (all_behind P (mentioned o) (flat_map mentioned w) u) (All-tail (λ z. decided_on h z ≡ false) o w a) in
-        All-cons (λ z. decided_on (op ∷ h) z ≡ false) o w (undecided_one op h o (all_before P (mentioned o) (flat_map mentioned w) u) (All-head (λ z. decided_on h z ≡ false) o w a)) rest
+        let rest = each w (all_behind P (mentioned_ids o) (flat_map mentioned_ids w) u) (All-tail (λ z. decided_on h z ≡ false) o w a) in
+        All-cons (λ z. decided_on (op ∷ h) z ≡ false) o w (undecided_one op h o (all_before P (mentioned_ids o) (flat_map mentioned_ids w) u) (All-head (λ z. decided_on h z ≡ false) o w a)) rest
 
 -- typed texts are unknown
-typed_unknown : (chs : List ℕ) (r c n : ℕ) (s : Identifier) (l q : Option Identifier) (w : List Op) → BelowAll r c w → c ≤ n → All (IsUnknown w) (typed r n s l q chs)
+typed_unknown : (chs : List ℕ) (r c n : ℕ) (s : Identifier) (l q : Option Identifier) (w : List Op) → BelowAll r c w → c ≤ n → All (IsUnknown w) (typed_texts r n s l q chs)
 typed_unknown [] r c n s l q w b k = All-nil (IsUnknown w)
 typed_unknown (ch ∷ chs) r c n s l q w b k =
-    All-cons (IsUnknown w) (Text (id_at r n) s l q ch) (typed r (suc n) s (Some (id_at r n)) q chs)
+    All-cons (IsUnknown w) (Text (id_at r n) s l q ch) (typed_texts r (suc n) s (Some (id_at r n)) q chs)
     (new_unknown r c n w (Text (id_at r n) s l q ch) refl b k) (typed_unknown chs r c (suc n) s (Some (id_at r n)) q w b (omega (arith, k)))
 
 -- so are Deletes
@@ -99,11 +99,11 @@ made_unknown r h w (DropSection k) =
     ]
 
 -- unknown operations decide nothing, one after another
-pub all_stay : (ops h w : List Op) → All (IsUnknown w) ops → Undecided h w → Undecided (extended h ops) w
+pub all_stay : (ops h w : List Op) → All (IsUnknown w) ops → Undecided h w → Undecided (history_with h ops) w
 all_stay [] h w u a = a
 all_stay (op ∷ ops) h w u a = all_stay ops (op ∷ h) w (All-tail (IsUnknown w) op ops u) (stays op h w (All-head (IsUnknown w) op ops u) a)
 
 -- what waits stays undecided
 pub stays_undecided : (r : ℕ) (h w : List Op) (command : Command) → IsSettled (record { history = h; waiting = w })
-    → IsSettled (record { history = extended h (made r h w command); waiting = w })
+    → IsSettled (record { history = history_with h (made r h w command); waiting = w })
 stays_undecided r h w command s = all_stay (made r h w command) h w (made_unknown r h w command) s

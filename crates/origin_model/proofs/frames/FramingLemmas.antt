@@ -4,8 +4,8 @@ use Rattle.std.specs.Prelude.{nat_lt}
 use Rattle.std.specs.Char.{IsScalar}
 use Rattle.std.proofs.lemmas.Bool.{and_from, and_parts, cases_lt, lt-ltb, ltb-true}
 use Rattle.origin_model.specs.declared.grammar.Grammar.TheVariants.{Version2}
-use Rattle.origin_model.specs.frames.Frames.{Framed, HasFrame, HasRunFrame, IsFrame, IsIdentifier, IsItem, IsOrigin, Item, Reads, Run, Single, Typed, Whole, item_bytes, item_ops, run_ops}
-use Rattle.origin_model.specs.frames.Framings.{AreLongest, IsFraming, IsLongest, IsWritten, grown, frames, items, items_from, longer, next_text, run_more, scalar_in}
+use Rattle.origin_model.specs.frames.Frames.{Framed, HasFrame, HasRunFrame, IsFrame, IsIdentifier, IsItem, IsFrameOrigin, Item, Reads, Run, Single, Typed, Whole, item_bytes, item_ops, run_ops}
+use Rattle.origin_model.specs.frames.Framings.{AreLongest, IsFraming, IsLongest, IsWritten, item_with, frames, items, items_from, longer, next_text, run_more, scalar_in}
 use Rattle.origin_model.proofs.frames.ItemLemmas.{bytes_of, item_framed, item_is_framed, ops_of, same_parts}
 use Rattle.origin_model.proofs.frames.TypedLemmas.{goes_on, length-run, run_by_ops, typed_more}
 use Rattle.fugue_ids.specs.Runs.{in_a_row}
@@ -14,8 +14,8 @@ use Rattle.fugue_ids.specs.Runs.{in_a_row}
 pub record IsBegun (run : Run) : Type 0 where
   pub id : IsIdentifier run.id
   pub section : IsIdentifier run.section
-  pub left : IsOrigin run.left
-  pub right : IsOrigin run.right
+  pub left : IsFrameOrigin run.left
+  pub right : IsFrameOrigin run.right
   pub some : 1 ≤ length run.text
   pub scalars : All IsScalar run.text
 
@@ -50,7 +50,7 @@ longer_is run op more begun has e =
     let is : op ≡ next_text run (scalar_in op) = op_eq-true op (next_text run (scalar_in op)) parts.1 in
     let next = subst HasFrame is has in
     let long : length (run.text ++ scalar_in op ∷ []) ≡ length run.text + 1 = length-append run.text (scalar_in op ∷ []) in
-    let grown : HasRunFrame (run_more run (scalar_in op)) = record {
+    let item_with : HasRunFrame (run_more run (scalar_in op)) = record {
       id = begun.id;
       section = begun.section;
       left = begun.left;
@@ -58,9 +58,9 @@ longer_is run op more begun has e =
       text = record { some = omega (arith, long, begun.some); short = omega (arith, long, room); scalars = All-push IsScalar run.text (scalar_in op) begun.scalars next.4 };
       counters_fit = omega (arith, long, next.0.counter_fits);
     } in
-    subst (λ (i : Item). (IsItem Version2 i) × (item_ops i ≡ run_ops run ++ op ∷ [])) p.1 (grown, typed_more run (scalar_in op) ∙ ap (λ (o : Op). run_ops run ++ o ∷ []) (sym is))
+    subst (λ (i : Item). (IsItem Version2 i) × (item_ops i ≡ run_ops run ++ op ∷ [])) p.1 (item_with, typed_more run (scalar_in op) ∙ ap (λ (o : Op). run_ops run ++ o ∷ []) (sym is))
 
-pub extends : (begun : Item) (op : Op) (more : Item) → IsItem Version2 begun → HasFrame op → grown begun op ≡ Some more → Extends begun op more
+pub extends : (begun : Item) (op : Op) (more : Item) → IsItem Version2 begun → HasFrame op → item_with begun op ≡ Some more → Extends begun op more
 extends (Single (Section id left right title)) op more is has e = absurd (cc e)
 extends (Single (Delete target)) op more is has e = absurd (cc e)
 extends (Single (Note id named code body)) op more is has e = absurd (cc e)
@@ -96,7 +96,7 @@ no_note : (id : Identifier) (named : List Identifier) (code : ℕ) (body : List 
 no_note id named code body i s l r [] rest behind some same = omega (arith, some)
 no_note id named code body i s l r (c ∷ text) rest behind some same = cc same
 
-no_longer : (begun other : Item) (op : Op) (rest behind : List Op) → IsItem Version2 begun → IsItem Version2 other → grown begun op ≡ None → item_ops begun ++ op ∷ rest ≡ item_ops other ++ behind
+no_longer : (begun other : Item) (op : Op) (rest behind : List Op) → IsItem Version2 begun → IsItem Version2 other → item_with begun op ≡ None → item_ops begun ++ op ∷ rest ≡ item_ops other ++ behind
     → length (item_ops other) ≤ length (item_ops begun)
 no_longer (Single a) (Single b) op rest behind is has none same = omega arith
 no_longer (Typed run) (Single b) op rest behind is has none same = omega (arith, length-run run, is.text.some)
@@ -111,7 +111,7 @@ no_longer (Single (Text id section left right ch)) (Typed other) op rest behind 
 no_longer (Typed run) (Typed other) op rest behind is has none same =
     omega (arith, length-run other, length-run run, not_longer run other op rest behind (begun_run run is) has none same)
 
-pub longest_here : (begun : Item) (op : Op) (rest : List Op) → IsItem Version2 begun → grown begun op ≡ None → IsLongest (item_framed begun) (item_ops begun ++ op ∷ rest)
+pub longest_here : (begun : Item) (op : Op) (rest : List Op) → IsItem Version2 begun → item_with begun op ≡ None → IsLongest (item_framed begun) (item_ops begun ++ op ∷ rest)
 longest_here begun op rest is none other behind has same =
     subst (λ (n : ℕ). n ≤ length (item_ops begun)) (ap length (sym has.ops_are))
     (no_longer begun has.item op rest behind is has.is_item none (same ∙ ap (λ (l : List Op). l ++ behind) has.ops_are))
@@ -139,15 +139,15 @@ none_left = record { are_frames = All-nil (IsFrame Version2); ops_are = refl; lo
 from_are : (begun : Item) (ops : List Op) → IsItem Version2 begun → All HasFrame ops → AreItems (map item_framed (items_from begun ops)) (item_ops begun ++ ops)
 from_are begun [] is all = one_before begun [] [] is (longest_at_end begun) none_left
 from_are begun (op ∷ ops) is all =
-    by_case (grown begun op) refl (λ more allowed. from_are more ops allowed (All-tail HasFrame op ops all)) (from_are (Single op) ops (All-head HasFrame op ops all) (All-tail HasFrame op ops all))
+    by_case (item_with begun op) refl (λ more allowed. from_are more ops allowed (All-tail HasFrame op ops all)) (from_are (Single op) ops (All-head HasFrame op ops all) (All-tail HasFrame op ops all))
   where
-    by_case : (o : Option Item) → grown begun op ≡ o → ((more : Item) → IsItem Version2 more → AreItems (map item_framed (items_from more ops)) (item_ops more ++ ops))
+    by_case : (o : Option Item) → item_with begun op ≡ o → ((more : Item) → IsItem Version2 more → AreItems (map item_framed (items_from more ops)) (item_ops more ++ ops))
         → AreItems (map item_framed (items_from (Single op) ops)) (op ∷ ops)
         → AreItems (map item_framed (elim o [ Some more ↦ items_from more ops | None ↦ begun ∷ items_from (Single op) ops ])) (item_ops begun ++ op ∷ ops)
-    by_case (Some more) e grown single =
+    by_case (Some more) e item_with single =
         let p = extends begun op more is (All-head HasFrame op ops all) e in
-        subst (AreItems (map item_framed (items_from more ops))) (ap (λ (l : List Op). l ++ ops) p.ops ∙ append_assoc (item_ops begun) (op ∷ []) ops) (grown more p.is_item)
-    by_case None e grown single = one_before begun (op ∷ ops) (map item_framed (items_from (Single op) ops)) is (longest_here begun op ops is e) single
+        subst (AreItems (map item_framed (items_from more ops))) (ap (λ (l : List Op). l ++ ops) p.ops ∙ append_assoc (item_ops begun) (op ∷ []) ops) (item_with more p.is_item)
+    by_case None e item_with single = one_before begun (op ∷ ops) (map item_framed (items_from (Single op) ops)) is (longest_here begun op ops is e) single
 
 pub items_are : (ops : List Op) → All HasFrame ops → AreItems (map item_framed (items ops)) ops
 items_are [] all = none_left

@@ -1,5 +1,5 @@
 -- The order of a place: it agrees with the comparison of elements, older elements keep theirs as the history grows, and the order has exactly the elements of the place, whose origins and chains are of the same place.
-use Rattle.origin_model.proofs.Words.{All, All-contains, All-nil, All-push, All-weaker, Bool, Contains, Identifier, IsIn, IsOrderedBy, Lawful, List, None, Op, Option, Place, Some, [], all_insert, all_pairs_head, all_pairs_nil, all_pairs_tail, ap, arith, before_in, cases_Bool, cases_origin, chain, count_by, element_of, false, false_from_ne_true, fits, fork_before, get_or, id_eq-true, id_lt, id_of, index_of_origin, inl, inr, insert, is_own, is_some, left_of, lefts, length, next_left, next_right, older_of, order, origin_eq, placed, ranked, refl, right_at, right_of, rights, subst, suc, sym, true, true≢false, zero, ℕ, ◌&&◌, ◌<◌, ◌||◌, ◌∙◌, ◌∷◌, ◌≡◌, ◌≤◌, ◌⊎◌}
+use Rattle.origin_model.proofs.Words.{All, All-contains, All-nil, All-push, All-weaker, Bool, Contains, Identifier, IsIn, IsOrderedBy, Lawful, List, None, Op, Option, Place, Some, [], all_insert, all_pairs_head, all_pairs_nil, all_pairs_tail, ap, arith, before_in, cases_Bool, cases_origin, chain, count_by, element_of, false, false_from_ne_true, fits, fork_before, get_or, id_eq-true, id_lt, id_of, index_of_origin, inl, inr, insert, is_own, is_some, left_of, lefts, length, next_left, next_right, older_of, order, origin_eq, placed, precedes, refl, right_at, right_of, rights, subst, suc, sym, true, true≢false, zero, ℕ, ◌&&◌, ◌<◌, ◌||◌, ◌∙◌, ◌∷◌, ◌≡◌, ◌≤◌, ◌⊎◌}
 use Rattle.fugue_ids.proofs.ListLemmas.{contains_insert, contains_inserted}
 use Rattle.origin_model.proofs.operations.LookupLemmas.{Fits, IsHeld, IsReady, held_not_own, holder-other, holder-own, holder_owns, holds-older, holds-own, left_fits, origin_role, own_id, role_by, right_at_held, right_by, right_fits, when_ready}
 use Rattle.origin_model.proofs.operations.ElementLemmas.{element_own, element_stands, fits_element, role_in}
@@ -60,7 +60,7 @@ fork_moved p (op ∷ older) c d w =
           let here : index_of_origin (insert o n f.0) (right_at h c) ≡ shifted n (index_of_origin o (right_at h c)) = index-insert o n f.0 (right_at h c) (count_by-le-length q o) (right_not_newest op older f.0 c w own) in
           let there : index_of_origin (insert o n f.0) (right_at h d) ≡ shifted n (index_of_origin o (right_at h d)) = index-insert o n f.0 (right_at h d) (count_by-le-length q o) (right_not_newest op older f.0 d w own) in
           ap (λ o. fork_before o h c d) (order-some p op older f.0 f.1)
-          ∙ (λ i. ranked (here i) (there i) c d)
+          ∙ (λ i. precedes (here i) (there i) c d)
           ∙ (λ i. shifted-lt n (index_of_origin o (right_at h d)) (index_of_origin o (right_at h c)) i || (shifted-eq n (index_of_origin o (right_at h d)) (index_of_origin o (right_at h c)) i && id_lt c d))
     ]
 
@@ -77,7 +77,7 @@ module _ (p : Place) (op : Op) (older : List Op) (w : Lawful (op ∷ older)) whe
   -- held elements compare at a fork as before
   fork-older : (c d : Identifier) → IsHeld older c → IsHeld older d → fork_before (order p older) (op ∷ older) c d ≡ fork_before (order p (older_of older)) older c d
   fork-older c d k l =
-      (λ i. ranked (index_of_origin (order p older) (right-older c k i)) (index_of_origin (order p older) (right-older d l i)) c d)
+      (λ i. precedes (index_of_origin (order p older) (right-older c k i)) (index_of_origin (order p older) (right-older d l i)) c d)
       ∙ fork_moved p older c d w.1
 
   -- held elements compare as before

@@ -1,20 +1,20 @@
 -- For any history and any finished list, the comparison of elements is a strict order, and total on the elements that are held.
-use Rattle.origin_model.proofs.Words.{arith, id_eq, ranked, All, chain_before, ◌∙◌, Identifier, List, Op, before_in, false, fork_before, index_of_origin, lefts, ne-id_eq, next_left, next_right, right_at, rights, sibling, true, ℕ, ◌≡◌, ◌≢◌}
+use Rattle.origin_model.proofs.Words.{arith, id_eq, precedes, All, chain_before, ◌∙◌, Identifier, List, Op, before_in, false, fork_before, index_of_origin, lefts, ne-id_eq, next_left, next_right, right_at, rights, sibling, true, ℕ, ◌≡◌, ◌≢◌}
 use Rattle.std.proofs.lemmas.Bool.Decides.{nat_tests}
 use Rattle.origin_model.proofs.order.ChainOrderLemmas.{chain_before-agree, chain_before-irrefl, chain_before-total, chain_before-trans}
 use Rattle.origin_model.proofs.operations.LookupLemmas.{IsHeld}
 use Rattle.origin_model.proofs.order.ChainLemmas.{chain-held, same_chain}
 
 -- nothing stands before itself by rank and identifier
-pub ranked-irrefl : (n : ℕ) (a : Identifier) → ranked n n a a ≡ false
+pub ranked-irrefl : (n : ℕ) (a : Identifier) → precedes n n a a ≡ false
 ranked-irrefl n a = grind (arith, nat_tests)
 
 -- rank and identifier are transitive
-pub ranked-trans : (l m n : ℕ) (a b c : Identifier) → ranked l m a b ≡ true → ranked m n b c ≡ true → ranked l n a c ≡ true
+pub ranked-trans : (l m n : ℕ) (a b c : Identifier) → precedes l m a b ≡ true → precedes m n b c ≡ true → precedes l n a c ≡ true
 ranked-trans l m n a b c h k = grind (arith, nat_tests)
 
 -- of two distinct ones, one stands first by rank and identifier
-pub ranked-total : (m n : ℕ) (a b : Identifier) → id_eq a b ≡ false → ranked m n a b ≡ false → ranked n m b a ≡ true
+pub ranked-total : (m n : ℕ) (a b : Identifier) → id_eq a b ≡ false → precedes m n a b ≡ false → precedes n m b a ≡ true
 ranked-total m n a b h k = grind (arith, nat_tests)
 
 -- the comparisons by a finished list o and a history h

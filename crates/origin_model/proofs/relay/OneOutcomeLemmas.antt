@@ -7,7 +7,7 @@ use Rattle.origin_model.specs.declared.relay.Reply.{Reply}
 use Rattle.origin_model.specs.declared.grammar.Grammar.TheVariants.{Version2}
 use Rattle.origin_model.specs.frames.Frames.{Framed, IsFrame, IsPartial, Item, Single, Typed, item_bytes}
 use Rattle.origin_model.specs.relay.Relay.{Relay, RelayRuns, RelaySteps, StepsPiece, session_opened, reply_of, sessions_after}
-use Rattle.origin_model.specs.relay.Session.{Closes, Closing, Frame, Front, Goes, IsKind, Kind, Neither, Next, SessionReading, Taken, TakesAll, TakesByte, TakesOne, closing, greeted, told}
+use Rattle.origin_model.specs.relay.Session.{Closes, Closing, Frame, Front, Goes, IsKind, Kind, Neither, Next, SessionReading, Taken, TakesAll, TakesByte, TakesOne, closing, greeting_read, told}
 
 -- of frames at the front of the same bytes there is one
 abbrev pub FramesOnce : Type 0
@@ -112,7 +112,7 @@ SomeKind = (bytes : List ℕ) → (kind : Kind) × IsKind kind bytes
 
 -- one byte has an outcome
 byte_some : SomeKind → (limit : ℕ) (log : List (List ℕ)) (cursor : Option ℕ) (bytes : List ℕ) → (after : Taken) × TakesByte limit log cursor bytes after
-byte_some some limit log None bytes = (greeted log bytes, refl)
+byte_some some limit log None bytes = (greeting_read log bytes, refl)
 byte_some some limit log (Some cursor) bytes = let k = some bytes in (told k.0 limit log cursor bytes, (k.0, k.1, refl))
 
 -- also where the session is closed

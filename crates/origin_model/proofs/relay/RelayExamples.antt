@@ -13,7 +13,7 @@ use Rattle.origin_model.specs.declared.grammar.Grammar.TheVariants.{Version2}
 use Rattle.origin_model.specs.frames.Frames.{Framed, HasFrame, IsFrame, IsItem, Item, Run, Single, Typed, frame, item_bytes, run_frame, run_ops}
 use Rattle.origin_model.proofs.frames.SingleLemmas.{framed_is, framed_of}
 use Rattle.origin_model.specs.relay.Relay.{Relay, RelayRuns, Sessions, RelaySteps, new_relay, reply_of}
-use Rattle.origin_model.specs.relay.Session.{reply_from, Closes, Goes, SessionReading, IsKind, Neither, Taken, TakesAll, closing, session_goes_on, greeted, refusal_message, session_refused, unread}
+use Rattle.origin_model.specs.relay.Session.{reply_from, Closes, Goes, SessionReading, IsKind, Neither, Taken, TakesAll, closing, session_goes_on, greeting_read, refusal_message, session_refused, unread}
 use Rattle.origin_model.proofs.relay.OneOutcomeLemmas.{begins_low, first}
 use Rattle.origin_model.proofs.relay.RunLemmas.{after_piece, open_stays, opened_steps, unknown_steps, piece_steps, follows_runs}
 use Rattle.origin_model.proofs.relay.TextLemmas.{closing_takes, hello, hello_takes, closed_takes, frame_takes, front_takes, partly, takes-append}
@@ -131,8 +131,8 @@ module _ (others : Sessions) where
       let c : Sessions = finite.insert b 2 (greets (0x48 ∷ 0 ∷ 0 ∷ [])) in
       let d : Sessions = finite.insert c 2 (greets (0x48 ∷ 0 ∷ 0 ∷ 0 ∷ [])) in
       let e : Sessions = finite.insert d 2 (behind 1) in
-      let more : (old : Sessions) (bytes : List ℕ) (byte : ℕ) → finite.get old 2 ≡ Some (greets bytes) → RelaySteps (relay both old) (Piece 2 (byte ∷ [])) (after_piece (relay both old) 2 (greeted both (bytes ++ byte ∷ []))) (reply_of 2 (greeted both (bytes ++ byte ∷ [])).next) = λ old bytes byte g.
-      piece_steps (relay both old) 2 (greets bytes) (byte ∷ []) (greeted both (bytes ++ byte ∷ [])) g (greeted both (bytes ++ byte ∷ []), refl, refl) in
+      let more : (old : Sessions) (bytes : List ℕ) (byte : ℕ) → finite.get old 2 ≡ Some (greets bytes) → RelaySteps (relay both old) (Piece 2 (byte ∷ [])) (after_piece (relay both old) 2 (greeting_read both (bytes ++ byte ∷ []))) (reply_of 2 (greeting_read both (bytes ++ byte ∷ [])).next) = λ old bytes byte g.
+      piece_steps (relay both old) 2 (greets bytes) (byte ∷ []) (greeting_read both (bytes ++ byte ∷ [])) g (greeting_read both (bytes ++ byte ∷ []), refl, refl) in
       let s = more others [] 0x48 found in
       let t = more a (0x48 ∷ []) 0 (simp gets refl) in
       let u = more b (0x48 ∷ 0 ∷ []) 0 (simp gets refl) in
@@ -252,8 +252,8 @@ reopened_run =
     let b : Sessions = finite.insert a 1 (greets (0x48 ∷ [])) in
     let c : Sessions = finite.insert b 1 (greets (0x48 ∷ 0 ∷ [])) in
     let gone : Sessions = finite.remove c 1 in
-    let more : (old : Sessions) (bytes : List ℕ) (byte : ℕ) → finite.get old 1 ≡ Some (greets bytes) → RelaySteps (relay [] old) (Piece 1 (byte ∷ [])) (after_piece (relay [] old) 1 (greeted [] (bytes ++ byte ∷ []))) (reply_of 1 (greeted [] (bytes ++ byte ∷ [])).next) = λ old bytes byte g.
-    piece_steps (relay [] old) 1 (greets bytes) (byte ∷ []) (greeted [] (bytes ++ byte ∷ [])) g (greeted [] (bytes ++ byte ∷ []), refl, refl) in
+    let more : (old : Sessions) (bytes : List ℕ) (byte : ℕ) → finite.get old 1 ≡ Some (greets bytes) → RelaySteps (relay [] old) (Piece 1 (byte ∷ [])) (after_piece (relay [] old) 1 (greeting_read [] (bytes ++ byte ∷ []))) (reply_of 1 (greeting_read [] (bytes ++ byte ∷ [])).next) = λ old bytes byte g.
+    piece_steps (relay [] old) 1 (greets bytes) (byte ∷ []) (greeting_read [] (bytes ++ byte ∷ [])) g (greeting_read [] (bytes ++ byte ∷ []), refl, refl) in
     let n = opened_steps (new_relay many) 1 (simp gets refl) in
     let o = more a [] 0x48 (simp gets refl) in
     let p = open_stays (relay [] b) 1 (greets (0x48 ∷ [])) (simp gets refl) in

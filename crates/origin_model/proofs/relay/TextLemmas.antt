@@ -4,7 +4,7 @@ use Rattle.std.proofs.lemmas.Nat.{from_be_bytes-to_be_bytes_4}
 use Rattle.std.specs.Int.{byte_at, to_be_bytes, w32}
 use Rattle.origin_model.specs.declared.grammar.Grammar.TheVariants.{Version2}
 use Rattle.origin_model.specs.frames.Frames.{Framed, IsFrame, IsPartial}
-use Rattle.origin_model.specs.relay.Session.{Closes, Closing, Frame, Front, Goes, Taken, TakesAll, reply_from, at_cursor, closing, greeted, greeting, joined, unread}
+use Rattle.origin_model.specs.relay.Session.{Closes, Closing, Frame, Front, Goes, Taken, TakesAll, reply_from, at_cursor, closing, greeting_read, greeting, log_joined, unread}
 use Rattle.origin_model.proofs.frames.LengthLemmas.{frame_wide}
 
 -- bytes that come one after the other are read as the bytes joined
@@ -42,18 +42,18 @@ module _ (framed : Framed) (is : IsFrame Version2 framed) where
         next_front xs (y ∷ ys) z zs e = front_of xs y (ys ++ z ∷ zs) e
 
     -- the bytes y and ys, behind the bytes xs of a frame, end it
-    pub rest_takes : (ys xs : List ℕ) (y : ℕ) → framed.bytes ≡ xs ++ y ∷ ys → TakesAll limit (y ∷ ys) (partly log cursor xs) (joined limit log cursor framed.ops)
+    pub rest_takes : (ys xs : List ℕ) (y : ℕ) → framed.bytes ≡ xs ++ y ∷ ys → TakesAll limit (y ∷ ys) (partly log cursor xs) (log_joined limit log cursor framed.ops)
     rest_takes [] xs y e =
-        (joined limit log cursor framed.ops, (Frame framed.ops, record { item = is.item; is_item = is.is_item; bytes_are = sym e ∙ is.bytes_are; ops_are = is.ops_are }, refl), refl)
+        (log_joined limit log cursor framed.ops, (Frame framed.ops, record { item = is.item; is_item = is.is_item; bytes_are = sym e ∙ is.bytes_are; ops_are = is.ops_are }, refl), refl)
     rest_takes (z ∷ zs) xs y e =
         let split : framed.bytes ≡ (xs ++ y ∷ []) ++ z ∷ zs = e ∙ sym (append_assoc xs (y ∷ []) (z ∷ zs)) in
         (partly log cursor (xs ++ y ∷ []), (Front, front_of (xs ++ y ∷ []) z zs split, refl), rest_takes zs (xs ++ y ∷ []) z split)
 
     -- a frame that comes behind a whole message is taken at its last byte
-    pub frame_takes : TakesAll limit framed.bytes (partly log cursor []) (joined limit log cursor framed.ops)
+    pub frame_takes : TakesAll limit framed.bytes (partly log cursor []) (log_joined limit log cursor framed.ops)
     frame_takes = by framed.bytes refl
       where
-        by : (bytes : List ℕ) → framed.bytes ≡ bytes → TakesAll limit bytes (partly log cursor []) (joined limit log cursor framed.ops)
+        by : (bytes : List ℕ) → framed.bytes ≡ bytes → TakesAll limit bytes (partly log cursor []) (log_joined limit log cursor framed.ops)
         by [] none = absurd (omega (arith, ap length none, frame_wide Version2 framed is))
         by (y ∷ ys) e = rest_takes ys [] y e
 
@@ -65,15 +65,15 @@ hello cursor = greeting ∷ to_be_bytes w32 cursor
 pub hello_takes : (limit : ℕ) (log : List (List ℕ)) (cursor : ℕ) → cursor < 2 ^ 32 → TakesAll limit (hello cursor) (record { log = log; next = Goes unread }) (at_cursor log cursor)
 hello_takes limit log cursor fits =
     let b : ℕ → ℕ = λ k. byte_at k cursor in (
-      greeted log (greeting ∷ []),
+      greeting_read log (greeting ∷ []),
       refl,
       (
-        greeted log (greeting ∷ b 3 ∷ []),
+        greeting_read log (greeting ∷ b 3 ∷ []),
         refl,
         (
-          greeted log (greeting ∷ b 3 ∷ b 2 ∷ []),
+          greeting_read log (greeting ∷ b 3 ∷ b 2 ∷ []),
           refl,
-          (greeted log (greeting ∷ b 3 ∷ b 2 ∷ b 1 ∷ []), refl, (at_cursor log cursor, ap (at_cursor log) (sym (from_be_bytes-to_be_bytes_4 cursor fits)), refl)),
+          (greeting_read log (greeting ∷ b 3 ∷ b 2 ∷ b 1 ∷ []), refl, (at_cursor log cursor, ap (at_cursor log) (sym (from_be_bytes-to_be_bytes_4 cursor fits)), refl)),
         ),
       ),
     )

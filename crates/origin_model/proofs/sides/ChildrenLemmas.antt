@@ -1,5 +1,5 @@
 -- The children of the slots, sorted, are a table of the place.
-use Rattle.origin_model.proofs.Words.{All, All-contains, AllPairs, Bool, Contains, Contains-append_right, Identifier, IsIn, IsOrderedBy, Lawful, List, None, Op, Option, Place, Some, [], all_from_contains, all_pairs_head, all_pairs_nil, all_pairs_tail, ap, arith, contains_cases, contains_filter_from, contains_here, contains_none, contains_there, count_by, element_of, false, filter, fork_before, id_lt, index_of_origin, inl, inr, is_own, left_of, ne-id_eq, older_of, option_to_list, order, ranked, refl, right_at, right_of, subst, sym, true, true≢false, ℕ, ◌++◌, ◌∙◌, ◌∷◌, ◌≡◌, ◌≢◌, ◌⊎◌}
+use Rattle.origin_model.proofs.Words.{All, All-contains, AllPairs, Bool, Contains, Contains-append_right, Identifier, IsIn, IsOrderedBy, Lawful, List, None, Op, Option, Place, Some, [], all_from_contains, all_pairs_head, all_pairs_nil, all_pairs_tail, ap, arith, contains_cases, contains_filter_from, contains_here, contains_none, contains_there, count_by, element_of, false, filter, fork_before, id_lt, index_of_origin, inl, inr, is_own, left_of, ne-id_eq, older_of, option_to_list, order, precedes, refl, right_at, right_of, subst, sym, true, true≢false, ℕ, ◌++◌, ◌∙◌, ◌∷◌, ◌≡◌, ◌≢◌, ◌⊎◌}
 use Rattle.origin_model.proofs.order.{IsIn-held, IsIn-older, IsIn-own, IsIn-split, Ordered-agree, fork-total, fork-trans, fork_moved}
 use Rattle.origin_model.proofs.order.OrderedListLemmas.{placed-ordered}
 use Rattle.origin_model.proofs.order.StrictOrderLemmas.{ranked-total, ranked-trans}
@@ -104,7 +104,7 @@ module _ (o : List Identifier) (h : List Op) where
   child-total (LeftOf q) = λ a b n. ranked-total 0 0 a b (ne-id_eq a b n)
 
   -- at one rank the identifier decides
-  same_rank : (n : ℕ) (a b : Identifier) → id_lt a b ≡ ranked n n a b
+  same_rank : (n : ℕ) (a b : Identifier) → id_lt a b ≡ precedes n n a b
   same_rank n a b = grind (arith, nat_tests)
 
   -- left children have one right origin
@@ -117,7 +117,7 @@ module _ (o : List Identifier) (h : List Op) where
   child-fork p (RightOf l) u v k j = refl
   child-fork p (LeftOf q) u v k j =
       same_rank (index_of_origin o (Some q)) u v
-      ∙ (λ i. ranked (index_of_origin o (sym (child-right p q u k) i))
+      ∙ (λ i. precedes (index_of_origin o (sym (child-right p q u k) i))
       (index_of_origin o (sym (child-right p q v j) i)) u v)
 
 -- the children of the slots of a lawful history

@@ -10,7 +10,7 @@ use Rattle.fugue_ids.specs.declared.key.Key.{Key}
 use Rattle.origin_model.specs.edits.Landing.{first_after}
 use Rattle.origin_model.specs.sides.KeyLaws.{AllFit}
 use Rattle.origin_model.specs.sides.KeyedGap.{block_end, block_start, widest}
-use Rattle.origin_model.specs.sides.Keys.{depth_of, search_key_of, keyed, keyed_as}
+use Rattle.origin_model.specs.sides.Keys.{depth_of, search_key_of, with_keys, keyed_as}
 use Rattle.origin_model.proofs.edits.LandsBehindLemmas.{cut_member}
 use Rattle.origin_model.proofs.order.{before_at, first_before, first_of, front_before, last_of, order-has, order-member, order-ordered}
 use Rattle.origin_model.proofs.sides.BlockLemmas.{To, deep_block, flat_y, from_s, irrefl, loop, lower_block, next_block, no_turn, over_block, to_q}
@@ -145,23 +145,23 @@ module _ (p : Place) (h : List Op) (w : Lawful h) where
     fits_at x m = All-contains (λ z. IsFit (keyed_as h z)) o x (all_from_map (keyed_as h) IsFit o fit) m
 
     -- what stands behind s and no deeper begins behind its block
-    pub end_low : (s y : Identifier) (ms : IsIn p h s) (l : IsLastIn p h s y) (r : EndParts s y) → first_low (widest (depth_of h s)) (rest_of (Some s) (keyed h o)) ≡ first_after r.after
+    pub end_low : (s y : Identifier) (ms : IsIn p h s) (l : IsLastIn p h s y) (r : EndParts s y) → first_low (widest (depth_of h s)) (rest_of (Some s) (with_keys h o)) ≡ first_after r.after
     end_low s y ms l r =
         let whole : o ≡ r.front ++ (s ∷ (r.back ++ r.after)) = r.whole ∙ append_assoc r.front (s ∷ r.back) r.after in
-        ap (first_low (widest (depth_of h s))) (ap (λ t. rest_of (Some s) (keyed h t)) whole ∙ rest_ids h (before_at p h) (irrefl p h w) r.front (r.back ++ r.after) s (subst (IsOrderedBy (before_at p h)) whole sorted))
+        ap (first_low (widest (depth_of h s))) (ap (λ t. rest_of (Some s) (with_keys h t)) whole ∙ rest_ids h (before_at p h) (irrefl p h w) r.front (r.back ++ r.after) s (subst (IsOrderedBy (before_at p h)) whole sorted))
         ∙ first_head h (widest (depth_of h s)) r.back r.after
         (λ x m. let i = r.inside x m in deep_high (depth_of h s) (keyed_as h x) (deep_block p h w s y ms l x i.0 i.1))
         (λ c cs e. flat_low (depth_of h s) (keyed_as h c) (fits_at c (subst (λ t. Contains t c) (sym (r.whole ∙ ap (λ t. (r.front ++ s ∷ r.back) ++ t) e)) (Contains-append_right (r.front ++ s ∷ r.back) (c ∷ cs) c (contains_here c cs)))) (r.stop c cs e))
 
     -- the search by the depth ends at the last of the block
-    pub end_found : (s y : Identifier) → IsIn p h s → IsLastIn p h s y → block_end (keyed h o) (depth_of h s) s ≡ y
+    pub end_found : (s y : Identifier) → IsIn p h s → IsLastIn p h s y → block_end (with_keys h o) (depth_of h s) s ≡ y
     end_found s y ms l =
         let r = end_parts s y ms l in
         let Z : List Identifier = r.front ++ s ∷ r.back in
-        ap (λ t. unwrap_or (last_id (front_of t (keyed h o))) s) (end_low s y ms l r)
-        ∙ ap (λ t. unwrap_or (last_id t) s) (ap (λ t. front_of (first_after r.after) (keyed h t)) r.whole ∙ front_head h (before_at p h) (irrefl p h w) Z r.after (subst (IsOrderedBy (before_at p h)) r.whole sorted))
-        ∙ ap (λ t. unwrap_or (last_id t) s) (ap (keyed h) r.last.1 ∙ map-append (keyed_as h) r.last.0 (y ∷ []))
-        ∙ ap (λ t. unwrap_or t s) (last_push (keyed h r.last.0) (keyed_as h y))
+        ap (λ t. unwrap_or (last_id (front_of t (with_keys h o))) s) (end_low s y ms l r)
+        ∙ ap (λ t. unwrap_or (last_id t) s) (ap (λ t. front_of (first_after r.after) (with_keys h t)) r.whole ∙ front_head h (before_at p h) (irrefl p h w) Z r.after (subst (IsOrderedBy (before_at p h)) r.whole sorted))
+        ∙ ap (λ t. unwrap_or (last_id t) s) (ap (with_keys h) r.last.1 ∙ map-append (keyed_as h) r.last.0 (y ∷ []))
+        ∙ ap (λ t. unwrap_or t s) (last_push (with_keys h r.last.0) (keyed_as h y))
 
     -- q, and the first of its block
     module _ (q y : Identifier) (mq : IsIn p h q) (f : IsFirstIn p h q y) (r : StartParts q y) (b : PartedLow h (search_key_of h q) r.front) where
@@ -176,9 +176,9 @@ module _ (p : Place) (h : List Op) (w : Lawful h) where
           over_block p h w q y mq f e (order-member p h e w n) i.0 i.1
 
       -- the last before q whose key is no greater
-      pub start_low : last_low k (front_of (Some q) (keyed h o)) ≡ last_before b.front
+      pub start_low : last_low k (front_of (Some q) (with_keys h o)) ≡ last_before b.front
       start_low =
-          ap (last_low k) (ap (λ t. front_of (Some q) (keyed h t)) r.whole ∙ front_ids h (before_at p h) (irrefl p h w) (r.front ++ r.inner) r.back q (subst (IsOrderedBy (before_at p h)) r.whole sorted))
+          ap (last_low k) (ap (λ t. front_of (Some q) (with_keys h t)) r.whole ∙ front_ids h (before_at p h) (irrefl p h w) (r.front ++ r.inner) r.back q (subst (IsOrderedBy (before_at p h)) r.whole sorted))
           ∙ last_high h k r.front r.inner (λ e m. over_high k (keyed_as h e) (inner_over e m))
           ∙ last_parted h k r.front b
 
@@ -191,10 +191,10 @@ module _ (p : Place) (h : List Op) (w : Lawful h) where
           ∙ append_assoc b.front (b.back ++ r.inner) (q ∷ r.back)
 
       -- what stands behind it
-      pub start_rest : rest_of (last_low k (front_of (Some q) (keyed h o))) (keyed h o) ≡ keyed h ((b.back ++ r.inner) ++ q ∷ r.back)
+      pub start_rest : rest_of (last_low k (front_of (Some q) (with_keys h o))) (with_keys h o) ≡ with_keys h ((b.back ++ r.inner) ++ q ∷ r.back)
       start_rest =
-          ap (λ t. rest_of t (keyed h o)) start_low
-          ∙ ap (λ t. rest_of (last_before b.front) (keyed h t)) start_whole
+          ap (λ t. rest_of t (with_keys h o)) start_low
+          ∙ ap (λ t. rest_of (last_before b.front) (with_keys h t)) start_whole
           ∙ rest_end h (before_at p h) (irrefl p h w) b.front ((b.back ++ r.inner) ++ q ∷ r.back) (subst (IsOrderedBy (before_at p h)) start_whole sorted)
 
       -- what stands between it and the block is deeper than q
@@ -221,13 +221,13 @@ module _ (p : Place) (h : List Op) (w : Lawful h) where
           ]
 
       -- the search by the key ends at the first of the block
-      start_at : block_start (keyed h o) k q ≡ y
+      start_at : block_start (with_keys h o) k q ≡ y
       start_at =
           let whole : (b.back ++ r.inner) ++ q ∷ r.back ≡ b.back ++ y ∷ r.first.0 = append_assoc b.back r.inner (q ∷ r.back) ∙ ap (λ t. b.back ++ t) r.first.1 in
-          ap (λ t. unwrap_or (first_low (widest k.depth) t) q) (start_rest ∙ ap (keyed h) whole)
+          ap (λ t. unwrap_or (first_low (widest k.depth) t) q) (start_rest ∙ ap (with_keys h) whole)
           ∙ ap (λ t. unwrap_or t q) (first_head h (widest k.depth) b.back (y ∷ r.first.0)
           (λ x m. deep_high k.depth (keyed_as h x) (deep_between x m))
           (λ c cs e. let d : y ≡ c = cc in subst (λ z. is_low (widest k.depth) (keyed_as h z) ≡ true) d (flat_low k.depth (keyed_as h y) (fits_at y (order-has p h y f.member)) (flat_y p h w q y mq f))))
 
-    pub start_found : (q y : Identifier) → IsIn p h q → IsFirstIn p h q y → block_start (keyed h o) (search_key_of h q) q ≡ y
+    pub start_found : (q y : Identifier) → IsIn p h q → IsFirstIn p h q y → block_start (with_keys h o) (search_key_of h q) q ≡ y
     start_found q y mq f = let r = start_parts q y mq f in start_at q y mq f r (parted_low h (search_key_of h q) r.front)

@@ -9,7 +9,7 @@ use Rattle.origin_model.specs.declared.sides.Slot.{Slot}
 use Rattle.origin_model.specs.declared.sides.Slot.TheVariants.{LeftOf, RightOf}
 use Rattle.origin_model.specs.sides.KeyLaws.{AllFit, BlockEndByKeys, BlockStartByKeys, EndsBlock, GapByKeys, StandsAt}
 use Rattle.origin_model.specs.sides.KeyedGap.{before_all, block_end, gap_behind, gap_by_keys, no_elder_gap, siblings, slot_key}
-use Rattle.origin_model.specs.sides.Keys.{keyed}
+use Rattle.origin_model.specs.sides.Keys.{with_keys}
 use Rattle.origin_model.specs.sides.Slot.{BeforeBlock, HasElder, IsChild, IsGap, NoElder, goes_before, slot_of}
 use Rattle.origin_model.proofs.edits.SplitLemmas.{end_none, end_split}
 use Rattle.origin_model.proofs.operations.LookupLemmas.{when_ready}
@@ -42,7 +42,7 @@ module _ (p : Place) (h : List Op) (w : Lawful h) (fit : AllFit p h) where
   children = table_of p h
 
   abbrev keys : List Keyed
-  keys = keyed h (order p h)
+  keys = with_keys h (order p h)
 
   -- the first below the first child of the start stands before all
   first_all : (v y : Identifier) (rest : List Identifier) → children (RightOf None) ≡ v ∷ rest → BeforeBlock children v y → (e : Identifier) → IsIn p h e → To p h w y e
@@ -97,7 +97,7 @@ module _ (p : Place) (h : List Op) (w : Lawful h) (fit : AllFit p h) where
       ]) refl
 
   -- at the start, without an elder sibling
-  at_start : (es : List Identifier) → order p h ≡ es → NoElder children (RightOf None) (children (RightOf None)) (before_all (first_id (keyed h es)))
+  at_start : (es : List Identifier) → order p h ≡ es → NoElder children (RightOf None) (children (RightOf None)) (before_all (first_id (with_keys h es)))
   at_start [] c =
       elim (first_split (children (RightOf None))) [
         | inl e ↦ e
@@ -167,12 +167,12 @@ goes_up o older op x a b k j = ranked-trans (index_of_origin o (right_at older a
 
 -- so the siblings of a new element fall
 pub fall : (p : Place) (op : Op) (older : List Op) (x : Identifier) → Lawful (op ∷ older) → element_of p op ≡ Some x → AllFit p older
-    → Falls (goes_before (order p older) older op x) (siblings (keyed older (order p older)) (slot_of older op) (slot_key older (slot_of older op)))
+    → Falls (goes_before (order p older) older op x) (siblings (with_keys older (order p older)) (slot_of older op) (slot_key older (slot_of older op)))
 fall p op older x w at fit =
     let s : Slot = slot_of older op in
     let o : List Identifier = order p older in
     let g : Identifier → Bool = goes_before o older op x in
-    all_pairs_weaker (λ a b. fork_before o older a b ≡ true) (λ a b. g b ≡ true → g a ≡ true) (goes_up o older op x) (siblings (keyed older o) s (slot_key older s))
+    all_pairs_weaker (λ a b. fork_before o older a b ≡ true) (λ a b. g b ≡ true → g a ≡ true) (goes_up o older op x) (siblings (with_keys older o) s (slot_key older s))
     (found-sorted p older w.1 fit s (slot_stands p op older x w at))
 
 -- the gap found by keys is the place of the new element
@@ -183,10 +183,10 @@ gap_by_keys_is_place p op older x w at fit =
     let g : Identifier → Bool = goes_before o older op x in
     let t = has_table p older w.1 in
     let m = slot_stands p op older x w at in
-    let found : List Identifier = siblings (keyed older o) s (slot_key older s) in
+    let found : List Identifier = siblings (with_keys older o) s (slot_key older s) in
     let r = falls_apart g found (fall p op older x w at fit) in
     let same : found ≡ table_of p older s = siblings_by_keys p older (table_of p older) s w.1 fit t m in
     let whole : table_of p older s ≡ r.elders ++ r.youngers = sym same ∙ r.whole in
-    gap_is_place p op older x (table_of p older) r.elders r.youngers (gap_by_keys (keyed older o) s (slot_key older s) g) w at t
+    gap_is_place p op older x (table_of p older) r.elders r.youngers (gap_by_keys (with_keys older o) s (slot_key older s) g) w at t
     (record { whole = whole; elder = r.elder; younger = r.younger })
-    (subst (λ e. IsGap (table_of p older) s r.elders r.youngers (gap_behind (keyed older o) s (slot_key older s) e)) (sym r.last) (gap_by p older w.1 fit s m r.elders r.youngers whole))
+    (subst (λ e. IsGap (table_of p older) s r.elders r.youngers (gap_behind (with_keys older o) s (slot_key older s) e)) (sym r.last) (gap_by p older w.1 fit s m r.elders r.youngers whole))

@@ -15,7 +15,7 @@ use Rattle.origin_model.specs.declared.sides.Slot.TheVariants.{LeftOf, RightOf}
 use Rattle.origin_model.specs.edits.Landing.{StandsBehind, following, first_after}
 use Rattle.origin_model.specs.sides.KeyLaws.{HoldsSlot, StandsAt}
 use Rattle.origin_model.specs.sides.KeyedGap.{before_all, child_key, gap_between, gap_by_keys, gap_index, part_from, part_to, siblings, slot_key, slot_part}
-use Rattle.origin_model.specs.sides.Keys.{search_key_of, keyed, keyed_as, keyed_order, new_key, new_keyed}
+use Rattle.origin_model.specs.sides.Keys.{search_key_of, with_keys, keyed_as, keyed_order, new_key, new_keyed}
 use Rattle.origin_model.specs.sides.Node.{AreNodes, as_op, as_ops, has_node, has_origin, node_order}
 use Rattle.origin_model.specs.sides.Slot.{IsBeside, IsPlace, at_gap, goes_before, inserted_before, inserted_behind, slot_by}
 use Rattle.origin_model.proofs.edits.LandsBehindLemmas.{lands_behind_origin}
@@ -38,20 +38,20 @@ pub order_once : (ns : List Node) → AreNodes ns → AllPairs (λ x y. x ≢ y)
 order_once ns a = (order_total catalogue (as_ops ns) (nodes-lawful ns a)).once
 
 -- the key of a member
-key_in : (h : List Op) (xs : List Identifier) (x : Identifier) → Contains xs x → HasKey (keyed h xs) x (search_key_of h x)
+key_in : (h : List Op) (xs : List Identifier) (x : Identifier) → Contains xs x → HasKey (with_keys h xs) x (search_key_of h x)
 key_in h [] x m = absurd (contains_none x m)
 key_in h (e ∷ es) x m =
-    let Has : Bool → Type 0 = λ b. elim b [ true ↦ search_key_of h e ≡ search_key_of h x | false ↦ HasKey (keyed h es) x (search_key_of h x) ] in
+    let Has : Bool → Type 0 = λ b. elim b [ true ↦ search_key_of h e ≡ search_key_of h x | false ↦ HasKey (with_keys h es) x (search_key_of h x) ] in
     elim (cases_id e x) [
       | inl d ↦ subst Has (sym (eq-id_eq e x d)) (ap (search_key_of h) d)
       | inr n ↦ subst Has (sym (ne-id_eq e x n)) (key_in h es x (elim (contains_cases e es x m) [ inl d ↦ absurd (n d) | inr j ↦ j ]))
     ]
 
 -- it has no other
-key_of_member : (h : List Op) (xs : List Identifier) (x : Identifier) (k : Key) → HasKey (keyed h xs) x k → k ≡ search_key_of h x
+key_of_member : (h : List Op) (xs : List Identifier) (x : Identifier) (k : Key) → HasKey (with_keys h xs) x k → k ≡ search_key_of h x
 key_of_member h [] x k m = absurd m
 key_of_member h (e ∷ es) x k m =
-    let Has : Bool → Type 0 = λ b. elim b [ true ↦ search_key_of h e ≡ k | false ↦ HasKey (keyed h es) x k ] in
+    let Has : Bool → Type 0 = λ b. elim b [ true ↦ search_key_of h e ≡ k | false ↦ HasKey (with_keys h es) x k ] in
     elim (cases_id e x) [
       | inl d ↦ sym (subst Has (eq-id_eq e x d) m) ∙ ap (search_key_of h) d
       | inr n ↦ key_of_member h es x k (subst Has (ne-id_eq e x n) m)
@@ -116,10 +116,10 @@ gap_within (Before y) xs b = index_of-within xs y
 gap_within (After y) xs b = let k = contains-below xs y b in omega (arith, k)
 
 -- a list with one more, with keys
-keyed-insert : (h : List Op) (xs : List Identifier) (i : ℕ) (x : Identifier) → keyed h (insert xs i x) ≡ insert (keyed h xs) i (keyed_as h x)
+keyed-insert : (h : List Op) (xs : List Identifier) (i : ℕ) (x : Identifier) → with_keys h (insert xs i x) ≡ insert (with_keys h xs) i (keyed_as h x)
 keyed-insert h [] i x = cases_empty i
   where
-    cases_empty : (i : ℕ) → keyed h (insert [] i x) ≡ insert (keyed h []) i (keyed_as h x)
+    cases_empty : (i : ℕ) → with_keys h (insert [] i x) ≡ insert (with_keys h []) i (keyed_as h x)
     cases_empty zero = refl
     cases_empty (suc i) = refl
 keyed-insert h (e ∷ es) zero x = refl
@@ -152,7 +152,7 @@ module _ (n : Node) (ns : List Node) (a : AreNodes (n ∷ ns)) where
   -- the order with keys has it where the order has it
   joins_at : (i : ℕ) → node_order (n ∷ ns) ≡ insert (node_order ns) i n.id → keyed_order (n ∷ ns) ≡ insert (keyed_order ns) i (new_keyed ns n)
   joins_at i e =
-      ap (keyed (as_op n ∷ h)) e
+      ap (with_keys (as_op n ∷ h)) e
       ∙ keyed-insert (as_op n ∷ h) (node_order ns) i n.id
       ∙ (λ j. insert (keys_stay catalogue (as_op n) h w j) i (own_key j))
 
@@ -208,12 +208,12 @@ module _ (n : Node) (ns : List Node) (a : AreNodes (n ∷ ns)) where
     part_bounds = (part.1.from, part.1.to)
 
   -- what follows an origin is the first behind it
-  follows : (xs : List Identifier) (o : Option Identifier) → first_id (rest_of o (keyed h xs)) ≡ following xs o
+  follows : (xs : List Identifier) (o : Option Identifier) → first_id (rest_of o (with_keys h xs)) ≡ following xs o
   follows [] None = refl
   follows (e ∷ es) None = refl
   follows [] (Some l) = refl
   follows (e ∷ es) (Some l) =
-      elim (id_eq e l) as (λ b. first_id (if b then keyed h es else rest_of (Some l) (keyed h es)) ≡ (if b then first_after es else following es (Some l))) [
+      elim (id_eq e l) as (λ b. first_id (if b then with_keys h es else rest_of (Some l) (with_keys h es)) ≡ (if b then first_after es else following es (Some l))) [
         | true ↦ follows es None
         | false ↦ follows es (Some l)
       ]

@@ -11,7 +11,7 @@ use Rattle.origin_model.specs.declared.sides.Slot.TheVariants.{LeftOf, RightOf}
 use Rattle.origin_model.specs.edits.Landing.{first_after}
 use Rattle.origin_model.specs.sides.KeyLaws.{AllFit, SiblingsByKeys, StandsAt}
 use Rattle.origin_model.specs.sides.KeyedGap.{child_key, part_from, part_to, siblings, slot_key, slot_part}
-use Rattle.origin_model.specs.sides.Keys.{depth_of, forest_of, search_key_of, keyed, keyed_as}
+use Rattle.origin_model.specs.sides.Keys.{depth_of, forest_of, search_key_of, with_keys, keyed_as}
 use Rattle.origin_model.specs.sides.Slot.{IsChild}
 use Rattle.origin_model.proofs.edits.SplitLemmas.{end_push}
 use Rattle.origin_model.proofs.order.{IsIn-held, before_at, chain-ends, chain_above, chain_before-fork, common, first_before, fork-irrefl, fork-trans, front_before, lefts-above, order-has, order-member}
@@ -136,17 +136,17 @@ module _ (p : Place) (h : List Op) (w : Lawful h) (fit : AllFit p h) where
 
   -- the part of the list for the slot s
   pub record IsPart (s : Slot) (part : List Identifier) : Type 0 where
-    pub is_part : slot_part (keyed h o) s (slot_key h s) ≡ keyed h part
+    pub is_part : slot_part (with_keys h o) s (slot_key h s) ≡ with_keys h part
     pub in_order : IsOrderedBy (before_at p h) part
     pub inside : (v : Identifier) → Contains part v → Contains o v
     pub least : (v : Identifier) → Contains part v → key_lt (search_key_of h v) (ck s) ≡ false
     pub is_child : (v : Identifier) → Contains part v → is_low (ck s) (keyed_as h v) ≡ true → IsChild p h s v
     pub full : (v : Identifier) → IsChild p h s v → Contains part v
-    pub from : HoldsOrigin (low_ids (ck s) (keyed h o)) (part_from (keyed h o) s (slot_key h s))
-    pub to : HoldsOrigin (low_ids (ck s) (rest_of (part_from (keyed h o) s (slot_key h s)) (keyed h o))) (part_to (keyed h o) s (slot_key h s))
+    pub from : HoldsOrigin (low_ids (ck s) (with_keys h o)) (part_from (with_keys h o) s (slot_key h s))
+    pub to : HoldsOrigin (low_ids (ck s) (rest_of (part_from (with_keys h o) s (slot_key h s)) (with_keys h o))) (part_to (with_keys h o) s (slot_key h s))
 
   -- an element of a list with a low key
-  low_in : (k : Key) (xs : List Identifier) (x : Identifier) → Contains xs x → is_low k (keyed_as h x) ≡ true → Contains (low_ids k (keyed h xs)) x
+  low_in : (k : Key) (xs : List Identifier) (x : Identifier) → Contains xs x → is_low k (keyed_as h x) ≡ true → Contains (low_ids k (with_keys h xs)) x
   low_in k xs x m j = subst (λ t. Contains t x) (sym (low_ids-keyed h k xs)) (contains_filter (λ z. is_low k (keyed_as h z)) xs x m j)
 
   -- each element is deeper than the start
@@ -182,14 +182,14 @@ module _ (p : Place) (h : List Op) (w : Lawful h) (fit : AllFit p h) where
       let so : IsOrderedBy (before_at p h) (front ++ (l ∷ (r.back ++ r.after))) = subst (IsOrderedBy (before_at p h)) whole (sorted p h w) in
       let lo : IsOrderedBy (before_at p h) (l ∷ (r.back ++ r.after)) = all_pairs_behind T front (l ∷ (r.back ++ r.after)) so in
       let bo : IsOrderedBy (before_at p h) (r.back ++ r.after) = all_pairs_behind T (l ∷ []) (r.back ++ r.after) lo in
-      let rest : rest_of (Some l) (keyed h o) ≡ keyed h (r.back ++ r.after) = ap (λ t. rest_of (Some l) (keyed h t)) whole ∙ rest_ids h (before_at p h) (irrefl p h w) front (r.back ++ r.after) l so in
-      let to : part_to (keyed h o) s (slot_key h s) ≡ first_after r.after = end_low p h w fit l b.0 m b.1 r in
+      let rest : rest_of (Some l) (with_keys h o) ≡ with_keys h (r.back ++ r.after) = ap (λ t. rest_of (Some l) (with_keys h t)) whole ∙ rest_ids h (before_at p h) (irrefl p h w) front (r.back ++ r.after) l so in
+      let to : part_to (with_keys h o) s (slot_key h s) ≡ first_after r.after = end_low p h w fit l b.0 m b.1 r in
       let in_back : (v : Identifier) → Contains r.back v → Contains o v = λ v n.
       subst (λ t. Contains t v) (sym r.whole) (Contains-append_left (front ++ l ∷ r.back) r.after v (Contains-append_right front (l ∷ r.back) v (contains_there l r.back v n))) in
       let deep : (v : Identifier) → Contains r.back v → is_deep (depth_of h l) (keyed_as h v) ≡ true = λ v n. let i = r.inside v n in deep_block p h w l b.0 m b.1 v i.0 i.1 in (
         r.back,
         record {
-          is_part = ap (front_of (part_to (keyed h o) s (slot_key h s))) rest ∙ ap (λ t. front_of t (keyed h (r.back ++ r.after))) to ∙ front_head h (before_at p h) (irrefl p h w) r.back r.after bo;
+          is_part = ap (front_of (part_to (with_keys h o) s (slot_key h s))) rest ∙ ap (λ t. front_of t (with_keys h (r.back ++ r.after))) to ∙ front_head h (before_at p h) (irrefl p h w) r.back r.after bo;
           in_order = all_pairs_before T r.back r.after bo;
           inside = in_back;
           least = λ v n. deep_least (depth_of h l) (keyed_as h v) (deep v n);
@@ -216,14 +216,14 @@ module _ (p : Place) (h : List Op) (w : Lawful h) (fit : AllFit p h) where
                 ]
               ];
           from = low_in (ck s) o l (order-has p h l m) (flat_next (depth_of h l) (keyed_as h l) (not_deep (depth_of h l) (keyed_as h l) refl));
-          to = subst (HoldsOrigin (low_ids (ck s) (rest_of (Some l) (keyed h o)))) (sym to) (
+          to = subst (HoldsOrigin (low_ids (ck s) (rest_of (Some l) (with_keys h o)))) (sym to) (
               subst (λ t. HoldsOrigin (low_ids (ck s) t) (first_after r.after)) (sym rest)
               (head_low r.back r.after (λ c cs e. flat_next (depth_of h l) (keyed_as h c) (r.stop c cs e))));
         },
       )
     where
       head_low : (xs ys : List Identifier) → ((c : Identifier) (cs : List Identifier) → ys ≡ c ∷ cs → is_low (ck (RightOf (Some l))) (keyed_as h c) ≡ true)
-          → HoldsOrigin (low_ids (ck (RightOf (Some l))) (keyed h (xs ++ ys))) (first_after ys)
+          → HoldsOrigin (low_ids (ck (RightOf (Some l))) (with_keys h (xs ++ ys))) (first_after ys)
       head_low xs [] f = tt
       head_low xs (c ∷ cs) f = low_in (ck (RightOf (Some l))) (xs ++ c ∷ cs) c (contains_middle xs c cs) (f c cs refl)
 
@@ -238,7 +238,7 @@ module _ (p : Place) (h : List Op) (w : Lawful h) (fit : AllFit p h) where
       let whole : o ≡ z.front ++ (part ++ q ∷ r.back) = start_whole p h w fit q b.0 m b.1 r z in
       let so : IsOrderedBy (before_at p h) (z.front ++ (part ++ q ∷ r.back)) = subst (IsOrderedBy (before_at p h)) whole (sorted p h w) in
       let po : IsOrderedBy (before_at p h) (part ++ q ∷ r.back) = all_pairs_behind T z.front (part ++ q ∷ r.back) so in
-      let rest : rest_of (part_from (keyed h o) s (slot_key h s)) (keyed h o) ≡ keyed h (part ++ q ∷ r.back) = start_rest p h w fit q b.0 m b.1 r z in
+      let rest : rest_of (part_from (with_keys h o) s (slot_key h s)) (with_keys h o) ≡ with_keys h (part ++ q ∷ r.back) = start_rest p h w fit q b.0 m b.1 r z in
       let in_part : (v : Identifier) → Contains part v → Contains o v = λ v n.
       subst (λ t. Contains t v) (sym whole) (Contains-append_right z.front (part ++ q ∷ r.back) v (Contains-append_left part (q ∷ r.back) v n)) in
       let least : (v : Identifier) → Contains part v → key_lt (search_key_of h v) (ck s) ≡ false = λ v n. elim (Contains-append_cases z.back r.inner v n) [
@@ -291,9 +291,9 @@ module _ (p : Place) (h : List Op) (w : Lawful h) (fit : AllFit p h) where
                       absurd (no_turn p h w b.0 v up (front_before (before_at p h) r.front (b.0 ∷ r.first.0) v b.0 yo j (contains_here b.0 r.first.0)))
                 ]
               ];
-          from = subst (HoldsOrigin (low_ids (ck s) (keyed h o))) (sym (start_low p h w fit q b.0 m b.1 r z)) (elim z.low [
-            | inl n ↦ subst (λ t. HoldsOrigin (low_ids (ck s) (keyed h o)) (last_before t)) (sym n) tt
-            | inr n ↦ subst (HoldsOrigin (low_ids (ck s) (keyed h o))) (sym (ap last_before n.2 ∙ end_push n.0 n.1))
+          from = subst (HoldsOrigin (low_ids (ck s) (with_keys h o))) (sym (start_low p h w fit q b.0 m b.1 r z)) (elim z.low [
+            | inl n ↦ subst (λ t. HoldsOrigin (low_ids (ck s) (with_keys h o)) (last_before t)) (sym n) tt
+            | inr n ↦ subst (HoldsOrigin (low_ids (ck s) (with_keys h o))) (sym (ap last_before n.2 ∙ end_push n.0 n.1))
                 (low_in (ck s) o n.1 (subst (λ t. Contains t n.1) (sym whole) (Contains-append_left z.front (part ++ q ∷ r.back) n.1 (subst (λ t. Contains t n.1) (sym n.2) (contains_middle n.0 n.1 []))))
                 (low_next (search_key_of h q) (keyed_as h n.1) n.3))
           ]);
@@ -310,7 +310,7 @@ module _ (p : Place) (h : List Op) (w : Lawful h) (fit : AllFit p h) where
 
   -- the elements of the part that have the key of a child
   abbrev pub found : Slot → List Identifier
-  found s = siblings (keyed h o) s (slot_key h s)
+  found s = siblings (with_keys h o) s (slot_key h s)
 
   found-is : (s : Slot) (part : List Identifier) → IsPart s part → found s ≡ filter (λ v. is_low (ck s) (keyed_as h v)) part
   found-is s part k = ap (low_ids (ck s)) k.is_part ∙ low_ids-keyed h (ck s) part

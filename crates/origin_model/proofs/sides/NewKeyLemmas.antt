@@ -3,7 +3,7 @@ use Rattle.origin_model.proofs.Words.{All, All-head, All-tail, Identifier, Lawfu
 use Rattle.origin_model.specs.sides.KeyLaws.{KeyBound, KeysStay, NewKey, RunKey}
 use Rattle.origin_model.specs.declared.sides.Slot.TheVariants.{RightOf}
 use Rattle.origin_model.specs.sides.KeyedGap.{child_key, slot_key}
-use Rattle.origin_model.specs.sides.Keys.{depth_above, depth_of, forest_above, forest_of, search_key_of, keyed, keyed_as, new_key}
+use Rattle.origin_model.specs.sides.Keys.{depth_above, depth_of, forest_above, forest_of, search_key_of, with_keys, keyed_as, new_key}
 use Rattle.origin_model.specs.sides.Slot.{slot_by}
 use Rattle.origin_model.proofs.operations.LookupLemmas.{IsHeld, found, held_not_own, holder-other, holder-own, right_named, when_ready}
 use Rattle.origin_model.proofs.operations.ElementLemmas.{element_own}
@@ -59,7 +59,7 @@ key-other op older x n =
 pub keys_stay : KeysStay
 keys_stay p op older w = all (order p older) (order-held p older)
   where
-    all : (xs : List Identifier) → All (IsHeld older) xs → keyed (op ∷ older) xs ≡ keyed older xs
+    all : (xs : List Identifier) → All (IsHeld older) xs → with_keys (op ∷ older) xs ≡ with_keys older xs
     all [] k = refl
     all (x ∷ xs) k =
         let e = key-other op older x (held_not_own op older x (when_ready older op w.0) (All-head (IsHeld older) x xs k)) in

@@ -1,5 +1,5 @@
 -- The order of a place depends on its nodes alone: they have the chains of its elements, and so compare alike.
-use Rattle.origin_model.proofs.Words.{All, All-contains, All-head, All-tail, Bool, Contains, Identifier, IsIn, Lawful, List, None, Op, Option, Place, Some, [], all_from_contains, ap, before_in, cases_Bool, cases_id, cases_origin, catalogue, count_by, drop, element_of, false, false_from_ne_true, false≢true, fork_before, holder, id_eq-refl, id_eq-true, if◌then◌else◌, index_of_origin, inl, inr, is_own, is_some, left_of, lefts, ne-id_eq, next_left, next_right, order, placed, ranked, refl, right_at, right_of, rights, subst, suc, sym, take, true, true≢false, ◌++◌, ◌↔◌, ◌∙◌, ◌∷◌, ◌≡◌}
+use Rattle.origin_model.proofs.Words.{All, All-contains, All-head, All-tail, Bool, Contains, Identifier, IsIn, Lawful, List, None, Op, Option, Place, Some, [], all_from_contains, ap, before_in, cases_Bool, cases_id, cases_origin, catalogue, count_by, drop, element_of, false, false_from_ne_true, false≢true, fork_before, holder, id_eq-refl, id_eq-true, if◌then◌else◌, index_of_origin, inl, inr, is_own, is_some, left_of, lefts, ne-id_eq, next_left, next_right, order, placed, precedes, refl, right_at, right_of, rights, subst, suc, sym, take, true, true≢false, ◌++◌, ◌↔◌, ◌∙◌, ◌∷◌, ◌≡◌}
 use Rattle.origin_model.specs.sides.Node.{AreNodes, IsNew, as_op, as_ops, find_node, has_node, node_order, nodes, with_node}
 use Rattle.origin_model.specs.declared.operations.node.Node.{Node}
 use Rattle.origin_model.proofs.order.{IsIn-held, IsIn-older, IsIn-own, IsIn-split, above-same, before_agree, beside-same, beside_is, chain-other, chain-own, chain_above, count-no, count-yes, has_left_by, left_in, lefts-in, order-has, order-in, order-member, order-none, order-some, right_in, rights-in}
@@ -97,7 +97,7 @@ module _ (p : Place) (h : List Op) (w : Lawful h) (o : List Identifier) where
 
   -- elements compare at a fork as the nodes do
   fork_alike : (c d : Identifier) → IsIn p h c → IsIn p h d → fork_before o h c d ≡ fork_before o t c d
-  fork_alike c d m n = λ i. ranked (index_of_origin o (right_same c m i)) (index_of_origin o (right_same d n i)) c d
+  fork_alike c d m n = λ i. precedes (index_of_origin o (right_same c m i)) (index_of_origin o (right_same d n i)) c d
 
   -- elements compare as the nodes do
   before_alike : (a b : Identifier) → IsIn p h a → IsIn p h b → before_in o h a b ≡ before_in o t a b

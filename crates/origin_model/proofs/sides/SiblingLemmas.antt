@@ -1,5 +1,5 @@
 -- The siblings of a new element compare with it as at a fork of two chains.
-use Rattle.origin_model.proofs.Words.{All, All-contains, Bool, Contains, Contains-append_left, Contains-append_right, Identifier, Lawful, List, Op, Place, Some, all_from_contains, ap, element_of, false, fork_before, index_of_origin, is_own, order, ranked, right_at, right_of, subst, sym, true, true≢false, ◌∙◌, ◌∷◌, ◌≡◌, ◌≢◌}
+use Rattle.origin_model.proofs.Words.{All, All-contains, Bool, Contains, Contains-append_left, Contains-append_right, Identifier, Lawful, List, Op, Place, Some, all_from_contains, ap, element_of, false, fork_before, index_of_origin, is_own, order, precedes, right_at, right_of, subst, sym, true, true≢false, ◌∙◌, ◌∷◌, ◌≡◌, ◌≢◌}
 use Rattle.origin_model.specs.sides.Slot.{IsParted, goes_before}
 use Rattle.origin_model.proofs.operations.LookupLemmas.{IsHeld, held_not_own, holder-own, right_by, when_ready}
 use Rattle.origin_model.proofs.operations.ElementLemmas.{element_own}
@@ -15,7 +15,7 @@ module _ (p : Place) (op : Op) (older : List Op) (x : Identifier) (w : Lawful (o
   goes-fork : (v : Identifier) → IsHeld older v → goes_before (order p older) older op x v ≡ fork v x
   goes-fork v k =
       let there : right_at (op ∷ older) x ≡ right_of op = ap right_by (holder-own op older x (element_own p op x at)) in
-      λ i. ranked (index_of_origin (order p older) (sym (right-older p op older w v k) i)) (index_of_origin (order p older) (sym there i)) v x
+      λ i. precedes (index_of_origin (order p older) (sym (right-older p op older w v k) i)) (index_of_origin (order p older) (sym there i)) v x
 
   -- a held element is not x
   held_apart : (v : Identifier) → IsHeld older v → v ≢ x

@@ -1,5 +1,5 @@
 -- The gap that the sided tree gives is the place of the new element: what stands before it there stands before it by the chains, and what stands behind it stands behind it.
-use Rattle.origin_model.proofs.Words.{All-contains, Bool, Contains, Contains-append_cases, Contains-append_left, Identifier, IsIn, IsOrderedBy, Lawful, List, None, Op, Option, Place, Some, [], all_pairs_before, ap, append-nil, append_assoc, append_cancel_left, before_in, cases_Bool, cases_id, chain_before, contains_here, contains_middle, element_of, false, false≢true, fork_before, has_left, index_of_origin, inl, inr, is_own, left_at, left_of, lefts, next_left, next_right, order, placed, ranked, refl, right_of, rights, same_from_push, sibling, subst, sym, true, true≢false, ◌++◌, ◌∙◌, ◌∷◌, ◌≡◌, ◌≢◌, ◌⊎◌}
+use Rattle.origin_model.proofs.Words.{All-contains, Bool, Contains, Contains-append_cases, Contains-append_left, Identifier, IsIn, IsOrderedBy, Lawful, List, None, Op, Option, Place, Some, [], all_pairs_before, ap, append-nil, append_assoc, append_cancel_left, before_in, cases_Bool, cases_id, chain_before, contains_here, contains_middle, element_of, false, false≢true, fork_before, has_left, index_of_origin, inl, inr, is_own, left_at, left_of, lefts, next_left, next_right, order, placed, precedes, refl, right_of, rights, same_from_push, sibling, subst, sym, true, true≢false, ◌++◌, ◌∙◌, ◌∷◌, ◌≡◌, ◌≢◌, ◌⊎◌}
 use Rattle.fugue_ids.specs.declared.key.Gap.{Gap}
 use Rattle.fugue_ids.specs.declared.key.Gap.TheVariants.{After, Alone, Before}
 use Rattle.origin_model.specs.sides.Slot.{BeforeBlock, BeforeFirst, BehindElder, FirstBelow, HasElder, IsBeside, IsChild, IsGap, IsParted, IsPlace, IsTable, NoElder, at_gap, slot_by, slot_of}
@@ -139,7 +139,7 @@ module _ (p : Place) (op : Op) (older : List Op) (x : Identifier) (w : Lawful (o
 
   -- older elements compare at a fork as before
   fork-old : (a b : Identifier) → IsHeld older a → IsHeld older b → F a b ≡ fork_before (order p older) older a b
-  fork-old a b k j = λ i. ranked (index_of_origin (order p older) (right-older p op older w a k i)) (index_of_origin (order p older) (right-older p op older w b j i)) a b
+  fork-old a b k j = λ i. precedes (index_of_origin (order p older) (right-older p op older w a k i)) (index_of_origin (order p older) (right-older p op older w b j i)) a b
 
   -- a sibling of x is an elder or a younger one
   in_slot : (z : Identifier) → IsChild p older slot z → Contains elders z ⊎ Contains youngers z

@@ -1,6 +1,6 @@
 -- What was accepted stays at the front of the accepted operations.
 use Rattle.origin_model.proofs.Words.{List, Op, Ready, Verdict, [], accepted, ap, inl, inr, refl, reverse, reverse-append, subst, sym, verdict, ℕ, ◌++◌, ◌∙◌, ◌∷◌, ◌≡◌}
-use Rattle.origin_model.specs.taking.Taking.{Accepted, Answer, Held, answer, held_from, intake, joined, settle, settled_within, taken}
+use Rattle.origin_model.specs.taking.Taking.{Accepted, Answer, Held, answer, held_from, intake, joined, settle, settled_within, held_after}
 use Rattle.origin_model.proofs.taking.SettlingLemmas.{earliest_found, within-none, within-some, without}
 
 -- the older history is the end of the newer one
@@ -27,7 +27,7 @@ pub settling : (h : List Op) (s : Held) → EndsIn h s → EndsIn h (settle s)
 unfolding settle
 settling h s e = steps h s.waiting s e
 
-answering : (h : List Op) (a : Answer) (s : Held) (op : Op) → EndsIn h s → EndsIn h (taken a s op)
+answering : (h : List Op) (a : Answer) (s : Held) (op : Op) → EndsIn h s → EndsIn h (held_after a s op)
 answering h Accepted s op e = (op ∷ e.0, ap (λ l. op ∷ l) e.1)
 answering h _ s op e = e
 
@@ -35,7 +35,7 @@ answering h _ s op e = e
 pub hears_on : (hold most : ℕ) (h : List Op) (s : Held) (ops : List Op) → EndsIn h s → EndsIn h (held_from hold most s ops)
 hears_on hold most h s [] e = e
 hears_on hold most h s (op ∷ ops) e =
-    hears_on hold most h (intake hold most s op) ops (settling h (taken (answer hold most s op) s op) (answering h (answer hold most s op) s op e))
+    hears_on hold most h (intake hold most s op) ops (settling h (held_after (answer hold most s op) s op) (answering h (answer hold most s op) s op e))
 
 -- so the accepted operations begin with those that were accepted before
 pub first_accepted : (hold most : ℕ) (s : Held) (ops : List Op) → (more : List Op) × (accepted (held_from hold most s ops).history ≡ accepted s.history ++ more)

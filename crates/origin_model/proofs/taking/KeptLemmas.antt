@@ -1,12 +1,12 @@
 -- The kept operations of a list stand for all of it: what is refused changes nothing, and what is kept is kept again.
 use Rattle.origin_model.proofs.Words.{All, All-append, All-cons, All-nil, All-weaker, List, Op, [], ap, cases_Bool, false, inl, inr, refl, subst, sym, true, true≢false, ℕ, ◌++◌, ◌∙◌, ◌∷◌, ◌≡◌, ◌≢◌}
 use Rattle.origin_model.specs.taking.Closure.{answers, KeptSuffice, PartsAsOne, SavedSuffice, StaysSettled}
-use Rattle.origin_model.specs.taking.Taking.{Held, IsSettled, Answer, Accepted, Full, TooMany, Waits, answer, answers_from, decided_on, held, held_from, intake, intake_counted, is_kept, kept_from, nothing_held, settle, taken, tally_from}
+use Rattle.origin_model.specs.taking.Taking.{Held, IsSettled, Answer, Accepted, Full, TooMany, Waits, answer, answers_from, decided_on, held, held_from, intake, intake_counted, is_kept, kept_from, nothing_held, settle, held_after, tally_from}
 use Rattle.origin_model.specs.declared.taking.Tally.{Tally}
 use Rattle.origin_model.proofs.taking.SettlingLemmas.{settle-settled, settles}
 
 -- an answer by which nothing is kept changes nothing
-taken-refused : (a : Answer) (s : Held) (op : Op) → is_kept a ≡ false → taken a s op ≡ s
+taken-refused : (a : Answer) (s : Held) (op : Op) → is_kept a ≡ false → held_after a s op ≡ s
 taken-refused Accepted s op e = absurd (true≢false e)
 taken-refused Waits s op e = absurd (true≢false e)
 taken-refused _ s op e = refl
@@ -19,7 +19,7 @@ intake-refused hold most s op z e = ap settle (taken-refused (answer hold most s
 pub stays_settled : StaysSettled
 stays_settled hold most s [] z = z
 stays_settled hold most s (op ∷ ops) z =
-    stays_settled hold most (intake hold most s op) ops (settles (taken (answer hold most s op) s op))
+    stays_settled hold most (intake hold most s op) ops (settles (held_after (answer hold most s op) s op))
 
 -- one behind the other, or as one list
 pub held-append : (hold most : ℕ) (s : Held) (a b : List Op) → held_from hold most (held_from hold most s a) b ≡ held_from hold most s (a ++ b)
@@ -74,7 +74,7 @@ kept_leads hold most s [] z = (refl, All-nil (λ a. is_kept a ≡ true))
 kept_leads hold most s (op ∷ ops) z =
     let t : Held = intake hold most s op in
     let end : Held = held_from hold most t ops in
-    let rest : LeadsTo hold most t (kept_from hold most t ops) end = kept_leads hold most t ops (settles (taken (answer hold most s op) s op)) in
+    let rest : LeadsTo hold most t (kept_from hold most t ops) end = kept_leads hold most t ops (settles (held_after (answer hold most s op) s op)) in
     elim (cases_Bool (is_kept (answer hold most s op))) [
       | inl e ↦ subst (λ k. LeadsTo hold most s k end) (sym (kept-yes hold most s op ops e))
           (rest.0, All-cons (λ a. is_kept a ≡ true) (answer hold most s op) (answers_from hold most t (kept_from hold most t ops)) e rest.1)

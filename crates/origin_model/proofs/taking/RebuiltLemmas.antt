@@ -5,7 +5,7 @@ use Rattle.fugue_ids.proofs.ListLemmas.{all_pairs_across}
 use Rattle.origin_model.specs.declared.operations.Verdict.TheVariants.{Stray}
 use Rattle.origin_model.specs.operations.History.{HaveOtherIds}
 use Rattle.origin_model.specs.taking.Repeats.{RepeatsChangeNothing, ReplicaIsRebuilt}
-use Rattle.origin_model.specs.taking.Taking.{Accepted, Again as AnsweredAgain, Conflict as AnsweredConflict, Held, Waits, answer, answer_by, decided_on, held, held_from, intake, is_again, is_decided, is_taken, nothing_held, settle, taken}
+use Rattle.origin_model.specs.taking.Taking.{Accepted, Again as AnsweredAgain, Conflict as AnsweredConflict, Held, Waits, answer, answer_by, decided_on, held, held_from, intake, is_again, is_decided, is_taken, nothing_held, settle, held_after}
 use Rattle.origin_model.proofs.operations.LookupLemmas.{holds-cons, own_id, when_ready}
 use Rattle.origin_model.proofs.taking.KeptLemmas.{held-append}
 use Rattle.origin_model.proofs.taking.SettlingLemmas.{settle-settled}
@@ -17,7 +17,7 @@ repeats_change_nothing hold most s (op ∷ ops) z there =
     let again : is_again s op ≡ true = All-head (λ o. is_again s o ≡ true) op ops there in
     let is : answer hold most s op ≡ AnsweredAgain =
     λ i. if again i then AnsweredAgain else if is_taken s op then AnsweredConflict else answer_by (nat_eq (length s.history + length s.waiting) most) (nat_eq (length s.waiting) hold) (verdict s.history op) in
-    let stays : intake hold most s op ≡ s = ap (λ r. settle (taken r s op)) is ∙ settle-settled s z in
+    let stays : intake hold most s op ≡ s = ap (λ r. settle (held_after r s op)) is ∙ settle-settled s z in
     ap (λ u. held_from hold most u ops) stays ∙ repeats_change_nothing hold most s ops z (All-tail (λ o. is_again s o ≡ true) op ops there)
 
 -- an operation is absent where all others are other ones
@@ -58,7 +58,7 @@ history_again hold most (op ∷ h) w few =
     ap (held hold most) (reverse-append (op ∷ []) h)
     ∙ sym (held-append hold most nothing_held (accepted h) (op ∷ []))
     ∙ ap (λ u. intake hold most u op) (history_again hold most h w.1 (omega (arith, few)))
-    ∙ ap (λ a. settle (taken a s op)) is
+    ∙ ap (λ a. settle (held_after a s op)) is
     ∙ settle-settled (record { history = op ∷ h; waiting = [] }) (All-nil (λ o. decided_on (op ∷ h) o ≡ false))
 
 -- what is not decided waits, where there is room
@@ -99,7 +99,7 @@ waiting_again hold most h front (op ∷ ops) z apart few_wait few =
     let joins : (front ++ op ∷ []) ++ ops ≡ front ++ op ∷ ops = append_assoc front (op ∷ []) ops in
     let settled : All (λ o. decided_on h o ≡ false) ((front ++ op ∷ []) ++ ops) = subst (All (λ o. decided_on h o ≡ false)) (sym joins) z in
     let stays = settle-settled (record { history = h; waiting = front ++ op ∷ [] }) (all_before (λ o. decided_on h o ≡ false) (front ++ op ∷ []) ops settled) in
-    ap (λ u. held_from hold most u ops) (ap (λ a. settle (taken a s op)) is ∙ stays)
+    ap (λ u. held_from hold most u ops) (ap (λ a. settle (held_after a s op)) is ∙ stays)
     ∙ waiting_again hold most h (front ++ op ∷ []) ops settled (subst (λ l. AreApart (h ++ l)) (sym joins) apart)
     (omega (arith, few_wait, ap length joins)) (omega (arith, few, ap length joins))
     ∙ ap (λ w. record { history = h; waiting = w }) joins

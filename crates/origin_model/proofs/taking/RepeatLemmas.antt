@@ -4,7 +4,7 @@ use Rattle.std.proofs.lemmas.Bool.{or_from}
 use Rattle.std.proofs.lemmas.List.{nil_from_length}
 use Rattle.origin_model.specs.taking.Closure.{Consistent}
 use Rattle.origin_model.specs.taking.Repeats.{AcceptedIsInClosure, ClosureIsGreatest, ClosureIsMonotone, QuietPassIsLast}
-use Rattle.origin_model.specs.taking.Taking.{Accepted, Again as AnsweredAgain, Answer, Conflict as AnsweredConflict, HasPlace, Held, IsSettled, TooMany, answer, answer_by, answers_from, closure, held, held_from, intake, is_decided, is_kept, kept, kept_from, nothing_held, settle, taken}
+use Rattle.origin_model.specs.taking.Taking.{Accepted, Again as AnsweredAgain, Answer, Conflict as AnsweredConflict, MeetsNoLimit, Held, IsSettled, TooMany, answer, answer_by, answers_from, closure, held, held_from, intake, is_decided, is_kept, kept, kept_from, nothing_held, settle, held_after}
 use Rattle.origin_model.proofs.operations.LookupLemmas.{has-append, when_ready}
 use Rattle.origin_model.proofs.taking.AcceptedFrontLemmas.{EndsIn, hears_on, settling}
 use Rattle.origin_model.proofs.taking.ClosureLawLemmas.{consistent_part, state_covers}
@@ -48,8 +48,8 @@ accepted_is_in_closure hold most ops k =
 -- where an operation is accepted the history grows
 accepts_more : (hold most : ℕ) (s : Held) (op : Op) → answer hold most s op ≡ Accepted → (intake hold most s op).history ≡ s.history → ⊥
 accepts_more hold most s op a q =
-    let after : Answer → Held = λ r. settle (taken r s op) in
-    let e : EndsIn (op ∷ s.history) (after Accepted) = settling (op ∷ s.history) (taken Accepted s op) ([], refl) in
+    let after : Answer → Held = λ r. settle (held_after r s op) in
+    let e : EndsIn (op ∷ s.history) (after Accepted) = settling (op ∷ s.history) (held_after Accepted s op) ([], refl) in
     let same : s.history ≡ e.0 ++ op ∷ s.history = sym q ∙ ap (λ r. (after r).history) a ∙ e.1 in
     omega (arith, ap length same, length-append e.0 (op ∷ s.history))
 
@@ -88,7 +88,7 @@ ready_answer hold most all s op k f g m z v =
 
 -- in a pass that answers no TooMany and accepts nothing no operation is Ready
 quiet : (hold most : ℕ) (all before ops : List Op) → Consistent all → IsPartOf before all → IsPartOf ops all
-    → HasPlace hold most (held hold most before) ops → (held_from hold most (held hold most before) ops).history ≡ (held hold most before).history
+    → MeetsNoLimit hold most (held hold most before) ops → (held_from hold most (held hold most before) ops).history ≡ (held hold most before).history
     → (x : Op) → has_op ops x ≡ true → verdict (held hold most before).history x ≡ Ready → ⊥
 quiet hold most all before [] k f g p q x m v = false≢true m
 quiet hold most all before (op ∷ ops) k f g p q x m v =
@@ -112,7 +112,7 @@ quiet hold most all before (op ∷ ops) k f g p q x m v =
             | inr b ↦ elim (or_cases (op_eq op y) false b) [ inl e ↦ subst (λ o. has_op all o ≡ true) (op_eq-true op y e) it | inr n ↦ absurd (false≢true n) ]
           ])
           (λ y i. g y (or_right (op_eq op y) (has_op ops y) i))
-          (subst (λ u. HasPlace hold most u ops) next (All-tail (λ r. r ≢ TooMany) (answer hold most s op) (answers_from hold most t ops) p))
+          (subst (λ u. MeetsNoLimit hold most u ops) next (All-tail (λ r. r ≢ TooMany) (answer hold most s op) (answers_from hold most t ops) p))
           (subst (λ (u : Held). (held_from hold most u ops).history ≡ u.history) next (q ∙ sym same))
           x j
           (subst (λ (u : Held). verdict u.history x ≡ Ready) next (ap (λ h. verdict h x) same ∙ v))

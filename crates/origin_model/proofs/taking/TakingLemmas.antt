@@ -2,7 +2,7 @@
 use Rattle.origin_model.proofs.Words.{All-head, All-tail, Bool, Identifier, IsPartOf, Lawful, List, Op, Ready, SameOps, Stray, Verdict, [], ap, cases_Bool, false, false≢true, has_op, if◌then◌else◌, inl, inr, length, nat_eq, op_eq, op_eq-refl, op_eq-true, or_cases, or_left, or_parts, or_right, refl, subst, sym, true, true≢false, verdict, ℕ, ◌++◌, ◌+◌, ◌||◌, ◌∙◌, ◌∷◌, ◌≡◌, ◌≢◌, ◌⊎◌}
 use Rattle.std.proofs.lemmas.Bool.{or_from}
 use Rattle.origin_model.specs.taking.Closure.{Consistent, WithinLimits}
-use Rattle.origin_model.specs.taking.Taking.{Held, Answer, Accepted, Again as AnsweredAgain, Conflict as AnsweredConflict, Full, Stray as AnsweredStray, TooMany, Waits, answer, answer_by, answers_from, held_from, intake, is_again, is_decided, is_taken, joined, settle, settled_within, taken}
+use Rattle.origin_model.specs.taking.Taking.{Held, Answer, Accepted, Again as AnsweredAgain, Conflict as AnsweredConflict, Full, Stray as AnsweredStray, TooMany, Waits, answer, answer_by, answers_from, held_from, intake, is_again, is_decided, is_taken, joined, settle, settled_within, held_after}
 use Rattle.origin_model.proofs.order.{Within-append}
 use Rattle.origin_model.proofs.operations.CauseLemmas.{Dead, dead_within, stray_dead}
 use Rattle.origin_model.proofs.operations.LookupLemmas.{has-append, swap_or}
@@ -158,9 +158,9 @@ wait_covers done s op c =
 
 -- it stays so by any answer but Full and TooMany
 taken_covers : (hold most : ℕ) (all done : List Op) (s : Held) (op : Op) → Consistent all → IsPartOf done all → has_op all op ≡ true → Covers done s
-    → (answer hold most s op ≢ Full) × (answer hold most s op ≢ TooMany) → Covers (op ∷ done) (taken (answer hold most s op) s op)
+    → (answer hold most s op ≢ Full) × (answer hold most s op ≢ TooMany) → Covers (op ∷ done) (held_after (answer hold most s op) s op)
 taken_covers hold most all done s op k f m c n =
-    let G : Answer → Type 0 = λ a. Covers (op ∷ done) (taken a s op) in
+    let G : Answer → Type 0 = λ a. Covers (op ∷ done) (held_after a s op) in
     let a : Answer = answer_by (nat_eq (length s.history + length s.waiting) most) (nat_eq (length s.waiting) hold) (verdict s.history op) in
     elim (cases_Bool (has_op s.history op || has_op s.waiting op)) [
       | inl t ↦ subst G (sym (λ i. if t i then AnsweredAgain else if is_taken s op then AnsweredConflict else a)) (grow done s op c (λ x y. absurd (true≢false (sym t ∙ or_from (has_op s.history op) (has_op s.waiting op) x y))))
@@ -203,5 +203,5 @@ fold_covers hold most all (op ∷ ops) done s k f c n =
     Covers-same (ops ++ op ∷ done) (op ∷ (ops ++ done)) (held_from hold most (intake hold most s op) ops) (has-moved op ops done)
     (fold_covers hold most all ops (op ∷ done) (intake hold most s op) k
     (λ x j. f x (sym (has-moved op ops done x) ∙ j))
-    (settle_covers (op ∷ done) (taken (answer hold most s op) s op) t)
+    (settle_covers (op ∷ done) (held_after (answer hold most s op) s op) t)
     (All-tail Within (answer hold most s op) rest n))

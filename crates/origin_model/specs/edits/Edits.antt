@@ -13,8 +13,8 @@ use Rattle.origin_model.specs.declared.operations.Verdict.TheVariants.{Ready}
 use Rattle.origin_model.specs.edits.Landing.{following}
 
 -- the first `at` members, then the new ones, then the members from at + n on
-abbrev pub spliced : {X : Type 0} → List X → ℕ → ℕ → List X → List X
-spliced list at n new = take at list ++ new ++ drop (at + n) list
+abbrev pub splice : {X : Type 0} → List X → ℕ → ℕ → List X → List X
+splice list at n new = take at list ++ new ++ drop (at + n) list
 
 -- the member in front of the position `at`: the start, where `at` is 0
 abbrev pub in_front : List Identifier → ℕ → Option Identifier
@@ -35,14 +35,15 @@ abbrev pub next_above : Option ℕ → ℕ
 next_above None = 0
 next_above (Some n) = suc n
 
+-- an identifier by its two parts
 abbrev pub id_at : ℕ → ℕ → Identifier
 id_at replica counter = record { replica = replica; counter = counter }
 
 -- texts with counters from c on, each with the one before as left origin, and all with one right origin
-abbrev pub typed : (replica c : ℕ) → (section : Identifier) → (left right : Option Identifier) → List ℕ → List Op
-typed replica c section left right [] = []
-typed replica c section left right (ch ∷ chs) =
-    Text (id_at replica c) section left right ch ∷ typed replica (suc c) section (Some (id_at replica c)) right chs
+abbrev pub typed_texts : (replica c : ℕ) → (section : Identifier) → (left right : Option Identifier) → List ℕ → List Op
+typed_texts replica c section left right [] = []
+typed_texts replica c section left right (ch ∷ chs) =
+    Text (id_at replica c) section left right ch ∷ typed_texts replica (suc c) section (Some (id_at replica c)) right chs
 
 -- their identifiers
 abbrev pub typed_ids : (replica c : ℕ) → List ℕ → List Identifier
@@ -71,7 +72,7 @@ pub data Command : Type 0 where
 -- the operations of a put in a section
 abbrev pub put_in : (replica : ℕ) → (history waiting : List Op) → Identifier → ℕ → List ℕ → List Op
 put_in replica history waiting s at new =
-    typed replica (next_counter replica history waiting) s (left_for (within s) history at) (right_for (within s) history at) new
+    typed_texts replica (next_counter replica history waiting) s (left_for (within s) history at) (right_for (within s) history at) new
 
 -- the operations of a cut in a section
 abbrev pub cut_in : List Op → Identifier → (at n : ℕ) → List Op
@@ -97,9 +98,9 @@ abbrev pub noted : (history waiting : List Op) → (replica : ℕ) → (named : 
 noted history waiting replica named code body = Note (id_at replica (next_counter replica history waiting)) named code body
 
 -- the history after operations joined it, one after another
-abbrev pub extended : List Op → List Op → List Op
-extended history [] = history
-extended history (op ∷ ops) = extended (op ∷ history) ops
+abbrev pub history_with : List Op → List Op → List Op
+history_with history [] = history
+history_with history (op ∷ ops) = history_with (op ∷ history) ops
 
 -- each operation is Ready when its turn comes
 abbrev pub ReadyInTurn : List Op → List Op → Type 0
@@ -109,6 +110,6 @@ ReadyInTurn history (op ∷ ops) = (verdict history op ≡ Ready) × ReadyInTurn
 -- an edit of the place p: it replaces n members of what is shown from `at` on, and leaves what is shown elsewhere
 pub record IsEdit (p : Place) (history ops : List Op) (at n : ℕ) (new : List Identifier) : Type 0 where
   pub ready : ReadyInTurn history ops
-  pub lawful : Lawful (extended history ops)
-  pub here : shown p (extended history ops) ≡ spliced (shown p history) at n new
-  pub elsewhere : (q : Place) → q ≢ p → shown q (extended history ops) ≡ shown q history
+  pub lawful : Lawful (history_with history ops)
+  pub here : shown p (history_with history ops) ≡ splice (shown p history) at n new
+  pub elsewhere : (q : Place) → q ≢ p → shown q (history_with history ops) ≡ shown q history

@@ -5,7 +5,7 @@ use Rattle.fugue_ids.specs.declared.op.Op.{Op}
 use Rattle.origin_model.specs.operations.History.{accepted}
 use Rattle.origin_model.specs.order.Order.{order}
 use Rattle.origin_model.specs.order.Printed.{shown}
-use Rattle.origin_model.specs.edits.Edits.{Command, Put, Cut, Add, DropSection, extended, left_for, spliced}
+use Rattle.origin_model.specs.edits.Edits.{Command, Put, Cut, Add, DropSection, history_with, left_for, splice}
 use Rattle.origin_model.specs.edits.Landing.{StandsBehind}
 use Rattle.origin_model.specs.edits.Refusal.{added_ids, made_by, put_ids, section_shown}
 use Rattle.origin_model.specs.edits.State.{State}
@@ -16,7 +16,7 @@ use Rattle.origin_model.specs.declared.operations.Place.TheVariants.{Catalogue a
 
 -- the state with operations behind the accepted ones
 abbrev pub with_ops : State → List Op → State
-with_ops s ops = record s { held = record { history = extended s.held.history ops; waiting = s.held.waiting } }
+with_ops s ops = record s { held = record { history = history_with s.held.history ops; waiting = s.held.waiting } }
 
 -- the operations stand behind those that were accepted, in their order, and all else is as before
 pub record Gains (old new : State) (ops : List Op) : Type 0 where
@@ -41,7 +41,7 @@ LeavesUnmade old new command _ = new ≡ old
 
 -- what a place shows had n members from `at` on, which gave way to new ones; every other place shows what it showed
 pub record IsSpliced (p : Place) (old new : State) (at n : ℕ) (ids : List Identifier) : Type 0 where
-  pub here : shown p new.held.history ≡ spliced (shown p old.held.history) at n ids
+  pub here : shown p new.held.history ≡ splice (shown p old.held.history) at n ids
   pub elsewhere : (q : Place) → q ≢ p → shown q new.held.history ≡ shown q old.held.history
 
 -- new elements came to what a place shows, at the position `at`; among all of its elements they stand directly behind their left origin, in their order

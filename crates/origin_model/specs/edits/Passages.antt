@@ -20,6 +20,7 @@ pub record GoTogether (p : Place) (h : List Op) (R : Relation) (x : Identifier) 
 abbrev pub StandsTogether : (p : Place) → (h : List Op) → (x : Identifier) → Type 0
 StandsTogether p h x = GoTogether p h (before p h) x
 
+-- what leans on an element stands next to it, without a gap
 abbrev pub Together : Type 0
 Together = (p : Place) (h : List Op) (x : Identifier) → Lawful h → IsIn p h x → StandsTogether p h x
 
@@ -41,6 +42,7 @@ pub record GoBefore (p : Place) (h : List Op) (R : Relation) (r : Identifier) : 
 abbrev pub StandsBefore : (p : Place) → (h : List Op) → (r : Identifier) → Type 0
 StandsBefore p h r = GoBefore p h (before p h) r
 
+-- what has a right origin stands before it
 abbrev pub BeforeRight : Type 0
 BeforeRight = (p : Place) (h : List Op) (r : Identifier) → Lawful h → IsIn p h r → StandsBefore p h r
 

@@ -8,6 +8,7 @@ use Rattle.origin_model.specs.taking.Taking.{Held}
 use Rattle.origin_model.specs.declared.operations.Verdict.{Verdict}
 use Rattle.origin_model.specs.declared.operations.Verdict.TheVariants.{Again, Conflict}
 
+-- a replica: its number, its limits, and what it holds
 pub record State : Type 0 where
   -- the replica's own number
   pub number : ℕ
@@ -36,7 +37,7 @@ IsOpen Conflict = ⊥
 IsOpen _ = Unit {0}
 
 -- what is so of every replica
-pub record Stands (s : State) : Type 0 where
+pub record IsSound (s : State) : Type 0 where
   pub some_number : 0 < s.number
   pub hold_within : IsWithin GREATEST_HOLD s.hold
   pub most_within : IsWithin MOST_OPERATIONS s.most

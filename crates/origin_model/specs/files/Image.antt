@@ -26,6 +26,7 @@ number_at offset bytes = from_be_bytes w32 (take 4 (drop offset bytes))
 abbrev pub word_tag : ℕ → ℕ
 word_tag word = word / TAG_UNIT
 
+-- the length in a word of a gate
 abbrev pub word_length : ℕ → ℕ
 word_length word = word % TAG_UNIT
 
@@ -52,6 +53,7 @@ is_header bytes =
 abbrev pub header_of : List ℕ → List ℕ
 header_of bytes = take 13 bytes
 
+-- the bytes of a file behind its header
 abbrev pub slots_of : List ℕ → List ℕ
 slots_of bytes = drop 13 bytes
 
@@ -78,9 +80,11 @@ pub record IsBatch (batch : Batch) : Type 0 where
 abbrev pub open_slot : Batch → List ℕ
 open_slot batch = 1 ∷ batch.word ++ batch.bytes
 
+-- the slots of batches that are still open
 abbrev pub open_slots : List Batch → List ℕ
 open_slots batches = flat_map open_slot batches
 
+-- the operations of batches
 abbrev pub batch_ops : List Batch → List Op
 batch_ops batches = flat_map (λ batch. batch.ops) batches
 

@@ -79,9 +79,10 @@ pub record IsIdentifier (id : Identifier) : Type 0 where
   pub replica_fits : id.replica < 2 ^ 32
   pub counter_fits : id.counter < 2 ^ 32
 
-abbrev pub IsOrigin : Option Identifier → Type 0
-IsOrigin None = Unit {0}
-IsOrigin (Some id) = IsIdentifier id
+-- an origin that a frame can name
+abbrev pub IsFrameOrigin : Option Identifier → Type 0
+IsFrameOrigin None = Unit {0}
+IsFrameOrigin (Some id) = IsIdentifier id
 
 -- scalars whose UTF-8 has 1 to 480 bytes without LF and CR
 pub record IsTitle (title : List ℕ) : Type 0 where
@@ -93,6 +94,7 @@ pub record AreNames (named : List Identifier) : Type 0 where
   pub few : length named ≤ MOST_NAMES
   pub identifiers : All IsIdentifier named
 
+-- the number is a byte
 abbrev pub IsByte : ℕ → Type 0
 IsByte byte = byte < 256
 
@@ -103,8 +105,8 @@ pub record IsBody (body : List ℕ) : Type 0 where
 
 -- the operation is one that a frame can stand for: each operation of the program is
 abbrev pub HasFrame : Op → Type 0
-HasFrame (Section id left right title) = IsIdentifier id × IsOrigin left × IsOrigin right × IsTitle title
-HasFrame (Text id section left right ch) = IsIdentifier id × IsIdentifier section × IsOrigin left × IsOrigin right × IsScalar ch
+HasFrame (Section id left right title) = IsIdentifier id × IsFrameOrigin left × IsFrameOrigin right × IsTitle title
+HasFrame (Text id section left right ch) = IsIdentifier id × IsIdentifier section × IsFrameOrigin left × IsFrameOrigin right × IsScalar ch
 HasFrame (Delete target) = IsIdentifier target
 HasFrame (Note id named code body) = IsIdentifier id × AreNames named × IsByte code × IsBody body
 
@@ -118,8 +120,8 @@ pub record IsRunText (text : List ℕ) : Type 0 where
 pub record HasRunFrame (run : Run) : Type 0 where
   pub id : IsIdentifier run.id
   pub section : IsIdentifier run.section
-  pub left : IsOrigin run.left
-  pub right : IsOrigin run.right
+  pub left : IsFrameOrigin run.left
+  pub right : IsFrameOrigin run.right
   pub text : IsRunText run.text
   -- the last counter has 32 bits too
   pub counters_fit : run.id.counter + length run.text ≤ 2 ^ 32
@@ -129,10 +131,12 @@ pub data Item : Type 0 where
   Single : Op → Item
   Typed : Run → Item
 
+-- the frame of an item
 abbrev pub item_bytes : Item → List ℕ
 item_bytes (Single op) = frame op
 item_bytes (Typed run) = run_frame run
 
+-- the operations of an item
 abbrev pub item_ops : Item → List Op
 item_ops (Single op) = op ∷ []
 item_ops (Typed run) = run_ops run

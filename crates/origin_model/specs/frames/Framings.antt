@@ -19,6 +19,7 @@ pub record IsFraming (ops : List Op) (bytes : List ℕ) : Type 0 where
 abbrev pub IsLongest : Framed → List Op → Type 0
 IsLongest framed ops = (other : Framed) (behind : List Op) → IsFrame Version2 other → ops ≡ other.ops ++ behind → length other.ops ≤ length framed.ops
 
+-- each frame stands for as many of the operations as one can
 abbrev pub AreLongest : List Framed → Type 0
 AreLongest [] = Unit {0}
 AreLongest (framed ∷ found) = IsLongest framed (framed.ops ++ flat_map (λ other. other.ops) found) × AreLongest found
@@ -31,6 +32,7 @@ pub record IsWritten (ops : List Op) (bytes : List ℕ) : Type 0 where
   pub bytes_are : bytes ≡ flat_map (λ framed. framed.bytes) found
   pub longest : AreLongest found
 
+-- the scalar of a Text
 abbrev pub scalar_in : Op → ℕ
 scalar_in (Section id left right title) = 0
 scalar_in (Text id section left right ch) = ch
@@ -41,6 +43,7 @@ scalar_in (Note id named code body) = 0
 abbrev pub next_text : Run → ℕ → Op
 next_text run ch = text_by (start_behind (start_of run) (length run.text)) ch
 
+-- a run with one letter more
 abbrev pub run_more : Run → ℕ → Run
 run_more run ch = record { id = run.id; section = run.section; left = run.left; right = run.right; text = run.text ++ ch ∷ [] }
 
@@ -49,21 +52,22 @@ abbrev pub longer : Run → Op → Option Item
 longer run op = if nat_lt (length run.text) 1024 && op_eq op (next_text run (scalar_in op)) then Some (Typed (run_more run (scalar_in op))) else None
 
 -- one item that stands for those of an item and one operation more
-abbrev pub grown : Item → Op → Option Item
-grown (Single (Section id left right title)) op = None
-grown (Single (Text id section left right ch)) op = longer (record { id = id; section = section; left = left; right = right; text = ch ∷ [] }) op
-grown (Single (Delete target)) op = None
-grown (Single (Note id named code body)) op = None
-grown (Typed run) op = longer run op
+abbrev pub item_with : Item → Op → Option Item
+item_with (Single (Section id left right title)) op = None
+item_with (Single (Text id section left right ch)) op = longer (record { id = id; section = section; left = left; right = right; text = ch ∷ [] }) op
+item_with (Single (Delete target)) op = None
+item_with (Single (Note id named code body)) op = None
+item_with (Typed run) op = longer run op
 
 -- the items of the operations, of which the first is begun
 abbrev pub items_from : Item → List Op → List Item
 items_from begun [] = begun ∷ []
-items_from begun (op ∷ ops) = elim (grown begun op) [
+items_from begun (op ∷ ops) = elim (item_with begun op) [
   | Some more ↦ items_from more ops
   | None ↦ begun ∷ items_from (Single op) ops
 ]
 
+-- the operations parted into frames of version 2
 abbrev pub items : List Op → List Item
 items [] = []
 items (op ∷ ops) = items_from (Single op) ops

@@ -6,8 +6,8 @@ use Rattle.fugue_ids.specs.declared.op.Op.{Op}
 use Rattle.origin_model.specs.operations.Verdict.{names}
 
 -- the identifiers that an operation has or names
-abbrev pub mentioned : Op → List Identifier
-mentioned op = option_to_list (id_of op) ++ map (λ named. named.0) (names op)
+abbrev pub mentioned_ids : Op → List Identifier
+mentioned_ids op = option_to_list (id_of op) ++ map (λ named. named.0) (names op)
 
 -- the counters that a replica has among identifiers
 abbrev pub counters_among : ℕ → List Identifier → List ℕ
@@ -15,7 +15,7 @@ counters_among replica ids = map (λ id. id.counter) (filter (λ id. nat_eq id.r
 
 -- the counters that a replica has among the identifiers that operations have or name
 abbrev pub counters : ℕ → List Op → List ℕ
-counters replica ops = counters_among replica (flat_map mentioned ops)
+counters replica ops = counters_among replica (flat_map mentioned_ids ops)
 
 -- the greatest member, or None where there is no member
 pub record IsGreatest (numbers : List ℕ) (greatest : Option ℕ) : Type 0 where

@@ -22,6 +22,7 @@ element _ = None
 abbrev pub left_of : Op → Option Identifier
 left_of op = elim (element op) [ None ↦ None | Some e ↦ e.1.left ]
 
+-- the right origin of an element's operation
 abbrev pub right_of : Op → Option Identifier
 right_of op = elim (element op) [ None ↦ None | Some e ↦ e.1.right ]
 
@@ -29,6 +30,7 @@ right_of op = elim (element op) [ None ↦ None | Some e ↦ e.1.right ]
 abbrev pub place : Op → Option Place
 place op = elim (element op) [ None ↦ None | Some e ↦ Some e.0 ]
 
+-- whether two places are one
 abbrev pub place_eq : Place → Place → Bool
 place_eq catalogue catalogue = true
 place_eq catalogue (within t) = false

@@ -19,6 +19,7 @@ fits Any op = true
 fits SectionRole op = stands_at catalogue op
 fits (TextOf s) op = stands_at (within s) op
 
+-- an identifier with the part that it plays, where there is one
 abbrev pub given_as : Role → Option Identifier → List (Identifier × Role)
 given_as role None = []
 given_as role (Some i) = (i, role) ∷ []
@@ -63,6 +64,7 @@ first_line false false (Some i) missing = Stray i
 first_line false false None (Some i) = Missing i
 first_line false false None None = Ready
 
+-- what an operation is against a history
 unfoldable pub verdict : List Op → Op → Verdict
 verdict history op =
     first_line (has_op history op) (id_held history (id_of op)) (first_stray history (names op)) (first_missing history (names op))

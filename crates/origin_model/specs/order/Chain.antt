@@ -6,6 +6,7 @@ use Rattle.origin_model.specs.declared.order.comparison.Chain.{Chain}
 use Rattle.origin_model.specs.declared.order.comparison.Chain.TheVariants.{Lefts, Rights}
 use Rattle.origin_model.specs.order.Order.{next_left, next_right}
 
+-- the next element on a chain
 abbrev pub next_of : Chain → List Op → Op → Option Identifier
 next_of Lefts history op = next_left history op
 next_of Rights history op = next_right history op

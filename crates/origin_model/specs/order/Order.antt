@@ -25,6 +25,7 @@ chain next (op ∷ older) x =
 abbrev pub next_left : List Op → Op → Option Identifier
 next_left older op = left_of op
 
+-- the left origins of an element, from one to the next
 abbrev pub lefts : List Op → Identifier → List Identifier
 lefts history x = chain next_left history x
 
@@ -41,6 +42,7 @@ right_beside history left (Some r) = if has_left history r left then Some r else
 abbrev pub next_right : List Op → Op → Option Identifier
 next_right older op = right_beside older (left_of op) (right_of op)
 
+-- the right origins of an element, from one to the next
 abbrev pub rights : List Op → Identifier → List Identifier
 rights history x = chain next_right history x
 
@@ -56,8 +58,8 @@ abbrev pub index_of_origin : List Identifier → Option Identifier → ℕ
 index_of_origin finished r = position_or_len (λ e. origin_eq r (Some e)) finished
 
 -- a goes before b, whose right origins have these indexes in a finished list: its right origin is later there, or it is the same one and a's identifier is smaller
-abbrev pub ranked : (here there : ℕ) → Identifier → Identifier → Bool
-ranked here there a b = nat_lt there here || (nat_eq there here && id_lt a b)
+abbrev pub precedes : (here there : ℕ) → Identifier → Identifier → Bool
+precedes here there a b = nat_lt there here || (nat_eq there here && id_lt a b)
 
 -- the left origin of x
 abbrev pub left_at : List Op → Identifier → Option Identifier
@@ -69,7 +71,7 @@ right_at history x = elim (holder history x) [ None ↦ None | Some op ↦ right
 
 -- a goes before b, which has the same left origin, by their right origins
 abbrev pub fork_before : List Identifier → List Op → Identifier → Identifier → Bool
-fork_before finished history a b = ranked (index_of_origin finished (right_at history a)) (index_of_origin finished (right_at history b)) a b
+fork_before finished history a b = precedes (index_of_origin finished (right_at history a)) (index_of_origin finished (right_at history b)) a b
 
 -- u stands before v, which has the same left origin
 abbrev pub sibling : List Identifier → List Op → Identifier → Identifier → Bool

@@ -11,6 +11,7 @@ use Rattle.origin_model.specs.frames.Frames.{IsFrame, IsPartial, frame}
 abbrev pub greeting : ℕ
 greeting = 0x48
 
+-- the message that closes a session: the byte `D`
 abbrev pub closing : List ℕ
 closing = 0x44 ∷ []
 
@@ -41,6 +42,7 @@ session_goes_on log cursor = record { log = log; next = Goes (record { cursor = 
 abbrev pub refusal_message : ℕ → List ℕ
 refusal_message code = 0x58 ∷ code ∷ []
 
+-- the session closes with a code, and the log stays
 abbrev pub session_refused : List (List ℕ) → (code : ℕ) → Taken
 session_refused log code = record { log = log; next = Closes (refusal_message code) }
 
@@ -57,18 +59,18 @@ abbrev pub at_cursor : List (List ℕ) → (cursor : ℕ) → Taken
 at_cursor log cursor = if nat_lt (length log) cursor then session_refused log 3 else session_goes_on log cursor
 
 -- the first bytes of a text
-abbrev pub greeted : List (List ℕ) → List ℕ → Taken
-greeted log [] = record { log = log; next = Goes unread }
-greeted log (first ∷ number) =
+abbrev pub greeting_read : List (List ℕ) → List ℕ → Taken
+greeting_read log [] = record { log = log; next = Goes unread }
+greeting_read log (first ∷ number) =
     if nat_eq first greeting
     then if nat_lt (length number) 4 then record { log = log; next = Goes (record { cursor = None; rest = first ∷ number }) } else at_cursor log (from_be_bytes w32 number)
     else session_refused log 1
 
 -- operations join the log in order, each once; at the first one that the log lacks and is too full for the session is refused
-abbrev pub joined : (limit : ℕ) → List (List ℕ) → (cursor : ℕ) → List Op → Taken
-joined limit log cursor [] = session_goes_on log cursor
-joined limit log cursor (op ∷ ops) =
-    if is_logged log (frame op) then joined limit log cursor ops else if nat_eq (length log) limit then session_refused log 2 else joined limit (log ++ frame op ∷ []) cursor ops
+abbrev pub log_joined : (limit : ℕ) → List (List ℕ) → (cursor : ℕ) → List Op → Taken
+log_joined limit log cursor [] = session_goes_on log cursor
+log_joined limit log cursor (op ∷ ops) =
+    if is_logged log (frame op) then log_joined limit log cursor ops else if nat_eq (length log) limit then session_refused log 2 else log_joined limit (log ++ frame op ∷ []) cursor ops
 
 -- what the bytes since the last whole message are: a frame of these operations, the closing byte, a proper front of a frame, or none of them
 pub data Kind : Type 0 where
@@ -77,6 +79,7 @@ pub data Kind : Type 0 where
   Front : Kind
   Neither : Kind
 
+-- what the front of a session's bytes is
 abbrev pub IsKind : Kind → List ℕ → Type 0
 IsKind (Frame ops) bytes = IsFrame Version2 (record { bytes = bytes; ops = ops })
 IsKind Closing bytes = bytes ≡ closing
@@ -85,14 +88,14 @@ IsKind Neither bytes = ((ops : List Op) → IsFrame Version2 (record { bytes = b
 
 -- and what they do
 abbrev pub told : Kind → (limit : ℕ) → List (List ℕ) → (cursor : ℕ) → List ℕ → Taken
-told (Frame ops) limit log cursor bytes = joined limit log cursor ops
+told (Frame ops) limit log cursor bytes = log_joined limit log cursor ops
 told Closing limit log cursor bytes = record { log = log; next = Closes (reply_from log cursor) }
 told Front limit log cursor bytes = record { log = log; next = Goes (record { cursor = Some cursor; rest = bytes }) }
 told Neither limit log cursor bytes = session_refused log 1
 
 -- the bytes since the last whole message, with one that came
 abbrev pub TakesByte : (limit : ℕ) → List (List ℕ) → (cursor : Option ℕ) → List ℕ → Taken → Type 0
-TakesByte limit log None bytes after = after ≡ greeted log bytes
+TakesByte limit log None bytes after = after ≡ greeting_read log bytes
 TakesByte limit log (Some cursor) bytes after = (kind : Kind) × IsKind kind bytes × (after ≡ told kind limit log cursor bytes)
 
 -- one byte more of a text; it counts for nothing behind the one that closed the session

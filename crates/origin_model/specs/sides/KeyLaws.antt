@@ -13,14 +13,14 @@ use Rattle.origin_model.specs.operations.Verdict.{Lawful}
 use Rattle.origin_model.specs.order.Laws.{IsIn}
 use Rattle.origin_model.specs.order.Order.{order}
 use Rattle.origin_model.specs.sides.KeyedGap.{block_end, block_start, gap_by_keys, siblings, slot_key}
-use Rattle.origin_model.specs.sides.Keys.{depth_of, forest_of, search_key_of, keyed, new_key}
+use Rattle.origin_model.specs.sides.Keys.{depth_of, forest_of, search_key_of, with_keys, new_key}
 use Rattle.origin_model.specs.sides.Node.{node_order}
 use Rattle.origin_model.specs.declared.operations.node.Node.{Node}
 use Rattle.origin_model.specs.sides.Slot.{BeforeBlock, IsPlace, IsTable, LastBelow, goes_before, slot_of}
 
 -- each key of the place fits its numbers
 abbrev pub AllFit : Place → List Op → Type 0
-AllFit p h = All IsFit (keyed h (order p h))
+AllFit p h = All IsFit (with_keys h (order p h))
 
 -- the element of the slot is one of the place
 abbrev pub StandsAt : Place → List Op → Slot → Type 0
@@ -46,26 +46,26 @@ pub record EndsBlock (children : Slot → List Identifier) (s y : Identifier) : 
 abbrev pub BlockEndByKeys : Type 0
 BlockEndByKeys =
     (p : Place) (h : List Op) (children : Slot → List Identifier) (s : Identifier) → Lawful h → AllFit p h → IsTable p h children → IsIn p h s
-    → EndsBlock children s (block_end (keyed h (order p h)) (depth_of h s) s)
+    → EndsBlock children s (block_end (with_keys h (order p h)) (depth_of h s) s)
 
 -- the first node below q is found by the key of q
 abbrev pub BlockStartByKeys : Type 0
 BlockStartByKeys =
     (p : Place) (h : List Op) (children : Slot → List Identifier) (q : Identifier) → Lawful h → AllFit p h → IsTable p h children → IsIn p h q
-    → BeforeBlock children q (block_start (keyed h (order p h)) (search_key_of h q) q)
+    → BeforeBlock children q (block_start (with_keys h (order p h)) (search_key_of h q) q)
 
 -- the siblings found by keys are the children of the slot, in order
 abbrev pub SiblingsByKeys : Type 0
 SiblingsByKeys =
     (p : Place) (h : List Op) (children : Slot → List Identifier) (s : Slot) → Lawful h → AllFit p h → IsTable p h children → StandsAt p h s
-    → siblings (keyed h (order p h)) s (slot_key h s) ≡ children s
+    → siblings (with_keys h (order p h)) s (slot_key h s) ≡ children s
 
 -- the gap found by keys is the place of a new element
 abbrev pub GapByKeys : Type 0
 GapByKeys =
     (p : Place) (op : Op) (older : List Op) (x : Identifier) → Lawful (op ∷ older) → element_of p op ≡ Some x → AllFit p older
     → let s = slot_of older op in
-    IsPlace (gap_by_keys (keyed older (order p older)) s (slot_key older s) (goes_before (order p older) older op x)) x (order p older) (order p (op ∷ older))
+    IsPlace (gap_by_keys (with_keys older (order p older)) s (slot_key older s) (goes_before (order p older) older op x)) x (order p older) (order p (op ∷ older))
 
 -- the key of a new element is known from those of its origins
 abbrev pub NewKey : Type 0
@@ -75,7 +75,7 @@ NewKey =
 
 -- a later operation leaves the keys of what is there
 abbrev pub KeysStay : Type 0
-KeysStay = (p : Place) (op : Op) (older : List Op) → Lawful (op ∷ older) → keyed (op ∷ older) (order p older) ≡ keyed older (order p older)
+KeysStay = (p : Place) (op : Op) (older : List Op) → Lawful (op ∷ older) → with_keys (op ∷ older) (order p older) ≡ with_keys older (order p older)
 
 -- an element behind its left origin, with the same right origin, as in a passage that is typed, is deeper by one, and its forest is 0
 abbrev pub RunKey : Type 0

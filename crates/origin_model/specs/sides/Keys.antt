@@ -16,6 +16,7 @@ depth_of h x = length (lefts h x)
 abbrev pub forest_of : List Op → Identifier → ℕ
 forest_of h x = length (rights h x) - 1
 
+-- the key by which an element is found among its siblings
 abbrev pub search_key_of : List Op → Identifier → Key
 search_key_of h x = record { depth = depth_of h x; forest = forest_of h x }
 
@@ -24,12 +25,12 @@ abbrev pub keyed_as : List Op → Identifier → Keyed
 keyed_as h x = record { id = x; key = search_key_of h x }
 
 -- elements with their keys
-abbrev pub keyed : List Op → List Identifier → List Keyed
-keyed h xs = map (keyed_as h) xs
+abbrev pub with_keys : List Op → List Identifier → List Keyed
+with_keys h xs = map (keyed_as h) xs
 
 -- the nodes in order, with their keys
 abbrev pub keyed_order : List Node → List Keyed
-keyed_order ns = keyed (as_ops ns) (node_order ns)
+keyed_order ns = with_keys (as_ops ns) (node_order ns)
 
 -- the depth of an origin: the start has 0
 abbrev pub depth_above : List Op → Option Identifier → ℕ

@@ -6,7 +6,7 @@ use Rattle.fugue_ids.specs.declared.key.Gap.{Gap}
 use Rattle.fugue_ids.specs.declared.key.Gap.TheVariants.{Alone, Before, After}
 use Rattle.fugue_ids.specs.declared.op.Op.{Op}
 use Rattle.origin_model.specs.operations.History.{holder, left_of, right_of, element_of}
-use Rattle.origin_model.specs.order.Order.{IsOrderedBy, has_left, order, fork_before, index_of_origin, ranked, right_at}
+use Rattle.origin_model.specs.order.Order.{IsOrderedBy, has_left, order, fork_before, index_of_origin, precedes, right_at}
 use Rattle.origin_model.specs.declared.operations.Place.{Place}
 use Rattle.origin_model.specs.declared.sides.Slot.{Slot}
 use Rattle.origin_model.specs.declared.sides.Slot.TheVariants.{LeftOf, RightOf}
@@ -46,7 +46,7 @@ FirstBelow children (v ∷ vs) q y = ((rest : List Identifier) × (children (Lef
 
 -- a sibling v goes before the new element x of the operation, by their right origins
 abbrev pub goes_before : List Identifier → List Op → Op → Identifier → Identifier → Bool
-goes_before finished older op x v = ranked (index_of_origin finished (right_at older v)) (index_of_origin finished (right_of op)) v x
+goes_before finished older op x v = precedes (index_of_origin finished (right_at older v)) (index_of_origin finished (right_of op)) v x
 
 -- the children of a slot, parted where the new element x of the operation goes in
 pub record IsParted (finished : List Identifier) (older : List Op) (op : Op) (x : Identifier) (children elders youngers : List Identifier) : Type 0 where

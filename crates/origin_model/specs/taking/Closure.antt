@@ -5,7 +5,7 @@ use Rattle.fugue_ids.specs.Ops.{id_of}
 use Rattle.fugue_ids.specs.declared.op.Op.{Op}
 use Rattle.origin_model.specs.operations.History.{has_op, accepted}
 use Rattle.origin_model.specs.order.Laws.{IsPartOf, SameOps, IsSameText}
-use Rattle.origin_model.specs.taking.Taking.{Held, HasPlace, nothing_held, Answer, TooMany, Full, held, held_from, kept, kept_from, answers_from, is_kept, IsSettled, settle, closure}
+use Rattle.origin_model.specs.taking.Taking.{Held, MeetsNoLimit, nothing_held, Answer, TooMany, Full, held, held_from, kept, kept_from, answers_from, is_kept, IsSettled, settle, closure}
 use Rattle.origin_model.specs.operations.Verdict.{names, verdict, Lawful}
 use Rattle.origin_model.specs.declared.operations.Verdict.TheVariants.{Ready}
 
@@ -63,9 +63,11 @@ pub record Taker : Type 0 where
   pub most : ℕ
   pub ops : List Op
 
+-- what a replica holds after it took its operations in
 abbrev pub taker_state : Taker → Held
 taker_state r = held r.hold r.most r.ops
 
+-- the operations that the replica accepted or that wait
 abbrev pub kept_by : Taker → List Op
 kept_by r = kept r.hold r.most r.ops
 
@@ -73,9 +75,11 @@ kept_by r = kept r.hold r.most r.ops
 abbrev pub given_by : Taker → List Op
 given_by r = accepted (taker_state r).history ++ (taker_state r).waiting
 
+-- the operations that each of the replicas kept
 abbrev pub kept_by_all : List Taker → List Op
 kept_by_all replicas = flat_map kept_by replicas
 
+-- the operations that were given to the replicas
 abbrev pub given_by_all : List Taker → List Op
 given_by_all replicas = flat_map given_by replicas
 
@@ -121,7 +125,7 @@ StaysSettled = (hold most : ℕ) (s : Held) (ops : List Op) → IsSettled s → 
 pub record IsSaved (hold most : ℕ) (file ops : List Op) : Type 0 where
   pub same_state : held hold most (file ++ kept_from hold most (held hold most file) ops) ≡ held_from hold most (held hold most file) ops
   pub within_limits : WithinLimits (answers hold most file) → WithinLimits (answers hold most (file ++ kept_from hold most (held hold most file) ops))
-  pub has_place : HasPlace hold most nothing_held file → HasPlace hold most nothing_held (file ++ kept_from hold most (held hold most file) ops)
+  pub has_place : MeetsNoLimit hold most nothing_held file → MeetsNoLimit hold most nothing_held (file ++ kept_from hold most (held hold most file) ops)
 
 -- saving the kept operations behind those of the file saves the state, and the file meets no limit that it did not meet before;
 -- where nothing was refused for want of a place, nothing is, even if something was Full

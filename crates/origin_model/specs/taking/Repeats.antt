@@ -1,12 +1,12 @@
 -- The closure as the greatest lawful part of a list, what is accepted whatever the limits, and operations that are taken in again.
 use Rattle.std.specs.Prelude.{◌≡◌, All, true, List, ◌++◌, ℕ, ◌≤◌}
 use Rattle.fugue_ids.specs.declared.op.Op.{Op}
-use Rattle.origin_model.specs.edits.State.{State, Stands}
+use Rattle.origin_model.specs.edits.State.{State, IsSound}
 use Rattle.origin_model.specs.operations.History.{accepted}
 use Rattle.origin_model.specs.operations.Verdict.{Lawful}
 use Rattle.origin_model.specs.order.Laws.{IsPartOf, SameOps}
 use Rattle.origin_model.specs.taking.Closure.{Consistent}
-use Rattle.origin_model.specs.taking.Taking.{HasPlace, Held, IsSettled, closure, held, held_from, is_again}
+use Rattle.origin_model.specs.taking.Taking.{MeetsNoLimit, Held, IsSettled, closure, held, held_from, is_again}
 
 -- the closure of a list has each lawful part of it
 abbrev pub ClosureIsGreatest : Type 0
@@ -23,7 +23,7 @@ AcceptedIsInClosure = (hold most : ℕ) (ops : List Op) → Consistent ops → I
 -- a list is taken in after operations of which each is one of the list. Where no answer is TooMany, and nothing is accepted, all of the closure had been accepted
 abbrev pub QuietPassIsLast : Type 0
 QuietPassIsLast =
-    (hold most : ℕ) (before ops : List Op) → Consistent ops → IsPartOf before ops → HasPlace hold most (held hold most before) ops
+    (hold most : ℕ) (before ops : List Op) → Consistent ops → IsPartOf before ops → MeetsNoLimit hold most (held hold most before) ops
     → (held_from hold most (held hold most before) ops).history ≡ (held hold most before).history → SameOps (held hold most before).history (closure ops)
 
 -- operations that are accepted already, or wait, change nothing when they are taken in again
@@ -33,5 +33,5 @@ RepeatsChangeNothing = (hold most : ℕ) (s : Held) (ops : List Op) → IsSettle
 -- what a settled replica gives, its accepted operations and then those that wait, each in their order, leads from nothing to what it holds, where the limits are no less than its own
 abbrev pub ReplicaIsRebuilt : Type 0
 ReplicaIsRebuilt =
-    (s : State) (hold most : ℕ) → Stands s → IsSettled s.held → s.hold ≤ hold → s.most ≤ most
+    (s : State) (hold most : ℕ) → IsSound s → IsSettled s.held → s.hold ≤ hold → s.most ≤ most
     → held hold most (accepted s.held.history ++ s.held.waiting) ≡ s.held

@@ -14,6 +14,7 @@ pub record Held : Type 0 where
   pub history : List Op
   pub waiting : List Op
 
+-- nothing was accepted, and nothing waits
 abbrev pub nothing_held : Held
 nothing_held = record { history = []; waiting = [] }
 
@@ -51,10 +52,10 @@ answer hold most s op =
     else answer_by (nat_eq (length s.history + length s.waiting) most) (nat_eq (length s.waiting) hold) (verdict s.history op)
 
 -- what an answer changes
-abbrev pub taken : Answer → Held → Op → Held
-taken Accepted s op = record { history = op ∷ s.history; waiting = s.waiting }
-taken Waits s op = record { history = s.history; waiting = s.waiting ++ op ∷ [] }
-taken _ s op = s
+abbrev pub held_after : Answer → Held → Op → Held
+held_after Accepted s op = record { history = op ∷ s.history; waiting = s.waiting }
+held_after Waits s op = record { history = s.history; waiting = s.waiting ++ op ∷ [] }
+held_after _ s op = s
 
 -- a waiting operation is decided where it is Ready or Stray
 abbrev pub is_decided : Verdict → Bool
@@ -94,18 +95,20 @@ abbrev pub settled_within : List Op → Held → Held
 settled_within [] s = s
 settled_within (op ∷ room) s = elim (settle_step s) [ None ↦ s | Some t ↦ settled_within room t ]
 
+-- settling to its end
 unfoldable pub settle : Held → Held
 settle s = settled_within s.waiting s
 
 -- taking in one operation: the answer's change, and then settling
 abbrev pub intake : (hold most : ℕ) → Held → Op → Held
-intake hold most s op = settle (taken (answer hold most s op) s op)
+intake hold most s op = settle (held_after (answer hold most s op) s op)
 
 -- taking in operations one after another, from a given state and from nothing
 abbrev pub held_from : (hold most : ℕ) → Held → List Op → Held
 held_from hold most s [] = s
 held_from hold most s (op ∷ ops) = held_from hold most (intake hold most s op) ops
 
+-- what a replica holds that took these operations in
 abbrev pub held : (hold most : ℕ) → List Op → Held
 held hold most ops = held_from hold most nothing_held ops
 
@@ -115,9 +118,10 @@ answers_from hold most s [] = []
 answers_from hold most s (op ∷ ops) = answer hold most s op ∷ answers_from hold most (intake hold most s op) ops
 
 -- all of the operations can be taken in: no answer is that there are too many
-abbrev pub HasPlace : (hold most : ℕ) (start : Held) → List Op → Type 0
-HasPlace hold most start ops = All (λ a. a ≢ TooMany) (answers_from hold most start ops)
+abbrev pub MeetsNoLimit : (hold most : ℕ) (start : Held) → List Op → Type 0
+MeetsNoLimit hold most start ops = All (λ a. a ≢ TooMany) (answers_from hold most start ops)
 
+-- the answer keeps the operation
 abbrev pub is_kept : Answer → Bool
 is_kept Accepted = true
 is_kept Waits = true
@@ -130,6 +134,7 @@ kept_from hold most s (op ∷ ops) =
     let rest = kept_from hold most (intake hold most s op) ops in
     if is_kept (answer hold most s op) then op ∷ rest else rest
 
+-- those of the operations that a new replica keeps
 abbrev pub kept : (hold most : ℕ) → List Op → List Op
 kept hold most ops = kept_from hold most nothing_held ops
 
@@ -158,16 +163,18 @@ settling_counted old new t = record t { accepted = t.accepted + count_joined old
 abbrev pub intake_counted : (hold most : ℕ) → Held → Op → Tally → Tally
 intake_counted hold most s op t =
     let a = answer hold most s op in
-    settling_counted (taken a s op) (intake hold most s op) (answer_counted a t)
+    settling_counted (held_after a s op) (intake hold most s op) (answer_counted a t)
 
 -- taking in operations one after another, counted
 abbrev pub tally_from : (hold most : ℕ) → Held → List Op → Tally → Tally
 tally_from hold most s [] t = t
 tally_from hold most s (op ∷ ops) t = tally_from hold most (intake hold most s op) ops (intake_counted hold most s op t)
 
+-- nothing was counted
 abbrev pub no_counts : Tally
 no_counts = record { accepted = 0; repeated = 0; conflict = 0; stray = 0; full = 0 }
 
+-- the counts of taking these operations in
 abbrev pub tally : (hold most : ℕ) → List Op → Tally
 tally hold most ops = tally_from hold most nothing_held ops no_counts
 
@@ -176,6 +183,7 @@ abbrev pub first_ready : List Op → List Op → Option Op
 first_ready history [] = None
 first_ready history (op ∷ ops) = elim (verdict history op) [ Ready ↦ Some op | _ ↦ first_ready history ops ]
 
+-- the history closed under what is Ready of the operations, in so many steps
 abbrev pub closed_within : List Op → List Op → List Op → List Op
 closed_within [] ops history = history
 closed_within (o ∷ room) ops history = elim (first_ready history ops) [ None ↦ history | Some op ↦ closed_within room ops (op ∷ history) ]

@@ -1,18 +1,13 @@
 -- What the images of a state are.
 use Rattle.std.proofs.Common.{◌≡◌, ◌⊎◌, inl, inr, ℕ, ◌+◌, ◌-◌, ◌<◌, ◌≤◌, List, [], ◌∷◌, ◌++◌, length, take, drop, get_or, refl, ap, sym, subst, ◌∙◌, arith, append_assoc, length-append, length-drop}
-use Rattle.std.proofs.lemmas.List.{length-take-le, get_or-take, get_or-drop, take_at, drop_at, ext_get_or, length-replicate, get_or_append_left}
+use Rattle.std.proofs.lemmas.List.{length-take-le, get_or-take, get_or-drop, take_at, drop_at, ext_get_or, get_or_append_left}
 use Rattle.std.proofs.Math.Seq.{get_or-append_seam}
-use Rattle.std.proofs.lemmas.List.Elements.{All-nil, All-cons, All-append, All-head, All-tail}
-use Rattle.std.proofs.lemmas.Bool.{cases_lt}
-use Rattle.std.specs.Prelude.{min, replicate}
-use Rattle.outer_ports.specs.disk.States.{State, IsFree, IsCrashImage, IsHonest, at_rest, overwritten, torn, wrote, tried, SameOutside}
+use Rattle.std.proofs.lemmas.List.Elements.{All-nil, All-cons, All-append}
+use Rattle.outer_ports.specs.disk.States.{DiskState, IsFree, IsCrashImage, IsHonest, at_rest, overwritten, torn_state, wrote, tried_state, SameOutside}
 use Rattle.outer_ports.specs.disk.Laws.{SyncBringsNone}
-use Rattle.outer_ports.specs.disk.Picks.{range_filled, filled, padded, picked}
-use Rattle.outer_ports.specs.declared.disk.mem_disk.Pick.{Pick}
-use Rattle.outer_ports.specs.declared.disk.mem_disk.Pick.TheVariants.{Old, New, Fill}
 
 -- an offset lies outside a range
-abbrev IsOutside : ℕ → ℕ × ℕ → Type 0
+abbrev pub IsOutside : ℕ → ℕ × ℕ → Type 0
 IsOutside i range = (i < range.0) ⊎ (range.0 + range.1 ≤ i)
 
 free_front : (xs ys : List (ℕ × ℕ)) (i : ℕ) → IsFree (xs ++ ys) i → IsFree xs i
@@ -55,17 +50,17 @@ same_outside at bytes old le =
 pub same_tried : (at n : ℕ) (old : List ℕ) → SameOutside at n old old
 same_tried at n old = record { front = refl; behind = refl; no_shorter = omega arith; no_longer = omega arith }
 
-pub honest_torn : (s : State) (at n : ℕ) (seen : List ℕ) → IsHonest s → SameOutside at n s.seen seen → IsHonest (torn at n seen s)
+pub honest_torn : (s : DiskState) (at n : ℕ) (seen : List ℕ) → IsHonest s → SameOutside at n s.seen seen → IsHonest (torn_state at n seen s)
 honest_torn s at n seen honest same = record {
   no_shorter = omega (arith, honest.no_shorter, same.no_shorter);
   no_longer = omega (arith, honest.no_longer, same.no_longer);
   same = λ i below free. same_byte at n i s.seen seen same (free_last s.ranges (at, n) i free) ∙ honest.same i below (free_front s.ranges ((at, n) ∷ []) i free);
 }
 
-pub honest_wrote : (s : State) (at : ℕ) (bytes : List ℕ) → IsHonest s → at ≤ length s.seen → IsHonest (wrote at bytes s)
+pub honest_wrote : (s : DiskState) (at : ℕ) (bytes : List ℕ) → IsHonest s → at ≤ length s.seen → IsHonest (wrote at bytes s)
 honest_wrote s at bytes honest le = honest_torn s at (length bytes) (overwritten s.seen at bytes) honest (same_outside at bytes s.seen le)
 
-pub honest_tried : (s : State) (at n : ℕ) → IsHonest s → IsHonest (tried at n s)
+pub honest_tried : (s : DiskState) (at n : ℕ) → IsHonest s → IsHonest (tried_state at n s)
 honest_tried s at n honest = honest_torn s at n s.seen honest (same_tried at n s.seen)
 
 pub honest_at_rest : (bytes : List ℕ) → IsHonest (at_rest bytes)
@@ -79,48 +74,3 @@ image_at_rest bytes image is = ext_get_or 0 image bytes (omega (arith, is.no_sho
 -- a sync brings no image
 pub sync_brings_none : SyncBringsNone
 sync_brings_none s image honest is = subst (IsCrashImage s) (sym (image_at_rest s.seen image is)) honest
-
--- an offset outside of a range is outside of what the range has of so many bytes
-outside_within : (at n i long : ℕ) → (i < at) ⊎ (at + n ≤ i) → (i < min at long) ⊎ (min at long + min n (long - at) ≤ i)
-outside_within at n i long (inl below) = elim (cases_lt i long) [ inl inside ↦ inl (omega (arith, below, inside)) | inr past ↦ inr (omega (arith, below, past)) ]
-outside_within at n i long (inr above) = inr (omega (arith, above))
-
-pub range_filled_same : (at n byte : ℕ) (bytes : List ℕ) → SameOutside (min at (length bytes)) (min n (length bytes - at)) bytes (range_filled at n byte bytes)
-range_filled_same at n byte bytes =
-    subst (λ k. SameOutside (min at (length bytes)) k bytes (range_filled at n byte bytes)) (length-replicate (min n (length bytes - at)) byte)
-    (same_outside (min at (length bytes)) (replicate (min n (length bytes - at)) byte) bytes (omega arith))
-
-pub filled_long : (ranges : List (ℕ × ℕ)) (byte : ℕ) (bytes : List ℕ) → length (filled ranges byte bytes) ≡ length bytes
-filled_long [] byte bytes = refl
-filled_long (range ∷ ranges) byte bytes =
-    let same = range_filled_same range.0 range.1 byte bytes in
-    filled_long ranges byte (range_filled range.0 range.1 byte bytes) ∙ omega (arith, same.no_shorter, same.no_longer)
-
-pub filled_free : (ranges : List (ℕ × ℕ)) (byte : ℕ) (bytes : List ℕ) (i : ℕ) → IsFree ranges i → get_or (filled ranges byte bytes) i 0 ≡ get_or bytes i 0
-filled_free [] byte bytes i free = refl
-filled_free (range ∷ ranges) byte bytes i free =
-    filled_free ranges byte (range_filled range.0 range.1 byte bytes) i (All-tail (IsOutside i) range ranges free)
-    ∙ same_byte (min range.0 (length bytes)) (min range.1 (length bytes - range.0)) i bytes (range_filled range.0 range.1 byte bytes)
-    (range_filled_same range.0 range.1 byte bytes) (outside_within range.0 range.1 i (length bytes) (All-head (IsOutside i) range ranges free))
-
-pub padded_long : (long byte : ℕ) (bytes : List ℕ) → length bytes ≤ long → length (padded long byte bytes) ≡ long
-padded_long long byte bytes le = omega (arith, le, length-append bytes (replicate (long - length bytes) byte), length-replicate (long - length bytes) byte)
-
--- what is picked is an image
-pub picked_image : (pick : Pick) (s : State) → IsHonest s → length s.base ≤ s.longest → IsCrashImage s (picked pick s)
-picked_image Old s honest fits = record { no_shorter = omega arith; no_longer = omega (arith, honest.no_shorter, honest.no_longer); same = λ i below free. refl }
-picked_image New s honest fits =
-    let long : length (padded s.longest 0 s.seen) ≡ s.longest = padded_long s.longest 0 s.seen (omega (arith, honest.no_longer, fits)) in
-    record {
-      no_shorter = omega (arith, long, honest.no_shorter, honest.no_longer);
-      no_longer = omega (arith, long);
-      same = λ i below free. get_or_append_left s.seen (replicate (s.longest - length s.seen) 0) 0 i (omega (arith, below, honest.no_shorter)) ∙ honest.same i below free;
-    }
-picked_image (Fill byte) s honest fits =
-    let long : length (filled s.ranges byte (padded s.longest byte s.base)) ≡ s.longest = filled_long s.ranges byte (padded s.longest byte s.base) ∙ padded_long s.longest byte s.base fits in
-    record {
-      no_shorter = omega (arith, long, fits);
-      no_longer = omega (arith, long);
-      same = λ i below free. filled_free s.ranges byte (padded s.longest byte s.base) i free
-          ∙ get_or_append_left s.base (replicate (s.longest - length s.base) byte) 0 i below;
-    }

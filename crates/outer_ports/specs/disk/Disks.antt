@@ -4,7 +4,7 @@ use Rattle.fugue_ids.specs.Causes.{HasCause}
 use Rattle.outer_ports.specs.Calls.{risen}
 use Rattle.outer_ports.specs.Counts.{FailsOnlyFor}
 use Rattle.outer_ports.specs.disk.States.{IsHonest, wrote, durable}
-use Rattle.outer_ports.specs.disk.Moments.{History, after, MayHaveWritten}
+use Rattle.outer_ports.specs.disk.Moments.{History, after_moment, MayHaveWritten}
 
 -- what all later calls together may use
 pub record RoomView : Type 0 where
@@ -13,6 +13,7 @@ pub record RoomView : Type 0 where
   -- how many writes and syncs they are
   pub calls : ℕ
 
+-- what contracts see of a disk
 pub record DiskView : Type 0 where
   -- its states so far, where the object tells them
   pub past : Option History
@@ -30,13 +31,13 @@ abbrev pub DiskTells : DiskView → Type 0
 DiskTells disk = IsSome disk.past
 
 -- the room that a call leaves which writes n bytes
-abbrev pub spent : ℕ → Option RoomView → Option RoomView
-spent n None = None
-spent n (Some room) = Some (record { bytes = room.bytes - n; calls = room.calls - 1 })
+abbrev pub spent_by_write : ℕ → Option RoomView → Option RoomView
+spent_by_write n None = None
+spent_by_write n (Some room) = Some (record { bytes = room.bytes - n; calls = room.calls - 1 })
 
 -- how far it was read once n bytes were asked for from an offset on, up to the greatest number
-abbrev pub reached : (at n before : ℕ) → ℕ
-reached at n before = max before (min (at + n) (2 ^ 64 - 1))
+abbrev pub reach_after : (at n before : ℕ) → ℕ
+reach_after at n before = max before (min (at + n) (2 ^ 64 - 1))
 
 -- it was not asked for its size, and not read
 pub record IsUnread (old new : DiskView) : Type 0 where
@@ -72,19 +73,20 @@ pub record GivesAt (seen : List ℕ) (at n : ℕ) (buf : List ℕ) : Type 0 wher
   pub inside : n ≤ length seen - at
   pub some : 0 < length buf → at < length seen → 0 < n
 
+-- a read at a place: what it gives, and how it may fail
 pub record ReadsAt {E : Type 0} (old new : DiskView) (result : Result ℕ E) (at : ℕ) (buf : List ℕ) : Type 0 where
   pub bound : IfOk result (λ n. n ≤ length buf)
   pub told : IfOk result (λ n. IfSome old.past (λ h. GivesAt h.last.seen at n buf))
   pub looks : Looks old new result
-  pub asked : OnOk result (new.reach ≡ option_map (reached at (length buf)) old.reach)
+  pub asked : OnOk result (new.reach ≡ option_map (reach_after at (length buf)) old.reach)
   pub unasked : OnErr result (new.reach ≡ old.reach)
   pub sizes : new.sizes ≡ old.sizes
 
 -- all bytes are written; where the call failed, their range may hold anything after a crash
 pub record WritesAt {E T : Type 0} (old new : DiskView) (result : Result T E) (at : ℕ) (bytes : List ℕ) : Type 0 where
-  pub wrote : OnOk result (new.past ≡ after (wrote at bytes) old.past)
+  pub wrote : OnOk result (new.past ≡ after_moment (wrote at bytes) old.past)
   pub torn : OnErr result (MayHaveWritten at (length bytes) old.past new.past)
-  pub room : OnOk result (new.room ≡ spent (length bytes) old.room)
+  pub room : OnOk result (new.room ≡ spent_by_write (length bytes) old.room)
   pub same_room : OnErr result (new.room ≡ old.room)
   pub unread : IsUnread old new
   pub cause : HasCause old.faults new.faults result
@@ -94,9 +96,9 @@ pub record WritesAt {E T : Type 0} (old new : DiskView) (result : Result T E) (a
 -- what a read gives was one of the images, and is now the only one
 pub record Syncs {E T : Type 0} (old new : DiskView) (result : Result T E) : Type 0 where
   pub honest : OnOk result (IfSome old.past (λ h. IsHonest h.last))
-  pub settled : OnOk result (new.past ≡ after durable old.past)
+  pub settled : OnOk result (new.past ≡ after_moment durable old.past)
   pub past : OnErr result (new.past ≡ old.past)
-  pub room : OnOk result (new.room ≡ spent 0 old.room)
+  pub room : OnOk result (new.room ≡ spent_by_write 0 old.room)
   pub same_room : OnErr result (new.room ≡ old.room)
   pub unread : IsUnread old new
   pub cause : HasCause old.faults new.faults result

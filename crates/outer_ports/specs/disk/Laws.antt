@@ -1,8 +1,8 @@
 -- The laws of what a crash may leave.
 use Rattle.std.specs.Prelude.{◌⊎◌, ◌↔◌, ℕ, ◌≤◌, List, length, Result, IfSome}
 use Rattle.fugue_ids.specs.declared.out.Failed.{Failed}
-use Rattle.outer_ports.specs.disk.States.{State, IsCrashImage, IsHonest, at_rest, durable}
-use Rattle.outer_ports.specs.disk.Moments.{History, moment, MayLeave, LeftSince, LeftBetween}
+use Rattle.outer_ports.specs.disk.States.{DiskState, IsCrashImage, IsHonest, at_rest, durable}
+use Rattle.outer_ports.specs.disk.Moments.{History, moment_number, MayLeave, LeftSince, LeftBetween}
 use Rattle.outer_ports.specs.disk.Disks.{DiskView, ReadsAt, Sizes, Syncs, WritesAt}
 
 -- An image of the moments since t is one of the moments from t to u, or one of the moments since u.
@@ -11,11 +11,11 @@ SpansJoin = (h : History) (t u : ℕ) (image : List ℕ) → t ≤ u → LeftSin
 
 -- An image of the moments since the one that stands is one that a crash may leave now.
 abbrev pub SinceNow : Type 0
-SinceNow = (h : History) (image : List ℕ) → LeftSince h (moment h) image ↔ MayLeave h image
+SinceNow = (h : History) (image : List ℕ) → LeftSince h (moment_number h) image ↔ MayLeave h image
 
 -- A sync that answers Ok brings no image.
 abbrev pub SyncBringsNone : Type 0
-SyncBringsNone = (s : State) (image : List ℕ) → IsHonest s → IsCrashImage (durable s) image → IsCrashImage s image
+SyncBringsNone = (s : DiskState) (image : List ℕ) → IsHonest s → IsCrashImage (durable s) image → IsCrashImage s image
 
 -- where the disk tells its states, what a read gives is one of the images
 abbrev pub IsHonestDisk : DiskView → Type 0

@@ -8,7 +8,7 @@ use Rattle.outer_ports.specs.dock.Steps.{Fits, with_bytes, GivesSome}
 use Rattle.outer_ports.specs.declared.dock.DockStep.{DockStep}
 use Rattle.outer_ports.specs.declared.dock.Listening.{Listening}
 use Rattle.outer_ports.specs.declared.latest.Latest.{Latest}
-use Rattle.outer_ports.specs.declared.dock.mem_dock.MemStep.{MemStep}
+use Rattle.outer_ports.specs.declared.dock.MemStep.{MemStep}
 
 -- each told only by an object that tells it
 pub record DockView : Type 0 where
@@ -107,7 +107,7 @@ pub record Sends {E : Type 0} (old new : DockView) (result : Result ℕ E) (sess
 
 -- The session joins those that were ended, with what it had been sent so far; nothing at an error. So what is sent once it
 -- was ended can't pass for what was sent before.
-pub record Ends {E T : Type 0} (old new : DockView) (result : Result T E) (session : ℕ) : Type 0 where
+pub record EndsSession {E T : Type 0} (old new : DockView) (result : Result T E) (session : ℕ) : Type 0 where
   pub ended : OnOk result (new.ended ≡ append_known old.ended (session ∷ []))
   pub kept : OnErr result (new.ended ≡ old.ended)
   pub ended_at : OnOk result (new.ended_at ≡ ended_behind old.ended_at (old.sent session))

@@ -3,8 +3,8 @@ use Rattle.std.specs.Prelude.{◌≡◌, ℕ, ◌+◌, ◌-◌, ◌^◌, ◌<◌
 use Rattle.std.specs.List.{list_any, sum_by}
 use Rattle.outer_ports.specs.declared.dock.DockStep.{DockStep}
 use Rattle.outer_ports.specs.declared.dock.DockStep.TheVariants as given
-use Rattle.outer_ports.specs.declared.dock.mem_dock.MemStep.{MemStep}
-use Rattle.outer_ports.specs.declared.dock.mem_dock.MemStep.TheVariants.{Opened, Bytes, Gone}
+use Rattle.outer_ports.specs.declared.dock.MemStep.{MemStep}
+use Rattle.outer_ports.specs.declared.dock.MemStep.TheVariants.{Opened, Bytes, Gone}
 
 -- bytes come, at most as many as the buffer has room for
 abbrev pub Fits : DockStep → ℕ → Type 0
@@ -47,32 +47,32 @@ is_opening session (Bytes other bytes) = false
 is_opening session (Gone other) = false
 
 -- whether one of the steps does
-abbrev pub opens : List MemStep → ℕ → Bool
-opens steps session = list_any (is_opening session) steps
+abbrev pub opens_session : List MemStep → ℕ → Bool
+opens_session steps session = list_any (is_opening session) steps
 
 -- a step that brings bytes has some
-abbrev pub HasBytes : MemStep → Type 0
-HasBytes step = 0 < calls_for step
+abbrev pub BringsSome : MemStep → Type 0
+BringsSome step = 0 < calls_for step
 
 -- what is given of a step where at most so many bytes fit
-abbrev pub part_of : ℕ → MemStep → MemStep
-part_of most (Opened session) = Opened session
-part_of most (Bytes session bytes) = Bytes session (take most bytes)
-part_of most (Gone session) = Gone session
+abbrev pub given_part : ℕ → MemStep → MemStep
+given_part most (Opened session) = Opened session
+given_part most (Bytes session bytes) = Bytes session (take most bytes)
+given_part most (Gone session) = Gone session
 
 -- what is left of it then
-abbrev pub rest_of : ℕ → MemStep → List MemStep
-rest_of most (Opened session) = []
-rest_of most (Bytes session bytes) = if nat_lt most (length bytes) then Bytes session (drop most bytes) ∷ [] else []
-rest_of most (Gone session) = []
+abbrev pub rest_after : ℕ → MemStep → List MemStep
+rest_after most (Opened session) = []
+rest_after most (Bytes session bytes) = if nat_lt most (length bytes) then Bytes session (drop most bytes) ∷ [] else []
+rest_after most (Gone session) = []
 
 -- the first step to come was given, or so many of its bytes, and the rest stands as the first to come
 pub record Gives (most : ℕ) (old new : List MemStep) (step : MemStep) : Type 0 where
   pub first : MemStep
   pub others : List MemStep
   pub came : old ≡ first ∷ others
-  pub given : step ≡ part_of most first
-  pub left : new ≡ rest_of most first ++ others
+  pub given : step ≡ given_part most first
+  pub left : new ≡ rest_after most first ++ others
 
 -- the same with some number, where the steps are told
 abbrev pub GivesSome : Option (List MemStep) → Option (List MemStep) → MemStep → Type 0

@@ -12,10 +12,10 @@ Accepts None before now = now ≡ risen before
 Accepts (Some new) before now = now ≡ before
 
 -- these bytes come from the connection, which stays
-abbrev pub Gave : {S : Type 0} → (S → Option (List ℕ)) → Option S → Option S → List ℕ → Type 0
-Gave remaining None new bytes = ⊥
-Gave remaining (Some old) None bytes = ⊥
-Gave remaining (Some old) (Some new) bytes = Consumes (remaining old) (remaining new) bytes
+abbrev pub GaveBytes : {S : Type 0} → (S → Option (List ℕ)) → Option S → Option S → List ℕ → Type 0
+GaveBytes remaining None new bytes = ⊥
+GaveBytes remaining (Some old) None bytes = ⊥
+GaveBytes remaining (Some old) (Some new) bytes = Consumes (remaining old) (remaining new) bytes
 
 -- the connection gives nothing more, or is lost by a fault
 abbrev pub Leaves : {S : Type 0} → (S → Option (List ℕ)) → Option S → ℕ → ℕ → Type 0
@@ -25,7 +25,7 @@ Leaves remaining (Some old) before now = IsAtEnd (remaining old) × (now ≡ bef
 -- what a step says of the connection: it is there, gives bytes, or is gone
 abbrev pub Brings : {S : Type 0} → (S → Option (List ℕ)) → DockStep → Option S → Option S → ℕ → ℕ → List ℕ → Type 0
 Brings remaining (given.Opened session) old new before now buf = Accepts new before now
-Brings remaining (given.Bytes session count) old new before now buf = Gave remaining old new (take count buf) × (now ≡ before)
+Brings remaining (given.Bytes session count) old new before now buf = GaveBytes remaining old new (take count buf) × (now ≡ before)
 Brings remaining (given.Gone session) old new before now buf = (new ≡ None) × Leaves remaining old before now
 
 -- all of a piece counts as sent, and nothing was done

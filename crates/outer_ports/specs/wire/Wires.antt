@@ -7,6 +7,7 @@ use Rattle.outer_ports.specs.Sources.{SourceView, ReadsSome}
 use Rattle.outer_ports.specs.declared.latest.Latest.{Latest}
 use Rattle.outer_ports.specs.declared.wire.Dial.{Dial}
 
+-- what contracts see of a wire
 pub record WireView : Type 0 where
   -- how often it was dialled, and the last time, where the object tells it
   pub dials : Option (Latest Dial)

@@ -6,7 +6,7 @@ ghost use Rattle.fugue_ids.specs.Causes.{HasCause};
 ghost use Rattle.outer_ports.specs.Calls.{risen};
 ghost use Rattle.outer_ports.specs.Counts.{CountsFaults};
 ghost use Rattle.outer_ports.specs.dock.Steps.{InTurn};
-ghost use Rattle.outer_ports.specs.dock.Docks.{Listens, Takes, Sends, Ends};
+ghost use Rattle.outer_ports.specs.dock.Docks.{Listens, Takes, Sends, EndsSession};
 ghost use Rattle.outer_ports.specs.dock.Streams.{Accepts, Brings, GoesNowhere, Reaches, Stays};
 
 use crate::again::MOST_CALLS;
@@ -271,7 +271,7 @@ impl<R: Net + Clock + AllocGlobal + Drop, E: Write + Drop> Dock for TcpDock<R, E
 
     /// The peer sees the end of what is sent to it. What it still sends comes as before, until it is Gone.
     fn end(&mut self, session: u32) -> Result<(), Failed>
-        ensures ends { Ends (⟦<TcpDock<R, E> as Dock>⟧.seen self.old) (⟦<TcpDock<R, E> as Dock>⟧.seen self.new)
+        ensures ends { EndsSession (⟦<TcpDock<R, E> as Dock>⟧.seen self.old) (⟦<TcpDock<R, E> as Dock>⟧.seen self.new)
             result session }
         ensures lost { IsOk result }
         ensures stream { session ≡ self.old.session

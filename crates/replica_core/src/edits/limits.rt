@@ -3,7 +3,7 @@
 ghost use Rattle.std.specs.Prelude.{◌≡◌, ◌≤◌, ◌+◌, ◌^◌, None, Some, IfErr, IfOk, OnOk};
 ghost use Rattle.origin_model.specs.edits.Edits.{next_above};
 ghost use Rattle.origin_model.specs.edits.Refusal.{next_of_own, refused_elements, refused_ops};
-ghost use Rattle.origin_model.specs.edits.State.{Stands};
+ghost use Rattle.origin_model.specs.edits.State.{IsSound};
 
 use crate::{EditFault, Replica};
 
@@ -27,7 +27,7 @@ impl Replica {
         ensures ok { OnOk result (refused_ops self.now count ≡ None) }
         ensures few { OnOk result (count ≤ self.now.most) }
         ensures err { IfErr result (λ fault. refused_ops self.now count ≡ Some fault) }
-        ensures stands { Stands self.now }
+        ensures stands { IsSound self.now }
     {
         let room = self.room();
         if count <= room {
@@ -44,7 +44,7 @@ impl Replica {
         ensures few { OnOk result (count ≤ self.now.most) }
         ensures may { OnOk result (refused_elements self.now count ≡ None) }
         ensures err { IfErr result (λ fault. refused_elements self.now count ≡ Some fault) }
-        ensures stands { Stands self.now }
+        ensures stands { IsSound self.now }
     {
         let greatest = self.greatest_counter();
         let next = next_behind(greatest);

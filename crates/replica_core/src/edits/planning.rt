@@ -7,7 +7,7 @@ ghost use Rattle.origin_model.specs.edits.Noting.{note_by, note_refusal};
 ghost use Rattle.origin_model.specs.edits.Refusal.{made_by, refusal_message};
 ghost use Rattle.replica_core.specs.Deleting.{AreWithin};
 ghost use Rattle.replica_core.specs.Edits.{IsCauseOf, typed_at};
-ghost use Rattle.origin_model.specs.edits.State.{Stands};
+ghost use Rattle.origin_model.specs.edits.State.{IsSound};
 ghost use Rattle.section_list.specs.Cells.{section_cell_ids, section_cells_shown};
 ghost use Rattle.origin_model.specs.edits.Landing.{following};
 
@@ -55,7 +55,7 @@ impl Replica {
         ensures count { IfOk result (λ spot. spot.count ≡ length (chars text.now)) }
         ensures may { OnOk result (refusal_message self.now (Put section at (chars text.now)) ≡ None) }
         ensures err { IfErr result (λ fault. IsCauseOf fault self.now (Put section at (chars text.now))) }
-        ensures stands { Stands self.now }
+        ensures stands { IsSound self.now }
     {
         let Some(section) = self.shown_section(section) else {
             return Err(EditFault::NoSection);
@@ -81,7 +81,7 @@ impl Replica {
             (λ targets. AreWithin targets.section self.now.held.history targets.ids.items) }
         ensures may { OnOk result (refusal_message self.now (Cut section at n) ≡ None) }
         ensures err { IfErr result (λ fault. IsCauseOf fault self.now (Cut section at n)) }
-        ensures stands { Stands self.now }
+        ensures stands { IsSound self.now }
     {
         let Some(section) = self.shown_section(section) else {
             return Err(EditFault::NoSection);
@@ -92,7 +92,7 @@ impl Replica {
         self.check_room(n)?;
         Ok(Targets {
             section: section.id,
-            ids: shown_part(self.alloc, section.text, at, n)?,
+            ids: shown_part(self.inner.alloc, section.text, at, n)?,
         })
     }
 
@@ -101,7 +101,7 @@ impl Replica {
         ensures ok { IfOk result (λ op. made_by self.now (Add at title) ≡ op ∷ []) }
         ensures may { OnOk result (refusal_message self.now (Add at title) ≡ None) }
         ensures err { IfErr result (λ fault. IsCauseOf fault self.now (Add at title)) }
-        ensures stands { Stands self.now }
+        ensures stands { IsSound self.now }
     {
         let Some(origins) = origins_at(self.catalogue(), at) else {
             return Err(EditFault::OutOfRange);
@@ -120,7 +120,7 @@ impl Replica {
         ensures ok { IfOk result (λ op. made_by self.now (DropSection section) ≡ op ∷ []) }
         ensures may { OnOk result (refusal_message self.now (DropSection section) ≡ None) }
         ensures err { IfErr result (λ fault. IsCauseOf fault self.now (DropSection section)) }
-        ensures stands { Stands self.now }
+        ensures stands { IsSound self.now }
     {
         let Some(section) = self.shown_section(section) else {
             return Err(EditFault::NoSection);
@@ -134,7 +134,7 @@ impl Replica {
         ensures ok { IfOk result (λ op. op ≡ note_by self.now names code body) }
         ensures may { OnOk result (note_refusal self.now ≡ None) }
         ensures err { IfErr result (λ fault. note_refusal self.now ≡ Some fault) }
-        ensures stands { Stands self.now }
+        ensures stands { IsSound self.now }
     {
         let counter = self.check_elements(1)?;
         Ok(Op::Note {

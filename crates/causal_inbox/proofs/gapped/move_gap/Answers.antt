@@ -1,5 +1,5 @@
 use Rattle.std.proofs.Common.{ap, arith, ◌<◌, ◌∙◌, ◌+◌, ◌-◌, length}
-use Rattle.causal_inbox.specs.Gap.{around}
+use Rattle.causal_inbox.specs.Gap.{items_around_gap}
 use Rattle.causal_inbox.proofs.GapLemmas.{moved_back, moved_on}
 use Rattle.causal_inbox.proofs.gapped.move_gap.Goals as goal
 
@@ -10,7 +10,7 @@ on-preserved g c =
     record {
       len = c.swap.ensures.len ∙ c.on.invariant.len;
       within = omega (arith, c.on-test.true, c.requires.to, c.on.invariant.len, c.swap.ensures.len);
-      around = ap (λ l. around l (c.on.at + 1) size) c.swap.ensures.after
+      around = ap (λ l. items_around_gap l (c.on.at + 1) size) c.swap.ensures.after
           ∙ moved_on c.on.items c.on.at size (omega (arith, c.if-size-eq0.false)) within
           ∙ c.on.invariant.around;
     }
@@ -24,8 +24,8 @@ back-preserved g c =
       len = c.swap-in-back.ensures.len ∙ c.back.invariant.len;
       behind = omega (arith, c.back-test.true);
       within = omega (arith, c.back-test.true, c.back.invariant.within, c.swap-in-back.ensures.len);
-      around = ap (λ l. around l (at - 1) size) c.swap-in-back.ensures.after
+      around = ap (λ l. items_around_gap l (at - 1) size) c.swap-in-back.ensures.after
           ∙ moved_back c.back.items (at - 1) size (omega (arith, c.if-size-eq0.false)) within
-          ∙ ap (λ n. around c.back.items n size) {x = at - 1 + 1} {y = at} (omega (arith, c.back-test.true))
+          ∙ ap (λ n. items_around_gap c.back.items n size) {x = at - 1 + 1} {y = at} (omega (arith, c.back-test.true))
           ∙ c.back.invariant.around;
     }

@@ -1,12 +1,12 @@
 use Rattle.std.proofs.Common.{◌-◌, ◌≡◌, ◌≤◌, ◌+◌, length}
-use Rattle.causal_inbox.specs.Gap.{around}
+use Rattle.causal_inbox.specs.Gap.{items_around_gap}
 use Rattle.causal_inbox.proofs.gapped.move_gap.Given as goal
 
 abbrev pub invariant-on : goal.invariant-on
 invariant-on g l = record {
   len : length l.items ≡ length l.initial.items;
   within : l.at + l.size ≤ length l.items;
-  around : around l.items l.at l.size ≡ around l.initial.items l.from l.size;
+  around : items_around_gap l.items l.at l.size ≡ items_around_gap l.initial.items l.from l.size;
 }
 
 abbrev pub decreases-on : goal.decreases-on
@@ -17,7 +17,7 @@ invariant-back g l = record {
   len : length l.items ≡ length l.initial.items;
   behind : l.to ≤ l.at;
   within : l.at + l.size ≤ length l.items;
-  around : around l.items l.at l.size ≡ around l.fn.items l.from l.size;
+  around : items_around_gap l.items l.at l.size ≡ items_around_gap l.fn.items l.from l.size;
 }
 
 abbrev pub decreases-back : goal.decreases-back

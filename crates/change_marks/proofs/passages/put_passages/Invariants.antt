@@ -2,14 +2,14 @@ use Rattle.std.proofs.Common.{length, ◌+◌, ◌≤◌}
 use Rattle.std.specs.Prelude.{None}
 use Rattle.section_catalogue.proofs.PrintingLemmas.{IsUnderWay}
 use Rattle.section_list.specs.Cells.{section_cell_ids, section_cells_shown}
-use Rattle.change_marks.specs.Steps.{count_in, lines_from}
+use Rattle.change_marks.specs.Steps.{count_in, passage_lines}
 use Rattle.change_marks.proofs.passages.put_passages.Given as goal
 
 -- a front of the lines was gathered, and those of the letters to come are the rest
 abbrev pub invariant-letters : goal.invariant-letters
 invariant-letters g l =
     IsUnderWay (g.O.Out.seen l.initial.output) (g.O.Out.seen l.output) l.initial.gather l.gather
-    (lines_from None (section_cell_ids (section_cells_shown l.list.cells))) (lines_from l.begun l.shown)
+    (passage_lines None (section_cell_ids (section_cells_shown l.list.cells))) (passage_lines l.begun l.shown)
     × (count_in l.begun + length l.shown ≤ length (section_cell_ids (section_cells_shown l.list.cells)))
 
 abbrev pub decreases-letters : goal.decreases-letters

@@ -6,7 +6,7 @@ use Rattle.fugue_ids.specs.Gathers.{GathersText}
 use Rattle.fugue_ids.proofs.GatherLemmas.{gathers_join, gathers_stop}
 use Rattle.origin_model.specs.declared.operations.Place.TheVariants.{Section as within}
 use Rattle.origin_model.proofs.SharedLemmas.{order_total}
-use Rattle.change_marks.specs.Marks.{marked, runs}
+use Rattle.change_marks.specs.Marks.{text_with_marks, runs}
 use Rattle.change_marks.proofs.WritingLemmas.{runs_found}
 use Rattle.change_marks.proofs.told.put_body.Goals as goal
 
@@ -17,7 +17,7 @@ put_runs-requires g c = record {
 
 pub returns-in_err-put_runs : goal.returns-in_err-put_runs
 returns-in_err-put_runs g c =
-    let text = marked c.args.now.now (runs c.args.is_dropped c.args.then.now c.args.now.now c.args.section) in
+    let text = text_with_marks c.args.now.now (runs c.args.is_dropped c.args.then.now c.args.now.now c.args.section) in
     let p = err_from_is_err_and c.from_residual.result c.from_residual.ensures.1 in
     rw p.1 (gathers_stop {T = Unit {0}} {S = Unit {0}} _ _ _ _ text (10 ∷ [])
     (subst (GathersText {T = Unit {0}} (g.O.Out.seen c.args.output.now) (g.O.Out.seen c.put_runs.new.output) c.args.gather.now c.put_runs.new.gather (Err (record {})))
@@ -25,7 +25,7 @@ returns-in_err-put_runs g c =
 
 pub returns : goal.returns
 returns g c =
-    let text = marked c.args.now.now (runs c.args.is_dropped c.args.then.now c.args.now.now c.args.section) in
+    let text = text_with_marks c.args.now.now (runs c.args.is_dropped c.args.then.now c.args.now.now c.args.section) in
     gathers_join {T = Unit {0}} {S = Unit {0}} tt c.put.result _ _ _ _ _ _ text (10 ∷ [])
     (subst (GathersText {T = Unit {0}} (g.O.Out.seen c.args.output.now) (g.O.Out.seen c.put_runs.new.output) c.args.gather.now c.put_runs.new.gather (Ok tt))
     (runs_found c.args.is_dropped c.args.then.now _ c.args.now.now _ c.args.section _ c.replica-front.ensures c.replica-replica.ensures c.elements_of-list.ensures.elements) c.in_ok-put_runs.ensures)

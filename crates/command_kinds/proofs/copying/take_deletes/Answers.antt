@@ -7,7 +7,7 @@ use Rattle.origin_model.specs.taking.Taking.{kept_from}
 use Rattle.op_runs.specs.Deletions.{deletes_by}
 use Rattle.op_runs.proofs.DeletionLemmas.{length-deletes}
 use Rattle.replica_core.specs.Feeding.{TakesInAll}
-use Rattle.command_kinds.specs.Intake.{copied}
+use Rattle.command_kinds.specs.Intake.{copies_of_kept}
 use Rattle.command_kinds.proofs.CopyingLemmas.{copying_on, copying_over, copying_stops, next_delete}
 use Rattle.command_kinds.proofs.copying.take_deletes.Goals as goal
 
@@ -43,4 +43,4 @@ returns-clause-kept c =
     let ops : List Op = deletes_by d.down d.target d.count in
     let none : length (drop c.loop-offset.offset ops) ≡ 0 = omega (arith, c.loop-offset-test.false, length-drop c.loop-offset.offset ops, length-deletes d.down d.target d.count) in
     c.loop-offset.invariant.kept_are
-    ∙ ap (λ (l : List Op). copied c.args.kept.now (kept_from c.args.replica.now.hold c.args.replica.now.most c.args.replica.now.held l)) (copying_over _ _ _ _ _ _ _ _ c.loop-offset.invariant none)
+    ∙ ap (λ (l : List Op). copies_of_kept c.args.kept.now (kept_from c.args.replica.now.hold c.args.replica.now.most c.args.replica.now.held l)) (copying_over _ _ _ _ _ _ _ _ c.loop-offset.invariant none)

@@ -1,4 +1,9 @@
+use Rattle.std.proofs.Common.{◌≡◌, ap, ◌∙◌}
+use Rattle.std.specs.Prelude.{Err}
 use Rattle.std.proofs.lemmas.Result.{err_from_is_err_and}
+use Rattle.replica_file.specs.declared.load_file.LoadFault.TheVariants.{DiskFault}
+use Rattle.replica_file.proofs.LoadLemmas.{loaded_synced, tells_settled}
+use Rattle.command_kinds.specs.Refusal.{load_refusal}
 use Rattle.command_kinds.specs.Findings.{Refuses}
 use Rattle.command_kinds.specs.Changes.{change}
 use Rattle.command_kinds.specs.declared.refusal.Refusal.TheVariants.{NoMemory}
@@ -8,17 +13,26 @@ use Rattle.command_kinds.proofs.giving.load_and_save.Goals as goal
 
 pub returns-clause-saves : goal.returns-clause-saves
 returns-clause-saves g c =
-    let given = c.give_and_save-saved.ensures.given _ c.in_ok-replica.ensures.meets.holds in
-    (given.0, noted_comes _ _ (g.H.Disk.seen c.load_file.new.file) _ _ _ c.in_ok-replica.ensures.meets _ given.1)
+    let given = c.give_and_save-saved.ensures.given _ c.in_ok-replica.ensures.cause in
+    (given.0, noted_comes _ _ (g.H.Disk.seen c.load.new.disk) _ _ _ c.in_ok-replica.ensures _ given.1)
 
 pub returns-in_err-replica-clause-saves : goal.returns-in_err-replica-clause-saves
 returns-in_err-replica-clause-saves g c =
     let p = err_from_is_err_and c.from_residual.result c.from_residual.ensures.1 in
     rw (p.1, p.2) (
       Refuses NoMemory,
-      load_stops (g.T.Gives.giver c.args.giver.now (g.H.Disk.seen c.args.home.now) c.args.from.now c.args.from.now (Refuses NoMemory)) (change (g.H.Disk.seen c.args.home.now) (g.H.Disk.seen c.load_file.new.file))
-          c.in_err-replica.field-0.0 c.in_err-replica.ensures.meets,
+      load_stops (g.T.Gives.giver c.args.giver.now (g.H.Disk.seen c.args.home.now) c.args.from.now c.args.from.now (Refuses NoMemory)) (change (g.H.Disk.seen c.args.home.now) (g.H.Disk.seen c.load.new.disk))
+          c.in_err-replica.field-0.0 c.in_err-replica.ensures,
     )
 
 pub returns-clause-unused : goal.returns-clause-unused
-returns-clause-unused g c told why refuses = absurd (holds_or_refuses (g.H.Disk.seen c.args.home.now) told (_, _) why c.in_ok-replica.ensures.meets.holds refuses)
+returns-clause-unused g c told why refuses = absurd (holds_or_refuses (g.H.Disk.seen c.args.home.now) told (_, _) why c.in_ok-replica.ensures.cause refuses)
+
+pub returns-clause-told : goal.returns-clause-told
+returns-clause-told g c tells inside =
+    c.give_and_save-saved.ensures.told (tells_settled _ _ (loaded_synced _ _ _ _ c.in_ok-replica.ensures).0 tells) inside ∙ c.in_ok-replica.ensures.faults.calm_told tells (λ is. cc is)
+
+pub returns-in_err-replica-clause-told : goal.returns-in_err-replica-clause-told
+returns-in_err-replica-clause-told g c tells inside =
+    let p = err_from_is_err_and c.from_residual.result c.from_residual.ensures.1 in
+    c.in_err-replica.ensures.faults.calm_told tells (λ is. let failed : c.in_err-replica.field-0.0 ≡ DiskFault = cc is in inside (p.1 ∙ ap Err (p.2 ∙ ap load_refusal failed)))

@@ -2,7 +2,6 @@ use Rattle.command_kinds.specs.Changes.{change}
 use Rattle.command_kinds.proofs.BlameLemmas.{not_blamed}
 use Rattle.command_kinds.proofs.GivingLemmas.{note_saves}
 use Rattle.command_kinds.proofs.SavesLemmas.{told_saves}
-use Rattle.command_kinds.proofs.TextLemmas.{told_blameless}
 use Rattle.command_kinds.proofs.giving.save_given.Goals as goal
 
 pub returns-in-Ok-clause-saves : goal.returns-in-Ok-clause-saves
@@ -10,7 +9,8 @@ returns-in-Ok-clause-saves g c =
     let course = c.in-Ok.ensures.saves.0 in (
       course,
       note_saves (g.T.Gives.giver c.args.giver.now (g.H.Disk.seen c.args.home.now) c.args.from.now c.load_and_save.new.from course) (c.laws.ensures.once _ _ _ course) _
-          (change (g.N.Out.seen c.args.notes.now) (g.N.Out.seen c.note_down.new.notes)) _ _ c.in-Ok.ensures.saves.1 c.note_down.ensures.meets c.note_down.ensures.calm,
+          (change (g.N.Out.seen c.args.notes.now) (g.N.Out.seen c.note_down.new.notes)) _ _ c.in-Ok.ensures.saves.1 c.note_down.ensures.meets c.note_down.ensures.calm
+          (λ tells inside. c.in-Ok.ensures.told tells (λ is. cc is)) c.note_down.ensures.blameless,
     )
 
 pub returns-in-Err-clause-saves : goal.returns-in-Err-clause-saves
@@ -18,12 +18,6 @@ returns-in-Err-clause-saves g c =
     let course = c.in-Err.ensures.saves.0 in (
       course,
       rw c.tell.ensures.status (told_saves (g.T.Gives.giver c.args.giver.now (g.H.Disk.seen c.args.home.now) c.args.from.now c.load_and_save.new.from course) (c.laws.ensures.once _ _ _ course) _
-          (change (g.N.Out.seen c.args.notes.now) (g.N.Out.seen c.tell.new.notes)) c.tell.ensures.told.calm c.in-Err.why c.in-Err.ensures.saves.1 c.tell.ensures.told),
+          (change (g.N.Out.seen c.args.notes.now) (g.N.Out.seen c.tell.new.notes)) c.tell.ensures.told.calm c.in-Err.why c.in-Err.ensures.saves.1 c.tell.ensures.told
+          (λ tells inside. c.in-Err.ensures.told tells (not_blamed c.in-Err.why inside))),
     )
-
-pub returns-in-Err-clause-blameless : goal.returns-in-Err-clause-blameless
-returns-in-Err-clause-blameless g c =
-    rw c.tell.ensures.status (record {
-      file_blameless = λ tells inside. c.in-Err.ensures.told tells (not_blamed c.in-Err.why inside);
-      notes_blameless = told_blameless c.in-Err.why (change (g.N.Out.seen c.args.notes.now) (g.N.Out.seen c.tell.new.notes)) c.tell.ensures.told;
-    })

@@ -1,5 +1,5 @@
 use Rattle.std.specs.Prelude.{◌≡◌, Ok, length}
-use Rattle.origin_model.specs.edits.State.{Stands}
+use Rattle.origin_model.specs.edits.State.{IsSound}
 use Rattle.origin_model.specs.taking.Taking.{IsSettled}
 use Rattle.catalogue_notes.specs.Arranged.{arranged}
 use Rattle.catalogue_notes.specs.Arranging.{Arranges}
@@ -13,7 +13,7 @@ use Rattle.draft_plan.proofs.arranging.arrange.Given as goal
 abbrev pub invariant-parts : goal.invariant-parts
 invariant-parts l = record {
   settled : IsSettled l.replica.held;
-  stands : Stands l.replica;
+  stands : IsSound l.replica;
   arranges : Arranges l.replica.held.history l.arranger;
   shaped : IsShaped l.fn.replica l.replica l.made;
   order : IsOrder l.order.items;

@@ -1,5 +1,5 @@
 use Rattle.draft_plan.specs.Limits.{cost}
-use Rattle.draft_plan.specs.Plans.{added_count, unmatched}
+use Rattle.draft_plan.specs.Plans.{added_count, unmatched_count}
 use Rattle.draft_plan.proofs.PlanLemmas.{added_longer, added_more, part_got}
 use Rattle.draft_plan.proofs.EditCostLemmas.{shaping_join, shaping_more, shaping_none, shaping_stop}
 use Rattle.draft_plan.proofs.LimitLemmas.{up}
@@ -64,7 +64,7 @@ parts-preserved c =
     let e = c.in_ok-made.ensures in
     let ps = c.args.parts.now in
     let n = added_count c.args.pairs.now c.parts.place in
-    let one = unmatched (section_of c.args.pairs.now c.parts.place) in
+    let one = unmatched_count (section_of c.args.pairs.now c.parts.place) in
     let more = added_count c.args.pairs.now (c.parts.place + 1) in
     let ys : List Identifier = entry_sections c.args.entries.now in
     let long : length ys ≡ length c.args.entries.now = length-map c.args.entries.now (λ (e : Entry). e.section) in
@@ -96,7 +96,7 @@ pub returns-in_err-made-clause-costs : goal.returns-in_err-made-clause-costs
 returns-in_err-made-clause-costs c =
     let p = err_from_is_err_and c.from_residual-in_err-made.result c.from_residual-in_err-made.ensures.1 in
     let n = added_count c.args.pairs.now c.parts.place in
-    let one = unmatched (section_of c.args.pairs.now c.parts.place) in
+    let one = unmatched_count (section_of c.args.pairs.now c.parts.place) in
     let all = added_count c.args.pairs.now (length c.args.parts.now) in
     let more = added_more c.args.pairs.now c.parts.place in
     let longer = added_longer c.args.pairs.now (c.parts.place + 1) (length c.args.parts.now) (omega arith) in

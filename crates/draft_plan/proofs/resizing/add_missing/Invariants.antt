@@ -1,6 +1,6 @@
 use Rattle.std.specs.Prelude.{IfSome, Ok, map}
 use Rattle.std.specs.List.{Contains}
-use Rattle.origin_model.specs.edits.State.{Stands}
+use Rattle.origin_model.specs.edits.State.{IsSound}
 use Rattle.origin_model.specs.taking.Taking.{IsSettled}
 use Rattle.catalogue_notes.specs.Outlining.{entry_sections}
 use Rattle.draft_plan.specs.Limits.{CostsShaping, cost}
@@ -13,7 +13,7 @@ use Rattle.draft_plan.proofs.resizing.add_missing.Given as goal
 abbrev pub invariant-parts : goal.invariant-parts
 invariant-parts l = record {
   settled : IsSettled l.replica.held;
-  stands : Stands l.replica;
+  stands : IsSound l.replica;
   shaped : IsShaped l.fn.replica l.replica l.made;
   places : KeepsPlaces l.fn.replica.held.history l.replica.held.history;
   anchor : IfSome l.anchor (λ s. Contains l.sections.items s);

@@ -4,7 +4,7 @@ use Rattle.std.specs.List.{AllPairs, Contains}
 use Rattle.origin_model.specs.declared.operations.Place.TheVariants.{Catalogue as catalogue}
 use Rattle.origin_model.specs.order.Printed.{shown}
 use Rattle.origin_model.proofs.SharedLemmas.{order_total}
-use Rattle.section_catalogue.specs.Manuscript.{IsPlaceOf}
+use Rattle.section_catalogue.specs.Manuscript.{IsOrderedPlace}
 use Rattle.section_list.specs.Cells.{section_shown_before}
 use Rattle.catalogue_notes.proofs.OutliningLemmas.{visible_place}
 use Rattle.draft_plan.proofs.resizing.number_of.Goals as goal
@@ -14,7 +14,7 @@ pub returns-in-Some : goal.returns-in-Some
 returns-in-Some c =
     let h = c.args.replica.now.held.history in
     let s = c.args.section in
-    let place = subst (IsPlaceOf catalogue h) (sym c.catalogue.ensures.catalogue) c.places.ensures.lists.catalogue_is in
+    let place = subst (IsOrderedPlace catalogue h) (sym c.catalogue.ensures.catalogue) c.places.ensures.lists.catalogue_is in
     let apart = subst (AllPairs (λ x y. x ≢ y)) (sym place.all) (order_total catalogue h c.places.ensures.stands.lawful).once in
     let member = subst (λ l. Contains l s) (sym place.visible) c.requires in
     ap (slice_get (shown catalogue h)) c.in-Some.ensures.some ∙ (ap (λ l. slice_get l (section_shown_before c.catalogue.result.now.cells s)) (sym place.visible) ∙ visible_place c.catalogue.result.now.cells s apart member)
@@ -23,6 +23,6 @@ pub returns-in-None : goal.returns-in-None
 returns-in-None c =
     let h = c.args.replica.now.held.history in
     let s = c.args.section in
-    let place = subst (IsPlaceOf catalogue h) (sym c.catalogue.ensures.catalogue) c.places.ensures.lists.catalogue_is in
+    let place = subst (IsOrderedPlace catalogue h) (sym c.catalogue.ensures.catalogue) c.places.ensures.lists.catalogue_is in
     let member = subst (λ l. Contains l s) (sym place.visible) c.requires in
     absurd (c.in-None.ensures.none.0 refl (visible_listed c.catalogue.result.now.cells s member))

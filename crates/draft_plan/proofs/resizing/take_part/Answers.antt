@@ -1,5 +1,5 @@
 use Rattle.draft_plan.specs.Limits.{CostsShaping, LacksRoom, cost}
-use Rattle.draft_plan.specs.Plans.{unmatched}
+use Rattle.draft_plan.specs.Plans.{unmatched_count}
 use Rattle.section_plan.specs.Matching.{section_of}
 use Rattle.std.specs.Prelude.{None, Ok}
 use Rattle.draft_plan.proofs.EditCostLemmas.{shaping_none}
@@ -47,7 +47,7 @@ returns-in_err-keep_section-clause-costs c =
     rw (p.1, p.2) tt
 
 pub returns-in-Some-clause-costs : goal.returns-in-Some-clause-costs
-returns-in-Some-clause-costs c = shaping_none c.args.replica.now (cost (unmatched (section_of c.args.pairs.now c.args.part)) (unmatched (section_of c.args.pairs.now c.args.part)) 0)
+returns-in-Some-clause-costs c = shaping_none c.args.replica.now (cost (unmatched_count (section_of c.args.pairs.now c.args.part)) (unmatched_count (section_of c.args.pairs.now c.args.part)) 0)
 
 pub returns-in_err-keep_section-2-clause-costs : goal.returns-in_err-keep_section-2-clause-costs
 returns-in_err-keep_section-2-clause-costs c =
@@ -80,9 +80,9 @@ pub returns-in_err-section-clause-costs : goal.returns-in_err-section-clause-cos
 returns-in_err-section-clause-costs c =
     let none : section_of c.args.pairs.now c.args.part ≡ None = sym c.section_of.ensures ∙ c.in_default.is in
     let p = err_from_is_err_and c.from_residual-in_err-section.result c.from_residual-in_err-section.ensures.1 in
-    rw (p.1, p.2) (subst (λ o. LacksRoom c.args.replica.now (cost (unmatched o) (unmatched o) 0) c.in_err-section.field-0.0) (sym none) c.in_err-section.ensures.lacks)
+    rw (p.1, p.2) (subst (λ o. LacksRoom c.args.replica.now (cost (unmatched_count o) (unmatched_count o) 0) c.in_err-section.field-0.0) (sym none) c.in_err-section.ensures.lacks)
 
 pub returns-clause-costs : goal.returns-clause-costs
 returns-clause-costs c =
     let none : section_of c.args.pairs.now c.args.part ≡ None = sym c.section_of.ensures ∙ c.in_default.is in
-    subst (λ o. CostsShaping c.args.replica.now c.add_one.new.replica (cost (unmatched o) (unmatched o) 0) (Ok 1)) (sym none) c.in_ok-section.ensures.costs
+    subst (λ o. CostsShaping c.args.replica.now c.add_one.new.replica (cost (unmatched_count o) (unmatched_count o) 0) (Ok 1)) (sym none) c.in_ok-section.ensures.costs

@@ -1,7 +1,7 @@
 use Rattle.std.specs.Prelude.{Ok}
 use Rattle.std.proofs.Common.{drop, length, ◌≤◌}
 use Rattle.origin_model.specs.edits.Effect.{OfSection}
-use Rattle.origin_model.specs.edits.State.{Stands}
+use Rattle.origin_model.specs.edits.State.{IsSound}
 use Rattle.origin_model.specs.taking.Taking.{IsSettled}
 use Rattle.draft_plan.specs.Limits.{Costs, hunks_cost}
 use Rattle.draft_plan.specs.Revising.{AreHunksMade}
@@ -11,7 +11,7 @@ abbrev pub invariant-hunks : goal.invariant-hunks
 invariant-hunks l = record {
   within : l.left ≤ length l.hunks;
   settled : IsSettled l.replica.held;
-  stands : Stands l.replica;
+  stands : IsSound l.replica;
   made : OfSection l.fn.replica l.section (λ x. AreHunksMade l.fn.replica l.replica l.section x (drop l.left l.hunks) l.new l.made);
   costs : Costs l.fn.replica l.replica (hunks_cost (drop l.left l.hunks)) (Ok l.made);
 }

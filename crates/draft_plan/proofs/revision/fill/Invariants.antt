@@ -1,5 +1,5 @@
 use Rattle.std.specs.Prelude.{map, slice_get}
-use Rattle.origin_model.specs.edits.State.{Stands}
+use Rattle.origin_model.specs.edits.State.{IsSound}
 use Rattle.origin_model.specs.taking.Taking.{IsSettled}
 use Rattle.catalogue_notes.specs.Arranged.{arranged}
 use Rattle.catalogue_notes.specs.Arranging.{Arranges}
@@ -11,7 +11,7 @@ use Rattle.draft_plan.proofs.revision.fill.Given as goal
 abbrev pub invariant-parts : goal.invariant-parts
 invariant-parts l = record {
   settled : IsSettled l.replica.held;
-  stands : Stands l.replica;
+  stands : IsSound l.replica;
   arranges : Arranges l.replica.held.history l.arranger;
   filled : AreFilled l.fn.replica l.replica (map seen_part l.parts) l.place l.made;
   costs : FillsFirst l.fn.replica l.replica (slice_get (arranged l.fn.replica.held.history)) (map seen_part l.parts) l.place l.made;

@@ -1,5 +1,5 @@
 use Rattle.std.proofs.Common.{ap, sym, subst, length, arith}
-use Rattle.edit_script.specs.Scripts.{StopsAt}
+use Rattle.edit_script.specs.Scripts.{StopsAtLine}
 use Rattle.edit_script.proofs.RunLemmas.{less_at, stops, walk_at, walk_at_end, walk_grows, walk_next, walk_over, walk_stops}
 use Rattle.edit_script.proofs.run.run_lines.Goals as goal
 
@@ -16,7 +16,7 @@ lines-preserved c = record {
 pub returns-in-Err-clause-err : goal.returns-in-Err-clause-err
 returns-in-Err-clause-err c =
     let reached = walk_stops _ _ _ _ _ _ _ (walk_at _ _ _ _ _ _ c.lines.invariant.walk c.in-Some.is) c.split_line.ensures in
-    subst (StopsAt _ _ _) (sym c.at_line.ensures) (stops _ _ _ _ _ _ _ reached c.in-Err.ensures.fails)
+    subst (StopsAtLine _ _ _) (sym c.at_line.ensures) (stops _ _ _ _ _ _ _ reached c.in-Err.ensures.fails)
 
 pub overflow_sub-result : goal.overflow_sub-result
 overflow_sub-result c =

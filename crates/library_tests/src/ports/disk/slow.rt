@@ -1,7 +1,7 @@
 //! A disk of at most sixteen bytes that finds each byte of an image by the model's own words.
 
 use super::{Step, Taken};
-use outer_ports::Pick;
+use memory_ports::Pick;
 
 /// Whether a crash leaves these bytes of a disk that held the first ones and took the steps. A write that failed may have
 /// left anything in its range. An image goes on where a byte was durable, or, but for Old, up to the last that was

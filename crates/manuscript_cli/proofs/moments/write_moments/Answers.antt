@@ -1,7 +1,5 @@
-use Rattle.std.proofs.Common.{◌≡◌, ap, refl}
+use Rattle.std.proofs.Common.{refl}
 use Rattle.command_kinds.proofs.ReportLemmas.{load_refused, report_written}
-use Rattle.command_kinds.specs.Refusal.{status_of}
-use Rattle.command_kinds.specs.declared.refusal.Refusal.TheVariants.{Outside}
 use Rattle.manuscript_cli.specs.Moments.{moments_tells}
 use Rattle.manuscript_cli.proofs.MomentsLemmas.{moments_of_some, moments_told_once}
 use Rattle.manuscript_cli.proofs.moments.write_moments.Goals as goal
@@ -12,7 +10,7 @@ returns-in-Ok g c =
     record {
       moments = moments;
       are = λ replica end holds. c.in-Ok.ensures.moments;
-      reports = report_written (moments_tells moments) (moments_told_once moments) _ _ _ _ _ _ c.in-Ok.ensures.meets (λ tells. c.in-Ok.ensures.told tells (λ is. cc is)) c.write_held-status.ensures;
+      reports = report_written (moments_tells moments) (moments_told_once moments) _ _ _ _ _ _ c.in-Ok.ensures.meets c.write_held-status.ensures;
     }
 
 pub returns-in-Err : goal.returns-in-Err
@@ -21,6 +19,6 @@ returns-in-Err g c =
     record {
       moments = some.0;
       are = some.1;
-      reports = rw c.tell.ensures.status (load_refused (moments_tells some.0) (moments_told_once some.0) _ _ _ refl c.in-Err.why c.in-Err.ensures.meets
-          (λ tells not. c.in-Err.ensures.told tells (λ is. let same : c.in-Err.why ≡ Outside = cc is in not (ap status_of same))) c.tell.ensures.told);
+      reports = rw c.tell.ensures.status (rw c.from.ensures
+          (load_refused (moments_tells some.0) (moments_told_once some.0) _ _ _ refl c.in-Err.fault c.in-Err.ensures.meets (rw c.from.ensures at c.tell.ensures.told)));
     }

@@ -1,5 +1,5 @@
 use Rattle.std.proofs.Common.{◌≡◌, ◌∙◌, ◌+◌, ap, subst, sym}
-use Rattle.op_runs.specs.Growing.{IsLonger}
+use Rattle.op_runs.specs.Growing.{HasMoreDeletes}
 use Rattle.op_runs.proofs.DeletionLemmas.{longer_by, longer_is}
 use Rattle.op_runs.proofs.part.longer.Goals.{else-down, then-down}
 use Rattle.op_runs.proofs.part.longer.Goals as goal
@@ -14,5 +14,5 @@ returns-clause-some c =
       | then-down w ↦ w.count-is ∙ sym (ap (λ b. longer_by b most) w.if-down.true)
       | else-down w ↦ w.count-is ∙ sym (ap (λ b. longer_by b most) w.if-down.false)
     ] in
-    subst (λ n. IsLonger d c.args.target most (record { target = d.target; count = d.count + n; down = down })) (sym by)
+    subst (λ n. HasMoreDeletes d c.args.target most (record { target = d.target; count = d.count + n; down = down })) (sym by)
     (longer_is d c.args.target most down c.requires.some c.requires.counters c.in-Some.ensures.some)

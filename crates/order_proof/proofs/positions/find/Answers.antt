@@ -1,7 +1,7 @@
 use Rattle.std.proofs.Common.{IfSome, arith, length, reverse, slice_get, subst, sym, ◌<◌, ◌≤◌, ◌∙◌, ◌≡◌}
 use Rattle.std.specs.Prelude.{None, Some}
 use Rattle.std.proofs.lemmas.Option.{get_or_from_slice_get}
-use Rattle.order_proof.specs.Positions.{IsAt, position_of}
+use Rattle.order_proof.specs.Positions.{IsAtPosition, position_of}
 use Rattle.op_runs.specs.Finding.{op_of}
 use Rattle.order_proof.proofs.PositionLemmas.{found_at, found_later, found_nowhere, position_within}
 use Rattle.order_proof.proofs.positions.find.Goals as goal
@@ -12,10 +12,10 @@ returns-then-at-end-clause-some g c =
     let at = c.in-Some.at in
     let there : position_of c.args.x (reverse ops) ≡ Some at = sym c.position.ensures ∙ c.in-Some.is in
     elim c.op_at.result as
-    (λ r. IfSome r (λ z. (z.0 ≡ at) × (slice_get ops at ≡ Some (op_of z.1))) → IfSome r (λ z. IsAt ops c.args.end c.args.x z.0 (op_of z.1))) [
+    (λ r. IfSome r (λ z. (z.0 ≡ at) × (slice_get ops at ≡ Some (op_of z.1))) → IfSome r (λ z. IsAtPosition ops c.args.end c.args.x z.0 (op_of z.1))) [
       | None ↦ λ e. tt
       | Some z ↦ λ e.
-          subst (λ k. IsAt ops c.args.end c.args.x k (op_of z.1)) (sym e.0)
+          subst (λ k. IsAtPosition ops c.args.end c.args.x k (op_of z.1)) (sym e.0)
           (found_at ops c.args.x c.args.end at (op_of z.1) there c.if-at-end.true
           (sym (get_or_from_slice_get ops at (op_of z.1) (op_of z.1) e.1)))
     ] c.op_at.ensures.some

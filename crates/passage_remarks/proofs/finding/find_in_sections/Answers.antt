@@ -5,7 +5,7 @@ use Rattle.std.proofs.lemmas.List.Concat.{flat_map-append}
 use Rattle.fugue_ids.specs.Identifiers.{Identifier}
 use Rattle.catalogue_notes.specs.Outlining.{entry_sections}
 use Rattle.catalogue_notes.specs.declared.entry.Entry.{Entry}
-use Rattle.passage_remarks.specs.Finding.{IsFound, section_places}
+use Rattle.passage_remarks.specs.Finding.{AreFoundAt, section_places}
 use Rattle.passage_remarks.proofs.FindingLemmas.{found_both}
 use Rattle.passage_remarks.proofs.PlaceLemmas.{section_more}
 use Rattle.passage_remarks.proofs.finding.find_in_sections.Goals as goal
@@ -23,5 +23,5 @@ sections-preserved c =
     ap (flat_map f) (section_more all i c.section-item.result (omega (arith, c.sections-test.true)) c.section-item.is)
     ∙ flat_map-append f (take i (entry_sections all)) (s ∷ [])
     ∙ ap (λ l. passed ++ l) (append-nil (f s)) in
-    subst (λ l. IsFound h passage l c.and-found.result) (sym more)
-    (subst (IsFound h passage (passed ++ f s)) (sym c.and-found.ensures) (found_both h passage passed (f s) c.sections.found c.in_ok-find_in_section.field-0 c.sections.invariant c.in_ok-find_in_section.ensures))
+    subst (λ l. AreFoundAt h passage l c.and-found.result) (sym more)
+    (subst (AreFoundAt h passage (passed ++ f s)) (sym c.and-found.ensures) (found_both h passage passed (f s) c.sections.found c.in_ok-find_in_section.field-0 c.sections.invariant c.in_ok-find_in_section.ensures))

@@ -5,11 +5,11 @@ use Rattle.std.proofs.lemmas.Result.{err_from_is_err_and}
 use Rattle.fugue_ids.specs.Gathers.{GathersText}
 use Rattle.fugue_ids.proofs.GatherLemmas.{gathers_join, gathers_stop}
 use Rattle.passage_remarks.specs.Clusters.{in_line}
-use Rattle.passage_remarks.specs.Remarks.{passage_line}
+use Rattle.passage_remarks.specs.Remarks.{remark_line}
 use Rattle.passage_remarks.proofs.printing.put_passage.Goals as goal
 
 -- a passage with clusters has a line
-has_line : (count : ℕ) (passage : List ℕ) → (count ≡ 0 → ⊥) → codes "  " ++ in_line passage ++ 10 ∷ [] ≡ passage_line count passage
+has_line : (count : ℕ) (passage : List ℕ) → (count ≡ 0 → ⊥) → codes "  " ++ in_line passage ++ 10 ∷ [] ≡ remark_line count passage
 has_line count passage some =
     let no_zero : nat_eq count 0 ≡ false = grind (arith, nat_tests) in
     sym (ap (λ (b : Bool). if b then [] else codes "  " ++ in_line passage ++ 10 ∷ []) no_zero)

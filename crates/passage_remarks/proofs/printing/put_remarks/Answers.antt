@@ -8,16 +8,16 @@ use Rattle.origin_model.specs.order.Printed.{text}
 use Rattle.section_catalogue.proofs.PrintingLemmas.{under_way_ends, under_way_grows, under_way_start, under_way_stops}
 use Rattle.cluster_text.specs.Clusters.{clusters}
 use Rattle.margin_notes.specs.Commenting.{clusters_of}
-use Rattle.passage_remarks.specs.Listing.{IsPlaced, entry_remark}
+use Rattle.passage_remarks.specs.Listing.{IsRemarkPlaced, entry_remark}
 use Rattle.passage_remarks.specs.Remarks.{remark_told}
 use Rattle.passage_remarks.specs.declared.entry.Entry.{Entry}
 use Rattle.passage_remarks.proofs.WritingLemmas.{page_there, remarks_next, remarks_none}
 use Rattle.passage_remarks.proofs.printing.put_remarks.Goals as goal
 
 -- the entry at a place of the list stands at the place of its section
-entry_placed : (h : List Op) (es : List Entry) (i : ℕ) (e : Entry) → ((k : ℕ) (d : Entry) → k < length es → IsPlaced h (entry_remark (reverse h) (get_or es k d))) → i < length es → e ≡ get_or es i e
-    → IsPlaced h (entry_remark (reverse h) e)
-entry_placed h es i e each below is = subst (λ x. IsPlaced h (entry_remark (reverse h) x)) (sym is) (each i e below)
+entry_placed : (h : List Op) (es : List Entry) (i : ℕ) (e : Entry) → ((k : ℕ) (d : Entry) → k < length es → IsRemarkPlaced h (entry_remark (reverse h) (get_or es k d))) → i < length es → e ≡ get_or es i e
+    → IsRemarkPlaced h (entry_remark (reverse h) e)
+entry_placed h es i e each below is = subst (λ x. IsRemarkPlaced h (entry_remark (reverse h) x)) (sym is) (each i e below)
 
 pub remarks-init : goal.remarks-init
 remarks-init g c = under_way_start _ _ _

@@ -5,7 +5,7 @@ use Rattle.fugue_ids.specs.Gathers.{GathersText}
 use Rattle.fugue_ids.proofs.GatherLemmas.{flush_writes, stop_writes}
 use Rattle.std.specs.List.{Contains}
 use Rattle.fugue_ids.proofs.ListLemmas.{all_from_contains, contains_map}
-use Rattle.passage_remarks.specs.Listing.{IsPlaced, entry_remark}
+use Rattle.passage_remarks.specs.Listing.{IsRemarkPlaced, entry_remark}
 use Rattle.passage_remarks.specs.Remarks.{remarks_from, remarks_text}
 use Rattle.passage_remarks.proofs.RemarkLemmas.{remark_placed}
 use Rattle.passage_remarks.proofs.printing.write_all.Goals as goal
@@ -31,4 +31,4 @@ pub put_remarks-requires-clause-placed : goal.put_remarks-requires-clause-placed
 put_remarks-requires-clause-placed g c =
     let h = c.args.replica.now.held.history in
     let f = entry_remark (reverse h) in
-    all_from_contains (λ e. IsPlaced h (f e)) c.args.entries.now (λ e m. remark_placed h (f e) (subst (λ l. Contains l (f e)) c.requires.entries (contains_map f c.args.entries.now e m)))
+    all_from_contains (λ e. IsRemarkPlaced h (f e)) c.args.entries.now (λ e m. remark_placed h (f e) (subst (λ l. Contains l (f e)) c.requires.entries (contains_map f c.args.entries.now e m)))

@@ -3,7 +3,7 @@ use Rattle.fugue_ids.specs.declared.limits.TheConstants.{STREAM_LIMIT}
 use Rattle.origin_model.specs.declared.grammar.Grammar.TheVariants.{Version2}
 use Rattle.replica_core.specs.Keeping.{taking_begun}
 use Rattle.relay_sync.specs.Replies.{WireRisesFor}
-use Rattle.relay_sync.specs.Syncing.{IsReady}
+use Rattle.relay_sync.specs.Syncing.{CanHear}
 use Rattle.relay_sync.proofs.SyncingLemmas.{Goes}
 use Rattle.relay_sync.proofs.syncing.hear.Given as goal
 
@@ -13,7 +13,7 @@ invariant-messages g l = record {
   goes : Goes (g.W.Wire.seen l.fn.wire) (g.W.Wire.seen l.wire) (taking_begun l.fn.replica l.fn.kept.items)
       (record { replica = l.replica; counts = l.tally; kept = l.kept.items }) l.heard;
   told : WireRisesFor ⊥ (g.W.Wire.seen l.fn.wire) (g.W.Wire.seen l.wire);
-  ready : IsReady (record { replica = l.replica; counts = l.tally; kept = l.kept.items }) l.heard;
+  ready : CanHear (record { replica = l.replica; counts = l.tally; kept = l.kept.items }) l.heard;
 }
 
 abbrev pub decreases-messages : goal.decreases-messages

@@ -1,6 +1,6 @@
 use Rattle.std.proofs.Common.{ℕ, ◌+◌, arith, refl, subst, inr}
 use Rattle.std.proofs.lemmas.Result.{err_from_is_err_and}
-use Rattle.replica_file.specs.Wanting.{AreWhole}
+use Rattle.replica_file.specs.Wanting.{AreWholeFrames}
 use Rattle.replica_file.proofs.PartLemmas.{piece_bad, piece_lacks, piece_none, piece_took, piece_whole, told_all, told_one}
 use Rattle.replica_file.proofs.PieceLemmas.{lacks_none}
 use Rattle.replica_file.proofs.ReachLemmas.{reaches_so}
@@ -16,7 +16,7 @@ pub returns-then-len-eq0-clause-bad : goal.returns-then-len-eq0-clause-bad
 returns-then-len-eq0-clause-bad g c is =
     let took = c.in_ok-len.ensures.took in
     told_one (g.H.Disk.seen c.args.disk.now).past (λ h told. inr (piece_none c.args.left.grammar h.last.seen c.args.at c.args.left.len c.min-size.result c.in_ok-piece.piece.items told (omega arith) took.ops
-    (subst (λ (n : ℕ). AreWhole c.args.left.grammar c.in_ok-piece.piece.items n took.ops) c.if-len-eq0.true took.whole) (omega arith) (omega arith) (omega arith))) c.in_ok-piece.ensures.told
+    (subst (λ (n : ℕ). AreWholeFrames c.args.left.grammar c.in_ok-piece.piece.items n took.ops) c.if-len-eq0.true took.whole) (omega arith) (omega arith) (omega arith))) c.in_ok-piece.ensures.told
 
 pub returns-clause-took : goal.returns-clause-took
 returns-clause-took g c =

@@ -10,8 +10,8 @@ use Rattle.replica_file.proofs.ReachLemmas.{reaches_then}
 use Rattle.replica_file.proofs.WalkLemmas.{walk_begin, walk_out}
 use Rattle.replica_file.proofs.load_file.read_all.Goals as goal
 
-pub returns-in_err-front-clause-stops : goal.returns-in_err-front-clause-stops
-returns-in_err-front-clause-stops g c =
+pub returns-in_err-front-clause-cause : goal.returns-in_err-front-clause-cause
+returns-in_err-front-clause-cause g c =
     let p = err_from_is_err_and c.from_residual.result c.from_residual.ensures.1 in
     rw (p.1, p.2) (told_one (g.H.Disk.seen c.args.disk.now).past (λ h all. all c.args.most) c.in_err-front.ensures.stops)
 
@@ -24,8 +24,8 @@ take_slots-requires-clause-walked g c =
     (walk_begin h.last.seen c.in_ok-front.front.gate c.new-loading.result.replica front.has c.in_ok-front.ensures.at front.is_gate (ap (λ (s : State). s.number) made ∙ front.header_is.replica_is)
     (ap (λ (s : State). s.hold) made ∙ front.header_is.hold_is) (ap (λ (s : State). s.held) made))) c.in_ok-front.ensures.told)
 
-pub returns-in-Ok-clause-loads : goal.returns-in-Ok-clause-loads
-returns-in-Ok-clause-loads g c =
+pub returns-in-Ok-clause-cause : goal.returns-in-Ok-clause-cause
+returns-in-Ok-clause-cause g c =
     let limit = ap (λ (s : State). s.most) c.in-Ok.ensures.same ∙ ap (λ (s : State). s.most) c.new-loading.ensures.replica in
     told_one (g.H.Disk.seen c.args.disk.now).past
     (λ h out. subst (λ (s : State). Loads c.args.most h.last.seen s c.in-Ok.end) (sym c.into_replica.ensures) (walk_out h.last.seen c.args.most c.in-Ok.end c.take_slots.new.loading.replica limit out.out))

@@ -2,7 +2,7 @@ use Rattle.std.proofs.Common.{refl, arith, ◌++◌, ◌∙◌}
 use Rattle.origin_model.specs.files.Image.{LastSlot}
 use Rattle.replica_file.proofs.PartLemmas.{told_one, told_two}
 use Rattle.replica_file.proofs.WalkLemmas.{walk_bad, walk_lacks, walk_many}
-use Rattle.replica_file.specs.Moments.{moment}
+use Rattle.replica_file.specs.Moments.{new_moment}
 use Rattle.replica_file.proofs.MomentLemmas.{walk_noting}
 use Rattle.replica_file.proofs.slots.next_gate.Goals as goal
 
@@ -25,7 +25,7 @@ returns-else-not-loading-clause-walked g c =
     told_two (g.H.Disk.seen c.args.disk.now).past (g.H.Disk.seen c.args.disk.now).past refl
     (λ h w took. walk_noting h.last.seen c.args.slots c.args.gate c.args.loading.now.replica c.args.moments.now.items w c.requires.open c.in-Ok.next c.args.loading.now.finds_place
     c.take_slot.new.loading.finds_place c.take_slot.new.loading.replica c.requires.finds_place (omega arith) c.in-Ok.ensures.same took c.if-not-loading.false c.note_moment.new.moments.items
-    (c.note_moment.ensures ∙ (λ i. c.in-Ok.ensures.moments i ++ moment (c.accepted_count-before.ensures.count i) (c.accepted_count.ensures.count i)))) c.requires.walked c.in-Ok.ensures.took
+    (c.note_moment.ensures ∙ (λ i. c.in-Ok.ensures.moments i ++ new_moment (c.accepted_count-before.ensures.count i) (c.accepted_count.ensures.count i)))) c.requires.walked c.in-Ok.ensures.took
 
 pub returns-in-Err-Bad-clause-stops : goal.returns-in-Err-Bad-clause-stops
 returns-in-Err-Bad-clause-stops g c =

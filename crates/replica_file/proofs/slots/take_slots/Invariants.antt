@@ -1,6 +1,6 @@
 use Rattle.std.proofs.Common.{◌≡◌, ◌-◌, ◌+◌, ◌*◌, ◌≤◌}
 use Rattle.std.specs.Prelude.{IfSome, true}
-use Rattle.replica_file.specs.Loading.{IsReady, IsSameButHeld}
+use Rattle.replica_file.specs.Loading.{CanTake, IsSameButHeld}
 use Rattle.replica_file.specs.Looks.{LooksOnly, ReadsNoFurther}
 use Rattle.replica_file.specs.Moments.{WalkedWith}
 use Rattle.replica_file.proofs.slots.take_slots.Given as goal
@@ -11,7 +11,7 @@ invariant-slots g l = record {
   reaches : l.gate.at ≤ 13 + 268435461 * l.slots;
   few : l.slots ≤ 4294967295;
   finds_place : l.loading.finds_place ≡ true;
-  ready : IsReady l.loading.replica;
+  ready : CanTake l.loading.replica;
   same : IsSameButHeld l.fn.loading.replica l.loading.replica;
   looks : LooksOnly (g.H.Disk.seen l.fn.disk) (g.H.Disk.seen l.disk) ⊥;
   behind : 13 ≤ l.gate.at;

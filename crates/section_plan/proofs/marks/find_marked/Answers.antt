@@ -3,7 +3,7 @@ use Rattle.std.specs.BTreeMap.{get}
 use Rattle.std.specs.Ordering.{nat_cmp}
 use Rattle.std.proofs.lemmas.Bool.{false_from_ne_true}
 use Rattle.section_plan.specs.Likeness.{alike}
-use Rattle.section_plan.specs.Marks.{AreTried, IsFirst, turns}
+use Rattle.section_plan.specs.Marks.{AreTried, IsFirst, turns_left}
 use Rattle.section_plan.proofs.MarkLemmas.{falls, tried_all, tried_more, tried_none}
 use Rattle.section_plan.proofs.marks.find_marked.Goals as goal
 
@@ -42,7 +42,7 @@ marked-smaller c =
     let k = c.in-Some.place in
     let was = subst (AreTried c.args.pairs.now c.args.sections.now ms c.args.mark c.args.text.now) c.in-Some.is c.marked.invariant in
     let first = subst (IsFirst ms (k + 1) (get_or ms k 0)) (sym c.next_of-next.ensures) (c.requires.marked.chains k (omega arith) (was.there k refl).0) in
-    subst (λ o. turns (length ms) c.next_of-next.result < turns (length ms) o) (sym c.in-Some.is) (falls ms k (get_or ms k 0) c.next_of-next.result (was.there k refl).0 first)
+    subst (λ o. turns_left (length ms) c.next_of-next.result < turns_left (length ms) o) (sym c.in-Some.is) (falls ms k (get_or ms k 0) c.next_of-next.result (was.there k refl).0 first)
 
 pub returns-clause-none : goal.returns-clause-none
 returns-clause-none c =

@@ -1,6 +1,6 @@
 use Rattle.std.proofs.Common.{ap, length, sym, take, ◌/◌, ◌∙◌}
 use Rattle.std.proofs.lemmas.List.{get_or_read, take_all}
-use Rattle.section_plan.specs.Marks.{mark_of}
+use Rattle.section_plan.specs.Marks.{mark_of_text}
 use Rattle.section_plan.proofs.MarkLemmas.{mark_next}
 use Rattle.section_plan.proofs.marks.third_mark.Goals as goal
 
@@ -11,4 +11,4 @@ scalars-preserved c =
     c.scalars.invariant c.next_mark-mark.ensures
 
 pub returns : goal.returns
-returns c = c.scalars.invariant ∙ ap mark_of (take_all c.scalars.scalar-index (take (length c.args.list.now / 3) c.args.list.now) c.scalars-test.false)
+returns c = c.scalars.invariant ∙ ap mark_of_text (take_all c.scalars.scalar-index (take (length c.args.list.now / 3) c.args.list.now) c.scalars-test.false)

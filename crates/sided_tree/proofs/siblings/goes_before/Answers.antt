@@ -1,7 +1,7 @@
 use Rattle.std.proofs.Common.{ap, subst, sym, ◌∙◌}
 use Rattle.fugue_ids.specs.Keys.{ids}
 use Rattle.fugue_ids.specs.Listed.{HoldsOrigin}
-use Rattle.origin_model.specs.order.Order.{index_of_origin, ranked}
+use Rattle.origin_model.specs.order.Order.{index_of_origin, precedes}
 use Rattle.origin_model.proofs.SharedLemmas.{keyed_ids}
 use Rattle.sided_tree.proofs.RightOriginLemmas.{origin_stands, right_stands}
 use Rattle.sided_tree.proofs.siblings.goes_before.Goals as goal
@@ -21,4 +21,4 @@ pub returns : goal.returns
 returns g c =
     let list = ap ids c.requires.list ∙ keyed_ids (g.N.NodeLookup.nodes c.args.nodes.now) in
     c.goes_first.ensures
-    ∙ (λ i. ranked (index_of_origin (list i) (c.right_of-right.ensures i)) (index_of_origin (list i) c.args.node.now.right) c.args.sibling c.args.node.now.id)
+    ∙ (λ i. precedes (index_of_origin (list i) (c.right_of-right.ensures i)) (index_of_origin (list i) c.args.node.now.right) c.args.sibling c.args.node.now.id)

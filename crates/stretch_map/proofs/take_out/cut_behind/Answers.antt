@@ -4,8 +4,8 @@ use Rattle.std.specs.BTreeMap.{UpdatesBy}
 use Rattle.fugue_ids.specs.Identifiers.{Identifier, id_cmp}
 use Rattle.fugue_ids.proofs.IdentifierLemmas.{id_at-other}
 use Rattle.fugue_ids.specs.Runs.{id_behind}
-use Rattle.stretch_map.specs.Contents.{Entry}
-use Rattle.stretch_map.specs.Stretches.{IsCut, kept_at, rest_behind}
+use Rattle.stretch_map.specs.Contents.{StretchEntry}
+use Rattle.stretch_map.specs.Stretches.{IsSplit, kept_at, rest_behind}
 use Rattle.stretch_map.specs.declared.stretches.Stretch.{Stretch}
 use Rattle.stretch_map.proofs.TakenLemmas.{cut_by}
 use Rattle.stretch_map.proofs.take_out.cut_behind.Goals as goal
@@ -25,7 +25,7 @@ returns-in-Some-clause-ok g c =
     let mid = c.insert.new.self in
     let first : Identifier = c.args.first in
     let key : Identifier = c.args.key in
-    let e : Entry g.row.V.Denot = (first, record { value = c.args.value; last = c.args.last }) in
+    let e : StretchEntry g.row.V.Denot = (first, record { value = c.args.value; last = c.args.last }) in
     let from : first.counter ≤ key.counter = c.requires.covers.from in
     let kc : key.counter ≡ c.key.inside.counter = sym (ap (λ (k : Identifier). k.counter) c.key.view_is) in
     let fc : first.counter ≡ c.first.inside.counter = sym (ap (λ (k : Identifier). k.counter) c.first.view_is) in
@@ -42,6 +42,6 @@ returns-in-Some-clause-ok g c =
     let there : kept_at mid.entries first ≡ Some e.1 = u.2 first (id_at-other (id_behind first steps) first apart) ∙ c.requires.there in
     let after : Stretch g.row.V.Denot = record { value = c.args.value; last = key.counter } in
     let written = c.get_mut.follows.holds after in
-    let lent : Stretch g.row.V.Denot → Type 0 = λ s. IsCut nth old.entries (c.get_mut.follows.lender s).entries e key in
+    let lent : Stretch g.row.V.Denot → Type 0 = λ s. IsSplit nth old.entries (c.get_mut.follows.lender s).entries e key in
     subst lent (λ i. record { value = c.args.value; last = kc i })
     (cut_by nth old mid (c.get_mut.follows.lender after) e key c.requires.covers u (written.3 (ap is_some there)) written.4)

@@ -10,7 +10,6 @@ invariant-ops l = record {
   counted : length done + l.left ≤ l.fn.count;
   front : take l.fn.count l.fn.ops ≡ done ++ take l.left l.ops;
   rest : drop l.fn.count l.fn.ops ≡ drop l.left l.ops;
-  within : l.left ≤ length l.ops;
 }
 
 abbrev pub decreases-ops : goal.decreases-ops

@@ -5,7 +5,7 @@ use Rattle.fugue_ids.specs.Identifiers.{Identifier, id_cmp}
 use Rattle.fugue_ids.specs.declared.op.Op.{Op}
 use Rattle.origin_model.specs.declared.operations.Place.TheVariants.{Catalogue as catalogue}
 use Rattle.origin_model.specs.order.Printed.{is_withdrawn}
-use Rattle.section_catalogue.specs.Manuscript.{IsPlaceOf}
+use Rattle.section_catalogue.specs.Manuscript.{IsOrderedPlace}
 use Rattle.section_list.specs.Cells.{section_cell_ids, section_cells_shown}
 use Rattle.catalogue_notes.specs.Arranged.{position}
 use Rattle.catalogue_notes.specs.Placing.{position_in}
@@ -16,7 +16,7 @@ use Rattle.catalogue_notes.proofs.arrangement.Arrangement.of.Goals as goal
 pub placing_of-requires : goal.placing_of-requires
 placing_of-requires c =
     let h : List Op = c.args.replica.now.held.history in
-    let listed : IsPlaceOf catalogue h c.catalogue.result.now = subst (IsPlaceOf catalogue h) (sym c.catalogue.ensures.catalogue) c.places.ensures.lists.catalogue_is in
+    let listed : IsOrderedPlace catalogue h c.catalogue.result.now = subst (IsOrderedPlace catalogue h) (sym c.catalogue.ensures.catalogue) c.places.ensures.lists.catalogue_is in
     let won = λ (s : Identifier). c.in_ok-winners.ensures s ∙ ap (λ z. winning_bid (λ x. not (is_withdrawn h x)) s (reverse z)) c.deref.ensures.value in
     positions_apart h (section_cell_ids (section_cells_shown c.catalogue.result.now.cells)) (position_in (get id_cmp c.in_ok-winners.winners)) c.places.ensures.stands.lawful listed.visible
     (positions_are h c.in_ok-lifted.lifted.list c.in_ok-lifted.lifted.moves.items (get id_cmp c.in_ok-winners.winners) c.in_ok-lifted.ensures.lifted won)
@@ -24,7 +24,7 @@ placing_of-requires c =
 pub returns-clause-arranged : goal.returns-clause-arranged
 returns-clause-arranged c =
     let h : List Op = c.args.replica.now.held.history in
-    let listed : IsPlaceOf catalogue h c.catalogue.result.now = subst (IsPlaceOf catalogue h) (sym c.catalogue.ensures.catalogue) c.places.ensures.lists.catalogue_is in
+    let listed : IsOrderedPlace catalogue h c.catalogue.result.now = subst (IsOrderedPlace catalogue h) (sym c.catalogue.ensures.catalogue) c.places.ensures.lists.catalogue_is in
     let at : Identifier → Identifier = position_in (get id_cmp c.in_ok-winners.winners) in
     let pos : (s : Identifier) → at s ≡ position h s =
     positions_are h c.in_ok-lifted.lifted.list c.in_ok-lifted.lifted.moves.items (get id_cmp c.in_ok-winners.winners) c.in_ok-lifted.ensures.lifted

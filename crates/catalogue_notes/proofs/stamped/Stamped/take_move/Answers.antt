@@ -7,7 +7,7 @@ use Rattle.origin_model.specs.edits.State.{State}
 use Rattle.catalogue_notes.specs.Arranged.{arranged}
 use Rattle.catalogue_notes.specs.Lift.{stamp}
 use Rattle.catalogue_notes.specs.Lifting.{IsLiftOf}
-use Rattle.catalogue_notes.specs.Making.{without}
+use Rattle.catalogue_notes.specs.Making.{without_member}
 use Rattle.catalogue_notes.specs.Placing.{AreWinners}
 use Rattle.catalogue_notes.specs.declared.lifting.Lifted.{Lifted}
 use Rattle.catalogue_notes.proofs.PlacingLemmas.{positions_are}
@@ -31,7 +31,7 @@ returns c =
     (subst (λ (z : Lifted). AreWinners h z.moves.items (get id_cmp c.take_note.new.self.winners)) (sym c.in_ok-put.ensures.lifted) c.in_ok-take_note.ensures.winners) in
     record {
       arranged = record {
-        sections = c.in_ok-put.ensures.sections b.made.section there ∙ ap (λ z. insert (without z c.args.k) c.args.j b.made.section) was ∙ sym b.made.lands;
+        sections = c.in_ok-put.ensures.sections b.made.section there ∙ ap (λ z. insert (without_member z c.args.k) c.args.j b.made.section) was ∙ sym b.made.lands;
         lifted = lifted;
         winners_are = winners;
         positions = positions_are h c.put.new.self.lifted.list c.put.new.self.lifted.moves.items (get id_cmp c.put.new.self.winners) lifted winners;

@@ -2,12 +2,12 @@ use Rattle.std.proofs.Common.{◌≡◌, List, ℕ, subst}
 use Rattle.std.specs.Prelude.{IfSome}
 use Rattle.std.proofs.lemmas.Result.{IfOk-weaker}
 use Rattle.fugue_ids.proofs.IdentifierLemmas.{id_at-other}
-use Rattle.edit_script.specs.Sections.{text_in}
+use Rattle.edit_script.specs.Sections.{shown_text_in}
 use Rattle.edit_script.proofs.SectionLemmas.{kept_at, taken_out}
 use Rattle.edit_script.proofs.sections.Sections.take_index.Goals as goal
 
 pub returns-in-Some-clause-text : goal.returns-in-Some-clause-text
-returns-in-Some-clause-text c = kept_at _ c.in-Some.index (λ kept. kept ≡ text_in c.args.replica.now c.args.id) c.in-Some.ensures.value (c.requires.kept c.args.id)
+returns-in-Some-clause-text c = kept_at _ c.in-Some.index (λ kept. kept ≡ shown_text_in c.args.replica.now c.args.id) c.in-Some.ensures.value (c.requires.kept c.args.id)
 
 pub returns-in-Some-clause-taken : goal.returns-in-Some-clause-taken
 returns-in-Some-clause-taken c = c.remove.ensures.updates.1
@@ -19,8 +19,8 @@ returns-in-Some-clause-others c =
 
 pub returns-in-None-clause-text : goal.returns-in-None-clause-text
 returns-in-None-clause-text c =
-    IfOk-weaker c.read_index.result _ (λ (kept : List ℕ). kept ≡ text_in c.args.replica.now c.args.id)
-    (λ kept is. subst (λ o. IfSome o (λ x. kept ≡ text_in c.args.replica.now x)) c.requires.shown is) c.read_index.ensures
+    IfOk-weaker c.read_index.result _ (λ (kept : List ℕ). kept ≡ shown_text_in c.args.replica.now c.args.id)
+    (λ kept is. subst (λ o. IfSome o (λ x. kept ≡ shown_text_in c.args.replica.now x)) c.requires.shown is) c.read_index.ensures
 
 pub returns-in-None-clause-taken : goal.returns-in-None-clause-taken
 returns-in-None-clause-taken c = c.remove.ensures.updates.1

@@ -1,7 +1,7 @@
 use Rattle.std.proofs.Common.{ap, arith, inl, sym, ◌∙◌}
 use Rattle.version_views.specs.Views.{view}
 use Rattle.version_views.proofs.VersionLemmas.{version_is_within}
-use Rattle.manuscript_cli.specs.NamedVersions.{viewed}
+use Rattle.manuscript_cli.specs.NamedVersions.{version_text}
 use Rattle.manuscript_cli.proofs.versions.ViewReport.write.Goals as goal
 
 pub write_view-requires : goal.write_view-requires
@@ -16,6 +16,6 @@ returns g c =
     let text = view replica.held.history c.in-Some.count in
     inl (
       text,
-      sym (ap (viewed c.args.self.now.name.now replica) (sym c.find_version.ensures.version ∙ c.in-Some.is)),
+      sym (ap (version_text c.args.self.now.name.now replica) (sym c.find_version.ensures.version ∙ c.in-Some.is)),
       c.view_gone_out.ensures _ _ text c.write_view.ensures.text,
     )

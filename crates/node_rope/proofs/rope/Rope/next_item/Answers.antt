@@ -2,7 +2,7 @@ use Rattle.std.proofs.Common.{◌≡◌, ◌+◌, None, Option, Some, length, tr
 use Rattle.std.specs.Prelude.{is_some}
 use Rattle.node_rope.specs.declared.cells.Link.{Link}
 use Rattle.node_rope.specs.Made.{shapes_of}
-use Rattle.node_rope.specs.Shapes.{link_number, order, shape_at}
+use Rattle.node_rope.specs.Shapes.{link_number, nodes_in_order, shape_at}
 use Rattle.node_rope.specs.Items.{own_of, value_under}
 use Rattle.node_rope.specs.Places.{StandsAt}
 use Rattle.node_rope.specs.Found.{IsFollowed}
@@ -20,7 +20,7 @@ returns-in-Some-node_behind-clause-some g c =
     let key = c.args.key in
     let l = c.in-Some.link in
     let n = c.in-Some-node_behind.behind in
-    let f : IsFollowed (order i.store i.root) l.number (Some n.number) = subst (λ (o : Option Link). IsFollowed (order i.store i.root) l.number (link_number o)) c.in-Some-node_behind.is c.node_behind.ensures.behind in
+    let f : IsFollowed (nodes_in_order i.store i.root) l.number (Some n.number) = subst (λ (o : Option Link). IsFollowed (nodes_in_order i.store i.root) l.number (link_number o)) c.in-Some-node_behind.is c.node_behind.ensures.behind in
     let at = sym c.find_link.ensures ∙ c.in-Some.is in (
       length f.front,
       subst (λ xs. StandsAt xs (length f.front) key) c.self.view_is (item-stands wt i.store i.root i.map.links c.self.invariant key l at (Some n.number) f),
@@ -41,7 +41,7 @@ returns-in-None-node_behind-clause-none g c =
     let wt = own_of g.T.Weigh.weight_of g.T.Weigh.rank_of in
     let key = c.args.key in
     let l = c.in-Some.link in
-    let f : IsFollowed (order i.store i.root) l.number None = subst (λ (o : Option Link). IsFollowed (order i.store i.root) l.number (link_number o)) c.in-None-node_behind.is c.node_behind.ensures.behind in
+    let f : IsFollowed (nodes_in_order i.store i.root) l.number None = subst (λ (o : Option Link). IsFollowed (nodes_in_order i.store i.root) l.number (link_number o)) c.in-None-node_behind.is c.node_behind.ensures.behind in
     let at = sym c.find_link.ensures ∙ c.in-Some.is in
     λ held. (
       length f.front,

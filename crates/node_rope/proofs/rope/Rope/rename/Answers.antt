@@ -2,7 +2,7 @@ use Rattle.std.proofs.Common.{sym, ap, ◌∙◌, slice_set}
 use Rattle.node_rope.specs.declared.cells.Shape.{Shape}
 use Rattle.node_rope.specs.Made.{shapes_of}
 use Rattle.node_rope.specs.Items.{own_of}
-use Rattle.node_rope.specs.Beside.{renamed}
+use Rattle.node_rope.specs.Beside.{items_renamed}
 use Rattle.node_rope.proofs.KeyLemmas.{same-roped, fresh}
 use Rattle.node_rope.proofs.RekeyLemmas.{renamed-roped, renamed-list}
 use Rattle.node_rope.proofs.rope.Rope.rename.Goals as goal
@@ -38,4 +38,4 @@ returns-clause-renamed g c t =
     let is = e.shapes ∙ ap (λ (h : Shape). slice_set (shapes_of i.store) l.number (record h { key = c.args.new_key })) c.shape-shape.ensures in
     renamed-list wt i.store c.set_shape.new.self i.root i.map.links c.rename_link.new.map.links c.args.key c.args.new_key l c.self.invariant (sym c.find_link.ensures ∙ c.in-Some.is) none is e.values e.count e.kept
     (c.rename_link.ensures.renamed c.if-not-rename_link.false)
-    ∙ ap (renamed c.args.key c.args.new_key) c.self.view_is
+    ∙ ap (items_renamed c.args.key c.args.new_key) c.self.view_is

@@ -1,6 +1,6 @@
 use Rattle.std.proofs.Common.{refl, sym, ap, ◌∙◌, slice_set, map, arith}
 use Rattle.node_rope.specs.Shaped.{shape_of, node_value}
-use Rattle.node_rope.specs.Shapes.{lone}
+use Rattle.node_rope.specs.Shapes.{lone_shape}
 use Rattle.node_rope.specs.Rising.{more}
 use Rattle.node_rope.proofs.BoxLemmas.{lies-below}
 use Rattle.node_rope.proofs.FilingLemmas.{filed-had}
@@ -13,7 +13,7 @@ raise-requires g c =
     let p = c.args.self.now.pile in
     let pair = p.paired in
     let h = lies-below p.moorings c.args.link.number c.args.link.spot.address c.requires.made in
-    let is = got-mapped shape_of p.values c.args.link.number c.at_mut-node.result.now lone c.at_mut-node.ensures.value (omega arith) in
+    let is = got-mapped shape_of p.values c.args.link.number c.at_mut-node.result.now lone_shape c.at_mut-node.ensures.value (omega arith) in
     record { count = omega (arith, c.requires.counts, ap (λ h. h.count) is); weight = omega (arith, c.requires.weights, ap (λ h. h.weight) is) }
 
 pub invariant_of-self : goal.invariant_of-self
@@ -27,14 +27,14 @@ returns-clause-parent g c =
     let p = c.args.self.now.pile in
     let pair = p.paired in
     let h = lies-below p.moorings c.args.link.number c.args.link.spot.address c.requires.made in
-    c.parent-up.ensures ∙ ap (λ h. h.parent) (got-mapped shape_of p.values c.args.link.number c.at_mut-node.result.now lone c.at_mut-node.ensures.value (omega arith))
+    c.parent-up.ensures ∙ ap (λ h. h.parent) (got-mapped shape_of p.values c.args.link.number c.at_mut-node.result.now lone_shape c.at_mut-node.ensures.value (omega arith))
 
 pub returns-clause-shapes : goal.returns-clause-shapes
 returns-clause-shapes g c =
     let p = c.args.self.now.pile in
     let pair = p.paired in
     let h = lies-below p.moorings c.args.link.number c.args.link.spot.address c.requires.made in
-    let is = got-mapped shape_of p.values c.args.link.number c.at_mut-node.result.now lone c.at_mut-node.ensures.value (omega arith) in
+    let is = got-mapped shape_of p.values c.args.link.number c.at_mut-node.result.now lone_shape c.at_mut-node.ensures.value (omega arith) in
     map-set shape_of p.values c.args.link.number (record c.at_mut-node.result.now { shape = c.raise.new.self }) ∙ ap (λ h. slice_set (map shape_of p.values) c.args.link.number h) (c.raise.ensures ∙ ap (more c.args.own) is)
 
 pub returns-clause-values : goal.returns-clause-values

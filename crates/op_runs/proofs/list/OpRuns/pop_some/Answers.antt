@@ -1,5 +1,5 @@
 use Rattle.std.proofs.Common.{◌≡◌, ◌∙◌, ◌-◌, ap, arith, length, subst, sym, take, List, ℕ}
-use Rattle.op_runs.specs.Growing.{IsLast, letters_of}
+use Rattle.op_runs.specs.Growing.{IsLastPart, letters_of_part}
 use Rattle.op_runs.specs.Parts.{ops_of, others_in}
 use Rattle.fugue_ids.specs.declared.op.Op.{Op}
 use Rattle.op_runs.specs.declared.part.Part.{Part}
@@ -8,7 +8,7 @@ use Rattle.op_runs.proofs.list.OpRuns.pop_some.Goals as goal
 
 pub overflow_sub-letters : goal.overflow_sub-letters
 overflow_sub-letters c =
-    let is : IsLast c.self.inside.parts.items c.in-Some.last = subst (λ (ps : List Part). IsLast ps c.in-Some.last) c.deref.ensures.value c.in-Some.ensures.some in
+    let is : IsLastPart c.self.inside.parts.items c.in-Some.last = subst (λ (ps : List Part). IsLastPart ps c.in-Some.last) c.deref.ensures.value c.in-Some.ensures.some in
     omega (
       arith,
       c.letters_of.ensures,
@@ -19,7 +19,7 @@ overflow_sub-letters c =
 
 pub overflow_sub-others : goal.overflow_sub-others
 overflow_sub-others c =
-    let is : IsLast c.self.inside.parts.items c.in-Some.last = subst (λ (ps : List Part). IsLast ps c.in-Some.last) c.deref.ensures.value c.in-Some.ensures.some in
+    let is : IsLastPart c.self.inside.parts.items c.in-Some.last = subst (λ (ps : List Part). IsLastPart ps c.in-Some.last) c.deref.ensures.value c.in-Some.ensures.some in
     omega (
       arith,
       c.others_in.ensures,
@@ -29,9 +29,9 @@ overflow_sub-others c =
 
 pub invariant_of-self : goal.invariant_of-self
 invariant_of-self c =
-    let is : IsLast c.self.inside.parts.items c.in-Some.last = subst (λ (ps : List Part). IsLast ps c.in-Some.last) c.deref.ensures.value c.in-Some.ensures.some in
+    let is : IsLastPart c.self.inside.parts.items c.in-Some.last = subst (λ (ps : List Part). IsLastPart ps c.in-Some.last) c.deref.ensures.value c.in-Some.ensures.some in
     let k : ℕ = c.take_off-count.result in
-    let letters : take (length c.self.inside.letters.items - letters_of c.in-Some.last k) c.self.inside.letters.items ≡ c.truncate.new.self.items =
+    let letters : take (length c.self.inside.letters.items - letters_of_part c.in-Some.last k) c.self.inside.letters.items ≡ c.truncate.new.self.items =
     sym (c.truncate.ensures.items ∙ (λ i. take (length (c.as_slice.ensures.value i) - c.letters_of.ensures i) c.self.inside.letters.items)) in
     let others : take (length c.self.inside.others.items - others_in c.in-Some.last) c.self.inside.others.items ≡ c.truncate-2.new.self.items =
     sym (c.truncate-2.ensures.items ∙ (λ i. take (length (c.as_slice-2.ensures.value i) - c.others_in.ensures i) c.self.inside.others.items)) in
@@ -39,7 +39,7 @@ invariant_of-self c =
     (ops_of c.self.inside.letters.items c.self.inside.others.items c.self.inside.parts.items) k =
     subst (λ (l : List ℕ). IsPopped l c.truncate-2.new.self.items c.take_off-count.new.parts.items c.take_off-count.new.firsts.items c.self.inside.count
     (ops_of c.self.inside.letters.items c.self.inside.others.items c.self.inside.parts.items) k) letters
-    (subst (λ (o : List Op). IsPopped (take (length c.self.inside.letters.items - letters_of c.in-Some.last k) c.self.inside.letters.items) o c.take_off-count.new.parts.items c.take_off-count.new.firsts.items c.self.inside.count
+    (subst (λ (o : List Op). IsPopped (take (length c.self.inside.letters.items - letters_of_part c.in-Some.last k) c.self.inside.letters.items) o c.take_off-count.new.parts.items c.take_off-count.new.firsts.items c.self.inside.count
     (ops_of c.self.inside.letters.items c.self.inside.others.items c.self.inside.parts.items) k) others
     (taken_off c.self.inside.letters.items c.self.inside.others.items c.self.inside.parts.items c.take_off-count.new.parts.items c.self.inside.firsts.items c.take_off-count.new.firsts.items c.self.inside.count c.args.most k c.in-Some.last
     c.self.invariant c.requires.some c.take_off-count.ensures)) in
@@ -47,21 +47,21 @@ invariant_of-self c =
 
 pub returns-clause-some : goal.returns-clause-some
 returns-clause-some c =
-    let is : IsLast c.self.inside.parts.items c.in-Some.last = subst (λ (ps : List Part). IsLast ps c.in-Some.last) c.deref.ensures.value c.in-Some.ensures.some in
+    let is : IsLastPart c.self.inside.parts.items c.in-Some.last = subst (λ (ps : List Part). IsLastPart ps c.in-Some.last) c.deref.ensures.value c.in-Some.ensures.some in
     taken_some c.self.inside.letters.items c.self.inside.others.items c.self.inside.parts.items c.self.inside.firsts.items c.self.inside.count c.in-Some.last c.self.invariant is
     c.take_off-count.new.parts.items c.take_off-count.new.firsts.items c.args.most c.take_off-count.result c.requires.some c.take_off-count.ensures
 
 pub returns-clause-within : goal.returns-clause-within
 returns-clause-within c =
-    let is : IsLast c.self.inside.parts.items c.in-Some.last = subst (λ (ps : List Part). IsLast ps c.in-Some.last) c.deref.ensures.value c.in-Some.ensures.some in
+    let is : IsLastPart c.self.inside.parts.items c.in-Some.last = subst (λ (ps : List Part). IsLastPart ps c.in-Some.last) c.deref.ensures.value c.in-Some.ensures.some in
     taken_most c.self.inside.letters.items c.self.inside.others.items c.self.inside.parts.items c.self.inside.firsts.items c.self.inside.count c.in-Some.last c.self.invariant is
     c.take_off-count.new.parts.items c.take_off-count.new.firsts.items c.args.most c.take_off-count.result c.take_off-count.ensures
 
 pub returns-clause-others : goal.returns-clause-others
 returns-clause-others c =
-    let is : IsLast c.self.inside.parts.items c.in-Some.last = subst (λ (ps : List Part). IsLast ps c.in-Some.last) c.deref.ensures.value c.in-Some.ensures.some in
+    let is : IsLastPart c.self.inside.parts.items c.in-Some.last = subst (λ (ps : List Part). IsLastPart ps c.in-Some.last) c.deref.ensures.value c.in-Some.ensures.some in
     let k : ℕ = c.take_off-count.result in
-    let letters : take (length c.self.inside.letters.items - letters_of c.in-Some.last k) c.self.inside.letters.items ≡ c.truncate.new.self.items =
+    let letters : take (length c.self.inside.letters.items - letters_of_part c.in-Some.last k) c.self.inside.letters.items ≡ c.truncate.new.self.items =
     sym (c.truncate.ensures.items ∙ (λ i. take (length (c.as_slice.ensures.value i) - c.letters_of.ensures i) c.self.inside.letters.items)) in
     let others : take (length c.self.inside.others.items - others_in c.in-Some.last) c.self.inside.others.items ≡ c.truncate-2.new.self.items =
     sym (c.truncate-2.ensures.items ∙ (λ i. take (length (c.as_slice-2.ensures.value i) - c.others_in.ensures i) c.self.inside.others.items)) in
@@ -69,7 +69,7 @@ returns-clause-others c =
     (ops_of c.self.inside.letters.items c.self.inside.others.items c.self.inside.parts.items) k =
     subst (λ (l : List ℕ). IsPopped l c.truncate-2.new.self.items c.take_off-count.new.parts.items c.take_off-count.new.firsts.items c.self.inside.count
     (ops_of c.self.inside.letters.items c.self.inside.others.items c.self.inside.parts.items) k) letters
-    (subst (λ (o : List Op). IsPopped (take (length c.self.inside.letters.items - letters_of c.in-Some.last k) c.self.inside.letters.items) o c.take_off-count.new.parts.items c.take_off-count.new.firsts.items c.self.inside.count
+    (subst (λ (o : List Op). IsPopped (take (length c.self.inside.letters.items - letters_of_part c.in-Some.last k) c.self.inside.letters.items) o c.take_off-count.new.parts.items c.take_off-count.new.firsts.items c.self.inside.count
     (ops_of c.self.inside.letters.items c.self.inside.others.items c.self.inside.parts.items) k) others
     (taken_off c.self.inside.letters.items c.self.inside.others.items c.self.inside.parts.items c.take_off-count.new.parts.items c.self.inside.firsts.items c.take_off-count.new.firsts.items c.self.inside.count c.args.most k c.in-Some.last
     c.self.invariant c.requires.some c.take_off-count.ensures)) in

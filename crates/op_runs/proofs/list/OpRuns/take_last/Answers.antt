@@ -1,8 +1,8 @@
 use Rattle.std.proofs.Common.{◌≡◌, ◌∙◌, ◌-◌, ◌<◌, ◌++◌, ◌∷◌, [], List, Some, ap, arith, get_or, length, subst, sym, take}
 use Rattle.std.specs.Prelude.{IfSome, None, Option, is_some, slice_get}
 use Rattle.fugue_ids.specs.declared.op.Op.{Op}
-use Rattle.op_runs.specs.Growing.{IsLast}
-use Rattle.op_runs.specs.Parts.{ops_of, others_in}
+use Rattle.op_runs.specs.Growing.{IsLastPart}
+use Rattle.op_runs.specs.Parts.{IsOther, ops_of, others_in}
 use Rattle.op_runs.specs.declared.part.Part.{Part}
 use Rattle.op_runs.specs.declared.part.Part.TheVariants.{Other}
 use Rattle.op_runs.proofs.FindLemmas.{last_other}
@@ -16,8 +16,8 @@ gone c =
     let i = c.self.inside in
     let some : 0 < others_in c.in-Some.last = omega (arith, c.others_in.ensures, c.if-others_in-eq0.false) in
     let other = is_other c.in-Some.last some in
-    let last : IsLast i.parts.items c.in-Some.last = subst (λ (ps : List Part). IsLast ps c.in-Some.last) c.deref.ensures.value c.in-Some.ensures.some in
-    let is : IsLast i.parts.items (Other other.0) = subst (λ (p : Part). IsLast i.parts.items p) other.1 last in
+    let last : IsLastPart i.parts.items c.in-Some.last = subst (λ (ps : List Part). IsLastPart ps c.in-Some.last) c.deref.ensures.value c.in-Some.ensures.some in
+    let is : IsLastPart i.parts.items (Other other.0) = subst (λ (p : Part). IsLastPart i.parts.items p) other.1 last in
     let parts : c.pop.new.self.items ≡ take (length i.parts.items - 1) i.parts.items = c.pop.ensures.rest ∙ ap (λ n. take (n - 1) i.parts.items) i.parts.ok.0 in
     let firsts : c.pop-2.new.self.items ≡ take (length i.firsts.items - 1) i.firsts.items = c.pop-2.ensures.rest ∙ ap (λ n. take (n - 1) i.firsts.items) i.firsts.ok.0 in
     let others : c.pop-3.new.self.items ≡ take (length i.others.items - 1) i.others.items = c.pop-3.ensures.rest ∙ ap (λ n. take (n - 1) i.others.items) i.others.ok.0 in
@@ -30,8 +30,8 @@ overflow_sub-self c =
     let i = c.self.inside in
     let some : 0 < others_in c.in-Some.last = omega (arith, c.others_in.ensures, c.if-others_in-eq0.false) in
     let other = is_other c.in-Some.last some in
-    let last : IsLast i.parts.items c.in-Some.last = subst (λ (ps : List Part). IsLast ps c.in-Some.last) c.deref.ensures.value c.in-Some.ensures.some in
-    let is : IsLast i.parts.items (Other other.0) = subst (λ (p : Part). IsLast i.parts.items p) other.1 last in
+    let last : IsLastPart i.parts.items c.in-Some.last = subst (λ (ps : List Part). IsLastPart ps c.in-Some.last) c.deref.ensures.value c.in-Some.ensures.some in
+    let is : IsLastPart i.parts.items (Other other.0) = subst (λ (p : Part). IsLastPart i.parts.items p) other.1 last in
     last_short i.letters.items i.others.items i.parts.items i.firsts.items i.count (Other other.0) c.self.invariant is
 
 pub invariant_of-self : goal.invariant_of-self
@@ -41,13 +41,16 @@ pub returns-clause-some : goal.returns-clause-some
 returns-clause-some c =
     subst (λ (r : Option Op). IfSome r (λ op. c.args.self.now ≡ ops_of c.self.inside.letters.items c.pop-3.new.self.items c.pop.new.self.items ++ op ∷ [])) (sym (gone c).is) (sym c.self.view_is ∙ (gone c).ops)
 
+pub returns-clause-kind : goal.returns-clause-kind
+returns-clause-kind c = subst (λ (r : Option Op). IfSome r IsOther) (sym (gone c).is) (gone c).kind
+
 pub returns-clause-other : goal.returns-clause-other
 returns-clause-other c op e other = ap is_some (gone c).is
 
 pub returns-then-others_in-eq0-clause-other : goal.returns-then-others_in-eq0-clause-other
 returns-then-others_in-eq0-clause-other c op e other =
     let i = c.self.inside in
-    let last : IsLast i.parts.items c.in-Some.last = subst (λ (ps : List Part). IsLast ps c.in-Some.last) c.deref.ensures.value c.in-Some.ensures.some in
+    let last : IsLastPart i.parts.items c.in-Some.last = subst (λ (ps : List Part). IsLastPart ps c.in-Some.last) c.deref.ensures.value c.in-Some.ensures.some in
     let at = last_other i.letters.items i.others.items i.parts.items c.in-Some.last op last (sound_of i.letters.items i.others.items i.parts.items i.firsts.items i.count c.self.invariant)
     (e ∙ (λ j. slice_get (sym c.self.view_is j) (length (sym c.self.view_is j) - 1))) other in
     absurd (omega (arith, c.others_in.ensures, c.if-others_in-eq0.true, ap others_in at.1))

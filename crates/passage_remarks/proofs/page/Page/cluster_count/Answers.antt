@@ -4,7 +4,7 @@ use Rattle.std.proofs.lemmas.Bool.Decides.{nat_tests}
 use Rattle.std.proofs.lemmas.List.Sorted.{IsNonDecreasingBy-take}
 use Rattle.cluster_text.specs.Clusters.{clusters}
 use Rattle.passage_remarks.specs.declared.page.Border.{Border}
-use Rattle.passage_remarks.specs.Clusters.{cluster_count, first_cluster, starts}
+use Rattle.passage_remarks.specs.Clusters.{passage_clusters, first_cluster, cluster_starts}
 use Rattle.passage_remarks.proofs.BorderLemmas.{kept_len, rises, scalars_before, starts_counted}
 use Rattle.passage_remarks.proofs.page.Page.cluster_count.Goals as goal
 
@@ -31,5 +31,5 @@ returns c =
     let some : nat_lt from to ≡ true = grind (arith, nat_tests) in
     c.saturating_sub.ensures
     ∙ (λ i. behind i - (c.first_cluster.ensures ∙ ap (λ t. first_cluster (clusters t) from) (sym c.self.view_is)) i)
-    ∙ sym (ap (λ b. if b then count_by (λ start. nat_lt start to) (starts cs) - first_cluster cs from else 0) some)
-    ∙ ap (λ t. cluster_count (clusters t) from to) c.self.view_is
+    ∙ sym (ap (λ b. if b then count_by (λ start. nat_lt start to) (cluster_starts cs) - first_cluster cs from else 0) some)
+    ∙ ap (λ t. passage_clusters (clusters t) from to) c.self.view_is

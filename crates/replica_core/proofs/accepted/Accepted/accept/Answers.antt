@@ -2,7 +2,7 @@ use Rattle.std.proofs.Common.{Err, Ok, OnErr, OnOk, Result, subst, sym, ◌∙�
 use Rattle.fugue_ids.specs.declared.op.Op.TheVariants.{Note}
 use Rattle.origin_model.specs.operations.Verdict.{verdict}
 use Rattle.origin_model.specs.declared.operations.Verdict.TheVariants.{Ready}
-use Rattle.section_catalogue.specs.Manuscript.{StandsFor}
+use Rattle.section_catalogue.specs.Manuscript.{Represents}
 use Rattle.section_catalogue.proofs.GrowthLemmas.{note_stands}
 use Rattle.replica_core.proofs.accepted.Accepted.accept.Goals as goal
 
@@ -17,7 +17,7 @@ invariant_of-self c =
     let h = c.self.inside.history in
     let note = Note c.in-Note.id c.in-Note.names c.in-Note.code c.in-Note.body in
     let ready : verdict h note ≡ Ready = (λ i. verdict (c.self.view_is i) (sym c.in-Note.is i)) ∙ c.requires.ready in
-    let stands : StandsFor m (note ∷ h) = note_stands m h c.in-Note.id c.in-Note.names c.in-Note.code c.in-Note.body c.self.invariant ready in
-    either_way (c.push.new.self ≡ c.args.op ∷ h) (c.push.new.self ≡ h) (StandsFor m c.push.new.self) c.push.result c.push.ensures.ok c.push.ensures.err
-    (λ ok. subst (StandsFor m) (sym ok) (subst (λ o. StandsFor m (o ∷ h)) (sym c.in-Note.is) stands))
-    (λ err. subst (StandsFor m) (sym err) c.self.invariant)
+    let stands : Represents m (note ∷ h) = note_stands m h c.in-Note.id c.in-Note.names c.in-Note.code c.in-Note.body c.self.invariant ready in
+    either_way (c.push.new.self ≡ c.args.op ∷ h) (c.push.new.self ≡ h) (Represents m c.push.new.self) c.push.result c.push.ensures.ok c.push.ensures.err
+    (λ ok. subst (Represents m) (sym ok) (subst (λ o. Represents m (o ∷ h)) (sym c.in-Note.is) stands))
+    (λ err. subst (Represents m) (sym err) c.self.invariant)

@@ -1,6 +1,6 @@
 use Rattle.std.proofs.Common.{ap, arith, drop, length, refl, subst, sym, ◌-◌, ◌≤◌, ◌∙◌}
-use Rattle.origin_model.specs.edits.Edits.{ReadyInTurn, extended}
-use Rattle.section_catalogue.specs.Manuscript.{StandsFor}
+use Rattle.origin_model.specs.edits.Edits.{ReadyInTurn, history_with}
+use Rattle.section_catalogue.specs.Manuscript.{Represents}
 use Rattle.replica_core.specs.Deleting.{AreWithin, deletes_from, ids_from}
 use Rattle.replica_core.proofs.DeletingLemmas.{length-from, others_taken_back, placed_each, stands_deleted}
 use Rattle.replica_core.proofs.RunLemmas.{length-extended}
@@ -25,7 +25,7 @@ returns-in-Err-clause-err c =
     let done = c.in-Err.stopped.done in
     let h = c.self.inside.history in
     let l : done ≤ n = omega (arith, c.in-Err.ensures.fewer) in
-    c.pop_all.ensures ∙ ap (drop (n - done)) c.in-Ok.ensures.ok ∙ others_taken_back n done (n - done) x h l refl ∙ ap (λ z. extended z (deletes_from x done)) c.self.view_is
+    c.pop_all.ensures ∙ ap (drop (n - done)) c.in-Ok.ensures.ok ∙ others_taken_back n done (n - done) x h l refl ∙ ap (λ z. history_with z (deletes_from x done)) c.self.view_is
 
 pub invariant_of-self-in-Err : goal.invariant_of-self-in-Err
 invariant_of-self-in-Err c =
@@ -35,7 +35,7 @@ invariant_of-self-in-Err c =
     let h = c.self.inside.history in
     let l : done ≤ n = omega (arith, c.in-Err.ensures.fewer) in
     let ready = subst (λ z. ReadyInTurn z (deletes_from x n)) (sym c.self.view_is) c.requires.ready in
-    subst (StandsFor c.hide_run.new.self) (ap (λ z. extended z (deletes_from x done)) c.self.view_is ∙ sym (returns-in-Err-clause-err c))
+    subst (Represents c.hide_run.new.self) (ap (λ z. history_with z (deletes_from x done)) c.self.view_is ∙ sym (returns-in-Err-clause-err c))
     (stands_deleted c.self.inside.manuscript c.hide_run.new.self n done x h l ready c.self.invariant c.in-Err.ensures.err)
 
 pub invariant_of-self-in-Ok-hide_run : goal.invariant_of-self-in-Ok-hide_run
@@ -44,4 +44,4 @@ invariant_of-self-in-Ok-hide_run c =
     let n = c.args.count in
     let h = c.self.inside.history in
     let ready = subst (λ z. ReadyInTurn z (deletes_from x n)) (sym c.self.view_is) c.requires.ready in
-    subst (StandsFor c.hide_run.new.self) (sym c.in-Ok.ensures.ok) (stands_deleted c.self.inside.manuscript c.hide_run.new.self n n x h (omega arith) ready c.self.invariant c.in-Ok-hide_run.ensures.ok)
+    subst (Represents c.hide_run.new.self) (sym c.in-Ok.ensures.ok) (stands_deleted c.self.inside.manuscript c.hide_run.new.self n n x h (omega arith) ready c.self.invariant c.in-Ok-hide_run.ensures.ok)

@@ -2,8 +2,8 @@ use Rattle.std.proofs.Common.{ap, arith, drop, length, subst, sym, ◌∙◌}
 use Rattle.fugue_ids.specs.Runs.{run_from}
 use Rattle.fugue_ids.specs.declared.op.Op.TheVariants.{Text}
 use Rattle.fugue_ids.proofs.RunLemmas.{length-typed}
-use Rattle.origin_model.specs.edits.Edits.{extended}
-use Rattle.section_catalogue.specs.Manuscript.{StandsFor}
+use Rattle.origin_model.specs.edits.Edits.{history_with}
+use Rattle.section_catalogue.specs.Manuscript.{Represents}
 use Rattle.section_catalogue.proofs.BoundLemmas.{places_bounded}
 use Rattle.replica_core.proofs.RunLemmas.{length-extended, taken_back}
 use Rattle.replica_core.proofs.accepted.Accepted.accept_run.Goals as goal
@@ -27,8 +27,8 @@ returns-in-Err-clause-err c =
     let text = c.args.text.now in
     let h = c.self.inside.history in
     let ops = run_from start text in
-    c.pop_all.ensures ∙ ap (drop (length text)) c.in_ok-push_run.ensures.ok ∙ ap (λ n. drop n (extended h ops)) (sym (length-typed start.id start.section start.left start.right text)) ∙ taken_back ops h
+    c.pop_all.ensures ∙ ap (drop (length text)) c.in_ok-push_run.ensures.ok ∙ ap (λ n. drop n (history_with h ops)) (sym (length-typed start.id start.section start.left start.right text)) ∙ taken_back ops h
     ∙ c.self.view_is
 
 pub invariant_of-self-in-Err : goal.invariant_of-self-in-Err
-invariant_of-self-in-Err c = subst (StandsFor c.insert_run.new.self) (c.self.view_is ∙ sym (returns-in-Err-clause-err c)) ((c.in-Err.ensures.err c.self.inside.history).0 c.self.invariant)
+invariant_of-self-in-Err c = subst (Represents c.insert_run.new.self) (c.self.view_is ∙ sym (returns-in-Err-clause-err c)) ((c.in-Err.ensures.err c.self.inside.history).0 c.self.invariant)

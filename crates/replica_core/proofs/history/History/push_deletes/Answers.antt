@@ -1,11 +1,11 @@
 use Rattle.std.proofs.Common.{ap, arith, length, length-append, subst, sym, ◌++◌, ◌∙◌, ◌≡◌}
 use Rattle.std.specs.Prelude.{reverse}
 use Rattle.std.proofs.lemmas.List.{length-reverse}
-use Rattle.origin_model.specs.edits.Edits.{ReadyInTurn, extended}
+use Rattle.origin_model.specs.edits.Edits.{ReadyInTurn, history_with}
 use Rattle.origin_model.specs.operations.Verdict.{Lawful}
 use Rattle.origin_model.proofs.edits.MadeLemmas.{ready_lawful}
 use Rattle.replica_core.specs.Deleting.{deletes_from}
-use Rattle.replica_core.specs.Index.{IsIndex, sections_and_notes, with_positions}
+use Rattle.replica_core.specs.Index.{IsHistoryIndex, sections_and_notes, with_positions}
 use Rattle.replica_core.proofs.DeletingLemmas.{length-from}
 use Rattle.replica_core.proofs.NotingLemmas.{appended_joins, back_again, row_free, row_listed, row_noted, row_up}
 use Rattle.replica_core.proofs.history.History.push_deletes.Goals as goal
@@ -26,17 +26,17 @@ invariant_of-self-in-Ok c =
     let row = deletes_from x n in
     let h = reverse i.ops in
     let ready : ReadyInTurn h row = subst (λ z. ReadyInTurn z row) (sym c.self.view_is) c.requires.ready in
-    let joins : reverse c.push_deletes.new.self ≡ extended h row = appended_joins i.ops c.push_deletes.new.self row (c.in_ok-push_deletes.ensures.ok ∙ ap (λ z. c.self.inside.ops ++ z) (row_up n x)) in
+    let joins : reverse c.push_deletes.new.self ≡ history_with h row = appended_joins i.ops c.push_deletes.new.self row (c.in_ok-push_deletes.ensures.ok ∙ ap (λ z. c.self.inside.ops ++ z) (row_up n x)) in
     let at : c.len-position.result ≡ length h = c.len-position.ensures ∙ sym (length-reverse i.ops) in
     let targets : c.note_deletes.new.self.targets.values ≡ with_positions x (length h) n i.index.targets.values =
     c.in-Ok.ensures.ok ∙ ap (λ k. with_positions x k n i.index.targets.values) at in
     let noted = row_noted i.index.positions.values i.index.targets.values h x n c.self.invariant.indexed in
-    let moved : IsIndex i.index.positions.values c.note_deletes.new.self.targets.values (extended h row) = subst (λ z. IsIndex i.index.positions.values z (extended h row)) (sym targets) noted in
-    let kept : IsIndex c.note_deletes.new.self.positions.values c.note_deletes.new.self.targets.values (extended h row) =
-    subst (λ z. IsIndex z.values c.note_deletes.new.self.targets.values (extended h row)) (sym c.in-Ok.ensures.positions) moved in
+    let moved : IsHistoryIndex i.index.positions.values c.note_deletes.new.self.targets.values (history_with h row) = subst (λ z. IsHistoryIndex i.index.positions.values z (history_with h row)) (sym targets) noted in
+    let kept : IsHistoryIndex c.note_deletes.new.self.positions.values c.note_deletes.new.self.targets.values (history_with h row) =
+    subst (λ z. IsHistoryIndex z.values c.note_deletes.new.self.targets.values (history_with h row)) (sym c.in-Ok.ensures.positions) moved in
     record {
       lawful = subst Lawful (sym joins) (ready_lawful h row c.self.invariant.lawful ready);
-      indexed = subst (IsIndex c.note_deletes.new.self.positions.values c.note_deletes.new.self.targets.values) (sym joins) kept;
+      indexed = subst (IsHistoryIndex c.note_deletes.new.self.positions.values c.note_deletes.new.self.targets.values) (sym joins) kept;
       listed = ap (λ z. z.items) c.in-Ok.ensures.listed ∙ c.self.invariant.listed ∙ sym (row_listed n x h) ∙ ap sections_and_notes (sym joins);
     }
 
@@ -45,7 +45,7 @@ returns-clause-ok c =
     let x = c.args.first in
     let n = c.args.count in
     let row = deletes_from x n in
-    appended_joins c.self.inside.ops c.push_deletes.new.self row (c.in_ok-push_deletes.ensures.ok ∙ ap (λ z. c.self.inside.ops ++ z) (row_up n x)) ∙ ap (λ h. extended h row) c.self.view_is
+    appended_joins c.self.inside.ops c.push_deletes.new.self row (c.in_ok-push_deletes.ensures.ok ∙ ap (λ z. c.self.inside.ops ++ z) (row_up n x)) ∙ ap (λ h. history_with h row) c.self.view_is
 
 pub pop-requires : goal.pop-requires
 pop-requires c =
@@ -71,7 +71,7 @@ invariant_of-self-in_default c =
     let index : c.note_deletes.new.self ≡ i.index = c.in_default.ensures.err in
     record {
       lawful = subst (λ ops. Lawful (reverse ops)) (sym same) c.self.invariant.lawful;
-      indexed = subst (λ ops. IsIndex c.note_deletes.new.self.positions.values c.note_deletes.new.self.targets.values (reverse ops)) (sym same)
-          (subst (λ z. IsIndex z.positions.values z.targets.values (reverse i.ops)) (sym index) c.self.invariant.indexed);
+      indexed = subst (λ ops. IsHistoryIndex c.note_deletes.new.self.positions.values c.note_deletes.new.self.targets.values (reverse ops)) (sym same)
+          (subst (λ z. IsHistoryIndex z.positions.values z.targets.values (reverse i.ops)) (sym index) c.self.invariant.indexed);
       listed = ap (λ z. z.sections_and_notes.items) index ∙ c.self.invariant.listed ∙ ap (λ ops. sections_and_notes (reverse ops)) (sym same);
     }

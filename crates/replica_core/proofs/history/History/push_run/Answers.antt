@@ -2,10 +2,10 @@ use Rattle.std.proofs.Common.{ap, arith, length, length-append, subst, sym, ◌�
 use Rattle.std.specs.Prelude.{reverse}
 use Rattle.std.proofs.lemmas.List.{length-reverse}
 use Rattle.fugue_ids.specs.Runs.{run_from}
-use Rattle.origin_model.specs.edits.Edits.{ReadyInTurn, extended}
+use Rattle.origin_model.specs.edits.Edits.{ReadyInTurn, history_with}
 use Rattle.origin_model.specs.operations.Verdict.{Lawful}
 use Rattle.origin_model.proofs.edits.MadeLemmas.{ready_lawful}
-use Rattle.replica_core.specs.Index.{IsIndex, sections_and_notes, with_positions}
+use Rattle.replica_core.specs.Index.{IsHistoryIndex, sections_and_notes, with_positions}
 use Rattle.replica_core.proofs.FeedingLemmas.{length-run}
 use Rattle.replica_core.proofs.NotingLemmas.{appended_joins, back_again, run_free, run_listed, run_noted}
 use Rattle.replica_core.proofs.history.History.push_run.Goals as goal
@@ -26,24 +26,24 @@ invariant_of-self-in-Ok c =
     let run = run_from start text in
     let h = reverse i.ops in
     let ready : ReadyInTurn h run = subst (λ z. ReadyInTurn z run) (sym c.self.view_is) c.requires.ready in
-    let joins : reverse c.push_run.new.self ≡ extended h run = appended_joins i.ops c.push_run.new.self run c.in_ok-push_run.ensures.ok in
+    let joins : reverse c.push_run.new.self ≡ history_with h run = appended_joins i.ops c.push_run.new.self run c.in_ok-push_run.ensures.ok in
     let at : c.len-position.result ≡ length h = c.len-position.ensures ∙ sym (length-reverse i.ops) in
     let positions : c.note_run.new.self.positions.values ≡ with_positions start.id (length h) (length text) i.index.positions.values =
     c.in-Ok.ensures.ok ∙ ap (λ n. with_positions start.id n (length text) i.index.positions.values) at in
     let noted = run_noted i.index.positions.values i.index.targets.values h start text c.self.invariant.indexed in
-    let moved : IsIndex c.note_run.new.self.positions.values i.index.targets.values (extended h run) = subst (λ z. IsIndex z i.index.targets.values (extended h run)) (sym positions) noted in
-    let kept : IsIndex c.note_run.new.self.positions.values c.note_run.new.self.targets.values (extended h run) =
-    subst (λ z. IsIndex c.note_run.new.self.positions.values z.values (extended h run)) (sym c.in-Ok.ensures.targets) moved in
+    let moved : IsHistoryIndex c.note_run.new.self.positions.values i.index.targets.values (history_with h run) = subst (λ z. IsHistoryIndex z i.index.targets.values (history_with h run)) (sym positions) noted in
+    let kept : IsHistoryIndex c.note_run.new.self.positions.values c.note_run.new.self.targets.values (history_with h run) =
+    subst (λ z. IsHistoryIndex c.note_run.new.self.positions.values z.values (history_with h run)) (sym c.in-Ok.ensures.targets) moved in
     record {
       lawful = subst Lawful (sym joins) (ready_lawful h run c.self.invariant.lawful ready);
-      indexed = subst (IsIndex c.note_run.new.self.positions.values c.note_run.new.self.targets.values) (sym joins) kept;
+      indexed = subst (IsHistoryIndex c.note_run.new.self.positions.values c.note_run.new.self.targets.values) (sym joins) kept;
       listed = ap (λ z. z.items) c.in-Ok.ensures.listed ∙ c.self.invariant.listed ∙ sym (run_listed h start text) ∙ ap sections_and_notes (sym joins);
     }
 
 pub returns-clause-ok : goal.returns-clause-ok
 returns-clause-ok c =
     let run = run_from c.args.start.now c.args.text.now in
-    appended_joins c.self.inside.ops c.push_run.new.self run c.in_ok-push_run.ensures.ok ∙ ap (λ h. extended h run) c.self.view_is
+    appended_joins c.self.inside.ops c.push_run.new.self run c.in_ok-push_run.ensures.ok ∙ ap (λ h. history_with h run) c.self.view_is
 
 pub pop-requires : goal.pop-requires
 pop-requires c =
@@ -63,7 +63,7 @@ invariant_of-self-in_default c =
     let index : c.note_run.new.self ≡ i.index = c.in_default.ensures.err in
     record {
       lawful = subst (λ ops. Lawful (reverse ops)) (sym same) c.self.invariant.lawful;
-      indexed = subst (λ ops. IsIndex c.note_run.new.self.positions.values c.note_run.new.self.targets.values (reverse ops)) (sym same)
-          (subst (λ z. IsIndex z.positions.values z.targets.values (reverse i.ops)) (sym index) c.self.invariant.indexed);
+      indexed = subst (λ ops. IsHistoryIndex c.note_run.new.self.positions.values c.note_run.new.self.targets.values (reverse ops)) (sym same)
+          (subst (λ z. IsHistoryIndex z.positions.values z.targets.values (reverse i.ops)) (sym index) c.self.invariant.indexed);
       listed = ap (λ z. z.sections_and_notes.items) index ∙ c.self.invariant.listed ∙ ap (λ ops. sections_and_notes (reverse ops)) (sym same);
     }

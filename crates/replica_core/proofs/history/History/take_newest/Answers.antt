@@ -1,7 +1,7 @@
 use Rattle.std.proofs.Common.{ap, subst, sym, ◌∙◌, ◌≡◌, ◌∷◌}
 use Rattle.std.specs.Prelude.{reverse, slice_get}
 use Rattle.origin_model.specs.operations.Verdict.{Lawful}
-use Rattle.replica_core.specs.Index.{IsIndex, sections_and_notes}
+use Rattle.replica_core.specs.Index.{IsHistoryIndex, sections_and_notes}
 use Rattle.replica_core.proofs.NotingLemmas.{last_found, newest_behind}
 use Rattle.replica_core.proofs.history.History.take_newest.Goals as goal
 
@@ -13,7 +13,7 @@ invariant_of-self-2 c =
     let lawful : Lawful (op ∷ reverse c.take_last.new.self) = subst Lawful apart c.self.invariant.lawful in
     record {
       lawful = lawful.1;
-      indexed = c.forget.ensures.found (reverse c.take_last.new.self) (subst (IsIndex i.index.positions.values i.index.targets.values) apart c.self.invariant.indexed) lawful.0;
+      indexed = c.forget.ensures.found (reverse c.take_last.new.self) (subst (IsHistoryIndex i.index.positions.values i.index.targets.values) apart c.self.invariant.indexed) lawful.0;
       listed = c.forget.ensures.listed (reverse c.take_last.new.self) (c.self.invariant.listed ∙ ap sections_and_notes apart);
     }
 

@@ -1,20 +1,34 @@
-use Rattle.std.proofs.Common.{arith, sym, ◌∙◌}
+use Rattle.std.proofs.Common.{arith, subst, sym, ◌∙◌}
+use Rattle.run_store.specs.Borders.{IsBorder}
+use Rattle.run_store.specs.Runs.{Kept}
 use Rattle.run_store.proofs.BorderLemmas.{border-found}
-use Rattle.run_store.proofs.RunsLemmas.{kept-run}
+use Rattle.run_store.proofs.RunsLemmas.{held-in, kept-run}
 use Rattle.run_store.proofs.run.Runs.continuation.Goals as goal
 
 pub goes_on-requires-clause-some : goal.goes_on-requires-clause-some
-goes_on-requires-clause-some c = (kept-run c.args.self.now c.requires.sound c.args.front.now.id c.args.front.now c.requires.held).some
+goes_on-requires-clause-some c =
+    let held = held-in c.self.view_is c.args.front.now c.requires in
+    (kept-run _ c.self.invariant c.args.front.now.id c.args.front.now held).some
 
 pub goes_on-requires-clause-counters : goal.goes_on-requires-clause-counters
-goes_on-requires-clause-counters c = (kept-run c.args.self.now c.requires.sound c.args.front.now.id c.args.front.now c.requires.held).counters
+goes_on-requires-clause-counters c =
+    let held = held-in c.self.view_is c.args.front.now c.requires in
+    (kept-run _ c.self.invariant c.args.front.now.id c.args.front.now held).counters
 
 pub goes_on-requires-clause-depths : goal.goes_on-requires-clause-depths
-goes_on-requires-clause-depths c = omega (arith, (kept-run c.args.self.now c.requires.sound c.args.front.now.id c.args.front.now c.requires.held).depths, c.requires.sound.few)
+goes_on-requires-clause-depths c =
+    let held = held-in c.self.view_is c.args.front.now c.requires in
+    omega (arith, (kept-run _ c.self.invariant c.args.front.now.id c.args.front.now held).depths, c.self.invariant.few)
 
 pub goes_on-requires-clause-fits : goal.goes_on-requires-clause-fits
-goes_on-requires-clause-fits c = omega (arith, (kept-run c.args.self.now c.requires.sound c.args.front.now.id c.args.front.now c.requires.held).ends, c.requires.sound.few)
+goes_on-requires-clause-fits c =
+    let held = held-in c.self.view_is c.args.front.now c.requires in
+    omega (arith, (kept-run _ c.self.invariant c.args.front.now.id c.args.front.now held).ends, c.self.invariant.few)
 
 pub returns-in-Some : goal.returns-in-Some
 returns-in-Some c =
-    border-found c.args.self.now c.requires.sound c.args.front.now c.in-Some.item.1.now c.in-Some.item.0 c.requires.held c.in-Some.ensures.some c.in-Some.ensures.value (sym c.goes_on.ensures ∙ c.if-goes_on.true)
+    let front = c.args.front.now in
+    let back = c.in-Some.item.1.now in
+    let held = held-in c.self.view_is front c.requires in
+    subst (λ (z : Kept). IsBorder z.rope front back) c.self.view_is
+    (border-found _ c.self.invariant front back c.in-Some.item.0 held c.in-Some.ensures.some c.in-Some.ensures.value (sym c.goes_on.ensures ∙ c.if-goes_on.true))

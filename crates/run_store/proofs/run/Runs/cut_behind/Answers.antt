@@ -6,7 +6,6 @@ use Rattle.run_store.proofs.run.Runs.cut_behind.Goals as goal
 
 pub returns-then-end-run : goal.returns-then-end-run
 returns-then-end-run c = record {
-  sound = c.requires.sound;
   cells = refl;
   held = c.requires.held ∙ (λ i. Some (record c.args.run.now { len = sym c.if-end-run.true i }));
   raised = kept-raised 1 (length c.args.self.now.rope);
@@ -17,5 +16,5 @@ pub returns : goal.returns
 returns c =
     let inside : c.args.end < c.args.run.now.len = omega (arith, c.requires.within, c.if-end-run.false) in
     let cut =
-    is-cut c.args.self.now c.requires.sound c.args.run.now c.args.end c.requires.held c.requires.some inside c.split.result c.split.new.self c.split.ensures.ok c.split.ensures.err in
-    record { sound = cut.sound; cells = cut.cells; held = cut.front; raised = cut.raised; err = c.split.ensures.err }
+    is-cut c.args.self.now c.sound.ensures c.args.run.now c.args.end c.requires.held c.requires.some inside c.split.result c.split.new.self c.split.ensures.ok c.split.ensures.err in
+    record { cells = cut.cells; held = cut.front; raised = cut.raised; err = c.split.ensures.err }

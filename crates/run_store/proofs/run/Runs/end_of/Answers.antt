@@ -10,12 +10,12 @@ use Rattle.run_store.proofs.run.Runs.end_of.Goals as goal
 pub returns-in-Some : goal.returns-in-Some
 returns-in-Some c =
     let f = c.found.result in
-    subst (λ o. EndsBefore c.args.self.now o f.at) (ap Some c.found.ensures.same ∙ sym c.in-Some.is) (found-end c.args.self.now c.requires.sound f c.found.ensures.found)
+    subst (λ o. EndsBefore c.args.self.now o f.at) (ap Some c.found.ensures.same ∙ sym c.in-Some.is) (found-end c.args.self.now c.sound.ensures f c.found.ensures.found)
 
 pub returns-in-None : goal.returns-in-None
 returns-in-None c =
     let r = c.args.self.now in
     record {
-      stands = inl (c.len.ensures.length, refl);
-      at = ap (λ n. index_at r n 0) c.len.ensures.length ∙ end-index r c.requires.sound ∙ ap (end_index (cell_ids (cells_in r))) (sym c.in-None.is);
+      stands = inl (c.run_count.ensures, refl);
+      at = ap (λ n. index_at r n 0) c.run_count.ensures ∙ end-index r c.sound.ensures ∙ ap (end_index (cell_ids (cells_in r))) (sym c.in-None.is);
     }

@@ -1,4 +1,6 @@
-use Rattle.std.proofs.Common.{ap, arith}
+use Rattle.std.proofs.Common.{ap, arith, subst}
+use Rattle.run_store.specs.Runs.{Kept}
+use Rattle.run_store.specs.Standings.{IsFoundCell, IsInRun}
 use Rattle.run_store.specs.declared.standing.Found.{Found}
 use Rattle.run_store.proofs.FoundLemmas.{found-in}
 use Rattle.run_store.proofs.PlaceLemmas.{run-at, run-named}
@@ -7,17 +9,18 @@ use Rattle.run_store.proofs.run.Runs.head_within.Goals as goal
 
 pub returns-clause-some : goal.returns-clause-some
 returns-clause-some c =
-    let r = c.args.self.now in
+    let s = c.self.invariant in
     let place = c.in_ok-place.place in
     let run = c.in_ok-place.run'.now in
-    let at = run-named r c.requires place run c.in_ok-place.ensures.value in
+    let at = run-named _ s place run c.in_ok-place.ensures.value in
     let place-is = ap (λ (f : Found). f.at.place) c.found_in.ensures in
-    rw place-is (in-run r c.requires run place 0 0 1 c.found_in.result.id (ap (λ (f : Found). f.id) c.found_in.ensures) at (omega arith) (omega arith) (run-at r c.requires place run.id run at).some)
+    subst (λ (z : Kept). IsInRun z.rope c.found_in.result.at.place 0 1 c.found_in.result.id) c.self.view_is
+    (rw place-is (in-run _ s run place 0 0 1 c.found_in.result.id (ap (λ (f : Found). f.id) c.found_in.ensures) at (omega arith) (omega arith) (run-at _ s place run.id run at).some))
 
 pub returns-clause-found : goal.returns-clause-found
 returns-clause-found c =
-    let r = c.args.self.now in
+    let s = c.self.invariant in
     let place = c.in_ok-place.place in
     let run = c.in_ok-place.run'.now in
-    let at = run-named r c.requires place run c.in_ok-place.ensures.value in
-    found-in r c.requires run place 0 c.found_in.result c.found_in.ensures at (run-at r c.requires place run.id run at).some
+    let at = run-named _ s place run c.in_ok-place.ensures.value in
+    subst (λ (z : Kept). IsFoundCell z.rope c.found_in.result) c.self.view_is (found-in _ s run place 0 c.found_in.result c.found_in.ensures at (run-at _ s place run.id run at).some)

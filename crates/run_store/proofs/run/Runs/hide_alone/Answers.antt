@@ -12,8 +12,8 @@ use Rattle.run_store.proofs.run.Runs.hide_alone.Goals as goal
 pub overflow_add-end : goal.overflow_add-end
 overflow_add-end c =
     let r = c.args.spot.now.run in
-    let x = kept-run c.args.self.now c.requires.sound r.id r c.requires.held in
-    omega (arith, c.requires.inside, x.depths, x.deep, c.requires.sound.few)
+    let x = kept-run c.args.self.now c.sound.ensures r.id r c.requires.held in
+    omega (arith, c.requires.inside, x.depths, x.deep, c.sound.ensures.few)
 
 pub returns-then-n-spot : goal.returns-then-n-spot
 returns-then-n-spot c =

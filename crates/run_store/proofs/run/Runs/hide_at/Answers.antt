@@ -1,17 +1,19 @@
 use Rattle.std.proofs.Common.{◌≡◌, length, refl, subst, sym}
 use Rattle.run_store.specs.Cells.{cells_hiding}
 use Rattle.run_store.specs.Heads.{head_behind}
-use Rattle.run_store.specs.Runs.{AreRuns, cells_in, first_of}
-use Rattle.run_store.specs.Stored.{IsRaised}
-use Rattle.run_store.specs.declared.run.Runs.{Runs}
-use Rattle.run_store.proofs.BorderLemmas.{shifted-length, shifted_runs, taken-cells, taken-sound}
-use Rattle.run_store.proofs.EitherLemmas.{either, kept-raised, where-err, where-ok}
+use Rattle.run_store.specs.Runs.{Kept, cells_in, first_of}
+use Rattle.run_store.specs.Stored.{IsRaisedBy}
+use Rattle.run_store.proofs.BorderLemmas.{shifted-length, shifted_runs, taken-cells}
+use Rattle.run_store.proofs.EitherLemmas.{kept-raised, where-err, where-ok}
 use Rattle.run_store.proofs.run.Runs.hide_at.Goals as goal
+
+pub shift-requires : goal.shift-requires
+shift-requires c = ((head_behind c.args.spot.now.offset (first_of c.args.spot.now.run)).id, c.args.n, c.in-Some.ensures)
 
 pub returns-in-Some : goal.returns-in-Some
 returns-in-Some c =
     let r = c.args.self.now in
-    let s = c.requires.sound in
+    let s = c.sound.ensures in
     let b = c.in-Some.border in
     let h = c.in-Some.ensures in
     let x = (head_behind c.args.spot.now.offset (first_of c.args.spot.now.run)).id in
@@ -20,10 +22,9 @@ returns-in-Some c =
     let new = c.shift.new.self in
     let n = length r.rope in
     record {
-      sound = either AreRuns c.shift.result moved r new c.shift.ensures.ok c.shift.ensures.err (taken-sound r s b.front b.back h.border x k b.at h.move h.taken) s;
-      ok = where-ok (λ (a : Runs). cells_in a ≡ cells_hiding x k (cells_in r)) c.shift.result moved new c.shift.ensures.ok (taken-cells r s b.front b.back h.border x k b.at h.move h.taken);
-      err = where-err (λ (a : Runs). cells_in a ≡ cells_in r) c.shift.result r new c.shift.ensures.err refl;
-      raised = where-ok (λ (a : Runs). IsRaised 2 n (length a.rope)) c.shift.result moved new c.shift.ensures.ok
-          (subst (IsRaised 2 n) (sym (shifted-length r s b.front b.back h.border b.at h.move)) (kept-raised 2 n));
-      refused = where-err (λ (a : Runs). IsRaised 1 n (length a.rope)) c.shift.result r new c.shift.ensures.err (kept-raised 1 n);
+      ok = where-ok (λ (a : Kept). cells_in a ≡ cells_hiding x k (cells_in r)) c.shift.result moved new c.shift.ensures.ok (taken-cells r s b.front b.back h.border x k b.at h.move h.taken);
+      err = where-err (λ (a : Kept). cells_in a ≡ cells_in r) c.shift.result r new c.shift.ensures.err refl;
+      raised = where-ok (λ (a : Kept). IsRaisedBy 2 n (length a.rope)) c.shift.result moved new c.shift.ensures.ok
+          (subst (IsRaisedBy 2 n) (sym (shifted-length r s b.front b.back h.border b.at h.move)) (kept-raised 2 n));
+      refused = where-err (λ (a : Kept). IsRaisedBy 1 n (length a.rope)) c.shift.result r new c.shift.ensures.err (kept-raised 1 n);
     }

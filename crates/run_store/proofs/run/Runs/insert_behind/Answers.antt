@@ -20,4 +20,4 @@ returns-clause-continued c =
     let h = c.args.head.now in
     let r = c.args.self.now in
     subst (λ (o : Option Cell). OnOk c.insert_at.result (is_continued o h.id h.left h.right ≡ true → length c.insert_at.new.self.rope ≡ length r.rope))
-    (sym (cell-found r c.requires.sound c.args.at c.in-Some.spot.run c.in-Some.spot.offset c.in-Some.ensures.some)) c.insert_at.ensures.continued
+    (sym (cell-found r c.sound.ensures c.args.at c.in-Some.spot.run c.in-Some.spot.offset c.in-Some.ensures.some)) c.insert_at.ensures.continued

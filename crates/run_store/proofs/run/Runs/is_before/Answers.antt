@@ -8,6 +8,6 @@ returns-clause-none c none =
     let x = c.in-Some.x in
     let y = c.in-Some-find.y in
     elim none [
-      | inl n ↦ absurd (n (spot-held r c.requires c.args.a x.run x.offset c.in-Some.ensures.some))
-      | inr n ↦ absurd (n (spot-held r c.requires c.args.b y.run y.offset c.in-Some-find.ensures.some))
+      | inl n ↦ absurd (n (spot-held r c.sound.ensures c.args.a x.run x.offset c.in-Some.ensures.some))
+      | inr n ↦ absurd (n (spot-held r c.sound.ensures c.args.b y.run y.offset c.in-Some-find.ensures.some))
     ]

@@ -13,5 +13,5 @@ returns c =
     let r = c.args.self.now in
     let n : suc (c.args.runs - 1) ≡ c.args.runs = omega (arith, c.if-runs-eq0.false) in
     ap (λ (h : Head). Some h.id) c.cell_at.ensures
-    ∙ sym (last-of r c.requires.sound (c.args.runs - 1) c.in_ok-run.run' (run-named r c.requires.sound (c.args.runs - 1) c.in_ok-run.run' (sym c.in_ok-run.ensures)))
+    ∙ sym (last-of r c.sound.ensures (c.args.runs - 1) c.in_ok-run.run' (run-named r c.sound.ensures (c.args.runs - 1) c.in_ok-run.run' (sym c.in_ok-run.ensures)))
     ∙ ap (λ k. last_id (keyed_cells (all_cells r.letters (take k r.rope)))) n

@@ -24,18 +24,18 @@ returns-then-test g c = λ test t f.
     let passes = sym (t x true (subst (goal.P-post g c.args.test x) c.if-test.true c.test.ensures)) in
     sym (last_passes c.args.most (between c.args.from c.args.to (keyed_cells (cells_in c.args.self.now))) test x (sym c.in_ok-last.ensures) passes)
 
-pub begin_of-begin-requires-clause-held : goal.begin_of-begin-requires-clause-held
-begin_of-begin-requires-clause-held g c =
+pub begin_of-begin-requires : goal.begin_of-begin-requires
+begin_of-begin-requires g c =
     let cs = cells_in c.args.self.now in
     subst (λ xs. HoldsOrigin xs c.args.from) (keyed-ids cs) (low_held c.args.most (keyed_cells cs) c.args.from c.requires.from)
 
-pub end_of-end-requires-clause-held : goal.end_of-end-requires-clause-held
-end_of-end-requires-clause-held g c =
+pub end_of-end-requires : goal.end_of-end-requires
+end_of-end-requires g c =
     let r = c.args.self.now in
     let es = keyed_cells (cells_in r) in
     let x = c.in_ok-last.last in
     let low = last_is_low c.args.most (between c.args.from c.args.to es) x (sym c.in_ok-last.ensures) in
-    let h = halves es c.args.most c.args.from c.args.to x (cells-apart r c.requires.sound) c.requires.from c.requires.to low in
+    let h = halves es c.args.most c.args.from c.args.to x (cells-apart r c.sound.ensures) c.requires.from c.requires.to low in
     subst (λ xs. HoldsOrigin xs (Some x)) (keyed-ids (cells_in r)) (low_held c.args.most es (Some x) h.low)
 
 pub passing_by_halves-requires-clause-part : goal.passing_by_halves-requires-clause-part
@@ -44,7 +44,7 @@ passing_by_halves-requires-clause-part g c =
     let es = keyed_cells (cells_in r) in
     let x = c.in_ok-last.last in
     let low = last_is_low c.args.most (between c.args.from c.args.to es) x (sym c.in_ok-last.ensures) in
-    let h = halves es c.args.most c.args.from c.args.to x (cells-apart r c.requires.sound) c.requires.from c.requires.to low in
+    let h = halves es c.args.most c.args.from c.args.to x (cells-apart r c.sound.ensures) c.requires.from c.requires.to low in
     record { from = c.requires.from; to = h.low_behind; begin = c.begin_of-begin.ensures; end = c.end_of-end.ensures }
 
 pub returns : goal.returns
@@ -53,7 +53,7 @@ returns g c = λ test t f.
     let es = keyed_cells (cells_in r) in
     let x = c.in_ok-last.last in
     let low = last_is_low c.args.most (between c.args.from c.args.to es) x (sym c.in_ok-last.ensures) in
-    let h = halves es c.args.most c.args.from c.args.to x (cells-apart r c.requires.sound) c.requires.from c.requires.to low in
+    let h = halves es c.args.most c.args.from c.args.to x (cells-apart r c.sound.ensures) c.requires.from c.requires.to low in
     let fails = sym (t x false (subst (goal.P-post g c.args.test x) c.if-test.false c.test.ensures)) in
     let all = low_ids c.args.most (between c.args.from c.args.to es) in
     let searched = search_before test es c.args.most c.args.from c.args.to all None (search_begins test es c.args.most c.args.from c.args.to f) x h fails in

@@ -16,7 +16,7 @@ last_low_in-requires-clause-to c =
     let es = keyed_cells (cells_in r) in
     let p = c.args.part.now in
     let m = c.args.middle in
-    let a = around_low es p.most p.from p.to m (cells-apart r c.requires.sound) c.requires.part.from c.requires.part.to c.requires.inside in
+    let a = around_low es p.most p.from p.to m (cells-apart r c.sound.ensures) c.requires.part.from c.requires.part.to c.requires.inside in
     subst (HoldsOrigin (ids (rest_of p.from es))) (sym c.behind-next.ensures) (next_held es p.from p.to m a)
 
 pub first_low_in-requires-clause-from : goal.first_low_in-requires-clause-from
@@ -25,7 +25,7 @@ first_low_in-requires-clause-from c =
     let es = keyed_cells (cells_in r) in
     let p = c.args.part.now in
     let m = c.args.middle in
-    let a = around_low es p.most p.from p.to m (cells-apart r c.requires.sound) c.requires.part.from c.requires.part.to c.requires.inside in
+    let a = around_low es p.most p.from p.to m (cells-apart r c.sound.ensures) c.requires.part.from c.requires.part.to c.requires.inside in
     member_held es p.from p.to m a
 
 pub first_low_in-requires-clause-to : goal.first_low_in-requires-clause-to
@@ -34,7 +34,7 @@ first_low_in-requires-clause-to c =
     let es = keyed_cells (cells_in r) in
     let p = c.args.part.now in
     let m = c.args.middle in
-    let a = around_low es p.most p.from p.to m (cells-apart r c.requires.sound) c.requires.part.from c.requires.part.to c.requires.inside in
+    let a = around_low es p.most p.from p.to m (cells-apart r c.sound.ensures) c.requires.part.from c.requires.part.to c.requires.inside in
     end_held es p.from p.to m a p.most c.requires.part.to
 
 pub returns-in-Some-clause-some : goal.returns-in-Some-clause-some
@@ -43,7 +43,7 @@ returns-in-Some-clause-some c =
     let es = keyed_cells (cells_in r) in
     let p = c.args.part.now in
     let m = c.args.middle in
-    let a = around_low es p.most p.from p.to m (cells-apart r c.requires.sound) c.requires.part.from c.requires.part.to c.requires.inside in
+    let a = around_low es p.most p.from p.to m (cells-apart r c.sound.ensures) c.requires.part.from c.requires.part.to c.requires.inside in
     found_before es p.from p.to m a p.most c.in-Some.low c.behind-next.result c.behind-next.ensures (sym c.last_low_in.ensures ∙ c.in-Some.is)
 
 pub returns-in-Some-clause-none : goal.returns-in-Some-clause-none
@@ -57,6 +57,6 @@ returns-in-None c =
     let es = keyed_cells (cells_in r) in
     let p = c.args.part.now in
     let m = c.args.middle in
-    let a = around_low es p.most p.from p.to m (cells-apart r c.requires.sound) c.requires.part.from c.requires.part.to c.requires.inside in
+    let a = around_low es p.most p.from p.to m (cells-apart r c.sound.ensures) c.requires.part.from c.requires.part.to c.requires.inside in
     let found = found_behind es p.from p.to m a p.most c.first_low_in.result c.behind-next.result c.behind-next.ensures (sym c.last_low_in.ensures ∙ c.in-None.is) c.first_low_in.ensures in
     record { none = found.0; some = found.1 }

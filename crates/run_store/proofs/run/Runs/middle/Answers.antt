@@ -6,19 +6,19 @@ pub middle_between-requires-clause-order : goal.middle_between-requires-clause-o
 middle_between-requires-clause-order c =
     let r = c.args.self.now in
     let p = c.args.part.now in
-    let is = c.requires.part in
-    omega (arith, is.begin.at, is.end.at, in-order r c.requires.sound p.from p.to (part-from r p is) (part-to r p is))
+    let is = c.requires in
+    omega (arith, is.begin.at, is.end.at, in-order r c.sound.ensures p.from p.to (part-from r p is) (part-to r p is))
 
 pub returns-clause-none : goal.returns-clause-none
 returns-clause-none c =
     let r = c.args.self.now in
     let p = c.args.part.now in
-    let is = c.requires.part in
-    none-answers r c.requires.sound p.from p.to (part-from r p is) (part-to r p is) _ _ is.begin.at is.end.at c.middle_between.result c.middle_between.ensures.some c.middle_between.ensures.none
+    let is = c.requires in
+    none-answers r c.sound.ensures p.from p.to (part-from r p is) (part-to r p is) _ _ is.begin.at is.end.at c.middle_between.result c.middle_between.ensures.some c.middle_between.ensures.none
 
 pub returns-clause-some : goal.returns-clause-some
 returns-clause-some c =
     let r = c.args.self.now in
     let p = c.args.part.now in
-    let is = c.requires.part in
-    some-answers r c.requires.sound p.from p.to (part-from r p is) (part-to r p is) _ _ is.begin.at is.end.at c.middle_between.result c.middle_between.ensures.some
+    let is = c.requires in
+    some-answers r c.sound.ensures p.from p.to (part-from r p is) (part-to r p is) _ _ is.begin.at is.end.at c.middle_between.result c.middle_between.ensures.some

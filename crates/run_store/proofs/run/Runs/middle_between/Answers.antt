@@ -12,9 +12,9 @@ overflow_add-begin c =
     let r = c.args.self.now in
     let b = c.args.begin in
     let e = c.args.end in
-    let up = places-up r c.requires.sound b.place b.offset e.place e.offset c.requires.from c.requires.to c.requires.order in
-    let within = end-within r c.requires.sound b.place b.offset e.place e.offset c.requires.from c.requires.to in
-    omega (arith, up, c.if-begin-end.false, within, few-runs r c.requires.sound, c.requires.sound.few)
+    let up = places-up r c.sound.ensures b.place b.offset e.place e.offset c.requires.from c.requires.to c.requires.order in
+    let within = end-within r c.sound.ensures b.place b.offset e.place e.offset c.requires.from c.requires.to in
+    omega (arith, up, c.if-begin-end.false, within, few-runs r c.sound.ensures, c.sound.ensures.few)
 
 pub returns-then-begin-end : goal.returns-then-begin-end
 returns-then-begin-end c =
@@ -22,9 +22,9 @@ returns-then-begin-end c =
     let b = c.args.begin in
     let e = c.args.end in
     record {
-      some = if-some _ _ c.middle_of_run.result (λ m. some-same r c.requires.sound b.place b.offset e.place e.offset c.requires.from c.requires.to c.if-begin-end.true m.id) c.middle_of_run.ensures.some;
+      some = if-some _ _ c.middle_of_run.result (λ m. some-same r c.sound.ensures b.place b.offset e.place e.offset c.requires.from c.requires.to c.if-begin-end.true m.id) c.middle_of_run.ensures.some;
       found = c.middle_of_run.ensures.found;
-      none = if-none _ _ c.middle_of_run.result (none-same r c.requires.sound b.place b.offset e.place e.offset c.requires.from c.requires.to c.if-begin-end.true) c.middle_of_run.ensures.none;
+      none = if-none _ _ c.middle_of_run.result (none-same r c.sound.ensures b.place b.offset e.place e.offset c.requires.from c.requires.to c.if-begin-end.true) c.middle_of_run.ensures.none;
     }
 
 pub returns-in-Some-clause-some : goal.returns-in-Some-clause-some
@@ -33,12 +33,12 @@ returns-in-Some-clause-some c =
     let e = c.args.end in
     let m = c.in-Some.found in
     let is = c.in-Some.ensures in
-    some-half c.args.self.now c.requires.sound b.place b.offset e.place e.offset c.requires.from c.requires.to m.at.place (omega (arith, is.from)) is.to m.id is.some
+    some-half c.args.self.now c.sound.ensures b.place b.offset e.place e.offset c.requires.from c.requires.to m.at.place (omega (arith, is.from)) is.to m.id is.some
 
 pub returns-in-Some-middle_of_run-clause-some : goal.returns-in-Some-middle_of_run-clause-some
 returns-in-Some-middle_of_run-clause-some c =
     let r = c.args.self.now in
-    let s = c.requires.sound in
+    let s = c.sound.ensures in
     let b = c.args.begin in
     let e = c.args.end in
     let up = places-up r s b.place b.offset e.place e.offset c.requires.from c.requires.to c.requires.order in
@@ -47,7 +47,7 @@ returns-in-Some-middle_of_run-clause-some c =
 pub returns-in-None : goal.returns-in-None
 returns-in-None c =
     let r = c.args.self.now in
-    let s = c.requires.sound in
+    let s = c.sound.ensures in
     let b = c.args.begin in
     let e = c.args.end in
     let up = places-up r s b.place b.offset e.place e.offset c.requires.from c.requires.to c.requires.order in

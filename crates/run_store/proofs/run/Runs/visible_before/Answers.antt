@@ -7,7 +7,7 @@ pub returns-in-Some-clause-some : goal.returns-in-Some-clause-some
 returns-in-Some-clause-some c =
     let at = c.visible_to.ensures.visible in
     (λ j. at.2 j + c.visible_within.ensures j)
-    ∙ sym (shown_before-spot c.args.self.now c.requires c.args.id c.in-Some.spot.run c.in-Some.spot.offset c.in-Some.ensures.some at.0 at.1)
+    ∙ sym (shown_before-spot c.args.self.now c.sound.ensures c.args.id c.in-Some.spot.run c.in-Some.spot.offset c.in-Some.ensures.some at.0 at.1)
 
 pub returns-in-Some-clause-held : goal.returns-in-Some-clause-held
-returns-in-Some-clause-held c = spot-held c.args.self.now c.requires c.args.id c.in-Some.spot.run c.in-Some.spot.offset c.in-Some.ensures.some
+returns-in-Some-clause-held c = spot-held c.args.self.now c.sound.ensures c.args.id c.in-Some.spot.run c.in-Some.spot.offset c.in-Some.ensures.some

@@ -8,7 +8,7 @@ use Rattle.run_store.proofs.store.RunStore.holds.Goals as goal
 
 pub returns-in-Some : goal.returns-in-Some
 returns-in-Some c =
-    let held = spot-held c.self.inside.runs c.self.invariant c.args.id c.in-Some.field-0.run c.in-Some.field-0.offset c.in-Some.ensures.some in
+    let held = spot-held c.self.inside.runs c.sound.ensures c.args.id c.in-Some.field-0.run c.in-Some.field-0.offset c.in-Some.ensures.some in
     ((λ t. subst (λ (s : Stored). Contains (cell_ids s.cells) c.args.id) c.self.view_is held), (λ h. refl))
 
 pub returns-in-None : goal.returns-in-None

@@ -7,7 +7,7 @@ use Rattle.fugue_ids.specs.declared.key.Gap.TheVariants.{After, Alone, Before}
 use Rattle.fugue_ids.specs.declared.limits.TheConstants.{MOST_OPERATIONS}
 use Rattle.origin_model.specs.sides.KeyedGap.{gap_index}
 use Rattle.run_store.specs.Cells.{cell_of, cell_ids}
-use Rattle.run_store.specs.Growth.{AreFresh, IsHead, IsNew, inserted_at}
+use Rattle.run_store.specs.Growth.{AreFresh, IsHead, MayComeTo, inserted_at}
 use Rattle.run_store.specs.Heads.{typed_cells}
 use Rattle.run_store.specs.NewCells.{cell_before, continues, is_continued, new_cells, new_head}
 use Rattle.run_store.specs.Runs.{cells_in}
@@ -27,7 +27,7 @@ joined cs now i g gap id left right text h e f is =
 
 -- the new cells may come to the cells
 comes : (cs now : List Cell) → cs ≡ now → (id : Identifier) (left right : Option Identifier) (h : Head) (n : ℕ) → h ≡ new_head cs id left right → IsHead cs h → 0 < n → AreFresh now id n
-    → length now + n ≤ MOST_OPERATIONS → id.counter + n ≤ 2 ^ 32 → IsNew cs h n
+    → length now + n ≤ MOST_OPERATIONS → id.counter + n ≤ 2 ^ 32 → MayComeTo cs h n
 comes cs now e id left right h n is head some fresh room counters =
     let own : h.id ≡ id = ap (λ (k : Head). k.id) is in
     record {
@@ -55,7 +55,7 @@ insert_behind-requires-clause-new c =
 
 pub begin-requires-clause-held : goal.begin-requires-clause-held
 begin-requires-clause-held c =
-    no-runs c.self.inside.runs c.self.invariant (ap (λ (s : Stored). s.cells) c.self.view_is ∙ c.requires.alone.0 c.in-Alone.is)
+    no-runs c.self.inside.runs c.sound.ensures (ap (λ (s : Stored). s.cells) c.self.view_is ∙ c.requires.alone.0 c.in-Alone.is)
 
 pub returns-in-Alone-clause-ok : goal.returns-in-Alone-clause-ok
 returns-in-Alone-clause-ok c =

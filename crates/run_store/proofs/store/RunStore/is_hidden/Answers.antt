@@ -10,7 +10,7 @@ pub returns-in-Some : goal.returns-in-Some
 returns-in-Some c =
     let cs = cells_in c.self.inside.runs in
     let p = from-head (cell_of cs c.args.id) c.in-Some.head c.in-Some.ensures.is in
-    ap (λ (h : Head). h.hidden) (sym p.2) ∙ sym (hidden-by c.args.id cs p.0 c.self.invariant.distinct p.1)
+    ap (λ (h : Head). h.hidden) (sym p.2) ∙ sym (hidden-by c.args.id cs p.0 c.sound.ensures.distinct p.1)
     ∙ ap (λ (s : Stored). is_hidden_cell s.cells c.args.id) c.self.view_is
 
 pub returns-in-None : goal.returns-in-None

@@ -5,6 +5,6 @@ use Rattle.run_store.specs.Stored.{Stored}
 use Rattle.run_store.proofs.KeyLemmas.{keyed-ids}
 use Rattle.run_store.proofs.store.RunStoreOrderOf.before.Goals as goal
 
-pub before-requires-clause-held : goal.before-requires-clause-held
-before-requires-clause-held c =
+pub before-requires : goal.before-requires
+before-requires c =
     subst (λ (s : Stored). HoldsOrigin (cell_ids s.cells) c.args.id) (sym c.self.view_is) (subst (λ is. HoldsOrigin is c.args.id) (keyed-ids c.args.self.now.cells) c.requires.held)

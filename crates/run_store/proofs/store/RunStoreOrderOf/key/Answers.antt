@@ -18,7 +18,7 @@ returns-in-Some-clause-key c =
     (subst (λ (h : Head). HasKey (keyed_cells cs) c.args.id h.key) p.2 (has-key c.args.id cs p.0 p.1))
 
 pub returns-in-Some-clause-fit : goal.returns-in-Some-clause-fit
-returns-in-Some-clause-fit c = subst (λ (s : Stored). All IsFit (keyed_cells s.cells)) c.self.view_is (all-fit c.self.inside.runs c.self.invariant)
+returns-in-Some-clause-fit c = subst (λ (s : Stored). All IsFit (keyed_cells s.cells)) c.self.view_is (all-fit c.self.inside.runs c.sound.ensures)
 
 pub returns-in-None-clause-key : goal.returns-in-None-clause-key
 returns-in-None-clause-key c =
@@ -27,14 +27,14 @@ returns-in-None-clause-key c =
     absurd (missing c.args.id cs (from-no-head (cell_of cs c.args.id) c.in-None.ensures.is) (subst (λ (s : Stored). Contains (cell_ids s.cells) c.args.id) (sym c.self.view_is) held))
 
 pub returns-in-None-clause-fit : goal.returns-in-None-clause-fit
-returns-in-None-clause-fit c = subst (λ (s : Stored). All IsFit (keyed_cells s.cells)) c.self.view_is (all-fit c.self.inside.runs c.self.invariant)
+returns-in-None-clause-fit c = subst (λ (s : Stored). All IsFit (keyed_cells s.cells)) c.self.view_is (all-fit c.self.inside.runs c.sound.ensures)
 
 pub returns-in-Some-clause-distinct : goal.returns-in-Some-clause-distinct
 returns-in-Some-clause-distinct c =
     subst (AllPairs (λ x y. x ≢ y)) (sym (keyed-ids c.args.self.now.cells))
-    (subst (λ (s : Stored). AllPairs (λ x y. x ≢ y) (cell_ids s.cells)) c.self.view_is c.self.invariant.distinct)
+    (subst (λ (s : Stored). AllPairs (λ x y. x ≢ y) (cell_ids s.cells)) c.self.view_is c.sound.ensures.distinct)
 
 pub returns-in-None-clause-distinct : goal.returns-in-None-clause-distinct
 returns-in-None-clause-distinct c =
     subst (AllPairs (λ x y. x ≢ y)) (sym (keyed-ids c.args.self.now.cells))
-    (subst (λ (s : Stored). AllPairs (λ x y. x ≢ y) (cell_ids s.cells)) c.self.view_is c.self.invariant.distinct)
+    (subst (λ (s : Stored). AllPairs (λ x y. x ≢ y) (cell_ids s.cells)) c.self.view_is c.sound.ensures.distinct)

@@ -5,6 +5,6 @@ use Rattle.run_store.specs.Stored.{Stored}
 use Rattle.run_store.proofs.KeyLemmas.{keyed-ids}
 use Rattle.run_store.proofs.store.RunStoreOrderOf.last_low.Goals as goal
 
-pub last_low-requires-clause-held : goal.last_low-requires-clause-held
-last_low-requires-clause-held c =
+pub last_low-requires : goal.last_low-requires
+last_low-requires c =
     subst (λ (s : Stored). HoldsOrigin (cell_ids s.cells) c.args.id) (sym c.self.view_is) (subst (λ is. HoldsOrigin is c.args.id) (keyed-ids c.args.self.now.cells) c.requires.held)

@@ -3,14 +3,14 @@ use Rattle.std.specs.Prelude.{Some}
 use Rattle.std.proofs.lemmas.Result.{on_ok_weaker}
 use Rattle.fugue_ids.specs.Identifiers.{Identifier}
 use Rattle.origin_model.specs.declared.operations.Place.TheVariants.{Section as within}
-use Rattle.section_catalogue.specs.Changes.{Answer, HidesRun}
+use Rattle.section_catalogue.specs.Changes.{AnswersUpTo, HidesRun}
 use Rattle.section_catalogue.specs.Contents.{Contents, contents_of, place_at}
 use Rattle.section_catalogue.specs.Manuscript.{HasHistory, HidesAll, each_hidden}
 use Rattle.section_catalogue.proofs.HidingRunLemmas.{fewer_placed, however, if_err, run_held, run_hidden}
 use Rattle.section_catalogue.proofs.manuscript.Manuscript.hide_run.Goals as goal
 
-placed_here : (old now : Contents) (s x : Identifier) (k : ℕ) → old ≡ now → Answer (place_at now) x k (Some (within s)) → Answer (place_at old) x k (Some (within s))
-placed_here old now s x k v p = subst (λ (m : Contents). Answer (place_at m) x k (Some (within s))) (sym v) p
+placed_here : (old now : Contents) (s x : Identifier) (k : ℕ) → old ≡ now → AnswersUpTo (place_at now) x k (Some (within s)) → AnswersUpTo (place_at old) x k (Some (within s))
+placed_here old now s x k v p = subst (λ (m : Contents). AnswersUpTo (place_at m) x k (Some (within s))) (sym v) p
 
 pub hide_run-requires : goal.hide_run-requires
 hide_run-requires c =

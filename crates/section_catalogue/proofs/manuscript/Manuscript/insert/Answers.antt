@@ -3,9 +3,9 @@ use Rattle.std.proofs.lemmas.Result.{on_err_weaker, on_ok_weaker}
 use Rattle.fugue_ids.specs.declared.limits.TheConstants.{MOST_OPERATIONS}
 use Rattle.fugue_ids.specs.declared.op.Op.TheVariants.{Section, Text}
 use Rattle.origin_model.specs.declared.operations.Place.TheVariants.{Catalogue as catalogue}
-use Rattle.section_catalogue.specs.Changes.{AddsRun, AddsSection, IsUnchanged}
+use Rattle.section_catalogue.specs.Changes.{AddsTyped, AddsSection, IsUnchanged}
 use Rattle.section_catalogue.specs.Contents.{contents_of, place_count, section_at}
-use Rattle.section_catalogue.specs.Manuscript.{GrowsBy, HasHistory, Stays}
+use Rattle.section_catalogue.specs.Manuscript.{GrowsBy, HasHistory, PlacesStay}
 use Rattle.section_catalogue.proofs.ConditionLemmas.{new_in, no_entry, no_place, ready_here}
 use Rattle.section_catalogue.proofs.GrowthLemmas.{section_stands}
 use Rattle.section_catalogue.proofs.RunLemmas.{room_in, run_asks, run_stands}
@@ -47,7 +47,7 @@ returns-in-Section-clause-ok c =
 pub returns-in-Section-clause-err : goal.returns-in-Section-clause-err
 returns-in-Section-clause-err c =
     let new = contents_of c.add_section.new.tables in
-    on_err_weaker c.add_section.result (λ u. subst (λ z. Stays z new) c.self.view_is (stays (contents_of c.self.inside.tables) new u)) c.add_section.ensures.err
+    on_err_weaker c.add_section.result (λ u. subst (λ z. PlacesStay z new) c.self.view_is (stays (contents_of c.self.inside.tables) new u)) c.add_section.ensures.err
 
 pub add_run-requires : goal.add_run-requires
 add_run-requires c =
@@ -72,7 +72,7 @@ invariant_of-self-in-Text c =
     let op = Text c.in-Text.id c.in-Text.section c.in-Text.left c.in-Text.right c.in-Text.ch in
     let r = ready_here m c.args.self.now c.args.op.now op c.self.view_is c.in-Text.is c.requires.ready in
     let new = contents_of c.add_run.new.tables in
-    either c.add_run.result (AddsRun m new c.in-Text.section (record { id = c.in-Text.id; left = c.in-Text.left; right = c.in-Text.right }) (c.in-Text.ch ∷ [])) (IsUnchanged m new) (HasHistory new) c.add_run.ensures.ok c.add_run.ensures.err
+    either c.add_run.result (AddsTyped m new c.in-Text.section (record { id = c.in-Text.id; left = c.in-Text.left; right = c.in-Text.right }) (c.in-Text.ch ∷ [])) (IsUnchanged m new) (HasHistory new) c.add_run.ensures.ok c.add_run.ensures.err
     (λ k. record { history = op ∷ r.history; stands = run_stands (c.in-Text.ch ∷ []) m new r.history c.in-Text.id c.in-Text.section c.in-Text.left c.in-Text.right r.stands (r.ready, tt) k })
     (λ u. record { history = r.history; stands = still m new u r.history r.stands })
 
@@ -90,4 +90,4 @@ returns-in-Text-clause-ok c =
 pub returns-in-Text-clause-err : goal.returns-in-Text-clause-err
 returns-in-Text-clause-err c =
     let new = contents_of c.add_run.new.tables in
-    on_err_weaker c.add_run.result (λ u. subst (λ z. Stays z new) c.self.view_is (stays (contents_of c.self.inside.tables) new u)) c.add_run.ensures.err
+    on_err_weaker c.add_run.result (λ u. subst (λ z. PlacesStay z new) c.self.view_is (stays (contents_of c.self.inside.tables) new u)) c.add_run.ensures.err

@@ -1,10 +1,10 @@
 use Rattle.std.proofs.Common.{[], refl, subst, sym}
 use Rattle.origin_model.specs.order.Order.{order}
-use Rattle.section_catalogue.specs.Manuscript.{HasHistory, StandsFor, empty_contents}
+use Rattle.section_catalogue.specs.Manuscript.{HasHistory, Represents, empty_contents}
 use Rattle.section_catalogue.proofs.manuscript.Manuscript.new.Goals as goal
 
 -- without elements, it stands for the history of none
-stands : StandsFor empty_contents []
+stands : Represents empty_contents []
 unfolding order
 stands = record {
   lawful = tt;

@@ -5,18 +5,18 @@ use Rattle.fugue_ids.specs.declared.limits.TheConstants.{MOST_OPERATIONS}
 use Rattle.origin_model.specs.sides.Node.{IsNew, has_node, has_origin}
 use Rattle.origin_model.specs.declared.operations.node.Node.{Node}
 use Rattle.section_list.specs.Kept.{KeepsNodes}
-use Rattle.section_list.specs.SectionList.{AreUnheld, Listing, with_elements}
+use Rattle.section_list.specs.SectionList.{AreNoNodes, Listing, with_elements}
 use Rattle.section_list.proofs.GrowthLemmas.{are_fresh, grown_kept, is_grown, joins, seen, seen_in_order, seen_length}
 use Rattle.section_list.proofs.place.SectionList.insert_run.Goals as goal
 
 -- the first node is new in the place that was looked at, which is the same
-new_here : (now old : Listing) (n : Node) (count : ℕ) → now ≡ old → 0 < count → AreUnheld old.nodes n.id count → has_origin old.nodes n.left ≡ true → has_origin old.nodes n.right ≡ true → IsNew now.nodes n
+new_here : (now old : Listing) (n : Node) (count : ℕ) → now ≡ old → 0 < count → AreNoNodes old.nodes n.id count → has_origin old.nodes n.left ≡ true → has_origin old.nodes n.right ≡ true → IsNew now.nodes n
 new_here now old n count same some fresh l r =
     subst (λ (s : Listing). IsNew s.nodes n) (sym same) (record { fresh = ap (has_node old.nodes) (sym (none_behind n.id)) ∙ fresh 0 some; left = l; right = r })
 
 -- none of the identifiers is held in what is inside
-unheld : (inside now old : Listing) (n : Node) (count : ℕ) → inside ≡ now → now ≡ old → AreUnheld old.nodes n.id count → AreUnheld inside.nodes n.id count
-unheld inside now old n count see same fresh = subst (λ (s : Listing). AreUnheld s.nodes n.id count) (sym (see ∙ same)) fresh
+unheld : (inside now old : Listing) (n : Node) (count : ℕ) → inside ≡ now → now ≡ old → AreNoNodes old.nodes n.id count → AreNoNodes inside.nodes n.id count
+unheld inside now old n count see same fresh = subst (λ (s : Listing). AreNoNodes s.nodes n.id count) (sym (see ∙ same)) fresh
 
 pub gap_of-gap-requires : goal.gap_of-gap-requires
 gap_of-gap-requires c = new_here _ _ c.args.first.now (length c.args.text.now) c.look_at.ensures c.requires.some c.requires.fresh c.requires.left c.requires.right

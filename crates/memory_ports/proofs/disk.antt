@@ -1,0 +1,3 @@
+-- What the proofs of several functions of src/disk/ use.
+pub mod PicksLemmas
+pub mod ReplaysLemmas

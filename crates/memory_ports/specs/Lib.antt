@@ -1,0 +1,4 @@
+pub mod Forms
+pub mod disk
+pub mod dock
+pub mod wire

@@ -1,0 +1,4 @@
+-- What is said of disks in memory.
+pub mod Kept
+pub mod Picks
+pub mod Forms

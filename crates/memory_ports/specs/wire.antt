@@ -1,0 +1,2 @@
+-- What is said of wires in memory.
+pub mod Forms

@@ -1,9 +1,0 @@
-ghost use Rattle.std.specs.Prelude.{◌≡◌};
-ghost use Rattle.outer_ports.specs.disk.Disks.{reached};
-
-/// So many bytes were asked for from an offset on.
-pub(super) fn reach_to(reach: &mut u64, at: u64, count: usize)
-    ensures { reach.new ≡ reached at count reach.old }
-{
-    *reach = (*reach).max(at.saturating_add(count as u64));
-}

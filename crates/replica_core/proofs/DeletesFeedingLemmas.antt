@@ -1,0 +1,295 @@
+-- Deletes of neighbours that are taken in one after another by one call.
+use Rattle.std.proofs.Common.{◌≡◌, ◌≢◌, ◌∙◌, ap, arith, append-nil, append_assoc, false, length, refl, subst, suc, sym, zero, inl, inr, ℕ, ◌+◌, ◌-◌, ◌<◌, ◌≤◌, ◌++◌, ◌∷◌, List, [], ◌^◌, true}
+use Rattle.std.specs.Prelude.{◌↔◌, All, Bool, None, Option, Some, option_map}
+use Rattle.std.proofs.lemmas.Bool.{cases_lt, or_from}
+use Rattle.std.proofs.lemmas.List.Elements.{All-append, All-cons, All-nil}
+use Rattle.fugue_ids.specs.Identifiers.{Identifier, id_eq}
+use Rattle.fugue_ids.specs.Runs.{id_behind, next_id}
+use Rattle.fugue_ids.specs.declared.op.Op.{Op}
+use Rattle.fugue_ids.specs.declared.op.Op.TheVariants.{Delete}
+use Rattle.fugue_ids.specs.Ops.{id_of}
+use Rattle.fugue_ids.proofs.IdentifierLemmas.{ne-id_eq, origin_eq-true}
+use Rattle.fugue_ids.proofs.RunLemmas.{none_behind, one_behind}
+use Rattle.op_runs.specs.Deletions.{deletes_up}
+use Rattle.op_runs.proofs.DeletionLemmas.{deletes-append, length-deletes}
+use Rattle.origin_model.specs.declared.operations.Place.TheVariants.{Section as within}
+use Rattle.origin_model.specs.declared.taking.Tally.{Tally}
+use Rattle.origin_model.specs.edits.Edits.{ReadyInTurn}
+use Rattle.origin_model.specs.edits.Effect.{with_ops}
+use Rattle.origin_model.specs.edits.State.{State, IsSound}
+use Rattle.origin_model.specs.declared.operations.Role.TheVariants.{TextOf}
+use Rattle.origin_model.specs.operations.History.{has_op, holder, stands_at}
+use Rattle.origin_model.specs.operations.Verdict.{fits}
+use Rattle.origin_model.specs.order.Laws.{IsIn}
+use Rattle.origin_model.specs.order.Printed.{is_hidden}
+use Rattle.origin_model.specs.taking.Taking.{Accepted, Answer, MeetsNoLimit, Held, IsSettled, TooMany, answer, answers_from, held_from, intake, intake_counted, is_kept, kept_from, no_counts, tally_from}
+use Rattle.origin_model.proofs.SharedLemmas.{hidden-has, holder_owns, IsIn-held, kept-yes, places-none, shown_can_go, stands_element, stands_place}
+use Rattle.origin_model.proofs.edits.EditIntakeLemmas.{comes}
+use Rattle.origin_model.proofs.edits.FreshIdLemmas.{IsUnknown, delete_unknown}
+use Rattle.replica_core.specs.Deleting.{AreUndeleted, AreWithin, IsUndeleted, deletes_from, ids_from}
+use Rattle.replica_core.specs.Edits.{CanJoin}
+use Rattle.replica_core.specs.Feeding.{GoesAtOnce, StopsFeeding, StopsKeeping, TakesInAll}
+use Rattle.replica_core.specs.Keeping.{LeavesUnkept}
+use Rattle.replica_core.specs.Told.{LeavesAfterFault, total}
+use Rattle.replica_core.specs.declared.keeping.FeedFault.{FeedFault}
+use Rattle.replica_core.specs.declared.keeping.FeedFault.TheVariants.{NoMemory as FedNoMemory, TooMany as FedTooMany}
+use Rattle.replica_core.proofs.DeletingLemmas.{can_rest, deletes_parted, fewer_can, length-from}
+use Rattle.replica_core.proofs.FeedLemmas.{fed_quietly}
+use Rattle.replica_core.proofs.FeedingLemmas.{first_stops, first_unkept, joins_all, kept_behind, repeats_all, stops_copying, stops_joining, stops_on, takes_none_in, takes_on, unkept_on}
+use Rattle.replica_core.proofs.JoinLemmas.{can_be_accepted, first_can}
+use Rattle.replica_core.proofs.NotingLemmas.{row_up}
+
+-- On the way through a row
+
+-- the first Deletes were taken in
+pub record IsFeedingRow (s : State) (t : Tally) (x : Identifier) (count : ℕ) (now : State) (counts : Tally) (done : ℕ) : Type 0 where
+  pub taken : TakesInAll s now (deletes_up x done) t counts
+  pub stands : IsSound now
+  pub within : done ≤ count
+  pub few : total counts + length now.held.waiting + count ≤ 2 ^ 31 + done
+
+pub feeding_row : (s : State) (t : Tally) (x : Identifier) (count : ℕ) → IsSound s → IsSettled s.held → total t + length s.held.waiting + count ≤ 2 ^ 31 → IsFeedingRow s t x count s t 0
+feeding_row s t x count stands settled few = record { taken = takes_none_in s t settled; stands = stands; within = omega arith; few = omega (arith, few) }
+
+-- some more
+pub row_fed_on : (s now new : State) (t counts after : Tally) (x : Identifier) (count done n : ℕ) → IsFeedingRow s t x count now counts done → n ≤ count - done → done < count
+    → TakesInAll now new (deletes_up (id_behind x done) n) counts after → IsSound new → IsFeedingRow s t x count new after (done + n)
+row_fed_on s now new t counts after x count done n f no_more less took stands =
+    let few : total counts + length now.held.waiting + count ≤ 2 ^ 31 + done = f.few in
+    let once : total after + length new.held.waiting ≡ total counts + length now.held.waiting + length (deletes_up (id_behind x done) n) = took.once in
+    let long : length (deletes_up (id_behind x done) n) ≡ n = length-deletes false (id_behind x done) n in
+    record {
+      taken = subst (λ (z : List Op). TakesInAll s new z t after) (sym (deletes-append false x done n)) (takes_on s now new (deletes_up x done) (deletes_up (id_behind x done) n) t counts after f.taken took);
+      stands = stands;
+      within = omega (arith, no_more, less);
+      few = omega (arith, few, once, long);
+    }
+
+-- those that are left
+left_over : (x : Identifier) (count done : ℕ) → done < count → deletes_up x count ≡ deletes_up x done ++ deletes_up (id_behind x done) (count - done)
+left_over x count done less = let e : count ≡ done + (count - done) = omega (arith, less) in ap (deletes_up x) e ∙ deletes-append false x done (count - done)
+
+-- not all
+pub row_fed_some : (s now new : State) (t counts after : Tally) (x : Identifier) (count done : ℕ) (fault : FeedFault) → IsFeedingRow s t x count now counts done → done < count
+    → StopsFeeding (deletes_up (id_behind x done) (count - done)) now new counts after fault → StopsFeeding (deletes_up x count) s new t after fault
+row_fed_some s now new t counts after x count done fault f less stops =
+    subst (λ (z : List Op). StopsFeeding z s new t after fault) (sym (left_over x count done less))
+    (stops_on s now new (deletes_up x done) (deletes_up (id_behind x done) (count - done)) t counts after fault f.taken stops)
+
+-- all
+pub row_fed_all : (s now : State) (t counts : Tally) (x : Identifier) (count done : ℕ) → IsFeedingRow s t x count now counts done → count ≤ done → TakesInAll s now (deletes_up x count) t counts
+row_fed_all s now t counts x count done f all = let e : done ≡ count = omega (arith, all, f.within) in subst (λ (n : ℕ). TakesInAll s now (deletes_up x n) t counts) e f.taken
+
+-- and what was kept of them
+pub record IsKeepingRow (s : State) (t : Tally) (kept : List Op) (x : Identifier) (count : ℕ) (now : State) (counts : Tally) (kept_now : List Op) (done : ℕ) : Type 0 where
+  pub feeds : IsFeedingRow s t x count now counts done
+  pub kept_are : kept_now ≡ kept ++ kept_from s.hold s.most s.held (deletes_up x done)
+
+pub keeping_row : (s : State) (t : Tally) (kept : List Op) (x : Identifier) (count : ℕ) → IsSound s → IsSettled s.held → total t + length s.held.waiting + count ≤ 2 ^ 31 → IsKeepingRow s t kept x count s t kept 0
+keeping_row s t kept x count stands settled few = record { feeds = feeding_row s t x count stands settled few; kept_are = sym (append-nil kept) }
+
+pub row_kept_on : (s now new : State) (t counts after : Tally) (kept kept_now kept_new : List Op) (x : Identifier) (count done n : ℕ) → IsKeepingRow s t kept x count now counts kept_now done → n ≤ count - done → done < count
+    → TakesInAll now new (deletes_up (id_behind x done) n) counts after → IsSound new → kept_new ≡ kept_now ++ kept_from now.hold now.most now.held (deletes_up (id_behind x done) n)
+    → IsKeepingRow s t kept x count new after kept_new (done + n)
+row_kept_on s now new t counts after kept kept_now kept_new x count done n k no_more less took stands more =
+    let front : List Op = deletes_up x done in
+    let next : List Op = deletes_up (id_behind x done) n in
+    record {
+      feeds = row_fed_on s now new t counts after x count done n k.feeds no_more less took stands;
+      kept_are = more ∙ ap (λ (z : List Op). z ++ kept_from now.hold now.most now.held next) k.kept_are
+          ∙ append_assoc kept (kept_from s.hold s.most s.held front) (kept_from now.hold now.most now.held next)
+          ∙ ap (λ (z : List Op). kept ++ z) (kept_behind s now front next k.feeds.taken.replica ∙ ap (kept_from s.hold s.most s.held) (sym (deletes-append false x done n)));
+    }
+
+pub row_kept_some : (s now new : State) (t counts after : Tally) (kept kept_now kept_new : List Op) (x : Identifier) (count done : ℕ) (fault : FeedFault) → IsKeepingRow s t kept x count now counts kept_now done → done < count
+    → StopsKeeping (deletes_up (id_behind x done) (count - done)) now new counts after kept_now kept_new fault → StopsKeeping (deletes_up x count) s new t after kept kept_new fault
+row_kept_some s now new t counts after kept kept_now kept_new x count done fault k less stops =
+    subst (λ (z : List Op). StopsKeeping z s new t after kept kept_new fault) (sym (left_over x count done less))
+    (unkept_on s now new (deletes_up x done) (deletes_up (id_behind x done) (count - done)) t counts after kept kept_now kept_new fault k.feeds.taken k.kept_are stops)
+
+pub row_kept_all : (s now : State) (t counts : Tally) (kept kept_now : List Op) (x : Identifier) (count done : ℕ) → IsKeepingRow s t kept x count now counts kept_now done → count ≤ done
+    → kept_now ≡ kept ++ kept_from s.hold s.most s.held (deletes_up x count)
+row_kept_all s now t counts kept kept_now x count done k all =
+    let e : done ≡ count = omega (arith, all, k.feeds.within) in
+    subst (λ (n : ℕ). kept_now ≡ kept ++ kept_from s.hold s.most s.held (deletes_up x n)) e k.kept_are
+
+-- One Delete alone
+
+pub delete_stops : (s new : State) (x : Identifier) (count : ℕ) (t u : Tally) (fault : FeedFault) → IsSettled s.held → 0 < count → (fault ≡ FedTooMany s.most) ↔ (answer s.hold s.most s.held (Delete x) ≡ TooMany)
+    → LeavesAfterFault s new (Delete x) t u fault → StopsFeeding (deletes_up x count) s new t u fault
+delete_stops s new x zero t u fault settled some many leaves = absurd (omega (arith, some))
+delete_stops s new x (suc n) t u fault settled some many leaves = first_stops s new (Delete x) (deletes_up (next_id x) n) t u fault settled many leaves
+
+pub delete_unkept : (s new : State) (x : Identifier) (count : ℕ) (t u : Tally) (kept kept_new : List Op) (fault : FeedFault) → IsSettled s.held → 0 < count
+    → (fault ≡ FedTooMany s.most) ↔ (answer s.hold s.most s.held (Delete x) ≡ TooMany) → LeavesUnkept s new (Delete x) t u fault → kept_new ≡ kept → StopsKeeping (deletes_up x count) s new t u kept kept_new fault
+delete_unkept s new x zero t u kept kept_new fault settled some many leaves unkept = absurd (omega (arith, some))
+delete_unkept s new x (suc n) t u kept kept_new fault settled some many leaves unkept =
+    first_unkept s new (Delete x) (deletes_up (next_id x) n) t u kept kept_new fault settled many leaves unkept
+
+-- Deletes that are accepted already
+
+pub row_repeats : (s : State) (x : Identifier) (n : ℕ) (t : Tally) → IsSettled s.held → All (λ op. has_op s.held.history op ≡ true) (deletes_up x n)
+    → TakesInAll s s (deletes_up x n) t (record t { repeated = t.repeated + n })
+row_repeats s x n t settled there = repeats_all s s (deletes_up x n) t (record t { repeated = t.repeated + n }) n settled there refl (sym (length-deletes false x n)) refl
+
+-- one more of them
+pub one_more_deleted : (h : List Op) (x : Identifier) (n : ℕ) → All (λ op. has_op h op ≡ true) (deletes_up x n) → has_op h (Delete (id_behind x n)) ≡ true → All (λ op. has_op h op ≡ true) (deletes_up x (n + 1))
+one_more_deleted h x n there here =
+    subst (All P) (sym (deletes-append false x n 1)) (All-append P (deletes_up x n) (deletes_up (id_behind x n) 1) there (All-cons P (Delete (id_behind x n)) [] here (All-nil P)))
+  where
+    P : Op → Type 0
+    P = λ op. has_op h op ≡ true
+
+-- Deletes that go in at once
+
+-- what can join does
+pub at_once_all : (ops : List Op) (s : State) → CanJoin s ops → GoesAtOnce s ops
+at_once_all [] s can = record {
+  can = can;
+  has_place = places-none s.hold s.most s.held;
+  held = refl;
+  settled = can.settled;
+  kept = refl;
+  counted = λ t. let e : t.accepted ≡ t.accepted + 0 = omega arith in λ i. record t { accepted = e i };
+}
+at_once_all (op ∷ ops) s can =
+    let mid : State = with_ops s (op ∷ []) in
+    let room : length s.held.history + length s.held.waiting + length (op ∷ ops) ≤ s.most = can.room in
+    let rest : GoesAtOnce mid ops = at_once_all ops mid (record { settled = can.in_turn.2; in_turn = can.in_turn.3; room = omega (arith, room) }) in
+    let yes : answer s.hold s.most s.held op ≡ Accepted = can_be_accepted s op (first_can s op ops can) in
+    let same : intake s.hold s.most s.held op ≡ mid.held = sym (fed_quietly s.hold s.most s.held op Accepted no_counts yes can.in_turn.2).held in
+    record {
+      can = can;
+      has_place = All-cons (λ (a : Answer). a ≢ TooMany) (answer s.hold s.most s.held op) (answers_from s.hold s.most (intake s.hold s.most s.held op) ops) (λ many. accepted_or_many (sym yes ∙ many))
+          (subst (λ (u : Held). MeetsNoLimit s.hold s.most u ops) (sym same) rest.has_place);
+      held = ap (λ (u : Held). held_from s.hold s.most u ops) same ∙ rest.held;
+      settled = subst (λ (u : Held). IsSettled (held_from s.hold s.most u ops)) (sym same) rest.settled;
+      kept = kept-yes s.hold s.most s.held op ops (ap is_kept yes) ∙ ap (λ (u : Held). op ∷ kept_from s.hold s.most u ops) same ∙ ap (λ (z : List Op). op ∷ z) rest.kept;
+      counted = λ t.
+          let one : intake_counted s.hold s.most s.held op t ≡ record t { accepted = t.accepted + 1 } = sym (fed_quietly s.hold s.most s.held op Accepted t yes can.in_turn.2).counted in
+          let more : t.accepted + 1 + length ops ≡ t.accepted + suc (length ops) = omega arith in
+          (λ i. tally_from s.hold s.most (same i) ops (one i)) ∙ rest.counted (record t { accepted = t.accepted + 1 }) ∙ (λ i. record t { accepted = more i });
+    }
+  where
+    accepted_or_many : Accepted ≡ TooMany → ⊥
+    accepted_or_many e = cc e
+
+-- each is Ready in its turn
+ready_row : (n : ℕ) (x s : Identifier) (h : List Op) → AreUndeleted s h x n → ReadyInTurn h (deletes_from x n)
+ready_row zero x s h each = tt
+ready_row (suc n) x s h each =
+    let here : IsUndeleted s h x = subst (IsUndeleted s h) (none_behind x) (each 0 (omega arith)) in
+    (shown_can_go h x (IsIn-held (within s) h x here.inside) here.shown, ready_row n (next_id x) s (Delete x ∷ h) rest)
+  where
+    rest : AreUndeleted s (Delete x ∷ h) (next_id x) n
+    rest k less =
+        let y : Identifier = id_behind (next_id x) k in
+        let was : IsUndeleted s h y = subst (IsUndeleted s h) (sym (one_behind x k)) (each (suc k) (omega (arith, less))) in
+        let other : x ≢ y = λ same. let at : x.counter ≡ x.counter + 1 + k = ap (λ (i : Identifier). i.counter) same in omega (arith, at) in
+        record {
+          inside = record { op = was.inside.op; held = was.inside.held; place = was.inside.place };
+          shown = or_from (id_eq x y) (is_hidden h y) (ne-id_eq x y other) was.shown;
+        }
+
+-- elements of the section
+pub row_within : (n : ℕ) (x s : Identifier) (h : List Op) → AreUndeleted s h x n → AreWithin s h (ids_from x n)
+row_within zero x s h each = All-nil (λ y. IsIn (within s) h y)
+row_within (suc n) x s h each =
+    All-cons (λ y. IsIn (within s) h y) x (ids_from (next_id x) n) (subst (IsUndeleted s h) (none_behind x) (each 0 (omega arith))).inside
+    (row_within n (next_id x) s h (λ k less. subst (IsUndeleted s h) (sym (one_behind x k)) (each (suc k) (omega (arith, less)))))
+
+unknown_row : (n : ℕ) (x : Identifier) (w : List Op) → All (IsUnknown w) (deletes_from x n)
+unknown_row zero x w = All-nil (IsUnknown w)
+unknown_row (suc n) x w = All-cons (IsUnknown w) (Delete x) (deletes_from (next_id x) n) (delete_unknown w x) (unknown_row n (next_id x) w)
+
+pub row_can_go : (s : State) (section x : Identifier) (n : ℕ) → IsSettled s.held → AreUndeleted section s.held.history x n → length s.held.history + length s.held.waiting + n ≤ s.most → CanJoin s (deletes_from x n)
+row_can_go s section x n settled each room = record {
+  settled = settled;
+  in_turn = comes (deletes_from x n) s.held.history s.held.waiting settled (ready_row n x section s.held.history each) (unknown_row n x s.held.waiting);
+  room = omega (arith, room, length-from n x);
+}
+
+-- one more of them
+pub one_more_undeleted : (s x : Identifier) (h : List Op) (n : ℕ) → AreUndeleted s h x n → IsUndeleted s h (id_behind x n) → AreUndeleted s h x (n + 1)
+one_more_undeleted s x h n each here k less =
+    elim (cases_lt k n) [
+      | inl l ↦ each k l
+      | inr l ↦ let e : n ≡ k = omega (arith, l, less) in subst (λ (j : ℕ). IsUndeleted s h (id_behind x j)) e here
+    ]
+
+-- what the accepted operations tell of an element
+pub undeleted_by : (h : List Op) (x s : Identifier) (fit : Bool) → Some fit ≡ option_map (fits (TextOf s)) (holder h x) → fit ≡ true → has_op h (Delete x) ≡ false → IsUndeleted s h x
+undeleted_by h x s fit found does none = record { inside = by_holder (holder h x) refl (ap Some (sym does) ∙ found); shown = hidden-has h x ∙ none }
+  where
+    by_holder : (o : Option Op) → holder h x ≡ o → Some true ≡ option_map (fits (TextOf s)) o → IsIn (within s) h x
+    by_holder None held at = cc at
+    by_holder (Some op) held at =
+        let stands : stands_at (within s) op ≡ true = cc at in
+        record { op = op; held = held; place = stands_element (within s) op (stands_place op (within s) stands) ∙ origin_eq-true (id_of op) (Some x) (holder_owns h x op held) }
+
+-- they are taken in
+pub row_joins : (s new : State) (x : Identifier) (n : ℕ) (t : Tally) → CanJoin s (deletes_from x n) → new ≡ with_ops s (deletes_from x n) → TakesInAll s new (deletes_up x n) t (record t { accepted = t.accepted + n })
+row_joins s new x n t can is =
+    subst (λ (z : List Op). TakesInAll s new z t (record t { accepted = t.accepted + n })) (sym (row_up n x))
+    (joins_all s new (deletes_from x n) t (record t { accepted = t.accepted + n }) n (at_once_all (deletes_from x n) s can) is (sym (length-from n x)) refl)
+
+-- and all of them are kept
+pub row_is_kept : (s : State) (x : Identifier) (n : ℕ) → CanJoin s (deletes_from x n) → kept_from s.hold s.most s.held (deletes_up x n) ≡ deletes_up x n
+row_is_kept s x n can = subst (λ (z : List Op). kept_from s.hold s.most s.held z ≡ z) (sym (row_up n x)) (at_once_all (deletes_from x n) s can).kept
+
+pub row_pushed : (s : State) (x : Identifier) (n : ℕ) (kept mid new : List Op) → CanJoin s (deletes_from x n) → new ≡ mid ++ deletes_up x n → mid ≡ kept → new ≡ kept ++ kept_from s.hold s.most s.held (deletes_up x n)
+row_pushed s x n kept mid new can pushed same = pushed ∙ ap (λ (z : List Op). z ++ deletes_up x n) same ∙ ap (λ (z : List Op). kept ++ z) (sym (row_is_kept s x n can))
+
+-- memory is wanting for their copies
+pub row_uncopied : (s new : State) (x : Identifier) (count n : ℕ) (t : Tally) (kept kept_new : List Op) → 0 < n → n ≤ count → CanJoin s (deletes_from x n) → new ≡ s → kept_new ≡ kept
+    → StopsKeeping (deletes_up x count) s new t t kept kept_new FedNoMemory
+row_uncopied s new x count zero t kept kept_new some no_more can is same = absurd (omega (arith, some))
+row_uncopied s new x zero (suc n) t kept kept_new some no_more can is same = absurd (omega (arith, no_more))
+row_uncopied s new x (suc count) (suc n) t kept kept_new some no_more can is same =
+    stops_copying s new (Delete x) (deletes_from (next_id x) n) (deletes_up (next_id x) count) t kept kept_new can is same
+
+-- memory is wanting behind the first of them
+module _ (s new : State) (x : Identifier) (count n k : ℕ) (t : Tally) (fewer : k < n) (no_more : n ≤ count) (can : CanJoin s (deletes_from x n)) (is : new ≡ with_ops s (deletes_from x k)) where
+  abbrev counts : Tally
+  counts = record t { accepted = t.accepted + k }
+
+  abbrev y : Identifier
+  y = id_behind x k
+
+  first_joins : TakesInAll s new (deletes_up x k) t counts
+  first_joins = row_joins s new x k t (fewer_can s x n k (omega (arith, fewer)) can) is
+
+  next_can : CanJoin new (Delete y ∷ deletes_from (next_id y) (n - k - 1))
+  next_can =
+      let e : n ≡ k + suc (n - k - 1) = omega (arith, fewer) in
+      subst (λ (z : State). CanJoin z (Delete y ∷ deletes_from (next_id y) (n - k - 1))) (sym is)
+      (can_rest s (deletes_from x k) (deletes_from y (suc (n - k - 1))) (subst (CanJoin s) (ap (deletes_from x) e ∙ deletes_parted k (suc (n - k - 1)) x) can))
+
+  whole : deletes_up x count ≡ deletes_up x k ++ (Delete y ∷ deletes_up (next_id y) (count - k - 1))
+  whole = let e : count ≡ k + suc (count - k - 1) = omega (arith, fewer, no_more) in ap (deletes_up x) e ∙ deletes-append false x k (suc (count - k - 1))
+
+  pub row_stops : StopsFeeding (deletes_up x count) s new t counts FedNoMemory
+  row_stops =
+      subst (λ (z : List Op). StopsFeeding z s new t counts FedNoMemory) (sym whole)
+      (stops_on s new new (deletes_up x k) (Delete y ∷ deletes_up (next_id y) (count - k - 1)) t counts counts FedNoMemory first_joins
+      (stops_joining new new (Delete y) (deletes_from (next_id y) (n - k - 1)) (deletes_up (next_id y) (count - k - 1)) counts next_can refl))
+
+  pub row_copies_stop : (kept kept_new : List Op) → kept_new ≡ kept ++ deletes_up x k → StopsKeeping (deletes_up x count) s new t counts kept kept_new FedNoMemory
+  row_copies_stop kept kept_new more =
+      subst (λ (z : List Op). StopsKeeping z s new t counts kept kept_new FedNoMemory) (sym whole)
+      (unkept_on s new new (deletes_up x k) (Delete y ∷ deletes_up (next_id y) (count - k - 1)) t counts counts kept kept_new kept_new FedNoMemory first_joins
+      (more ∙ ap (λ (z : List Op). kept ++ z) (sym (row_is_kept s x k (fewer_can s x n k (omega (arith, fewer)) can))))
+      (stops_copying new new (Delete y) (deletes_from (next_id y) (n - k - 1)) (deletes_up (next_id y) (count - k - 1)) counts kept_new kept_new next_can refl refl))
+
+-- the copies of a row are appended, as far as this
+pub record IsAppendingRow (old now : List Op) (x : Identifier) (done count len room : ℕ) : Type 0 where
+  pub items : now ≡ old ++ deletes_up x done
+  pub fits : len + count ≤ room + done
+
+pub row_appended_on : (old now new : List Op) (x : Identifier) (done count len room len_new room_new : ℕ) → IsAppendingRow old now x done count len room → new ≡ now ++ Delete (id_behind x done) ∷ []
+    → len_new ≡ len + 1 → room_new ≡ room → IsAppendingRow old new x (done + 1) count len_new room_new
+row_appended_on old now new x done count len room len_new room_new a is longer same = record {
+  items = is ∙ ap (λ (z : List Op). z ++ Delete (id_behind x done) ∷ []) a.items ∙ append_assoc old (deletes_up x done) (Delete (id_behind x done) ∷ [])
+      ∙ ap (λ (z : List Op). old ++ z) (sym (deletes-append false x done 1));
+  fits = omega (arith, a.fits, longer, same);
+}

@@ -1,9 +1,0 @@
-use Rattle.std.proofs.Common.{length}
-use Rattle.replica_core.proofs.CountLemmas.{IsSettling}
-use Rattle.replica_core.proofs.replica.settling.Settling.settle.Given as goal
-
-abbrev pub invariant-loop : goal.invariant-loop
-invariant-loop l = IsSettling l.initial.self l.self l.initial.tally l.tally
-
-abbrev pub decreases-loop : goal.decreases-loop
-decreases-loop l = length l.self.held.waiting

@@ -1,9 +1,0 @@
-use Rattle.std.specs.Prelude.{◌≤◌, ◌-◌}
-use Rattle.replica_core.specs.Feeding.{AreUntouched}
-use Rattle.replica_core.proofs.replica.settling.Settling.untouched.Given as goal
-
-abbrev pub invariant-doubled : goal.invariant-doubled
-invariant-doubled l = AreUntouched l.self.held l.first l.known × (l.known ≤ l.count) × (1 ≤ l.next)
-
-abbrev pub decreases-doubled : goal.decreases-doubled
-decreases-doubled l = l.count - l.next

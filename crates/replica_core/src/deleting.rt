@@ -1,0 +1,302 @@
+//! Taking in Deletes of neighbours: they go in as one where nothing else is asked of them.
+ghost use Rattle.std.specs.Prelude.{◌≡◌, ◌<◌, ◌≤◌, ◌+◌, ◌^◌, ◌++◌, All, IfErr, IfOk, IfSome, IsTrue, OnOk, length, true};
+ghost use Rattle.std.specs.Prelude.{vec_len, vec_capacity};
+ghost use Rattle.op_runs.specs.Deletions.{deletes_up};
+ghost use Rattle.origin_model.specs.edits.State.{IsSound};
+ghost use Rattle.origin_model.specs.operations.History.{has_op};
+ghost use Rattle.origin_model.specs.taking.Taking.{IsSettled, kept_from};
+ghost use Rattle.replica_core.specs.Deleting.{AreUndeleted, AreWithin, IsUndeleted, deletes_from, ids_from};
+ghost use Rattle.replica_core.specs.Edits.{CanJoin};
+ghost use Rattle.replica_core.specs.Feeding.{StopsFeeding, StopsKeeping, TakesInAll};
+ghost use Rattle.replica_core.specs.Told.{total};
+
+use crate::open_replica::OpenReplica;
+use crate::{FeedFault, Replica};
+use fugue_ids::{ElementId, Op};
+use origin_model::{Lookup, Place, Role, Tally};
+
+impl Replica {
+    /// Feeds the Deletes of so many identifiers, from this one on, one after another: those at once that nothing is asked
+    /// of, the others each alone.
+    ///
+    /// After a fault the Deletes before some one stand, and that one left what `feed` says of its fault.
+    pub fn feed_deletes(
+        &mut self,
+        first: ElementId,
+        count: u32,
+        tally: &mut Tally,
+    ) -> Result<(), FeedFault>
+        requires settled { IsSettled self.old.held }
+        requires counters { first.counter + count ≤ 2 ^ 32 }
+        requires counts_rise { total tally.old + length self.old.held.waiting + count ≤ 2 ^ 31 }
+        ensures ok { OnOk result (TakesInAll self.old self.new (deletes_up first count) tally.old tally.new) }
+        ensures err { IfErr result
+            (λ fault. StopsFeeding (deletes_up first count) self.old self.new tally.old tally.new fault) }
+        ensures stands { IsSound self.new }
+    {
+        let fed = self.inner.feed_deletes(first, count, tally);
+        self.inner.close();
+        fed
+    }
+
+    /// The same, and appends copies of those that were accepted or wait to `kept`, in order.
+    pub fn feed_deletes_keeping(
+        &mut self,
+        first: ElementId,
+        count: u32,
+        tally: &mut Tally,
+        kept: &mut Vec<Op>,
+    ) -> Result<(), FeedFault>
+        requires settled { IsSettled self.old.held }
+        requires counters { first.counter + count ≤ 2 ^ 32 }
+        requires counts_rise { total tally.old + length self.old.held.waiting + count ≤ 2 ^ 31 }
+        ensures ok { OnOk result (TakesInAll self.old self.new (deletes_up first count) tally.old tally.new) }
+        ensures kept { OnOk result (kept.new.items ≡ kept.old.items
+            ++ kept_from self.old.hold self.old.most self.old.held (deletes_up first count)) }
+        ensures err { IfErr result
+            (λ fault. StopsKeeping (deletes_up first count) self.old self.new tally.old tally.new
+            kept.old.items kept.new.items fault) }
+        ensures stands { IsSound self.new }
+    {
+        let fed = self.inner.feed_deletes_keeping(first, count, tally, kept);
+        self.inner.close();
+        fed
+    }
+}
+
+impl OpenReplica {
+    fn feed_deletes(
+        &mut self,
+        first: ElementId,
+        count: u32,
+        tally: &mut Tally,
+    ) -> Result<(), FeedFault>
+        requires settled { IsSettled self.old.state.held }
+        requires counters { first.counter + count ≤ 2 ^ 32 }
+        requires counts_rise { total tally.old + length self.old.state.held.waiting + count ≤ 2 ^ 31 }
+        ensures ok { OnOk result (TakesInAll self.old.state self.new.state (deletes_up first count) tally.old tally.new) }
+        ensures err { IfErr result
+            (λ fault. StopsFeeding (deletes_up first count) self.old.state self.new.state tally.old tally.new fault) }
+        ensures stands { IsSound self.new.state }
+    {
+        let _ = &self.alloc;
+        let mut done = 0;
+        'fronts: while done < count {
+            let next = first.behind(done);
+            let fed = self.feed_deletes_front(next, count - done, tally)?;
+            done += fed;
+        }
+        Ok(())
+    }
+
+    fn feed_deletes_keeping(
+        &mut self,
+        first: ElementId,
+        count: u32,
+        tally: &mut Tally,
+        kept: &mut Vec<Op>,
+    ) -> Result<(), FeedFault>
+        requires settled { IsSettled self.old.state.held }
+        requires counters { first.counter + count ≤ 2 ^ 32 }
+        requires counts_rise { total tally.old + length self.old.state.held.waiting + count ≤ 2 ^ 31 }
+        ensures ok { OnOk result (TakesInAll self.old.state self.new.state (deletes_up first count) tally.old tally.new) }
+        ensures kept { OnOk result (kept.new.items ≡ kept.old.items
+            ++ kept_from self.old.state.hold self.old.state.most self.old.state.held (deletes_up first count)) }
+        ensures err { IfErr result
+            (λ fault. StopsKeeping (deletes_up first count) self.old.state self.new.state tally.old tally.new
+            kept.old.items kept.new.items fault) }
+        ensures stands { IsSound self.new.state }
+    {
+        let _ = &self.alloc;
+        let mut done = 0;
+        'fronts: while done < count {
+            let next = first.behind(done);
+            let fed = self.feed_deletes_front_keeping(next, count - done, tally, kept)?;
+            done += fed;
+        }
+        Ok(())
+    }
+
+    /// Feeds the Deletes at the front of a row that go in at once, or else the first one alone. The answer is how many.
+    fn feed_deletes_front(
+        &mut self,
+        first: ElementId,
+        count: u32,
+        tally: &mut Tally,
+    ) -> Result<u32, FeedFault>
+        requires settled { IsSettled self.old.state.held }
+        requires some { 0 < count }
+        requires counters { first.counter + count ≤ 2 ^ 32 }
+        requires counts_rise { total tally.old + length self.old.state.held.waiting + count ≤ 2 ^ 31 }
+        ensures some { IfOk result (λ n. 0 < n) }
+        ensures within { IfOk result (λ n. n ≤ count) }
+        ensures ok { IfOk result (λ n. TakesInAll self.old.state self.new.state (deletes_up first n) tally.old tally.new) }
+        ensures err { IfErr result
+            (λ fault. StopsFeeding (deletes_up first count) self.old.state self.new.state tally.old tally.new fault) }
+        ensures stands { IsSound self.new.state }
+    {
+        let repeated = self.deleted(first, count);
+        if repeated > 0 {
+            tally.repeated += repeated;
+            return Ok(repeated);
+        }
+        let Some((section, row)) = self.deletable(first, count) else {
+            self.feed(Op::Delete { target: first }, tally)?;
+            return Ok(1);
+        };
+        match self.join_deletes(&section, first, row) {
+            Ok(()) => {
+                tally.accepted += row;
+                Ok(row)
+            }
+            Err(stopped) => {
+                tally.accepted += stopped.done;
+                Err(FeedFault::NoMemory)
+            }
+        }
+    }
+
+    /// The same, with copies of those that were accepted or wait. The memory for the copies is taken first.
+    fn feed_deletes_front_keeping(
+        &mut self,
+        first: ElementId,
+        count: u32,
+        tally: &mut Tally,
+        kept: &mut Vec<Op>,
+    ) -> Result<u32, FeedFault>
+        requires settled { IsSettled self.old.state.held }
+        requires some { 0 < count }
+        requires counters { first.counter + count ≤ 2 ^ 32 }
+        requires counts_rise { total tally.old + length self.old.state.held.waiting + count ≤ 2 ^ 31 }
+        ensures some { IfOk result (λ n. 0 < n) }
+        ensures within { IfOk result (λ n. n ≤ count) }
+        ensures ok { IfOk result (λ n. TakesInAll self.old.state self.new.state (deletes_up first n) tally.old tally.new) }
+        ensures kept { IfOk result (λ n. kept.new.items ≡ kept.old.items
+            ++ kept_from self.old.state.hold self.old.state.most self.old.state.held (deletes_up first n)) }
+        ensures err { IfErr result
+            (λ fault. StopsKeeping (deletes_up first count) self.old.state self.new.state tally.old tally.new
+            kept.old.items kept.new.items fault) }
+        ensures stands { IsSound self.new.state }
+    {
+        let repeated = self.deleted(first, count);
+        if repeated > 0 {
+            tally.repeated += repeated;
+            return Ok(repeated);
+        }
+        let Some((section, row)) = self.deletable(first, count) else {
+            self.feed_keeping(Op::Delete { target: first }, tally, kept)?;
+            return Ok(1);
+        };
+        let Ok(()) = kept.reserve(row as usize) else {
+            return Err(FeedFault::NoMemory);
+        };
+        match self.join_deletes(&section, first, row) {
+            Ok(()) => {
+                tally.accepted += row;
+                push_deletes(kept, first, row);
+                Ok(row)
+            }
+            Err(stopped) => {
+                tally.accepted += stopped.done;
+                push_deletes(kept, first, stopped.done);
+                Err(FeedFault::NoMemory)
+            }
+        }
+    }
+
+    /// How many Deletes at the front of a row are accepted already.
+    fn deleted(&self, first: ElementId, count: u32) -> u32
+        requires { first.counter + count ≤ 2 ^ 32 }
+        ensures within { result ≤ count }
+        ensures there { All (λ op. has_op self.now.state.held.history op ≡ true) (deletes_up first result) }
+        ensures stands { IsSound self.now.state }
+    {
+        let _ = &self.alloc;
+        // One Delete alone goes the way of all operations.
+        if count < 2 {
+            return 0;
+        }
+        let mut known = 0;
+        'known: while known < count && self.accepted.has_delete(first.behind(known)) {
+            known += 1;
+        }
+        known
+    }
+
+    /// How many Deletes at the front of a row go in at once, and the section of their targets: these are elements of it,
+    /// none is deleted, and there is room. A Delete decides nothing that waits.
+    fn deletable(&self, first: ElementId, count: u32) -> Option<(ElementId, u32)>
+        requires settled { IsSettled self.now.state.held }
+        requires counters { first.counter + count ≤ 2 ^ 32 }
+        ensures some { IfSome result (λ found. 0 < found.1) }
+        ensures within { IfSome result (λ found. found.1 ≤ count) }
+        ensures can { IfSome result (λ found. CanJoin self.now.state (deletes_from first found.1)) }
+        ensures placed { IfSome result
+            (λ found. AreWithin found.0 self.now.state.held.history (ids_from first found.1)) }
+        ensures stands { IsSound self.now.state }
+    {
+        // One Delete alone goes the way of all operations.
+        let most = (count as usize).min(self.room()) as u32;
+        if most < 2 {
+            return None;
+        }
+        let Some(place) = self.accepted.places().place_of(first) else {
+            return None;
+        };
+        let Some(section) = section_of(&place) else {
+            return None;
+        };
+        let row = self.undeleted(&section, first, most);
+        if row == 0 {
+            return None;
+        }
+        Some((section, row))
+    }
+
+    /// How many identifiers at the front of a row are of elements of the section that are not deleted.
+    fn undeleted(&self, section: &ElementId, first: ElementId, most: u32) -> u32
+        requires { first.counter + most ≤ 2 ^ 32 }
+        ensures within { result ≤ most }
+        ensures undeleted { AreUndeleted section.now self.now.state.held.history first result }
+        ensures stands { IsSound self.now.state }
+    {
+        let _ = &self.alloc;
+        let mut row = 0;
+        'row: while row < most && self.is_undeleted(section, first.behind(row)) {
+            row += 1;
+        }
+        row
+    }
+
+    /// Whether the identifier is that of an element of the section that is not deleted.
+    fn is_undeleted(&self, section: &ElementId, id: ElementId) -> bool
+        ensures undeleted { IsTrue result → IsUndeleted section.now self.now.state.held.history id }
+        ensures stands { IsSound self.now.state }
+    {
+        match self.accepted.fits(id, Role::TextOf(*section)) {
+            Some(fits) => fits && !self.accepted.has_delete(id),
+            None => false,
+        }
+    }
+}
+
+/// The section whose elements stand in the place, if it is one.
+fn section_of(place: &Place) -> Option<ElementId> {
+    match place {
+        Place::Catalogue => None,
+        Place::Section(section) => Some(*section),
+    }
+}
+
+/// Appends the Deletes of so many identifiers, from this one on. It takes no memory.
+fn push_deletes(ops: &mut Vec<Op>, first: ElementId, count: u32)
+    requires counters { first.counter + count ≤ 2 ^ 32 }
+    requires room { vec_len ops.old + count ≤ vec_capacity ops.old }
+    ensures { ops.new.items ≡ ops.old.items ++ deletes_up first count }
+{
+    'deletes: for done in 0..count {
+        ops.push_reserved(Op::Delete {
+            target: first.behind(done),
+        });
+    }
+}

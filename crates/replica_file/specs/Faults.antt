@@ -1,0 +1,17 @@
+-- What a disk's count of faults says of the calls on it.
+use Rattle.std.specs.Prelude.{◌≡◌, ◌≤◌, IfSome}
+use Rattle.fugue_ids.specs.Causes.{Faulted}
+use Rattle.outer_ports.specs.disk.Disks.{DiskTells, DiskView, RoomView}
+
+-- some calls, of which one failed or none, and the room that lasts for all of them
+pub record AccountsForFaults (old new : DiskView) (Lasts : RoomView → Type 0) (failed : Type 0) : Type 0 where
+  -- the count never falls
+  pub later : old.faults ≤ new.faults
+  -- it rose where a call failed
+  pub rose : failed → Faulted old.faults new.faults
+  -- where calls are sure and the room lasts, none fails
+  pub sure : IfSome old.room (λ room. Lasts room → failed → ⊥)
+  -- and no fault is counted
+  pub calm : IfSome old.room (λ room. Lasts room → new.faults ≡ old.faults)
+  -- nor by a disk that tells, where none failed
+  pub calm_told : DiskTells old → (failed → ⊥) → new.faults ≡ old.faults
