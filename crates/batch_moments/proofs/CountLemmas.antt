@@ -12,7 +12,7 @@ use Rattle.std.proofs.lemmas.Bool.{cases_eq, ne_eqb}
 use Rattle.std.proofs.lemmas.List.Elements.{filter-append}
 use Rattle.fugue_ids.specs.declared.op.Op.{Op}
 use Rattle.fugue_ids.proofs.IdentifierLemmas.{nat_at-other, nat_at-same}
-use Rattle.batch_moments.specs.Counts.{count, is_delete, is_note, counts_section, counts_letter, replicas, text_parts, told_of_count}
+use Rattle.batch_moments.specs.Counts.{count, is_delete, is_note, is_section_operation, is_letter_by, replicas, text_parts, told_of_count}
 use Rattle.batch_moments.specs.Steps.{AreOf, HaveRoom, some_of}
 use Rattle.batch_moments.specs.declared.counting.Counts.{Counts}
 use Rattle.batch_moments.specs.declared.part.Part.{Part}
@@ -71,7 +71,8 @@ module _ (f : ℕ → ℕ) where
   told_of r = told_of_count (Texts r) (f r)
 
   -- what is kept at ascending numbers, of which each is one of k from a on, is what is told of those
-  told_each : (a k : ℕ) (es : List (ℕ × ℕ)) → IsStrictlySortedBy nat_cmp (keys_of es) → AllByRecursion (λ y. a ≤ y) (keys_of es) → ((r : ℕ) → a ≤ r → r < a + k → at r es ≡ some_of (f r))
+  told_each : (a k : ℕ) (es : List (ℕ × ℕ)) → IsStrictlySortedBy nat_cmp (keys_of es) → AllByRecursion (λ y. a ≤ y) (keys_of es)
+      → ((r : ℕ) → a ≤ r → r < a + k → at r es ≡ some_of (f r))
       → ((r : ℕ) → a + k ≤ r → at r es ≡ None) → map as_part es ≡ flat_map told_of (range_with_len a k)
   unfolding IsStrictlySortedBy
   told_each a zero [] sorted from within beyond = refl
@@ -83,8 +84,11 @@ module _ (f : ℕ → ℕ) where
       let above = all_above x (keys_of es) sorted.0 in
       elim (cases_eq a x) [
         | inl e ↦
-            let one : told_of a ≡ Texts x v ∷ [] = told_some (Texts a) (f a) v (sym (within a (omega arith) (omega arith)) ∙ ap (λ (y : ℕ). at y ((x, v) ∷ es)) e ∙ at_here x v es) ∙ ap (λ (y : ℕ). Texts y v ∷ []) e in
-            let rest : map as_part es ≡ flat_map told_of (range_with_len (a + 1) k) = told_each (a + 1) k es sorted.1 (all_from (λ y. x < y) (λ y. a + 1 ≤ y) (keys_of es) (λ y l. omega (arith, l, e)) above)
+            let one : told_of a ≡ Texts x v ∷ [] =
+            told_some (Texts a) (f a) v (sym (within a (omega arith) (omega arith)) ∙ ap (λ (y : ℕ). at y ((x, v) ∷ es)) e ∙ at_here x v es)
+            ∙ ap (λ (y : ℕ). Texts y v ∷ []) e in
+            let rest : map as_part es ≡ flat_map told_of (range_with_len (a + 1) k) =
+            told_each (a + 1) k es sorted.1 (all_from (λ y. x < y) (λ y. a + 1 ≤ y) (keys_of es) (λ y l. omega (arith, l, e)) above)
             (λ r l u. sym (at_there r x v es (λ same. omega (arith, l, e, same))) ∙ within r (omega (arith, l)) (omega (arith, u)))
             (λ r l. sym (at_there r x v es (λ same. omega (arith, l, e, same))) ∙ beyond r (omega (arith, l))) in
             ap (λ (l : List Part). Texts x v ∷ l) rest ∙ ap (λ (l : List Part). l ++ flat_map told_of (range_with_len (a + 1) k)) (sym one)
@@ -104,7 +108,8 @@ all_from_zero (y ∷ ys) = (omega arith, all_from_zero ys)
 pub entries_told : (counts : Counts) (ops : List Op) → IsOrdered nat_cmp counts.texts → AreOf ops counts → map as_part counts.texts.entries ≡ text_parts ops
 unfolding replicas
 entries_told counts ops ordered are =
-    told_each (λ r. count (counts_letter r) ops) 0 (2 ^ 32) counts.texts.entries ordered (all_from_zero (keys_of counts.texts.entries)) (λ r l u. are.texts r) (λ r l. are.beyond r l)
+    told_each (λ r. count (is_letter_by r) ops) 0 (2 ^ 32) counts.texts.entries ordered (all_from_zero (keys_of counts.texts.entries)) (λ r l u. are.texts r)
+    (λ r l. are.beyond r l)
 
 filter_short : (is : Op → Bool) (ops : List Op) → count is ops ≤ length ops
 filter_short is [] = omega arith
@@ -122,8 +127,9 @@ read_back n = elim (cases_eq n 0) [
 -- counts of so many operations can be one more
 pub have_room : (counts : Counts) (ops : List Op) → AreOf ops counts → length ops + 1 < 2 ^ 64 → HaveRoom counts
 have_room counts ops are short = record {
-  texts = λ r. let n : count_at (get nat_cmp counts.texts) r ≡ count (counts_letter r) ops = ap (λ o. unwrap_or o 0) (are.texts r) ∙ read_back (count (counts_letter r) ops) in omega (arith, n, filter_short (counts_letter r) ops, short);
+  texts = λ r. let n : count_at (get nat_cmp counts.texts) r ≡ count (is_letter_by r) ops =
+      ap (λ o. unwrap_or o 0) (are.texts r) ∙ read_back (count (is_letter_by r) ops) in omega (arith, n, filter_short (is_letter_by r) ops, short);
   deletes = omega (arith, are.deletes, filter_short is_delete ops, short);
-  sections = omega (arith, are.sections, filter_short counts_section ops, short);
+  sections = omega (arith, are.sections, filter_short is_section_operation ops, short);
   notes = omega (arith, are.notes, filter_short is_note ops, short);
 }

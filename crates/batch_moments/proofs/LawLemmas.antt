@@ -8,7 +8,7 @@ use Rattle.std.proofs.lemmas.List.Elements.{filter-append}
 use Rattle.std.proofs.lemmas.List.Sums.{sum_by-append, sum_by-cons}
 use Rattle.std.proofs.Math.Seq.{drop-nil}
 use Rattle.fugue_ids.specs.declared.op.Op.{Op}
-use Rattle.batch_moments.specs.Counts.{count, is_delete, is_note, counts_section, counts_letter, told_parts, replicas, text_parts, told_of_count}
+use Rattle.batch_moments.specs.Counts.{count, is_delete, is_note, is_section_operation, is_letter_by, told_parts, replicas, text_parts, told_of_count}
 use Rattle.batch_moments.specs.Laws.{MomentsTellAll, deletes_told, notes_told, sections_told, sum_told, texts_told}
 use Rattle.batch_moments.specs.Lines.{Line, RiseTo, ops_between, lines_of_moments}
 use Rattle.batch_moments.specs.declared.part.Part.{Part}
@@ -41,7 +41,8 @@ module _ (r : ℕ) (f : ℕ → ℕ) where
   range_beyond : (a k : ℕ) → r < a → sum_by (texts_told r) (parts_of_range (texts_told r) f a k) ≡ 0
   range_beyond a zero l = refl
   range_beyond a (suc k) l =
-      range_next (texts_told r) f a k ∙ (λ i. (here a ∙ ap (λ (b : Bool). if b then f a else 0) (ne_eqb a r (λ e. omega (arith, l, e)))) i + range_beyond (a + 1) k (omega (arith, l)) i)
+      range_next (texts_told r) f a k
+      ∙ (λ i. (here a ∙ ap (λ (b : Bool). if b then f a else 0) (ne_eqb a r (λ e. omega (arith, l, e)))) i + range_beyond (a + 1) k (omega (arith, l)) i)
 
   range_within : (a k : ℕ) → a ≤ r → r < a + k → sum_by (texts_told r) (parts_of_range (texts_told r) f a k) ≡ f r
   range_within a zero l u = absurd (omega (arith, l, u))
@@ -54,30 +55,32 @@ module _ (r : ℕ) (f : ℕ → ℕ) where
 
 -- the parts of some operations, whatever is measured
 sum_of_parts : (m : Part → ℕ) (ops : List Op) → sum_by m (told_parts ops)
-    ≡ ((sum_by m (text_parts ops) + sum_by m (told_of_count Deletes (count is_delete ops))) + sum_by m (told_of_count Sections (count counts_section ops))) + sum_by m (told_of_count Notes (count is_note ops))
+    ≡ ((sum_by m (text_parts ops) + sum_by m (told_of_count Deletes (count is_delete ops))) + sum_by m (told_of_count Sections (count is_section_operation ops))) + sum_by m
+    (told_of_count Notes (count is_note ops))
 sum_of_parts m ops =
-    sum_by-append m ((text_parts ops ++ told_of_count Deletes (count is_delete ops)) ++ told_of_count Sections (count counts_section ops)) (told_of_count Notes (count is_note ops))
+    sum_by-append m ((text_parts ops ++ told_of_count Deletes (count is_delete ops)) ++ told_of_count Sections (count is_section_operation ops))
+    (told_of_count Notes (count is_note ops))
     ∙ ap (λ n. n + sum_by m (told_of_count Notes (count is_note ops)))
-    (sum_by-append m (text_parts ops ++ told_of_count Deletes (count is_delete ops)) (told_of_count Sections (count counts_section ops))
-    ∙ ap (λ n. n + sum_by m (told_of_count Sections (count counts_section ops))) (sum_by-append m (text_parts ops) (told_of_count Deletes (count is_delete ops))))
+    (sum_by-append m (text_parts ops ++ told_of_count Deletes (count is_delete ops)) (told_of_count Sections (count is_section_operation ops))
+    ∙ ap (λ n. n + sum_by m (told_of_count Sections (count is_section_operation ops))) (sum_by-append m (text_parts ops) (told_of_count Deletes (count is_delete ops))))
 
-in_text_parts : (r : ℕ) → 0 ≤ r → r < 0 + 2 ^ 32 → (ops : List Op) → sum_by (texts_told r) (text_parts ops) ≡ count (counts_letter r) ops
+in_text_parts : (r : ℕ) → 0 ≤ r → r < 0 + 2 ^ 32 → (ops : List Op) → sum_by (texts_told r) (text_parts ops) ≡ count (is_letter_by r) ops
 unfolding replicas
-in_text_parts r l u ops = range_within r (λ q. count (counts_letter q) ops) 0 (2 ^ 32) l u
+in_text_parts r l u ops = range_within r (λ q. count (is_letter_by q) ops) 0 (2 ^ 32) l u
 
-texts_in_parts : (r : ℕ) → r < 2 ^ 32 → (ops : List Op) → sum_by (texts_told r) (told_parts ops) ≡ count (counts_letter r) ops
+texts_in_parts : (r : ℕ) → r < 2 ^ 32 → (ops : List Op) → sum_by (texts_told r) (told_parts ops) ≡ count (is_letter_by r) ops
 texts_in_parts r small ops = omega (
   arith,
   sum_of_parts (texts_told r) ops,
   in_text_parts r (omega arith) (omega (arith, small)) ops,
   sum_of_told (texts_told r) Deletes (count is_delete ops) (λ e. refl),
-  sum_of_told (texts_told r) Sections (count counts_section ops) (λ e. refl),
+  sum_of_told (texts_told r) Sections (count is_section_operation ops) (λ e. refl),
   sum_of_told (texts_told r) Notes (count is_note ops) (λ e. refl),
 )
 
 no_texts : (m : Part → ℕ) (ops : List Op) → ((r n : ℕ) → m (Texts r n) ≡ 0) → sum_by m (text_parts ops) ≡ 0
 unfolding replicas
-no_texts m ops none = range_none m (λ q. count (counts_letter q) ops) none 0 (2 ^ 32)
+no_texts m ops none = range_none m (λ q. count (is_letter_by q) ops) none 0 (2 ^ 32)
 
 deletes_in_parts : (ops : List Op) → sum_by deletes_told (told_parts ops) ≡ count is_delete ops
 deletes_in_parts ops = omega (
@@ -85,17 +88,17 @@ deletes_in_parts ops = omega (
   sum_of_parts deletes_told ops,
   no_texts deletes_told ops (λ r n. refl),
   sum_of_told deletes_told Deletes (count is_delete ops) (λ e. e),
-  sum_of_told deletes_told Sections (count counts_section ops) (λ e. refl),
+  sum_of_told deletes_told Sections (count is_section_operation ops) (λ e. refl),
   sum_of_told deletes_told Notes (count is_note ops) (λ e. refl),
 )
 
-sections_in_parts : (ops : List Op) → sum_by sections_told (told_parts ops) ≡ count counts_section ops
+sections_in_parts : (ops : List Op) → sum_by sections_told (told_parts ops) ≡ count is_section_operation ops
 sections_in_parts ops = omega (
   arith,
   sum_of_parts sections_told ops,
   no_texts sections_told ops (λ r n. refl),
   sum_of_told sections_told Deletes (count is_delete ops) (λ e. refl),
-  sum_of_told sections_told Sections (count counts_section ops) (λ e. e),
+  sum_of_told sections_told Sections (count is_section_operation ops) (λ e. e),
   sum_of_told sections_told Notes (count is_note ops) (λ e. refl),
 )
 
@@ -105,13 +108,14 @@ notes_in_parts ops = omega (
   sum_of_parts notes_told ops,
   no_texts notes_told ops (λ r n. refl),
   sum_of_told notes_told Deletes (count is_delete ops) (λ e. refl),
-  sum_of_told notes_told Sections (count counts_section ops) (λ e. refl),
+  sum_of_told notes_told Sections (count is_section_operation ops) (λ e. refl),
   sum_of_told notes_told Notes (count is_note ops) (λ e. e),
 )
 
 -- operations in two parts, and the part behind another one
 count_parts : (is : Op → Bool) (n : ℕ) (ops : List Op) → count is ops ≡ count is (take n ops) + count is (drop n ops)
-count_parts is n ops = ap (count is) (sym (take-append-drop n ops)) ∙ ap length (filter-append is (take n ops) (drop n ops)) ∙ length-append (filter is (take n ops)) (filter is (drop n ops))
+count_parts is n ops = ap (count is) (sym (take-append-drop n ops)) ∙ ap length (filter-append is (take n ops) (drop n ops))
+    ∙ length-append (filter is (take n ops)) (filter is (drop n ops))
 
 drop_both : (n m : ℕ) (ops : List Op) → drop n (drop m ops) ≡ drop (m + n) ops
 drop_both n zero ops = ap (λ (k : ℕ). drop k ops) {x = n} {y = 0 + n} (omega arith)
@@ -119,12 +123,14 @@ drop_both n (suc m) [] = drop-nil n ∙ sym (drop-nil (suc m + n))
 drop_both n (suc m) (op ∷ ops) = drop_both n m ops ∙ ap (λ (k : ℕ). drop k (op ∷ ops)) {x = suc (m + n)} {y = suc m + n} (omega arith)
 
 -- where a measure tells of the operations of each line, the lines tell of all
-all_told : (m : Part → ℕ) (is : Op → Bool) → ((ops : List Op) → sum_by m (told_parts ops) ≡ count is ops) → (from : ℕ) (moments : List ℕ) (ops : List Op) → RiseTo from moments (length ops)
+all_told : (m : Part → ℕ) (is : Op → Bool) → ((ops : List Op) → sum_by m (told_parts ops) ≡ count is ops) → (from : ℕ) (moments : List ℕ) (ops : List Op)
+    → RiseTo from moments (length ops)
     → sum_told m (lines_of_moments from moments ops) ≡ count is (drop from ops)
 all_told m is each from [] ops rise = ap (count is) (sym (drop_all from ops (omega (arith, rise))))
 all_told m is each from (moment ∷ moments) ops rise =
     let come : List Op = drop from ops in
-    let later : drop (moment - from) come ≡ drop moment ops = drop_both (moment - from) from ops ∙ ap (λ (k : ℕ). drop k ops) {x = from + (moment - from)} {y = moment} (omega (arith, rise.0)) in
+    let later : drop (moment - from) come ≡ drop moment ops =
+    drop_both (moment - from) from ops ∙ ap (λ (k : ℕ). drop k ops) {x = from + (moment - from)} {y = moment} (omega (arith, rise.0)) in
     sum_by-append m (told_parts (ops_between from moment ops)) (flat_map (λ (line : Line). line.parts) (lines_of_moments moment moments ops))
     ∙ (λ i. each (ops_between from moment ops) i + (all_told m is each moment moments ops rise.1 ∙ ap (count is) (sym later)) i) ∙ sym (count_parts is (moment - from) come)
 
@@ -135,8 +141,8 @@ each_line from (moment ∷ moments) ops = ap (λ (l : List ℕ). moment ∷ l) (
 pub tell_all : MomentsTellAll
 tell_all moments ops rise = record {
   each = each_line 0 moments ops;
-  texts = λ r small. all_told (texts_told r) (counts_letter r) (texts_in_parts r small) 0 moments ops rise;
+  texts = λ r small. all_told (texts_told r) (is_letter_by r) (texts_in_parts r small) 0 moments ops rise;
   deletes = all_told deletes_told is_delete deletes_in_parts 0 moments ops rise;
-  sections = all_told sections_told counts_section sections_in_parts 0 moments ops rise;
+  sections = all_told sections_told is_section_operation sections_in_parts 0 moments ops rise;
   notes = all_told notes_told is_note notes_in_parts 0 moments ops rise;
 }

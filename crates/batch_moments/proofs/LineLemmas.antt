@@ -9,7 +9,8 @@ module _ (moments : List ℕ) (i next : ℕ) (below : i < length moments) (is : 
   left : drop i moments ≡ next ∷ drop (i + 1) moments
   left = drop-cons moments i 0 below ∙ (λ k. sym is k ∷ drop (sym (add-one i) k) moments)
 
-  pub lines_next : (from : ℕ) (ops : List Op) → lines_of_moments from (drop i moments) ops ≡ record { moment = next; parts = told_parts (ops_between from next ops) } ∷ lines_of_moments next (drop (i + 1) moments) ops
+  pub lines_next : (from : ℕ) (ops : List Op)
+      → lines_of_moments from (drop i moments) ops ≡ record { moment = next; parts = told_parts (ops_between from next ops) } ∷ lines_of_moments next (drop (i + 1) moments) ops
   lines_next from ops = ap (λ (l : List ℕ). lines_of_moments from l ops) left
 
 -- without the first of them

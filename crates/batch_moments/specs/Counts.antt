@@ -7,9 +7,9 @@ use Rattle.batch_moments.specs.declared.part.Part.{Part}
 use Rattle.batch_moments.specs.declared.part.Part.TheVariants.{Texts, Deletes, Sections, Notes}
 
 -- the operation is a Text that the replica made
-abbrev pub counts_letter : ℕ → Op → Bool
-counts_letter replica (Text id section left right ch) = nat_eq id.replica replica
-counts_letter replica _ = false
+abbrev pub is_letter_by : ℕ → Op → Bool
+is_letter_by replica (Text id section left right ch) = nat_eq id.replica replica
+is_letter_by replica _ = false
 
 -- the operation is a Delete
 abbrev pub is_delete : Op → Bool
@@ -17,9 +17,9 @@ is_delete (Delete target) = true
 is_delete _ = false
 
 -- the operation is a Section
-abbrev pub counts_section : Op → Bool
-counts_section (Section id left right title) = true
-counts_section _ = false
+abbrev pub is_section_operation : Op → Bool
+is_section_operation (Section id left right title) = true
+is_section_operation _ = false
 
 -- the operation is a Note
 abbrev pub is_note : Op → Bool
@@ -40,8 +40,9 @@ replicas = range_with_len 0 (2 ^ 32)
 
 -- how many Texts each replica made that made some, in ascending order of the replicas
 abbrev pub text_parts : List Op → List Part
-text_parts ops = flat_map (λ replica. told_of_count (Texts replica) (count (counts_letter replica) ops)) replicas
+text_parts ops = flat_map (λ replica. told_of_count (Texts replica) (count (is_letter_by replica) ops)) replicas
 
 -- what is told of the operations
 abbrev pub told_parts : List Op → List Part
-told_parts ops = text_parts ops ++ told_of_count Deletes (count is_delete ops) ++ told_of_count Sections (count counts_section ops) ++ told_of_count Notes (count is_note ops)
+told_parts ops = text_parts ops ++ told_of_count Deletes (count is_delete ops) ++ told_of_count Sections (count is_section_operation ops)
+    ++ told_of_count Notes (count is_note ops)

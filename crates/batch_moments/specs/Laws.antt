@@ -1,7 +1,7 @@
 -- The law of what came when.
 use Rattle.std.specs.Prelude.{◌≡◌, ℕ, ◌<◌, ◌^◌, nat_eq, if◌then◌else◌, List, flat_map, length, map, sum_by}
 use Rattle.fugue_ids.specs.declared.op.Op.{Op}
-use Rattle.batch_moments.specs.Counts.{count, is_delete, is_note, counts_section, counts_letter}
+use Rattle.batch_moments.specs.Counts.{count, is_delete, is_note, is_section_operation, is_letter_by}
 use Rattle.batch_moments.specs.Lines.{Line, RiseTo, moment_lines}
 use Rattle.batch_moments.specs.declared.part.Part.{Part}
 use Rattle.batch_moments.specs.declared.part.Part.TheVariants.{Texts, Deletes, Sections, Notes}
@@ -33,9 +33,9 @@ sum_told told ls = sum_by told (flat_map (λ (line : Line). line.parts) ls)
 -- each moment has its line, and the lines tell of all operations, each once
 pub record TellAll (moments : List ℕ) (ops : List Op) : Type 0 where
   pub each : map (λ (line : Line). line.moment) (moment_lines moments ops) ≡ moments
-  pub texts : (replica : ℕ) → replica < 2 ^ 32 → sum_told (texts_told replica) (moment_lines moments ops) ≡ count (counts_letter replica) ops
+  pub texts : (replica : ℕ) → replica < 2 ^ 32 → sum_told (texts_told replica) (moment_lines moments ops) ≡ count (is_letter_by replica) ops
   pub deletes : sum_told deletes_told (moment_lines moments ops) ≡ count is_delete ops
-  pub sections : sum_told sections_told (moment_lines moments ops) ≡ count counts_section ops
+  pub sections : sum_told sections_told (moment_lines moments ops) ≡ count is_section_operation ops
   pub notes : sum_told notes_told (moment_lines moments ops) ≡ count is_note ops
 
 -- where moments rise to the number of the operations, their lines tell of all of them

@@ -23,9 +23,10 @@ ops_between from to ops = slice_range ops from to
 -- a line for each moment
 abbrev pub lines_of_moments : (from : ℕ) → List ℕ → List Op → List Line
 lines_of_moments from [] ops = []
-lines_of_moments from (moment ∷ moments) ops = record { moment = moment; parts = told_parts (ops_between from moment ops) } ∷ lines_of_moments moment moments ops
+lines_of_moments from (moment ∷ moments) ops =
+    record { moment = moment; parts = told_parts (ops_between from moment ops) } ∷ lines_of_moments moment moments ops
 
--- a line for each moment, and what came until then
+-- a line for each moment: what came between the moment before it and this one
 abbrev pub moment_lines : List ℕ → List Op → List Line
 moment_lines moments ops = lines_of_moments 0 moments ops
 

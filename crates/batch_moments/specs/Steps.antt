@@ -5,7 +5,7 @@ use Rattle.std.specs.BTreeMap.{get}
 use Rattle.std.specs.Map.{count_at}
 use Rattle.fugue_ids.specs.Keyed.{IsReplaced}
 use Rattle.fugue_ids.specs.declared.op.Op.{Op}
-use Rattle.batch_moments.specs.Counts.{count, is_delete, is_note, counts_section, counts_letter}
+use Rattle.batch_moments.specs.Counts.{count, is_delete, is_note, is_section_operation, is_letter_by}
 use Rattle.batch_moments.specs.declared.counting.Counts.{Counts}
 
 -- a count that is kept only where there are some
@@ -14,10 +14,10 @@ some_of n = if nat_eq n 0 then None else Some n
 
 -- the counts are those of the operations
 pub record AreOf (ops : List Op) (counts : Counts) : Type 0 where
-  pub texts : (replica : ℕ) → get nat_cmp counts.texts replica ≡ some_of (count (counts_letter replica) ops)
+  pub texts : (replica : ℕ) → get nat_cmp counts.texts replica ≡ some_of (count (is_letter_by replica) ops)
   pub beyond : (replica : ℕ) → 2 ^ 32 ≤ replica → get nat_cmp counts.texts replica ≡ None
   pub deletes : counts.deletes ≡ count is_delete ops
-  pub sections : counts.sections ≡ count counts_section ops
+  pub sections : counts.sections ≡ count is_section_operation ops
   pub notes : counts.notes ≡ count is_note ops
 
 -- each can be one more

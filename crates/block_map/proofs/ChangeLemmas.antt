@@ -1,5 +1,6 @@
 -- What a change of one block makes of the values.
-use Rattle.std.proofs.Common.{◌≡◌, ◌≢◌, ◌<◌, ◌/◌, ℕ, zero, suc, true, false, List, [], ◌∷◌, length, Option, Some, None, Result, Ok, Err, OnOk, OnErr, IsSome, refl, inl, inr, sym, ap, subst, arith, ◌∙◌}
+use Rattle.std.proofs.Common.{◌≡◌, ◌≢◌, ◌<◌, ◌/◌, ℕ, zero, suc, true, false, List, [], ◌∷◌, length, Option, Some, None, Result, Ok, Err, OnOk, OnErr, IsSome, refl, inl, inr, sym}
+use Rattle.std.proofs.Common.{ap, subst, arith, ◌∙◌}
 use Rattle.std.specs.BTreeMap.{BTreeMap, UpdatesBy, get}
 use Rattle.std.proofs.lemmas.Bool.{cases_eq, false≢true}
 use Rattle.std.proofs.lemmas.Option.{same_Some}
@@ -11,11 +12,13 @@ use Rattle.block_map.specs.Columns.{value_beside}
 use Rattle.block_map.specs.declared.block.Block.{Block}
 
 -- one block is another then, or goes
-pub block_replaced : {V : Type 0} (m n : BTreeMap Identifier (Block V)) (key : Identifier) (o : Option (Block V)) → UpdatesBy id_cmp (id_cmp key) m n o → IsReplaced (get id_cmp m) (get id_cmp n) key o
+pub block_replaced : {V : Type 0} (m n : BTreeMap Identifier (Block V)) (key : Identifier) (o : Option (Block V)) → UpdatesBy id_cmp (id_cmp key) m n o
+    → IsReplaced (get id_cmp m) (get id_cmp n) key o
 block_replaced m n key o u = record { here = u.1; others = λ k apart. u.2 k (id_at-other key k apart) }
 
 -- a block that changed, and was taken out then
-pub block_gone : {V : Type 0} (m mid n : BTreeMap Identifier (Block V)) (key : Identifier) (d : Block V) → UpdatesBy id_cmp (id_cmp key) m mid (Some d) → UpdatesBy id_cmp (id_cmp key) mid n None
+pub block_gone : {V : Type 0} (m mid n : BTreeMap Identifier (Block V)) (key : Identifier) (d : Block V) → UpdatesBy id_cmp (id_cmp key) m mid (Some d)
+    → UpdatesBy id_cmp (id_cmp key) mid n None
     → IsReplaced (get id_cmp m) (get id_cmp n) key None
 block_gone m mid n key d changed gone =
     let first = block_replaced m mid key (Some d) changed in
@@ -38,9 +41,11 @@ module _ {V : Type 0} (m n : BTreeMap Identifier (Block V)) (key : Identifier) (
       ∙ ap (λ (k : Identifier). value_within (get id_cmp m k) q.counter) (sym at)
 
   -- a change of a block's values is one of the map's
-  pub value_replaced : (id : Identifier) (c : ℕ) → key ≡ block_of id → c ≡ id.counter → (w : Option V) → IsReplaced (value_within (get id_cmp m key)) (value_within o) c w → IsReplaced (block_value m) (block_value n) id w
+  pub value_replaced : (id : Identifier) (c : ℕ) → key ≡ block_of id → c ≡ id.counter → (w : Option V) → IsReplaced (value_within (get id_cmp m key)) (value_within o) c w
+      → IsReplaced (block_value m) (block_value n) id w
   value_replaced id c at is w r = record {
-    here = ap (λ (k : Identifier). value_within (get id_cmp n k) id.counter) (sym at) ∙ ap (λ (b : Option (Block V)). value_within b id.counter) change.here ∙ ap (value_within o) (sym is) ∙ r.here;
+    here = ap (λ (k : Identifier). value_within (get id_cmp n k) id.counter) (sym at) ∙ ap (λ (b : Option (Block V)). value_within b id.counter) change.here
+        ∙ ap (value_within o) (sym is) ∙ r.here;
     others = λ q apart. elim (cases_id (block_of q) key) as (λ _. block_value n q ≡ block_value m q) [
       | inl own ↦ (
           let replica : q.replica ≡ id.replica = ap (λ (x : Identifier). x.replica) (own ∙ at) in
@@ -66,7 +71,8 @@ that_block P d b p e = subst P (same_Some d b e) p
 
 module _ {V : Type 0} (key : Identifier) (d : Block V) where
   -- a block in which the values of one counter changed
-  pub block_after : (f : ℕ → Option V) (c : ℕ) (w : Option V) → IsReplaced f (value_at d) c w → 0 < length d.counters.items → c / 64 ≡ key.counter → ((e : ℕ) → IsSome (f e) → e / 64 ≡ key.counter) → IsBlockAt key d
+  pub block_after : (f : ℕ → Option V) (c : ℕ) (w : Option V) → IsReplaced f (value_at d) c w → 0 < length d.counters.items → c / 64 ≡ key.counter
+      → ((e : ℕ) → IsSome (f e) → e / 64 ≡ key.counter) → IsBlockAt key d
   block_after f c w r some belongs old = record {
     some = some;
     belongs = λ e h. elim (cases_eq e c) as (λ _. e / 64 ≡ key.counter) [

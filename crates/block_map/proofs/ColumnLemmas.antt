@@ -1,5 +1,6 @@
 -- What a search finds in the columns, and what an edit of both at one place does.
-use Rattle.std.proofs.Common.{◌≡◌, ◌≢◌, ℕ, zero, suc, ◌+◌, ◌<◌, ◌≤◌, List, [], ◌∷◌, length, get_or, set, if◌then◌else◌, Option, Some, None, Result, Ok, Err, IfOk, IfErr, IsSome, refl, inl, inr, ap, subst, arith}
+use Rattle.std.proofs.Common.{◌≡◌, ◌≢◌, ℕ, zero, suc, ◌+◌, ◌<◌, ◌≤◌, List, [], ◌∷◌, length, get_or, set, if◌then◌else◌, Option, Some, None, Result, Ok, Err, IfOk, IfErr, IsSome}
+use Rattle.std.proofs.Common.{refl, inl, inr, ap, subst, arith}
 use Rattle.std.specs.Prelude.{◌==◌}
 use Rattle.std.specs.List.{insert, remove}
 use Rattle.std.specs.List.Sorted.{IsBinarySearchResult}
@@ -16,7 +17,8 @@ pub rises : (cs : List ℕ) → IsAscending cs → (i j : ℕ) → i ≤ j → j
 rises cs up i j le within = grind (arith, up i j, λ (same : i ≡ j). ap (λ (k : ℕ). get_or cs k 0) same)
 
 -- a binary search ends at the counter, or at the gap for it
-pub found_place : (cs : List ℕ) → IsAscending cs → (c : ℕ) (r : Result ℕ ℕ) → IsBinarySearchResult (λ y. nat_cmp y c) cs r → record { found : IfOk r (IsPlaceOf cs c); absent : IfErr r (IsGapFor cs c) }
+pub found_place : (cs : List ℕ) → IsAscending cs → (c : ℕ) (r : Result ℕ ℕ) → IsBinarySearchResult (λ y. nat_cmp y c) cs r
+    → record { found : IfOk r (IsPlaceOf cs c); absent : IfErr r (IsGapFor cs c) }
 found_place cs up c (Ok i) h = let f = searched cs c (Ok i) h (rises cs up) in record { found = record { inside = f.0; here = f.1 }; absent = tt }
 found_place cs up c (Err i) h = let f = searched cs c (Err i) h (rises cs up) in record { found = tt; absent = record { inside = f.0; before = f.1; behind = f.2 } }
 
@@ -44,10 +46,12 @@ module _ {V : Type 0} where
 
   -- nor has one with a gap
   pub none_in_gap : (cs : List ℕ) (vs : List V) (c at : ℕ) → IsGapFor cs c at → value_beside cs vs c ≡ None
-  none_in_gap cs vs c at gap = none_beside cs vs c (λ i inside e. elim (cases_lt i at) as (λ _. ⊥) [ inl h ↦ omega (arith, gap.before i h, e) | inr h ↦ omega (arith, gap.behind i h inside, e) ])
+  none_in_gap cs vs c at gap =
+      none_beside cs vs c (λ i inside e. elim (cases_lt i at) as (λ _. ⊥) [ inl h ↦ omega (arith, gap.before i h, e) | inr h ↦ omega (arith, gap.behind i h inside, e) ])
 
   -- the counter at a place has the value there
-  pub value_there : (cs : List ℕ) (vs : List V) → IsAscending cs → length vs ≡ length cs → (c i : ℕ) → IsPlaceOf cs c i → (v : V) → v ≡ get_or vs i v → value_beside cs vs c ≡ Some v
+  pub value_there : (cs : List ℕ) (vs : List V) → IsAscending cs → length vs ≡ length cs → (c i : ℕ) → IsPlaceOf cs c i → (v : V) → v ≡ get_or vs i v
+      → value_beside cs vs c ≡ Some v
   value_there [] vs up same c i at v read = absurd (omega (arith, at.inside))
   value_there (d ∷ ds) [] up same c i at v read = absurd (omega (arith, same))
   value_there (d ∷ ds) (w ∷ ws) up same c zero at v read = grind (arith, nat_tests, at.here, read)
@@ -58,7 +62,8 @@ module _ {V : Type 0} where
       grind (arith, nat_tests, less, at.here, rest)
 
   -- another value at a place
-  pub value_set : (cs : List ℕ) (vs : List V) → IsAscending cs → length vs ≡ length cs → (c i : ℕ) → IsPlaceOf cs c i → (v : V) (q : ℕ) → value_beside cs (set vs i v) q ≡ (if c == q then Some v else value_beside cs vs q)
+  pub value_set : (cs : List ℕ) (vs : List V) → IsAscending cs → length vs ≡ length cs → (c i : ℕ) → IsPlaceOf cs c i → (v : V) (q : ℕ)
+      → value_beside cs (set vs i v) q ≡ (if c == q then Some v else value_beside cs vs q)
   value_set [] vs up same c i at v q = absurd (omega (arith, at.inside))
   value_set (d ∷ ds) [] up same c i at v q = absurd (omega (arith, same))
   value_set (d ∷ ds) (w ∷ ws) up same c zero at v q = grind (arith, nat_tests, at.here)
@@ -68,7 +73,8 @@ module _ {V : Type 0} where
       grind (arith, nat_tests, less, at.here, rest)
 
   -- one entry more, where none of those before has the counter
-  pub value_insert : (cs : List ℕ) (vs : List V) → length vs ≡ length cs → (c i : ℕ) → i ≤ length cs → ((j : ℕ) → j < i → get_or cs j 0 < c) → (v : V) (q : ℕ) → value_beside (insert cs i c) (insert vs i v) q ≡ (if c == q then Some v else value_beside cs vs q)
+  pub value_insert : (cs : List ℕ) (vs : List V) → length vs ≡ length cs → (c i : ℕ) → i ≤ length cs → ((j : ℕ) → j < i → get_or cs j 0 < c) → (v : V) (q : ℕ)
+      → value_beside (insert cs i c) (insert vs i v) q ≡ (if c == q then Some v else value_beside cs vs q)
   value_insert cs vs same c zero le before v q = refl
   value_insert [] vs same c (suc i) le before v q = absurd (omega (arith, le))
   value_insert (d ∷ ds) [] same c (suc i) le before v q = absurd (omega (arith, same))
@@ -77,11 +83,13 @@ module _ {V : Type 0} where
       grind (arith, nat_tests, before 0 (omega arith), rest)
 
   -- one entry less
-  pub value_remove : (cs : List ℕ) (vs : List V) → IsAscending cs → length vs ≡ length cs → (c i : ℕ) → IsPlaceOf cs c i → (q : ℕ) → value_beside (remove cs i) (remove vs i) q ≡ (if c == q then None else value_beside cs vs q)
+  pub value_remove : (cs : List ℕ) (vs : List V) → IsAscending cs → length vs ≡ length cs → (c i : ℕ) → IsPlaceOf cs c i → (q : ℕ)
+      → value_beside (remove cs i) (remove vs i) q ≡ (if c == q then None else value_beside cs vs q)
   value_remove [] vs up same c i at q = absurd (omega (arith, at.inside))
   value_remove (d ∷ ds) [] up same c i at q = absurd (omega (arith, same))
   value_remove (d ∷ ds) (w ∷ ws) up same c zero at q =
-      let none : value_beside ds ws d ≡ None = none_beside ds ws d (λ i within e. (let less : d < get_or ds i 0 = up 0 (suc i) (omega arith) (omega (arith, within)) in omega (arith, less, e))) in
+      let none : value_beside ds ws d ≡ None =
+      none_beside ds ws d (λ i within e. (let less : d < get_or ds i 0 = up 0 (suc i) (omega arith) (omega (arith, within)) in omega (arith, less, e))) in
       elim (cases_eq d q) as (λ _. value_beside ds ws q ≡ (if c == q then None else value_beside (d ∷ ds) (w ∷ ws) q)) [
         | inl e ↦ (let there : value_beside ds ws q ≡ None = subst (λ (k : ℕ). value_beside ds ws k ≡ None) e none in grind (arith, nat_tests, at.here, there, e))
         | inr n ↦ grind (arith, nat_tests, at.here, n)

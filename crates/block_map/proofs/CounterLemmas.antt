@@ -22,7 +22,8 @@ greatest_itself f c v held = record { among = omega arith; held = held; greatest
 
 module _ {V : Type 0} (cs : List ℕ) (vs : List V) (up : IsAscending cs) (P : ℕ → Type 0) (at : ℕ) (before : (i : ℕ) → i < length cs → P (get_or cs i 0) → i < at) where
   -- where those for which P holds stand before a place, the entry before it is the greatest
-  pub greatest_before : at ≤ length cs → (e : ℕ × V) → 0 < at → get_or cs (at - 1) 0 ≡ e.0 → value_beside cs vs e.0 ≡ Some e.1 → P e.0 → IsGreatestKey nat_cmp P (value_beside cs vs) e
+  pub greatest_before : at ≤ length cs → (e : ℕ × V) → 0 < at → get_or cs (at - 1) 0 ≡ e.0 → value_beside cs vs e.0 ≡ Some e.1 → P e.0
+      → IsGreatestKey nat_cmp P (value_beside cs vs) e
   greatest_before le e some here held among = record {
     among = among;
     held = held;

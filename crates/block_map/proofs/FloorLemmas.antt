@@ -62,7 +62,8 @@ module _ {V : Type 0} (m : BTreeMap Identifier (Block V)) (are : AreBlocks m) wh
           )
 
     -- the last entry of the last block before a key
-    entry_before : (bound : Identifier) → IsLtBy id_cmp key bound → ((q : Identifier) → IsLtBy id_cmp q bound → IsSome (get id_cmp m q) → is_lt (id_cmp key q) ≡ false) → (o : Option (ℕ × V))
+    entry_before : (bound : Identifier) → IsLtBy id_cmp key bound → ((q : Identifier) → IsLtBy id_cmp q bound → IsSome (get id_cmp m q) → is_lt (id_cmp key q) ≡ false)
+        → (o : Option (ℕ × V))
         → IfNone o (length b.counters.items ≡ 0) → IfSome o (IsGreatestKey nat_cmp (λ _. ⊤) (value_at b))
         → IfNone (entry_under key o) (HasNone (IsInBlockBefore bound) (block_value m)) × IfSome (entry_under key o) (IsGreatestKey id_cmp (IsInBlockBefore bound) (block_value m))
     entry_before bound lt last None n s = let some = (are key b there).some in absurd (omega (arith, some, n))
@@ -73,26 +74,31 @@ module _ {V : Type 0} (m : BTreeMap Identifier (Block V)) (are : AreBlocks m) wh
           record {
             among = subst (λ k. IsLtBy id_cmp k bound) (sym own) lt;
             held = found_in e own ∙ s.held;
-            greatest = λ q p h. not_lt_from_at_most e q (elim (at_most_cases (block_of q) key (at_most_from_not_lt key (block_of q) (last (block_of q) p (some_block (get id_cmp m (block_of q)) q.counter h)))) [
-              | inl k ↦ at_most_by_block q e (subst (λ z. IsBefore (block_of q) z) (sym own) k)
-              | inr same ↦ at_most_in_block q e (same ∙ sym own) (ge_from_not_lt x.0 q.counter (s.greatest q.counter tt (subst IsSome (found_in q same) h)))
-            ]);
+            greatest = λ q p h. not_lt_from_at_most e q
+                (elim (at_most_cases (block_of q) key (at_most_from_not_lt key (block_of q) (last (block_of q) p (some_block (get id_cmp m (block_of q)) q.counter h)))) [
+                  | inl k ↦ at_most_by_block q e (subst (λ z. IsBefore (block_of q) z) (sym own) k)
+                  | inr same ↦ at_most_in_block q e (same ∙ sym own) (ge_from_not_lt x.0 q.counter (s.greatest q.counter tt (subst IsSome (found_in q same) h)))
+                ]);
           },
         )
 
   -- what the two searches answer
-  pub within_some : (id key : Identifier) (c : ℕ) → key ≡ block_of id → c ≡ id.counter → (b : Block V) → get id_cmp m key ≡ Some b → (o : Option (ℕ × V)) → IfNone o (HasNone (λ d. d ≤ c) (value_at b))
+  pub within_some : (id key : Identifier) (c : ℕ) → key ≡ block_of id → c ≡ id.counter → (b : Block V) → get id_cmp m key ≡ Some b → (o : Option (ℕ × V))
+      → IfNone o (HasNone (λ d. d ≤ c) (value_at b))
       → IfSome o (IsGreatestKey nat_cmp (λ d. d ≤ c) (value_at b)) → (r : Option (Identifier × V)) → r ≡ option_map (λ e. (with_counter key e.0, e.1)) o
       → IfNone r (HasNone (IsUpToInBlock id) (block_value m)) × IfSome r (IsGreatestKey id_cmp (IsUpToInBlock id) (block_value m))
   within_some id key c at is b there o n s r e =
       subst (λ (z : Option (Identifier × V)). IfNone z (HasNone (IsUpToInBlock id) (block_value m)) × IfSome z (IsGreatestKey id_cmp (IsUpToInBlock id) (block_value m))) (sym e)
       (entry_within key b there id c at is o n s)
 
-  pub before_some : (bound key : Identifier) (b : Block V) → get id_cmp m key ≡ Some b → IsLtBy id_cmp key bound → ((q : Identifier) → IsLtBy id_cmp q bound → IsSome (get id_cmp m q) → is_lt (id_cmp key q) ≡ false)
+  pub before_some : (bound key : Identifier) (b : Block V) → get id_cmp m key ≡ Some b → IsLtBy id_cmp key bound
+      → ((q : Identifier) → IsLtBy id_cmp q bound → IsSome (get id_cmp m q) → is_lt (id_cmp key q) ≡ false)
       → (o : Option (ℕ × V)) → IfNone o (length b.counters.items ≡ 0) → IfSome o (IsGreatestKey nat_cmp (λ _. ⊤) (value_at b)) → (r : Option (Identifier × V))
-      → r ≡ option_map (λ e. (with_counter key e.0, e.1)) o → IfNone r (HasNone (IsInBlockBefore bound) (block_value m)) × IfSome r (IsGreatestKey id_cmp (IsInBlockBefore bound) (block_value m))
+      → r ≡ option_map (λ e. (with_counter key e.0, e.1)) o
+      → IfNone r (HasNone (IsInBlockBefore bound) (block_value m)) × IfSome r (IsGreatestKey id_cmp (IsInBlockBefore bound) (block_value m))
   before_some bound key b there lt last o n s r e =
-      subst (λ (z : Option (Identifier × V)). IfNone z (HasNone (IsInBlockBefore bound) (block_value m)) × IfSome z (IsGreatestKey id_cmp (IsInBlockBefore bound) (block_value m))) (sym e)
+      subst (λ (z : Option (Identifier × V)). IfNone z (HasNone (IsInBlockBefore bound) (block_value m)) × IfSome z (IsGreatestKey id_cmp (IsInBlockBefore bound) (block_value m)))
+      (sym e)
       (entry_before key b there bound lt last o n s)
 
   pub before_none : (bound : Identifier) → ((q : Identifier) → IsLtBy id_cmp q bound → get id_cmp m q ≡ None) → HasNone (IsInBlockBefore bound) (block_value m)
@@ -111,7 +117,8 @@ module _ {V : Type 0} (f : Identifier → Option V) (id : Identifier) where
   )
 
   -- and else what is found in the blocks before
-  pub floor_before : (key : Identifier) → key ≡ block_of id → HasNone (IsUpToInBlock id) f → (o : Option (Identifier × V)) → IfNone o (HasNone (IsInBlockBefore key) f) → IfSome o (IsGreatestKey id_cmp (IsInBlockBefore key) f)
+  pub floor_before : (key : Identifier) → key ≡ block_of id → HasNone (IsUpToInBlock id) f → (o : Option (Identifier × V)) → IfNone o (HasNone (IsInBlockBefore key) f)
+      → IfSome o (IsGreatestKey id_cmp (IsInBlockBefore key) f)
       → IsFloorKey f id (option_map (λ x. x.0) o)
   floor_before key at own None n s = λ q le. elim (block_cases q id (at_most_from_le q id le)) [
     | inl k ↦ n q (subst (λ z. IsLtBy id_cmp (block_of q) z) (sym at) (lt_from_before (block_of q) (block_of id) k))

@@ -13,7 +13,12 @@ steps_rise a b le = le-div (a / 64) b 64 (omega arith) (omega (arith, div-add-mo
 -- the order of blocks is that of their identifiers
 pub at_most_by_block : (a b : Identifier) → IsBefore (block_of a) (block_of b) → IsAtMost a b
 at_most_by_block a b (inl h) = inl h
-at_most_by_block a b (inr h) = inr (h.0, elim (cases_lt a.counter b.counter) as (λ _. a.counter ≤ b.counter) [ inl k ↦ omega (arith, k) | inr k ↦ absurd (omega (arith, h.1, steps_rise b.counter a.counter k)) ])
+at_most_by_block a b (inr h) =
+    inr (
+      h.0,
+      elim (cases_lt a.counter b.counter) as (λ _. a.counter ≤ b.counter)
+          [ inl k ↦ omega (arith, k) | inr k ↦ absurd (omega (arith, h.1, steps_rise b.counter a.counter k)) ],
+    )
 
 -- what does not stand behind an identifier is in a block before, or in the same one
 pub block_cases : (a b : Identifier) → IsAtMost a b → IsBefore (block_of a) (block_of b) ⊎ (block_of a ≡ block_of b)

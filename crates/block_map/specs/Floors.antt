@@ -18,4 +18,5 @@ pub record IsGreatestKey {K V : Type 0} (cmp : K → K → Ordering) (P : K → 
 -- the greatest identifier with a value that is not above this one
 abbrev pub IsFloorKey : {V : Type 0} → (Identifier → Option V) → Identifier → Option Identifier → Type 0
 IsFloorKey f key None = (q : Identifier) → IsLeBy id_cmp q key → f q ≡ None
-IsFloorKey f key (Some k) = IsSome (f k) × IsLeBy id_cmp k key × ((q : Identifier) → IsLeBy id_cmp q key → IsSome (f q) → is_lt (id_cmp k q) ≡ false)
+IsFloorKey f key (Some k) =
+    IsSome (f k) × IsLeBy id_cmp k key × ((q : Identifier) → IsLeBy id_cmp q key → IsSome (f q) → is_lt (id_cmp k q) ≡ false)

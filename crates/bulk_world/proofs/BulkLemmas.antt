@@ -43,7 +43,8 @@ bulk_is : (seed count : ℕ) → bulk_world seed count ≡ behind begun count se
 bulk_is seed count =
     let t = all_turns seed count in
     let h = hearing (world authors opening_turn) t in
-    ap (world authors) (events_are seed count) ∙ events_further (record { replicas = authors; pool = [] }) opening_turn (t ++ h) ∙ events_further (world authors opening_turn) t h ∙ ap (λ w. behind w count seed) opens
+    ap (world authors) (events_are seed count) ∙ events_further (record { replicas = authors; pool = [] }) opening_turn (t ++ h) ∙ events_further (world authors opening_turn) t h
+    ∙ ap (λ w. behind w count seed) opens
 
 -- what two authors come to in so many turns
 module _ (seed count : ℕ) where
@@ -94,7 +95,8 @@ module _ (seed count : ℕ) where
   two_tells : take (length (accepted two.history) - 1) (drop 1 (accepted two_hears.history)) ≡ made 2
   two_tells =
       let more = first_accepted HOLD MOST_OPERATIONS two (made 1) in
-      behind_first_of the_section (made 2) more.0 (accepted two_hears.history) (length (accepted two.history)) (more.1 ∙ ap (λ l. l ++ more.0) two_accepted) (ap length two_accepted)
+      behind_first_of the_section (made 2) more.0 (accepted two_hears.history) (length (accepted two.history)) (more.1 ∙ ap (λ l. l ++ more.0) two_accepted)
+      (ap length two_accepted)
 
 -- the section was accepted
 abbrev pub IsBegun : State → Type 0
@@ -108,7 +110,8 @@ record AreBehind (seed count : ℕ) (a b : State) : Type 0 where
 are_behind : (seed count : ℕ) (f s a b : State) → f ≡ two_begin 1 → s ≡ two_begin 2 → TurnsLead count 1 seed f s a b → AreBehind seed count a b
 are_behind seed count f s a b fe se leads =
     let t = after seed count in
-    let from : TurnsLead count 1 seed (two_begin 1) (two_begin 2) a b = subst (λ o. TurnsLead count 1 seed o (two_begin 2) a b) fe (subst (λ o. TurnsLead count 1 seed f o a b) se leads) in
+    let from : TurnsLead count 1 seed (two_begin 1) (two_begin 2) a b =
+    subst (λ o. TurnsLead count 1 seed o (two_begin 2) a b) fe (subst (λ o. TurnsLead count 1 seed f o a b) se leads) in
     let both : a ∷ b ∷ [] ≡ numbered 1 t.one_after ∷ numbered 2 t.two_after ∷ [] = sym (from (the_section ∷ [])) ∙ ap (λ (w : World). w.replicas) t.is in
     record { first = cc both; second = cc both }
 

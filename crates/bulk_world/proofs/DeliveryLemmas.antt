@@ -31,6 +31,8 @@ calls_are_deliveries op old new before after (Err NoMemory) z call =
     record { is = λ enough. absurd (enough refl); partly = λ e. still_settles op old new before after call.err.1 call.err.2 }
 
 -- the same of a copy of the operation, where memory is not wanting
-pub copy_delivered : (op copy : Op) (old new : State) (before after : Tally) (result : Result Bool FeedFault) → result ≢ Err NoMemory → copy ≡ op → IsSettled old.held → IsFeedCall copy old new before after result
+pub copy_delivered : (op copy : Op) (old new : State) (before after : Tally) (result : Result Bool FeedFault) → result ≢ Err NoMemory → copy ≡ op → IsSettled old.held
+    → IsFeedCall copy old new before after result
     → new ≡ replica_after_delivery op old
-copy_delivered op copy old new before after result enough same z call = (calls_are_deliveries copy old new before after result z call).is enough ∙ ap (λ o. replica_after_delivery o old) same
+copy_delivered op copy old new before after result enough same z call =
+    (calls_are_deliveries copy old new before after result z call).is enough ∙ ap (λ o. replica_after_delivery o old) same

@@ -10,7 +10,8 @@ use Rattle.fugue_ids.proofs.OpLemmas.{op_eq-refl}
 use Rattle.origin_model.specs.operations.History.{has_op}
 use Rattle.origin_model.specs.taking.Taking.{Held, held_from, intake}
 use Rattle.origin_model.specs.edits.State.{State}
-use Rattle.list_spec.specs.Worlds.{Deliver, Edit, Event, Noting, World, after_event, after_events, after_making, changed_world, replica_after_delivery, effect, made_at, note_effect, pool_with}
+use Rattle.list_spec.specs.Worlds.{Deliver, Edit, Event, Noting, World, after_event, after_events, after_making, changed_replicas, replica_after_delivery, effect, made_at}
+use Rattle.list_spec.specs.Worlds.{note_effect, pool_with}
 use Rattle.list_spec.proofs.PoolLemmas.{pool_keeps}
 use Rattle.list_spec.proofs.WorldLemmas.{events_keep}
 use Rattle.bulk_world.specs.declared.making.TheConstants.{HOLD}
@@ -65,8 +66,8 @@ made_pooled n w (event ∷ events) =
 
 -- a delivery of what was made
 delivery : (pool : List Op) (op : Op) (n : ℕ) (one two : State) → IsPooled pool op
-    → after_event (among pool one two) (Deliver n op) ≡ record { replicas = changed_world n (replica_after_delivery op) (one ∷ two ∷ []); pool = pool }
-delivery pool op n one two m = ap (λ b. if b then record { replicas = changed_world n (replica_after_delivery op) (one ∷ two ∷ []); pool = pool } else among pool one two) m
+    → after_event (among pool one two) (Deliver n op) ≡ record { replicas = changed_replicas n (replica_after_delivery op) (one ∷ two ∷ []); pool = pool }
+delivery pool op n one two m = ap (λ b. if b then record { replicas = changed_replicas n (replica_after_delivery op) (one ∷ two ∷ []); pool = pool } else among pool one two) m
 
 -- replica 2 hears of operations that were made
 pub second_hears : (pool ops : List Op) (h k : Held) → All (IsPooled pool) ops

@@ -108,7 +108,8 @@ none_waits h = All-nil _
 pub all_accepted : (hold most : ℕ) (p ops : List Op) → ReadyInTurn p ops → length p + length ops ≤ most → held_from hold most (quiet p) ops ≡ quiet (history_with p ops)
 all_accepted hold most p [] r l = refl
 all_accepted hold most p (op ∷ ops) r l =
-    let ok : answer hold most (quiet p) op ≡ Accepted = accepts hold most p [] op (none_waits p) r.0 (id_held-nil (id_of op)) (ne_eqb (length p + 0) most (λ e. omega (arith, e, l))) in
+    let ok : answer hold most (quiet p) op ≡ Accepted =
+    accepts hold most p [] op (none_waits p) r.0 (id_held-nil (id_of op)) (ne_eqb (length p + 0) most (λ e. omega (arith, e, l))) in
     let next : intake hold most (quiet p) op ≡ quiet (op ∷ p) = ap (λ a. settle (held_after a (quiet p) op)) ok ∙ settle-settled (quiet (op ∷ p)) (none_waits (op ∷ p)) in
     ap (λ s. held_from hold most s ops) next ∙ all_accepted hold most (op ∷ p) ops r.1 (omega (arith, l))
 

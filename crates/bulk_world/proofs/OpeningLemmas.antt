@@ -46,6 +46,7 @@ hears_one = refl
 pub second_opens : (first second new : State) (ops : List Op) (result : Result (Unit {0}) NoMemory) → first ≡ two_begin 1 → second ≡ author 2 → ops ≡ accepted first.held.history
     → OnOk result (new ≡ record second { held = held_from second.hold second.most second.held ops }) → OnOk result (new ≡ two_begin 2)
 second_opens first second new ops (Ok done) f s o e =
-    e ∙ (λ i. record (s i) { held = held_from (s i).hold (s i).most (s i).held (o i) }) ∙ ap (λ (x : State). record (author 2) { held = held_from HOLD MOST_OPERATIONS (author 2).held (accepted x.held.history) }) f
+    e ∙ (λ i. record (s i) { held = held_from (s i).hold (s i).most (s i).held (o i) })
+    ∙ ap (λ (x : State). record (author 2) { held = held_from HOLD MOST_OPERATIONS (author 2).held (accepted x.held.history) }) f
     ∙ hears_one
 second_opens first second new ops (Err fault) f s o e = tt

@@ -1,5 +1,6 @@
 -- Each turn makes one operation: no edit is refused as long as there is room.
-use Rattle.std.proofs.Common.{Bool, List, [], ap, append-nil, arith, drop, false, inl, inr, length, nat_eq, nat_lt, refl, slice_get, subst, sym, take, true, ◌%◌, ◌+◌, ◌++◌, ◌-◌, ◌<◌, ◌^◌, ◌∙◌, ◌∷◌, ◌≡◌, ◌≤◌, ℕ, suc, zero}
+use Rattle.std.proofs.Common.{Bool, List, [], ap, append-nil, arith, drop, false, inl, inr, length, nat_eq, nat_lt, refl, slice_get, subst, sym, take, true, ◌%◌, ◌+◌, ◌++◌, ◌-◌}
+use Rattle.std.proofs.Common.{◌<◌, ◌^◌, ◌∙◌, ◌∷◌, ◌≡◌, ◌≤◌, ℕ, suc, zero}
 use Rattle.std.specs.Prelude.{All, None, Option, Some, filter, flat_map, if◌then◌else◌, is_some, map, option_to_list}
 use Rattle.std.proofs.lemmas.Bool.{cases_lt, eqb-true, le-ltb, true≢false}
 use Rattle.std.proofs.lemmas.List.Elements.{All-append, All-cons, All-drop, All-head, All-map, All-nil, All-tail, All-take, All-weaker}
@@ -76,7 +77,8 @@ names_below n h op ready =
     let c : ℕ = next_counter n h [] in
     All-map (IsBelow n (suc c)) (λ (named : Identifier × Role). named.0) (names op)
     (All-weaker (λ (named : Identifier × Role). holds h named.0 ≡ true) (λ (named : Identifier × Role). IsBelow n (suc c) named.0)
-    (λ named k own. let l : named.0.counter < c = held_below n c h named.0 (history_below n h []) k own in omega (arith, l)) (names op) (all_held h (names op) (when_ready h op ready).none_missing))
+    (λ named k own. let l : named.0.counter < c = held_below n c h named.0 (history_below n h []) k own in omega (arith, l)) (names op)
+    (all_held h (names op) (when_ready h op ready).none_missing))
 
 older_below : (n : ℕ) (h : List Op) → BelowAll n (suc (next_counter n h [])) h
 older_below n h =
@@ -89,7 +91,8 @@ counters_more : (n : ℕ) (h : List Op) (op : Op) → verdict h op ≡ Ready →
 counters_more n h op ready id l =
     let P : Identifier → Type 0 = IsBelow n (suc (next_counter n h [])) in
     let all : BelowAll n (suc (next_counter n h [])) (op ∷ h) =
-    All-append P (mentioned_ids op) (flat_map mentioned_ids h) (All-append P (option_to_list (id_of op)) (map (λ named. named.0) (names op)) id (names_below n h op ready)) (older_below n h) in
+    All-append P (mentioned_ids op) (flat_map mentioned_ids h) (All-append P (option_to_list (id_of op)) (map (λ named. named.0) (names op)) id (names_below n h op ready))
+    (older_below n h) in
     omega (arith, next_within n (suc (next_counter n h [])) (op ∷ h) all, l)
 
 -- what a turn makes: one operation, and the author goes on
@@ -102,7 +105,8 @@ pub record IsOneStep (n : ℕ) (h : List Op) (ops : List Op) : Type 0 where
   pub steady : IsSteady n (op ∷ h)
 
 -- an edit of the section that makes one operation
-by_edit : (n : ℕ) (h ops : List Op) (op : Op) (at k : ℕ) (ids : List Identifier) → ops ≡ op ∷ [] → IsSteady n h → IsEdit (within section_id) h ops at k ids → All (IsFrom n) ids → IsBy n op → IsOf n op
+by_edit : (n : ℕ) (h ops : List Op) (op : Op) (at k : ℕ) (ids : List Identifier) → ops ≡ op ∷ [] → IsSteady n h → IsEdit (within section_id) h ops at k ids → All (IsFrom n) ids
+    → IsBy n op → IsOf n op
     → All (IsBelow n (suc (next_counter n h []))) (option_to_list (id_of op)) → IsOneStep n h ops
 by_edit n h ops op at k ids is s edit new by of id =
     let e : IsEdit (within section_id) h (op ∷ []) at k ids = subst (λ o. IsEdit (within section_id) h o at k ids) is edit in
@@ -117,7 +121,8 @@ by_edit n h ops op at k ids is s edit new by of id =
         lawful = e.lawful;
         section = e.elsewhere catalogue (λ same. cc same) ∙ s.section;
         own = subst (All (IsFrom n)) (sym e.here)
-            (All-append (IsFrom n) (take at list ++ ids) (drop (at + k) list) (All-append (IsFrom n) (take at list) ids (All-take (IsFrom n) at list s.own) new) (All-drop (IsFrom n) (at + k) list s.own));
+            (All-append (IsFrom n) (take at list ++ ids) (drop (at + k) list) (All-append (IsFrom n) (take at list) ids (All-take (IsFrom n) at list s.own) new)
+            (All-drop (IsFrom n) (at + k) list s.own));
         counters = counters_more n h op e.ready.0 id s.counters;
       };
     }
@@ -157,7 +162,8 @@ module _ (n : ℕ) (h : List Op) (s : IsSteady n h) where
         let is : effect (quiet_author n h) (Put 0 at new) ≡ made n h [] (Put 0 at new) = made_whole (Put 0 at new) (quiet_author n h) allowed in
         subst (IsOneStep n h) (sym is)
         (by_edit n h (made n h [] (Put 0 at new)) (Text (id_at n c) section_id (left_for (within section_id) h at) (right_for (within section_id) h at) ch) at 0 (id_at n c ∷ [])
-        (put_made n h [] 0 section_id at new there) s (put_lands n h [] 0 at new section_id s.lawful there l).0 (All-cons (IsFrom n) (id_at n c) [] refl (All-nil (IsFrom n))) refl refl
+        (put_made n h [] 0 section_id at new there) s (put_lands n h [] 0 at new section_id s.lawful there l).0
+        (All-cons (IsFrom n) (id_at n c) [] refl (All-nil (IsFrom n))) refl refl
         (All-cons (IsBelow n (suc c)) (id_at n c) [] (λ own. omega arith) (All-nil (IsBelow n (suc c)))))
 
     -- the member at a position
@@ -178,16 +184,19 @@ module _ (n : ℕ) (h : List Op) (s : IsSteady n h) where
         let one : made n h [] (Cut 0 at 1) ≡ Delete d.0 ∷ [] = cut_made n h [] 0 section_id at 1 there ∙ ap (λ k. deletes_of (take 1 k)) d.2 in
         let own : IsFrom n d.0 = All-head (IsFrom n) d.0 d.1 (subst (All (IsFrom n)) d.2 (All-drop (IsFrom n) at list s.own)) in
         subst (IsOneStep n h) (sym is)
-        (by_edit n h (made n h [] (Cut 0 at 1)) (Delete d.0) at 1 [] one s (cut_takes n h [] 0 at 1 section_id s.lawful there).0 (All-nil (IsFrom n)) tt own (All-nil (IsBelow n (suc (next_counter n h [])))))
+        (by_edit n h (made n h [] (Cut 0 at 1)) (Delete d.0) at 1 [] one s (cut_takes n h [] 0 at 1 section_id s.lawful there).0 (All-nil (IsFrom n)) tt own
+        (All-nil (IsBelow n (suc (next_counter n h [])))))
 
     -- whatever the number asks
     pub one_step : (y : ℕ) → IsOneStep n h (effect (quiet_author n h) (asked y (quiet_author n h)))
     one_step y = subst (λ m. IsOneStep n h (effect (quiet_author n h) (drawn_command y m))) (sym text_is) (by_test (cuts y shown_scalars) refl)
       where
-        by_test : (b : Bool) → cuts y shown_scalars ≡ b → IsOneStep n h (effect (quiet_author n h) (if b then Cut 0 (y % shown_scalars) 1 else Put 0 (y % (shown_scalars + 1)) (letter y ∷ [])))
+        by_test : (b : Bool) → cuts y shown_scalars ≡ b
+            → IsOneStep n h (effect (quiet_author n h) (if b then Cut 0 (y % shown_scalars) 1 else Put 0 (y % (shown_scalars + 1)) (letter y ∷ [])))
         by_test true t = cut_step (y % shown_scalars) (mod_below y shown_scalars (some_shown shown_scalars t))
           where
             some_shown : (m : ℕ) → cuts y m ≡ true → 0 < m
             some_shown zero t = cc t
             some_shown (suc m) t = omega arith
-        by_test false t = put_step (y % (shown_scalars + 1)) (letter y) (let l : y % (shown_scalars + 1) < shown_scalars + 1 = mod_below y (shown_scalars + 1) (omega arith) in omega (arith, l))
+        by_test false t = put_step (y % (shown_scalars + 1)) (letter y)
+            (let l : y % (shown_scalars + 1) < shown_scalars + 1 = mod_below y (shown_scalars + 1) (omega arith) in omega (arith, l))

@@ -32,7 +32,8 @@ one_more s w place p ch e =
     ∙ add-mod-mod (s + w) (p * ch) m ∙ ap (λ n. n % m) (grouped s w (p * ch))
 
 -- then one more
-pub next_summed : (chs : List ℕ) (k place sum ch next_place next_sum product n : ℕ) → IsSummed chs k place sum → (k < length chs) × (ch ≡ get_or chs k ch) → product ≡ (place * ch) % m
+pub next_summed : (chs : List ℕ) (k place sum ch next_place next_sum product n : ℕ) → IsSummed chs k place sum → (k < length chs) × (ch ≡ get_or chs k ch)
+    → product ≡ (place * ch) % m
     → next_sum ≡ (sum + product) % m → next_place ≡ (place + 1) % m → n ≡ k + 1 → IsSummed chs n next_place next_sum
 next_summed chs k place sum ch next_place next_sum product n u at pe se le ne =
     let W : List ℕ → ℕ = λ l. (sum + weighted_scalars (k + 1) l) % m in

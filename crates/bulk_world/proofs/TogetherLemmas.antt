@@ -108,13 +108,15 @@ module _ (by_set : OrderBySet) (seed count : ℕ) (few : count ≤ MOST_TURNS) w
   first_all : one_hears seed count ≡ quiet (history_with (history_with section (made seed count 1)) (made seed count 2))
   first_all =
       ap (λ (s : State). held_from HOLD MOST_OPERATIONS s.held (made seed count 2)) (after seed count).one_is
-      ∙ all_accepted HOLD MOST_OPERATIONS (history_with section (made seed count 1)) (made seed count 2) (comes_behind 1 2 section (made seed count 1) (made seed count 2) (λ e. cc e) lawful both.first both.second)
+      ∙ all_accepted HOLD MOST_OPERATIONS (history_with section (made seed count 1)) (made seed count 2)
+      (comes_behind 1 2 section (made seed count 1) (made seed count 2) (λ e. cc e) lawful both.first both.second)
       (omega (arith, few, both.counted, extended_length section (made seed count 1)))
 
   second_all : two_hears seed count ≡ quiet (history_with (history_with section (made seed count 2)) (made seed count 1))
   second_all =
       ap (λ (s : State). held_from HOLD MOST_OPERATIONS s.held (made seed count 1)) (after seed count).two_is
-      ∙ all_accepted HOLD MOST_OPERATIONS (history_with section (made seed count 2)) (made seed count 1) (comes_behind 2 1 section (made seed count 2) (made seed count 1) (λ e. cc e) lawful both.second both.first)
+      ∙ all_accepted HOLD MOST_OPERATIONS (history_with section (made seed count 2)) (made seed count 1)
+      (comes_behind 2 1 section (made seed count 2) (made seed count 1) (λ e. cc e) lawful both.second both.first)
       (omega (arith, few, both.counted, extended_length section (made seed count 2)))
 
   abbrev here : List Op
@@ -126,8 +128,10 @@ module _ (by_set : OrderBySet) (seed count : ℕ) (few : count ≤ MOST_TURNS) w
   same_text : manuscript here ≡ manuscript there
   same_text =
       (by_set here there
-      (ready_lawful (history_with section (made seed count 1)) (made seed count 2) (ready_lawful section (made seed count 1) lawful both.first.ready) (comes_behind 1 2 section (made seed count 1) (made seed count 2) (λ e. cc e) lawful both.first both.second))
-      (ready_lawful (history_with section (made seed count 2)) (made seed count 1) (ready_lawful section (made seed count 2) lawful both.second.ready) (comes_behind 2 1 section (made seed count 2) (made seed count 1) (λ e. cc e) lawful both.second both.first))
+      (ready_lawful (history_with section (made seed count 1)) (made seed count 2) (ready_lawful section (made seed count 1) lawful both.first.ready)
+      (comes_behind 1 2 section (made seed count 1) (made seed count 2) (λ e. cc e) lawful both.first both.second))
+      (ready_lawful (history_with section (made seed count 2)) (made seed count 1) (ready_lawful section (made seed count 2) lawful both.second.ready)
+      (comes_behind 2 1 section (made seed count 2) (made seed count 1) (λ e. cc e) lawful both.second both.first))
       (same_behind section (made seed count 1) (made seed count 2))).same_manuscript
 
   told : summary (bulk_world seed count) ≡ told_of (quiet_author 1 here) (quiet_author 2 there)

@@ -74,14 +74,18 @@ pub first_turn : (count i x : ℕ) (one two a b : State) → nat_eq (i % 2) 1 �
     → TurnsLead count (suc i) (next x) (replica_after_edit (asked (next x) one) one) two a b → TurnsLead (suc count) i x one two a b
 first_turn count i x one two a b odd f s leads =
     subst (λ n. LeadsBy n count i (next x) one two a b) (sym (odd_turn i odd))
-    (subst (λ t. LeadsBy 1 count i (next x) one t a b) (sym s) (subst (λ o. TurnsLead count (suc i) (next x) (replica_after_edit (asked (next x) o) o) (numbered 2 two.held) a b → LeadsBy 1 count i (next x) o (numbered 2 two.held) a b) (sym f)
+    (subst (λ t. LeadsBy 1 count i (next x) one t a b) (sym s)
+    (subst (λ o. TurnsLead count (suc i) (next x) (replica_after_edit (asked (next x) o) o) (numbered 2 two.held) a b → LeadsBy 1 count i (next x) o (numbered 2 two.held) a b)
+    (sym f)
     (λ l pool. l _) (subst (λ t. TurnsLead count (suc i) (next x) (replica_after_edit (asked (next x) one) one) t a b) s leads)))
 
 pub second_turn : (count i x : ℕ) (one two a b : State) → nat_eq (i % 2) 1 ≡ false → IsAuthor 1 one → IsAuthor 2 two
     → TurnsLead count (suc i) (next x) one (replica_after_edit (asked (next x) two) two) a b → TurnsLead (suc count) i x one two a b
 second_turn count i x one two a b even f s leads =
     subst (λ n. LeadsBy n count i (next x) one two a b) (sym (even_turn i even))
-    (subst (λ o. LeadsBy 2 count i (next x) o two a b) (sym f) (subst (λ t. TurnsLead count (suc i) (next x) (numbered 1 one.held) (replica_after_edit (asked (next x) t) t) a b → LeadsBy 2 count i (next x) (numbered 1 one.held) t a b) (sym s)
+    (subst (λ o. LeadsBy 2 count i (next x) o two a b) (sym f)
+    (subst (λ t. TurnsLead count (suc i) (next x) (numbered 1 one.held) (replica_after_edit (asked (next x) t) t) a b → LeadsBy 2 count i (next x) (numbered 1 one.held) t a b)
+    (sym s)
     (λ l pool. l _) (subst (λ o. TurnsLead count (suc i) (next x) o (replica_after_edit (asked (next x) two) two) a b) f leads)))
 
 -- an edit leaves an author an author
@@ -112,12 +116,26 @@ turned (suc count) i x pool h k =
           (let command = asked y one in
           let ops : List Op = effect one command in
           let rest = turned count (suc i) y (pool_with pool (ops ++ [])) (replica_after_edit command one).held k in
-          record { pool_after = rest.pool_after; one_after = rest.one_after; two_after = rest.two_after; is = rest.is; one_is = rest.one_is ∙ two_steps one ops _; two_is = rest.two_is })
+          record {
+            pool_after = rest.pool_after;
+            one_after = rest.one_after;
+            two_after = rest.two_after;
+            is = rest.is;
+            one_is = rest.one_is ∙ two_steps one ops _;
+            two_is = rest.two_is;
+          })
       | inr t ↦ subst Turned (sym (even_turn i t))
           (let command = asked y two in
           let ops : List Op = effect two command in
           let rest = turned count (suc i) y (pool_with pool (ops ++ [])) h (replica_after_edit command two).held in
-          record { pool_after = rest.pool_after; one_after = rest.one_after; two_after = rest.two_after; is = rest.is; one_is = rest.one_is; two_is = rest.two_is ∙ two_steps two ops _ })
+          record {
+            pool_after = rest.pool_after;
+            one_after = rest.one_after;
+            two_after = rest.two_after;
+            is = rest.is;
+            one_is = rest.one_is;
+            two_is = rest.two_is ∙ two_steps two ops _;
+          })
     ]
   where
     one : State
@@ -154,7 +172,8 @@ pub first_on : (W : State → State → Type 0) (count done x y : ℕ) (one two 
 first_on W count done x y one two new l odd f s ny nn whole a b leads =
     let c : ℕ = count - (done + 1) in
     let now : TurnsLead c (suc (done + 1)) (next x) (replica_after_edit (asked (next x) one) one) two a b =
-    subst (λ z. TurnsLead c (suc (done + 1)) z (replica_after_edit (asked z one) one) two a b) ny (subst (λ n. TurnsLead c (suc (done + 1)) y n two a b) nn (subst (λ k. TurnsLead c k y new two a b) (omega arith) leads)) in
+    subst (λ z. TurnsLead c (suc (done + 1)) z (replica_after_edit (asked z one) one) two a b) ny
+    (subst (λ n. TurnsLead c (suc (done + 1)) y n two a b) nn (subst (λ k. TurnsLead c k y new two a b) (omega arith) leads)) in
     whole a b (by_count (suc c) (count - done) (done + 1) x one two a b (omega (arith, l)) (first_turn c (done + 1) x one two a b odd f s now))
 
 -- a turn of the second author
@@ -163,7 +182,8 @@ pub second_on : (W : State → State → Type 0) (count done x y : ℕ) (one two
 second_on W count done x y one two new l even f s ny nn whole a b leads =
     let c : ℕ = count - (done + 1) in
     let now : TurnsLead c (suc (done + 1)) (next x) one (replica_after_edit (asked (next x) two) two) a b =
-    subst (λ z. TurnsLead c (suc (done + 1)) z one (replica_after_edit (asked z two) two) a b) ny (subst (λ n. TurnsLead c (suc (done + 1)) y one n a b) nn (subst (λ k. TurnsLead c k y one new a b) (omega arith) leads)) in
+    subst (λ z. TurnsLead c (suc (done + 1)) z one (replica_after_edit (asked z two) two) a b) ny
+    (subst (λ n. TurnsLead c (suc (done + 1)) y one n a b) nn (subst (λ k. TurnsLead c k y one new a b) (omega arith) leads)) in
     whole a b (by_count (suc c) (count - done) (done + 1) x one two a b (omega (arith, l)) (second_turn c (done + 1) x one two a b even f s now))
 
 -- and it stays an author

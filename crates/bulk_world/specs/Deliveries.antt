@@ -28,4 +28,5 @@ pub record IsDelivery (op : Op) (old new : State) (result : Result Bool FeedFaul
 -- every such call to a settled replica is a delivery
 abbrev pub CallsAreDeliveries : Type 0
 CallsAreDeliveries =
-    (op : Op) (old new : State) (before after : Tally) (result : Result Bool FeedFault) → IsSettled old.held → IsFeedCall op old new before after result → IsDelivery op old new result
+    (op : Op) (old new : State) (before after : Tally) (result : Result Bool FeedFault) → IsSettled old.held
+    → IsFeedCall op old new before after result → IsDelivery op old new result

@@ -1,4 +1,5 @@
--- The world of a bulk manuscript: two replicas edit one section by turns, without hearing of each other, and then each hears what the other made.
+-- The world of a bulk manuscript: two replicas edit one section by turns, without hearing of each other, and then each
+-- hears what the other made.
 use Rattle.std.specs.Prelude.{◌≡◌, ◌%◌, ℕ, zero, suc, nat_eq, if◌then◌else◌, Some, None, List, [], ◌∷◌, ◌++◌, length, map, codes}
 use Rattle.fugue_ids.specs.declared.op.Op.{Op}
 use Rattle.fugue_ids.specs.declared.op.Op.TheVariants.{Section}
@@ -32,7 +33,8 @@ first_text s = elim (section_shown s 0) [ None ↦ [] | Some x ↦ text s.held.h
 -- the operations that the replica with this number makes in events
 abbrev pub made_in : ℕ → World → Event → List Op
 made_in n w (Edit number command) = if nat_eq number n then made_at number (λ (s : State). effect s command) w.replicas else []
-made_in n w (Noting number named code body) = if nat_eq number n then made_at number (λ (s : State). note_effect s named code body) w.replicas else []
+made_in n w (Noting number named code body) =
+    if nat_eq number n then made_at number (λ (s : State). note_effect s named code body) w.replicas else []
 made_in n w (Deliver number op) = []
 
 -- the operations that events make one after another at the replica n

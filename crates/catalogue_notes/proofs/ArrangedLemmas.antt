@@ -151,7 +151,8 @@ arranged_in_order h w =
     let here = λ (k : ℕ) (q : k < length xs). at_position h x (slice_index_or xs k d) (Contains-get_or xs k d q) in
     let a = here i (omega (arith, b, l)) in
     let c = here j l in
-    absurd (distinct i j d b l (apart h (slice_index_or xs i d) (slice_index_or xs j d) w (shown_is h (slice_index_or xs i d) w a.0) (shown_is h (slice_index_or xs j d) w c.0) (a.1 ∙ sym c.1))))
+    absurd (distinct i j d b l
+    (apart h (slice_index_or xs i d) (slice_index_or xs j d) w (shown_is h (slice_index_or xs i d) w a.0) (shown_is h (slice_index_or xs j d) w c.0) (a.1 ∙ sym c.1))))
     (order catalogue (lift h)) (order_total catalogue (lift h) (lift_lawful h w)).agrees
 
 -- so each stands there once

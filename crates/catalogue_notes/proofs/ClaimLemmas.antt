@@ -87,7 +87,8 @@ module _ {V : Type 0} (says : Op → Option (Claim V)) (test : List Op → Claim
 wins-irrefl : (n : ℕ) (a : Identifier) → (nat_lt n n || (nat_eq n n && id_lt a a)) ≡ false
 wins-irrefl n a = grind (arith, nat_tests)
 
-wins-trans : (l m n : ℕ) (a b c : Identifier) → (nat_lt m l || (nat_eq m l && id_lt b a)) ≡ true → (nat_lt n m || (nat_eq n m && id_lt c b)) ≡ true → (nat_lt n l || (nat_eq n l && id_lt c a)) ≡ true
+wins-trans : (l m n : ℕ) (a b c : Identifier) → (nat_lt m l || (nat_eq m l && id_lt b a)) ≡ true → (nat_lt n m || (nat_eq n m && id_lt c b)) ≡ true
+    → (nat_lt n l || (nat_eq n l && id_lt c a)) ≡ true
 wins-trans l m n a b c h k = grind (arith, nat_tests)
 
 wins-total : (m n : ℕ) (a b : Identifier) → (nat_lt n m || (nat_eq n m && id_lt b a)) ≡ false → (nat_lt m n || (nat_eq m n && id_lt a b)) ≡ false → id_eq a b ≡ true

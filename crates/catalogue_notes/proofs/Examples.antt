@@ -11,7 +11,7 @@ use Rattle.origin_model.specs.order.Order.{chain, order}
 use Rattle.catalogue_notes.specs.Arranged.{arranged, arranged_text, heading}
 use Rattle.catalogue_notes.specs.Claims.{is_title}
 use Rattle.catalogue_notes.specs.Lift.{claims, lift, stamp}
-use Rattle.catalogue_notes.specs.Making.{moved_member, retitled}
+use Rattle.catalogue_notes.specs.Making.{move_of_member, retitled}
 
 abbrev pub id : ℕ → ℕ → Identifier
 id replica counter = record { replica = replica; counter = counter }
@@ -40,7 +40,7 @@ third_first = Note (id 1 3) (c ∷ a ∷ []) 1 (0 ∷ 0 ∷ 0 ∷ 1 ∷ 2 ∷ []
 abbrev third_second : Op
 third_second = Note (id 2 0) (c ∷ a ∷ b ∷ []) 1 (0 ∷ 0 ∷ 0 ∷ 1 ∷ 3 ∷ [])
 
-made_moves : (moved_member (reverse three) (id 1 3) c 2 0 ≡ third_first) × (moved_member (reverse three) (id 2 0) c 2 1 ≡ third_second)
+made_moves : (move_of_member (reverse three) (id 1 3) c 2 0 ≡ third_first) × (move_of_member (reverse three) (id 2 0) c 2 1 ≡ third_second)
 unfolding lift claims order chain
 made_moves = (refl, refl)
 

@@ -4,11 +4,11 @@ use Rattle.std.specs.Prelude.{None, Option, Some, is_some}
 use Rattle.std.specs.List.{All}
 use Rattle.std.proofs.lemmas.Bool.{cases_Bool, false_from_ne_true, false≢true}
 use Rattle.std.proofs.lemmas.List.Elements.{All-weaker}
-use Rattle.fugue_ids.specs.Identifiers.{Identifier, origin_eq}
+use Rattle.fugue_ids.specs.Identifiers.{Identifier}
 use Rattle.fugue_ids.specs.Ops.{id_of}
 use Rattle.fugue_ids.specs.declared.op.Op.{Op}
 use Rattle.fugue_ids.specs.declared.op.Op.TheVariants.{Note}
-use Rattle.fugue_ids.proofs.IdentifierLemmas.{id_eq-refl, id_eq-true}
+use Rattle.fugue_ids.proofs.IdentifierLemmas.{id_eq-true}
 use Rattle.origin_model.specs.declared.operations.Role.{Role}
 use Rattle.origin_model.specs.declared.operations.Role.TheVariants.{Any, Section as SectionRole}
 use Rattle.origin_model.specs.declared.operations.Verdict.TheVariants.{Ready}

@@ -34,7 +34,8 @@ module _ (R : Identifier → Identifier → Type 0) (irrefl : (a : Identifier) �
   in_rest x y xs ys e v z m k =
       elim (contains_cases y ys z k) [ inl d ↦ absurd (irrefl x (subst (R x) (sym d ∙ sym e) (All-contains (R x) xs z (all_pairs_head R x xs v) m))) | inr j ↦ j ]
 
-  same_ordered : (xs ys : List Identifier) → AllPairs R xs → AllPairs R ys → ((x : Identifier) → Contains xs x → Contains ys x) → ((x : Identifier) → Contains ys x → Contains xs x) → xs ≡ ys
+  same_ordered : (xs ys : List Identifier) → AllPairs R xs → AllPairs R ys → ((x : Identifier) → Contains xs x → Contains ys x)
+      → ((x : Identifier) → Contains ys x → Contains xs x) → xs ≡ ys
   same_ordered [] [] v w f g = refl
   same_ordered [] (y ∷ ys) v w f g = absurd (contains_none y (g y (contains_here y ys)))
   same_ordered (x ∷ xs) [] v w f g = absurd (contains_none x (f x (contains_here x xs)))

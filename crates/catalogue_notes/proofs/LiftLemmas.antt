@@ -96,7 +96,8 @@ origin_held h o i all k = All-head (IsHeld h) i [] (subst (λ o. All (IsHeld h) 
 pub rests_of : (h : List Op) (e : Op) (m : Move) → All (Fits h) (names e) → HasShape e m → Rests h m
 rests_of h e m all sh =
     let ns : List Identifier = m.section ∷ given m.value in
-    let held : All (IsHeld h) ns = All-weaker (λ i. Fits h (anything i)) (IsHeld h) (λ i f. (f.0, f.1)) ns (all_from_map anything (Fits h) ns (subst (All (Fits h)) sh.named all)) in
+    let held : All (IsHeld h) ns =
+    All-weaker (λ i. Fits h (anything i)) (IsHeld h) (λ i f. (f.0, f.1)) ns (all_from_map anything (Fits h) ns (subst (All (Fits h)) sh.named all)) in
     let rest : All (IsHeld h) (given m.value) = All-tail (IsHeld h) m.section (given m.value) held in
     record {
       section = All-head (IsHeld h) m.section (given m.value) held;

@@ -1,5 +1,6 @@
 -- What is lifted grows by what each operation adds.
-use Rattle.std.proofs.Common.{Bool, List, [], ap, append_assoc, arith, drop, false, get_or, inl, inr, length, map, not, refl, reverse, subst, sym, take, true, ℕ, ◌&&◌, ◌+◌, ◌++◌, ◌<◌, ◌∙◌, ◌∷◌, ◌≡◌, ◌≤◌}
+use Rattle.std.proofs.Common.{Bool, List, [], ap, append_assoc, arith, drop, false, get_or, inl, inr, length, map, not, refl, reverse, subst, sym, take, ℕ, ◌&&◌, ◌+◌, ◌++◌, ◌<◌}
+use Rattle.std.proofs.Common.{◌∙◌, ◌∷◌, ◌≡◌, ◌≤◌}
 use Rattle.std.specs.Prelude.{None, Option, Some, if◌then◌else◌, is_some, option_map, option_to_list}
 use Rattle.std.specs.List.{All, insert}
 use Rattle.std.proofs.lemmas.Bool.{cases_Bool, true≢false}
@@ -17,8 +18,9 @@ use Rattle.origin_model.specs.operations.Verdict.{Lawful}
 use Rattle.origin_model.specs.order.Order.{order}
 use Rattle.origin_model.specs.sides.Node.{AreNodes, IsNew, has_node, has_origin, node_order, nodes}
 use Rattle.origin_model.proofs.SharedLemmas.{Lawful-append, found, order_by_nodes, order_total}
-use Rattle.section_list.specs.Cells.{Cell, section_cell_ids, section_cells_shown}
-use Rattle.section_list.specs.SectionList.{IsInOrder, Listing, empty_listing, with_element}
+use Rattle.run_store.specs.Cells.{cell_ids, cells_shown}
+use Rattle.run_store.specs.declared.cell.Cell.{Cell}
+use Rattle.section_list.specs.SectionList.{IsInOrder, Listing, empty_listing, newest_cell, with_element}
 use Rattle.replica_core.specs.Index.{is_section_or_note}
 use Rattle.catalogue_notes.specs.Claims.{Move, move_in}
 use Rattle.catalogue_notes.specs.Lift.{as_section, is_section, is_valid, lift, moves, passing, stands}
@@ -65,7 +67,8 @@ record IsStep (h : List Op) (op : Op) (o : Option Lift) : Type 0 where
   pub grows : N (op ∷ h) ≡ node_in o ++ N h
   pub bids : map bid_of (moves (op ∷ h)) ≡ bid_in o ++ map bid_of (moves h)
 
-step : (known : Identifier → Bool) (h : List Op) (op : Op) → Lawful h → ((m : Move) → move_in op ≡ Some m → known m.section ≡ is_section h m.section) → IsStep h op (lift_by known (N h) op)
+step : (known : Identifier → Bool) (h : List Op) (op : Op) → Lawful h → ((m : Move) → move_in op ≡ Some m → known m.section ≡ is_section h m.section)
+    → IsStep h op (lift_by known (N h) op)
 step known h (Section i l r t) w k = record {
   grows = ap (nodes catalogue) (lift-some (Section i l r t) h (Section i l r t) refl);
   bids = ap (map bid_of) (claims-none move_in move_test (Section i l r t) h refl);
@@ -96,12 +99,16 @@ step known h (Note id named code body) w k =
           let is : lift_move known (N h) (move_in e) ≡ pick (is_valid h (lift h) m.0) = ap (lift_move known (N h)) m.1 ∙ ap pick same' in
           elim (cases_Bool (is_valid h (lift h) m.0)) [
             | inl t ↦ record {
-              grows = ap (nodes catalogue) (lift-some e h (as_section m.0) (ap lifted m.1 ∙ ap (λ b. option_map as_section (if b then Some m.0 else None)) t)) ∙ sym (ap (λ o. node_in o ++ N h) (is ∙ ap pick t));
-              bids = ap (map bid_of) (claims-some move_in move_test e h m.0 (ap valid m.1 ∙ ap (λ b. if b then Some m.0 else None) t)) ∙ sym (ap (λ o. bid_in o ++ map bid_of (moves h)) (is ∙ ap pick t));
+              grows = ap (nodes catalogue) (lift-some e h (as_section m.0) (ap lifted m.1 ∙ ap (λ b. option_map as_section (if b then Some m.0 else None)) t))
+                  ∙ sym (ap (λ o. node_in o ++ N h) (is ∙ ap pick t));
+              bids = ap (map bid_of) (claims-some move_in move_test e h m.0 (ap valid m.1 ∙ ap (λ b. if b then Some m.0 else None) t))
+                  ∙ sym (ap (λ o. bid_in o ++ map bid_of (moves h)) (is ∙ ap pick t));
             }
             | inr t ↦ record {
-              grows = ap (nodes catalogue) (lift-none e h (ap lifted m.1 ∙ ap (λ b. option_map as_section (if b then Some m.0 else None)) t)) ∙ sym (ap (λ o. node_in o ++ N h) (is ∙ ap pick t));
-              bids = ap (map bid_of) (claims-none move_in move_test e h (ap valid m.1 ∙ ap (λ b. if b then Some m.0 else None) t)) ∙ sym (ap (λ o. bid_in o ++ map bid_of (moves h)) (is ∙ ap pick t));
+              grows = ap (nodes catalogue) (lift-none e h (ap lifted m.1 ∙ ap (λ b. option_map as_section (if b then Some m.0 else None)) t))
+                  ∙ sym (ap (λ o. node_in o ++ N h) (is ∙ ap pick t));
+              bids = ap (map bid_of) (claims-none move_in move_test e h (ap valid m.1 ∙ ap (λ b. if b then Some m.0 else None) t))
+                  ∙ sym (ap (λ o. bid_in o ++ map bid_of (moves h)) (is ∙ ap pick t));
             }
           ]
     ]
@@ -145,7 +152,8 @@ section_at ops i op s w l e k =
     ∙ section-kept o h s j k
 
 -- what the step at a place of the list adds
-step_at : (ops : List Op) (i : ℕ) (op : Op) (known : Identifier → Bool) → Lawful (reverse ops) → ((s : Identifier) → known s ≡ is_section (reverse ops) s) → i < length ops → op ≡ get_or ops i op
+step_at : (ops : List Op) (i : ℕ) (op : Op) (known : Identifier → Bool) → Lawful (reverse ops) → ((s : Identifier) → known s ≡ is_section (reverse ops) s) → i < length ops
+    → op ≡ get_or ops i op
     → IsStep (Passed ops i) op (lift_by known (N (Passed ops i)) op)
 step_at ops i op known w k l e =
     let h : List Op = Passed ops i in
@@ -155,7 +163,8 @@ step_at ops i op known w k l e =
     k m.section ∙ section_at ops i op m.section w l e r.section)
 
 -- its node is new
-pub new_at : (ops : List Op) (i : ℕ) (op : Op) (known : Identifier → Bool) (list : Listing) (bids : List Bid) (x : Lift) → Lawful (reverse ops) → ((s : Identifier) → known s ≡ is_section (reverse ops) s) → i < length ops → op ≡ get_or ops i op
+pub new_at : (ops : List Op) (i : ℕ) (op : Op) (known : Identifier → Bool) (list : Listing) (bids : List Bid) (x : Lift) → Lawful (reverse ops)
+    → ((s : Identifier) → known s ≡ is_section (reverse ops) s) → i < length ops → op ≡ get_or ops i op
     → IsLifting (Passed ops i) list bids → lift_by known list.nodes op ≡ Some x → IsNew list.nodes x.node
 new_at ops i op known list bids x w k l e f q =
     let h : List Op = Passed ops i in
@@ -170,7 +179,8 @@ length-insert : (cs : List Cell) (i : ℕ) (c : Cell) → length (insert cs i c)
 length-insert cs i c = omega (arith, length-append (take i cs) (c ∷ drop i cs), length-append (take i cs) (drop i cs), ap length (take-append-drop i cs))
 
 -- a step that adds nothing
-pub lifting_same : (ops : List Op) (i : ℕ) (op : Op) (known : Identifier → Bool) (list : Listing) (bids : List Bid) → Lawful (reverse ops) → ((s : Identifier) → known s ≡ is_section (reverse ops) s) → i < length ops → op ≡ get_or ops i op
+pub lifting_same : (ops : List Op) (i : ℕ) (op : Op) (known : Identifier → Bool) (list : Listing) (bids : List Bid) → Lawful (reverse ops)
+    → ((s : Identifier) → known s ≡ is_section (reverse ops) s) → i < length ops → op ≡ get_or ops i op
     → IsLifting (Passed ops i) list bids → lift_by known list.nodes op ≡ None → IsLifting (op ∷ Passed ops i) list bids
 lifting_same ops i op known list bids w k l e f q =
     let h : List Op = Passed ops i in
@@ -193,20 +203,23 @@ nothing_lifted known ns (Delete i) e = refl
 nothing_lifted known ns (Note i ns' c b) e = absurd (true≢false e)
 
 -- so it is passed over
-pub lifting_between : (ops : List Op) (known : Identifier → Bool) (list : Listing) (bids : List Bid) → Lawful (reverse ops) → ((s : Identifier) → known s ≡ is_section (reverse ops) s)
+pub lifting_between : (ops : List Op) (known : Identifier → Bool) (list : Listing) (bids : List Bid) → Lawful (reverse ops)
+    → ((s : Identifier) → known s ≡ is_section (reverse ops) s)
     → (i : ℕ) (op : Op) → i < length ops → op ≡ get_or ops i op → is_section_or_note op ≡ false → IsLifting (Passed ops i) list bids → IsLifting (Passed ops (i + 1)) list bids
 lifting_between ops known list bids w k i op l e other f =
     passed_step (λ h. IsLifting h list bids) ops i op l e (lifting_same ops i op known list bids w k l e f (nothing_lifted known list.nodes op other))
 
 -- and one that adds a node
-pub lifting_more : (ops : List Op) (i : ℕ) (op : Op) (known : Identifier → Bool) (list more : Listing) (bids longer : List Bid) (x : Lift) → Lawful (reverse ops) → ((s : Identifier) → known s ≡ is_section (reverse ops) s) → i < length ops → op ≡ get_or ops i op
-    → IsLifting (Passed ops i) list bids → lift_by known list.nodes op ≡ Some x → more ≡ with_element x.node 45 list → IsInOrder more → longer ≡ bids ++ option_to_list x.bid → IsLifting (op ∷ Passed ops i) more longer
+pub lifting_more : (ops : List Op) (i : ℕ) (op : Op) (known : Identifier → Bool) (list more : Listing) (bids longer : List Bid) (x : Lift) → Lawful (reverse ops)
+    → ((s : Identifier) → known s ≡ is_section (reverse ops) s) → i < length ops → op ≡ get_or ops i op
+    → IsLifting (Passed ops i) list bids → lift_by known list.nodes op ≡ Some x → more ≡ with_element x.node 45 list → IsInOrder more → longer ≡ bids ++ option_to_list x.bid
+    → IsLifting (op ∷ Passed ops i) more longer
 lifting_more ops i op known list more bids longer x w k l e f q is o b =
     let h : List Op = Passed ops i in
     let s = step_at ops i op known w k l e in
     let q' : lift_by known (N h) op ≡ Some x = ap (λ z. lift_by known z op) (sym f.nodes_are) ∙ q in
     let at : ℕ = index_of (node_order (x.node ∷ list.nodes)) x.node.id in
-    let c : Cell = record { id = x.node.id; ch = 45; hidden = false } in
+    let c : Cell = newest_cell x.node list.nodes 45 in
     let few = f.few in
     let count : length more.cells ≡ length list.cells + 1 = ap (λ (z : Listing). length z.cells) is ∙ length-insert list.cells at c in
     record {
@@ -214,7 +227,8 @@ lifting_more ops i op known list more bids longer x w k l e f q is o b =
       few = omega (arith, few, count);
       shown = subst (λ (z : Listing). All (λ (c : Cell). c.hidden ≡ false) z.cells) (sym is) (all_insert (λ (c : Cell). c.hidden ≡ false) list.cells at c refl f.shown);
       in_order = o;
-      bids_are = ap reverse b ∙ reverse-append bids (option_to_list x.bid) ∙ (λ i. reverse-one x.bid i ++ f.bids_are i) ∙ sym (s.bids ∙ ap (λ o. bid_in o ++ map bid_of (moves h)) q');
+      bids_are = ap reverse b ∙ reverse-append bids (option_to_list x.bid) ∙ (λ i. reverse-one x.bid i ++ f.bids_are i)
+          ∙ sym (s.bids ∙ ap (λ o. bid_in o ++ map bid_of (moves h)) q');
     }
   where
     reverse-one : (o : Option Bid) → reverse (option_to_list o) ≡ option_to_list o
@@ -236,12 +250,12 @@ lifting_none list bids is o b = record {
 }
 
 -- where none is hidden all are visible
-all_visible : (cs : List Cell) → All (λ (c : Cell). c.hidden ≡ false) cs → section_cells_shown cs ≡ cs
+all_visible : (cs : List Cell) → All (λ (c : Cell). c.hidden ≡ false) cs → cells_shown cs ≡ cs
 all_visible cs all = filter_full (λ (c : Cell). not c.hidden) cs (λ c m. ap not (All-contains (λ (c : Cell). c.hidden ≡ false) cs c all m))
 
 -- all is lifted
 pub lifting_all : (h : List Op) (list : Listing) (bids : List Bid) → Lawful h → IsLifting h list bids → IsLiftOf h list bids
 lifting_all h list bids w f =
-    let all : section_cell_ids list.cells ≡ order catalogue (lift h) =
+    let all : cell_ids list.cells ≡ order catalogue (lift h) =
     f.in_order.in_order ∙ ap node_order f.nodes_are ∙ sym (order_by_nodes catalogue (lift h) (lift_lawful h w)).same_order in
-    record { lifting = f; all = all; visible = ap section_cell_ids (all_visible list.cells f.shown) ∙ all }
+    record { lifting = f; all = all; visible = ap cell_ids (all_visible list.cells f.shown) ∙ all }

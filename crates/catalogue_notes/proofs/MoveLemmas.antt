@@ -1,5 +1,6 @@
 -- A move lands where it was asked.
-use Rattle.std.proofs.Common.{List, [], ap, append_assoc, arith, inl, inr, length, map, max, not, refl, subst, suc, sym, true, zero, ℕ, ◌&&◌, ◌++◌, ◌+◌, ◌<◌, ◌^◌, ◌∙◌, ◌∷◌, ◌≡◌, ◌≢◌, ◌≤◌}
+use Rattle.std.proofs.Common.{List, [], ap, append_assoc, arith, inl, inr, length, map, max, not, refl, subst, suc, sym, true, zero, ℕ, ◌&&◌, ◌++◌, ◌+◌, ◌<◌, ◌^◌, ◌∙◌, ◌∷◌, ◌≡◌}
+use Rattle.std.proofs.Common.{◌≢◌, ◌≤◌}
 use Rattle.std.specs.Prelude.{IfSome, None, Option, Some, filter, flat_map, insert, is_some, option_map, option_to_list, slice_get}
 use Rattle.std.specs.List.{All, Contains}
 use Rattle.std.proofs.lemmas.Bool.{and_from}
@@ -28,13 +29,14 @@ use Rattle.catalogue_notes.specs.Arranged.{arranged, best, counts, heading, posi
 use Rattle.catalogue_notes.specs.Claims.{Move, Origins, Retitle, claim, move_in, retitle_in}
 use Rattle.catalogue_notes.specs.Laws.{MoveLands}
 use Rattle.catalogue_notes.specs.Lift.{as_section, greatest, is_section, is_valid_title, lift, moves, passing, retitles, stamp, stands}
-use Rattle.catalogue_notes.specs.Making.{left_of_move, move_body, move_names, moved_member, without_member}
+use Rattle.catalogue_notes.specs.Making.{left_of_move, move_body, move_names, move_of_member, without_member}
 use Rattle.catalogue_notes.specs.declared.limits.TheConstants.{MOVE_CODE}
 use Rattle.catalogue_notes.proofs.ArrangedLemmas.{IsSection, apart, arranged_once, arranged_shown, move_test, position_by, position_in, shown_is, shown_once}
 use Rattle.catalogue_notes.proofs.ClaimLemmas.{beats-stamp, best-first, claims-none, claims-some}
 use Rattle.catalogue_notes.proofs.HolderLemmas.{IsHeld, is_section-held, are_held, none_there, not_both, title-note}
 use Rattle.catalogue_notes.proofs.LiftLemmas.{lift_lawful, lift-some, lifted_from, order_held, passing_to, unlifted}
-use Rattle.catalogue_notes.proofs.PartLemmas.{Distinct, filter-filter, filter-parts, filter_no, filter_one, filter_out, filter_same, filter_yes, following_in, get_some, index_once, is_other, length-out, parts-append, parts_same}
+use Rattle.catalogue_notes.proofs.PartLemmas.{Distinct, filter-filter, filter-parts, filter_no, filter_one, filter_out, filter_same, filter_yes, following_in, get_some, index_once}
+use Rattle.catalogue_notes.proofs.PartLemmas.{is_other, length-out, parts-append, parts_same}
 
 -- a move as a note
 abbrev pub move_note : (id section : Identifier) → (stamp : ℕ) → Origins → Op
@@ -52,7 +54,8 @@ stamp_above h m k =
     omega (arith, l)
 
 -- a move as a note is read back
-note_read : (id s : Identifier) (n : ℕ) (l r : Option Identifier) → n < 2 ^ 32 → move_in (move_note id s n (record { left = l; right = r })) ≡ Some (claim id s n (record { left = l; right = r }))
+note_read : (id s : Identifier) (n : ℕ) (l r : Option Identifier) → n < 2 ^ 32
+    → move_in (move_note id s n (record { left = l; right = r })) ≡ Some (claim id s n (record { left = l; right = r }))
 note_read id s n None None k = ap (λ z. Some (claim id s z (record { left = None; right = None }))) (from_be_bytes-to_be_bytes_4 n k)
 note_read id s n (Some l) None k = ap (λ z. Some (claim id s z (record { left = Some l; right = None }))) (from_be_bytes-to_be_bytes_4 n k)
 note_read id s n None (Some r) k = ap (λ z. Some (claim id s z (record { left = None; right = Some r }))) (from_be_bytes-to_be_bytes_4 n k)
@@ -88,11 +91,14 @@ module _ (h : List Op) (id s : Identifier) (n : ℕ) (l r : Option Identifier) (
   ready =
       let named : List Identifier = option_to_list l ++ option_to_list r in
       note_ready h id (move_names s o) MOVE_CODE (move_body n o) w (ap is_some new)
-      (are_held h (move_names s o) (All-cons (IsHeld h) s named (is_here.0, is_here.1) (All-append (IsHeld h) (option_to_list l) (option_to_list r) (origin_held h l w left_is) (origin_held h r w right_is))))
+      (are_held h (move_names s o)
+      (All-cons (IsHeld h) s named (is_here.0, is_here.1)
+      (All-append (IsHeld h) (option_to_list l) (option_to_list r) (origin_held h l w left_is) (origin_held h r w right_is))))
 
   valid : passing (move_test h) (move_in e) ≡ Some m
   valid = passing_to (move_test h) (move_in e) m read
-      (and_from (is_section h s) (stands (lift h) l && stands (lift h) r) (is_section-held h s is_here.0 is_here.1 is_here.2) (and_from (stands (lift h) l) (stands (lift h) r) left_is right_is))
+      (and_from (is_section h s) (stands (lift h) l && stands (lift h) r) (is_section-held h s is_here.0 is_here.1 is_here.2)
+      (and_from (stands (lift h) l) (stands (lift h) r) left_is right_is))
 
   lifted : lift (e ∷ h) ≡ as_section m ∷ lift h
   lifted = lift-some e h (as_section m) (ap (option_map as_section) valid)
@@ -231,7 +237,8 @@ front_length h s k (suc i) front back w at below was ends =
     ap length one ∙ omega (arith, length-append X (t.0 ∷ []), place)
 
 -- the left origin is lifted
-left_stands : (h : List Op) (s : Identifier) (k j : ℕ) → Lawful h → slice_get (arranged h) k ≡ Some s → j < length (arranged h) → IfSome (left_of_move h k j) (λ l. Contains (order catalogue (lift h)) l)
+left_stands : (h : List Op) (s : Identifier) (k j : ℕ) → Lawful h → slice_get (arranged h) k ≡ Some s → j < length (arranged h)
+    → IfSome (left_of_move h k j) (λ l. Contains (order catalogue (lift h)) l)
 left_stands h s k zero w at below = tt
 left_stands h s k (suc i) w at below =
     let W : List Identifier = without_member (arranged h) k in
@@ -262,7 +269,7 @@ move_lands h id s k j w absent left_over at below =
     let right_is : stands (lift h) r ≡ true = stands_in h r w (following_in (order catalogue (lift h)) l) in
     let here : Contains (shown catalogue h) s = arranged_shown h s (get_in (arranged h) k s at) in
     let later : stamp h < n = omega arith in
-    let e : Op = moved_member h id s k j in
+    let e : Op = move_of_member h id s k j in
     let m : Move = claim id s n (record { left = l; right = r }) in
     let is_ready : verdict h e ≡ Ready = ready h id s n l r w new left_over later here left_is right_is in
     let is_lifted : lift (e ∷ h) ≡ as_section m ∷ lift h = lifted h id s n l r w new left_over later here left_is right_is in

@@ -109,6 +109,7 @@ note_refuses_err s fault r = record {
 }
 
 -- an answer, by its plan
-pub made_by_plan : (old new : State) (k j : ℕ) (plan : Plan) (r : Result ℕ MoveFault) → IsMovePlan old k j plan → IsSound old → IfOk r (λ n. IsNoted old new plan.names MOVE_CODE plan.body n) → IfOk r (λ n. IsMoveMade old new k j n)
+pub made_by_plan : (old new : State) (k j : ℕ) (plan : Plan) (r : Result ℕ MoveFault) → IsMovePlan old k j plan → IsSound old
+    → IfOk r (λ n. IsNoted old new plan.names MOVE_CODE plan.body n) → IfOk r (λ n. IsMoveMade old new k j n)
 made_by_plan old new k j plan (Ok n) p st i = plan_made old new k j n plan p st i
 made_by_plan old new k j plan (Err e) p st i = tt

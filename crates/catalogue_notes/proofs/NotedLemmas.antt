@@ -31,7 +31,8 @@ use Rattle.catalogue_notes.proofs.LiftingLemmas.{Passed, lifting_all, lifting_mo
 use Rattle.catalogue_notes.proofs.WinningLemmas.{bid_taken}
 
 -- the newest operation is the last of the list, and the older ones are those before it
-pub newest_at : (ops older : List Op) (note op : Op) (i : ℕ) → reverse ops ≡ note ∷ older → i < length ops → length ops ≤ i + 1 → op ≡ get_or ops i op → (op ≡ note) × (Passed ops i ≡ older)
+pub newest_at : (ops older : List Op) (note op : Op) (i : ℕ) → reverse ops ≡ note ∷ older → i < length ops → length ops ≤ i + 1 → op ≡ get_or ops i op
+    → (op ≡ note) × (Passed ops i ≡ older)
 newest_at ops older note op i is below last at =
     let both : op ∷ Passed ops i ≡ note ∷ older = sym (passed_more ops i op below at) ∙ passed_all ops (i + 1) last ∙ is in
     (heads both, tails both)
@@ -81,7 +82,8 @@ pub record IsNewest (h ops older : List Op) (note op : Op) (i : ℕ) : Type 0 wh
   pub is : op ≡ note
   pub before : Passed ops i ≡ older
 
-pub newest : (h ops older : List Op) (note op : Op) → ops ≡ reverse h → Lawful h → h ≡ note ∷ older → op ≡ get_or ops (length ops - 1) op → IsNewest h ops older note op (length ops - 1)
+pub newest : (h ops older : List Op) (note op : Op) → ops ≡ reverse h → Lawful h → h ≡ note ∷ older → op ≡ get_or ops (length ops - 1) op
+    → IsNewest h ops older note op (length ops - 1)
 newest h ops older note op e w is there =
     let list : reverse ops ≡ h = ap reverse e ∙ reverse-reverse h in
     let count : length (reverse ops) ≡ length (note ∷ older) = ap length (list ∙ is) in
@@ -146,5 +148,6 @@ module _ (h : List Op) (a : Arrangement) (r : IsBehindNote h a) (w : Lawful h) w
   pub noted_new : (x : Lift) → lift_by (is_section h) list.nodes op ≡ Some x → IsNew list.nodes x.node
   noted_new x q = new_at ops i op (is_section h) list bids x at_end.lawful tells at_end.below there before q
 
-  pub noted_more : (more : Listing) (longer : List Bid) (x : Lift) → lift_by (is_section h) list.nodes op ≡ Some x → more ≡ with_element x.node 45 list → IsInOrder more → longer ≡ bids ++ option_to_list x.bid → IsLiftOf h more longer
+  pub noted_more : (more : Listing) (longer : List Bid) (x : Lift) → lift_by (is_section h) list.nodes op ≡ Some x → more ≡ with_element x.node 45 list → IsInOrder more
+      → longer ≡ bids ++ option_to_list x.bid → IsLiftOf h more longer
   noted_more more longer x q is o b = whole more longer (lifting_more ops i op (is_section h) list more bids longer x at_end.lawful tells at_end.below there before q is o b)

@@ -1,12 +1,14 @@
 -- Lists of distinct members: filters, and lists made of the parts at each member of another list.
-use Rattle.std.proofs.Common.{Bool, List, [], ap, append_assoc, arith, drop, false, inl, inr, length, length-append, not, refl, subst, suc, sym, take, true, zero, ℕ, ◌&&◌, ◌++◌, ◌<◌, ◌≤◌, ◌∙◌, ◌∷◌, ◌≡◌, ◌≢◌}
+use Rattle.std.proofs.Common.{Bool, List, [], ap, append_assoc, arith, drop, false, inl, inr, length, length-append, not, refl, subst, suc, sym, take, true, zero, ℕ, ◌&&◌, ◌++◌}
+use Rattle.std.proofs.Common.{◌<◌, ◌≤◌, ◌∙◌, ◌∷◌, ◌≡◌, ◌≢◌}
 use Rattle.std.specs.Prelude.{None, Option, Some, filter, flat_map, if◌then◌else◌, slice_get}
 use Rattle.std.specs.List.{All, AllPairs, Contains}
 use Rattle.std.proofs.lemmas.Bool.{cases_Bool}
 use Rattle.std.proofs.lemmas.List.Elements.{All-contains, Contains-append_cases, Contains-append_left, Contains-append_right, filter-append}
 use Rattle.fugue_ids.specs.Identifiers.{Identifier, id_eq}
 use Rattle.fugue_ids.proofs.IdentifierLemmas.{cases_id, eq-id_eq, ne-id_eq}
-use Rattle.fugue_ids.proofs.ListLemmas.{all_from_contains, all_pairs_append, all_pairs_head, all_pairs_nil, all_pairs_tail, contains_cases, contains_here, contains_middle, contains_middle_cases, contains_none, contains_there}
+use Rattle.fugue_ids.proofs.ListLemmas.{all_from_contains, all_pairs_append, all_pairs_head, all_pairs_nil, all_pairs_tail, contains_cases, contains_here, contains_middle}
+use Rattle.fugue_ids.proofs.ListLemmas.{contains_middle_cases, contains_none, contains_there}
 use Rattle.origin_model.specs.edits.Landing.{following, first_after}
 use Rattle.origin_model.proofs.edits.SplitLemmas.{get_in}
 use Rattle.origin_model.proofs.SharedLemmas.{split_member}
@@ -43,7 +45,8 @@ filter-filter q f (x ∷ xs) =
             | inl j ↦ filter_yes q x (filter f xs) j ∙ ap (λ l. x ∷ l) (filter-filter q f xs) ∙ sym (filter_yes (λ t. q t && f t) x xs ((λ i. j i && k i)))
             | inr j ↦ filter_no q x (filter f xs) j ∙ filter-filter q f xs ∙ sym (filter_no (λ t. q t && f t) x xs ((λ i. j i && k i)))
           ]
-      | inr k ↦ ap (filter q) (filter_no f x xs k) ∙ filter-filter q f xs ∙ sym (filter_no (λ t. q t && f t) x xs (elim (q x) as (λ b. (b && f x) ≡ false) [ true ↦ k | false ↦ refl ]))
+      | inr k ↦ ap (filter q) (filter_no f x xs k) ∙ filter-filter q f xs
+          ∙ sym (filter_no (λ t. q t && f t) x xs (elim (q x) as (λ b. (b && f x) ≡ false) [ true ↦ k | false ↦ refl ]))
     ]
 
 -- where none passes nothing is left
@@ -87,7 +90,8 @@ filter_out (x ∷ xs) (suc k) s d e =
     ∙ ap (λ l. x ∷ l) (filter_out xs k s (all_pairs_tail (λ a b. a ≢ b) x xs d) e)
 
 -- where a list of distinct members has one
-pub index_once : (front : List Identifier) (t : Identifier) (back : List Identifier) (i : ℕ) → Distinct (front ++ t ∷ back) → slice_get (front ++ t ∷ back) i ≡ Some t → i ≡ length front
+pub index_once : (front : List Identifier) (t : Identifier) (back : List Identifier) (i : ℕ) → Distinct (front ++ t ∷ back) → slice_get (front ++ t ∷ back) i ≡ Some t
+    → i ≡ length front
 index_once [] t back zero d e = refl
 index_once [] t back (suc i) d e = absurd (head_apart t back t d (get_in back i t e) refl)
 index_once (x ∷ front) t back zero d e = let x_is : x ≡ t = cc in absurd (head_apart x (front ++ t ∷ back) t d (contains_middle front t back) x_is)

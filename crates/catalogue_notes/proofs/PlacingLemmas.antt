@@ -48,14 +48,16 @@ pub record IsPlacingSome (at : Identifier → Identifier) (sections rest : List 
   pub whole : front ++ rest ≡ sections
   pub placed : IsPlacing at front placing
 
-pub placing_none : (at : Identifier → Identifier) (sections : List Identifier) (placing : Identifier → Option Identifier) → ((x : Identifier) → placing x ≡ None) → IsPlacingSome at sections sections placing
+pub placing_none : (at : Identifier → Identifier) (sections : List Identifier) (placing : Identifier → Option Identifier) → ((x : Identifier) → placing x ≡ None)
+    → IsPlacingSome at sections sections placing
 placing_none at sections placing k = record {
   front = [];
   whole = refl;
   placed = λ x s. (λ e. absurd (not_both (placing x) s (k x) e), λ m. absurd (contains_none s m.0));
 }
 
-pub placing_more : (at : Identifier → Identifier) (sections rest : List Identifier) (s : Identifier) (old new : Identifier → Option Identifier) → HaveOwnPositions at sections → slice_get rest 0 ≡ Some s
+pub placing_more : (at : Identifier → Identifier) (sections rest : List Identifier) (s : Identifier) (old new : Identifier → Option Identifier) → HaveOwnPositions at sections
+    → slice_get rest 0 ≡ Some s
     → new (at s) ≡ Some s → ((x : Identifier) → x ≢ at s → new x ≡ old x) → IsPlacingSome at sections rest old → IsPlacingSome at sections (drop 1 rest) new
 placing_more at sections rest s old new d first here others f =
     let front : List Identifier = f.front ++ s ∷ [] in
@@ -83,11 +85,13 @@ placing_more at sections rest s old new d first here others f =
       ];
     }
 
-pub placing_all : (at : Identifier → Identifier) (sections rest : List Identifier) (placing : Identifier → Option Identifier) → slice_get rest 0 ≡ None → IsPlacingSome at sections rest placing → IsPlacing at sections placing
+pub placing_all : (at : Identifier → Identifier) (sections rest : List Identifier) (placing : Identifier → Option Identifier) → slice_get rest 0 ≡ None
+    → IsPlacingSome at sections rest placing → IsPlacing at sections placing
 placing_all at sections rest placing e f = subst (λ z. IsPlacing at z placing) (sym (append-nil f.front) ∙ ap (λ z. f.front ++ z) (sym (no_rest rest e)) ∙ f.whole) f.placed
 
 -- at an element stands what is placed there
-at_element : (h : List Op) (placing : Identifier → Option Identifier) → Lawful h → IsPlacing (position h) (shown catalogue h) placing → (x : Identifier) → sections_at h x ≡ option_to_list (placing x)
+at_element : (h : List Op) (placing : Identifier → Option Identifier) → Lawful h → IsPlacing (position h) (shown catalogue h) placing → (x : Identifier)
+    → sections_at h x ≡ option_to_list (placing x)
 at_element h placing w st x =
     elim (cases_option (placing x)) [
       | inl n ↦ empty_from (sections_at h x) (λ s m. not_both (placing x) s n ((st x s).1 (at_position h x s m))) ∙ sym (ap option_to_list n)
@@ -109,14 +113,16 @@ positions_are h list bids winners f is s = ap (bid_position s) (won_by h (moves 
     by_winner (Some m) = refl
 
 -- and so no two shown sections have one
-pub positions_apart : (h : List Op) (sections : List Identifier) (at : Identifier → Identifier) → Lawful h → sections ≡ shown catalogue h → ((s : Identifier) → at s ≡ position h s) → HaveOwnPositions at sections
+pub positions_apart : (h : List Op) (sections : List Identifier) (at : Identifier → Identifier) → Lawful h → sections ≡ shown catalogue h
+    → ((s : Identifier) → at s ≡ position h s) → HaveOwnPositions at sections
 positions_apart h sections at w is k s t m n e =
     let a : Contains (shown catalogue h) s = subst (λ z. Contains z s) is m in
     let b : Contains (shown catalogue h) t = subst (λ z. Contains z t) is n in
     apart h s t w (shown_is h s w a) (shown_is h t w b) (sym (k s) ∙ e ∙ k t)
 
 -- the placing, told by the positions of the definitions
-pub placing_same : (h : List Op) (sections : List Identifier) (at : Identifier → Identifier) (placing : Identifier → Option Identifier) → sections ≡ shown catalogue h → ((s : Identifier) → at s ≡ position h s)
+pub placing_same : (h : List Op) (sections : List Identifier) (at : Identifier → Identifier) (placing : Identifier → Option Identifier) → sections ≡ shown catalogue h
+    → ((s : Identifier) → at s ≡ position h s)
     → IsPlacing at sections placing → IsPlacing (position h) (shown catalogue h) placing
 placing_same h sections at placing is k f x s = (
   λ e. let p = (f x s).0 e in (subst (λ z. Contains z s) is p.0, sym (k s) ∙ p.1),

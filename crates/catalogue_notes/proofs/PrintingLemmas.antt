@@ -97,7 +97,8 @@ text_found m h s w a k =
     by (Some l) t i = (l, refl, i)
 
 -- so what is printed is the text of the definitions
-pub printed_all : (m : Contents) (h : List Op) (l : Layout) → Lawful h → LookUpsAgree m h → IsLayout h l → flat_map (printed_by m h l) l.arrangement.sections.items ≡ arranged_text h
+pub printed_all : (m : Contents) (h : List Op) (l : Layout) → Lawful h → LookUpsAgree m h → IsLayout h l
+    → flat_map (printed_by m h l) l.arrangement.sections.items ≡ arranged_text h
 unfolding arranged_text
 printed_all m h l w a f =
     ap (flat_map (printed_by m h l)) f.arranged.sections

@@ -5,7 +5,8 @@ use Rattle.std.specs.Option.{option_or}
 use Rattle.std.proofs.lemmas.Bool.{cases_Bool, le-ltb, lt-ltb, true≢false}
 use Rattle.std.proofs.lemmas.Bool.Decides.{nat_tests}
 use Rattle.origin_model.specs.declared.edit_fault.EditFault.{EditFault}
-use Rattle.origin_model.specs.declared.edit_fault.EditFault.TheVariants.{NoSection as EditNoSection, OutOfRange as EditOutOfRange, IdsSpent as EditIdsSpent, TooMany as EditTooMany, NoMemory as EditNoMemory}
+use Rattle.origin_model.specs.declared.edit_fault.EditFault.TheVariants.{NoSection as EditNoSection, OutOfRange as EditOutOfRange, IdsSpent as EditIdsSpent, TooMany as EditTooMany}
+use Rattle.origin_model.specs.declared.edit_fault.EditFault.TheVariants.{NoMemory as EditNoMemory}
 use Rattle.origin_model.specs.declared.operations.Place.TheVariants.{Catalogue as catalogue}
 use Rattle.origin_model.specs.edits.Noting.{note_refusal}
 use Rattle.origin_model.specs.edits.State.{State}
@@ -78,7 +79,8 @@ pub absence_told : (cause : Option MoveFault) (fault : MoveFault) → cause ≡ 
 absence_told cause fault k g a = (λ e. k ∙ ap Some (err_inj fault g e), λ e. ap Err (same_value cause fault g k e))
 
 -- or all is there
-all_there : (cause : Option MoveFault) (result : Result ℕ MoveFault) → cause ≡ None → ((fault : MoveFault) → result ≡ Err fault → is_absence fault ≡ false) → TellsAbsence cause result
+all_there : (cause : Option MoveFault) (result : Result ℕ MoveFault) → cause ≡ None → ((fault : MoveFault) → result ≡ Err fault → is_absence fault ≡ false)
+    → TellsAbsence cause result
 all_there cause result n f g a = (λ e. absurd (true≢false (sym a ∙ f g e)), λ e. absurd (not_both cause g n e))
 
 -- a fault that a plan finds tells no absence

@@ -66,7 +66,8 @@ retitle_read id s n title k t =
     ∙ ap (λ z. Some (claim id s z (chars title))) (from_be_bytes-to_be_bytes_4 n k)
 
 -- the retitle, on a lawful history
-module _ (h : List Op) (id s : Identifier) (title : List ℕ) (w : Lawful h) (new : holder h id ≡ None) (left_over : stamp h + 1 < 2 ^ 32) (is_here : is_section h s ≡ true) (t : is_title title ≡ true) where
+module _ (h : List Op) (id s : Identifier) (title : List ℕ) (w : Lawful h) (new : holder h id ≡ None) (left_over : stamp h + 1 < 2 ^ 32) (is_here : is_section h s ≡ true)
+    (t : is_title title ≡ true) where
   abbrev n : ℕ
   n = stamp h + 1
 
@@ -77,7 +78,8 @@ module _ (h : List Op) (id s : Identifier) (title : List ℕ) (w : Lawful h) (ne
   r = claim id s n (chars title)
 
   ready : verdict h e ≡ Ready
-  ready = let f = section_held h s is_here in note_ready h id (s ∷ []) RETITLE_CODE (retitle_body n title) w (ap is_some new) (are_held h (s ∷ []) (All-cons (IsHeld h) s [] (f.0, f.1) (All-nil (IsHeld h))))
+  ready = let f = section_held h s is_here in
+      note_ready h id (s ∷ []) RETITLE_CODE (retitle_body n title) w (ap is_some new) (are_held h (s ∷ []) (All-cons (IsHeld h) s [] (f.0, f.1) (All-nil (IsHeld h))))
 
   retitles_are : retitles (e ∷ h) ≡ r ∷ retitles h
   retitles_are = claims-some retitle_in is_valid_title e h r (passing_to (is_valid_title h) (retitle_in e) r (retitle_read id s n title left_over t) is_here)

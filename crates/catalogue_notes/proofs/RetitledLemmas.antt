@@ -44,7 +44,8 @@ step known h op k =
     ]
 
 -- what the operation at a place of the list adds
-pub retitled_more : (ops : List Op) (i : ℕ) (op : Op) (known : Identifier → Bool) → Lawful (reverse ops) → ((s : Identifier) → known s ≡ is_section (reverse ops) s) → i < length ops → op ≡ get_or ops i op
+pub retitled_more : (ops : List Op) (i : ℕ) (op : Op) (known : Identifier → Bool) → Lawful (reverse ops) → ((s : Identifier) → known s ≡ is_section (reverse ops) s)
+    → i < length ops → op ≡ get_or ops i op
     → map bid_of (retitles (op ∷ Passed ops i)) ≡ option_to_list (known_retitle known op) ++ map bid_of (retitles (Passed ops i))
 retitled_more ops i op known w k l e =
     let h : List Op = Passed ops i in

@@ -1,6 +1,6 @@
 -- What a retitle of a replica is.
-use Rattle.std.proofs.Common.{Bool, suc, zero, List, [], ap, arith, length, subst, sym, true, ℕ, ◌+◌, ◌<◌, ◌≤◌, ◌∙◌, ◌∷◌, ◌≡◌, ◌&&◌, not}
-use Rattle.std.specs.Prelude.{Err, IfOk, Ok, Result, Some, nat_le, nat_lt, slice_get}
+use Rattle.std.proofs.Common.{Bool, List, [], ap, arith, length, subst, sym, true, ℕ, ◌+◌, ◌<◌, ◌≤◌, ◌∙◌, ◌∷◌, ◌≡◌, ◌&&◌, not}
+use Rattle.std.specs.Prelude.{Err, IfOk, Ok, Result, nat_le, nat_lt}
 use Rattle.std.specs.List.{Contains}
 use Rattle.std.specs.Str.{IsUtf8, chars, encode_utf8_all, is_utf8}
 use Rattle.std.proofs.lemmas.Bool.{and_from, and_parts}
@@ -10,7 +10,6 @@ use Rattle.fugue_ids.specs.Identifiers.{Identifier}
 use Rattle.fugue_ids.specs.Titles.{IsTitleText, has_line_end}
 use Rattle.fugue_ids.specs.declared.limits.TheConstants.{LONGEST_TITLE}
 use Rattle.fugue_ids.specs.declared.op.Op.{Op}
-use Rattle.fugue_ids.proofs.ListLemmas.{contains_here, contains_there}
 use Rattle.fugue_ids.proofs.TextLemmas.{encode_utf8_all-chars}
 use Rattle.origin_model.specs.edits.Edits.{id_at}
 use Rattle.origin_model.specs.edits.Noting.{AreHeld, IsNoted, note_by}

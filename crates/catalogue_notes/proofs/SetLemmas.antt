@@ -1,5 +1,5 @@
 -- The set of the operations fixes the arrangement, the headings and the text of both.
-use Rattle.std.proofs.Common.{Bool, List, [], ap, false, inl, inr, not, refl, subst, sym, true, ℕ, ◌&&◌, ◌++◌, ◌∙◌, ◌∷◌, ◌≡◌}
+use Rattle.std.proofs.Common.{Bool, List, [], ap, inl, inr, not, refl, subst, sym, true, ℕ, ◌&&◌, ◌++◌, ◌∙◌, ◌∷◌, ◌≡◌}
 use Rattle.std.specs.Prelude.{None, Option, Some, codes, filter, flat_map, is_some, option_map}
 use Rattle.std.specs.List.{All, Contains}
 use Rattle.std.specs.Str.{encode_utf8_all}
@@ -28,7 +28,8 @@ use Rattle.catalogue_notes.specs.Lift.{as_section, claims, is_section, is_valid_
 use Rattle.catalogue_notes.proofs.ArrangedLemmas.{move_test, position_by}
 use Rattle.catalogue_notes.proofs.ClaimLemmas.{best-same, claim_found, found_claim, one_claim}
 use Rattle.catalogue_notes.proofs.HolderLemmas.{Joins, cases_option, holder-kept, is_section-held, joins, not_both, same_value, section_held}
-use Rattle.catalogue_notes.proofs.LiftLemmas.{holder-lift, is_lifted, lift-nil, lift-none, lift-other, lift-some, lift_lawful, lifted-kept, lifted_from, lifted_to, map_from, move-kept, order_held, passing_from, passing_to, shape}
+use Rattle.catalogue_notes.proofs.LiftLemmas.{holder-lift, is_lifted, lift-nil, lift-none, lift-other, lift-some, lift_lawful, lifted-kept, lifted_from, lifted_to, map_from}
+use Rattle.catalogue_notes.proofs.LiftLemmas.{move-kept, order_held, passing_from, passing_to, shape}
 use Rattle.catalogue_notes.proofs.PartLemmas.{filter_full}
 use Rattle.catalogue_notes.proofs.RetitleLemmas.{title-kept, title_shape}
 
@@ -50,12 +51,14 @@ stands-within g k (Some x) f t = let r = found (holder g x) t in ap is_some (f x
 section-within : (a b : List Op) (s : Identifier) → IsWithin a b → is_section a s ≡ true → is_section b s ≡ true
 section-within a b s f t = let r = section_held a s t in is_section-held b s r.0 (f s r.0 r.1) r.2
 
-valid-within : (a b : List Op) (m : Move) → IsWithin a b → ((x : Identifier) (op : Op) → holder (lift a) x ≡ Some op → holder (lift b) x ≡ Some op) → move_test a m ≡ true → move_test b m ≡ true
+valid-within : (a b : List Op) (m : Move) → IsWithin a b → ((x : Identifier) (op : Op) → holder (lift a) x ≡ Some op → holder (lift b) x ≡ Some op) → move_test a m ≡ true
+    → move_test b m ≡ true
 valid-within a b m f g t =
     let p = and_parts (is_section a m.section) (stands (lift a) m.value.left && stands (lift a) m.value.right) t in
     let q = and_parts (stands (lift a) m.value.left) (stands (lift a) m.value.right) p.1 in
     and_from (is_section b m.section) (stands (lift b) m.value.left && stands (lift b) m.value.right) (section-within a b m.section f p.0)
-    (and_from (stands (lift b) m.value.left) (stands (lift b) m.value.right) (stands-within (lift a) (lift b) m.value.left g q.0) (stands-within (lift a) (lift b) m.value.right g q.1))
+    (and_from (stands (lift b) m.value.left) (stands (lift b) m.value.right) (stands-within (lift a) (lift b) m.value.left g q.0)
+    (stands-within (lift a) (lift b) m.value.right g q.1))
 
 lifted-within : (a b : List Op) (e : Op) (op : Op) → IsWithin a b → ((x : Identifier) (op : Op) → holder (lift a) x ≡ Some op → holder (lift b) x ≡ Some op)
     → lifted_of a (lift a) e ≡ Some op → lifted_of b (lift b) e ≡ Some op
@@ -123,32 +126,39 @@ has_lifted (e ∷ h) op k =
 -- what is lifted of a part stands in the order of the whole
 pub lifted_order_stays : LiftedOrderStays
 lifted_order_stays a b v w f =
-    (parts_keep_order catalogue (lift a) (lift b) (lift_lawful a v) (lift_lawful b w) (part (lift a) (lift b) (lift_lawful a v) (has_lifted a) (lift-within a b v w (Within-part a b w f)))).same_order
+    (parts_keep_order catalogue (lift a) (lift b) (lift_lawful a v) (lift_lawful b w)
+    (part (lift a) (lift b) (lift_lawful a v) (has_lifted a) (lift-within a b v w (Within-part a b w f)))).same_order
 
 -- and two of its elements stand so in the whole as in the part
 pub lifted_before_stays : (a b : List Op) → Lawful a → Lawful b → IsPartOf a b → (x y : Identifier) → IsIn catalogue (lift a) x → IsIn catalogue (lift a) y
     → before catalogue (lift a) x y ≡ before catalogue (lift b) x y
 lifted_before_stays a b v w f =
-    (parts_keep_order catalogue (lift a) (lift b) (lift_lawful a v) (lift_lawful b w) (part (lift a) (lift b) (lift_lawful a v) (has_lifted a) (lift-within a b v w (Within-part a b w f)))).same_before
+    (parts_keep_order catalogue (lift a) (lift b) (lift_lawful a v) (lift_lawful b w)
+    (part (lift a) (lift b) (lift_lawful a v) (has_lifted a) (lift-within a b v w (Within-part a b w f)))).same_before
 
 -- the same claims are valid, where the tests agree on what is holder
 module _ {V : Type 0} (says : Op → Option (Claim V)) (test : List Op → Claim V → Bool)
     (own : (e : Op) (c : Claim V) → says e ≡ Some c → id_of e ≡ Some c.id)
     (kept : (e : Op) (h : List Op) (f : Op) → Joins h e → All (Fits h) (names f) → passing (test (e ∷ h)) (says f) ≡ passing (test h) (says f)) where
-  claims_within : (a b : List Op) → Lawful a → Lawful b → IsWithin a b → ((c : Claim V) → test a c ≡ true → test b c ≡ true) → (c : Claim V) → Contains (claims says test a) c → Contains (claims says test b) c
+  claims_within : (a b : List Op) → Lawful a → Lawful b → IsWithin a b → ((c : Claim V) → test a c ≡ true → test b c ≡ true) → (c : Claim V) → Contains (claims says test a) c
+      → Contains (claims says test b) c
   claims_within a b v w f t c m =
       let r = claim_found says test own kept a c v m in
       let p = passing_from (test a) (says r.0) c r.2 in
       found_claim says test own kept b c.id r.0 c w (f c.id r.0 r.1) (passing_to (test b) (says r.0) c p.0 (t c p.1))
 
-  winner-same : (a b : List Op) → Lawful a → Lawful b → IsWithin a b → IsWithin b a → ((c : Claim V) → test a c ≡ true → test b c ≡ true) → ((c : Claim V) → test b c ≡ true → test a c ≡ true)
+  winner-same : (a b : List Op) → Lawful a → Lawful b → IsWithin a b → IsWithin b a → ((c : Claim V) → test a c ≡ true → test b c ≡ true)
+      → ((c : Claim V) → test b c ≡ true → test a c ≡ true)
       → ((x : Identifier) → is_hidden a x ≡ is_hidden b x) → (s : Identifier) → winner a s (claims says test a) ≡ winner b s (claims says test b)
   winner-same a b v w f g t u hid s =
       let agree : (c : Claim V) → counts a s c ≡ counts b s c = λ c. ap (λ z. id_eq c.section s && not z) (hid c.id) in
       best-same (filter (counts a s) (claims says test a)) (filter (counts b s) (claims says test b))
-      (λ c m. let r = contains_filter_from (counts a s) (claims says test a) c m in contains_filter (counts b s) (claims says test b) c (claims_within a b v w f t c r.0) (sym (agree c) ∙ r.1))
-      (λ c m. let r = contains_filter_from (counts b s) (claims says test b) c m in contains_filter (counts a s) (claims says test a) c (claims_within b a w v g u c r.0) (agree c ∙ r.1))
-      (λ c d m n. one_claim says test own kept a c d v (contains_filter_from (counts a s) (claims says test a) c m).0 (contains_filter_from (counts a s) (claims says test a) d n).0)
+      (λ c m. let r = contains_filter_from (counts a s) (claims says test a) c m in
+      contains_filter (counts b s) (claims says test b) c (claims_within a b v w f t c r.0) (sym (agree c) ∙ r.1))
+      (λ c m. let r = contains_filter_from (counts b s) (claims says test b) c m in
+      contains_filter (counts a s) (claims says test a) c (claims_within b a w v g u c r.0) (agree c ∙ r.1))
+      (λ c d m n. one_claim says test own kept a c d v (contains_filter_from (counts a s) (claims says test a) c m).0
+      (contains_filter_from (counts a s) (claims says test a) d n).0)
 
 -- an order is that of a history with the same operations
 order_same : (p : Place) (a b : List Op) → Lawful a → Lawful b → IsPartOf a b → ((x : Identifier) → holder a x ≡ holder b x) → order p a ≡ order p b
@@ -182,7 +192,8 @@ arranged_by_set a b v w same =
     let moved : (s : Identifier) → winner a s (moves a) ≡ winner b s (moves b) =
     winner-same move_in move_test (λ e m k. (shape e m k).own) move-kept a b v w f g (λ m. valid-within a b m f up) (λ m. valid-within b a m g down) hid in
     let titled : (s : Identifier) → winner a s (retitles a) ≡ winner b s (retitles b) =
-    winner-same retitle_in is_valid_title (λ e r k. (title_shape e r k).own) title-kept a b v w f g (λ r. section-within a b r.section f) (λ r. section-within b a r.section g) hid in
+    winner-same retitle_in is_valid_title (λ e r k. (title_shape e r k).own) title-kept a b v w f g (λ r. section-within a b r.section f)
+    (λ r. section-within b a r.section g) hid in
     let listed : arranged a ≡ arranged b = λ i. flat_map (λ x. filter (λ s. id_eq (position_by s (moved s i)) x) (visible catalogue i)) (lifted i) in
     let head : (s : Identifier) → heading a s ≡ heading b s = λ s. λ i. elim (titled s i) [ None ↦ title_of (all s i) | Some r ↦ r.value ] in
     record {

@@ -102,7 +102,8 @@ module _ {V : Type 0} (h : List Op) (s : Identifier) (cs : List (Claim V)) where
         stays = counts_from c r.1;
         stamp = λ d m j. elim (cases_lt c.stamp d.stamp) [ inl l ↦ absurd (true≢false (sym (beats-stamp d c l) ∙ not_beaten c k d m j)) | inr l ↦ l ];
         tie = λ d m j e. false_from_ne_true (id_lt c.id d.id) (λ t. true≢false (
-            sym (or_right (nat_lt c.stamp d.stamp) (nat_eq c.stamp d.stamp && id_lt c.id d.id) (and_from (nat_eq c.stamp d.stamp) (id_lt c.id d.id) (eq-eqb c.stamp d.stamp (sym e)) t))
+            sym (or_right (nat_lt c.stamp d.stamp) (nat_eq c.stamp d.stamp && id_lt c.id d.id)
+            (and_from (nat_eq c.stamp d.stamp) (id_lt c.id d.id) (eq-eqb c.stamp d.stamp (sym e)) t))
             ∙ not_beaten c k d m j));
       }
 

@@ -15,11 +15,13 @@ use Rattle.catalogue_notes.specs.declared.reading.Bid.{Bid}
 use Rattle.catalogue_notes.proofs.PartLemmas.{filter_no, filter_yes}
 
 -- a bid that does not count is passed over
-bid_over : (stands : Identifier → Bool) (b : Bid) (passed : List Bid) (s : Identifier) → bid_counts stands s b ≡ false → winning_bid stands s (b ∷ passed) ≡ winning_bid stands s passed
+bid_over : (stands : Identifier → Bool) (b : Bid) (passed : List Bid) (s : Identifier) → bid_counts stands s b ≡ false
+    → winning_bid stands s (b ∷ passed) ≡ winning_bid stands s passed
 bid_over stands b passed s k = ap best_bid (filter_no (bid_counts stands s) b passed k)
 
 -- one bid more that stands
-pub bid_taken : (stands : Identifier → Bool) (b : Bid) (passed : List Bid) (old new : Identifier → Option Bid) → ((s : Identifier) → old s ≡ winning_bid stands s passed) → stands b.id ≡ true
+pub bid_taken : (stands : Identifier → Bool) (b : Bid) (passed : List Bid) (old new : Identifier → Option Bid) → ((s : Identifier) → old s ≡ winning_bid stands s passed)
+    → stands b.id ≡ true
     → IsReplaced old new b.section (Some (better_bid b (old b.section))) → (s : Identifier) → new s ≡ winning_bid stands s (b ∷ passed)
 bid_taken stands b passed old new is k r s =
     elim (cases_id s b.section) [

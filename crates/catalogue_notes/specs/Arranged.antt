@@ -1,5 +1,6 @@
 -- Where sections stand, and what their titles are: of the valid claims that no Delete names the one with the greatest stamp wins.
-use Rattle.std.specs.Prelude.{ℕ, nat_eq, nat_lt, Option, Some, None, Bool, if◌then◌else◌, not, ◌&&◌, ◌||◌, List, [], ◌∷◌, ◌++◌, filter, flat_map, codes}
+use Rattle.std.specs.Prelude.{ℕ, nat_eq, nat_lt, Option, Some, None, Bool, if◌then◌else◌, not, ◌&&◌, ◌||◌, List, [], ◌∷◌, ◌++◌, filter}
+use Rattle.std.specs.Prelude.{flat_map, codes}
 use Rattle.std.specs.Str.{encode_utf8_all}
 use Rattle.fugue_ids.specs.Identifiers.{Identifier, id_eq, id_lt}
 use Rattle.fugue_ids.specs.declared.op.Op.{Op}

@@ -1,5 +1,6 @@
 -- Laws of moves and retitles, each for every lawful history.
-use Rattle.std.specs.Prelude.{◌≡◌, ◌≢◌, ◌↔◌, ◌⊎◌, ℕ, ◌+◌, ◌<◌, ◌≤◌, ◌^◌, Option, None, Some, IfSome, true, false, List, ◌∷◌, length, filter, insert, slice_get}
+use Rattle.std.specs.Prelude.{◌≡◌, ◌≢◌, ◌↔◌, ◌⊎◌, ℕ, ◌+◌, ◌<◌, ◌≤◌, ◌^◌, Option, None, Some, IfSome, true, false, List, ◌∷◌, length, filter}
+use Rattle.std.specs.Prelude.{insert, slice_get}
 use Rattle.std.specs.List.{AllPairs, Contains}
 use Rattle.std.specs.Str.{chars}
 use Rattle.fugue_ids.specs.Identifiers.{Identifier, id_lt}
@@ -14,7 +15,7 @@ use Rattle.origin_model.specs.order.Printed.{is_withdrawn, shown}
 use Rattle.catalogue_notes.specs.Arranged.{arranged, arranged_text, heading, position, winner}
 use Rattle.catalogue_notes.specs.Claims.{Claim, Move, Retitle, is_title, move_in, retitle_in}
 use Rattle.catalogue_notes.specs.Lift.{is_section, lift, moves, retitles, stamp}
-use Rattle.catalogue_notes.specs.Making.{moved_member, retitled, without_member}
+use Rattle.catalogue_notes.specs.Making.{move_of_member, retitled, without_member}
 
 -- what is lifted is a lawful list
 abbrev pub LiftIsLawful : Type 0
@@ -57,7 +58,7 @@ pub record ClaimsAre (h : List Op) : Type 0 where
   pub moves_are : (m : Move) → Contains (moves h) m ↔ IsValidMove h m
   pub retitles_are : (r : Retitle) → Contains (retitles h) r ↔ IsValidRetitle h r
 
--- a claim is what its Note says wherever it stands in a lawful history
+-- in a lawful history the claims are those whose Notes are valid in the whole of it
 abbrev pub ValidInWhole : Type 0
 ValidInWhole = (h : List Op) → Lawful h → ClaimsAre h
 
@@ -79,7 +80,7 @@ pub record HasWinner {V : Type 0} (h : List Op) (s : Identifier) (cs : List (Cla
   pub none : (c : Claim V) → Contains cs c → ClaimStays h s c → winner h s cs ≡ None → ⊥
   pub one : (c d : Claim V) → IsWinner h s cs c → IsWinner h s cs d → c ≡ d
 
--- a section has one winner among its moves, and one among its retitles
+-- a section has one winner among its moves where one of these stays, and so among its retitles
 abbrev pub Winners : Type 0
 Winners = (h : List Op) (s : Identifier) → Lawful h → HasWinner h s (moves h) × HasWinner h s (retitles h)
 
@@ -103,7 +104,7 @@ abbrev pub MoveLands : Type 0
 MoveLands =
     (h : List Op) (id s : Identifier) (k j : ℕ) → Lawful h → holds h id ≡ false → stamp h + 1 < 2 ^ 32
     → slice_get (arranged h) k ≡ Some s → j < length (arranged h)
-    → IsMoved h (moved_member h id s k j) s k j
+    → IsMoved h (move_of_member h id s k j) s k j
 
 -- the retitle is Ready, and after it the section has the title, and the others have theirs; nothing else changed
 pub record IsRetitled (h : List Op) (op : Op) (section : Identifier) (title : List ℕ) : Type 0 where

@@ -1,5 +1,7 @@
--- The Sections and the valid moves of a history, and the valid claims: each is judged by the operations before it. A history is newest first.
-use Rattle.std.specs.Prelude.{ℕ, max, Option, Some, None, Bool, true, false, if◌then◌else◌, ◌&&◌, List, [], ◌∷◌, ◌++◌, map, codes, option_to_list, option_map}
+-- The Sections and the valid moves of a history, and the valid claims: each is judged by the operations before it. A
+-- history is newest first.
+use Rattle.std.specs.Prelude.{ℕ, max, Option, Some, None, Bool, true, false, if◌then◌else◌, ◌&&◌, List, [], ◌∷◌, ◌++◌, map, codes}
+use Rattle.std.specs.Prelude.{option_to_list, option_map}
 use Rattle.fugue_ids.specs.Identifiers.{Identifier}
 use Rattle.fugue_ids.specs.declared.op.Op.{Op}
 use Rattle.fugue_ids.specs.declared.op.Op.TheVariants.{Section, Text, Delete, Note}
@@ -39,7 +41,8 @@ abbrev pub lifted_of : List Op → List Op → Op → Option Op
 lifted_of older lifted (Section id left right title) = Some (Section id left right title)
 lifted_of older lifted (Text id section left right ch) = None
 lifted_of older lifted (Delete target) = None
-lifted_of older lifted (Note id named code body) = option_map as_section (passing (is_valid older lifted) (move_in (Note id named code body)))
+lifted_of older lifted (Note id named code body) =
+    option_map as_section (passing (is_valid older lifted) (move_in (Note id named code body)))
 
 -- the Sections and the valid moves of a history, as Sections
 unfoldable pub lift : List Op → List Op

@@ -8,7 +8,8 @@ use Rattle.origin_model.specs.declared.operations.Place.TheVariants.{Catalogue a
 use Rattle.origin_model.specs.declared.operations.node.Node.{Node}
 use Rattle.origin_model.specs.order.Order.{order}
 use Rattle.origin_model.specs.sides.Node.{has_origin, nodes}
-use Rattle.section_list.specs.Cells.{Cell, section_cell_ids, section_cells_shown}
+use Rattle.run_store.specs.Cells.{cell_ids, cells_shown}
+use Rattle.run_store.specs.declared.cell.Cell.{Cell}
 use Rattle.section_list.specs.SectionList.{IsInOrder, Listing}
 use Rattle.catalogue_notes.specs.Claims.{Move, move_in}
 use Rattle.catalogue_notes.specs.Lift.{lift, moves}
@@ -24,7 +25,8 @@ node_at id left right = record { id = id; left = left; right = right }
 abbrev pub lift_move : (Identifier → Bool) → List Node → Option Move → Option Lift
 lift_move known ns None = None
 lift_move known ns (Some m) =
-    if known m.section && (has_origin ns m.value.left && has_origin ns m.value.right) then Some (record { node = node_at m.id m.value.left m.value.right; bid = Some (bid_of m) }) else None
+    if known m.section && (has_origin ns m.value.left && has_origin ns m.value.right) then Some
+    (record { node = node_at m.id m.value.left m.value.right; bid = Some (bid_of m) }) else None
 
 -- what an operation adds, where `known` tells the Sections
 abbrev pub lift_by : (Identifier → Bool) → List Node → Op → Option Lift
@@ -44,5 +46,5 @@ pub record IsLifting (h : List Op) (list : Listing) (bids : List Bid) : Type 0 w
 -- the list has the elements in order, all of them visible, and the bids are those of the valid moves
 pub record IsLiftOf (h : List Op) (list : Listing) (bids : List Bid) : Type 0 where
   pub lifting : IsLifting h list bids
-  pub all : section_cell_ids list.cells ≡ order catalogue (lift h)
-  pub visible : section_cell_ids (section_cells_shown list.cells) ≡ order catalogue (lift h)
+  pub all : cell_ids list.cells ≡ order catalogue (lift h)
+  pub visible : cell_ids (cells_shown list.cells) ≡ order catalogue (lift h)

@@ -45,8 +45,8 @@ abbrev pub retitle_body : ℕ → List ℕ → List ℕ
 retitle_body stamp title = to_be_bytes w32 stamp ++ title
 
 -- the move of a section, which is member k, to j
-abbrev pub moved_member : List Op → (id section : Identifier) → (k j : ℕ) → Op
-moved_member h id section k j = Note id (move_names section (origins_for h k j)) MOVE_CODE (move_body (stamp h + 1) (origins_for h k j))
+abbrev pub move_of_member : List Op → (id section : Identifier) → (k j : ℕ) → Op
+move_of_member h id section k j = Note id (move_names section (origins_for h k j)) MOVE_CODE (move_body (stamp h + 1) (origins_for h k j))
 
 -- the retitle of a section
 abbrev pub retitled : List Op → (id section : Identifier) → List ℕ → Op

@@ -1,11 +1,14 @@
 -- What a move and a retitle make, and when there is none. Sections and places count from 0.
-use Rattle.std.specs.Prelude.{◌≡◌, ◌≢◌, ◌↔◌, ◌⊎◌, ℕ, ◌+◌, ◌-◌, ◌<◌, ◌^◌, nat_eq, nat_lt, Bool, true, false, Option, Some, None, if◌then◌else◌, Result, Err, IfSome, List, [], ◌∷◌, insert, length, option_map, slice_get}
+use Rattle.std.specs.Prelude.{◌≡◌, ◌≢◌, ◌↔◌, ◌⊎◌, ℕ, ◌+◌, ◌-◌, ◌<◌, ◌^◌, nat_eq, nat_lt, Bool, true, false, Option, Some, None}
+use Rattle.std.specs.Prelude.{if◌then◌else◌, Result, Err, IfSome, List, [], ◌∷◌, insert, length, option_map, slice_get}
 use Rattle.std.specs.Option.{option_or}
 use Rattle.std.specs.Str.{chars, encode_utf8_all}
 use Rattle.fugue_ids.specs.Identifiers.{Identifier}
 use Rattle.fugue_ids.specs.declared.op.Op.{Op}
 use Rattle.origin_model.specs.declared.edit_fault.EditFault.{EditFault}
-use Rattle.origin_model.specs.declared.edit_fault.EditFault.TheVariants.{NoSection as EditNoSection, OutOfRange as EditOutOfRange, IdsSpent as EditIdsSpent, TooMany as EditTooMany, NoMemory as EditNoMemory}
+use Rattle.origin_model.specs.declared.edit_fault.EditFault.TheVariants.{NoSection as EditNoSection, OutOfRange as EditOutOfRange}
+use Rattle.origin_model.specs.declared.edit_fault.EditFault.TheVariants.{IdsSpent as EditIdsSpent, TooMany as EditTooMany}
+use Rattle.origin_model.specs.declared.edit_fault.EditFault.TheVariants.{NoMemory as EditNoMemory}
 use Rattle.origin_model.specs.edits.Effect.{Gains}
 use Rattle.origin_model.specs.edits.Noting.{note_by, note_refusal}
 use Rattle.origin_model.specs.edits.State.{State}
@@ -75,7 +78,9 @@ pub record RefusesFor (cause : Option MoveFault) (result : Result ℕ MoveFault)
 
 -- the note of a move
 abbrev pub move_by : State → Identifier → (k j : ℕ) → Op
-move_by s section k j = note_by s (move_names section (origins_for s.held.history k j)) MOVE_CODE (move_body (stamp s.held.history + 1) (origins_for s.held.history k j))
+move_by s section k j =
+    note_by s (move_names section (origins_for s.held.history k j)) MOVE_CODE
+    (move_body (stamp s.held.history + 1) (origins_for s.held.history k j))
 
 -- a move was made, and the section stands where it was asked
 pub record IsMoveMade (old new : State) (k j n : ℕ) : Type 0 where

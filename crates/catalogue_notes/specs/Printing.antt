@@ -8,7 +8,7 @@ use Rattle.fugue_ids.specs.declared.op.Op.{Op}
 use Rattle.fugue_ids.specs.declared.op.Op.TheVariants.{Section, Text, Delete, Note}
 use Rattle.fugue_ids.specs.declared.out.Failed.{Failed}
 use Rattle.origin_model.specs.operations.History.{holder}
-use Rattle.section_list.specs.Cells.{section_text}
+use Rattle.run_store.specs.Cells.{cell_text}
 use Rattle.section_list.specs.SectionList.{Listing}
 use Rattle.section_catalogue.specs.Contents.{Contents, text_at}
 use Rattle.catalogue_notes.specs.Arranged.{winner}
@@ -47,7 +47,7 @@ pub record IsLayout (h : List Op) (l : Layout) : Type 0 where
 -- a hash sign, a space, the title, LF, the text, LF
 abbrev pub page : List ℕ → Option Listing → List ℕ
 page title None = []
-page title (Some l) = codes "# " ++ title ++ 10 ∷ encode_utf8_all (section_text l.cells) ++ 10 ∷ []
+page title (Some l) = codes "# " ++ title ++ 10 ∷ encode_utf8_all (cell_text l.cells) ++ 10 ∷ []
 
 -- what is printed of a section
 abbrev pub printed_by : Contents → List Op → Layout → Identifier → List ℕ

@@ -28,6 +28,6 @@ abbrev pub known_bid : (Identifier → Bool) → Option Bid → Option Bid
 known_bid known None = None
 known_bid known (Some b) = if known b.section then Some b else None
 
--- what an operation says in that comparison, where it retitles a known section
+-- the bid of an operation's retitle, where it retitles a known section
 abbrev pub known_retitle : (Identifier → Bool) → Op → Option Bid
 known_retitle known op = known_bid known (option_map retitle_bid (retitle_in op))

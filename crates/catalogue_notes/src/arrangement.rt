@@ -4,7 +4,7 @@ ghost use Rattle.std.specs.List.{Contains};
 ghost use Rattle.std.specs.BTreeMap.{get};
 ghost use Rattle.fugue_ids.specs.Identifiers.{Identifier, id_cmp};
 ghost use Rattle.origin_model.specs.edits.State.{IsSound};
-ghost use Rattle.section_list.specs.Cells.{section_cell_ids, section_cells_shown};
+ghost use Rattle.run_store.specs.Cells.{cell_ids, cells_shown};
 ghost use Rattle.catalogue_notes.specs.Arranging.{IsBehindNote};
 ghost use Rattle.catalogue_notes.specs.Lifting.{IsLiftOf};
 ghost use Rattle.catalogue_notes.specs.Making.{without_member};
@@ -44,9 +44,9 @@ fn placing_of(
     winners: &BTreeMap<ElementId, Bid>,
     catalogue: &SectionList,
 ) -> Result<BTreeMap<ElementId, ElementId>, NoMemory>
-    requires { HaveOwnPositions (position_in (get id_cmp winners.now)) (section_cell_ids (section_cells_shown catalogue.now.cells)) }
+    requires { HaveOwnPositions (position_in (get id_cmp winners.now)) (cell_ids (cells_shown catalogue.now.cells)) }
     ensures { IfOk result (λ placing. IsPlacing (position_in (get id_cmp winners.now))
-        (section_cell_ids (section_cells_shown catalogue.now.cells)) (get id_cmp placing)) }
+        (cell_ids (cells_shown catalogue.now.cells)) (get id_cmp placing)) }
 {
     let mut placing = BTreeMap::new(alloc);
     let mut shown = catalogue.shown();
@@ -63,7 +63,7 @@ fn arranged_in(
     placing: &BTreeMap<ElementId, ElementId>,
 ) -> Result<Vec<ElementId>, NoMemory>
     ensures { IfOk result (λ found. found.items ≡ flat_map (λ x. option_to_list (get id_cmp placing.now x))
-        (section_cell_ids (section_cells_shown list.now.cells))) }
+        (cell_ids (cells_shown list.now.cells))) }
 {
     let mut found = Vec::new(alloc);
     let mut shown = list.shown();

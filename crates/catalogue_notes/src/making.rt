@@ -5,7 +5,7 @@ ghost use Rattle.fugue_ids.specs.Identifiers.{id_cmp};
 ghost use Rattle.fugue_ids.specs.declared.op.Op.{Op as OpOf};
 ghost use Rattle.origin_model.specs.edits.Edits.{in_front};
 ghost use Rattle.origin_model.specs.edits.Landing.{following};
-ghost use Rattle.section_list.specs.Cells.{section_cell_ids};
+ghost use Rattle.run_store.specs.Cells.{cell_ids};
 ghost use Rattle.catalogue_notes.specs.Lift.{stamp as stamp_on};
 ghost use Rattle.catalogue_notes.specs.Making.{form_of, move_body, move_names, origins_for, without_member};
 ghost use Rattle.catalogue_notes.specs.Placing.{IsArranged, position_in};
@@ -50,7 +50,7 @@ fn left_for(arrangement: &Arrangement, k: usize, j: usize) -> Option<ElementId>
 
 /// The element that follows, whatever it stands for.
 fn right_for(arrangement: &Arrangement, left: &Option<ElementId>) -> Option<ElementId>
-    ensures { result ≡ following (section_cell_ids arrangement.now.lifted.list.cells) left.now }
+    ensures { result ≡ following (cell_ids arrangement.now.lifted.list.cells) left.now }
 {
     arrangement.lifted.list.after(*left)
 }

@@ -5,7 +5,7 @@ ghost use Rattle.origin_model.specs.declared.operations.Place.TheVariants.{Catal
 ghost use Rattle.origin_model.specs.edits.State.{IsSound};
 ghost use Rattle.origin_model.specs.operations.Verdict.{Lawful};
 ghost use Rattle.section_catalogue.specs.Manuscript.{IsOrderedPlace};
-ghost use Rattle.section_list.specs.Cells.{section_cell_ids, section_cells_shown};
+ghost use Rattle.run_store.specs.Cells.{cell_ids, cells_shown};
 ghost use Rattle.catalogue_notes.specs.Outlining.{IsOutline};
 ghost use Rattle.catalogue_notes.specs.Printing.{IsLayout, title_giver, title_of_op};
 
@@ -19,9 +19,9 @@ use std::alloc::Global;
 
 /// The number of a visible section, from 0.
 fn number_of(catalogue: &SectionList, section: ElementId) -> usize
-    requires visible { Contains (section_cell_ids (section_cells_shown catalogue.now.cells)) section }
-    requires apart { AllPairs (λ x y. x ≢ y) (section_cell_ids catalogue.now.cells) }
-    ensures { slice_get (section_cell_ids (section_cells_shown catalogue.now.cells)) result ≡ Some section }
+    requires visible { Contains (cell_ids (cells_shown catalogue.now.cells)) section }
+    requires apart { AllPairs (λ x y. x ≢ y) (cell_ids catalogue.now.cells) }
+    ensures { slice_get (cell_ids (cells_shown catalogue.now.cells)) result ≡ Some section }
 {
     match catalogue.visible_before(section) {
         Some(before) => before,
@@ -37,11 +37,11 @@ fn entry_of(
     layout: &Layout,
     section: ElementId,
 ) -> Result<Entry, NoMemory>
-    requires visible { Contains (section_cell_ids (section_cells_shown catalogue.now.cells)) section }
-    requires apart { AllPairs (λ x y. x ≢ y) (section_cell_ids catalogue.now.cells) }
+    requires visible { Contains (cell_ids (cells_shown catalogue.now.cells)) section }
+    requires apart { AllPairs (λ x y. x ≢ y) (cell_ids catalogue.now.cells) }
     ensures section { IfOk result (λ entry. entry.section ≡ section) }
     ensures number { IfOk result (λ entry.
-        slice_get (section_cell_ids (section_cells_shown catalogue.now.cells)) entry.number ≡ Some section) }
+        slice_get (cell_ids (cells_shown catalogue.now.cells)) entry.number ≡ Some section) }
     ensures heading { IfOk result (λ entry.
         string_bytes entry.heading ≡ title_of_op (title_giver replica.now.held.history layout.now section)) }
 {

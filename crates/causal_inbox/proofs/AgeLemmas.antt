@@ -1,5 +1,6 @@
 -- Ages that are added to lists and dropped from them.
-use Rattle.std.proofs.Common.{ap, arith, get_or, inl, inr, refl, subst, true, length, ℕ, zero, suc, List, [], ◌∷◌, ◌++◌, Bool, not, nat_eq, ◌+◌, ◌-◌, ◌<◌, ◌≤◌, ◌∙◌, ◌≡◌, ◌≢◌, length-append}
+use Rattle.std.proofs.Common.{ap, arith, get_or, inl, inr, refl, subst, true, length, ℕ, zero, suc, List, [], ◌∷◌, ◌++◌, Bool, not, nat_eq, ◌+◌, ◌-◌, ◌<◌, ◌≤◌, ◌∙◌, ◌≡◌, ◌≢◌}
+use Rattle.std.proofs.Common.{length-append}
 use Rattle.std.specs.Prelude.{Some, slice_get, filter, All, AllPairs, Result, Ok, Err}
 use Rattle.std.specs.List.{position_or_len, remove}
 use Rattle.std.specs.List.Sorted.{IsBinarySearchResult}
@@ -90,7 +91,8 @@ unfound ages a p r s k within e =
     elim (cases_lt k p) [ inl before ↦ omega (arith, f.1 k before, e) | inr behind ↦ omega (arith, f.2 k behind within, e) ]
 
 -- the position of an age that is not there
-pub position_none : (ages : List ℕ) (a first : ℕ) → AllPairs ◌<◌ ages → IsFirstFrom ages a first → (first < length ages → get_or ages first 0 ≢ a) → position_or_len (λ b. nat_eq b a) ages ≡ length ages
+pub position_none : (ages : List ℕ) (a first : ℕ) → AllPairs ◌<◌ ages → IsFirstFrom ages a first → (first < length ages → get_or ages first 0 ≢ a)
+    → position_or_len (λ b. nat_eq b a) ages ≡ length ages
 position_none ages a first r is other = position_or_len_is (λ b. nat_eq b a) ages (length ages) 0 (omega arith)
     (λ k within. ne_eqb (get_or ages k 0) a (apart k within)) (λ there. absurd (omega (arith, there)))
   where

@@ -39,7 +39,8 @@ named_any i ns c =
 -- an operation that is found by a key has or names its identifier
 kind_mentioned : (kind : Kind) (i : Identifier) (op : Op) → has_kind kind i op ≡ true → Contains (mentioned_ids op) i
 kind_mentioned Own i op e =
-    Contains-append_left (option_to_list (id_of op)) (map (λ n. n.0) (names op)) i (subst (λ o. Contains (option_to_list o) i) (sym (origin_eq-true (id_of op) (Some i) e)) (contains_here i []))
+    Contains-append_left (option_to_list (id_of op)) (map (λ n. n.0) (names op)) i
+    (subst (λ o. Contains (option_to_list o) i) (sym (origin_eq-true (id_of op) (Some i) e)) (contains_here i []))
 kind_mentioned Named i op e = Contains-append_right (option_to_list (id_of op)) (map (λ n. n.0) (names op)) i (any_named i (names op) e)
 kind_mentioned Target i (Delete t) e = subst (Contains (t ∷ [])) (id_eq-true t i e) (contains_here t [])
 kind_mentioned Target i _ e = absurd (false≢true e)
@@ -63,7 +64,8 @@ keys_mentioned key (op ∷ ops) e = elim (or_cases (has_key key op) (list_any (h
   | inr other ↦ Contains-append_right (mentioned_ids op) (flat_map mentioned_ids ops) key.id (keys_mentioned key ops other)
 ]
 
-pub mentioned_keys : (i : Identifier) (ops : List Op) → Contains (flat_map mentioned_ids ops) i → (list_any (has_key (own_key_of i)) ops ≡ true) ⊎ (list_any (has_key (key_of_naming i)) ops ≡ true)
+pub mentioned_keys : (i : Identifier) (ops : List Op) → Contains (flat_map mentioned_ids ops) i
+    → (list_any (has_key (own_key_of i)) ops ≡ true) ⊎ (list_any (has_key (key_of_naming i)) ops ≡ true)
 mentioned_keys i [] c = absurd (contains_none i c)
 mentioned_keys i (op ∷ ops) c = elim (Contains-append_cases (mentioned_ids op) (flat_map mentioned_ids ops) i c) [
   | inl here ↦ elim (mentioned_key i op here) [ inl e ↦ inl (or_left _ _ e) | inr e ↦ inr (or_left _ _ e) ]

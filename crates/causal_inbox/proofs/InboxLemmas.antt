@@ -13,17 +13,20 @@ pub still_within : (ops left : List Op) (p hold : ℕ) (op : Op) → slice_get o
 still_within ops left p hold op there is within = omega (arith, ap length is, length-remove ops p (slice_get_within ops p op there), within)
 
 -- the first one that passes a test
-pub first_found : (test : Op → Bool) (ops : List Op) (i : ℕ) (op : Op) → slice_get ops i ≡ Some op → ((k : ℕ) (d : Op) → k < i → test (get_or ops k d) ≡ false) → test op ≡ true → Some i ≡ position test ops
+pub first_found : (test : Op → Bool) (ops : List Op) (i : ℕ) (op : Op) → slice_get ops i ≡ Some op → ((k : ℕ) (d : Op) → k < i → test (get_or ops k d) ≡ false) → test op ≡ true
+    → Some i ≡ position test ops
 first_found test ops i op there before passes =
     let within : i < length ops = slice_get_within ops i op there in
-    let first : position_or_len test ops ≡ i = position_or_len_is test ops i op (omega (arith, within)) (λ k l. before k op l) (λ l. ap test (get_or_from_slice_get ops i op op there) ∙ passes) in
+    let first : position_or_len test ops ≡ i =
+    position_or_len_is test ops i op (omega (arith, within)) (λ k l. before k op l) (λ l. ap test (get_or_from_slice_get ops i op op there) ∙ passes) in
     rw (first, lt-ltb i (length ops) within) refl
 
 -- none passes it
 pub none_found : (test : Op → Bool) (ops : List Op) (i : ℕ) → length ops ≤ i → ((k : ℕ) (d : Op) → k < i → test (get_or ops k d) ≡ false) → None ≡ position test ops
 none_found test [] i all fails = refl
 none_found test (op ∷ ops) i all fails =
-    let none : position_or_len test (op ∷ ops) ≡ length (op ∷ ops) = position_or_len_is test (op ∷ ops) (length (op ∷ ops)) op (omega arith) (λ k l. fails k op (omega (arith, l, all))) (λ l. absurd (omega (arith, l))) in
+    let none : position_or_len test (op ∷ ops) ≡ length (op ∷ ops) =
+    position_or_len_is test (op ∷ ops) (length (op ∷ ops)) op (omega arith) (λ k l. fails k op (omega (arith, l, all))) (λ l. absurd (omega (arith, l))) in
     rw (none, le-ltb (length (op ∷ ops)) (length (op ∷ ops)) (omega arith)) refl
 
 -- one more does not

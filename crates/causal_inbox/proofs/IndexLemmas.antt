@@ -1,5 +1,6 @@
 -- An index stays one as operations come and go.
-use Rattle.std.proofs.Common.{ap, arith, false, inl, inr, refl, subst, sym, true, take, drop, length, ℕ, suc, List, [], ◌∷◌, ◌++◌, Bool, nat_eq, ◌+◌, ◌<◌, ◌∙◌, ◌≡◌, length-append, get_or}
+use Rattle.std.proofs.Common.{ap, arith, false, inl, inr, refl, subst, sym, true, take, drop, length, ℕ, suc, List, [], ◌∷◌, ◌++◌, Bool, nat_eq, ◌+◌, ◌<◌, ◌∙◌, ◌≡◌, length-append}
+use Rattle.std.proofs.Common.{get_or}
 use Rattle.std.specs.Prelude.{Some, if◌then◌else◌, slice_get, All, AllPairs, map, not}
 use Rattle.std.specs.List.{position_or_len, remove}
 use Rattle.std.specs.Option.{option_map}
@@ -81,7 +82,8 @@ front_among key n keys none =
     (or_parts _ _ (sym (list_any-append test (take n keys) (drop n keys)) ∙ ap (λ l. is_among l key) (take-append-drop n keys) ∙ none)).0
 
 -- the ages under each key rise while an age is added
-pub front_rises : (ops : List Op) (ages : List ℕ) (a : ℕ) (keys : List Key) (old mid : Key → List ℕ) → All (λ b. b < a) ages → FrontAdded keys a old mid → IsAgeIndex ops ages old → AllRise mid
+pub front_rises : (ops : List Op) (ages : List ℕ) (a : ℕ) (keys : List Key) (old mid : Key → List ℕ) → All (λ b. b < a) ages → FrontAdded keys a old mid → IsAgeIndex ops ages old
+    → AllRise mid
 front_rises ops ages a keys old mid above front index key =
     let all : All (λ b. b < a) (old key) = subst (All (λ b. b < a)) (sym (index.listed key)) (ages_all (λ b. b < a) key ops ages above) in
     let rises = index_rises ops ages old index key in
@@ -116,7 +118,8 @@ parted_at xs i x is =
     ∙ ap (λ l. take i xs ++ l) (drop-cons xs i x (slice_get_within xs i x is) ∙ ap (λ y. y ∷ drop (suc i) xs) (get_or_from_slice_get xs i x x is))
 
 -- the ages under a key with one operation less
-ages_removed : (key : Key) (op : Op) (a : ℕ) (ops : List Op) (ages : List ℕ) (p : ℕ) → length ages ≡ length ops → AllPairs ◌<◌ ages → slice_get ops p ≡ Some op → slice_get ages p ≡ Some a
+ages_removed : (key : Key) (op : Op) (a : ℕ) (ops : List Op) (ages : List ℕ) (p : ℕ) → length ages ≡ length ops → AllPairs ◌<◌ ages → slice_get ops p ≡ Some op
+    → slice_get ages p ≡ Some a
     → (if has_key key op then without_age (ages_with key ops ages) a else ages_with key ops ages) ≡ ages_with key (remove ops p) (remove ages p)
 ages_removed key op a ops ages p same r is at =
     let long : length (take p ages) ≡ length (take p ops) =
@@ -140,7 +143,8 @@ ages_removed key op a ops ages p same r is at =
     ]
 
 -- an index with one operation less
-pub index_removed : (ops : List Op) (op : Op) (ages : List ℕ) (p a : ℕ) (keys : List Key) (old new : Key → List ℕ) → slice_get ops p ≡ Some op → slice_get ages p ≡ Some a → AreKeys keys op
+pub index_removed : (ops : List Op) (op : Op) (ages : List ℕ) (p a : ℕ) (keys : List Key) (old new : Key → List ℕ) → slice_get ops p ≡ Some op → slice_get ages p ≡ Some a
+    → AreKeys keys op
     → Changed (is_among keys) (λ l. without_age l a) old new → IsAgeIndex ops ages old → IsAgeIndex (remove ops p) (remove ages p) new
 index_removed ops op ages p a keys old new is at are changed index = record {
   one_each = omega (arith, length-remove ages p (slice_get_within ages p a at), length-remove ops p (slice_get_within ops p op is), index.one_each);

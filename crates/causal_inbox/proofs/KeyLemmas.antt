@@ -54,18 +54,21 @@ pub key_eq-false : (a b : Key) → key_eq a b ≡ false → b ≡ a → ⊥
 key_eq-false a b e same = true≢false (sym (key_eq-refl a) ∙ ap (key_eq a) (sym same) ∙ e)
 
 -- one key more
-among_more : (key : Key) (keys : List Key) (i : ℕ) (x : Key) → take (i + 1) keys ≡ take i keys ++ x ∷ [] → is_among (take (i + 1) keys) key ≡ (is_among (take i keys) key || key_eq x key)
+among_more : (key : Key) (keys : List Key) (i : ℕ) (x : Key) → take (i + 1) keys ≡ take i keys ++ x ∷ []
+    → is_among (take (i + 1) keys) key ≡ (is_among (take i keys) key || key_eq x key)
 among_more key keys i x e =
     ap (λ l. is_among l key) e ∙ list_any-append (λ other. key_eq other key) (take i keys) (x ∷ []) ∙ ap (λ b. is_among (take i keys) key || b) (or-false (key_eq x key))
 
 -- a change made where it may have been made before
-merged : (change : List ℕ → List ℕ) → ((l : List ℕ) → change (change l) ≡ change l) → (p : Bool) (l : List ℕ) → change (if p then change l else l) ≡ (if p || true then change l else l)
+merged : (change : List ℕ → List ℕ) → ((l : List ℕ) → change (change l) ≡ change l) → (p : Bool) (l : List ℕ)
+    → change (if p then change l else l) ≡ (if p || true then change l else l)
 merged change twice true l = twice l
 merged change twice false l = refl
 
 -- a change that is made once where it is made twice
 pub changed_more : (change : List ℕ → List ℕ) → ((l : List ℕ) → change (change l) ≡ change l) → (keys : List Key) (i : ℕ) (x : Key) (old mid new : Key → List ℕ)
-    → take (i + 1) keys ≡ take i keys ++ x ∷ [] → Changed (is_among (take i keys)) change old mid → IsReplaced mid new x (change (mid x)) → Changed (is_among (take (i + 1) keys)) change old new
+    → take (i + 1) keys ≡ take i keys ++ x ∷ [] → Changed (is_among (take i keys)) change old mid → IsReplaced mid new x (change (mid x))
+    → Changed (is_among (take (i + 1) keys)) change old new
 changed_more change twice keys i x old mid new e before step key =
     let more : is_among (take (i + 1) keys) key ≡ (is_among (take i keys) key || key_eq x key) = among_more key keys i x e in
     elim (cases_Bool (key_eq x key)) [
@@ -124,7 +127,8 @@ keys_are op key = by_kind key.kind key.id
     by_kind Target x = (λ i. its_target (key_of op) x i || no_name (names op) (key_of_target x) refl i) ∙ or-false (deletes x op)
     by_kind Named x = λ i. never_named (key_of op) x i || same_names (names op) x i
 
-names_next : (ns : List (Identifier × Role)) (k : ℕ) (d : Identifier × Role) → k < length ns → take (suc k) (map name_key ns) ≡ take k (map name_key ns) ++ name_key (get_or ns k d) ∷ []
+names_next : (ns : List (Identifier × Role)) (k : ℕ) (d : Identifier × Role) → k < length ns
+    → take (suc k) (map name_key ns) ≡ take k (map name_key ns) ++ name_key (get_or ns k d) ∷ []
 names_next [] k d below = absurd (omega (arith, below))
 names_next (n ∷ ns) zero d below = refl
 names_next (n ∷ ns) (suc k) d below = ap (λ l. name_key n ∷ l) (names_next ns k d (omega (arith, below)))

@@ -20,13 +20,16 @@ use Rattle.causal_inbox.specs.declared.key.Key.{Key}
 use Rattle.causal_inbox.proofs.GreatestLemmas.{entry_where, keys_mentioned, mentioned_keys}
 
 -- a key between those of two identifiers of one replica is of that replica, with a counter between theirs
-pub between_replica : (k : Key) (r m n : ℕ) → IsLeBy key_cmp (own_key_of (record { replica = r; counter = m })) k → IsLeBy key_cmp k (key_of_naming (record { replica = r; counter = n })) → k.id.replica ≡ r
+pub between_replica : (k : Key) (r m n : ℕ) → IsLeBy key_cmp (own_key_of (record { replica = r; counter = m })) k
+    → IsLeBy key_cmp k (key_of_naming (record { replica = r; counter = n })) → k.id.replica ≡ r
 between_replica k r m n a b = grind (arith, common_steps)
 
-pub between_from : (k : Key) (r m n : ℕ) → IsLeBy key_cmp (own_key_of (record { replica = r; counter = m })) k → IsLeBy key_cmp k (key_of_naming (record { replica = r; counter = n })) → m ≤ k.id.counter
+pub between_from : (k : Key) (r m n : ℕ) → IsLeBy key_cmp (own_key_of (record { replica = r; counter = m })) k
+    → IsLeBy key_cmp k (key_of_naming (record { replica = r; counter = n })) → m ≤ k.id.counter
 between_from k r m n a b = grind (arith, common_steps)
 
-pub between_to : (k : Key) (r m n : ℕ) → IsLeBy key_cmp (own_key_of (record { replica = r; counter = m })) k → IsLeBy key_cmp k (key_of_naming (record { replica = r; counter = n })) → k.id.counter ≤ n
+pub between_to : (k : Key) (r m n : ℕ) → IsLeBy key_cmp (own_key_of (record { replica = r; counter = m })) k
+    → IsLeBy key_cmp k (key_of_naming (record { replica = r; counter = n })) → k.id.counter ≤ n
 between_to k r m n a b = grind (arith, common_steps)
 
 -- and the keys of the identifiers between stand so
@@ -37,7 +40,8 @@ pub stands_to : (k : Key) (r n : ℕ) → k.id.replica ≡ r → k.id.counter �
 stands_to k r n a b = grind (arith, common_steps)
 
 -- an entry between the first key and the last one
-pub from_entry : (m : BTreeMap Key (List ℕ)) (first : Identifier) (n : ℕ) (lo hi key : Key) → 0 < n → lo ≡ own_key_of first → hi ≡ key_of_naming (record { replica = first.replica; counter = first.counter + (n - 1) })
+pub from_entry : (m : BTreeMap Key (List ℕ)) (first : Identifier) (n : ℕ) (lo hi key : Key) → 0 < n → lo ≡ own_key_of first
+    → hi ≡ key_of_naming (record { replica = first.replica; counter = first.counter + (n - 1) })
     → IsLeBy key_cmp lo key → IsLeBy key_cmp key hi → IsSome (get key_cmp m key) → HasListFrom m first n
 from_entry m first n lo hi key some low high a b there =
     let from : IsLeBy key_cmp (own_key_of first) key = subst (λ x. IsLeBy key_cmp x key) low a in
@@ -55,13 +59,15 @@ from_entry m first n lo hi key some low high a b there =
     }
 
 -- no entry between them
-pub no_entry_from : (m : BTreeMap Key (List ℕ)) (first : Identifier) (n : ℕ) (lo hi : Key) → 0 < n → lo ≡ own_key_of first → hi ≡ key_of_naming (record { replica = first.replica; counter = first.counter + (n - 1) })
+pub no_entry_from : (m : BTreeMap Key (List ℕ)) (first : Identifier) (n : ℕ) (lo hi : Key) → 0 < n → lo ≡ own_key_of first
+    → hi ≡ key_of_naming (record { replica = first.replica; counter = first.counter + (n - 1) })
     → ((q : Key) → IsLeBy key_cmp lo q × IsLeBy key_cmp q hi → get key_cmp m q ≡ None) → HasListFrom m first n → ⊥
 no_entry_from m first n lo hi some low high none l =
     let replica : l.key.id.replica ≡ first.replica = ap (λ (i : Identifier). i.replica) l.of_one in
     let counter : l.key.id.counter ≡ first.counter + l.k = ap (λ (i : Identifier). i.counter) l.of_one in
     let from : IsLeBy key_cmp lo l.key = subst (λ x. IsLeBy key_cmp x l.key) (sym low) (stands_from l.key first.replica first.counter replica (omega (arith, counter))) in
-    let to : IsLeBy key_cmp l.key hi = subst (IsLeBy key_cmp l.key) (sym high) (stands_to l.key first.replica (first.counter + (n - 1)) replica (omega (arith, some, counter, l.within))) in
+    let to : IsLeBy key_cmp l.key hi =
+    subst (IsLeBy key_cmp l.key) (sym high) (stands_to l.key first.replica (first.counter + (n - 1)) replica (omega (arith, some, counter, l.within))) in
     true≢false (sym l.there ∙ ap is_some (none l.key (from, to)))
 
 -- the identifiers of keys that have a list are those that the operations have or name

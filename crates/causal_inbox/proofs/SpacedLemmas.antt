@@ -1,9 +1,11 @@
 -- The items between gaps: where one stands, and what is left when it leaves.
-use Rattle.std.proofs.Common.{ap, arith, inl, inr, refl, sym, subst, List, ℕ, suc, zero, [], ◌∷◌, ◌++◌, ◌+◌, ◌-◌, ◌<◌, ◌≤◌, ◌≡◌, ◌∙◌, length, drop, take, set, get_or, length-append, length-drop, append_assoc}
+use Rattle.std.proofs.Common.{ap, arith, inl, inr, refl, sym, subst, List, ℕ, suc, zero, [], ◌∷◌, ◌++◌, ◌+◌, ◌-◌, ◌<◌, ◌≤◌, ◌≡◌, ◌∙◌, length, drop, take, set, get_or}
+use Rattle.std.proofs.Common.{length-append, length-drop, append_assoc}
 use Rattle.std.specs.Prelude.{Some, slice_get}
 use Rattle.std.specs.List.{insert, remove}
 use Rattle.std.proofs.lemmas.Bool.{cases_lt, lt-ltb, le-ltb}
-use Rattle.std.proofs.lemmas.List.{append-nil, drop-append-le, drop-drop, drop-set-add, drop-set-lt, drop_at, drop-take, get_or_at, length-take-le, set-get_or, set_at, set_split, take-append-le, take-set-le, take_at, take_rest}
+use Rattle.std.proofs.lemmas.List.{append-nil, drop-append-le, drop-drop, drop-set-add, drop-set-lt, drop_at, drop-take, get_or_at, length-take-le, set-get_or, set_at, set_split}
+use Rattle.std.proofs.lemmas.List.{take-append-le, take-set-le, take_at, take_rest}
 use Rattle.std.proofs.lemmas.List.Edits.{remove-append_right}
 use Rattle.std.proofs.lemmas.Option.{slice_get-get_or}
 use Rattle.std.proofs.Math.Seq.{drop-append-add, take-append-add}
@@ -55,7 +57,8 @@ passed_within (gap ∷ gaps) place = elim (cases_lt place gap) [
 ]
 
 -- the items between gaps are those of the rest of the list
-pub same_rest : {T : Type 0} (xs ys : List T) (from : ℕ) (gaps : List ℕ) (end : ℕ) → AreGaps from gaps end → drop from xs ≡ drop from ys → between_gaps xs from gaps ≡ between_gaps ys from gaps
+pub same_rest : {T : Type 0} (xs ys : List T) (from : ℕ) (gaps : List ℕ) (end : ℕ) → AreGaps from gaps end → drop from xs ≡ drop from ys
+    → between_gaps xs from gaps ≡ between_gaps ys from gaps
 same_rest xs ys from [] end r e = e
 same_rest xs ys from (gap ∷ gaps) end r e =
     let on : from + (gap + 1 - from) ≡ gap + 1 = omega (arith, r.0) in
@@ -64,7 +67,8 @@ same_rest xs ys from (gap ∷ gaps) end r e =
     (λ i. take (gap - from) (e i) ++ same_rest xs ys (gap + 1) gaps end r.1 rest i)
 
 -- how many items there are between gaps
-pub length_between : {T : Type 0} (items : List T) (from : ℕ) (gaps : List ℕ) → AreGaps from gaps (length items) → from + length gaps + length (between_gaps items from gaps) ≡ length items
+pub length_between : {T : Type 0} (items : List T) (from : ℕ) (gaps : List ℕ) → AreGaps from gaps (length items)
+    → from + length gaps + length (between_gaps items from gaps) ≡ length items
 length_between items from [] r = omega (arith, r, length-drop from items)
 length_between items from (gap ∷ gaps) r =
     let end = gaps_end (gap + 1) gaps (length items) r.1 in
@@ -72,12 +76,14 @@ length_between items from (gap ∷ gaps) r =
     omega (arith, r.0, end, front, length-append (take (gap - from) (drop from items)) (between_gaps items (gap + 1) gaps), length_between items (gap + 1) gaps r.1)
 
 -- one more at the end
-pub between_push : {T : Type 0} (items : List T) (x : T) (from : ℕ) (gaps : List ℕ) → AreGaps from gaps (length items) → between_gaps (items ++ x ∷ []) from gaps ≡ between_gaps items from gaps ++ x ∷ []
+pub between_push : {T : Type 0} (items : List T) (x : T) (from : ℕ) (gaps : List ℕ) → AreGaps from gaps (length items)
+    → between_gaps (items ++ x ∷ []) from gaps ≡ between_gaps items from gaps ++ x ∷ []
 between_push items x from [] r = drop-append-le from items (x ∷ []) r
 between_push items x from (gap ∷ gaps) r =
     let end = gaps_end (gap + 1) gaps (length items) r.1 in
     let front : take (gap - from) (drop from (items ++ x ∷ [])) ≡ take (gap - from) (drop from items) =
-    ap (take (gap - from)) (drop-append-le from items (x ∷ []) (omega (arith, r.0, end))) ∙ take-append-le (gap - from) (drop from items) (x ∷ []) (omega (arith, length-drop from items, r.0, end)) in
+    ap (take (gap - from)) (drop-append-le from items (x ∷ []) (omega (arith, r.0, end)))
+    ∙ take-append-le (gap - from) (drop from items) (x ∷ []) (omega (arith, length-drop from items, r.0, end)) in
     (λ i. front i ++ between_push items x (gap + 1) gaps r.1 i) ∙ sym (append_assoc (take (gap - from) (drop from items)) (between_gaps items (gap + 1) gaps) (x ∷ []))
 
 -- gaps stand below a later end too
@@ -98,12 +104,14 @@ pub record Split {T : Type 0} (items : List T) (from : ℕ) (gaps : List ℕ) (p
   pub in_order : AreGaps from (insert gaps (gaps_before gaps place) at) (length items)
 
 -- what stands from a place on, where another item is put behind it
-drop_set : {T : Type 0} (items : List T) (from q : ℕ) (y : T) → from ≤ q → q < length items → drop from (set items q y) ≡ take (q - from) (drop from items) ++ y ∷ drop (q + 1) items
+drop_set : {T : Type 0} (items : List T) (from q : ℕ) (y : T) → from ≤ q → q < length items
+    → drop from (set items q y) ≡ take (q - from) (drop from items) ++ y ∷ drop (q + 1) items
 drop_set items from q y l w =
     let on : q ≡ from + (q - from) = omega (arith, l) in
     ap (λ n. drop from (set items n y)) on ∙ drop-set-add from items (q - from) y
     ∙ set_split (drop from items) (q - from) y (omega (arith, l, w, length-drop from items))
-    ∙ ap (λ r. take (q - from) (drop from items) ++ y ∷ r) (drop-drop (suc (q - from)) from items ∙ ap (λ n. drop n items) {x = from + suc (q - from)} {y = q + 1} (omega (arith, l)))
+    ∙ ap (λ r. take (q - from) (drop from items) ++ y ∷ r)
+    (drop-drop (suc (q - from)) from items ∙ ap (λ n. drop n items) {x = from + suc (q - from)} {y = q + 1} (omega (arith, l)))
 
 module _ {T : Type 0} (items : List T) where
   -- the items from one place up to another
@@ -151,7 +159,8 @@ module _ {T : Type 0} (items : List T) where
       }
 
   -- the place is passed by the next gap
-  later_part : (from gap : ℕ) (gaps : List ℕ) (q at : ℕ) → AreGaps from (gap ∷ gaps) (length items) → gap ≤ q → suc q ≤ at → Split items (gap + 1) gaps (suc q) at → Split items from (gap ∷ gaps) q at
+  later_part : (from gap : ℕ) (gaps : List ℕ) (q at : ℕ) → AreGaps from (gap ∷ gaps) (length items) → gap ≤ q → suc q ≤ at → Split items (gap + 1) gaps (suc q) at
+      → Split items from (gap ∷ gaps) q at
   later_part from gap gaps q at r b above s =
       let end = gaps_end (gap + 1) gaps (length items) r.1 in
       let long : length (part from gap) ≡ gap - from = part_long from gap r.0 (omega (arith, end)) in
@@ -220,7 +229,8 @@ pub lies_at : {T : Type 0} (items : List T) (gone : ℕ) (gaps : List ℕ) (posi
 lies_at items gone gaps position at in_order within is = split items gone gaps (gone + position) at in_order (omega arith) (omega (arith, within)) is
 
 -- what stands at a position
-pub item_there : {T : Type 0} (items : List T) (gone : ℕ) (gaps : List ℕ) (position at : ℕ) (x : T) → Split items gone gaps (gone + position) at → x ≡ get_or items at x → slice_get (between_gaps items gone gaps) position ≡ Some x
+pub item_there : {T : Type 0} (items : List T) (gone : ℕ) (gaps : List ℕ) (position at : ℕ) (x : T) → Split items gone gaps (gone + position) at → x ≡ get_or items at x
+    → slice_get (between_gaps items gone gaps) position ≡ Some x
 item_there items gone gaps position at x s is =
     let long : length s.front ≡ position = omega (arith, s.long) in
     let whole : between_gaps items gone gaps ≡ s.front ++ x ∷ s.back =
@@ -229,12 +239,14 @@ item_there items gone gaps position at x s is =
     ∙ slice_get-get_or (s.front ++ x ∷ s.back) position x (omega (arith, long, length-append s.front (x ∷ s.back)))
     ∙ ap Some (get_or_at s.front x s.back x position long)
 
-pub item_at : {T : Type 0} (items : List T) (gone : ℕ) (gaps : List ℕ) (position at : ℕ) (x : T) → AreGaps gone gaps (length items) → position < length (between_gaps items gone gaps)
+pub item_at : {T : Type 0} (items : List T) (gone : ℕ) (gaps : List ℕ) (position at : ℕ) (x : T) → AreGaps gone gaps (length items)
+    → position < length (between_gaps items gone gaps)
     → at ≡ gone + position + gaps_before gaps (gone + position) → x ≡ get_or items at x → slice_get (between_gaps items gone gaps) position ≡ Some x
 item_at items gone gaps position at x in_order within there is = item_there items gone gaps position at x (lies_at items gone gaps position at in_order within there) is
 
 -- another item at a position
-pub item_put : {T : Type 0} (items : List T) (gone : ℕ) (gaps : List ℕ) (position at : ℕ) (x y : T) → Split items gone gaps (gone + position) at → x ≡ get_or items at x → between_gaps (set items at y) gone gaps ≡ set (between_gaps items gone gaps) position y
+pub item_put : {T : Type 0} (items : List T) (gone : ℕ) (gaps : List ℕ) (position at : ℕ) (x y : T) → Split items gone gaps (gone + position) at → x ≡ get_or items at x
+    → between_gaps (set items at y) gone gaps ≡ set (between_gaps items gone gaps) position y
 item_put items gone gaps position at x y s is =
     let long : length s.front ≡ position = omega (arith, s.long) in
     let whole : between_gaps items gone gaps ≡ s.front ++ x ∷ s.back =
@@ -249,7 +261,8 @@ item_gone items gone gaps position at x y s is =
     let whole : between_gaps items gone gaps ≡ s.front ++ x ∷ s.back =
     ap (λ l. between_gaps l gone gaps) (sym (set-get_or items at x)) ∙ ap (λ y. between_gaps (set items at y) gone gaps) (sym is) ∙ s.held x in
     let back : position - position ≡ 0 = omega arith in
-    s.left y ∙ ap (λ n. s.front ++ remove (x ∷ s.back) n) (sym back) ∙ sym (remove-append_right s.front (x ∷ s.back) position position long (omega arith)) ∙ ap (λ l. remove l position) (sym whole)
+    s.left y ∙ ap (λ n. s.front ++ remove (x ∷ s.back) n) (sym back) ∙ sym (remove-append_right s.front (x ∷ s.back) position position long (omega arith))
+    ∙ ap (λ l. remove l position) (sym whole)
 
 -- what stands from a place on, up to the next gap
 pub record Stretch {T : Type 0} (items : List T) (from : ℕ) (gaps : List ℕ) (place at next : ℕ) : Type 0 where
@@ -294,7 +307,8 @@ stretch_there items from (gap ∷ gaps) place at r l w is = elim (cases_lt place
       let e = past gap gaps place b in
       let others : List _ = between_gaps items (gap + 1) gaps in
       let long : length (part items from gap) ≡ gap - from = part_long items from gap r.0 (omega (arith, end)) in
-      let s = stretch_there items (gap + 1) gaps (suc place) at r.1 (omega (arith, b)) (omega (arith, w, length-append (part items from gap) others, long, b, r.0)) (omega (arith, is, e)) in
+      let s = stretch_there items (gap + 1) gaps (suc place) at r.1 (omega (arith, b)) (omega (arith, w, length-append (part items from gap) others, long, b, r.0))
+      (omega (arith, is, e)) in
       let on : place - from ≡ length (part items from gap) + (suc place - (gap + 1)) = omega (arith, long, r.0, b) in
       subst (λ k. Stretch items from (gap ∷ gaps) place at (get_or (gap ∷ gaps) k (length items))) (sym e) (record {
         rest = s.rest;

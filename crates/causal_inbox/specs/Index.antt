@@ -1,5 +1,6 @@
 -- An index of waiting operations. Each has an age: a later one has a greater age.
-use Rattle.std.specs.Prelude.{◌≡◌, ◌<◌, ◌-◌, ◌≤◌, ℕ, get_or, Option, Some, None, Bool, false, not, List, [], ◌∷◌, ◌++◌, length, nat_eq, slice_get, AllPairs, filter, if◌then◌else◌}
+use Rattle.std.specs.Prelude.{◌≡◌, ◌<◌, ◌-◌, ◌≤◌, ℕ, get_or, Option, Some, None, Bool, false, not, List, [], ◌∷◌, ◌++◌, length, nat_eq}
+use Rattle.std.specs.Prelude.{slice_get, AllPairs, filter, if◌then◌else◌}
 use Rattle.std.specs.Option.{option_eq}
 use Rattle.fugue_ids.specs.Ops.{op_eq}
 use Rattle.fugue_ids.specs.declared.op.Op.{Op}

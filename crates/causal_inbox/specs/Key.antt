@@ -15,7 +15,7 @@ use Rattle.causal_inbox.specs.declared.key.Key.{Key}
 use Rattle.causal_inbox.specs.declared.key.Kind.{Kind}
 use Rattle.causal_inbox.specs.declared.key.Kind.TheVariants.{Own, Target, Named}
 
--- the key of what makes an element or note, of what deletes it, and of what rests on it
+-- the key of what makes an element or note
 abbrev pub own_key_of : Identifier → Key
 own_key_of i = record { id = i; kind = Own }
 
@@ -53,7 +53,7 @@ abbrev pub as_key : OpKey → Key
 as_key (OwnKey i) = own_key_of i
 as_key (TargetKey i) = key_of_target i
 
--- the key by which equal operations meet
+-- the key that an operation shares with those that are equal to it
 abbrev pub main_key : Op → Key
 main_key op = as_key (key_of op)
 

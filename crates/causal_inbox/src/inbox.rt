@@ -119,6 +119,7 @@ impl Inbox {
         self.inner.greatest(replica)
     }
 
+    /// The operations, in the order in which they came.
     pub fn ops(&self) -> &[Op]
         ensures ops { result.now ≡ self.now.ops }
         ensures within { length self.now.ops ≤ self.now.hold }

@@ -69,7 +69,7 @@ impl OpenInbox {
         ensures full { (result ≡ Err (PushFault.Full op)) ↔ (length self.old.ops ≡ self.old.hold) }
         ensures err { OnErr result (self.new ≡ self.old) }
         ensures handed_back { IfErr result (λ fault. refused_op fault ≡ op) }
-        ensures no_gap { self.new.gaps ≡ self.old.gaps }
+        ensures same_gaps { self.new.gaps ≡ self.old.gaps }
         ensures within { length self.new.ops ≤ self.new.hold }
     {
         if self.ops.len() >= self.hold as usize {

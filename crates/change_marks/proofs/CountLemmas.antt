@@ -84,16 +84,20 @@ narrow false was is t k e = absurd (false≢true (sym t))
 narrow true false is t k e = refl
 narrow true true is t k e = absurd (false≢true (ap not (sym (k refl)) ∙ e))
 
-pub same_counts : (f h : List Op) (s : Identifier) → Lawful h → IsLater f h → length (order (within s) f) ≡ length (order (within s) h) → length (shown (within s) f) ≡ length (shown (within s) h)
+pub same_counts : (f h : List Op) (s : Identifier) → Lawful h → IsLater f h → length (order (within s) f) ≡ length (order (within s) h)
+    → length (shown (within s) f) ≡ length (shown (within s) h)
     → list_any is_marked (runs false f h s) ≡ false
 same_counts f h s w l all some =
     let xs : List Identifier = order (within s) h in
     let lawful = subst Lawful l.whole w in
-    let older : order (within s) f ≡ filter (holds f) xs = subst (λ whole. order (within s) f ≡ filter (holds f) (order (within s) whole)) (sym l.whole) (order_by_filter (within s) l.newer f lawful) in
-    let then_shown : shown (within s) f ≡ filter (is_shown f) xs = subst (λ whole. shown (within s) f ≡ filter (is_shown f) (order (within s) whole)) (sym l.whole) (shown_by_filter (within s) l.newer f lawful) in
+    let older : order (within s) f ≡ filter (holds f) xs =
+    subst (λ whole. order (within s) f ≡ filter (holds f) (order (within s) whole)) (sym l.whole) (order_by_filter (within s) l.newer f lawful) in
+    let then_shown : shown (within s) f ≡ filter (is_shown f) xs =
+    subst (λ whole. shown (within s) f ≡ filter (is_shown f) (order (within s) whole)) (sym l.whole) (shown_by_filter (within s) l.newer f lawful) in
     let had : (x : Identifier) → Contains xs x → true ≡ holds f x = same_kept (λ x. true) (holds f) xs (λ x c e. refl) (ap length (all_pass xs) ∙ sym all ∙ ap length older) in
     let narrower : IsNarrower (is_shown f) (λ x. not (is_hidden h x)) xs = λ x c e. narrow (holds f x) (is_hidden f x) (is_hidden h x) (had x c) (hidden_later f h x l) e in
-    let same : (x : Identifier) → Contains xs x → is_shown f x ≡ not (is_hidden h x) = same_kept (is_shown f) (λ x. not (is_hidden h x)) xs narrower (sym (ap length then_shown) ∙ some) in
+    let same : (x : Identifier) → Contains xs x
+    → is_shown f x ≡ not (is_hidden h x) = same_kept (is_shown f) (λ x. not (is_hidden h x)) xs narrower (sym (ap length then_shown) ∙ some) in
     marks_by_elements (mark_of f h) xs ∙ none_changed (mark_of f h) xs (λ x c. no_marks (holds f x) (is_hidden f x) (is_hidden h x) x.replica (had x c) (same x c))
 
 -- so where its head has no mark, nothing is told of it; both histories may be given by other names

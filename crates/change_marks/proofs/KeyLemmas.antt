@@ -25,9 +25,11 @@ module _ (test : Mark → Bool) (h : List Op) where
   -- what a run adds, by whether it passes
   first_where : (run : Stretch Mark) (ss : List (Stretch Mark)) → letters_where test h (run ∷ ss) ≡ (if test run.key then run_letters h run else []) ++ letters_where test h ss
   first_where run ss =
-      elim (test run.key) as (λ (b : Bool). flat_map (run_letters h) (cond b (run ∷ filter kept ss) (filter kept ss)) ≡ (if b then run_letters h run else []) ++ letters_where test h ss) [ true ↦ refl | false ↦ refl ]
+      elim (test run.key) as (λ (b : Bool). flat_map (run_letters h) (cond b (run ∷ filter kept ss) (filter kept ss)) ≡ (if b then run_letters h run else [])
+      ++ letters_where test h ss) [ true ↦ refl | false ↦ refl ]
 
-  joined_where : (k : Mark) (x : Identifier) (ss : List (Stretch Mark)) → letters_where test h (joined_stretch mark_eq k x ss) ≡ (if test k then letter_of h x else []) ++ letters_where test h ss
+  joined_where : (k : Mark) (x : Identifier) (ss : List (Stretch Mark))
+      → letters_where test h (joined_stretch mark_eq k x ss) ≡ (if test k then letter_of h x else []) ++ letters_where test h ss
   joined_where k x [] =
       first_where (record { key = k; elements = x ∷ [] }) [] ∙ ap (λ l. (if test k then l else []) ++ []) (append-nil (letter_of h x))
   joined_where k x (s ∷ ss) =
@@ -50,20 +52,25 @@ module _ (test : Mark → Bool) (h : List Op) where
       both false one more rest = refl
 
   -- the letters of the runs that pass are those of the elements that do
-  pub letters_by_elements : (key : Identifier → Option Mark) (xs : List Identifier) → letters_where test h (stretches mark_eq key xs) ≡ flat_map (letter_of h) (filter (λ x. passes test (key x)) xs)
+  pub letters_by_elements : (key : Identifier → Option Mark) (xs : List Identifier)
+      → letters_where test h (stretches mark_eq key xs) ≡ flat_map (letter_of h) (filter (λ x. passes test (key x)) xs)
   letters_by_elements key [] = refl
   letters_by_elements key (x ∷ xs) =
       let rest : List Identifier = filter (λ y. passes test (key y)) xs in
-      elim (key x) as (λ (o : Option Mark). letters_where test h (elim o [ None ↦ stretches mark_eq key xs | Some k ↦ joined_stretch mark_eq k x (stretches mark_eq key xs) ]) ≡ flat_map (letter_of h) (cond (passes test o) (x ∷ rest) rest)) [
+      elim (key x) as (λ (o : Option Mark). letters_where test h
+      (elim o [ None ↦ stretches mark_eq key xs | Some k ↦ joined_stretch mark_eq k x (stretches mark_eq key xs) ]) ≡ flat_map (letter_of h)
+      (cond (passes test o) (x ∷ rest) rest)) [
         | None ↦ letters_by_elements key xs
         | Some k ↦
             joined_where k x (stretches mark_eq key xs)
             ∙ ap (λ l. (if test k then letter_of h x else []) ++ l) (letters_by_elements key xs)
-            ∙ elim (test k) as (λ (b : Bool). (if b then letter_of h x else []) ++ flat_map (letter_of h) rest ≡ flat_map (letter_of h) (cond b (x ∷ rest) rest)) [ true ↦ refl | false ↦ refl ]
+            ∙ elim (test k) as (λ (b : Bool). (if b then letter_of h x else []) ++ flat_map (letter_of h) rest ≡ flat_map (letter_of h) (cond b (x ∷ rest) rest))
+            [ true ↦ refl | false ↦ refl ]
       ]
 
 -- what holds of each key holds of each stretch
-joined_all : (P : Mark → Type 0) (k : Mark) (x : Identifier) (ss : List (Stretch Mark)) → P k → All (λ (run : Stretch Mark). P run.key) ss → All (λ (run : Stretch Mark). P run.key) (joined_stretch mark_eq k x ss)
+joined_all : (P : Mark → Type 0) (k : Mark) (x : Identifier) (ss : List (Stretch Mark)) → P k → All (λ (run : Stretch Mark). P run.key) ss
+    → All (λ (run : Stretch Mark). P run.key) (joined_stretch mark_eq k x ss)
 joined_all P k x [] p each = All-cons (λ (run : Stretch Mark). P run.key) (record { key = k; elements = x ∷ [] }) [] p (All-nil (λ (run : Stretch Mark). P run.key))
 joined_all P k x (s ∷ ss) p each =
     let Q : Stretch Mark → Type 0 = λ run. P run.key in
@@ -73,10 +80,12 @@ joined_all P k x (s ∷ ss) p each =
       | false ↦ All-cons Q (record { key = k; elements = x ∷ [] }) (s ∷ ss) p each
     ]
 
-pub keys_all : (P : Mark → Type 0) (key : Identifier → Option Mark) → ((x : Identifier) (k : Mark) → key x ≡ Some k → P k) → (xs : List Identifier) → All (λ (run : Stretch Mark). P run.key) (stretches mark_eq key xs)
+pub keys_all : (P : Mark → Type 0) (key : Identifier → Option Mark) → ((x : Identifier) (k : Mark) → key x ≡ Some k → P k) → (xs : List Identifier)
+    → All (λ (run : Stretch Mark). P run.key) (stretches mark_eq key xs)
 keys_all P key each [] = All-nil (λ (run : Stretch Mark). P run.key)
 keys_all P key each (x ∷ xs) =
-    elim (key x) as (λ (o : Option Mark). ((k : Mark) → o ≡ Some k → P k) → All (λ (run : Stretch Mark). P run.key) (elim o [ None ↦ stretches mark_eq key xs | Some k ↦ joined_stretch mark_eq k x (stretches mark_eq key xs) ])) [
+    elim (key x) as (λ (o : Option Mark). ((k : Mark) → o ≡ Some k → P k)
+    → All (λ (run : Stretch Mark). P run.key) (elim o [ None ↦ stretches mark_eq key xs | Some k ↦ joined_stretch mark_eq k x (stretches mark_eq key xs) ])) [
       | None ↦ λ p. keys_all P key each xs
       | Some k ↦ λ p. joined_all P k x (stretches mark_eq key xs) (p k refl) (keys_all P key each xs)
     ] (each x)

@@ -1,8 +1,8 @@
 -- The laws of what changed and of who wrote what.
 use Rattle.std.proofs.Common.{List, [], ap, false, refl, subst, sym, true, ℕ, ◌++◌, ◌∙◌, ◌∷◌, ◌≡◌}
-use Rattle.std.specs.Prelude.{Bool, None, Option, Some, filter, flat_map, if◌then◌else◌, is_some, nat_eq, not, ◌&&◌, ◌||◌}
+use Rattle.std.specs.Prelude.{Bool, Option, Some, filter, flat_map, if◌then◌else◌, is_some, not, ◌&&◌, ◌||◌}
 use Rattle.std.specs.List.{Contains, list_any}
-use Rattle.std.proofs.lemmas.Bool.{eq-eqb, false≢true}
+use Rattle.std.proofs.lemmas.Bool.{false≢true}
 use Rattle.std.proofs.lemmas.List.{append-nil}
 use Rattle.fugue_ids.specs.Identifiers.{Identifier}
 use Rattle.fugue_ids.specs.declared.op.Op.{Op}
@@ -31,7 +31,6 @@ use Rattle.change_marks.proofs.KeyLemmas.{keys_all, letters_by_elements, passes}
 use Rattle.change_marks.proofs.LaterLemmas.{has_from_contains, hidden_later, holder_later}
 use Rattle.change_marks.proofs.PassageLemmas.{all_letters}
 use Rattle.change_marks.proofs.RunLemmas.{marks_by_elements}
-use lib.Pointwise.{pointwise}
 
 filter_same : (p q : Identifier → Bool) (xs : List Identifier) → ((x : Identifier) → p x ≡ q x) → filter p xs ≡ filter q xs
 filter_same p q xs e = ap (λ (t : Identifier → Bool). filter t xs) (λ i x. e x i)
@@ -71,12 +70,14 @@ changes_by_filter f h s w l =
     record {
       now =
           letters_by_elements is_of_now h key xs
-          ∙ ap (flat_map (letter_of h)) (filter_same (λ x. passes is_of_now (key x)) (λ x. not (is_hidden h x)) xs (λ x. now_marks (holds f x) (is_hidden f x) (is_hidden h x) x.replica (hidden_later f h x l)));
+          ∙ ap (flat_map (letter_of h))
+          (filter_same (λ x. passes is_of_now (key x)) (λ x. not (is_hidden h x)) xs (λ x. now_marks (holds f x) (is_hidden f x) (is_hidden h x) x.replica (hidden_later f h x l)));
       then =
           letters_by_elements is_of_then h key xs
           ∙ ap (flat_map (letter_of h)) (filter_same (λ x. passes is_of_then (key x)) (is_shown f) xs (λ x. then_marks (holds f x) (is_hidden f x) (is_hidden h x) x.replica))
           ∙ parts_same (letter_of h) (λ x. scalar_of (holder f x)) (filter (is_shown f) xs) (λ x m. same_letter f h x w l (contains_filter_from (is_shown f) xs x m).1)
-          ∙ sym (ap (flat_map (λ x. scalar_of (holder f x))) (subst (λ whole. shown (within s) f ≡ filter (is_shown f) (order (within s) whole)) (sym l.whole) (shown_by_filter (within s) l.newer f (subst Lawful l.whole w))));
+          ∙ sym (ap (flat_map (λ x. scalar_of (holder f x)))
+          (subst (λ whole. shown (within s) f ≡ filter (is_shown f) (order (within s) whole)) (sym l.whole) (shown_by_filter (within s) l.newer f (subst Lawful l.whole w))));
     }
 
 -- what is held and compared with itself has no mark
@@ -85,7 +86,8 @@ no_change false is r e = absurd (false≢true e)
 no_change true false r e = refl
 no_change true true r e = refl
 
-pub none_changed : (key : Identifier → Option Mark) (xs : List Identifier) → ((x : Identifier) → Contains xs x → is_changed_element (key x) ≡ false) → list_any (λ x. is_changed_element (key x)) xs ≡ false
+pub none_changed : (key : Identifier → Option Mark) (xs : List Identifier) → ((x : Identifier) → Contains xs x → is_changed_element (key x) ≡ false)
+    → list_any (λ x. is_changed_element (key x)) xs ≡ false
 none_changed key [] e = refl
 none_changed key (x ∷ xs) e = ap (λ b. b || list_any (λ y. is_changed_element (key y)) xs) (e x (contains_here x xs)) ∙ none_changed key xs (λ y m. e y (contains_there x xs y m))
 
@@ -114,7 +116,8 @@ pub nothing_since_now : NothingSinceNow
 unfolding changes_text
 nothing_since_now h w =
     let sections : flat_map (section_told h h) (arranged h) ≡ [] =
-    nothing_in (section_told h h) (arranged h) (λ s m. ap (λ (b : Bool). if b then change_text h (head h h s) (runs false h h s) else []) (unchanged h s w (arranged_section h s w m))) in
+    nothing_in (section_told h h) (arranged h)
+    (λ s m. ap (λ (b : Bool). if b then change_text h (head h h s) (runs false h h s) else []) (unchanged h s w (arranged_section h s w m))) in
     let dropped : flat_map (dropped_told h h) (filter (λ s. not (arranges h s)) (arranged h)) ≡ [] =
     ap (flat_map (dropped_told h h)) (none_left (λ s. not (arranges h s)) (arranged h) (λ s m. ap not (has_from_contains (arranged h) s m))) in
     (λ i. sections i ++ dropped i)

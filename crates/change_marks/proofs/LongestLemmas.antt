@@ -5,7 +5,7 @@ use Rattle.std.specs.List.{All}
 use Rattle.std.proofs.lemmas.Bool.{cases_Bool, eqb-true}
 use Rattle.std.proofs.lemmas.List.Elements.{All-cons, All-head, All-nil, All-tail}
 use Rattle.fugue_ids.specs.Identifiers.{Identifier}
-use Rattle.change_marks.specs.Laws.{HaveOwnKeys, AreWhole, StretchesAreLongest}
+use Rattle.change_marks.specs.Laws.{NeighboursHaveOwnKeys, AreMaximalStretches, StretchesAreLongest}
 use Rattle.change_marks.specs.Marks.{mark_eq}
 use Rattle.change_marks.specs.Stretches.{Stretch, joined_stretch, stretches}
 use Rattle.change_marks.proofs.RunLemmas.{mark_eq-true}
@@ -30,24 +30,26 @@ module _ {K : Type 0} (same : K → K → Bool) (decides : (a b : K) → same a 
   joined_each P k x [] one more each = All-cons P (record { key = k; elements = x ∷ [] }) [] one (All-nil P)
   joined_each P k x (s ∷ ss) one more each =
       elim (cases_Bool (same k s.key)) [
-        | inl e ↦ subst (λ b. All P (after k x s ss b)) (sym e) (All-cons P (record { key = k; elements = x ∷ s.elements }) ss (more s (decides k s.key e) (All-head P s ss each)) (All-tail P s ss each))
+        | inl e ↦ subst (λ b. All P (after k x s ss b)) (sym e)
+            (All-cons P (record { key = k; elements = x ∷ s.elements }) ss (more s (decides k s.key e) (All-head P s ss each)) (All-tail P s ss each))
         | inr e ↦ subst (λ b. All P (after k x s ss b)) (sym e) (All-cons P (record { key = k; elements = x ∷ [] }) (s ∷ ss) one each)
       ]
 
   -- a stretch in front of others, by its key
-  in_front : (s t : Stretch K) (ss : List (Stretch K)) → s.key ≡ t.key → HaveOwnKeys same (t ∷ ss) → HaveOwnKeys same (s ∷ ss)
+  in_front : (s t : Stretch K) (ss : List (Stretch K)) → s.key ≡ t.key → NeighboursHaveOwnKeys same (t ∷ ss) → NeighboursHaveOwnKeys same (s ∷ ss)
   in_front s t [] e apart = tt
   in_front s t (r ∷ ss) e apart = (ap (λ z. same z r.key) e ∙ apart.0, apart.1)
 
-  joined_apart : (k : K) (x : Identifier) (ss : List (Stretch K)) → HaveOwnKeys same ss → HaveOwnKeys same (joined_stretch same k x ss)
+  joined_apart : (k : K) (x : Identifier) (ss : List (Stretch K)) → NeighboursHaveOwnKeys same ss → NeighboursHaveOwnKeys same (joined_stretch same k x ss)
   joined_apart k x [] apart = tt
   joined_apart k x (s ∷ ss) apart =
       elim (cases_Bool (same k s.key)) [
-        | inl e ↦ subst (λ b. HaveOwnKeys same (after k x s ss b)) (sym e) (in_front (record { key = k; elements = x ∷ s.elements }) s ss (decides k s.key e) apart)
-        | inr e ↦ subst (λ b. HaveOwnKeys same (after k x s ss b)) (sym e) (e, apart)
+        | inl e ↦ subst (λ b. NeighboursHaveOwnKeys same (after k x s ss b)) (sym e) (in_front (record { key = k; elements = x ∷ s.elements }) s ss (decides k s.key e) apart)
+        | inr e ↦ subst (λ b. NeighboursHaveOwnKeys same (after k x s ss b)) (sym e) (e, apart)
       ]
 
-  joined_longest : (key : Identifier → Option K) (k : K) (x : Identifier) (xs : List Identifier) (ss : List (Stretch K)) → key x ≡ Some k → AreWhole same key xs ss → AreWhole same key (x ∷ xs) (joined_stretch same k x ss)
+  joined_longest : (key : Identifier → Option K) (k : K) (x : Identifier) (xs : List Identifier) (ss : List (Stretch K)) → key x ≡ Some k → AreMaximalStretches same key xs ss
+      → AreMaximalStretches same key (x ∷ xs) (joined_stretch same k x ss)
   joined_longest key k x xs ss e l =
       let rest : List Identifier = filter (λ y. is_some (key y)) xs in
       record {
@@ -59,15 +61,17 @@ module _ {K : Type 0} (same : K → K → Bool) (decides : (a b : K) → same a 
         apart = joined_apart k x ss l.apart;
       }
 
-  passed_longest : (key : Identifier → Option K) (x : Identifier) (xs : List Identifier) (ss : List (Stretch K)) → key x ≡ None → AreWhole same key xs ss → AreWhole same key (x ∷ xs) ss
+  passed_longest : (key : Identifier → Option K) (x : Identifier) (xs : List Identifier) (ss : List (Stretch K)) → key x ≡ None → AreMaximalStretches same key xs ss
+      → AreMaximalStretches same key (x ∷ xs) ss
   passed_longest key x xs ss e l =
       let rest : List Identifier = filter (λ y. is_some (key y)) xs in
       record { all = l.all ∙ sym (ap (λ o. cond (is_some o) (x ∷ rest) rest) e); keys = l.keys; some = l.some; apart = l.apart }
 
-  pub longest : (key : Identifier → Option K) (xs : List Identifier) → AreWhole same key xs (stretches same key xs)
+  pub longest : (key : Identifier → Option K) (xs : List Identifier) → AreMaximalStretches same key xs (stretches same key xs)
   longest key [] = record { all = refl; keys = All-nil (of_key key); some = All-nil (λ (s : Stretch K). 0 < length s.elements); apart = tt }
   longest key (x ∷ xs) =
-      elim (key x) as (λ (o : Option K). key x ≡ o → AreWhole same key (x ∷ xs) (elim o [ None ↦ stretches same key xs | Some k ↦ joined_stretch same k x (stretches same key xs) ])) [
+      elim (key x) as (λ (o : Option K). key x ≡ o
+      → AreMaximalStretches same key (x ∷ xs) (elim o [ None ↦ stretches same key xs | Some k ↦ joined_stretch same k x (stretches same key xs) ])) [
         | None ↦ λ e. passed_longest key x xs (stretches same key xs) e (longest key xs)
         | Some k ↦ λ e. joined_longest key k x xs (stretches same key xs) e (longest key xs)
       ] refl

@@ -30,7 +30,8 @@ unfolding alone
 joins_first n x [] = (alone x, [], refl, refl, sym (append-nil (passage_line x.replica (n + 1))))
 joins_first n x (s ∷ ss) =
     let after : Bool → List (Stretch ℕ) = λ b. if b then record { key = x.replica; elements = x ∷ s.elements } ∷ ss else record { key = x.replica; elements = x ∷ [] } ∷ s ∷ ss in
-    let lines : Bool → List ℕ = λ b. if b then passage_line x.replica (n + 1 + length s.elements) ++ flat_map author_line ss else passage_line x.replica (n + 1) ++ flat_map author_line (s ∷ ss) in
+    let lines : Bool → List ℕ =
+    λ b. if b then passage_line x.replica (n + 1 + length s.elements) ++ flat_map author_line ss else passage_line x.replica (n + 1) ++ flat_map author_line (s ∷ ss) in
     let count : n + 1 + length s.elements ≡ n + suc (length s.elements) = omega arith in
     elim (cases_Bool (nat_eq x.replica s.key)) [
       | inl e ↦ (
@@ -44,7 +45,8 @@ joins_first n x (s ∷ ss) =
     ]
 
 -- the line that a letter ends, and what comes behind the letter
-turned : (p : Passage) (x : Identifier) (ss : List (Stretch ℕ)) → line_before (Some p) x ++ lines_behind x.replica (letters_before (Some p) x + 1) ss ≡ lines_behind p.replica p.count (joined_stretch nat_eq x.replica x ss)
+turned : (p : Passage) (x : Identifier) (ss : List (Stretch ℕ))
+    → line_before (Some p) x ++ lines_behind x.replica (letters_before (Some p) x + 1) ss ≡ lines_behind p.replica p.count (joined_stretch nat_eq x.replica x ss)
 turned p x ss =
     let before : Bool → List ℕ = λ b. (if b then [] else passage_line p.replica p.count) ++ lines_behind x.replica ((if b then p.count else 0) + 1) ss in
     elim (cases_Bool (nat_eq p.replica x.replica)) [
@@ -115,7 +117,8 @@ drop_here xs i s below is =
     drop-cons xs i s below ∙ (λ j. sym is j ∷ drop (place j) xs)
 
 -- what is told of sections from one on is what is told of it, and of those behind it
-pub authors_next : (h : List Op) (xs : List Identifier) (i : ℕ) (s : Identifier) → i < length xs → s ≡ get_or xs i s → authors_from h (suc i) (drop i xs) ≡ section_authors h (i + 1) s ++ authors_from h (suc (i + 1)) (drop (i + 1) xs)
+pub authors_next : (h : List Op) (xs : List Identifier) (i : ℕ) (s : Identifier) → i < length xs → s ≡ get_or xs i s
+    → authors_from h (suc i) (drop i xs) ≡ section_authors h (i + 1) s ++ authors_from h (suc (i + 1)) (drop (i + 1) xs)
 authors_next h xs i s below is =
     let place : suc i ≡ i + 1 = omega arith in
     ap (authors_from h (suc i)) (drop_here xs i s below is) ∙ ap (λ k. section_authors h k s ++ authors_from h (suc k) (drop (i + 1) xs)) place

@@ -73,7 +73,8 @@ joins_first h k x (s ∷ ss) =
     ]
 
 -- the end of a run, the start of the next one and its letters
-turned : (h : List Op) (m k : Mark) (x : Identifier) (ss : List (Stretch Mark)) → (turn_of_run (Some m) k ++ encode_utf8_all (letter_of h x)) ++ behind h k ss ≡ behind h m (joined_stretch mark_eq k x ss)
+turned : (h : List Op) (m k : Mark) (x : Identifier) (ss : List (Stretch Mark))
+    → (turn_of_run (Some m) k ++ encode_utf8_all (letter_of h x)) ++ behind h k ss ≡ behind h m (joined_stretch mark_eq k x ss)
 turned h m k x ss =
     let f = joins_first h k x ss in
     let one : List ℕ = encode_utf8_all (letter_of h x) in
@@ -96,7 +97,8 @@ turned h m k x ss =
 parts_behind : (h : List Op) (key : Identifier → Option Mark) (m : Mark) (xs : List Identifier) → parts_from h key (Some m) xs ≡ behind h m (stretches mark_eq key xs)
 parts_behind h key m [] = refl
 parts_behind h key m (x ∷ xs) =
-    elim (key x) as (λ (o : Option Mark). element_part h (Some m) o x ++ parts_from h key (open_behind (Some m) o) xs ≡ behind h m (elim o [ None ↦ stretches mark_eq key xs | Some k ↦ joined_stretch mark_eq k x (stretches mark_eq key xs) ])) [
+    elim (key x) as (λ (o : Option Mark). element_part h (Some m) o x
+    ++ parts_from h key (open_behind (Some m) o) xs ≡ behind h m (elim o [ None ↦ stretches mark_eq key xs | Some k ↦ joined_stretch mark_eq k x (stretches mark_eq key xs) ])) [
       | None ↦ parts_behind h key m xs
       | Some k ↦ ap (λ l. (turn_of_run (Some m) k ++ encode_utf8_all (letter_of h x)) ++ l) (parts_behind h key k xs) ∙ turned h m k x (stretches mark_eq key xs)
     ]
@@ -105,7 +107,9 @@ parts_behind h key m (x ∷ xs) =
 pub parts_marked : (h : List Op) (key : Identifier → Option Mark) (xs : List Identifier) → parts_from h key None xs ≡ text_with_marks h (stretches mark_eq key xs)
 parts_marked h key [] = refl
 parts_marked h key (x ∷ xs) =
-    elim (key x) as (λ (o : Option Mark). element_part h None o x ++ parts_from h key (open_behind None o) xs ≡ text_with_marks h (elim o [ None ↦ stretches mark_eq key xs | Some k ↦ joined_stretch mark_eq k x (stretches mark_eq key xs) ])) [
+    elim (key x) as (λ (o : Option Mark). element_part h None o x
+    ++ parts_from h key (open_behind None o) xs ≡ text_with_marks h
+    (elim o [ None ↦ stretches mark_eq key xs | Some k ↦ joined_stretch mark_eq k x (stretches mark_eq key xs) ])) [
       | None ↦ parts_marked h key xs
       | Some k ↦
           let ss = stretches mark_eq key xs in
@@ -136,7 +140,9 @@ joined_marks k x (s ∷ ss) =
 pub marks_by_elements : (key : Identifier → Option Mark) (xs : List Identifier) → list_any is_marked (stretches mark_eq key xs) ≡ list_any (λ x. is_changed_element (key x)) xs
 marks_by_elements key [] = refl
 marks_by_elements key (x ∷ xs) =
-    elim (key x) as (λ (o : Option Mark). list_any is_marked (elim o [ None ↦ stretches mark_eq key xs | Some k ↦ joined_stretch mark_eq k x (stretches mark_eq key xs) ]) ≡ (is_changed_element o || list_any (λ y. is_changed_element (key y)) xs)) [
+    elim (key x) as (λ (o : Option Mark). list_any is_marked
+    (elim o [ None ↦ stretches mark_eq key xs | Some k ↦ joined_stretch mark_eq k x (stretches mark_eq key xs) ])
+    ≡ (is_changed_element o || list_any (λ y. is_changed_element (key y)) xs)) [
       | None ↦ marks_by_elements key xs
       | Some k ↦ joined_marks k x (stretches mark_eq key xs) ∙ ap (λ b. is_changed_element (Some k) || b) (marks_by_elements key xs)
     ]

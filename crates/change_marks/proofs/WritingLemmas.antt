@@ -21,7 +21,8 @@ use Rattle.change_marks.specs.Stretches.{stretches}
 use Rattle.change_marks.proofs.LaterLemmas.{dropped_is_hidden}
 
 -- the rest was gathered, or was not
-pub under_way_last : (result : Result (Unit {0}) Failed) (u v w : OutView) (p q r whole rest last : List ℕ) → IsUnderWay u v p q whole rest → rest ≡ last → GathersText {T = Unit {0}} v w q r result last
+pub under_way_last : (result : Result (Unit {0}) Failed) (u v w : OutView) (p q r whole rest last : List ℕ) → IsUnderWay u v p q whole rest → rest ≡ last
+    → GathersText {T = Unit {0}} v w q r result last
     → GathersText {T = Unit {0}} u w p r result whole
 under_way_last result u v w p q r whole rest last s e t =
     subst (GathersText {T = Unit {0}} u w p r result) (ap (λ l. s.front ++ l) (sym e) ∙ s.parts)
@@ -38,10 +39,14 @@ pub marks_found : (f f_is h h_is : List Op) (s : Identifier) (ids : List Identif
 marks_found f f_is h h_is s ids a b e = ap (λ l. list_any is_marked (stretches mark_eq (mark_of f_is h_is) l)) e ∙ (λ i. list_any is_marked (runs false (a i) (b i) s))
 
 -- what is told of the sections that were dropped, by which of those that were arranged are hidden now
-dropped_each : (f h : List Op) (xs : List Identifier) → flat_map (dropped_told f h) (filter (λ s. not (arranges h s)) xs) ≡ flat_map (λ s. if not (arranges h s) then dropped_told f h s else []) xs
+dropped_each : (f h : List Op) (xs : List Identifier)
+    → flat_map (dropped_told f h) (filter (λ s. not (arranges h s)) xs) ≡ flat_map (λ s. if not (arranges h s) then dropped_told f h s else []) xs
 dropped_each f h [] = refl
 dropped_each f h (x ∷ xs) =
-    elim (not (arranges h x)) as (λ (b : Bool). flat_map (dropped_told f h) (cond b (x ∷ filter (λ s. not (arranges h s)) xs) (filter (λ s. not (arranges h s)) xs)) ≡ (if b then dropped_told f h x else []) ++ flat_map (λ s. if not (arranges h s) then dropped_told f h s else []) xs) [
+    elim (not (arranges h x)) as
+    (λ (b : Bool). flat_map (dropped_told f h)
+    (cond b (x ∷ filter (λ s. not (arranges h s)) xs) (filter (λ s. not (arranges h s)) xs)) ≡ (if b then dropped_told f h x else [])
+    ++ flat_map (λ s. if not (arranges h s) then dropped_told f h s else []) xs) [
       | true ↦ ap (λ l. dropped_told f h x ++ l) (dropped_each f h xs)
       | false ↦ dropped_each f h xs
     ]
@@ -50,7 +55,8 @@ pub dropped_found : (f h : List Op) → Lawful h → IsLater f h → flat_map (d
 dropped_found f h w l =
     sym
     (dropped_each f h (arranged f)
-    ∙ parts_same (λ s. if not (arranges h s) then dropped_told f h s else []) (dropped_part f h) (arranged f) (λ s m. ap (λ b. if b then dropped_told f h s else []) (dropped_is_hidden f h s w l m)))
+    ∙ parts_same (λ s. if not (arranges h s) then dropped_told f h s else []) (dropped_part f h) (arranged f)
+    (λ s m. ap (λ b. if b then dropped_told f h s else []) (dropped_is_hidden f h s w l m)))
 
 -- both of these are all that changed
 pub changes_found : (f h : List Op) → Lawful h → IsLater f h → flat_map (section_told f h) (arranged h) ++ flat_map (dropped_part f h) (arranged f) ≡ changes_text f h

@@ -1,5 +1,6 @@
 -- What changed in a manuscript since a moment, in CriticMarkup. f is the history of the moment, and h has it as its older part.
-use Rattle.std.specs.Prelude.{◌≡◌, ℕ, nat_eq, Bool, true, false, not, ◌||◌, if◌then◌else◌, List, [], ◌∷◌, ◌++◌, codes, decimal, filter, flat_map}
+use Rattle.std.specs.Prelude.{◌≡◌, ℕ, nat_eq, Bool, true, false, not, ◌||◌, if◌then◌else◌, List, [], ◌∷◌, ◌++◌, codes, decimal, filter}
+use Rattle.std.specs.Prelude.{flat_map}
 use Rattle.std.specs.List.{list_any}
 use Rattle.std.specs.Str.{encode_utf8_all}
 use Rattle.fugue_ids.specs.Identifiers.{Identifier, id_eq}
@@ -35,7 +36,8 @@ head_of_new h s = codes "{++" ++ heading_bytes h s ++ codes "++}{>>" ++ decimal 
 
 -- the old heading and the new one, where they differ
 abbrev pub titles : (f h : List Op) → Identifier → List ℕ
-titles f h s = if is_retitled f h s then codes "{--" ++ heading_bytes f s ++ codes "--}{++" ++ heading_bytes h s ++ codes "++}" else heading_bytes h s
+titles f h s = if is_retitled f h s then codes "{--" ++ heading_bytes f s ++ codes "--}{++" ++ heading_bytes h s ++ codes "++}" else
+    heading_bytes h s
 
 -- the mark of a section that was moved since
 abbrev pub moved_mark : (f h : List Op) → Identifier → List ℕ

@@ -1,5 +1,6 @@
 -- Laws of what changed, and of who wrote what.
-use Rattle.std.specs.Prelude.{◌≡◌, ◌<◌, ℕ, nat_eq, Bool, true, false, Option, Some, List, [], ◌∷◌, filter, flat_map, is_some, length, sum_by}
+use Rattle.std.specs.Prelude.{◌≡◌, ◌<◌, ℕ, nat_eq, Bool, true, false, Option, Some, List, [], ◌∷◌, filter, flat_map, is_some, length}
+use Rattle.std.specs.Prelude.{sum_by}
 use Rattle.std.specs.List.{All}
 use Rattle.fugue_ids.specs.Identifiers.{Identifier}
 use Rattle.fugue_ids.specs.declared.op.Op.{Op}
@@ -63,22 +64,24 @@ AllSinceTheBeginning = (h : List Op) → Lawful h → IsAllNew h
 
 -- the numbers of a section add up to its shown text
 abbrev pub AuthorsTellAll : Type 0
-AuthorsTellAll = (h : List Op) (s : Identifier) → Lawful h → sum_by (λ (p : Stretch ℕ). length p.elements) (passages h s) ≡ length (text h s)
+AuthorsTellAll = (h : List Op) (s : Identifier) → Lawful h
+    → sum_by (λ (p : Stretch ℕ). length p.elements) (passages h s) ≡ length (text h s)
 
 -- no two stretches that follow one another have one key
-abbrev pub HaveOwnKeys : {K : Type 0} → (K → K → Bool) → List (Stretch K) → Type 0
-HaveOwnKeys same [] = Unit {0}
-HaveOwnKeys same (s ∷ []) = Unit {0}
-HaveOwnKeys same (s ∷ t ∷ ss) = (same s.key t.key ≡ false) × HaveOwnKeys same (t ∷ ss)
+abbrev pub NeighboursHaveOwnKeys : {K : Type 0} → (K → K → Bool) → List (Stretch K) → Type 0
+NeighboursHaveOwnKeys same [] = Unit {0}
+NeighboursHaveOwnKeys same (s ∷ []) = Unit {0}
+NeighboursHaveOwnKeys same (s ∷ t ∷ ss) = (same s.key t.key ≡ false) × NeighboursHaveOwnKeys same (t ∷ ss)
 
 -- the stretches, joined, are the elements that have a key, each in a stretch of its key; none is empty, and none could be longer
-pub record AreWhole {K : Type 0} (same : K → K → Bool) (key : Identifier → Option K) (xs : List Identifier) (ss : List (Stretch K)) : Type 0 where
+pub record AreMaximalStretches {K : Type 0} (same : K → K → Bool) (key : Identifier → Option K) (xs : List Identifier)
+    (ss : List (Stretch K)) : Type 0 where
   pub all : flat_map (λ (s : Stretch K). s.elements) ss ≡ filter (λ x. is_some (key x)) xs
   pub keys : All (λ (s : Stretch K). All (λ x. key x ≡ Some s.key) s.elements) ss
   pub some : All (λ (s : Stretch K). 0 < length s.elements) ss
-  pub apart : HaveOwnKeys same ss
+  pub apart : NeighboursHaveOwnKeys same ss
 
 -- that holds of the runs of marks and of the runs of replicas
 pub record StretchesAreLongest : Type 0 where
-  pub marks : (key : Identifier → Option Mark) (xs : List Identifier) → AreWhole mark_eq key xs (stretches mark_eq key xs)
-  pub replicas : (key : Identifier → Option ℕ) (xs : List Identifier) → AreWhole nat_eq key xs (stretches nat_eq key xs)
+  pub marks : (key : Identifier → Option Mark) (xs : List Identifier) → AreMaximalStretches mark_eq key xs (stretches mark_eq key xs)
+  pub replicas : (key : Identifier → Option ℕ) (xs : List Identifier) → AreMaximalStretches nat_eq key xs (stretches nat_eq key xs)

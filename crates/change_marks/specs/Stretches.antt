@@ -10,7 +10,8 @@ pub record Stretch (K : Type 0) : Type 0 where
 -- an element in front of stretches: it belongs to the first one where that has its key
 abbrev pub joined_stretch : {K : Type 0} → (K → K → Bool) → K → Identifier → List (Stretch K) → List (Stretch K)
 joined_stretch same k x [] = record { key = k; elements = x ∷ [] } ∷ []
-joined_stretch same k x (s ∷ ss) = if same k s.key then record { key = k; elements = x ∷ s.elements } ∷ ss else record { key = k; elements = x ∷ [] } ∷ s ∷ ss
+joined_stretch same k x (s ∷ ss) =
+    if same k s.key then record { key = k; elements = x ∷ s.elements } ∷ ss else record { key = k; elements = x ∷ [] } ∷ s ∷ ss
 
 -- the stretches of a list, by the keys of its elements
 abbrev pub stretches : {K : Type 0} → (K → K → Bool) → (Identifier → Option K) → List Identifier → List (Stretch K)

@@ -6,7 +6,7 @@ ghost use Rattle.origin_model.specs.declared.operations.Place.TheVariants.{Catal
 ghost use Rattle.origin_model.specs.edits.State.{IsSound};
 ghost use Rattle.origin_model.specs.order.Order.{order};
 ghost use Rattle.origin_model.specs.order.Printed.{shown};
-ghost use Rattle.section_list.specs.Cells.{section_cell_ids, section_cells_shown};
+ghost use Rattle.run_store.specs.Cells.{cell_ids, cells_shown};
 ghost use Rattle.catalogue_notes.specs.Printing.{WritesText};
 ghost use Rattle.change_marks.specs.Authors.{authors_text, section_authors, section_line};
 

@@ -1,7 +1,7 @@
 //! The letters of a section, counted by who made them.
 ghost use Rattle.std.specs.Prelude.{◌≡◌, ◌<◌, ◌+◌, ◌^◌, OnOk, Some, flat_map};
 ghost use Rattle.fugue_ids.specs.Gathers.{GathersText};
-ghost use Rattle.section_list.specs.Cells.{section_cell_ids, section_cells_shown};
+ghost use Rattle.run_store.specs.Cells.{cell_ids, cells_shown};
 ghost use Rattle.change_marks.specs.Authors.{author_line, passage_line};
 ghost use Rattle.change_marks.specs.Steps.{count_in, continues_passage as goes_on_in, line_before, passage_behind, passage_end};
 ghost use Rattle.change_marks.specs.Stretches.{by_replica};
@@ -101,7 +101,7 @@ pub(crate) fn put_passages<O: Out>(
     list: &SectionList,
 ) -> Result<(), Failed>
     ensures { GathersText (O.seen output.old) (O.seen output.new) gather.old gather.new result
-        (flat_map author_line (by_replica (section_cell_ids (section_cells_shown list.now.cells)))) }
+        (flat_map author_line (by_replica (cell_ids (cells_shown list.now.cells)))) }
 {
     let most = list.visible_count();
     prove!(most <= usize::MAX);

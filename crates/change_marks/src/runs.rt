@@ -2,7 +2,7 @@
 ghost use Rattle.std.specs.Prelude.{◌≡◌, ◌≢◌, AllPairs, OnOk};
 ghost use Rattle.std.specs.List.{list_any};
 ghost use Rattle.fugue_ids.specs.Gathers.{GathersText};
-ghost use Rattle.section_list.specs.Cells.{section_cell_ids};
+ghost use Rattle.run_store.specs.Cells.{cell_ids};
 ghost use Rattle.change_marks.specs.Changes.{is_marked};
 ghost use Rattle.change_marks.specs.Marks.{mark_eq, mark_of, text_with_marks, told_mark as told_in};
 ghost use Rattle.change_marks.specs.Steps.{element_part, is_changed_element, open_behind};
@@ -50,11 +50,11 @@ pub(crate) fn put_runs<O: Out>(
     replica: &Replica,
     list: &SectionList,
 ) -> Result<(), Failed>
-    requires once { AllPairs (λ x y. x ≢ y) (section_cell_ids list.now.cells) }
+    requires once { AllPairs (λ x y. x ≢ y) (cell_ids list.now.cells) }
     ensures { GathersText (O.seen output.old) (O.seen output.new) gather.old gather.new result
         (text_with_marks replica.now.held.history
         (stretches mark_eq (told_in is_dropped front.now.held.history replica.now.held.history)
-        (section_cell_ids list.now.cells))) }
+        (cell_ids list.now.cells))) }
 {
     let mut begun = None;
     let mut next = list.after(None);
@@ -77,10 +77,10 @@ fn is_changed(front: &Replica, replica: &Replica, id: ElementId) -> bool
 
 /// Whether a run of the section has marks around it.
 pub(crate) fn has_marks(front: &Replica, replica: &Replica, list: &SectionList) -> bool
-    requires once { AllPairs (λ x y. x ≢ y) (section_cell_ids list.now.cells) }
+    requires once { AllPairs (λ x y. x ≢ y) (cell_ids list.now.cells) }
     ensures { result ≡ list_any is_marked
         (stretches mark_eq (mark_of front.now.held.history replica.now.held.history)
-        (section_cell_ids list.now.cells)) }
+        (cell_ids list.now.cells)) }
 {
     let mut next = list.after(None);
     'elements: while let Some(id) = next {

@@ -4,7 +4,7 @@ ghost use Rattle.fugue_ids.specs.Gathers.{GathersText};
 ghost use Rattle.origin_model.specs.declared.operations.Place.TheVariants.{Catalogue as catalogue, Section as within};
 ghost use Rattle.origin_model.specs.edits.State.{IsSound};
 ghost use Rattle.origin_model.specs.order.Order.{order};
-ghost use Rattle.section_list.specs.Cells.{section_cell_ids, section_cells_shown};
+ghost use Rattle.run_store.specs.Cells.{cell_ids, cells_shown};
 ghost use Rattle.origin_model.specs.order.Printed.{shown};
 ghost use Rattle.catalogue_notes.specs.Arranged.{arranged};
 ghost use Rattle.catalogue_notes.specs.Lift.{is_section};
@@ -21,8 +21,8 @@ use section_list::SectionList;
 /// The elements of a section, hidden ones too.
 pub(crate) fn elements_of(replica: &Replica, section: ElementId) -> &SectionList
     requires { Contains (order catalogue replica.now.held.history) section }
-    ensures elements { section_cell_ids result.now.cells ≡ order (within section) replica.now.held.history }
-    ensures shown { section_cell_ids (section_cells_shown result.now.cells)
+    ensures elements { cell_ids result.now.cells ≡ order (within section) replica.now.held.history }
+    ensures shown { cell_ids (cells_shown result.now.cells)
         ≡ shown (within section) replica.now.held.history }
     ensures stands { IsSound replica.now }
 {
@@ -33,9 +33,9 @@ pub(crate) fn elements_of(replica: &Replica, section: ElementId) -> &SectionList
 /// Whether the section has as many elements, and as many shown ones, as it had: then it is as it was.
 fn has_same_counts(front: &Replica, list: &SectionList, section: ElementId) -> bool
     ensures all { result ≡ true → length (order (within section) front.now.held.history)
-        ≡ length (section_cell_ids list.now.cells) }
+        ≡ length (cell_ids list.now.cells) }
     ensures some { result ≡ true → length (shown (within section) front.now.held.history)
-        ≡ length (section_cell_ids (section_cells_shown list.now.cells)) }
+        ≡ length (cell_ids (cells_shown list.now.cells)) }
 {
     match front.places().section(section) {
         Some(old) => {

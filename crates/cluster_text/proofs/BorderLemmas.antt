@@ -1,5 +1,6 @@
 -- The characters at which clusters end, and texts between which no cluster goes on.
-use Rattle.std.proofs.Common.{◌≡◌, ℕ, Bool, true, false, not, ◌&&◌, ◌||◌, ◌<◌, ◌⊎◌, inl, inr, List, [], ◌∷◌, ◌++◌, length, map, Some, unwrap_or, refl, sym, ap, ap₂, ◌∙◌, append_assoc, arith}
+use Rattle.std.proofs.Common.{◌≡◌, ℕ, Bool, true, false, not, ◌&&◌, ◌||◌, ◌<◌, ◌⊎◌, inl, inr, List, [], ◌∷◌, ◌++◌, length, map, Some, unwrap_or, refl, sym, ap, ap₂, ◌∙◌}
+use Rattle.std.proofs.Common.{append_assoc, arith}
 use Rattle.std.proofs.lemmas.Bool.{and_parts, not-true}
 use Rattle.std.proofs.lemmas.List.{map-append}
 use Rattle.std.proofs.lemmas.Str.{chars-append}
@@ -15,7 +16,8 @@ use Rattle.ucd_derived.specs.declared.IndicConjunctBreak.TheVariants as InCb
 use Rattle.ucd_derived.proofs.Computing.{ucd_derived}
 use Rattle.ucd_emoji.specs.Binary.{is_extended_pictographic}
 use Rattle.ucd_emoji.proofs.Computing.{ucd_emoji}
-use Rattle.unicode_segmentation.specs.Grapheme.{break_by_pair, ends_in_linker, joins_emoji, is_extend, is_zwj, is_regional, ends_in_pictograph, ends_in_half_flag, is_grapheme_break}
+use Rattle.unicode_segmentation.specs.Grapheme.{break_by_pair, ends_in_linker, joins_emoji, is_extend, is_zwj, is_regional, ends_in_pictograph, ends_in_half_flag}
+use Rattle.unicode_segmentation.specs.Grapheme.{is_grapheme_break}
 use Rattle.unicode_segmentation.specs.Segments.{Rule, cut, segments}
 use Rattle.cluster_text.specs.Borders.{closes, opens, ends_whole, first_opens, is_closed, is_free, is_indicator, is_mark, is_mark_class, is_joining, is_linking, last_closes, onto}
 use Rattle.cluster_text.specs.Clusters.{clusters}
@@ -122,7 +124,12 @@ unfolding ends_in_half_flag
 closed_by_class c before e =
     let stop = closing c e in
     let free = free-not_extend _ stop.free in
-    record { linker = linker-stop (indic_conjunct_break c) (map indic_conjunct_break before) stop.linking; zwj = free.1; half = ap (λ b. b && not (ends_in_half_flag before)) free.2; pair = λ w f. pair_breaks _ w stop.free f }
+    record {
+      linker = linker-stop (indic_conjunct_break c) (map indic_conjunct_break before) stop.linking;
+      zwj = free.1;
+      half = ap (λ b. b && not (ends_in_half_flag before)) free.2;
+      pair = λ w f. pair_breaks _ w stop.free f;
+    }
 
 closed_by_flag : (c : ℕ) (before : List ℕ) → (is_indicator c && not (ends_in_half_flag (c ∷ before))) ≡ true → Closed c before
 closed_by_flag c before e =
@@ -170,7 +177,8 @@ pub closed_behind : (c : ℕ) (before : List ℕ) → ends_whole (c ∷ before) 
 closed_behind c before e =
     elim (either (closes c) _ e) [
       | inl one ↦ closed_by_class c before one
-      | inr more ↦ elim (either (is_indicator c && not (ends_in_half_flag (c ∷ before))) _ more) [ inl flag ↦ closed_by_flag c before flag | inr mark ↦ closed_by_mark c before mark ]
+      | inr more ↦ elim (either (is_indicator c && not (ends_in_half_flag (c ∷ before))) _ more)
+          [ inl flag ↦ closed_by_flag c before flag | inr mark ↦ closed_by_mark c before mark ]
     ]
 
 -- no rule looks past a character that opens behind such a place

@@ -1,10 +1,12 @@
 -- A text between two NULs.
-use Rattle.std.proofs.Common.{◌≡◌, ℕ, zero, suc, ◌+◌, ◌-◌, ◌<◌, ◌≤◌, true, false, inl, inr, List, [], ◌∷◌, ◌++◌, map, length, take, drop, refl, sym, ap, ap₂, subst, ◌∙◌, append_assoc, length-append, length-take, length-drop, take_at, add-one, arith}
+use Rattle.std.proofs.Common.{◌≡◌, ℕ, zero, suc, ◌+◌, ◌-◌, ◌<◌, ◌≤◌, true, false, inl, inr, List, [], ◌∷◌, ◌++◌, map, length, take, drop, refl, sym, ap, ap₂, subst, ◌∙◌}
+use Rattle.std.proofs.Common.{append_assoc, length-append, length-take, length-drop, take_at, add-one, arith}
 use Rattle.std.proofs.Math.Seq.{take-add}
 use Rattle.std.proofs.lemmas.Bool.{cases_lt, false≢true}
 use Rattle.std.proofs.lemmas.List.{map-append, take-append-le, drop-append-le}
 use Rattle.std.proofs.lemmas.List.Sums.{sum_by-cons, sum_by-take-le}
-use Rattle.std.proofs.lemmas.Str.{chars-nil, chars-append, chars-encodes, chars_past_char, encode_ascii, encodes-append, scalars-chars, IsUtf8-append, IsUtf8-from_ascii, is_utf8-from_IsUtf8, IsUtf8-from_is_utf8}
+use Rattle.std.proofs.lemmas.Str.{chars-nil, chars-append, chars-encodes, chars_past_char, encode_ascii, encodes-append, scalars-chars, IsUtf8-append, IsUtf8-from_ascii}
+use Rattle.std.proofs.lemmas.Str.{is_utf8-from_IsUtf8, IsUtf8-from_is_utf8}
 use Rattle.std.specs.Prelude.{encode_utf8_all}
 use Rattle.std.specs.List.{splice}
 use Rattle.std.specs.Str.{IsAscii, IsUtf8, all_scalars, chars}
@@ -160,7 +162,16 @@ module _ (parts changed : List Part) (count : ℕ) (index : IsIndex parts count)
       let all = ap (λ t. length (chars t)) changed_is ∙ ap length (enclosed_chars (encode_utf8_all spliced) spliced_utf8) in
       let same = ap length (chars-encodes spliced all_fine) in
       index_is changed more (encode_utf8_all spliced) changed_is spliced_utf8
-      (omega (arith, more_is, all, same, length-append (chars (encode_utf8_all spliced)) (0 ∷ []), splice_len (chars text) (chars new) at n fits, index_count parts count index, fits))
+      (omega (
+        arith,
+        more_is,
+        all,
+        same,
+        length-append (chars (encode_utf8_all spliced)) (0 ∷ []),
+        splice_len (chars text) (chars new) at n fits,
+        index_count parts count index,
+        fits,
+      ))
 
 -- ---- a span
 

@@ -1,5 +1,6 @@
 -- Clusters of one scalar each.
-use Rattle.std.proofs.Common.{◌≡◌, ℕ, zero, suc, ◌<◌, ◌≤◌, ◌||◌, ◌&&◌, Bool, true, false, not, List, [], ◌∷◌, ◌++◌, map, length, take, refl, sym, ap, ◌∙◌, ◌+◌, arith, length-append}
+use Rattle.std.proofs.Common.{◌≡◌, ℕ, zero, suc, ◌<◌, ◌≤◌, ◌||◌, ◌&&◌, Bool, true, false, not, List, [], ◌∷◌, ◌++◌, map, length, take, refl, sym, ap, ◌∙◌, ◌+◌, arith}
+use Rattle.std.proofs.Common.{length-append}
 use Rattle.std.proofs.lemmas.List.{length-map, take-map}
 use Rattle.std.proofs.lemmas.Str.{chars-IsAscii, scalars-chars, IsUtf8-from_ascii}
 use Rattle.std.proofs.lemmas.Str.Ascii.{IsAscii-cons, IsAscii-nil}
@@ -124,7 +125,8 @@ plain_ascii (b ∷ bs) e = let parts = plain_parts b bs e in IsAscii-cons b bs (
 
 one_cluster : (b : ℕ) → IsAscii (b ∷ []) → length (clusters (b ∷ [])) ≡ 1
 unfolding segments cut
-one_cluster b ascii = ap (λ cs. length (map encode_utf8_all (cut (is_grapheme_break true) [] cs []))) (chars-IsAscii (b ∷ []) ascii) ∙ ap (λ ps. length (map encode_utf8_all ps)) (attach-nil _ (b ∷ []))
+one_cluster b ascii = ap (λ cs. length (map encode_utf8_all (cut (is_grapheme_break true) [] cs []))) (chars-IsAscii (b ∷ []) ascii)
+    ∙ ap (λ ps. length (map encode_utf8_all ps)) (attach-nil _ (b ∷ []))
 
 -- each character of a plain text is a cluster
 pub plain_clusters : (text : List ℕ) → is_plain text ≡ true → length (clusters text) ≡ length text

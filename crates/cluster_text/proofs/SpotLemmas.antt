@@ -1,5 +1,6 @@
 -- How scalars of a text in parts give way to others.
-use Rattle.std.proofs.Common.{◌≡◌, ◌⊎◌, ℕ, zero, suc, ◌+◌, ◌-◌, ◌<◌, ◌≤◌, inl, inr, true, List, [], ◌∷◌, ◌++◌, length, take, drop, get_or, refl, sym, ap, ap₂, ◌∙◌, append_assoc, append-nil, length-append, length-drop, take_at, drop_at, drop-drop, arith}
+use Rattle.std.proofs.Common.{◌≡◌, ◌⊎◌, ℕ, zero, suc, ◌+◌, ◌-◌, ◌<◌, ◌≤◌, inl, inr, true, List, [], ◌∷◌, ◌++◌, length, take, drop, get_or, refl, sym, ap, ap₂, ◌∙◌, append_assoc}
+use Rattle.std.proofs.Common.{append-nil, length-append, length-drop, take_at, drop_at, drop-drop, arith}
 use Rattle.std.proofs.Math.Seq.{take-append-add}
 use Rattle.std.proofs.lemmas.Bool.{cases_lt}
 use Rattle.std.proofs.lemmas.List.{take-append-drop, take-append-le, drop-append-le, drop_all}
@@ -103,8 +104,11 @@ at_spot parts at index within spot part here =
 
 -- ---- a text that takes the place of what stands between two places, and goes on with the parts behind the last one
 
-module _ (parts : List Part) (at end i j m n : ℕ) (one : IsSpot parts at i m) (two : IsSpot parts end j n) (first last : Part) (first_at : IsAt parts i first) (last_at : IsAt parts j last)
-    (new text : List ℕ) (utf8 : IsUtf8 new) (behind : ℕ) (gathered : IsGathered parts (encode_utf8_all (take (m + 1) (chars (string_bytes first.text))) ++ (new ++ encode_utf8_all (drop n (chars (string_bytes last.text))))) text (j + 1) behind) where
+module _ (parts : List Part) (at end i j m n : ℕ) (one : IsSpot parts at i m) (two : IsSpot parts end j n) (first last : Part) (first_at : IsAt parts i first)
+    (last_at : IsAt parts j last)
+    (new text : List ℕ) (utf8 : IsUtf8 new) (behind : ℕ)
+    (gathered : IsGathered parts (encode_utf8_all (take (m + 1) (chars (string_bytes first.text))) ++ (new ++ encode_utf8_all (drop n (chars (string_bytes last.text))))) text
+    (j + 1) behind) where
   abbrev pub front : List ℕ
   front = encode_utf8_all (take (m + 1) (chars (string_bytes first.text)))
 
@@ -122,7 +126,8 @@ module _ (parts : List Part) (at end i j m n : ℕ) (one : IsSpot parts at i m) 
   left_is : encode_utf8_all (drop end (chars (whole parts))) ≡ back ++ whole others
   left_is =
       spot-left parts end j n two
-      ∙ ap₂ (λ (p : Part) (ps : List Part). encode_utf8_all (drop n (chars (string_bytes p.text))) ++ whole ps) (sym (at_spot parts end j n two last last_at)) (sym (spot-back parts end j n two))
+      ∙ ap₂ (λ (p : Part) (ps : List Part). encode_utf8_all (drop n (chars (string_bytes p.text))) ++ whole ps) (sym (at_spot parts end j n two last last_at))
+      (sym (spot-back parts end j n two))
 
   -- the text and what stands behind it
   rest_is : text ++ whole (drop behind parts) ≡ front ++ (new ++ (back ++ whole others))

@@ -15,7 +15,7 @@ parts_below (Some node) = node.value.left ++ node.value.part ∷ node.value.righ
 abbrev pub capped_sum : ℕ → ℕ
 capped_sum n = min n (2 ^ 64 - 1)
 
--- how many parts, scalars and clusters
+-- how many scalars parts have
 abbrev pub count_scalars_in : List Part → ℕ
 count_scalars_in parts = sum_by (λ part. part.scalars) parts
 
@@ -29,7 +29,7 @@ pub record HasSums (node : Node) (parts : List Part) : Type 0 where
   pub scalars_are : node.scalars ≡ capped_sum (count_scalars_in parts)
   pub clusters_are : node.clusters ≡ capped_sum (clusters_in parts)
 
--- a tree knows its height and the sums of its parts, as do the trees below it
+-- a tree knows the numbers of its parts, of their scalars and of their clusters, as they are capped
 abbrev pub HasRightSums : Option (Box Node Global) → Type 0
 HasRightSums None = Unit {0}
 HasRightSums (Some node) = HasSums node.value (node.value.left ++ node.value.part ∷ node.value.right)

@@ -18,10 +18,12 @@ pub not_blamed : {T : Type 0} (why : Refusal) → status_of why ≢ status.Outsi
 not_blamed why inside is = let outside : why ≡ refusal.Outside = cc is in inside (ap status_of outside)
 
 -- a command whose giver blamed the outside ends with an outside fault
-pub ends_outside : (answer : Result Note Refusal) (given why : Refusal) (end : Status) → answer ≡ Err given → given ≡ why → MayEnd answer end → why ≡ refusal.Outside → end ≡ status.OutsideFault
+pub ends_outside : (answer : Result Note Refusal) (given why : Refusal) (end : Status) → answer ≡ Err given → given ≡ why → MayEnd answer end → why ≡ refusal.Outside
+    → end ≡ status.OutsideFault
 ends_outside answer given why end is from may outside = may.blames (is ∙ ap Err (from ∙ outside))
 
 -- an input that something was taken from
-pub input_read : (input : Change SourceView) (end : Status) (failed : Type 0) → KeepsCount input.old input.new failed → (IsFinished end → IfSome input.new.left (λ bytes. bytes ≡ []))
+pub input_read : (input : Change SourceView) (end : Status) (failed : Type 0) → KeepsCount input.old input.new failed
+    → (IsFinished end → IfSome input.new.left (λ bytes. bytes ≡ []))
     → (failed → end ≡ status.OutsideFault) → ReadsInput input.old input.new end
 input_read input end failed count ended blamed = record { read = ended; calm = count.calm; blameless = λ tells inside. count.calm_told tells (λ f. inside (blamed f)) }

@@ -1,6 +1,6 @@
 -- Taking in a list of operations, some at a time, and why it stops.
-use Rattle.std.proofs.Common.{List, [], ap, append_assoc, arith, drop, get_or, length, length-append, refl, subst, sym, ℕ, ◌+◌, ◌++◌, ◌<◌, ◌≤◌, ◌∙◌, ◌∷◌, ◌≡◌}
-use Rattle.std.specs.Prelude.{Bool, Option, Some}
+use Rattle.std.proofs.Common.{List, [], ap, append_assoc, arith, drop, length, length-append, refl, subst, sym, ℕ, ◌+◌, ◌++◌, ◌<◌, ◌≤◌, ◌∙◌, ◌∷◌, ◌≡◌}
+use Rattle.std.specs.Prelude.{Bool, Option}
 use Rattle.std.proofs.lemmas.List.{append-nil, drop_more, nil_from_length}
 use Rattle.std.proofs.lemmas.Option.{get_or_from_slice_get}
 use Rattle.fugue_ids.specs.Identifiers.{Identifier}
@@ -8,14 +8,11 @@ use Rattle.fugue_ids.specs.declared.op.Op.TheVariants.{Delete}
 use Rattle.op_runs.specs.Deletions.{deletes_by, target_by}
 use Rattle.op_runs.proofs.DeletionLemmas.{length-deletes}
 use Rattle.op_runs.proofs.FindLemmas.{delete_at}
-use Rattle.fugue_ids.specs.Runs.{run_from, start_behind, text_by, text_in}
 use Rattle.fugue_ids.specs.declared.op.Op.{Op}
-use Rattle.fugue_ids.specs.declared.run.RunStart.{RunStart}
 use Rattle.origin_model.specs.declared.taking.Tally.{Tally}
 use Rattle.origin_model.specs.taking.Taking.{MeetsNoLimit, Held, IsSettled, TooMany, answer, held_from, kept_from}
 use Rattle.origin_model.specs.edits.State.{State}
 use Rattle.origin_model.proofs.SharedLemmas.{held-append, kept-append, places-append}
-use Rattle.op_frame.proofs.GatherLemmas.{run-append, text_is_by}
 use Rattle.replica_core.specs.Feeding.{TakesInAll}
 use Rattle.replica_core.specs.Told.{total}
 use Rattle.replica_core.specs.declared.keeping.FeedFault.{FeedFault}
@@ -25,7 +22,8 @@ use Rattle.command_kinds.specs.Intake.{FeedsNotAll, OneTooMany, copies_of_kept}
 use Rattle.command_kinds.proofs.IntakeLemmas.{copied-append, copied-nil}
 
 -- what was kept of two lists, one behind the other
-pub both_kept : (start mid : State) (a b : List Op) (kept one two : Option (List Op)) → mid ≡ record start { held = held_from start.hold start.most start.held a } → one ≡ copies_of_kept kept (kept_from start.hold start.most start.held a)
+pub both_kept : (start mid : State) (a b : List Op) (kept one two : Option (List Op)) → mid ≡ record start { held = held_from start.hold start.most start.held a }
+    → one ≡ copies_of_kept kept (kept_from start.hold start.most start.held a)
     → two ≡ copies_of_kept one (kept_from mid.hold mid.most mid.held b) → two ≡ copies_of_kept kept (kept_from start.hold start.most start.held (a ++ b))
 both_kept start mid a b kept one two mid_is one_is two_is =
     two_is ∙ (λ i. let r : State = mid_is i in copies_of_kept (one_is i) (kept_from r.hold r.most r.held b))
@@ -33,7 +31,8 @@ both_kept start mid a b kept one two mid_is one_is two_is =
     ∙ ap (copies_of_kept kept) (kept-append start.hold start.most start.held a b)
 
 -- one that finds no place is behind others that found theirs
-pub one_further : (replica now : State) (done ops : List Op) (before after : Tally) → TakesInAll replica now done before after → OneTooMany now ops → OneTooMany replica (done ++ ops)
+pub one_further : (replica now : State) (done ops : List Op) (before after : Tally) → TakesInAll replica now done before after → OneTooMany now ops
+    → OneTooMany replica (done ++ ops)
 one_further replica now done ops before after taken one =
     let reached : Held = held_from replica.hold replica.most replica.held done in
     let place : MeetsNoLimit replica.hold replica.most reached one.front = subst (λ (r : State). MeetsNoLimit r.hold r.most r.held one.front) taken.replica one.has_place in
@@ -49,14 +48,24 @@ one_further replica now done ops before after taken one =
     }
 
 -- the same of a fault
-pub fault_further : (fault : FeedFault) (replica now : State) (done ops : List Op) (before after : Tally) → TakesInAll replica now done before after → FeedsNotAll fault now ops → FeedsNotAll fault replica (done ++ ops)
+pub fault_further : (fault : FeedFault) (replica now : State) (done ops : List Op) (before after : Tally) → TakesInAll replica now done before after → FeedsNotAll fault now ops
+    → FeedsNotAll fault replica (done ++ ops)
 fault_further (feed_fault.TooMany limit) replica now done ops before after taken (most, one) =
     (most ∙ ap (λ (r : State). r.most) taken.replica, one_further replica now done ops before after taken one)
 fault_further feed_fault.NoMemory replica now done ops before after taken fed = tt
 
 pub fault_whole : (fault : FeedFault) (replica : State) (ops more : List Op) → FeedsNotAll fault replica ops → FeedsNotAll fault replica (ops ++ more)
-fault_whole (feed_fault.TooMany limit) replica ops more (most, one) =
-    (most, record { front = one.front; op = one.op; more = one.more ++ more; parts = ap (λ (l : List Op). l ++ more) one.parts ∙ append_assoc one.front (one.op ∷ one.more) more; has_place = one.has_place; refused = one.refused })
+fault_whole (feed_fault.TooMany limit) replica ops more (most, one) = (
+  most,
+  record {
+    front = one.front;
+    op = one.op;
+    more = one.more ++ more;
+    parts = ap (λ (l : List Op). l ++ more) one.parts ∙ append_assoc one.front (one.op ∷ one.more) more;
+    has_place = one.has_place;
+    refused = one.refused;
+  },
+)
 fault_whole feed_fault.NoMemory replica ops more fed = tt
 
 -- A list that is taken in some at a time: the first ones were, and these are left.
@@ -96,8 +105,10 @@ module _ (start : State) (counts : Tally) (kept : Option (List Op)) (ops : List 
     copying_over none = sym (copying.parts ∙ ap (λ (l : List Op). copying.done ++ l) (nil_from_length rest none) ∙ append-nil copying.done)
 
 -- Deletes of neighbours, of which the first ones were taken in
-pub next_delete : (down : Bool) (target : Identifier) (n k : ℕ) → k < n → drop k (deletes_by down target n) ≡ (Delete (target_by down target k) ∷ []) ++ drop (k + 1) (deletes_by down target n)
+pub next_delete : (down : Bool) (target : Identifier) (n k : ℕ) → k < n
+    → drop k (deletes_by down target n) ≡ (Delete (target_by down target k) ∷ []) ++ drop (k + 1) (deletes_by down target n)
 next_delete down target n k below =
     let op : Op = Delete (target_by down target k) in
     let all : List Op = deletes_by down target n in
-    drop_more all k op (omega (arith, below, length-deletes down target n)) ∙ ap (λ (o : Op). o ∷ drop (k + 1) all) (get_or_from_slice_get all k op op (sym (delete_at down target n k below)))
+    drop_more all k op (omega (arith, below, length-deletes down target n))
+    ∙ ap (λ (o : Op). o ∷ drop (k + 1) all) (get_or_from_slice_get all k op op (sym (delete_at down target n k below)))

@@ -5,7 +5,7 @@ use Rattle.std.proofs.lemmas.List.{append-nil}
 use Rattle.fugue_ids.specs.declared.op.Op.{Op}
 use Rattle.origin_model.specs.files.Image.{has_header}
 use Rattle.outer_ports.specs.disk.Disks.{DiskView}
-use Rattle.outer_ports.specs.disk.Moments.{History, LeavesOnly, LeavesOnlyTo, after_moment, moments, history_after_step}
+use Rattle.outer_ports.specs.disk.Moments.{History, LeavesOnly, LeavesOnlyTo, past_after_step, moments, history_after_step}
 use Rattle.outer_ports.specs.disk.States.{IsHonest, at_rest, durable}
 use Rattle.outer_ports.proofs.SharedLemmas.{honest_at_rest, image_at_rest, last_leaves, leaves_more, leaves_none}
 use Rattle.replica_file.proofs.AppendLemmas.{same_content}
@@ -62,15 +62,17 @@ module _ (header : Header) (ops more : List Op) (h : History) (safe : IsSafe hea
     again = (ops, more, safe);
   }
 
-  kept_safe : (past : Option History) (end : Status) → (past ≡ Some (history_after_step durable h)) ⊎ (past ≡ Some h) → (IsFinished end → past ≡ Some (history_after_step durable h))
+  kept_safe : (past : Option History) (end : Status) → (past ≡ Some (history_after_step durable h)) ⊎ (past ≡ Some h)
+      → (IsFinished end → past ≡ Some (history_after_step durable h))
       → StaysSafe header ops more [] h past end
   kept_safe past end (inl is) settled_so = subst (λ p. StaysSafe header ops more [] h p end) (sym is) (kept_settled end)
   kept_safe past end (inr is) settled_so = subst (λ p. StaysSafe header ops more [] h p end) (sym is) (kept_still end (λ done. sym is ∙ settled_so done))
 
 -- a file that is kept is not torn: where the command did all, it was loaded
-pub kept_never_torn : (file : Change DiskView) (end : Status) → KeepsFile file → (IsFinished end → file.new.past ≡ after_moment durable file.old.past) → NeverTorn (λ gave. gave ≡ []) file end
+pub kept_never_torn : (file : Change DiskView) (end : Status) → KeepsFile file → (IsFinished end → file.new.past ≡ past_after_step durable file.old.past)
+    → NeverTorn (λ gave. gave ≡ []) file end
 kept_never_torn file end keeps settled_so header ops more h is safe =
-    let loaded : after_moment durable file.old.past ≡ Some (history_after_step durable h) = ap (after_moment durable) is in (
+    let loaded : past_after_step durable file.old.past ≡ Some (history_after_step durable h) = ap (past_after_step durable) is in (
       [],
       refl,
       kept_safe header ops more h safe file.new.past end
@@ -78,7 +80,8 @@ kept_never_torn file end keeps settled_so header ops more h is safe =
     )
 
 -- nor is one that was not touched, by a command that did not do all
-pub still_never_torn : (file : Change DiskView) (end : Status) → (IsFinished end → ⊥) → IfSome file.old.past (λ h. h.last.seen ≢ [] → file.new.past ≡ file.old.past) → NeverTorn (λ gave. gave ≡ []) file end
+pub still_never_torn : (file : Change DiskView) (end : Status) → (IsFinished end → ⊥) → IfSome file.old.past (λ h. h.last.seen ≢ [] → file.new.past ≡ file.old.past)
+    → NeverTorn (λ gave. gave ≡ []) file end
 still_never_torn file end not_done still header ops more h is safe =
     let same = subst (λ o. IfSome o (λ (k : History). k.last.seen ≢ [] → file.new.past ≡ file.old.past)) is still in
     ([], refl, kept_safe header ops more h safe file.new.past end (inr (same (safe_filled header ops more h safe) ∙ is)) (λ done. absurd (not_done done)))
@@ -88,7 +91,8 @@ pub empty_never_torn : (Gave : List Op → Type 0) (file : Change DiskView) (end
 empty_never_torn Gave file end empty header ops more h is safe =
     absurd (safe_filled header ops more h safe (subst (λ o. IfSome o (λ (k : History). k.last.seen ≡ [])) is empty))
 
-module _ (header : Header) (ops more : List Op) (h : History) (safe : IsSafe header ops more h.last) (gave : List Op) (new : Option History) (gains : GainsAllOrNone gave h new) where
+module _ (header : Header) (ops more : List Op) (h : History) (safe : IsSafe header ops more h.last) (gave : List Op) (new : Option History)
+    (gains : GainsAllOrNone gave h new) where
   abbrev had : List Op
   had = gains.content.ops
 
@@ -109,7 +113,8 @@ module _ (header : Header) (ops more : List Op) (h : History) (safe : IsSafe hea
     gave,
     record {
       honest = honest;
-      leaves = last_leaves (HasOpsOr header had gave) (history_after_step durable h) k leaves (λ image is. inl (subst (HasOps header had) (sym (image_at_rest h.last.seen image is)) has_had));
+      leaves = last_leaves (HasOpsOr header had gave) (history_after_step durable h) k leaves
+          (λ image is. inl (subst (HasOps header had) (sym (image_at_rest h.last.seen image is)) has_had));
     },
   )
 
@@ -128,21 +133,27 @@ module _ (header : Header) (ops more : List Op) (h : History) (safe : IsSafe hea
       }
 
   -- and all of it, once it is saved
-  all_safe : IfSome new (λ k. HasOps (new_file_header gains.content) (had ++ gave) k.last.seen) → IfSome new (λ k. k.last ≡ at_rest k.last.seen) → IfSome new (λ k. IsSafe header (had ++ gave) [] k.last)
+  all_safe : IfSome new (λ k. HasOps (new_file_header gains.content) (had ++ gave) k.last.seen) → IfSome new (λ k. k.last ≡ at_rest k.last.seen)
+      → IfSome new (λ k. IsSafe header (had ++ gave) [] k.last)
   all_safe has rests = by_past new has rests
     where
       by_past : (past : Option History) → IfSome past (λ k. HasOps (new_file_header gains.content) (had ++ gave) k.last.seen) → IfSome past (λ k. k.last ≡ at_rest k.last.seen)
           → IfSome past (λ k. IsSafe header (had ++ gave) [] k.last)
       by_past None has rests = tt
       by_past (Some k) has rests =
-          subst (IsSafe header (had ++ gave) []) (sym rests) (safe_at_rest header (had ++ gave) [] k.last.seen (inl (subst (λ f. HasOps f (had ++ gave) k.last.seen) same_header has)))
+          subst (IsSafe header (had ++ gave) []) (sym rests)
+          (safe_at_rest header (had ++ gave) [] k.last.seen (inl (subst (λ f. HasOps f (had ++ gave) k.last.seen) same_header has)))
 
 module _ (Gave : List Op → Type 0) (file : Change DiskView) (end : Status) where
   -- a file to which all was saved that was given
   pub saved_never_torn : (gave : List Op) → Gave gave → IfSome file.old.past (λ h. AreSavedOps gave h file.new.past) → NeverTorn Gave file end
   saved_never_torn gave given saves header ops more h is safe =
-      let saved = subst (λ o. IfSome o (λ (h : History). AreSavedOps gave h file.new.past)) is saves in
-      (gave, given, gains_safe header ops more h safe gave file.new.past saved.moments end (λ done. all_safe header ops more h safe gave file.new.past saved.moments saved.has saved.rests))
+      let saved = subst (λ o. IfSome o (λ (h : History). AreSavedOps gave h file.new.past)) is saves in (
+        gave,
+        given,
+        gains_safe header ops more h safe gave file.new.past saved.moments end
+            (λ done. all_safe header ops more h safe gave file.new.past saved.moments saved.has saved.rests),
+      )
 
   -- one to which it was saved, or not, by a command that did not do all
   pub failed_never_torn : (gave : List Op) → Gave gave → (IsFinished end → ⊥) → IfSome file.old.past (λ h. GainsAllOrNone gave h file.new.past) → NeverTorn Gave file end

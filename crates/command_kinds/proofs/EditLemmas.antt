@@ -59,7 +59,8 @@ script_once input is replica (Does f) (Does g) a b =
     ap Does (one_outcome replica is.0 f g (told (λ s. RunsScript replica s f) input.old.left is.0 is.1 a) (told (λ s. RunsScript replica s g) input.old.left is.0 is.1 b))
 
 -- a script that was read whole was left
-pub read_whole : (script : List ℕ) (before after : Option (List ℕ)) → before ≡ prepend_known script after → IfSome after (λ (left : List ℕ). left ≡ []) → IfSome before (λ b. b ≡ script)
+pub read_whole : (script : List ℕ) (before after : Option (List ℕ)) → before ≡ prepend_known script after → IfSome after (λ (left : List ℕ). left ≡ [])
+    → IfSome before (λ b. b ≡ script)
 read_whole script before None is ended = subst (λ (l : Option (List ℕ)). IfSome l (λ b. b ≡ script)) (sym is) tt
 read_whole script before (Some left) is ended =
     subst (λ (l : Option (List ℕ)). IfSome l (λ b. b ≡ script)) (sym is) (ap (λ (l : List ℕ). script ++ l) ended ∙ append-nil script)
@@ -109,7 +110,8 @@ gives_refusal replica last before after fault no_want no_fault stops = (
 )
 
 -- a script that ran gives what it made
-pub script_gives : (input : Change SourceView) (replica last : Replica) (n : ℕ) (run : ScriptRuns replica last input.old input.new n) → IsSound replica → IsSettled replica.held → (kept : Option (List Op))
+pub script_gives : (input : Change SourceView) (replica last : Replica) (n : ℕ) (run : ScriptRuns replica last input.old input.new n) → IsSound replica → IsSettled replica.held
+    → (kept : Option (List Op))
     → GivesTo (script input) replica last kept (Ok (note.Made n))
 script_gives input replica last n run stands settled kept =
     let made = has_made replica last input.old input.new n run in
@@ -117,7 +119,8 @@ script_gives input replica last n run stands settled kept =
       outcome = made_outcome last run.2.ops;
       gives = gives_outcome replica last input.old input.new n run;
       suffices = outcome_suffices replica last input.old input.new n run stands settled;
-      saved = ap (drop (length (accepted replica.held.history))) run.2.accepted_are ∙ drop_at (accepted replica.held.history) run.2.ops (length (accepted replica.held.history)) refl;
+      saved = ap (drop (length (accepted replica.held.history))) run.2.accepted_are
+          ∙ drop_at (accepted replica.held.history) run.2.ops (length (accepted replica.held.history)) refl;
       noted = made;
     }
 

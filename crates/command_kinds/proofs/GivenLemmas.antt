@@ -16,7 +16,8 @@ use Rattle.command_kinds.proofs.FoundLemmas.{holds_once, holds_or_refuses, refus
 module _ (giver : Giver) (once : GivesOnce giver) (gave : giver.Told) where
   -- what is given to a replica whose file ends there
   abbrev IsGiven : Replica → End → Finding Outcome → Type 0
-  IsGiven replica end (Refuses why) = giver.Gives replica (Refuses why) ⊎ ((why ≡ refusal.BatchTooLong) × (outcome : Outcome) × giver.Gives replica (Does outcome) × IsTooLong end outcome.saved)
+  IsGiven replica end (Refuses why) =
+      giver.Gives replica (Refuses why) ⊎ ((why ≡ refusal.BatchTooLong) × (outcome : Outcome) × giver.Gives replica (Does outcome) × IsTooLong end outcome.saved)
   IsGiven replica end (Does outcome) = giver.Gives replica (Does outcome) × (IsTooLong end outcome.saved → ⊥)
 
   module _ (replica : Replica) (end : End) where

@@ -56,7 +56,8 @@ note_saves giver once file notes n end did noted calm file_blameless notes_blame
     (subst (λ (line : List ℕ). NoteMeets line (note_status n) notes.old notes.new end) (sym did.1.line) noted)) file_blameless notes_blameless
 
 -- nothing was given to a file that is loaded
-pub given_none : (giver : Giver) (before after : Replica) (kept : Option (List Op)) (end : End) (file : Change DiskView) (why : Refusal) → file.new ≡ file.old → GivesTo giver before after kept (Err why)
+pub given_none : (giver : Giver) (before after : Replica) (kept : Option (List Op)) (end : End) (file : Change DiskView) (why : Refusal) → file.new ≡ file.old
+    → GivesTo giver before after kept (Err why)
     → GivenNoted giver before end file (Err why)
 given_none giver before after kept end file refusal.Outside same gave = inl (gave.0, gave.1, same)
 given_none giver before after kept end file refusal.NoMemory same gave = same

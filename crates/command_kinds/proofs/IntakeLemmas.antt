@@ -53,7 +53,8 @@ pub record FedFrom (start : State) (kept : Option (List Op)) (told : Option (Lis
   pub kept_are : now.kept ≡ copies_of_kept kept (kept_from start.hold start.most start.held ops)
 
 -- nothing was read yet
-pub fed_nothing : (start : State) (told : Option (List ℕ)) (now : StreamTaking) → now.reader.todo ≡ [] → now.reader.unread ≡ [] → now.reader.offset ≡ 0 → now.replica ≡ start → now.counts ≡ no_counts
+pub fed_nothing : (start : State) (told : Option (List ℕ)) (now : StreamTaking) → now.reader.todo ≡ [] → now.reader.unread ≡ [] → now.reader.offset ≡ 0 → now.replica ≡ start
+    → now.counts ≡ no_counts
     → FedFrom start now.kept told now told
 fed_nothing start told now todo none at same counts = record {
   ops = [];
@@ -64,7 +65,8 @@ fed_nothing start told now todo none at same counts = record {
   kept_are = sym (copied-nil now.kept);
 }
 
-module _ (start : State) (kept : Option (List Op)) (told : Option (List ℕ)) (old new : StreamTaking) (before after : SourceView) (fed : FedFrom start kept told old before.left) where
+module _ (start : State) (kept : Option (List Op)) (told : Option (List ℕ)) (old new : StreamTaking) (before after : SourceView)
+    (fed : FedFrom start kept told old before.left) where
   abbrev reached : Held
   reached = held_from start.hold start.most start.held fed.ops
 
@@ -74,7 +76,8 @@ module _ (start : State) (kept : Option (List Op)) (told : Option (List ℕ)) (o
       let hold : ℕ = start.hold in
       let most : ℕ = start.most in
       let held : Held = held_from hold most start.held fed.ops in
-      let taken : TakesInAll (record start { held = held }) new.replica some.ops old.counts new.counts = subst (λ (r : State). TakesInAll r new.replica some.ops old.counts new.counts) fed.replica_is some.taken in
+      let taken : TakesInAll (record start { held = held }) new.replica some.ops old.counts new.counts =
+      subst (λ (r : State). TakesInAll r new.replica some.ops old.counts new.counts) fed.replica_is some.taken in
       record {
         ops = fed.ops ++ some.ops;
         gave = some.gives.gave told fed.ops fed.gave;
@@ -98,7 +101,8 @@ module _ (start : State) (kept : Option (List Op)) (told : Option (List ℕ)) (o
       (subst (λ n. IfSome told (λ bytes. Comes old.reader.grammar start.hold start.most start.held n bytes fed.ops course)) is came)
 
   -- the end was reached
-  pub fed_over : (source last : SourceView) → source.left ≡ told → last.left ≡ after.left → old.reader.limit ≡ STREAM_LIMIT → old.reader.grammar ≡ Version2 → Ended old new before after
+  pub fed_over : (source last : SourceView) → source.left ≡ told → last.left ≡ after.left → old.reader.limit ≡ STREAM_LIMIT → old.reader.grammar ≡ Version2
+      → Ended old new before after
       → TakesInStream start source last new.replica new.counts kept new.kept
   fed_over source last same same_last limit runs ended = record {
     ops = fed.ops;
@@ -111,7 +115,8 @@ module _ (start : State) (kept : Option (List Op)) (told : Option (List ℕ)) (o
   }
 
   -- a step met the cause to stop
-  pub fed_stops : (why : Refusal) (source : SourceView) → source.left ≡ told → old.reader.limit ≡ STREAM_LIMIT → old.reader.grammar ≡ Version2 → IntakeSteps old new before after (Err why) → IntakeStopsFor why start source
+  pub fed_stops : (why : Refusal) (source : SourceView) → source.left ≡ told → old.reader.limit ≡ STREAM_LIMIT → old.reader.grammar ≡ Version2
+      → IntakeSteps old new before after (Err why) → IntakeStopsFor why start source
   fed_stops why source same limit runs steps = by_cause why steps
     where
       -- the operations before the one that found no place were read and taken in
@@ -141,8 +146,13 @@ module _ (start : State) (kept : Option (List Op)) (told : Option (List ℕ)) (o
                 (subst (λ n. IfSome told (λ bytes. Comes at.at.grammar hold most start.held n bytes ops HasTooMany)) (at.limit ∙ limit) many)),
           )
 
-      came : (course : IntakeOutcome) → IfSome told (λ bytes. Comes old.reader.grammar start.hold start.most start.held old.reader.limit bytes fed.ops course) → (ops : List Op) × SourceComes start source ops course
-      came course is = (fed.ops, subst (λ o. IfSome o (λ bytes. Comes Version2 start.hold start.most start.held STREAM_LIMIT bytes fed.ops course)) (sym same) (at_limit course limit runs is))
+      came : (course : IntakeOutcome) → IfSome told (λ bytes. Comes old.reader.grammar start.hold start.most start.held old.reader.limit bytes fed.ops course)
+          → (ops : List Op) × SourceComes start source ops course
+      came course is = (
+        fed.ops,
+        subst (λ o. IfSome o (λ bytes. Comes Version2 start.hold start.most start.held STREAM_LIMIT bytes fed.ops course)) (sym same)
+            (at_limit course limit runs is),
+      )
 
       by_cause : (why : Refusal) → IntakeSteps old new before after (Err why) → IntakeStopsFor why start source
       by_cause (refusal.BadFrame k) steps =

@@ -4,9 +4,10 @@ use Rattle.std.specs.Prelude.{if◌then◌else◌}
 use Rattle.fugue_ids.specs.declared.op.Op.{Op}
 use Rattle.origin_model.proofs.SharedLemmas.{accepted_by, earliest_found, within-none, within-some, without}
 use Rattle.origin_model.specs.declared.operations.Verdict.{Verdict}
-use Rattle.origin_model.specs.declared.operations.Verdict.TheVariants.{Ready, Stray}
+use Rattle.origin_model.specs.declared.operations.Verdict.TheVariants.{Ready}
 use Rattle.origin_model.specs.operations.Verdict.{Lawful, verdict}
-use Rattle.origin_model.specs.taking.Taking.{Accepted, Again, Answer, Conflict, Held, answer, answer_by, held_from, intake, is_again, is_taken, joined, settle, settled_within, held_after}
+use Rattle.origin_model.specs.taking.Taking.{Accepted, Again, Answer, Conflict, Held, answer, held_from, intake, is_again, is_taken, joined, settle, settled_within}
+use Rattle.origin_model.specs.taking.Taking.{held_after}
 
 -- a Ready operation joins a history lawfully, and any other one leaves it
 joined_lawful : (v : Verdict) (op : Op) (h : List Op) → verdict h op ≡ v → Lawful h → Lawful (joined v op h)

@@ -5,7 +5,6 @@ pub mod KeptLemmas
 pub mod ShowLemmas
 pub mod NewLemmas
 pub mod FoundLemmas
-pub mod TextOutLemmas
 pub mod ReportLemmas
 pub mod CrashLemmas
 pub mod LoadedLemmas
@@ -20,5 +19,6 @@ pub mod SavesLemmas
 pub mod SyncLemmas
 pub mod GivingLemmas
 pub mod LawfulLemmas
+pub mod ActLemmas
 pub mod BlameLemmas
 pub mod NoteLemmas

@@ -3,7 +3,7 @@ use Rattle.std.proofs.Common.{◌≡◌, inl, inr, refl, ap, subst, ◌∙◌}
 use Rattle.std.specs.Prelude.{Option, Some, None, IfSome, Result, Ok, Err}
 use Rattle.fugue_ids.specs.declared.limits.TheConstants.{MOST_OPERATIONS}
 use Rattle.outer_ports.specs.disk.Disks.{DiskView, RoomView}
-use Rattle.outer_ports.specs.disk.Moments.{History, after_moment}
+use Rattle.outer_ports.specs.disk.Moments.{History, past_after_step}
 use Rattle.outer_ports.specs.disk.States.{durable}
 use Rattle.origin_model.specs.edits.State.{State as Replica}
 use Rattle.replica_file.specs.declared.load_file.End.{End}
@@ -30,7 +30,7 @@ one_call : (P : Type 0) (disk : DiskView) → IfSome disk.room (λ room. LastsTo
 one_call P disk if has = let now = subst (λ o. IfSome o (λ (room : RoomView). LastsToLoad room → P)) has.is if in now has.calls_fit
 
 -- a sync leaves what a read gives
-settled_bytes : (old : Option History) → bytes_of (after_moment durable old) ≡ bytes_of old
+settled_bytes : (old : Option History) → bytes_of (past_after_step durable old) ≡ bytes_of old
 settled_bytes None = refl
 settled_bytes (Some h) = refl
 

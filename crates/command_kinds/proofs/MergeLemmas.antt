@@ -59,7 +59,8 @@ module _ (guest : Change DiskView) (other replica : State) (other_end : End) (ho
   by_holder : (finding : Finding Outcome) → ReplicaGives other replica finding → HolderGives guest.old replica finding
   by_holder finding gives = (other, other_end, holds, gives)
 
-  pub holder_gives : (now : State) (kept : Option (List Op)) (result : Result Note Refusal) → GivesTo (all_held_by other) replica now kept result → GivesTo (other_file guest) replica now kept result
+  pub holder_gives : (now : State) (kept : Option (List Op)) (result : Result Note Refusal) → GivesTo (all_held_by other) replica now kept result
+      → GivesTo (other_file guest) replica now kept result
   holder_gives now kept (Ok n) did = record { outcome = did.outcome; gives = by_holder (Does did.outcome) did.gives; suffices = did.suffices; saved = did.saved; noted = did.noted }
   holder_gives now kept (Err refusal.Outside) failed = absurd failed.0
   holder_gives now kept (Err refusal.NoMemory) same = tt

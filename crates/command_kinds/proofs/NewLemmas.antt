@@ -5,20 +5,20 @@ use Rattle.fugue_ids.specs.Outs.{OutView}
 use Rattle.origin_model.specs.files.Image.{HasImage, Holds, new_file}
 use Rattle.outer_ports.proofs.SharedLemmas.{image_at_rest, leaves_none}
 use Rattle.outer_ports.specs.disk.Disks.{DiskView}
-use Rattle.outer_ports.specs.disk.Moments.{History, LeavesOnlyTo, MayLeave, after_moment}
+use Rattle.outer_ports.specs.disk.Moments.{History, LeavesOnlyTo, MayLeave, past_after_step}
 use Rattle.outer_ports.specs.disk.States.{DiskState, at_rest, durable, wrote}
 use Rattle.replica_file.specs.Create.{CreateMeets, LastsToCreate, nothing_yet}
 use Rattle.replica_file.specs.declared.creating.CreateFault.{CreateFault}
 use Rattle.replica_file.specs.declared.creating.CreateFault.TheVariants.{NotEmpty, DiskFault}
 use Rattle.command_kinds.proofs.CrashLemmas.{empty_never_torn, still_never_torn}
-use Rattle.command_kinds.proofs.TextLemmas.{told_blameless}
 use Rattle.command_kinds.specs.Crashes.{IsSafe}
 use Rattle.command_kinds.specs.Files.{bytes_of}
-use Rattle.command_kinds.specs.New.{Creates, KeepsFilled}
+use Rattle.command_kinds.specs.New.{Creates, KeepsFilled, creating}
 use Rattle.command_kinds.specs.Refusal.{create_refusal, refusal_line, status_of, Reported}
 use Rattle.command_kinds.specs.Changes.{HasDiskRoom, change}
 use Rattle.command_kinds.specs.declared.refusal.Refusal.TheVariants as refusal
 use Rattle.command_kinds.specs.declared.status.Status.TheVariants as status
+use Rattle.command_kinds.proofs.ActLemmas.{told_performs}
 
 -- what was found: a file is not empty exactly where that is answered, but for a fault
 abbrev Finds : Result (Unit {0}) CreateFault → Option History → Type 0
@@ -40,14 +40,16 @@ same_bytes : (P : List ℕ → Type 0) (past : Option History) (bytes : List ℕ
 same_bytes P None bytes has is = cc is
 same_bytes P (Some h) bytes has is = subst P (cc is) has
 
-new_bytes : (replica hold : ℕ) (old new : Option History) → new ≡ after_moment durable (after_moment (wrote 0 (new_file replica hold)) old) → IfSome new (λ k. k.last ≡ at_rest (new_file replica hold))
+new_bytes : (replica hold : ℕ) (old new : Option History) → new ≡ past_after_step durable (past_after_step (wrote 0 (new_file replica hold)) old)
+    → IfSome new (λ k. k.last ≡ at_rest (new_file replica hold))
     → bytes_of new ≡ option_map (λ bytes. new_file replica hold) (bytes_of old)
 new_bytes replica hold None new calls made = ap bytes_of calls
 new_bytes replica hold (Some h) new calls made =
     ap bytes_of calls ∙ ap (λ (s : DiskState). Some s.seen) (subst (λ past. IfSome past (λ k. k.last ≡ at_rest (new_file replica hold))) calls made)
 
 -- a new file is safe: whatever a crash leaves, it holds no operation
-new_is_safe : (replica hold : ℕ) → HasImage (new_file replica hold) (Holds (nothing_yet replica hold)) → IsSafe (record { replica = replica; hold = hold }) [] [] (at_rest (new_file replica hold))
+new_is_safe : (replica hold : ℕ) → HasImage (new_file replica hold) (Holds (nothing_yet replica hold))
+    → IsSafe (record { replica = replica; hold = hold }) [] [] (at_rest (new_file replica hold))
 new_is_safe replica hold holds = record {
   honest = record { no_shorter = omega arith; no_longer = omega arith; same = λ i below free. refl };
   leaves = λ image is. inl (record {
@@ -58,7 +60,8 @@ new_is_safe replica hold holds = record {
   });
 }
 
-safe_where : (replica hold : ℕ) (past : Option History) → HasImage (new_file replica hold) (Holds (nothing_yet replica hold)) → IfSome past (λ k. k.last ≡ at_rest (new_file replica hold))
+safe_where : (replica hold : ℕ) (past : Option History) → HasImage (new_file replica hold) (Holds (nothing_yet replica hold))
+    → IfSome past (λ k. k.last ≡ at_rest (new_file replica hold))
     → IfSome past (λ k. IsSafe (record { replica = replica; hold = hold }) [] [] k.last)
 safe_where replica hold None holds made = made
 safe_where replica hold (Some k) holds made = subst (IsSafe _ [] []) (sym made) (new_is_safe replica hold holds)
@@ -86,21 +89,22 @@ pub created : (replica hold : ℕ) (old new : DiskView) (notes : OutView) (x : U
 created replica hold old new notes x meets =
     let empty = found_empty x old.past meets.not_empty in
     record {
-      meets = record {
-        empty = empty;
-        made = new_bytes replica hold old.past new.past meets.made.calls meets.made.at_rest;
-        at_rest = meets.made.at_rest;
-        safe = safe_where replica hold new.past meets.made.holds meets.made.at_rest;
-        noted = refl;
+      performs = record {
+        result = Ok tt;
+        did = record {
+          empty = empty;
+          made = new_bytes replica hold old.past new.past meets.made.calls meets.made.at_rest;
+          at_rest = meets.made.at_rest;
+          safe = safe_where replica hold new.past meets.made.holds meets.made.at_rest;
+        };
+        told = record { noted = (refl, refl); calm = λ has. refl; blameless = λ tells not. inl refl };
       };
       decided = record { empty = λ is. inl refl; not_empty = λ bytes is filled. absurd (empty_only old empty bytes is filled) };
       filled = keeps_filled old new meets.overwrites_none;
       crash = empty_never_torn (λ gave. gave ≡ []) (change old new) status.Done empty;
-      home_calm = by_room (new.faults ≡ old.faults) old meets.faults.calm;
-      notes_calm = λ has. refl;
+      calm = by_room (new.faults ≡ old.faults) old meets.faults.calm;
       never_outside = λ has is. cc is;
-      home_blameless = λ tells not. meets.faults.calm_told tells (λ is. cc is);
-      notes_blameless = λ tells not. inl refl;
+      blameless = λ tells not. meets.faults.calm_told tells (λ is. cc is);
     }
 
 abbrev failed : Result (Unit {0}) CreateFault
@@ -112,26 +116,24 @@ pub not_created : (replica hold : ℕ) (old new : DiskView) (notes notes' : OutV
 not_created replica hold old new notes notes' NotEmpty meets told =
     let filled = found_filled old.past meets.not_empty in
     record {
-      meets = record { found = filled; kept = (meets.kept refl).0; noted = told };
+      performs = told_performs (creating replica hold (change old new)) (change notes notes') refusal.NotEmpty
+          (record { found = filled; kept = (meets.kept refl).0 }) told;
       decided = record { empty = λ is. absurd (same_bytes (λ b. b ≢ []) old.past [] filled is refl); not_empty = λ bytes is some. inl refl };
       filled = keeps_filled old new meets.overwrites_none;
       crash = still_never_torn (change old new) status.BadFile (λ done. elim done [ inl is ↦ cc is | inr is ↦ cc is ]) meets.overwrites_none;
-      home_calm = by_room (new.faults ≡ old.faults) old meets.faults.calm;
-      notes_calm = told.calm;
+      calm = by_room (new.faults ≡ old.faults) old meets.faults.calm;
       never_outside = λ has is. cc is;
-      home_blameless = λ tells not. meets.faults.calm_told tells (λ is. cc is);
-      notes_blameless = told_blameless refusal.NotEmpty (change notes notes') told;
+      blameless = λ tells not. meets.faults.calm_told tells (λ is. cc is);
     }
 not_created replica hold old new notes notes' DiskFault meets told =
     let no_room : HasDiskRoom 14 old → ⊥ = λ has. by_room (failed ≡ failed → ⊥) old meets.faults.sure has refl in
     record {
-      meets = record { torn = meets.torn; rose = meets.faults.rose refl; no_room = no_room; noted = told };
+      performs = told_performs (creating replica hold (change old new)) (change notes notes') refusal.Outside
+          (record { torn = meets.torn; rose = meets.faults.rose refl; no_room = no_room }) told;
       decided = record { empty = λ is. inr (refl, meets.faults.rose refl); not_empty = λ bytes is filled. inr (refl, meets.faults.rose refl) };
       filled = keeps_filled old new meets.overwrites_none;
       crash = still_never_torn (change old new) status.OutsideFault (λ done. elim done [ inl is ↦ cc is | inr is ↦ cc is ]) meets.overwrites_none;
-      home_calm = by_room (new.faults ≡ old.faults) old meets.faults.calm;
-      notes_calm = told.calm;
+      calm = by_room (new.faults ≡ old.faults) old meets.faults.calm;
       never_outside = λ has is. no_room has;
-      home_blameless = λ tells not. absurd (not refl);
-      notes_blameless = λ tells not. absurd (not refl);
+      blameless = λ tells not. absurd (not refl);
     }

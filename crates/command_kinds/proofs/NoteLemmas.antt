@@ -46,13 +46,16 @@ module _ (note_on : NoteOn) (old new : Replica) (op : Op) (found_is : note_on ol
           noted = record { line = refl; status = refl };
         }
 
-pub note_gives : (note_on : NoteOn) (old new : Replica) → MadeNote (note_on old) old new → IsSound old → IsSettled old.held → (kept : Option (List Op)) → GivesTo (note_giver note_on) old new kept (Ok (note.Made 1))
+pub note_gives : (note_on : NoteOn) (old new : Replica) → MadeNote (note_on old) old new → IsSound old → IsSettled old.held → (kept : Option (List Op))
+    → GivesTo (note_giver note_on) old new kept (Ok (note.Made 1))
 note_gives note_on old new made =
     let h = old.held in
-    op_gives note_on old new (note_by old made.named made.code made.body) made.found_is made.ready (noted_unknown old.number h.history h.waiting made.named made.code made.body) (note_fits old made.allowed) made.gained
+    op_gives note_on old new (note_by old made.named made.code made.body) made.found_is made.ready (noted_unknown old.number h.history h.waiting made.named made.code made.body)
+    (note_fits old made.allowed) made.gained
 
 -- no note was made, and why
-pub note_gives_none : (note_on : NoteOn) (old new : Replica) (kept : Option (List Op)) (why : Refusal) → NoteComes (note_on old) old new (Err why) → GivesTo (note_giver note_on) old new kept (Err why)
+pub note_gives_none : (note_on : NoteOn) (old new : Replica) (kept : Option (List Op)) (why : Refusal) → NoteComes (note_on old) old new (Err why)
+    → GivesTo (note_giver note_on) old new kept (Err why)
 note_gives_none note_on old new kept refusal.Outside never = absurd never
 note_gives_none note_on old new kept refusal.NoMemory comes = tt
 note_gives_none note_on old new kept refusal.Words never = never

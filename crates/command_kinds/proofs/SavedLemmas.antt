@@ -4,8 +4,8 @@ use Rattle.std.specs.Prelude.{Option, Some, None, IfSome}
 use Rattle.std.proofs.lemmas.List.{append-nil}
 use Rattle.fugue_ids.specs.declared.limits.TheConstants.{MOST_OPERATIONS}
 use Rattle.fugue_ids.specs.declared.op.Op.{Op}
-use Rattle.outer_ports.specs.disk.Disks.{DiskView, RoomView, spent_by_write}
-use Rattle.outer_ports.specs.disk.Moments.{History, LeavesOnlyTo, MayLeave, after_moment, history_after_step}
+use Rattle.outer_ports.specs.disk.Disks.{DiskView, RoomView, room_after_write}
+use Rattle.outer_ports.specs.disk.Moments.{History, LeavesOnlyTo, MayLeave, past_after_step, history_after_step}
 use Rattle.outer_ports.specs.disk.States.{IsHonest, at_rest, durable}
 use Rattle.outer_ports.proofs.SharedLemmas.{honest_at_rest, leaves_weaker}
 use Rattle.origin_model.specs.files.Image.{Content, HasImage, Holds, state}
@@ -26,7 +26,8 @@ use Rattle.command_kinds.specs.Changes.{DiskCountsNoFault, HasDiskRoom, change}
 has_ops : (content : Content) (bytes : List ℕ) → HasImage bytes (Holds content) → HasOps (new_file_header content) content.ops bytes
 has_ops content bytes holds = record { content = content; holds = holds; header_is = refl; ops_are = refl }
 
-has_more : (content : Content) (ops : List Op) (bytes : List ℕ) → HasImage bytes (Holds (content_with_ops content ops)) → HasOps (new_file_header content) (content.ops ++ ops) bytes
+has_more : (content : Content) (ops : List Op) (bytes : List ℕ) → HasImage bytes (Holds (content_with_ops content ops))
+    → HasOps (new_file_header content) (content.ops ++ ops) bytes
 has_more content ops bytes holds = record { content = content_with_ops content ops; holds = holds; header_is = refl; ops_are = refl }
 
 has_either : (content : Content) (ops : List Op) (bytes : List ℕ) → HoldsEither content ops bytes → HasOpsOr (new_file_header content) content.ops ops bytes
@@ -49,14 +50,15 @@ module _ (replica : Replica) (end : End) (ops : List Op) where
   Loaded past = IfSome past (λ h. Loads MOST_OPERATIONS h.last.seen replica end)
 
   -- all of them or none, from the load on
-  pub gains_so : (old mid new : Option History) → Loaded old → mid ≡ after_moment durable old → IfSome old (λ h. LeavesOnlyTo h mid (MayLeave h)) → Leaves ops mid new
+  pub gains_so : (old mid new : Option History) → Loaded old → mid ≡ past_after_step durable old → IfSome old (λ h. LeavesOnlyTo h mid (MayLeave h)) → Leaves ops mid new
       → IfSome new (λ k. IsHonest k.last) → Gains ops old new
   gains_so None mid new loads synced moments leaves honest = tt
   gains_so (Some h) mid new loads synced moments leaves honest = record {
     content = loads.content;
     holds = loads.holds;
     loads = subst (λ m. LeavesOnlyTo h m (MayLeave h)) synced moments;
-    gains = weaker_to (HoldsEither loads.content ops) (HasOpsOr (new_file_header loads.content) loads.content.ops ops) (has_either loads.content ops) (history_after_step durable h) new
+    gains = weaker_to (HoldsEither loads.content ops) (HasOpsOr (new_file_header loads.content) loads.content.ops ops) (has_either loads.content ops)
+        (history_after_step durable h) new
         (subst (λ m. Leaves ops m new) synced leaves loads.content loads.holds);
     honest = honest;
   }
@@ -74,7 +76,8 @@ abbrev AtEnd : List Op → Content → Option History → Type 0
 AtEnd ops content new = IfSome new (λ k. HasOps (new_file_header content) (content.ops ++ ops) k.last.seen) × IfSome new (λ k. k.last ≡ at_rest k.last.seen)
 
 still_at_end : (h : History) (content : Content) (new : Option History) → HasImage h.last.seen (Holds content) → new ≡ Some (history_after_step durable h) → AtEnd [] content new
-still_at_end h content new holds is = subst (AtEnd [] content) (sym is) (record { content = content; holds = holds; header_is = refl; ops_are = sym (append-nil content.ops) }, refl)
+still_at_end h content new holds is =
+    subst (AtEnd [] content) (sym is) (record { content = content; holds = holds; header_is = refl; ops_are = sym (append-nil content.ops) }, refl)
 
 batch_at_end : (content : Content) (end : End) (ops : List Op) (new : Option History) → IfSome new (λ k. HasBatch content end ops k.last) → AtEnd ops content new
 batch_at_end content end ops None has = (tt, tt)
@@ -83,15 +86,18 @@ batch_at_end content end ops (Some k) has = (has_more content ops k.last.seen ha
 abbrev Batched : List Op → End → Option History → Option History → Type 0
 Batched ops end mid new = IfSome mid (λ h. (content : Content) → Means h.last content → IfSome new (λ k. HasBatch content end ops k.last))
 
-at_end : (replica : Replica) (end : End) (ops : List Op) (h : History) (mid new : Option History) (loads : Loads MOST_OPERATIONS h.last.seen replica end) → mid ≡ Some (history_after_step durable h)
+at_end : (replica : Replica) (end : End) (ops : List Op) (h : History) (mid new : Option History) (loads : Loads MOST_OPERATIONS h.last.seen replica end)
+    → mid ≡ Some (history_after_step durable h)
     → (ops ≡ [] → new ≡ mid) → (ops ≢ [] → Batched ops end mid new) → AtEnd ops loads.content new
 at_end replica end [] h mid new loads synced none appended = still_at_end h loads.content new loads.holds (none refl ∙ synced)
 at_end replica end (op ∷ ops) h mid new loads synced none appended =
     batch_at_end loads.content end (op ∷ ops) new (subst (λ m. Batched (op ∷ ops) end m new) synced (appended (λ e. cc e)) loads.content loads.holds)
 
 -- the operations were saved
-pub saved_so : (replica : Replica) (end : End) (ops : List Op) (old mid new : Option History) → IfSome old (λ h. Loads MOST_OPERATIONS h.last.seen replica end) → mid ≡ after_moment durable old
-    → IfSome old (λ h. LeavesOnlyTo h mid (MayLeave h)) → Leaves ops mid new → (ops ≡ [] → new ≡ mid) → (ops ≢ [] → Batched ops end mid new) → IfSome old (λ h. AreSavedOps ops h new)
+pub saved_so : (replica : Replica) (end : End) (ops : List Op) (old mid new : Option History) → IfSome old (λ h. Loads MOST_OPERATIONS h.last.seen replica end)
+    → mid ≡ past_after_step durable old
+    → IfSome old (λ h. LeavesOnlyTo h mid (MayLeave h)) → Leaves ops mid new → (ops ≡ [] → new ≡ mid) → (ops ≢ [] → Batched ops end mid new)
+    → IfSome old (λ h. AreSavedOps ops h new)
 unfolding gains_so
 saved_so replica end ops None mid new loads synced moments leaves none appended = tt
 saved_so replica end ops (Some h) mid new loads synced moments leaves none appended =
@@ -102,8 +108,10 @@ saved_so replica end ops (Some h) mid new loads synced moments leaves none appen
       rests = last.1;
     }
 
-module _ (bytes bytes' : List ℕ) (replica : Replica) (end : End) (outcome : Outcome) (loads : Loads MOST_OPERATIONS bytes replica end) (suffices : Suffices replica outcome) (content' : Content)
-    (holds : HasImage bytes' (Holds content')) (number : content'.replica ≡ loads.content.replica) (hold : content'.hold ≡ loads.content.hold) (ops : content'.ops ≡ loads.content.ops ++ outcome.saved) where
+module _ (bytes bytes' : List ℕ) (replica : Replica) (end : End) (outcome : Outcome) (loads : Loads MOST_OPERATIONS bytes replica end) (suffices : Suffices replica outcome)
+    (content' : Content)
+    (holds : HasImage bytes' (Holds content')) (number : content'.replica ≡ loads.content.replica) (hold : content'.hold ≡ loads.content.hold)
+    (ops : content'.ops ≡ loads.content.ops ++ outcome.saved) where
   abbrev content : Content
   content = loads.content
 
@@ -128,14 +136,16 @@ module _ (bytes bytes' : List ℕ) (replica : Replica) (end : End) (outcome : Ou
 abbrev LoadsAs : Replica → Option History → Type 0
 LoadsAs replica new = (last : End) × IfSome new (λ k. Loads MOST_OPERATIONS k.last.seen replica last)
 
-batch_loads : (bytes : List ℕ) (replica : Replica) (end : End) (outcome : Outcome) (loads : Loads MOST_OPERATIONS bytes replica end) → Suffices replica outcome → (new : Option History)
+batch_loads : (bytes : List ℕ) (replica : Replica) (end : End) (outcome : Outcome) (loads : Loads MOST_OPERATIONS bytes replica end) → Suffices replica outcome
+    → (new : Option History)
     → IfSome new (λ k. HasBatch loads.content end outcome.saved k.last) → LoadsAs (record replica { held = outcome.held }) new
 batch_loads bytes replica end outcome loads suffices None has = (end, tt)
 batch_loads bytes replica end outcome loads suffices (Some k) has =
     let more : Content = content_with_ops loads.content outcome.saved in
     (record { at = more.at; slots = more.slots }, loads_more bytes k.last.seen replica end outcome loads suffices more has.means refl refl refl)
 
-still_loads : (replica : Replica) (end : End) (outcome : Outcome) (h : History) (new : Option History) → Loads MOST_OPERATIONS h.last.seen replica end → Suffices replica outcome → [] ≡ outcome.saved
+still_loads : (replica : Replica) (end : End) (outcome : Outcome) (h : History) (new : Option History) → Loads MOST_OPERATIONS h.last.seen replica end → Suffices replica outcome
+    → [] ≡ outcome.saved
     → new ≡ Some (history_after_step durable h) → LoadsAs (record replica { held = outcome.held }) new
 still_loads replica end outcome h new loads suffices nothing_held is =
     subst (LoadsAs (record replica { held = outcome.held })) (sym is) (
@@ -150,8 +160,10 @@ untold end [] mid new is none calls = none refl ∙ is
 untold end (op ∷ ops) mid new is none calls = calls (λ e. cc e) ∙ ap (gate_opened end.at (behind_gate (op ∷ ops))) is
 
 -- a later load comes to the outcome's state
-pub later_so : (replica : Replica) (end : End) (outcome : Outcome) (old mid new : Option History) → IfSome old (λ h. Loads MOST_OPERATIONS h.last.seen replica end) → Suffices replica outcome
-    → mid ≡ after_moment durable old → (outcome.saved ≡ [] → new ≡ mid) → (outcome.saved ≢ [] → new ≡ gate_opened end.at (behind_gate outcome.saved) mid) → (outcome.saved ≢ [] → Batched outcome.saved end mid new)
+pub later_so : (replica : Replica) (end : End) (outcome : Outcome) (old mid new : Option History) → IfSome old (λ h. Loads MOST_OPERATIONS h.last.seen replica end)
+    → Suffices replica outcome
+    → mid ≡ past_after_step durable old → (outcome.saved ≡ [] → new ≡ mid) → (outcome.saved ≢ [] → new ≡ gate_opened end.at (behind_gate outcome.saved) mid)
+    → (outcome.saved ≢ [] → Batched outcome.saved end mid new)
     → LoadsAs (record replica { held = outcome.held }) new
 later_so replica end outcome None mid new loads suffices synced none calls appended =
     (end, subst (λ o. IfSome o (λ k. Loads MOST_OPERATIONS k.last.seen (record replica { held = outcome.held }) end)) (sym (untold end outcome.saved mid new synced none calls)) tt)
@@ -167,11 +179,11 @@ gate_long : (ops : List Op) → length (behind_gate ops) ≡ length (frames ops)
 gate_long ops = omega (arith, length-append (frames ops) (0 ∷ []))
 
 -- what needs the room that is left behind the sync comes
-pub with_room : (P : Type 0) (ops : List Op) (a b : DiskView) → ops ≢ [] → b.room ≡ spent_by_write 0 a.room → HasDiskRoom (room_to_save ops) a
+pub with_room : (P : Type 0) (ops : List Op) (a b : DiskView) → ops ≢ [] → b.room ≡ room_after_write 0 a.room → HasDiskRoom (room_to_save ops) a
     → IfSome b.room (λ room. LastsForCalls (behind_gate ops) room → P) → P
 with_room P [] a b some room_is has if = absurd (some refl)
 with_room P (op ∷ ops) a b some room_is has if =
-    let now = subst (λ o. IfSome o (λ (room : RoomView). LastsForCalls (behind_gate (op ∷ ops)) room → P)) (room_is ∙ ap (spent_by_write 0) has.is) if in
+    let now = subst (λ o. IfSome o (λ (room : RoomView). LastsForCalls (behind_gate (op ∷ ops)) room → P)) (room_is ∙ ap (room_after_write 0) has.is) if in
     now (record { bytes_fit = omega (arith, has.bytes_fit, gate_long (op ∷ ops)); calls_fit = omega (arith, has.calls_fit) })
 
 -- room to save is room for a call
@@ -180,7 +192,7 @@ some_room [] disk has = has
 some_room (op ∷ ops) disk has = record { room = has.room; is = has.is; bytes_fit = omega (arith, has.bytes_fit); calls_fit = omega (arith, has.calls_fit) }
 
 -- no fault is counted where there was room to save
-pub calm_so : (ops : List Op) (a b c : DiskView) → DiskCountsNoFault 1 (change a b) → b.room ≡ spent_by_write 0 a.room → (ops ≡ [] → c ≡ b)
+pub calm_so : (ops : List Op) (a b c : DiskView) → DiskCountsNoFault 1 (change a b) → b.room ≡ room_after_write 0 a.room → (ops ≡ [] → c ≡ b)
     → IfSome b.room (λ room. LastsForCalls (behind_gate ops) room → c.faults ≡ b.faults) → DiskCountsNoFault (room_to_save ops) (change a c)
 calm_so [] a b c calm room_is none calmly has = ap (λ (d : DiskView). d.faults) (none refl) ∙ calm has
 calm_so (op ∷ ops) a b c calm room_is none calmly has =

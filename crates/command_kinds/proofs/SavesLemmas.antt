@@ -4,14 +4,15 @@ use Rattle.std.specs.Prelude.{◌⊎◌, Ok, Err}
 use Rattle.fugue_ids.specs.Causes.{Faulted}
 use Rattle.fugue_ids.specs.Outs.{OutView}
 use Rattle.outer_ports.specs.disk.Disks.{DiskView}
-use Rattle.outer_ports.specs.disk.Moments.{after_moment}
+use Rattle.outer_ports.specs.disk.Moments.{past_after_step}
 use Rattle.outer_ports.specs.disk.States.{durable}
 use Rattle.command_kinds.specs.Crashes.{IsFinished, NeverTorn}
 use Rattle.command_kinds.specs.Files.{FileRefuses, KeepsFile, LoadFailed}
 use Rattle.command_kinds.specs.Findings.{Finding, Refuses, Does, IsDecided}
 use Rattle.command_kinds.specs.Printing.{NoteMeets, NotesBlameless}
 use Rattle.command_kinds.specs.Refusal.{refusal_line, status_of, Reported}
-use Rattle.command_kinds.specs.Saving.{ComesToSave, FileIsRefused, GaveOutcome, Giver, GivesOnce, GivingFailed, IsDone, Outcome, SaveFailed, SavesGiven, SavingFound, SavingMeets, SomeFails, Stopped, StopsSaving, outcome_status, room_needed}
+use Rattle.command_kinds.specs.Saving.{ComesToSave, FileIsRefused, GaveOutcome, Giver, GivesOnce, GivingFailed, IsDone, Outcome, SaveFailed, SavesGiven, SavingFound, saving}
+use Rattle.command_kinds.specs.Saving.{SomeFails, StopsSaving, outcome_status, room_needed}
 use Rattle.command_kinds.specs.Changes.{Change, DiskBlameless, DiskCountsNoFault, HasDiskRoom, HasRoom, IsSpecified, CountsNoFault, notes_room}
 use Rattle.command_kinds.specs.declared.refusal.Refusal.{Refusal}
 use Rattle.command_kinds.specs.declared.refusal.Refusal.TheVariants as refusal
@@ -21,12 +22,7 @@ use Rattle.command_kinds.proofs.CrashLemmas.{failed_never_torn, saved_never_torn
 use Rattle.command_kinds.proofs.FoundLemmas.{holds_or_refuses, refuses_once}
 use Rattle.command_kinds.proofs.GivenLemmas.{found_once}
 use Rattle.command_kinds.proofs.SavedLemmas.{some_room}
-use Rattle.command_kinds.proofs.TextLemmas.{told_blameless}
-
--- a command that did all ends in no outside fault
-finished_inside : (end : Status) → IsFinished end → end ≢ status.OutsideFault
-finished_inside end (inl done) fault = let e = sym done ∙ fault in cc e
-finished_inside end (inr some) fault = let e = sym some ∙ fault in cc e
+use Rattle.command_kinds.proofs.ActLemmas.{finished_inside, told_performs}
 
 -- room for what is to be done is room for a call
 needed_room : (found : Finding Outcome) (disk : DiskView) → HasDiskRoom (room_needed found) disk → HasDiskRoom 1 disk
@@ -56,7 +52,8 @@ module _ (giver : Giver) (once : GivesOnce giver) (file : Change DiskView) where
   abbrev Causes : Refusal → Type 0
   Causes why = ((why ≡ refusal.Outside) × SomeFailed) ⊎ ((why ≡ refusal.NoMemory) × KeepsFile file) ⊎ IsFound why
 
-  found_so : (why : Refusal) → SavingFound giver file.old (Refuses why) × KeepsFile file × (FileRefuses file.old why ⊎ (file.new.past ≡ after_moment durable file.old.past)) → status_of why ≢ status.OutsideFault → (IsFinished (status_of why) → ⊥) → Causes why
+  found_so : (why : Refusal) → SavingFound giver file.old (Refuses why) × KeepsFile file × (FileRefuses file.old why ⊎ (file.new.past ≡ past_after_step durable file.old.past))
+      → status_of why ≢ status.OutsideFault → (IsFinished (status_of why) → ⊥) → Causes why
   found_so why stops inside not_done = inr (inr (record { found = stops.0; keeps = stops.1; inside = inside; not_done = not_done }))
 
   -- a status that is neither Done nor Partial
@@ -103,21 +100,14 @@ module _ (giver : Giver) (once : GivesOnce giver) (file : Change DiskView) where
   failed_crash end not_done (inl load) = stopped_never_torn (GaveOutcome giver file.old end) file end (inl (not_done, refl)) not_done load.keeps
   failed_crash end not_done (inr (inl giving)) = stopped_never_torn (GaveOutcome giver file.old end) file end (inl (not_done, refl)) not_done giving.keeps
   failed_crash end not_done (inr (inr save)) =
-      failed_never_torn (GaveOutcome giver file.old end) file end save.outcome.saved (inr (save.replica, save.end, save.holds, save.outcome, save.gives, refl)) not_done save.moments
+      failed_never_torn (GaveOutcome giver file.old end) file end save.outcome.saved
+      (inr (save.replica, save.end, save.holds, save.outcome, save.gives, refl)) not_done save.moments
 
   module _ (notes : Change OutView) (calm : CountsNoFault notes_room notes.old notes.new) where
-    module _ (outcome : Outcome) (end : Status) (done : IsDone giver file outcome) (finished : IsFinished outcome.status) (noted : NoteMeets outcome.line outcome.status notes.old notes.new end) where
+    module _ (outcome : Outcome) (end : Status) (done : IsDone giver file outcome) (finished : IsFinished outcome.status)
+        (noted : NoteMeets outcome.line outcome.status notes.old notes.new end) where
       done_found : SavingFound giver file.old (Does outcome)
       done_found = (done.replica, done.end, done.holds, done.gives, done.fits)
-
-      done_meets : SavingMeets giver file notes end
-      done_meets = elim noted [
-        | inl took ↦ elim finished [
-          | inl is ↦ subst (SavingMeets giver file notes) (sym (took.end_is ∙ is)) (record { outcome = outcome; done = done; noted = took.took; end_is = sym is })
-          | inr is ↦ subst (SavingMeets giver file notes) (sym (took.end_is ∙ is)) (record { outcome = outcome; done = done; noted = took.took; end_is = sym is })
-        ]
-        | inr failed ↦ subst (SavingMeets giver file notes) (sym failed.1) (inr (record { outcome = outcome; done = done; failed = failed.0 }))
-      ]
 
       done_inside : HasRoom notes_room notes.old → end ≢ status.OutsideFault
       done_inside has = elim noted [ inl took ↦ λ fault. finished_inside outcome.status finished (sym took.end_is ∙ fault) | inr failed ↦ absurd (failed.0.no_room has) ]
@@ -126,28 +116,19 @@ module _ (giver : Giver) (once : GivesOnce giver) (file : Change DiskView) where
       done_decided = elim noted [ inl took ↦ inl took.end_is | inr failed ↦ inr (inr (failed.1, inr (inr failed.0.rose))) ]
 
     -- all was done, and noted or not
-    pub noted_saves : (outcome : Outcome) (end : Status) → ComesToSave giver file (Ok outcome) → IsFinished outcome.status → NoteMeets outcome.line outcome.status notes.old notes.new end
+    pub noted_saves : (outcome : Outcome) (end : Status) → ComesToSave giver file (Ok outcome) → IsFinished outcome.status
+        → NoteMeets outcome.line outcome.status notes.old notes.new end
         → DiskBlameless file end → NotesBlameless notes end → SavesGiven giver file notes end
     noted_saves outcome end done finished noted file_blameless notes_blameless = record {
-      meets = done_meets outcome end done finished noted;
+      performs = record { result = Ok outcome; did = (done, finished); told = record { noted = noted; calm = calm; blameless = notes_blameless } };
       crash = saved_never_torn (GaveOutcome giver file.old end) file end outcome.saved (inr (done.replica, done.end, done.holds, outcome, done.gives, refl)) done.saves;
-      calm = record { file_calm = one_finding (λ found. DiskCountsNoFault (room_needed found) file) (Does outcome) (done_found outcome end done finished noted) done.calm; notes_calm = calm };
+      calm = one_finding (λ found. DiskCountsNoFault (room_needed found) file) (Does outcome) (done_found outcome end done finished noted) done.calm;
       never_outside = λ told gave found so sure room has. done_inside outcome end done finished noted has;
       decided = one_finding (λ found. IsDecided (outcome_status found) (SomeFails giver file notes found) end)
           (Does outcome) (done_found outcome end done finished noted) (done_decided outcome end done finished noted);
       refused = λ told why cause. absurd (holds_or_refuses file.old told (done.replica, done.end) why done.holds cause);
-      file_blameless = file_blameless;
-      notes_blameless = notes_blameless;
+      blameless = file_blameless;
     }
-
-    module _ (why : Refusal) (stops : StopsSaving giver file why) (told_so : Reported notes.old notes.new (refusal_line why)) where
-      abbrev stopped : (end : Status) → end ≡ status_of why → Stopped giver file notes end
-      stopped end is = record { why = why; stops = stops; noted = told_so; end_is = is }
-
-    stopped_meets : (why : Refusal) → StopsSaving giver file why → Reported notes.old notes.new (refusal_line why) → SavingMeets giver file notes (status_of why)
-    stopped_meets refusal.Words stops noted = absurd stops
-    stopped_meets refusal.Outside stops noted = inl (stopped refusal.Outside stops noted status.OutsideFault refl)
-    stopped_meets why stops noted = stopped why stops noted (status_of why) refl
 
     -- the rest follows from the cause
     record Follows (end : Status) : Type 0 where
@@ -180,7 +161,8 @@ module _ (giver : Giver) (once : GivesOnce giver) (file : Change DiskView) where
 
     memory_follows : KeepsFile file → Follows status.NoMemory
     memory_follows keeps = record {
-      crash = let not_done = not_finished status.NoMemory (λ e. cc e) (λ e. cc e) in stopped_never_torn (GaveOutcome giver file.old status.NoMemory) file status.NoMemory (inl (not_done, refl)) not_done keeps;
+      crash = let not_done = not_finished status.NoMemory (λ e. cc e) (λ e. cc e) in
+          stopped_never_torn (GaveOutcome giver file.old status.NoMemory) file status.NoMemory (inl (not_done, refl)) not_done keeps;
       file_calm = kept_calm keeps;
       inside = λ told gave found so sure has e. cc e;
       decided = λ told gave found so. inr (inl refl);
@@ -208,12 +190,11 @@ module _ (giver : Giver) (once : GivesOnce giver) (file : Change DiskView) where
     told_saves why stops noted file_blameless =
         let rest = follows why (causes why stops) in
         record {
-          meets = stopped_meets why stops noted;
+          performs = told_performs (saving giver file) notes why stops noted;
           crash = rest.crash;
-          calm = record { file_calm = rest.file_calm; notes_calm = calm };
+          calm = rest.file_calm;
           never_outside = λ told gave found so sure room has. rest.inside told gave found so sure room;
           decided = rest.decided;
           refused = rest.refused;
-          file_blameless = file_blameless;
-          notes_blameless = told_blameless why notes noted;
+          blameless = file_blameless;
         }

@@ -2,8 +2,8 @@
 use Rattle.std.proofs.Common.{◌≡◌, inl, inr, ap, refl, sym, subst, arith, ◌∙◌}
 use Rattle.std.specs.Prelude.{◌⊎◌, Result, Ok, Err}
 use Rattle.std.proofs.lemmas.Option.{IfSome_then}
-use Rattle.outer_ports.specs.disk.Disks.{DiskView, spent_by_write}
-use Rattle.outer_ports.specs.disk.Moments.{after_moment}
+use Rattle.outer_ports.specs.disk.Disks.{DiskView, room_after_write}
+use Rattle.outer_ports.specs.disk.Moments.{past_after_step}
 use Rattle.outer_ports.specs.disk.States.{durable}
 use Rattle.origin_model.specs.edits.State.{State as Replica}
 use Rattle.replica_file.proofs.HonestLemmas.{settled_honest}
@@ -25,10 +25,10 @@ module _ (giver : Giver) (a b c : DiskView) (replica : Replica) (end : End) (loa
   keeps : KeepsFile (change a b)
   keeps = keeps_file (change a b) (Ok (replica, end)) loaded
 
-  synced : b.past ≡ after_moment durable a.past
+  synced : b.past ≡ past_after_step durable a.past
   synced = (loaded_synced _ a b (replica, end) loaded).0
 
-  room : b.room ≡ spent_by_write 0 a.room
+  room : b.room ≡ room_after_write 0 a.room
   room = (loaded_synced _ a b (replica, end) loaded).1
 
   same_past : c ≡ b → c.past ≡ b.past
@@ -42,8 +42,10 @@ module _ (giver : Giver) (a b c : DiskView) (replica : Replica) (end : End) (loa
     holds = loaded.cause;
     gives = gives;
     fits = λ long. let not = (saves.too_long (λ is. cc is)).1 long in cc not;
-    saves = saved_so replica end outcome.saved a.past b.past c.past loaded.cause synced keeps.moments saves.moments (λ is. same_past (saves.none is).1) (λ some. (saves.appended some).has);
-    later = later_so replica end outcome a.past b.past c.past loaded.cause suffices synced (λ is. same_past (saves.none is).1) (λ some. (saves.appended some).calls) (λ some. (saves.appended some).has);
+    saves = saved_so replica end outcome.saved a.past b.past c.past loaded.cause synced keeps.moments saves.moments (λ is. same_past (saves.none is).1)
+        (λ some. (saves.appended some).has);
+    later = later_so replica end outcome a.past b.past c.past loaded.cause suffices synced (λ is. same_past (saves.none is).1) (λ some. (saves.appended some).calls)
+        (λ some. (saves.appended some).has);
     none = λ is. same_past (saves.none is).1 ∙ synced;
     batch = λ some. (saves.appended some).calls ∙ ap (gate_opened end.at (behind_gate outcome.saved)) synced;
     calm = calm_so outcome.saved a b c keeps.calm room (λ is. (saves.none is).1) saves.faults.calm;
@@ -59,7 +61,8 @@ module _ (giver : Giver) (a b c : DiskView) (replica : Replica) (end : End) (loa
     fits = λ long. let not = (fails.too_long (λ is. cc is)).1 long in cc not;
     moments = gains_so replica end outcome.saved a.past b.past c.past loaded.cause synced keeps.moments fails.moments (fails.honest (settled_honest a.past b.past synced));
     rose = omega (arith, fails.faults.rose refl, loaded.faults.later);
-    no_room = λ has. with_room ⊥ outcome.saved a b (λ is. let not = (fails.none is).0 in cc not) room has (IfSome_then b.room fails.faults.sure (λ left sure lasts. sure lasts refl));
+    no_room = λ has. with_room ⊥ outcome.saved a b (λ is. let not = (fails.none is).0 in cc not) room has
+        (IfSome_then b.room fails.faults.sure (λ left sure lasts. sure lasts refl));
   }
 
   still_kept : c ≡ b → KeepsFile (change a c)
@@ -68,7 +71,8 @@ module _ (giver : Giver) (a b c : DiskView) (replica : Replica) (end : End) (loa
   abbrev IsGiven : Refusal → Type 0
   IsGiven why = giver.Gives replica (Refuses why) ⊎ ((why ≡ refusal.BatchTooLong) × (outcome : Outcome) × giver.Gives replica (Does outcome) × IsTooLong end outcome.saved)
 
-  refused_so : (why : Refusal) → IsGiven why × (c ≡ b) → SavingFound giver a (Refuses why) × KeepsFile (change a c) × (FileRefuses a why ⊎ (c.past ≡ after_moment durable a.past))
+  refused_so : (why : Refusal) → IsGiven why × (c ≡ b)
+      → SavingFound giver a (Refuses why) × KeepsFile (change a c) × (FileRefuses a why ⊎ (c.past ≡ past_after_step durable a.past))
   refused_so why given = (inr (replica, end, loaded.cause, given.0), still_kept given.1, inr (same_past given.1 ∙ synced))
 
   stops_so : (why : Refusal) → GivenMeets giver replica end (change b c) (Err why) → StopsSaving giver (change a c) why

@@ -11,7 +11,7 @@ use Rattle.outer_ports.specs.disk.Disks.{DiskView}
 use Rattle.outer_ports.specs.wire.Wires.{WireView, out_of}
 use Rattle.relay_sync.specs.Outcomes.{Bad, Cut, Ended, HeardTo, HeardUpTo, Refused, ReplyComes, ReplyEnd, TooLong, TooMany}
 use Rattle.relay_sync.specs.Saying.{request_for}
-use Rattle.relay_sync.specs.Syncing.{SyncFails, FitsReply, SyncsReplica}
+use Rattle.relay_sync.specs.Syncing.{SyncFails, FitsBytes, SyncsReplica}
 use Rattle.relay_sync.specs.declared.syncing.SyncFault.{SyncFault}
 use Rattle.relay_sync.specs.declared.syncing.SyncFault.TheVariants as sync_fault
 use Rattle.relay_sync.proofs.OutcomeLemmas.{reply_comes_once}
@@ -41,11 +41,12 @@ pub exchange_short : (line : List ℕ) (cursor : ℕ) → cursor < 2 ^ 32 → le
 exchange_short line cursor fits short = omega (arith, short, cursor_short cursor fits, length-append line (cursor_line cursor))
 
 -- what was said stays said while a reply is heard
-still_said : (old asked new : WireView) (text : List ℕ) → Took (out_of old) (out_of asked) text → new.said ≡ asked.said → new.room ≡ asked.room → Took (out_of old) (out_of new) text
+still_said : (old asked new : WireView) (text : List ℕ) → Took (out_of old) (out_of asked) text → new.said ≡ asked.said → new.room ≡ asked.room
+    → Took (out_of old) (out_of new) text
 still_said old asked new text took said room = record { written = said ∙ took.written; room = room ∙ took.room }
 
 module _ (port cursor : ℕ) (old new : WireView) (before after : OpsTaking) (done : Type 0)
-    (calm : FitsReply (length (request_for cursor before.replica.held)) old → new.faults ≡ old.faults) where
+    (calm : FitsBytes (length (request_for cursor before.replica.held)) old → new.faults ≡ old.faults) where
   -- the replica spoke and heard the reply
   pub speaks_whole : (count : ℕ) → SyncsReplica old new before after port cursor count → Speaks port cursor before.replica.held (change old new) done
   speaks_whole count s =
@@ -55,13 +56,21 @@ module _ (port cursor : ℕ) (old new : WireView) (before after : OpsTaking) (do
         no_other = inl (s.hears.hears.dials ∙ s.asks.dialled);
         whole = λ d. took;
         dialled = λ d. s.hears.hears.dials ∙ s.asks.dialled;
-        heard = λ d. record { found = s.hears.found; are_frames = s.hears.are_frames; count = count; last = s.hears.last; ends = s.hears.ends; heard = sym s.asks.left ∙ s.hears.hears.heard };
+        heard = λ d. record {
+          found = s.hears.found;
+          are_frames = s.hears.are_frames;
+          count = count;
+          last = s.hears.last;
+          ends = s.hears.ends;
+          heard = sym s.asks.left ∙ s.hears.hears.heard;
+        };
         calm = calm;
       }
 
   -- it spoke up to a fault, or heard the reply up to one
   pub speaks_front : (fault : SyncFault) → SyncFails fault old new before after port cursor → (done → ⊥) → Speaks port cursor before.replica.held (change old new) done
-  speaks_front fault (inl asks) not_done = record { front = asks.said; no_other = asks.no_other; whole = λ d. absurd (not_done d); dialled = λ d. absurd (not_done d); heard = λ d. absurd (not_done d); calm = calm }
+  speaks_front fault (inl asks) not_done =
+      record { front = asks.said; no_other = asks.no_other; whole = λ d. absurd (not_done d); dialled = λ d. absurd (not_done d); heard = λ d. absurd (not_done d); calm = calm }
   speaks_front fault (inr hear) not_done = record {
     front = whole_front (out_of old) (out_of new) (request_for cursor before.replica.held)
         (still_said old hear.asked new (request_for cursor before.replica.held) hear.asks.said hear.hears.hears.said hear.hears.hears.room);
@@ -85,16 +94,21 @@ cause_ops None before after end heard = ([], tt)
 cause_ops (Some bytes) before after end heard = (heard.ops, heard.comes)
 
 -- an exchange that stopped gives its refusal
-pub reply_gives_none : (fault : SyncFault) (port cursor : ℕ) (replica now : Replica) (kept : List Op) (after last : OpsTaking) (end : End) (home : DiskView) (wire : Change WireView) (kept_after : Option (List Op))
+pub reply_gives_none : (fault : SyncFault) (port cursor : ℕ) (replica now : Replica) (kept : List Op) (after last : OpsTaking) (end : End) (home : DiskView)
+    (wire : Change WireView) (kept_after : Option (List Op))
     → FileHolds home replica end → SyncFails fault wire.old wire.new (taking_begun replica kept) after port cursor → HeardUpTo fault wire.old.left (taking_begun replica kept) last
-    → (fault ≡ sync_fault.WireFault → Faulted wire.old.faults wire.new.faults) → (FitsReply (length (request_for cursor replica.held)) wire.old → fault ≢ sync_fault.WireFault)
+    → (fault ≡ sync_fault.WireFault → Faulted wire.old.faults wire.new.faults) → (FitsBytes (length (request_for cursor replica.held)) wire.old → fault ≢ sync_fault.WireFault)
     → GivesTo (reply cursor home wire) replica now kept_after (Err (sync_refusal fault))
-reply_gives_none sync_fault.WireFault port cursor replica now kept after last end home wire kept_after holds fails heard rose sure = (rose refl, λ fits. sure (fits replica end holds) refl)
-reply_gives_none (sync_fault.BadReply k) port cursor replica now kept after last end home wire kept_after holds fails heard rose sure = cause_ops wire.old.left (taking_begun replica kept) last (Bad k) heard
+reply_gives_none sync_fault.WireFault port cursor replica now kept after last end home wire kept_after holds fails heard rose sure =
+    (rose refl, λ fits. sure (fits replica end holds) refl)
+reply_gives_none (sync_fault.BadReply k) port cursor replica now kept after last end home wire kept_after holds fails heard rose sure =
+    cause_ops wire.old.left (taking_begun replica kept) last (Bad k) heard
 reply_gives_none (sync_fault.RelayRefused code) port cursor replica now kept after last end home wire kept_after holds fails heard rose sure =
     cause_ops wire.old.left (taking_begun replica kept) last (Refused code) heard
-reply_gives_none (sync_fault.CutShort k) port cursor replica now kept after last end home wire kept_after holds fails heard rose sure = cause_ops wire.old.left (taking_begun replica kept) last (Cut k) heard
-reply_gives_none sync_fault.TooLong port cursor replica now kept after last end home wire kept_after holds fails heard rose sure = cause_ops wire.old.left (taking_begun replica kept) last TooLong heard
+reply_gives_none (sync_fault.CutShort k) port cursor replica now kept after last end home wire kept_after holds fails heard rose sure =
+    cause_ops wire.old.left (taking_begun replica kept) last (Cut k) heard
+reply_gives_none sync_fault.TooLong port cursor replica now kept after last end home wire kept_after holds fails heard rose sure =
+    cause_ops wire.old.left (taking_begun replica kept) last TooLong heard
 reply_gives_none (sync_fault.TooMany most) port cursor replica now kept after last end home wire kept_after holds fails heard rose sure =
     let cause = cause_ops wire.old.left (taking_begun replica kept) last TooMany heard in (
       elim fails [
@@ -109,7 +123,8 @@ reply_gives_none (sync_fault.TooMany most) port cursor replica now kept after la
 reply_gives_none sync_fault.NoMemory port cursor replica now kept after last end home wire kept_after holds fails heard rose sure = tt
 
 -- a reply that was taken in gives its outcome
-pub reply_gives : (cursor : ℕ) (home : DiskView) (wire : Change WireView) (replica now : Replica) (tally : Tally) (kept kept_after : List Op) → kept ≡ [] → (count : ℕ) (ops : List Op)
+pub reply_gives : (cursor : ℕ) (home : DiskView) (wire : Change WireView) (replica now : Replica) (tally : Tally) (kept kept_after : List Op) → kept ≡ []
+    → (count : ℕ) (ops : List Op)
     → AnswerComes replica wire.old ops (Ended count) → TakesIn (taking_begun replica kept) (record { replica = now; counts = tally; kept = kept_after }) ops
     → (counts : Counts) → IsSettled replica.held → counts ≡ record { tally = tally; waiting = length now.held.waiting; cursor = Some count }
     → GivesTo (reply cursor home wire) replica now (Some kept_after) (Ok (note.Counted counts))

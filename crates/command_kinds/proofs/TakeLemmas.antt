@@ -36,7 +36,8 @@ taken_suffices replica ops cursor settled =
 
 -- what was taken in was given
 pub taken_gives : (giver : Giver) (replica now : Replica) (ops : List Op) (cursor : Option ℕ) → giver.Gives replica (Does (noted_in replica ops cursor)) → IsSettled replica.held
-    → (kept : Option (List Op)) → ops_in kept ≡ (taken_in replica ops).saved → (counts : Counts) → counts ≡ record { tally = counts_in replica ops; waiting = waiting_in replica ops; cursor = cursor }
+    → (kept : Option (List Op)) → ops_in kept ≡ (taken_in replica ops).saved → (counts : Counts)
+    → counts ≡ record { tally = counts_in replica ops; waiting = waiting_in replica ops; cursor = cursor }
     → GivesTo giver replica now kept (Ok (note.Counted counts))
 taken_gives giver replica now ops cursor gives settled kept kept_are counts is = record {
   outcome = noted_in replica ops cursor;
@@ -75,15 +76,19 @@ pub stream_once : (input : Change SourceView) → GivesOnce (stream input)
 stream_once input told replica one two gives others =
     let a = comes_to input.old replica one gives in
     let b = comes_to input.old replica two others in
-    let same = comes_once Version2 replica.hold replica.most replica.held STREAM_LIMIT told.0 a.ops b.ops a.course b.course (by_bytes a.ops a.course a.came) (by_bytes b.ops b.course b.came) in
+    let same = comes_once Version2 replica.hold replica.most replica.held STREAM_LIMIT told.0 a.ops b.ops a.course b.course (by_bytes a.ops a.course a.came)
+    (by_bytes b.ops b.course b.came) in
     a.finding_is ∙ (λ i. stream_finding replica (same.0 i) (same.1 i)) ∙ sym b.finding_is
   where
-    by_bytes : (ops : List Op) (course : IntakeOutcome) → SourceComes replica input.old ops course → Comes Version2 replica.hold replica.most replica.held STREAM_LIMIT told.0 ops course
+    by_bytes : (ops : List Op) (course : IntakeOutcome) → SourceComes replica input.old ops course
+        → Comes Version2 replica.hold replica.most replica.held STREAM_LIMIT told.0 ops course
     by_bytes ops course came = subst (λ o. IfSome o (λ bytes. Comes Version2 replica.hold replica.most replica.held STREAM_LIMIT bytes ops course)) told.1 came
 
 -- a stream that was taken in gives its outcome
-pub stream_gives : (input : Change SourceView) (replica now : Replica) (tally : Tally) (kept kept_after : Option (List Op)) → kept ≡ Some [] → TakesInStream replica input.old input.new now tally kept kept_after
-    → (counts : Counts) → IsSettled replica.held → counts ≡ record { tally = tally; waiting = length now.held.waiting; cursor = None } → GivesTo (stream input) replica now kept_after (Ok (note.Counted counts))
+pub stream_gives : (input : Change SourceView) (replica now : Replica) (tally : Tally) (kept kept_after : Option (List Op)) → kept ≡ Some []
+    → TakesInStream replica input.old input.new now tally kept kept_after
+    → (counts : Counts) → IsSettled replica.held → counts ≡ record { tally = tally; waiting = length now.held.waiting; cursor = None }
+    → GivesTo (stream input) replica now kept_after (Ok (note.Counted counts))
 stream_gives input replica now tally kept kept_after none taken counts settled is =
     taken_gives (stream input) replica now taken.ops None (taken.ops, taken.came, refl) settled kept_after
     (ap ops_in (taken.kept_are ∙ ap (λ (k : Option (List Op)). copies_of_kept k (taken_in replica taken.ops).saved) none)) counts

@@ -20,7 +20,8 @@ sure_of result old new text wrote has = subst (λ o. IfSome o (λ room. IsSure r
 pub less_room : (fewer bytes : ℕ) (out : OutView) → fewer ≤ bytes → HasRoom bytes out → HasRoom fewer out
 less_room fewer bytes out le has = record { room = has.room; is = has.is; fits = omega (arith, le, has.fits) }
 
-pub text_has_no_room : (e : Failed) (old new : OutView) (text : List ℕ) (bytes : ℕ) → WritesBytes {E = Failed} {T = Unit {0}} old new (Err e) text → length text ≤ bytes → HasRoom bytes old → ⊥
+pub text_has_no_room : (e : Failed) (old new : OutView) (text : List ℕ) (bytes : ℕ) → WritesBytes {E = Failed} {T = Unit {0}} old new (Err e) text → length text ≤ bytes
+    → HasRoom bytes old → ⊥
 text_has_no_room e old new text bytes wrote short has =
     let fits = less_room (length text) bytes old short has in (sure_of (Err e) old new text wrote fits).fits fits.fits
 

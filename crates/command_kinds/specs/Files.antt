@@ -5,7 +5,7 @@ use Rattle.fugue_ids.specs.declared.limits.TheConstants.{MOST_OPERATIONS}
 use Rattle.fugue_ids.specs.declared.op.Op.{Op}
 use Rattle.origin_model.specs.files.Image.{Content, HasImage, Holds}
 use Rattle.outer_ports.specs.disk.Disks.{DiskView}
-use Rattle.outer_ports.specs.disk.Moments.{History, LeavesOnly, LeavesOnlyTo, MayLeave, after_moment, history_after_step}
+use Rattle.outer_ports.specs.disk.Moments.{History, LeavesOnly, LeavesOnlyTo, MayLeave, past_after_step, history_after_step}
 use Rattle.outer_ports.specs.disk.States.{IsHonest, at_rest, durable}
 use Rattle.origin_model.specs.edits.State.{State as Replica}
 use Rattle.replica_file.specs.Load.{LoadAnswerIs, Loads}
@@ -34,7 +34,7 @@ bytes_of past = option_map (λ (h : History). h.last.seen) past
 -- The bytes are as at entry, a crash leaves nothing but what it could leave then, and a sure file that has room for a sync counts no fault.
 pub record KeepsFile (file : Change DiskView) : Type 0 where
   pub bytes : bytes_of file.new.past ≡ bytes_of file.old.past
-  pub past : (file.new.past ≡ after_moment durable file.old.past) ⊎ (file.new.past ≡ file.old.past)
+  pub past : (file.new.past ≡ past_after_step durable file.old.past) ⊎ (file.new.past ≡ file.old.past)
   pub moments : IfSome file.old.past (λ h. LeavesOnlyTo h file.new.past (MayLeave h))
   pub calm : DiskCountsNoFault 1 file
 
@@ -69,7 +69,8 @@ pub record HasOps (header : Header) (ops : List Op) (bytes : List ℕ) : Type 0 
 abbrev pub HasOpsOr : Header → (ops more : List Op) → List ℕ → Type 0
 HasOpsOr header ops more bytes = HasOps header ops bytes ⊎ HasOps header (ops ++ more) bytes
 
--- Once the file is loaded, which settles it, a crash leaves the content's operations, or these with all of those behind them; and a read gives what a crash may leave.
+-- Once the file is loaded, which settles it, a crash leaves the content's operations, or these with all of those behind
+-- them; and a read gives what a crash may leave.
 pub record GainsAllOrNone (ops : List Op) (h : History) (new : Option History) : Type 0 where
   pub content : Content
   pub holds : HasImage h.last.seen (Holds content)

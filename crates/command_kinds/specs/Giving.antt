@@ -30,7 +30,8 @@ note_status (note.Counted counts) = status_by counts.tally counts.waiting
 note_status (note.Made count) = status.Done
 note_status (note.Revised count sections) = status.Done
 
--- what is to be saved: copies of what was kept, or the operations of a script, which were accepted behind the rest, or those of a draft, which are the last so many
+-- what is to be saved: copies of what was kept, or the operations of a script, which were accepted behind the rest, or
+-- those of a draft, which are the last so many
 abbrev pub to_save : Note → (before : ℕ) → (after : Replica) → (kept : Option (List Op)) → List Op
 to_save (note.Counted counts) before after kept = ops_in kept
 to_save (note.Made count) before after kept = drop before (accepted after.held.history)
@@ -57,14 +58,16 @@ GivesTo giver before after kept (Err refusal.NoMemory) = Unit {0}
 GivesTo giver before after kept (Err refusal.Words) = ⊥
 GivesTo giver before after kept (Err why) = giver.Gives before (Refuses why)
 
--- A command whose giver came to this answer may end so: it does not do all where nothing was given, and an outside fault that was met is told.
+-- A command whose giver came to this answer may end so: it does not do all where nothing was given, and an outside
+-- fault that was met is told.
 pub record MayEnd (answer : Result Note Refusal) (end : Status) : Type 0 where
   pub finished : IsFinished end → IsOk answer
   pub blames : IsErrOf answer refusal.Outside → end ≡ status.OutsideFault
 
 -- what was given to a file that is loaded, as its note tells it
 abbrev pub GivenNoted : Giver → Replica → End → Change DiskView → Result Note Refusal → Type 0
-GivenNoted giver replica end file (Ok note) = (outcome : Outcome) × ReportsOutcome outcome note × GivenMeets giver replica end file (Ok outcome)
+GivenNoted giver replica end file (Ok note) =
+    (outcome : Outcome) × ReportsOutcome outcome note × GivenMeets giver replica end file (Ok outcome)
 GivenNoted giver replica end file (Err why) = GivenMeets giver replica end file (Err why)
 
 -- what was given and saved, as its note tells it

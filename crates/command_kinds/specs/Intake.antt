@@ -1,13 +1,16 @@
 -- Taking in a stream, one operation after another: a step of it, what it comes to, and why it stops.
-use Rattle.std.specs.Prelude.{◌≡◌, ◌+◌, ◌*◌, ◌≤◌, List, [], ◌∷◌, ◌++◌, length, Option, Some, None, option_map, Bool, true, false, Result, Ok, Err, IfSome}
+use Rattle.std.specs.Prelude.{◌≡◌, ◌+◌, ◌*◌, ◌≤◌, List, [], ◌∷◌, ◌++◌, length, Option, Some, None, option_map, Bool, true, false, Result}
+use Rattle.std.specs.Prelude.{Ok, Err, IfSome}
 use Rattle.fugue_ids.specs.declared.op.Op.{Op}
 use Rattle.outer_ports.specs.Sources.{SourceView}
 use Rattle.origin_model.specs.declared.grammar.Grammar.TheVariants.{Version2}
-use Rattle.origin_model.specs.taking.Taking.{MeetsNoLimit, TooMany as AnswersTooMany, IsSettled, answer, held_from, kept_from, tally_from, no_counts}
+use Rattle.origin_model.specs.taking.Taking.{MeetsNoLimit, TooMany as AnswersTooMany, IsSettled, answer, held_from, kept_from, tally_from}
+use Rattle.origin_model.specs.taking.Taking.{no_counts}
 use Rattle.origin_model.specs.declared.taking.Tally.{Tally}
-use Rattle.op_frame.specs.Courses.{Comes, IntakeOutcome, Whole, CutShort as IsCutShort, BadFrame as HasBadFrame, TooLong as IsTooLong, TooMany as HasTooMany}
+use Rattle.op_frame.specs.Courses.{Comes, IntakeOutcome, Whole, CutShort as IsCutShort, BadFrame as HasBadFrame, TooLong as IsTooLong}
+use Rattle.op_frame.specs.Courses.{TooMany as HasTooMany}
 use Rattle.op_frame.specs.Readers.{FrameReading, Nexts}
-use Rattle.op_frame.specs.NextRuns.{GivesMany, IsReachedRun}
+use Rattle.op_frame.specs.NextRuns.{GivesMany, IsReachedOp}
 use Rattle.op_frame.specs.declared.fault.FrameFault.TheVariants as frame_fault
 use Rattle.replica_core.specs.declared.keeping.FeedFault.{FeedFault}
 use Rattle.replica_core.specs.declared.keeping.FeedFault.TheVariants as feed_fault
@@ -29,7 +32,8 @@ ops_in (Some ops) = ops
 
 -- why an operation was not taken in
 abbrev pub FeedsNot : FeedFault → State → Op → Type 0
-FeedsNot (feed_fault.TooMany limit) replica op = (limit ≡ replica.most) × (answer replica.hold replica.most replica.held op ≡ AnswersTooMany)
+FeedsNot (feed_fault.TooMany limit) replica op =
+    (limit ≡ replica.most) × (answer replica.hold replica.most replica.held op ≡ AnswersTooMany)
 FeedsNot feed_fault.NoMemory replica op = Unit {0}
 
 -- of the operations, one found no place behind those before it
@@ -74,12 +78,13 @@ pub record TakesSome (old new : StreamTaking) (before after : SourceView) : Type
 pub record FindsNoPlace (old : StreamTaking) (before after : SourceView) : Type 0 where
   pub ops : List Op
   pub one : OneTooMany old.replica ops
-  pub reached : IsReachedRun old.reader before after one.front one.op
+  pub reached : IsReachedOp old.reader before after one.front one.op
 
 -- one step, by its answer: whether there were operations
 abbrev pub IntakeSteps : StreamTaking → StreamTaking → SourceView → SourceView → Result Bool Refusal → Type 0
 IntakeSteps old new before after (Ok true) = TakesSome old new before after
-IntakeSteps old new before after (Ok false) = Nexts old.reader new.reader before after (Ok None) × (new.replica ≡ old.replica) × (new.counts ≡ old.counts) × (new.kept ≡ old.kept)
+IntakeSteps old new before after (Ok false) =
+    Nexts old.reader new.reader before after (Ok None) × (new.replica ≡ old.replica) × (new.counts ≡ old.counts) × (new.kept ≡ old.kept)
 IntakeSteps old new before after (Err (BadFrame offset)) = Nexts old.reader new.reader before after (Err (frame_fault.BadFrame offset))
 IntakeSteps old new before after (Err (CutShort offset)) = Nexts old.reader new.reader before after (Err (frame_fault.CutShort offset))
 IntakeSteps old new before after (Err TooLong) = Nexts old.reader new.reader before after (Err frame_fault.TooLong)
@@ -93,7 +98,8 @@ abbrev pub SourceComes : State → SourceView → List Op → IntakeOutcome → 
 SourceComes start old ops course = IfSome old.left (λ bytes. Comes Version2 start.hold start.most start.held STREAM_LIMIT bytes ops course)
 
 -- the source came to its end, and the replica took its operations in
-pub record TakesInStream (start : State) (old new : SourceView) (replica : State) (counts : Tally) (kept kept_after : Option (List Op)) : Type 0 where
+pub record TakesInStream (start : State) (old new : SourceView) (replica : State) (counts : Tally)
+    (kept kept_after : Option (List Op)) : Type 0 where
   pub ops : List Op
   pub came : SourceComes start old ops Whole
   pub read : IfSome new.left (λ bytes. bytes ≡ [])

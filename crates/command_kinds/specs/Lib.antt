@@ -3,6 +3,8 @@ pub mod Changes
 pub mod Refusal
 pub mod Counts
 pub mod Printing
+pub mod Kept
+pub mod Acts
 pub mod Intake
 pub mod Show
 pub mod Findings

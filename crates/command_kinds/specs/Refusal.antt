@@ -22,7 +22,12 @@ use Rattle.command_kinds.specs.Changes.{HasRoom, CountsNoFault, notes_room}
 use Rattle.command_kinds.specs.declared.refusal.Detail.{Detail}
 use Rattle.command_kinds.specs.declared.refusal.Detail.TheVariants.{Nothing, Number, Times, Name}
 use Rattle.command_kinds.specs.declared.refusal.Refusal.{Refusal}
-use Rattle.command_kinds.specs.declared.refusal.Refusal.TheVariants.{Words, BadFrame, CutShort, BadLine, NoSectionAtLine, OutOfRangeAtLine, NotReplica, BadBatch, NotEmpty, TooMany, IdsSpent, TooLong, BatchTooLong, BadReply, RelayRefused, ReplyCutShort, NoSuchPlaces, NoSection, NoPlace, StampsSpent, BaseDiffers, BadDraft, EmptyDraft, NoMoment, OwnSince, OutOfRange, NoComment, PassageNotFound, FoundOften, NoVersion, Outside, NoMemory}
+use Rattle.command_kinds.specs.declared.refusal.Refusal.TheVariants.{Words, BadFrame, CutShort, BadLine, NoSectionAtLine, OutOfRangeAtLine}
+use Rattle.command_kinds.specs.declared.refusal.Refusal.TheVariants.{NotReplica, BadBatch, NotEmpty, TooMany, IdsSpent, TooLong}
+use Rattle.command_kinds.specs.declared.refusal.Refusal.TheVariants.{BatchTooLong, BadReply, RelayRefused, ReplyCutShort, NoSuchPlaces}
+use Rattle.command_kinds.specs.declared.refusal.Refusal.TheVariants.{NoSection, NoPlace, StampsSpent, BaseDiffers, BadDraft, EmptyDraft}
+use Rattle.command_kinds.specs.declared.refusal.Refusal.TheVariants.{NoMoment, OwnSince, OutOfRange, NoComment, PassageNotFound, FoundOften}
+use Rattle.command_kinds.specs.declared.refusal.Refusal.TheVariants.{NoVersion, Outside, NoMemory}
 use Rattle.command_kinds.specs.declared.status.Status.{Status}
 use Rattle.command_kinds.specs.declared.version_name.VersionName.{VersionName}
 use Rattle.version_views.specs.declared.limits.TheConstants.{LONGEST_NAME}

@@ -1,13 +1,13 @@
 -- The commands that load a file, take something in, and save what came of it in one batch.
-use Rattle.std.specs.Prelude.{◌≡◌, ◌≢◌, ◌⊎◌, ℕ, ◌+◌, List, [], ◌∷◌, length, true, Result, Ok, Err, IfSome}
+use Rattle.std.specs.Prelude.{◌≡◌, ◌≢◌, ◌⊎◌, ℕ, ◌+◌, List, [], ◌∷◌, length, true, Result, Ok, Err, IfSome, Some}
 use Rattle.fugue_ids.specs.Causes.{Faulted}
-use Rattle.fugue_ids.specs.Outs.{OutView, Took}
+use Rattle.fugue_ids.specs.Outs.{OutView}
 use Rattle.fugue_ids.specs.declared.op.Op.{Op}
 use Rattle.origin_model.specs.frames.Framings.{frames}
 use Rattle.origin_model.specs.taking.Taking.{MeetsNoLimit, Held, held_from}
 use Rattle.outer_ports.specs.Sources.{SourceView}
 use Rattle.outer_ports.specs.disk.Disks.{DiskView}
-use Rattle.outer_ports.specs.disk.Moments.{after_moment}
+use Rattle.outer_ports.specs.disk.Moments.{past_after_step}
 use Rattle.outer_ports.specs.disk.States.{durable}
 use Rattle.origin_model.specs.edits.State.{State as Replica}
 use Rattle.replica_file.specs.Append.{AppendMeets, IsTooLong, behind_gate}
@@ -17,13 +17,14 @@ use Rattle.replica_file.specs.declared.load_file.End.{End}
 use Rattle.command_kinds.specs.Crashes.{IsFinished, NeverTorn}
 use Rattle.command_kinds.specs.Files.{FileHolds, FileRefuses, GainsAllOrNone, AreSavedOps, KeepsFile, LoadFailed}
 use Rattle.command_kinds.specs.Findings.{Finding, Refuses, Does, IsDecided}
-use Rattle.command_kinds.specs.Printing.{NotNoted, NotesBlameless}
-use Rattle.command_kinds.specs.Refusal.{refusal_line, status_of, Reported}
-use Rattle.command_kinds.specs.Changes.{Change, DiskBlameless, DiskCountsNoFault, HasDiskRoom, HasRoom, IsSpecified, SourceBlameless, CountsNoFault, change, notes_room}
+use Rattle.command_kinds.specs.Refusal.{status_of}
+use Rattle.command_kinds.specs.Changes.{Change, DiskBlameless, DiskCountsNoFault, HasDiskRoom, HasRoom, IsSpecified, SourceBlameless}
+use Rattle.command_kinds.specs.Changes.{change, notes_room}
 use Rattle.command_kinds.specs.declared.refusal.Refusal.{Refusal}
 use Rattle.command_kinds.specs.declared.refusal.Refusal.TheVariants as refusal
 use Rattle.command_kinds.specs.declared.status.Status.{Status}
 use Rattle.command_kinds.specs.declared.status.Status.TheVariants as status
+use Rattle.command_kinds.specs.Acts.{Act, Performs}
 
 -- what a command does where nothing fails
 pub record Outcome : Type 0 where
@@ -48,7 +49,8 @@ pub record Giver : Type 1 where
 
 -- a giver that is told gives one thing
 abbrev pub GivesOnce : Giver → Type 0
-GivesOnce giver = giver.Told → (replica : Replica) (one two : Finding Outcome) → giver.Gives replica one → giver.Gives replica two → one ≡ two
+GivesOnce giver = giver.Told → (replica : Replica) (one two : Finding Outcome) → giver.Gives replica one → giver.Gives replica two
+    → one ≡ two
 
 -- what the file and the giver lead to: the file is refused, or what is given to it, or what is saved is no batch
 abbrev pub SavingFound : Giver → DiskView → Finding Outcome → Type 0
@@ -84,8 +86,8 @@ pub record IsDone (giver : Giver) (file : Change DiskView) (outcome : Outcome) :
   pub fits : IsTooLong end outcome.saved → ⊥
   pub saves : IfSome file.old.past (λ h. AreSavedOps outcome.saved h file.new.past)
   -- the file was settled, and then one batch was appended where its meaning ends, or none
-  pub none : outcome.saved ≡ [] → file.new.past ≡ after_moment durable file.old.past
-  pub batch : outcome.saved ≢ [] → file.new.past ≡ gate_opened end.at (behind_gate outcome.saved) (after_moment durable file.old.past)
+  pub none : outcome.saved ≡ [] → file.new.past ≡ past_after_step durable file.old.past
+  pub batch : outcome.saved ≢ [] → file.new.past ≡ gate_opened end.at (behind_gate outcome.saved) (past_after_step durable file.old.past)
   pub later : (last : End) × FileHolds file.new (record replica { held = outcome.held }) last
   pub calm : DiskCountsNoFault (room_to_save outcome.saved) file
 
@@ -106,7 +108,7 @@ pub record GivingFailed (giver : Giver) (file : Change DiskView) : Type 0 where
   pub replica : Replica
   pub end : End
   pub holds : FileHolds file.old replica end
-  pub synced : file.new.past ≡ after_moment durable file.old.past
+  pub synced : file.new.past ≡ past_after_step durable file.old.past
   pub failed : giver.Failed
   pub not_sure : giver.Sure → ⊥
   pub keeps : KeepsFile file
@@ -117,7 +119,8 @@ StopsSaving giver file refusal.Outside = LoadFailed file ⊎ GivingFailed giver 
 StopsSaving giver file refusal.NoMemory = KeepsFile file
 StopsSaving giver file refusal.Words = ⊥
 StopsSaving giver file why =
-    SavingFound giver file.old (Refuses why) × KeepsFile file × (FileRefuses file.old why ⊎ (file.new.past ≡ after_moment durable file.old.past))
+    SavingFound giver file.old (Refuses why) × KeepsFile file
+    × (FileRefuses file.old why ⊎ (file.new.past ≡ past_after_step durable file.old.past))
 
 -- the outcome, or why it did not come
 abbrev pub ComesToSave : Giver → Change DiskView → Result Outcome Refusal → Type 0
@@ -132,10 +135,12 @@ pub record Suffices (replica : Replica) (outcome : Outcome) : Type 0 where
 -- what was given to a file that is loaded: the outcome, whose operations were appended, or why it stopped
 abbrev pub GivenMeets : Giver → Replica → End → Change DiskView → Result Outcome Refusal → Type 0
 GivenMeets giver replica end file (Ok outcome) =
-    giver.Gives replica (Does outcome) × Suffices replica outcome × ((last : End) × AppendMeets end outcome.saved file.old file.new (Ok last))
+    giver.Gives replica (Does outcome) × Suffices replica outcome
+    × ((last : End) × AppendMeets end outcome.saved file.old file.new (Ok last))
 GivenMeets giver replica end file (Err refusal.Outside) =
     (giver.Failed × (giver.Sure → ⊥) × (file.new ≡ file.old))
-    ⊎ ((outcome : Outcome) × giver.Gives replica (Does outcome) × AppendMeets end outcome.saved file.old file.new (Err append_fault.DiskFault))
+    ⊎ ((outcome : Outcome) × giver.Gives replica (Does outcome)
+    × AppendMeets end outcome.saved file.old file.new (Err append_fault.DiskFault))
 GivenMeets giver replica end file (Err refusal.NoMemory) = file.new ≡ file.old
 GivenMeets giver replica end file (Err refusal.Words) = ⊥
 GivenMeets giver replica end file (Err why) =
@@ -143,38 +148,24 @@ GivenMeets giver replica end file (Err why) =
     ⊎ ((why ≡ refusal.BatchTooLong) × (outcome : Outcome) × giver.Gives replica (Does outcome) × IsTooLong end outcome.saved))
     × (file.new ≡ file.old)
 
--- all was done and noted
-pub record FinishedSaving (giver : Giver) (file : Change DiskView) (notes : Change OutView) (end : Status) : Type 0 where
-  pub outcome : Outcome
-  pub done : IsDone giver file outcome
-  pub noted : Took notes.old notes.new outcome.line
-  pub end_is : end ≡ outcome.status
+-- what came of a command: the outcome of one that did all, or why it did not come
+abbrev pub SavesOutcome : Giver → Change DiskView → Result Outcome Refusal → Type 0
+SavesOutcome giver file (Ok outcome) = IsDone giver file outcome × IsFinished outcome.status
+SavesOutcome giver file (Err why) = StopsSaving giver file why
 
--- all was saved, and the notes failed
-pub record NotesFailedSaving (giver : Giver) (file : Change DiskView) (notes : Change OutView) : Type 0 where
-  pub outcome : Outcome
-  pub done : IsDone giver file outcome
-  pub failed : NotNoted outcome.line notes.old notes.new
+-- the act of a command that saves
+abbrev pub saving : Giver → Change DiskView → Act Outcome
+saving giver file = record {
+  Comes = SavesOutcome giver file;
+  line = λ outcome. Some outcome.line;
+  status = λ outcome. outcome.status;
+}
 
--- it stopped, and the notes got the refusal's line
-pub record Stopped (giver : Giver) (file : Change DiskView) (notes : Change OutView) (end : Status) : Type 0 where
-  pub why : Refusal
-  pub stops : StopsSaving giver file why
-  pub noted : Reported notes.old notes.new (refusal_line why)
-  pub end_is : end ≡ status_of why
-
--- what was done, for each way in which the command may end
-abbrev pub SavingMeets : Giver → Change DiskView → Change OutView → Status → Type 0
-SavingMeets giver file notes status.Done = FinishedSaving giver file notes status.Done
-SavingMeets giver file notes status.Partial = FinishedSaving giver file notes status.Partial
-SavingMeets giver file notes status.Usage = ⊥
-SavingMeets giver file notes status.OutsideFault = Stopped giver file notes status.OutsideFault ⊎ NotesFailedSaving giver file notes
-SavingMeets giver file notes end = Stopped giver file notes end
-
--- sure objects with room count no fault, however the command ends
-pub record SavingCountsNoFault (giver : Giver) (file : Change DiskView) (notes : Change OutView) : Type 0 where
-  pub file_calm : IsSpecified file.old → giver.Told → (found : Finding Outcome) → SavingFound giver file.old found → DiskCountsNoFault (room_needed found) file
-  pub notes_calm : CountsNoFault notes_room notes.old notes.new
+-- a sure file with room counts no fault, however the command ends
+abbrev pub SavingCountsNoFault : Giver → Change DiskView → Type 0
+SavingCountsNoFault giver file =
+    IsSpecified file.old → giver.Told → (found : Finding Outcome) → SavingFound giver file.old found
+    → DiskCountsNoFault (room_needed found) file
 
 -- and where all are sure and have room, no outside fault comes
 abbrev pub SavingNeverOutside : Giver → Change DiskView → Change OutView → Status → Type 0
@@ -185,7 +176,8 @@ SavingNeverOutside giver file notes end =
 -- A call that failed. One on the notes counts only where all was done: a refusal that is not noted keeps its status.
 abbrev pub SomeFails : Giver → Change DiskView → Change OutView → Finding Outcome → Type 0
 SomeFails giver file notes (Refuses why) = Faulted file.old.faults file.new.faults ⊎ giver.Failed
-SomeFails giver file notes (Does outcome) = Faulted file.old.faults file.new.faults ⊎ giver.Failed ⊎ Faulted notes.old.faults notes.new.faults
+SomeFails giver file notes (Does outcome) =
+    Faulted file.old.faults file.new.faults ⊎ giver.Failed ⊎ Faulted notes.old.faults notes.new.faults
 
 -- the file and the giver decide the status, but for want of memory and faults
 abbrev pub SavingIsDecided : Giver → Change DiskView → Change OutView → Status → Type 0
@@ -196,24 +188,25 @@ SavingIsDecided giver file notes end =
 -- a file that is the cause of a refusal decides it alone, whatever the giver does, which comes behind it
 abbrev pub FileIsRefused : Change DiskView → Status → Type 0
 FileIsRefused file end =
-    IsSpecified file.old → (why : Refusal) → FileRefuses file.old why → IsDecided (status_of why) (Faulted file.old.faults file.new.faults) end
+    IsSpecified file.old → (why : Refusal) → FileRefuses file.old why
+    → IsDecided (status_of why) (Faulted file.old.faults file.new.faults) end
 
 -- what a command gave to be saved: the outcome's operations, or nothing where it did not do all
 abbrev pub GaveOutcome : Giver → DiskView → Status → List Op → Type 0
 GaveOutcome giver file end ops =
     ((IsFinished end → ⊥) × (ops ≡ []))
-    ⊎ ((replica : Replica) × (end : End) × FileHolds file replica end × (outcome : Outcome) × giver.Gives replica (Does outcome) × (ops ≡ outcome.saved))
+    ⊎ ((replica : Replica) × (end : End) × FileHolds file replica end × (outcome : Outcome) × giver.Gives replica (Does outcome)
+    × (ops ≡ outcome.saved))
 
 -- a command that loads a file and saves what it was given
 pub record SavesGiven (giver : Giver) (file : Change DiskView) (notes : Change OutView) (end : Status) : Type 0 where
-  pub meets : SavingMeets giver file notes end
+  pub performs : Performs (saving giver file) notes end
   pub crash : NeverTorn (GaveOutcome giver file.old end) file end
-  pub calm : SavingCountsNoFault giver file notes
+  pub calm : SavingCountsNoFault giver file
   pub never_outside : SavingNeverOutside giver file notes end
   pub decided : SavingIsDecided giver file notes end
   pub refused : FileIsRefused file end
-  pub file_blameless : DiskBlameless file end
-  pub notes_blameless : NotesBlameless notes end
+  pub blameless : DiskBlameless file end
 
 -- the input is left so by a command that takes from it: where all was done, it was read to its end
 pub record ReadsInput (old new : SourceView) (end : Status) : Type 0 where

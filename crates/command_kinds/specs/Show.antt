@@ -1,5 +1,5 @@
 -- What `show` does at each of its ends.
-use Rattle.std.specs.Prelude.{◌≡◌, ◌≢◌, ◌⊎◌, ℕ, List, [], length, true, Some, IfSome}
+use Rattle.std.specs.Prelude.{◌≡◌, ◌≢◌, ◌⊎◌, ℕ, List, [], length, true, Some, IfSome, Ok, Err, Result}
 use Rattle.fugue_ids.specs.Causes.{Faulted}
 use Rattle.fugue_ids.specs.Outs.{Took}
 use Rattle.fugue_ids.specs.declared.op.Op.{Op}
@@ -10,13 +10,13 @@ use Rattle.origin_model.specs.edits.State.{State}
 use Rattle.command_kinds.specs.Counts.{counts_line, status_by}
 use Rattle.op_frame.specs.Courses.{Comes, IntakeOutcome, Whole, CutShort, BadFrame, TooLong, TooMany}
 use Rattle.fugue_ids.specs.declared.limits.TheConstants.{MOST_OPERATIONS, STREAM_LIMIT}
-use Rattle.command_kinds.specs.Printing.{NotNoted, NotesBlameless, TextFailed}
-use Rattle.command_kinds.specs.Refusal.{refusal_line, Reported}
+use Rattle.command_kinds.specs.Printing.{WroteFront}
 use Rattle.command_kinds.specs.Changes.{HasRoom, OutBlameless, SourceBlameless, CountsNoFault, Streams, change, notes_room}
 use Rattle.command_kinds.specs.declared.refusal.Refusal.{Refusal}
 use Rattle.command_kinds.specs.declared.refusal.Refusal.TheVariants as refusal
 use Rattle.command_kinds.specs.declared.status.Status.{Status}
 use Rattle.command_kinds.specs.declared.status.Status.TheVariants as status
+use Rattle.command_kinds.specs.Acts.{Act, Performs}
 
 -- the replica that `show` begins with: it holds nothing
 abbrev pub reader : ℕ → State
@@ -28,11 +28,13 @@ shown_output hold start ops = manuscript (held_from hold MOST_OPERATIONS start o
 
 -- the counts that `show` notes of the operations
 abbrev pub shown_notes : (hold : ℕ) → Held → List Op → List ℕ
-shown_notes hold start ops = counts_line (tally_from hold MOST_OPERATIONS start ops no_counts) (length (held_from hold MOST_OPERATIONS start ops).waiting)
+shown_notes hold start ops =
+    counts_line (tally_from hold MOST_OPERATIONS start ops no_counts) (length (held_from hold MOST_OPERATIONS start ops).waiting)
 
 -- the status of `show` after the operations
 abbrev pub status_after : (hold : ℕ) → Held → List Op → Status
-status_after hold start ops = status_by (tally_from hold MOST_OPERATIONS start ops no_counts) (length (held_from hold MOST_OPERATIONS start ops).waiting)
+status_after hold start ops =
+    status_by (tally_from hold MOST_OPERATIONS start ops no_counts) (length (held_from hold MOST_OPERATIONS start ops).waiting)
 
 -- a stream that is taken in from nothing comes to this end
 abbrev pub ShowEndsAs : (hold : ℕ) → List ℕ → List Op → IntakeOutcome → Type 0
@@ -42,60 +44,48 @@ ShowEndsAs hold bytes ops course = Comes Version2 hold MOST_OPERATIONS nothing_h
 abbrev pub InputComes : (hold : ℕ) → Streams → List Op → IntakeOutcome → Type 0
 InputComes hold old ops course = IfSome old.input.left (λ bytes. ShowEndsAs hold bytes ops course)
 
--- all of the input was read, and the manuscript and the counts of these operations were written
-pub record Showed (hold : ℕ) (start : Held) (ops : List Op) (old new : Streams) (end : Status) : Type 0 where
-  pub read : IfSome new.input.left (λ bytes. bytes ≡ [])
-  pub output : Took old.output new.output (shown_output hold start ops)
-  pub notes : Took old.notes new.notes (shown_notes hold start ops)
-  pub end_is : end ≡ status_after hold start ops
-
--- the input came to its end, and its operations were shown
-pub record Finished (hold : ℕ) (old new : Streams) (end : Status) : Type 0 where
-  pub ops : List Op
+-- all of the input was read, and the manuscript of its operations was printed
+pub record PrintsInput (hold : ℕ) (old new : Streams) (ops : List Op) : Type 0 where
   pub came : InputComes hold old ops Whole
-  pub showed : Showed hold nothing_held ops old new end
+  pub read : IfSome new.input.left (λ bytes. bytes ≡ [])
+  pub output : Took old.output new.output (shown_output hold nothing_held ops)
 
--- nothing was printed, and the notes got the refusal's line
-pub record Refused (old new : Streams) (why : Refusal) : Type 0 where
-  pub output : new.output ≡ old.output
-  pub notes : Reported old.notes new.notes (refusal_line why)
-
--- the stream came to such an end, which was told
-pub record StreamRefused (hold : ℕ) (old new : Streams) (course : IntakeOutcome) (why : Refusal) : Type 0 where
+-- the input came to this end, and nothing was printed
+pub record RefusesInput (hold : ℕ) (old new : Streams) (course : IntakeOutcome) : Type 0 where
   pub ops : List Op
   pub came : InputComes hold old ops course
-  pub refused : Refused old new why
+  pub output : new.output ≡ old.output
 
--- a read failed
+-- a read failed, and nothing was printed
 pub record ReadFailed (old new : Streams) : Type 0 where
   pub rose : Faulted old.input.faults new.input.faults
   pub not_sure : old.input.sure ≡ true → ⊥
-  pub refused : Refused old new refusal.Outside
+  pub output : new.output ≡ old.output
 
 -- everything was read, and the output failed: a front of the manuscript was printed
 pub record OutputFailed (hold : ℕ) (old new : Streams) : Type 0 where
   pub ops : List Op
   pub came : InputComes hold old ops Whole
-  pub failed : TextFailed (shown_output hold nothing_held ops) (change old.output new.output) (change old.notes new.notes)
+  pub front : WroteFront (shown_output hold nothing_held ops) (change old.output new.output)
 
--- everything was read and printed, and the notes failed at the counts
-pub record NotesFailed (hold : ℕ) (old new : Streams) : Type 0 where
-  pub ops : List Op
-  pub came : InputComes hold old ops Whole
-  pub output : Took old.output new.output (shown_output hold nothing_held ops)
-  pub failed : NotNoted (shown_notes hold nothing_held ops) old.notes new.notes
+-- what came of the input: its operations were shown, or why not
+abbrev pub ShowComes : (hold : ℕ) → Streams → Streams → Result (List Op) Refusal → Type 0
+ShowComes hold old new (Ok ops) = PrintsInput hold old new ops
+ShowComes hold old new (Err (refusal.BadFrame offset)) = RefusesInput hold old new (BadFrame offset)
+ShowComes hold old new (Err (refusal.CutShort offset)) = RefusesInput hold old new (CutShort offset)
+ShowComes hold old new (Err refusal.TooLong) = RefusesInput hold old new TooLong
+ShowComes hold old new (Err (refusal.TooMany limit)) = RefusesInput hold old new TooMany × (limit ≡ MOST_OPERATIONS)
+ShowComes hold old new (Err refusal.Outside) = ReadFailed old new ⊎ OutputFailed hold old new
+ShowComes hold old new (Err refusal.NoMemory) = new.output ≡ old.output
+ShowComes hold old new (Err _) = ⊥
 
--- what was done, for each way in which the command may end
-abbrev pub ShowMeets : (hold : ℕ) → Streams → Streams → Status → Type 0
-ShowMeets hold old new status.Done = Finished hold old new status.Done
-ShowMeets hold old new status.Partial = Finished hold old new status.Partial
-ShowMeets hold old new status.BadInput =
-    (offset : ℕ) × (StreamRefused hold old new (BadFrame offset) (refusal.BadFrame offset) ⊎ StreamRefused hold old new (CutShort offset) (refusal.CutShort offset))
-ShowMeets hold old new status.Limit = StreamRefused hold old new TooLong refusal.TooLong ⊎ StreamRefused hold old new TooMany (refusal.TooMany MOST_OPERATIONS)
-ShowMeets hold old new status.OutsideFault = ReadFailed old new ⊎ OutputFailed hold old new ⊎ NotesFailed hold old new
-ShowMeets hold old new status.NoMemory = Refused old new refusal.NoMemory
-ShowMeets hold old new status.Usage = ⊥
-ShowMeets hold old new status.BadFile = ⊥
+-- the act of `show`: the counts are noted
+abbrev pub showing : (hold : ℕ) → Streams → Streams → Act (List Op)
+showing hold old new = record {
+  Comes = ShowComes hold old new;
+  line = λ ops. Some (shown_notes hold nothing_held ops);
+  status = status_after hold nothing_held;
+}
 
 -- what a stream brings to the output: nothing, where it is not whole
 abbrev pub brought_to_output : (hold : ℕ) → List Op → IntakeOutcome → List ℕ
@@ -110,19 +100,18 @@ pub record ShowCountsNoFault (hold : ℕ) (old new : Streams) : Type 0 where
   pub input : old.input.sure ≡ true → new.input.faults ≡ old.input.faults
   pub output : (bytes : List ℕ) (ops : List Op) (course : IntakeOutcome) → old.input.left ≡ Some bytes → ShowEndsAs hold bytes ops course
       → CountsNoFault (length (brought_to_output hold ops course)) old.output new.output
-  pub notes : CountsNoFault notes_room old.notes new.notes
 
 -- and where all are sure and have room, no outside fault comes
 abbrev pub NeverOutside : (hold : ℕ) → Streams → Status → Type 0
 NeverOutside hold old end =
-    (bytes : List ℕ) (ops : List Op) (course : IntakeOutcome) → old.input.left ≡ Some bytes → ShowEndsAs hold bytes ops course → old.input.sure ≡ true
+    (bytes : List ℕ) (ops : List Op) (course : IntakeOutcome) → old.input.left ≡ Some bytes → ShowEndsAs hold bytes ops course
+    → old.input.sure ≡ true
     → HasRoom (length (brought_to_output hold ops course)) old.output → HasRoom notes_room old.notes → end ≢ status.OutsideFault
 
 -- the command `show`
 pub record Shows (hold : ℕ) (old new : Streams) (end : Status) : Type 0 where
-  pub meets : ShowMeets hold old new end
+  pub performs : Performs (showing hold old new) (change old.notes new.notes) end
   pub calm : ShowCountsNoFault hold old new
   pub never_outside : NeverOutside hold old end
   pub input_blameless : SourceBlameless (change old.input new.input) end
   pub output_blameless : OutBlameless (change old.output new.output) end
-  pub notes_blameless : NotesBlameless (change old.notes new.notes) end

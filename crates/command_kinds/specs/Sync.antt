@@ -8,7 +8,7 @@ use Rattle.outer_ports.specs.disk.Disks.{DiskView}
 use Rattle.outer_ports.specs.wire.Wires.{DialsOnce, WireView, out_of}
 use Rattle.relay_sync.specs.Outcomes.{Bad, Cut, Ended, Refused, ReplyComes, ReplyEnd, TooLong, TooMany}
 use Rattle.relay_sync.specs.Saying.{SaysToNoOther, request_for}
-use Rattle.relay_sync.specs.Syncing.{FitsReply, HearsNoFurther}
+use Rattle.relay_sync.specs.Syncing.{FitsBytes, HearsNoFurther}
 use Rattle.origin_model.specs.edits.State.{State as Replica}
 use Rattle.replica_file.specs.declared.load_file.End.{End}
 use Rattle.command_kinds.specs.Crashes.{IsFinished}
@@ -37,7 +37,8 @@ ReplyRefuses replica wire _ = ⊥
 -- what a reply gives
 abbrev pub ReplyGives : WireView → Replica → Finding Outcome → Type 0
 ReplyGives wire replica (Refuses why) = ReplyRefuses replica wire why
-ReplyGives wire replica (Does outcome) = (ops : List Op) × (cursor : ℕ) × AnswerComes replica wire ops (Ended cursor) × (outcome ≡ noted_in replica ops (Some cursor))
+ReplyGives wire replica (Does outcome) =
+    (ops : List Op) × (cursor : ℕ) × AnswerComes replica wire ops (Ended cursor) × (outcome ≡ noted_in replica ops (Some cursor))
 
 -- the reply to what the replica of a file says: no call on the wire fails where it has room for that
 abbrev pub reply : (cursor : ℕ) → DiskView → Change WireView → Giver
@@ -45,7 +46,7 @@ reply cursor home wire = record {
   Gives = ReplyGives wire.old;
   Told = (bytes : List ℕ) × (wire.old.left ≡ Some bytes);
   Failed = Faulted wire.old.faults wire.new.faults;
-  Sure = (replica : Replica) (end : End) → FileHolds home replica end → FitsReply (length (request_for cursor replica.held)) wire.old;
+  Sure = (replica : Replica) (end : End) → FileHolds home replica end → FitsBytes (length (request_for cursor replica.held)) wire.old;
 }
 
 -- A front of what is held was said, to nobody but the port, which was dialled once and before the first byte was said; all
@@ -57,12 +58,13 @@ pub record Speaks (port cursor : ℕ) (held : Held) (wire : Change WireView) (do
   pub whole : done → Took (out_of wire.old) (out_of wire.new) (request_for cursor held)
   pub dialled : done → DialsOnce wire.old wire.new port
   pub heard : done → HearsNoFurther wire.old.left wire.new.left
-  pub calm : FitsReply (length (request_for cursor held)) wire.old → wire.new.faults ≡ wire.old.faults
+  pub calm : FitsBytes (length (request_for cursor held)) wire.old → wire.new.faults ≡ wire.old.faults
 
 -- the replica of the file spoke, or nothing was said at all
 abbrev pub SpeaksFor : (port cursor : ℕ) → DiskView → Change WireView → (done : Type 0) → Type 0
 SpeaksFor port cursor home wire done =
-    ((wire.new ≡ wire.old) × (done → ⊥)) ⊎ ((replica : Replica) × (end : End) × FileHolds home replica end × Speaks port cursor replica.held wire done)
+    ((wire.new ≡ wire.old) × (done → ⊥))
+    ⊎ ((replica : Replica) × (end : End) × FileHolds home replica end × Speaks port cursor replica.held wire done)
 
 -- the wire is left so by `sync`
 pub record LeavesWire (port cursor : ℕ) (home : DiskView) (wire : Change WireView) (end : Status) : Type 0 where

@@ -73,7 +73,8 @@ IsOneTooMany replica ops = MeetsNoLimit replica.hold replica.most replica.held o
 -- what another replica gives: all that it holds is taken in, or one of it is one too many
 abbrev pub ReplicaGives : (other : Replica) → Replica → Finding Outcome → Type 0
 ReplicaGives other replica (Refuses why) = (why ≡ refusal.TooMany replica.most) × IsOneTooMany replica (all_held_ops other.held)
-ReplicaGives other replica (Does outcome) = MeetsNoLimit replica.hold replica.most replica.held (all_held_ops other.held) × (outcome ≡ taken_in replica (all_held_ops other.held))
+ReplicaGives other replica (Does outcome) =
+    MeetsNoLimit replica.hold replica.most replica.held (all_held_ops other.held) × (outcome ≡ taken_in replica (all_held_ops other.held))
 
 -- the file holds a replica that gives this
 abbrev pub HolderGives : DiskView → Replica → Finding Outcome → Type 0

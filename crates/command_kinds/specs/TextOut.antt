@@ -1,14 +1,19 @@
--- A text that goes to the output: what came of it, and how a command ends that writes no more than that.
-use Rattle.std.specs.Prelude.{◌≡◌, ◌≢◌, ◌⊎◌, ℕ, List, length, Result, Ok, Err}
+-- A text that goes to the output: what came of it, and the acts of commands that write one.
+use Rattle.std.specs.Prelude.{◌≡◌, ◌≢◌, ◌⊎◌, ℕ, List, length, Result, Ok, Err, Some}
 use Rattle.fugue_ids.specs.Outs.{OutTells, OutView, Took}
 use Rattle.command_kinds.specs.Findings.{Finding, Refuses, Does}
-use Rattle.command_kinds.specs.Printing.{NotesBlameless, TextFailed, WroteFront}
-use Rattle.command_kinds.specs.Refusal.{refusal_line, status_of, Reported}
-use Rattle.command_kinds.specs.Changes.{Change, OutBlameless, CountsNoFault, notes_room}
+use Rattle.command_kinds.specs.Printing.{WroteFront}
+use Rattle.command_kinds.specs.Refusal.{status_of}
+use Rattle.command_kinds.specs.Changes.{Change, CountsNoFault}
 use Rattle.command_kinds.specs.declared.refusal.Refusal.{Refusal}
 use Rattle.command_kinds.specs.declared.refusal.Refusal.TheVariants as refusal
 use Rattle.command_kinds.specs.declared.status.Status.{Status}
 use Rattle.command_kinds.specs.declared.status.Status.TheVariants as status
+use Rattle.command_kinds.specs.Acts.{Act, Performs, all_done, no_line}
+use Rattle.command_kinds.specs.Counts.{counts_line, status_by}
+use Rattle.origin_model.specs.order.Printed.{manuscript}
+use Rattle.origin_model.specs.taking.Taking.{Held}
+use Rattle.origin_model.specs.declared.taking.Tally.{Tally}
 
 -- what came of a text: it went out, or the output failed, or memory was wanting, and nothing went out
 abbrev pub TextComes : (bytes : List ℕ) → Change OutView → Result (Unit {0}) Refusal → Type 0
@@ -23,30 +28,21 @@ pub record GoesOut (bytes : List ℕ) (output : Change OutView) (result : Result
   pub calm : CountsNoFault (length bytes) output.old output.new
   pub told : OutTells output.old → result ≢ Err refusal.Outside → output.new.faults ≡ output.old.faults
 
--- the text went out, and nothing was noted
-pub record WroteText (bytes : List ℕ) (output notes : Change OutView) : Type 0 where
-  pub wrote : Took output.old output.new bytes
-  pub noted : notes.new ≡ notes.old
+-- the act of a command that writes a text: only a failure is noted
+abbrev pub writing : (bytes : List ℕ) → Change OutView → Act (Unit {0})
+writing bytes output = record { Comes = GoesOut bytes output; line = no_line; status = all_done }
 
--- nothing went out, and the notes got the refusal's line
-pub record WroteNothing (output notes : Change OutView) (why : Refusal) : Type 0 where
-  pub wrote : output.new ≡ output.old
-  pub noted : Reported notes.old notes.new (refusal_line why)
-
--- what was done, for each way in which a command may end that writes a text
-abbrev pub TextMeets : (bytes : List ℕ) → (output notes : Change OutView) → Status → Type 0
-TextMeets bytes output notes status.Done = WroteText bytes output notes
-TextMeets bytes output notes status.OutsideFault = TextFailed bytes output notes
-TextMeets bytes output notes status.NoMemory = WroteNothing output notes refusal.NoMemory
-TextMeets bytes output notes _ = ⊥
+-- the act of printing a manuscript, where so much was counted: the counts are noted
+abbrev pub printing : Held → Tally → Change OutView → Act (Unit {0})
+printing state counts output = record {
+  Comes = GoesOut (manuscript state.history) output;
+  line = λ done. Some (counts_line counts (length state.waiting));
+  status = λ done. status_by counts (length state.waiting);
+}
 
 -- a command that writes a text, and notes but why it did not
-pub record WritesOut (bytes : List ℕ) (output notes : Change OutView) (end : Status) : Type 0 where
-  pub meets : TextMeets bytes output notes end
-  pub output_calm : CountsNoFault (length bytes) output.old output.new
-  pub notes_calm : CountsNoFault notes_room notes.old notes.new
-  pub output_blameless : OutBlameless output end
-  pub notes_blameless : NotesBlameless notes end
+abbrev pub WritesOut : (bytes : List ℕ) → (output notes : Change OutView) → Status → Type 0
+WritesOut bytes output notes end = Performs (writing bytes output) notes end
 
 -- there is no text, and why: what a command reports of is not there, or memory was wanting
 abbrev pub HasNoText : (tells : Finding (List ℕ) → Type 0) → Refusal → Type 0
@@ -59,15 +55,10 @@ ReportGoesOut tells output result =
     ((bytes : List ℕ) × tells (Does bytes) × GoesOut bytes output result)
     ⊎ ((why : Refusal) × (result ≡ Err why) × HasNoText tells why × (output.new ≡ output.old))
 
--- nothing was written, and why was told
-pub record NoTextWritten (tells : Finding (List ℕ) → Type 0) (output notes : Change OutView) (end : Status) : Type 0 where
-  pub why : Refusal
-  pub cause : HasNoText tells why
-  pub wrote : output.new ≡ output.old
-  pub noted : Reported notes.old notes.new (refusal_line why)
-  pub end_is : end ≡ status_of why
+-- the act of a command that writes what is told
+abbrev pub writing_found : (tells : Finding (List ℕ) → Type 0) → Change OutView → Act (Unit {0})
+writing_found tells output = record { Comes = ReportGoesOut tells output; line = no_line; status = all_done }
 
 -- what is told was written, or nothing
 abbrev pub WritesReport : (tells : Finding (List ℕ) → Type 0) → (output notes : Change OutView) → Status → Type 0
-WritesReport tells output notes end =
-    ((bytes : List ℕ) × tells (Does bytes) × WritesOut bytes output notes end) ⊎ NoTextWritten tells output notes end
+WritesReport tells output notes end = Performs (writing_found tells output) notes end

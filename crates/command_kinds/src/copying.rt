@@ -1,6 +1,6 @@
 //! Taking in copies of the operations of a list, those that stand next to each other at once.
 ghost use Rattle.std.specs.Prelude.{◌≡◌, ◌<◌, ◌≤◌, ◌+◌, ◌^◌, ◌∷◌, [], length, IfErr, OnOk};
-ghost use Rattle.op_runs.specs.Deletions.{CountersFit, deletes_by};
+ghost use Rattle.op_runs.specs.Deletions.{CountersFit, deletes_by, deletes_down};
 ghost use Rattle.op_runs.specs.Slices.{HasCounters, stretch_ops};
 ghost use Rattle.origin_model.specs.taking.Taking.{IsSettled, kept_from};
 ghost use Rattle.replica_core.specs.Feeding.{TakesInAll};
@@ -8,7 +8,7 @@ ghost use Rattle.replica_core.specs.Told.{total};
 ghost use Rattle.command_kinds.specs.Intake.{FeedsNotAll, copies_of_kept};
 
 use crate::kept::Kept;
-use fugue_ids::{Op, read_text};
+use fugue_ids::{ElementId, Op, read_text};
 use op_frame::NextOps;
 use op_runs::{Deletes, OpSlice, Stretch};
 use origin_model::Tally;
@@ -74,15 +74,19 @@ fn take_one(
         ≡ copies_of_kept kept.old (kept_from replica.old.hold replica.old.most replica.old.held (op.now ∷ []))) }
     ensures err { IfErr result (λ fault. FeedsNotAll fault replica.old (op.now ∷ [])) }
 {
-    match read_text(op) {
-        Some((start, ch)) => kept.feed_next(replica, NextOps::Run(start), &[ch], tally),
-        None => {
-            let copy = op.clone_in(alloc)?;
-            kept.feed_next(replica, NextOps::Single(copy), &[], tally)
-        }
+    if let Some((start, ch)) = read_text(op) {
+        return kept.feed_next(replica, NextOps::Run(start), &[ch], tally);
     }
+    if let Op::Delete { target } = op {
+        // Reading the counter lets the prover know that it fits in 32 bits.
+        let _counter = target.counter;
+        return kept.feed_deletes(replica, *target, 1, tally);
+    }
+    let copy = op.clone_in(alloc)?;
+    kept.feed_next(replica, NextOps::Single(copy), &[], tally)
 }
 
+/// Takes Deletes of neighbours in: forwards by one call, backwards one by one.
 fn take_deletes(
     replica: &mut Replica,
     deletes: &Deletes,
@@ -98,10 +102,35 @@ fn take_deletes(
         ≡ copies_of_kept kept.old (kept_from replica.old.hold replica.old.most replica.old.held (deletes_by deletes.now.down deletes.now.target deletes.now.count))) }
     ensures err { IfErr result (λ fault. FeedsNotAll fault replica.old (deletes_by deletes.now.down deletes.now.target deletes.now.count)) }
 {
-    let count = deletes.count as usize;
-    for offset in 0..count {
-        let target = deletes.nth(offset);
-        kept.feed_next(replica, NextOps::Single(Op::Delete { target }), &[], tally)?;
+    if deletes.down {
+        take_backwards(replica, deletes.target, deletes.count, tally, kept)
+    } else {
+        kept.feed_deletes(replica, deletes.target, deletes.count, tally)
+    }
+}
+
+fn take_backwards(
+    replica: &mut Replica,
+    target: ElementId,
+    count: u32,
+    tally: &mut Tally,
+    kept: &mut Kept,
+) -> Result<(), FeedFault>
+    requires settled { IsSettled replica.old.held }
+    requires counters { count ≤ target.counter + 1 }
+    requires counts_rise { total tally.old + length replica.old.held.waiting + count ≤ 2 ^ 31 }
+    ensures ok { OnOk result (TakesInAll replica.old replica.new (deletes_down target count) tally.old tally.new) }
+    ensures kept { OnOk result (kept.new
+        ≡ copies_of_kept kept.old (kept_from replica.old.hold replica.old.most replica.old.held (deletes_down target count))) }
+    ensures err { IfErr result (λ fault. FeedsNotAll fault replica.old (deletes_down target count)) }
+{
+    let deletes = Deletes {
+        target,
+        count,
+        down: true,
+    };
+    for offset in 0..count as usize {
+        kept.feed_deletes(replica, deletes.nth(offset), 1, tally)?;
     }
     Ok(())
 }

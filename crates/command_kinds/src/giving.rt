@@ -143,7 +143,7 @@ fn to_save<'a>(note: &Note, before: usize, replica: &'a Replica, kept: &'a Kept)
     ensures { result ≡ ops_to_save note.now before replica.now kept.now }
 {
     match note {
-        Note::Counted(_) => OpSlice::of(kept.ops()),
+        Note::Counted(_) => kept.ops(),
         Note::Made(_) => replica.accepted_from(before),
         Note::Revised(made, _) => last_of(replica, *made),
     }

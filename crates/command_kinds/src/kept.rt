@@ -1,42 +1,48 @@
-ghost use Rattle.std.specs.Prelude.{◌≡◌, ◌≢◌, ◌+◌, ◌^◌, ◌≤◌, ◌∷◌, [], length, Some, None, IfErr, OnOk, option_map};
+ghost use Rattle.std.specs.Prelude.{◌≡◌, ◌≢◌, ◌+◌, ◌^◌, ◌≤◌, ◌∷◌, [], length, Some, None, IfErr, IfOk, OnOk};
 ghost use Rattle.fugue_ids.specs.Runs.{run_from};
 ghost use Rattle.op_runs.specs.Deletions.{deletes_up};
 ghost use Rattle.origin_model.specs.taking.Taking.{IsSettled, TooMany as AnswersTooMany, answer};
 ghost use Rattle.origin_model.specs.taking.Taking.{intake, intake_counted, kept_from};
-ghost use Rattle.op_frame.specs.NextRuns.{AreSoundRuns, ops_given};
+ghost use Rattle.op_frame.specs.NextRuns.{AreSoundNextOps, ops_given};
 ghost use Rattle.replica_core.specs.Feeding.{TakesInAll};
 ghost use Rattle.replica_core.specs.Told.{StaysBelow, total};
 ghost use Rattle.command_kinds.specs.Intake.{FeedsNot, FeedsNotAll, copies_of_kept, ops_in};
 
-use fugue_ids::{ElementId, Op, RunStart};
+use crate::kept_ops::{KeptOps, runs_of};
+use fugue_ids::{ElementId, NoMemory, Op, RunStart};
 use op_frame::NextOps;
+use op_runs::{OpRuns, OpSlice};
 use origin_model::Tally;
 use replica_core::{FeedFault, Replica};
 use std::alloc::Global;
 use std::marker::Model;
+use std::mem::replace;
 
-/// Copies of the operations that were kept, in order, for a command that saves them. Where none is copied, as for one
-/// that only shows, they take no memory.
+/// The operations that were kept, in order, for a command that saves them. Where they are forgotten, as by one that only
+/// shows, they take no memory.
 #[derive(Drop)]
 pub struct Kept {
-    ops: Option<Vec<Op>>,
+    ops: KeptOps,
 }
 
 impl Model for Kept {
-    ghost use Rattle.std.specs.Prelude.{List, Option, option_map};
+    ghost use Rattle.std.specs.Prelude.{List, Option};
     ghost use Rattle.fugue_ids.specs.declared.op.Op.{Op};
+    ghost use Rattle.command_kinds.specs.Kept.{list_kept};
 
     ghost Value = { Option (List Op) };
 
-    ghost view = { λ kept. option_map (λ ops. ops.items) kept.ops };
+    ghost view = { λ kept. list_kept kept.ops };
 }
 
 impl Kept {
-    /// Operations are not copied.
+    /// Operations are forgotten.
     pub(crate) fn forgotten() -> Kept
         ensures { result ≡ None }
     {
-        Kept { ops: None }
+        Kept {
+            ops: KeptOps::Forgotten,
+        }
     }
 
     /// Operations are copied.
@@ -44,25 +50,39 @@ impl Kept {
         ensures { result ≡ Some [] }
     {
         Kept {
-            ops: Some(Vec::new(alloc)),
+            ops: KeptOps::Copied(OpRuns::new(alloc)),
         }
     }
 
-    /// What was copied.
-    pub(crate) fn ops(&self) -> &[Op]
-        ensures { result.now ≡ ops_in self.now }
+    /// What is kept.
+    pub(crate) fn ops(&self) -> OpSlice<'_>
+        ensures { result ≡ ops_in self.now }
     {
         match &self.ops {
-            Some(ops) => ops,
-            None => &[],
+            KeptOps::Forgotten => OpSlice::of(&[]),
+            KeptOps::Copied(runs) => runs.from(0),
+            KeptOps::Given(ops) => OpSlice::of(ops),
         }
     }
 
-    /// These stand in place of what was copied.
+    /// These stand in place of what was kept.
     pub(crate) fn put(&mut self, ops: Vec<Op>)
         ensures { self.new ≡ Some ops.items }
     {
-        self.ops = Some(ops);
+        self.ops = KeptOps::Given(ops);
+    }
+
+    /// Takes out what is kept, where operations are not forgotten, so that copies can go behind it. Without memory nothing
+    /// is kept any more: the caller must stop.
+    fn take_runs(&mut self) -> Result<Option<OpRuns>, NoMemory>
+        ensures taken { IfOk result (λ runs. runs ≡ self.old) }
+        ensures left { self.new ≡ None }
+    {
+        match replace(&mut self.ops, KeptOps::Forgotten) {
+            KeptOps::Forgotten => Ok(None),
+            KeptOps::Copied(runs) => Ok(Some(runs)),
+            KeptOps::Given(ops) => Ok(Some(runs_of(&ops)?)),
+        }
     }
 
     /// Feeds to the replica what was given at once, and copies what that keeps.
@@ -74,7 +94,7 @@ impl Kept {
         tally: &mut Tally,
     ) -> Result<(), FeedFault>
         requires settled { IsSettled replica.old.held }
-        requires sound { AreSoundRuns next text.now }
+        requires sound { AreSoundNextOps next text.now }
         requires counts_rise { total tally.old + length replica.old.held.waiting + length (ops_given next text.now)
             ≤ 2 ^ 31 }
         ensures ok { OnOk result
@@ -106,14 +126,16 @@ impl Kept {
             (kept_from replica.old.hold replica.old.most replica.old.held (run_from start.now text.now))) }
         ensures err { IfErr result (λ fault. FeedsNotAll fault replica.old (run_from start.now text.now)) }
     {
-        match &mut self.ops {
-            Some(ops) => replica.feed_run_keeping(start, text, tally, ops),
-            None => replica.feed_run(start, text, tally),
-        }
+        let Some(mut runs) = self.take_runs()? else {
+            return replica.feed_run(start, text, tally);
+        };
+        let fed = replica.feed_run_keeping(start, text, tally, &mut runs);
+        self.ops = KeptOps::Copied(runs);
+        fed
     }
 
     /// Feeds the Deletes of so many identifiers to the replica, from this one on, and copies those that it keeps.
-    fn feed_deletes(
+    pub(crate) fn feed_deletes(
         &mut self,
         replica: &mut Replica,
         first: ElementId,
@@ -129,10 +151,12 @@ impl Kept {
             (kept_from replica.old.hold replica.old.most replica.old.held (deletes_up first count))) }
         ensures err { IfErr result (λ fault. FeedsNotAll fault replica.old (deletes_up first count)) }
     {
-        match &mut self.ops {
-            Some(ops) => replica.feed_deletes_keeping(first, count, tally, ops),
-            None => replica.feed_deletes(first, count, tally),
-        }
+        let Some(mut runs) = self.take_runs()? else {
+            return replica.feed_deletes(first, count, tally);
+        };
+        let fed = replica.feed_deletes_keeping(first, count, tally, &mut runs);
+        self.ops = KeptOps::Copied(runs);
+        fed
     }
 
     /// Feeds the operation to the replica, and copies it where that keeps it.
@@ -153,12 +177,14 @@ impl Kept {
             ≡ total tally.old + length replica.old.held.waiting + 1) }
         ensures err { IfErr result (λ fault. FeedsNot fault replica.old op) }
     {
-        match &mut self.ops {
-            Some(ops) => replica.feed_keeping(op, tally, ops),
-            None => match replica.feed(op, tally) {
+        let Some(mut runs) = self.take_runs()? else {
+            return match replica.feed(op, tally) {
                 Ok(_kept) => Ok(()),
                 Err(fault) => Err(fault),
-            },
-        }
+            };
+        };
+        let fed = replica.feed_keeping(op, tally, &mut runs);
+        self.ops = KeptOps::Copied(runs);
+        fed
     }
 }

@@ -7,6 +7,7 @@ mod creating;
 mod edit;
 mod giving;
 mod kept;
+mod kept_ops;
 mod merge;
 mod noting;
 mod print;

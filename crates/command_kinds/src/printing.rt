@@ -1,13 +1,15 @@
 ghost use Rattle.std.specs.Prelude.{◌≤◌, List, ℕ, length};
 ghost use Rattle.fugue_ids.specs.Outs.{OutView, WritesBytes};
-ghost use Rattle.origin_model.specs.order.Printed.{manuscript};
+ghost use Rattle.command_kinds.specs.Acts.{Performs};
 ghost use Rattle.command_kinds.specs.Counts.{counts_text, status_by};
-ghost use Rattle.command_kinds.specs.Printing.{NoteMeets, NotesBlameless, PrintMeets};
-ghost use Rattle.command_kinds.specs.Changes.{OutBlameless, CountsNoFault, change, notes_room};
+ghost use Rattle.command_kinds.specs.Printing.{NoteMeets, NotesBlameless};
+ghost use Rattle.command_kinds.specs.TextOut.{printing};
+ghost use Rattle.command_kinds.specs.Changes.{CountsNoFault, change, notes_room};
 
 use crate::Status;
 use crate::counts::{Counts, status_of, write_counts};
 use crate::refusal::{Refusal, tell};
+use crate::text_out::gone_out;
 use fugue_ids::Failed;
 use origin_model::Tally;
 use outer_ports::Sink;
@@ -20,16 +22,12 @@ pub(crate) fn print<O: Sink, N: Sink>(
     output: &mut O,
     notes: &mut N,
 ) -> Status
-    ensures meets { PrintMeets replica.now.held tally (O.seen output.old) (O.seen output.new)
-        (N.seen notes.old) (N.seen notes.new) result }
-    ensures output { CountsNoFault (length (manuscript replica.now.held.history)) (O.seen output.old) (O.seen output.new) }
-    ensures notes { CountsNoFault notes_room (N.seen notes.old) (N.seen notes.new) }
-    ensures output_blameless { OutBlameless (change (O.seen output.old) (O.seen output.new)) result }
-    ensures notes_blameless { NotesBlameless (change (N.seen notes.old) (N.seen notes.new)) result }
+    ensures { Performs (printing replica.now.held tally (change (O.seen output.old) (O.seen output.new)))
+        (change (N.seen notes.old) (N.seen notes.new)) result }
 {
-    match replica.write_manuscript(output) {
+    match gone_out(replica.write_manuscript(output)) {
         Ok(()) => note(&Counts::of(replica, tally), notes),
-        Err(_) => tell(notes, Refusal::Outside),
+        Err(why) => tell(notes, why),
     }
 }
 

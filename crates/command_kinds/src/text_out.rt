@@ -1,9 +1,9 @@
 //! A text that goes to the output, and how a command ends that writes no more than that.
-ghost use Rattle.std.specs.Prelude.{◌≡◌, List, ℕ, IfErr};
+ghost use Rattle.std.specs.Prelude.{List, ℕ};
 ghost use Rattle.fugue_ids.specs.Outs.{OutView, WritesBytes};
-ghost use Rattle.command_kinds.specs.Refusal.{refusal_line, status_of, Reported};
-ghost use Rattle.command_kinds.specs.TextOut.{GoesOut, WritesOut};
-ghost use Rattle.command_kinds.specs.Changes.{Change, change};
+ghost use Rattle.command_kinds.specs.Acts.{TellsResult, all_done, no_line};
+ghost use Rattle.command_kinds.specs.TextOut.{GoesOut};
+ghost use Rattle.command_kinds.specs.Changes.{change};
 
 use crate::Status;
 use crate::refusal::{Refusal, tell};
@@ -23,10 +23,7 @@ pub fn gone_out(written: Result<(), Failed>) -> Result<(), Refusal>
 
 /// Done, where a text went out. Where it did not, why is told.
 pub fn ended<N: Sink>(gone: Result<(), Refusal>, notes: &mut N) -> Status
-    ensures out { (bytes : List ℕ) (output : Change OutView) → GoesOut bytes output gone
-        → WritesOut bytes output (change (N.seen notes.old) (N.seen notes.new)) result }
-    ensures told { IfErr gone (λ why. (result ≡ status_of why)
-        × Reported (N.seen notes.old) (N.seen notes.new) (refusal_line why)) }
+    ensures { TellsResult no_line all_done gone (change (N.seen notes.old) (N.seen notes.new)) result }
 {
     match gone {
         Ok(()) => Status::Done,

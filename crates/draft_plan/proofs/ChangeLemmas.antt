@@ -15,7 +15,7 @@ use Rattle.origin_model.proofs.edits.MadeLemmas.{extended-append}
 use Rattle.catalogue_notes.specs.declared.moving.MoveFault.{MoveFault}
 use Rattle.catalogue_notes.specs.declared.moving.MoveFault.TheVariants as moving
 use Rattle.catalogue_notes.specs.Moving.{IsMoveMade, IsRetitleMade, RefusesFor, move_by, move_refusal, retitle_by, retitle_refusal}
-use Rattle.draft_plan.specs.Changes.{AreAllowed, PlanChange, ArePlanned, Edit, IsRefused, Move, Retitle, Stops, StopsAt, all_made, replica_behind, change_refusal, made_of}
+use Rattle.draft_plan.specs.Changes.{AreAllowed, PlanChange, MakesChanges, Edit, IsRefused, Move, Retitle, Stops, StopsAt, all_made, replica_behind, change_refusal, made_of}
 use Rattle.draft_plan.specs.declared.fault.ReviseFault.{ReviseFault}
 use Rattle.draft_plan.specs.declared.fault.ReviseFault.TheVariants as fault
 use Rattle.origin_model.proofs.edits.AllowedLemmas.{allowed}
@@ -49,33 +49,33 @@ allowed-append s (c ∷ cs) b x y =
     (x.0, allowed-append (replica_behind s c) cs b x.1 (subst (λ t. AreAllowed t b) (sym (with_more s (made_of s c) (all_made (replica_behind s c) cs))) y))
 
 -- the operations of changes, and then of others
-pub made_join : (old mid : State) (a b : List PlanChange) → ArePlanned old mid a → all_made old (a ++ b) ≡ all_made old a ++ all_made mid b
+pub made_join : (old mid : State) (a b : List PlanChange) → MakesChanges old mid a → all_made old (a ++ b) ≡ all_made old a ++ all_made mid b
 made_join old mid a b first = all_made-append old a b ∙ ap (λ t. all_made old a ++ all_made t b) (sym first.gained.others)
 
 -- no change
-pub changed_none : (s : State) → ArePlanned s s []
+pub changed_none : (s : State) → MakesChanges s s []
 changed_none s = record { allowed = tt; gained = gains_none s }
 
 -- changes, and then others
-pub changed_join : (old mid new : State) (a b : List PlanChange) → ArePlanned old mid a → ArePlanned mid new b → ArePlanned old new (a ++ b)
+pub changed_join : (old mid new : State) (a b : List PlanChange) → MakesChanges old mid a → MakesChanges mid new b → MakesChanges old new (a ++ b)
 changed_join old mid new a b first next = record {
   allowed = allowed-append old a b first.allowed (subst (λ t. AreAllowed t b) first.gained.others next.allowed);
   gained = subst (Gains old new) (sym (made_join old mid a b first)) (gains_join old mid new (all_made old a) (all_made mid b) first.gained next.gained);
 }
 
 -- as many operations as both have
-pub count_join : (old mid : State) (a b : List PlanChange) → ArePlanned old mid a → length (all_made old (a ++ b)) ≡ length (all_made old a) + length (all_made mid b)
+pub count_join : (old mid : State) (a b : List PlanChange) → MakesChanges old mid a → length (all_made old (a ++ b)) ≡ length (all_made old a) + length (all_made mid b)
 count_join old mid a b first = ap length (made_join old mid a b first) ∙ length-append (all_made old a) (all_made mid b)
 
 -- one change
-pub changed_one : (old new : State) (c : PlanChange) → change_refusal old c ≡ None → Gains old new (made_of old c) → ArePlanned old new (c ∷ [])
+pub changed_one : (old new : State) (c : PlanChange) → change_refusal old c ≡ None → Gains old new (made_of old c) → MakesChanges old new (c ∷ [])
 changed_one old new c allowed gained = record { allowed = (allowed, tt); gained = subst (Gains old new) (sym (append-nil (made_of old c))) gained }
 
 pub count_one : (s : State) (c : PlanChange) → length (all_made s (c ∷ [])) ≡ length (made_of s c)
 count_one s c = ap length (append-nil (made_of s c))
 
 -- an edit that was made
-pub changed_edit : (old new : State) (command : Command) (n : ℕ) → RefusesExactly old command (Ok n) → IsMade old new command n → ArePlanned old new (Edit command ∷ [])
+pub changed_edit : (old new : State) (command : Command) (n : ℕ) → RefusesExactly old command (Ok n) → IsMade old new command n → MakesChanges old new (Edit command ∷ [])
 changed_edit old new command n exact made = changed_one old new (Edit command) (ap (option_map fault.Edit) (allowed old command n exact)) made.gained
 
 -- what was made has no cause against it
@@ -87,21 +87,23 @@ no_cause (Some why) n r = elim r.always [ inl e ↦ absurd (made_no_err n why e)
     made_no_err n why e = cc
 
 -- a move that was made
-pub changed_move : (old new : State) (k j n : ℕ) → RefusesFor (move_refusal old k j) (Ok n) → IsMoveMade old new k j n → ArePlanned old new (Move k j ∷ [])
+pub changed_move : (old new : State) (k j n : ℕ) → RefusesFor (move_refusal old k j) (Ok n) → IsMoveMade old new k j n → MakesChanges old new (Move k j ∷ [])
 changed_move old new k j n refuses made =
     let ops : made_of old (Move k j) ≡ move_by old made.section k j ∷ [] =
     ap (λ o. elim o as (λ _. List Op) [ None ↦ [] | Some section ↦ move_by old section k j ∷ [] ]) made.placed in
     changed_one old new (Move k j) (ap (option_map fault.Move) (no_cause (move_refusal old k j) n refuses)) (subst (Gains old new) (sym ops) made.gained)
 
 -- a retitle that was made
-pub changed_retitle : (old new : State) (k n : ℕ) (title : List ℕ) → RefusesFor (retitle_refusal old k) (Ok n) → IsRetitleMade old new k title n → ArePlanned old new (Retitle k title ∷ [])
+pub changed_retitle : (old new : State) (k n : ℕ) (title : List ℕ) → RefusesFor (retitle_refusal old k) (Ok n) → IsRetitleMade old new k title n
+    → MakesChanges old new (Retitle k title ∷ [])
 changed_retitle old new k n title refuses made =
     let ops : made_of old (Retitle k title) ≡ retitle_by old made.section title ∷ [] =
     ap (λ o. elim o as (λ _. List Op) [ None ↦ [] | Some section ↦ retitle_by old section title ∷ [] ]) made.placed in
     changed_one old new (Retitle k title) (ap (option_map fault.Move) (no_cause (retitle_refusal old k) n refuses)) (subst (Gains old new) (sym ops) made.gained)
 
 -- changes that were made, and then a stop
-pub stops_after : (Only : PlanChange → Type 0) (old mid new : State) (changes : List PlanChange) (why : ReviseFault) → All Only changes → ArePlanned old mid changes → Stops Only mid new why
+pub stops_after : (Only : PlanChange → Type 0) (old mid new : State) (changes : List PlanChange) (why : ReviseFault) → All Only changes → MakesChanges old mid changes
+    → Stops Only mid new why
     → Stops Only old new why
 stops_after Only old mid new changes why only changed stops = record {
   changes = changes ++ stops.changes;

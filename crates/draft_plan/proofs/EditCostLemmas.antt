@@ -14,7 +14,8 @@ use Rattle.origin_model.specs.declared.operations.Verdict.TheVariants.{Ready}
 use Rattle.origin_model.specs.edits.Edits.{Add, Command, Cut, DropSection, Put, history_with, left_for, right_for}
 use Rattle.origin_model.specs.edits.Effect.{Gains, IsMade, Lands}
 use Rattle.origin_model.specs.edits.Noting.{ShowsAsBefore}
-use Rattle.origin_model.specs.edits.Refusal.{RefusesExactly, held_count, in_range, in_section, made_by, next_of_own, refusal_message, refused_elements, refused_ops, section_shown, shown_count}
+use Rattle.origin_model.specs.edits.Refusal.{RefusesExactly, held_count, in_range, in_section, made_by, next_of_own, refusal_message, refused_elements, refused_ops, section_shown}
+use Rattle.origin_model.specs.edits.Refusal.{shown_count}
 use Rattle.origin_model.specs.edits.State.{IsSound, State}
 use Rattle.origin_model.specs.operations.Verdict.{Lawful, verdict}
 use Rattle.origin_model.specs.order.Printed.{shown}
@@ -33,7 +34,8 @@ use Rattle.draft_plan.specs.Limits.{Cost, Costs, CostsShaping, LacksRoom, TakesU
 use Rattle.draft_plan.specs.declared.fault.ReviseFault.{ReviseFault}
 use Rattle.draft_plan.specs.declared.fault.ReviseFault.TheVariants as fault
 use Rattle.draft_plan.proofs.ArrangementLemmas.{cut_keeps, put_keeps}
-use Rattle.draft_plan.proofs.LimitLemmas.{IsUpTo, MakesBelow, costs_join, costs_more, costs_none, costs_stop, deletes_below, in_place, joined_take, lacks_elements, lacks_note, lacks_ops, note_cost, one_below, typed_below}
+use Rattle.draft_plan.proofs.LimitLemmas.{IsUpTo, MakesBelow, costs_join, costs_more, costs_none, costs_stop, deletes_below, in_place, joined_take, lacks_elements, lacks_note}
+use Rattle.draft_plan.proofs.LimitLemmas.{lacks_ops, note_cost, one_below, typed_below}
 
 -- how many operations an edit asks for, and how many counters
 abbrev pub asked : Command → ℕ
@@ -56,7 +58,8 @@ quiet_stamp e h m r =
     λ i. max (greatest (map (λ (m : Move). m.stamp) (same_moves i))) (greatest (map (λ (r : Retitle). r.stamp) (same_titles i)))
 
 -- what is known of an edit that is not refused
-put_there : (s : State) (k at : ℕ) (new : List ℕ) → refusal_message s (Put k at new) ≡ None → (x : Identifier) × (section_shown s k ≡ Some x) × (at ≤ length (shown (within x) s.held.history))
+put_there : (s : State) (k at : ℕ) (new : List ℕ) → refusal_message s (Put k at new) ≡ None
+    → (x : Identifier) × (section_shown s k ≡ Some x) × (at ≤ length (shown (within x) s.held.history))
 put_there s k at new e =
     let x = section_there (section_shown s k) (λ x. in_range at (shown_count s (within x)) (refused_elements s (length new))) e in
     (x.0, x.1, (position_within at (shown_count s (within x.0)) (refused_elements s (length new)) x.2).0)
@@ -89,7 +92,8 @@ own_below (DropSection k) s e =
     subst (All (MakesBelow s.number (next_of_own s + 0))) (sym (drop_made s.number s.held.history s.held.waiting k x.0 x.1)) (deletes_below (x.0 ∷ []) s.number (next_of_own s + 0))
 
 -- and leaves the stamp
-edit_stamp : (command : Command) (s : State) → Lawful s.held.history → refusal_message s command ≡ None → stamp (history_with s.held.history (made_by s command)) ≡ stamp s.held.history
+edit_stamp : (command : Command) (s : State) → Lawful s.held.history → refusal_message s command ≡ None
+    → stamp (history_with s.held.history (made_by s command)) ≡ stamp s.held.history
 edit_stamp (Put k at new) s w e = let x = put_there s k at new e in (put_keeps s.number s.held.history s.held.waiting k at new x.0 w x.1 x.2).stamps
 edit_stamp (Cut k at n) s w e = let x = cut_there s k at n e in (cut_keeps s.number s.held.history s.held.waiting k at n x.0 w x.1).stamps
 edit_stamp (Add at title) s w e = quiet_stamp _ s.held.history refl refl
@@ -98,7 +102,8 @@ edit_stamp (DropSection k) s w e =
     ap (λ ops. stamp (history_with s.held.history ops)) (drop_made s.number s.held.history s.held.waiting k x.0 x.1) ∙ quiet_stamp (Delete x.0) s.held.history refl refl
 
 -- an edit that was made
-pub edit_costs : (old new : State) (command : Command) (n : ℕ) → Lawful old.held.history → RefusesExactly old command (Ok n) → IsMade old new command n → Costs old new (cost n (minted command) 0) (Ok n)
+pub edit_costs : (old new : State) (command : Command) (n : ℕ) → Lawful old.held.history → RefusesExactly old command (Ok n) → IsMade old new command n
+    → Costs old new (cost n (minted command) 0) (Ok n)
 edit_costs old new command n w exact made =
     let free = allowed old command n exact in
     let same : stamp new.held.history ≡ stamp old.held.history = ap (λ (s : State). stamp s.held.history) made.gained.others ∙ edit_stamp command old w free in
@@ -106,7 +111,8 @@ edit_costs old new command n w exact made =
     (omega arith, subst (λ m. TakesUpTo old new (cost m (minted command) 0)) (sym made.count) t)
 
 -- the cause of one that is refused
-cause_lacks : (command : Command) (s : State) (c : Cost) (why : EditFault) → held_count s ≤ s.most → why ≢ edit.NoSection → why ≢ edit.OutOfRange → asked command ≤ c.operations → minted command ≤ c.counters
+cause_lacks : (command : Command) (s : State) (c : Cost) (why : EditFault) → held_count s ≤ s.most → why ≢ edit.NoSection → why ≢ edit.OutOfRange → asked command ≤ c.operations
+    → minted command ≤ c.counters
     → refusal_message s command ≡ Some why → LacksRoom s c (fault.Edit why)
 cause_lacks (Put k at new) s c why few a b l m e =
     lacks_elements s (length new) c why few l m (in_place (section_shown s k) at (λ x. shown_count s (within x)) (refused_elements s (length new)) why a b e)
@@ -123,7 +129,8 @@ cause_lacks (DropSection k) s c why few a b l m e = by (section_shown s k) e
     by None e = absurd (a (sym (same_Some edit.NoSection why e)))
     by (Some x) e = lacks_ops s 1 c why few l e
 
-pub edit_lacks : (command : Command) (s : State) (c : Cost) (why : EditFault) → IsSound s → asked command ≤ c.operations → minted command ≤ c.counters → RefusesExactly s command (Err why) → LacksRoom s c (fault.Edit why)
+pub edit_lacks : (command : Command) (s : State) (c : Cost) (why : EditFault) → IsSound s → asked command ≤ c.operations → minted command ≤ c.counters
+    → RefusesExactly s command (Err why) → LacksRoom s c (fault.Edit why)
 edit_lacks command s c edit.NoSection st l m exact = tt
 edit_lacks command s c edit.OutOfRange st l m exact = tt
 edit_lacks command s c edit.NoMemory st l m exact = tt
@@ -141,7 +148,8 @@ pub move_costs : (old new : State) (k j n : ℕ) → IsMoveMade old new k j n �
 move_costs old new k j n made shows =
     let c : ℕ = next_of_own old in (
       note_costs old new (move_by old made.section k j) n made.count made.gained made.moved.ready
-          (All-cons (MakesBelow old.number (c + 1)) (move_by old made.section k j) [] (one_below old.number c (c + 1) (omega arith)) (All-nil (MakesBelow old.number (c + 1)))) made.moved.stamped,
+          (All-cons (MakesBelow old.number (c + 1)) (move_by old made.section k j) [] (one_below old.number c (c + 1) (omega arith)) (All-nil (MakesBelow old.number (c + 1))))
+          made.moved.stamped,
       λ s. shows.lists (within s),
     )
 
@@ -149,7 +157,8 @@ pub retitle_costs : (old new : State) (k n : ℕ) (title : List ℕ) → IsRetit
 retitle_costs old new k n title made =
     let c : ℕ = next_of_own old in
     note_costs old new (retitle_by old made.section title) n made.count made.gained made.retitled.ready
-    (All-cons (MakesBelow old.number (c + 1)) (retitle_by old made.section title) [] (one_below old.number c (c + 1) (omega arith)) (All-nil (MakesBelow old.number (c + 1)))) made.retitled.stamped
+    (All-cons (MakesBelow old.number (c + 1)) (retitle_by old made.section title) [] (one_below old.number c (c + 1) (omega arith)) (All-nil (MakesBelow old.number (c + 1))))
+    made.retitled.stamped
 
 -- one that is refused, where the section and the place are not the cause
 behind_absence : (a b : Bool) (rest : Option MoveFault) (why : MoveFault) → why ≢ moving.NoSection → why ≢ moving.NoPlace
@@ -158,7 +167,8 @@ behind_absence true true rest why n p e = e
 behind_absence true false rest why n p e = absurd (p (sym (same_Some moving.NoPlace why e)))
 behind_absence false b rest why n p e = absurd (n (sym (same_Some moving.NoSection why e)))
 
-move_cause : (s : State) (k j : ℕ) (why : MoveFault) → IsSound s → why ≢ moving.NoSection → why ≢ moving.NoPlace → move_refusal s k j ≡ Some why → LacksRoom s note_cost (fault.Move why)
+move_cause : (s : State) (k j : ℕ) (why : MoveFault) → IsSound s → why ≢ moving.NoSection → why ≢ moving.NoPlace → move_refusal s k j ≡ Some why
+    → LacksRoom s note_cost (fault.Move why)
 move_cause s k j why st n p e =
     lacks_note s why (behind_absence (nat_lt k (length (arranged s.held.history))) (nat_lt j (length (arranged s.held.history))) (note_cause s) why n p e) st.few
 
@@ -186,14 +196,16 @@ retitle_lacks s k (moving.IdsSpent n) st r = retitle_cause s k (moving.IdsSpent 
 retitle_lacks s k (moving.TooMany n) st r = retitle_cause s k (moving.TooMany n) st (λ e. cc e) (r.only (moving.TooMany n) (λ e. cc e) refl)
 
 -- sections that come and go leave the texts
-pub drop_costs : (old new : State) (k n : ℕ) → Lawful old.held.history → RefusesExactly old (DropSection k) (Ok n) → IsMade old new (DropSection k) n → Lands old new (DropSection k)
+pub drop_costs : (old new : State) (k n : ℕ) → Lawful old.held.history → RefusesExactly old (DropSection k) (Ok n) → IsMade old new (DropSection k) n
+    → Lands old new (DropSection k)
     → CostsShaping old new (cost 1 0 0) (Ok n)
 drop_costs old new k n w exact made lands =
     let x = drop_there old k (allowed old (DropSection k) n exact) in
     let one : n ≡ 1 = made.count ∙ ap length (drop_made old.number old.held.history old.held.waiting k x.0 x.1) in
     (subst (λ m. Costs old new (cost m 0 0) (Ok n)) one (edit_costs old new (DropSection k) n w exact made), λ s. lands.splices.elsewhere (within s) (λ d. cc d))
 
-pub add_costs : (old new : State) (at n : ℕ) (title : List ℕ) → Lawful old.held.history → RefusesExactly old (Add at title) (Ok n) → IsMade old new (Add at title) n → Lands old new (Add at title)
+pub add_costs : (old new : State) (at n : ℕ) (title : List ℕ) → Lawful old.held.history → RefusesExactly old (Add at title) (Ok n) → IsMade old new (Add at title) n
+    → Lands old new (Add at title)
     → CostsShaping old new (cost 1 1 0) (Ok 1)
 add_costs old new at n title w exact made lands =
     let c = edit_costs old new (Add at title) n w exact made in
@@ -205,7 +217,8 @@ shaping_none s c = (costs_none s c, λ t. refl)
 pub shaping_more : (old new : State) (a b : Cost) (n : ℕ) → IsUpTo a b → CostsShaping old new a (Ok n) → CostsShaping old new b (Ok n)
 shaping_more old new a b n u c = (costs_more old new a b (Ok n) u c.0, c.1)
 
-pub shaping_join : (old mid new : State) (a b c : Cost) (n m : ℕ) → IsUpTo (plus a b) c → CostsShaping old mid a (Ok n) → CostsShaping mid new b (Ok m) → CostsShaping old new c (Ok (n + m))
+pub shaping_join : (old mid new : State) (a b c : Cost) (n m : ℕ) → IsUpTo (plus a b) c → CostsShaping old mid a (Ok n) → CostsShaping mid new b (Ok m)
+    → CostsShaping old new c (Ok (n + m))
 shaping_join old mid new a b c n m u first next = (costs_join old mid new a b c n m u first.0 next.0, λ s. next.1 s ∙ first.1 s)
 
 pub shaping_stop : (old mid : State) (a b c : Cost) (n : ℕ) (why : ReviseFault) → IsUpTo (plus a b) c → CostsShaping old mid a (Ok n) → LacksRoom mid b why → LacksRoom old c why

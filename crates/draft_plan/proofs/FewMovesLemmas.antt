@@ -1,5 +1,6 @@
 -- Only what moved is moved.
-use Rattle.std.proofs.Common.{Bool, List, [], add-one, ap, arith, cond, drop, eq-eqb, false, get_or, inl, inr, length, map, nat_eq, not, refl, subst, suc, sym, take, true, true≢false, zero, ℕ, ◌&&◌, ◌||◌, ◌+◌, ◌++◌, ◌<◌, ◌≤◌, ◌∙◌, ◌∷◌, ◌≡◌, ◌≢◌}
+use Rattle.std.proofs.Common.{Bool, List, [], add-one, ap, arith, cond, drop, eq-eqb, false, get_or, inl, inr, length, map, nat_eq, not, refl, subst, suc, sym, take, true}
+use Rattle.std.proofs.Common.{true≢false, zero, ℕ, ◌&&◌, ◌||◌, ◌+◌, ◌++◌, ◌<◌, ◌≤◌, ◌∙◌, ◌∷◌, ◌≡◌, ◌≢◌}
 use Rattle.std.specs.Prelude.{IsSome, None, Option, Some, count_by, filter, insert, slice_get, slice_index_or, ◌↔◌}
 use Rattle.std.specs.List.{Contains}
 use Rattle.std.proofs.lemmas.Bool.{and_from, and_parts, ne_eqb}
@@ -72,7 +73,8 @@ module _ (start mid new : List Op) (stays : List Bool) (ts : List Identifier) (p
   -- the section of the part was moved
   module _ (s : Identifier) (at : slice_get ts part ≡ Some s) (free : slice_index_or stays part false ≡ false) (m : IsSectionMoved mid new s) where
     here : moves_of new s ≡ m.adds.claim ∷ moves_of mid s
-    here = ap (filter (λ (c : Move). id_eq c.section s)) m.adds.in_front ∙ filter_yes (λ (c : Move). id_eq c.section s) m.adds.claim (moves mid) (eq-id_eq m.adds.claim.section s m.adds.on)
+    here = ap (filter (λ (c : Move). id_eq c.section s)) m.adds.in_front
+        ∙ filter_yes (λ (c : Move). id_eq c.section s) m.adds.claim (moves mid) (eq-id_eq m.adds.claim.section s m.adds.on)
 
     there : (t : Identifier) → t ≢ s → moves_of new t ≡ moves_of mid t
     there t ne =
@@ -148,7 +150,8 @@ moved_or_stays : (stays : List Bool) (n : ℕ) → n ≤ length stays → sum_be
 moved_or_stays stays zero l = refl
 moved_or_stays stays (suc n) l = by (moved_or_stays stays n (omega (arith, l))) (get_or stays n false) refl
   where
-    by : sum_below (move_count stays) n + count_by (λ (c : Bool). c) (take n stays) ≡ n → (b : Bool) → get_or stays n false ≡ b → sum_below (move_count stays) (suc n) + count_by (λ (c : Bool). c) (take (suc n) stays) ≡ suc n
+    by : sum_below (move_count stays) n + count_by (λ (c : Bool). c) (take n stays) ≡ n → (b : Bool) → get_or stays n false ≡ b
+        → sum_below (move_count stays) (suc n) + count_by (λ (c : Bool). c) (take (suc n) stays) ≡ suc n
     by before true e =
         let none : move_count stays n ≡ 0 = ap (λ b. cond b 0 1) e in
         omega (arith, before, none, count_by_more_yes (λ (c : Bool). c) stays n false (omega (arith, l)) e, ap (λ m. count_by (λ (c : Bool). c) (take m stays)) (add-one n))
@@ -157,14 +160,16 @@ moved_or_stays stays (suc n) l = by (moved_or_stays stays n (omega (arith, l))) 
         omega (arith, before, one, count_by_more_no (λ (c : Bool). c) stays n false (omega (arith, l)) e, ap (λ m. count_by (λ (c : Bool). c) (take m stays)) (add-one n))
 
 -- the parts that stay stand in a longest series
-module _ (old : List Op) (pairs : Pairs) (ts : List Identifier) (order : List ℕ) (stays : List Bool) (w : Lawful old) (is : IsOrder order) (of : IsOrderOf ts (arranged old) order) (long : length order ≡ length ts)
+module _ (old : List Op) (pairs : Pairs) (ts : List Identifier) (order : List ℕ) (stays : List Bool) (w : Lawful old) (is : IsOrder order) (of : IsOrderOf ts (arranged old) order)
+    (long : length order ≡ length ts)
     (st : AreStaying order pairs stays) (long_stays : length stays ≡ length order) where
   stands : (x a : ℕ) (s : Identifier) → x < length order → get_or order x 0 ≡ a → slice_get ts a ≡ Some s → slice_get (arranged old) x ≡ Some s
   stands x a s l e at =
       let u = get_some (arranged old) x (omega (arith, l, of.long)) in
       u.1 ∙ ap Some (same_Some u.0 s (sym (of.each x u.0 u.1) ∙ (ap (slice_get ts) e ∙ at)))
 
-  module _ (chosen : Identifier → Bool) (paired : (j : ℕ) (s : Identifier) → slice_get ts j ≡ Some s → chosen s ≡ true → IsSome (section_of pairs j)) (same : filter chosen (arranged old) ≡ filter chosen ts) where
+  module _ (chosen : Identifier → Bool) (paired : (j : ℕ) (s : Identifier) → slice_get ts j ≡ Some s → chosen s ≡ true → IsSome (section_of pairs j))
+      (same : filter chosen (arranged old) ≡ filter chosen ts) where
     rise : IsRise st.places (map chosen ts)
     rise = record {
       places = length-map ts chosen ∙ (sym long ∙ sym st.places_are.long);
@@ -213,7 +218,8 @@ among_from : (xs : List Identifier) (s : Identifier) → is_one_of xs s ≡ true
 among_from xs s e = Contains-from_any id_eq-true s xs e
 
 -- sections were dropped and added, and then moved
-module _ (h0 h1 h2 : List Op) (pairs : Pairs) (ts : List Identifier) (v : Lawful h0) (w : Lawful h1) (places : KeepsPlaces h0 h1) (few : ArrangesFew h1 h2 pairs ts) (arr : arranged h2 ≡ ts)
+module _ (h0 h1 h2 : List Op) (pairs : Pairs) (ts : List Identifier) (v : Lawful h0) (w : Lawful h1) (places : KeepsPlaces h0 h1) (few : ArrangesFew h1 h2 pairs ts)
+    (arr : arranged h2 ≡ ts)
     (shown_are : (s : Identifier) → Contains (shown catalogue h1) s ↔ Contains ts s)
     (kept : (j i : ℕ) (s : Identifier) → section_of pairs j ≡ Some i → slice_get (arranged h0) i ≡ Some s → slice_get ts j ≡ Some s)
     (fresh : (j : ℕ) (s : Identifier) → section_of pairs j ≡ None → slice_get ts j ≡ Some s → holds h0 s ≡ false)
@@ -250,7 +256,8 @@ module _ (h0 h1 h2 : List Op) (pairs : Pairs) (ts : List Identifier) (v : Lawful
   stays_there : (j : ℕ) (s : Identifier) → IsChosen few.stays j → slice_get ts j ≡ Some s → Unmoved s ≡ true
   stays_there j s c at =
       and_from (W s) (has_no_move h0 h2 s)
-      (and_from (is_one_of (arranged h0) s) (is_one_of (arranged h2) s) (among_to (arranged h0) s (by (section_of pairs j) refl (few.matched j c))) (among_to (arranged h2) s (subst (λ l. Contains l s) (sym arr) (get_in ts j s at))))
+      (and_from (is_one_of (arranged h0) s) (is_one_of (arranged h2) s) (among_to (arranged h0) s (by (section_of pairs j) refl (few.matched j c)))
+      (among_to (arranged h2) s (subst (λ l. Contains l s) (sym arr) (get_in ts j s at))))
       (same_moves s ∙ eq-eqb (length (moves_of h2 s)) (length (moves_of h1 s)) (ap length (few.few.kept j s c at)))
     where
       by : (o : Option ℕ) → section_of pairs j ≡ o → IsSome (section_of pairs j) → Contains (arranged h0) s
@@ -299,12 +306,14 @@ pub few_still : (o m n : List Op) → arranged n ≡ arranged m → moves n ≡ 
 few_still o m n a mv few =
     let U : List Move → List Identifier → Identifier → Bool = unmoved_by o in
     record {
-      once = λ s st. subst (λ (ms : List Move). HasOneMore (moves_of o s) (filter (λ (c : Move). id_eq c.section s) ms)) (sym mv) (few.once s (st.0, subst (λ l. Contains l s) a st.1));
+      once = λ s st. subst (λ (ms : List Move). HasOneMore (moves_of o s) (filter (λ (c : Move). id_eq c.section s) ms)) (sym mv)
+          (few.once s (st.0, subst (λ l. Contains l s) a st.1));
       order = subst (λ (xs : List Identifier). filter (U (moves n) xs) (arranged o) ≡ filter (U (moves n) xs) xs) (sym a)
           (subst (λ (ms : List Move). filter (U ms (arranged m)) (arranged o) ≡ filter (U ms (arranged m)) (arranged m)) (sym mv) few.order);
       most = λ chosen same.
           subst (λ (xs : List Identifier). length (filter chosen xs) ≤ length (filter (U (moves n) xs) xs)) (sym a)
-          (subst (λ (ms : List Move). length (filter chosen (arranged m)) ≤ length (filter (U ms (arranged m)) (arranged m))) (sym mv) (few.most chosen (same ∙ ap (filter chosen) a)));
+          (subst (λ (ms : List Move). length (filter chosen (arranged m)) ≤ length (filter (U ms (arranged m)) (arranged m))) (sym mv)
+          (few.most chosen (same ∙ ap (filter chosen) a)));
     }
 
 -- nothing was moved at all
@@ -317,12 +326,14 @@ few_none o = record {
       let full : filter (stays_unmoved o o) xs ≡ xs =
       filter_full (stays_unmoved o o) xs (λ s m.
       let there = among_to xs s m in
-      and_from (is_one_of xs s && is_one_of xs s) (has_no_move o o s) (and_from (is_one_of xs s) (is_one_of xs s) there there) (eq-eqb (length (moves_of o s)) (length (moves_of o s)) refl)) in
+      and_from (is_one_of xs s && is_one_of xs s) (has_no_move o o s) (and_from (is_one_of xs s) (is_one_of xs s) there there)
+      (eq-eqb (length (moves_of o s)) (length (moves_of o s)) refl)) in
       omega (arith, ap length full, length-filter chosen xs, count_by-le-length chosen xs);
 }
 
 -- sections were dropped and added: it takes as few moves as before
-pub plans_moves : (h0 h1 : List Op) (pairs : Pairs) (ts : List Identifier) (moved : ℕ) → Lawful h0 → Lawful h1 → KeepsPlaces h0 h1 → ((s : Identifier) → Contains (shown catalogue h1) s ↔ Contains ts s)
+pub plans_moves : (h0 h1 : List Op) (pairs : Pairs) (ts : List Identifier) (moved : ℕ) → Lawful h0 → Lawful h1 → KeepsPlaces h0 h1
+    → ((s : Identifier) → Contains (shown catalogue h1) s ↔ Contains ts s)
     → MovesNoMore h1 pairs ts moved → MovesNoMore h0 pairs ts moved
 plans_moves h0 h1 pairs ts moved v w places shown_are few = λ chosen paired same.
     let to_mid : (s : Identifier) → chosen s ≡ true → Contains (arranged h0) s → Contains (arranged h1) s = λ s c m.

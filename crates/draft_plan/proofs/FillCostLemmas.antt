@@ -33,7 +33,8 @@ use Rattle.text_diff.specs.declared.hunk.Hunk.{Hunk}
 use Rattle.catalogue_notes.specs.Arranged.{arranged}
 use Rattle.catalogue_notes.proofs.ArrangedLemmas.{arranged_once, arranged_shown, shown_arranged}
 use Rattle.draft_plan.specs.Drafts.{Part}
-use Rattle.draft_plan.specs.Limits.{AreChosen, Cost, Costs, CostsText, LacksRoom, SameTexts, by_edit, cost, hunk_cost, hunks_cost, letters_from, shown_letters, part_letters, plus, put_size, revision_cost}
+use Rattle.draft_plan.specs.Limits.{AreChosen, Cost, Costs, CostsText, LacksRoom, SameTexts, by_edit, cost, hunk_cost, hunks_cost, arranged_letters, shown_letters, part_letters}
+use Rattle.draft_plan.specs.Limits.{plus, put_size, revision_cost}
 use Rattle.draft_plan.specs.Shaping.{IsReshaped}
 use Rattle.draft_plan.specs.declared.fault.ReviseFault.{ReviseFault}
 use Rattle.draft_plan.specs.declared.fault.ReviseFault.TheVariants as fault
@@ -46,7 +47,8 @@ use Rattle.draft_plan.proofs.ShapeLemmas.{got}
 use Rattle.draft_plan.proofs.TextLemmas.{IsCutAndPut}
 
 -- a hunk that was made
-pub hunk_costs : (old mid new : State) (k cut put : ℕ) (h : Hunk) (chs : List ℕ) → length chs ≡ h.new_len → IsCutAndPut old mid new k h.old_at h.old_len cut put chs → Costs old new (hunk_cost h) (Ok (cut + put))
+pub hunk_costs : (old mid new : State) (k cut put : ℕ) (h : Hunk) (chs : List ℕ) → length chs ≡ h.new_len → IsCutAndPut old mid new k h.old_at h.old_len cut put chs
+    → Costs old new (hunk_cost h) (Ok (cut + put))
 hunk_costs old mid new k cut put h chs long i =
     let first = edit_costs old mid (Cut k h.old_at h.old_len) cut i.lawful i.cuts i.cut_made in
     let next = edit_costs mid new (Put k h.old_at chs) put i.then_lawful i.puts i.put_made in
@@ -56,11 +58,13 @@ hunk_costs old mid new k cut put h chs long i =
     (up (omega (arith, i.cut_made.count, i.put_made.count, cuts, puts, long)) (omega (arith, long)) (omega arith)) first next
 
 -- its cut
-pub cut_costs : (old mid : State) (k cut : ℕ) (h : Hunk) → Lawful old.held.history → RefusesExactly old (Cut k h.old_at h.old_len) (Ok cut) → IsMade old mid (Cut k h.old_at h.old_len) cut
+pub cut_costs : (old mid : State) (k cut : ℕ) (h : Hunk) → Lawful old.held.history → RefusesExactly old (Cut k h.old_at h.old_len) (Ok cut)
+    → IsMade old mid (Cut k h.old_at h.old_len) cut
     → Costs old mid (cost h.old_len 0 0) (Ok cut)
 cut_costs old mid k cut h w cuts made =
     let count = cut_count old k h.old_at h.old_len (allowed old (Cut k h.old_at h.old_len) cut cuts) in
-    costs_more old mid (cost cut 0 0) (cost h.old_len 0 0) (Ok cut) (up (omega (arith, made.count, count)) (omega arith) (omega arith)) (edit_costs old mid (Cut k h.old_at h.old_len) cut w cuts made)
+    costs_more old mid (cost cut 0 0) (cost h.old_len 0 0) (Ok cut) (up (omega (arith, made.count, count)) (omega arith) (omega arith))
+    (edit_costs old mid (Cut k h.old_at h.old_len) cut w cuts made)
 
 pub put_long : (at n : ℕ) (new chs : List ℕ) → at + n ≤ length new → chs ≡ take n (drop at new) → length chs ≡ n
 put_long at n new chs l e = ap length e ∙ length-take-le n (drop at new) (omega (arith, l, length-drop at new))
@@ -70,7 +74,8 @@ pub cut_lacks : (s : State) (k : ℕ) (h : Hunk) (why : EditFault) → IsSound s
 cut_lacks s k h why st exact = edit_lacks (Cut k h.old_at h.old_len) s (hunk_cost h) why st (omega arith) (omega arith) exact
 
 -- or its put
-pub put_lacks : (old mid : State) (k cut : ℕ) (h : Hunk) (chs : List ℕ) (why : EditFault) → IsSound mid → Costs old mid (cost h.old_len 0 0) (Ok cut) → length chs ≡ h.new_len → RefusesExactly mid (Put k h.old_at chs) (Err why)
+pub put_lacks : (old mid : State) (k cut : ℕ) (h : Hunk) (chs : List ℕ) (why : EditFault) → IsSound mid → Costs old mid (cost h.old_len 0 0) (Ok cut) → length chs ≡ h.new_len
+    → RefusesExactly mid (Put k h.old_at chs) (Err why)
     → LacksRoom old (hunk_cost h) (fault.Edit why)
 put_lacks old mid k cut h chs why st first long exact =
     costs_stop old mid (cost h.old_len 0 0) (cost h.new_len h.new_len 0) (hunk_cost h) cut (fault.Edit why) (up (omega arith) (omega arith) (omega arith)) first
@@ -113,7 +118,8 @@ module _ (old mid : State) (hs : List Hunk) (left n : ℕ) (some : 0 < left) (fi
       (costs_stop old mid (hunks_cost (drop left hs)) (hunk_cost h) (hunks_cost (h ∷ drop left hs)) n why (one_more h (drop left hs)) first lacks))
 
 -- hunks put no more letters than there are (a point is written as where a hunk begins)
-put_from : (old new : List ℕ) (least : ℕ) (p : Hunk) (hs : List Hunk) (q : Hunk) → TransformsFrom nat_eq old new least (hunk_start p) hs (hunk_start q) → put_size hs + p.new_at ≤ q.new_at
+put_from : (old new : List ℕ) (least : ℕ) (p : Hunk) (hs : List Hunk) (q : Hunk) → TransformsFrom nat_eq old new least (hunk_start p) hs (hunk_start q)
+    → put_size hs + p.new_at ≤ q.new_at
 put_from old new least p [] q t = omega (arith, t.order, t.as_many)
 put_from old new least p (h ∷ hs) q t =
     let rest = put_from old new 1 (record { old_at = h.old_at + h.old_len; old_len = 0; new_at = h.new_at + h.new_len; new_len = 0 }) hs q t.3 in
@@ -121,18 +127,26 @@ put_from old new least p (h ∷ hs) q t =
 
 put_within : (old new : List ℕ) (hs : List Hunk) → Transforms nat_eq old new hs → put_size hs ≤ length new
 put_within old new hs t =
-    omega (arith, put_from old new 0 (record { old_at = 0; old_len = 0; new_at = 0; new_len = 0 }) hs (record { old_at = length old; old_len = 0; new_at = length new; new_len = 0 }) t)
+    omega (
+      arith,
+      put_from old new 0 (record { old_at = 0; old_len = 0; new_at = 0; new_len = 0 }) hs
+          (record { old_at = length old; old_len = 0; new_at = length new; new_len = 0 }) t,
+    )
 
 -- a text that is the same
 pub same_costs : (s : State) (x : Identifier) (reads : List ℕ) → text s.held.history x ≡ reads → CostsText s s x reads (Ok 0)
 same_costs s x reads e =
     let t : List ℕ = text s.held.history x in
     let kept = (same_common s.held.history t (shown (within x) s.held.history)).0 in
-    subst (λ z. CostsText s s x z (Ok 0)) e
-    (kept.hunks, record { transforms = kept.transforms; words = kept.words; tight = kept.tight; unchanged = kept.unchanged; lines = kept.lines }, costs_none s (hunks_cost kept.hunks))
+    subst (λ z. CostsText s s x z (Ok 0)) e (
+      kept.hunks,
+      record { transforms = kept.transforms; words = kept.words; tight = kept.tight; unchanged = kept.unchanged; lines = kept.lines },
+      costs_none s (hunks_cost kept.hunks),
+    )
 
 -- hunks that were made, or not
-pub chosen_costs : (old new : State) (x : Identifier) (reads : List ℕ) (hs : List Hunk) (result : Result ℕ EditFault) → AreChosen (text old.held.history x) reads hs → Costs old new (hunks_cost hs) (by_edit result)
+pub chosen_costs : (old new : State) (x : Identifier) (reads : List ℕ) (hs : List Hunk) (result : Result ℕ EditFault) → AreChosen (text old.held.history x) reads hs
+    → Costs old new (hunks_cost hs) (by_edit result)
     → CostsText old new x reads result
 chosen_costs old new x reads hs (Ok n) a c = (hs, a, c)
 chosen_costs old new x reads hs (Err edit.NoMemory) a c = tt
@@ -141,8 +155,10 @@ chosen_costs old new x reads hs (Err edit.OutOfRange) a c = (hs, a, c)
 chosen_costs old new x reads hs (Err (edit.IdsSpent n)) a c = (hs, a, c)
 chosen_costs old new x reads hs (Err (edit.TooMany n)) a c = (hs, a, c)
 
-pub text_chosen : (old new : State) (k : ℕ) (x : Identifier) (bytes reads : List ℕ) (hs : List Hunk) (result : Result ℕ EditFault) → text old.held.history x ≡ chars bytes → Transforms nat_eq (chars bytes) reads hs
-    → All (KeepsWords (chars bytes) reads) hs → All (IsTight (chars bytes) reads) hs → (chars bytes ≡ reads → hs ≡ []) → KeepsLines (chars bytes) reads hs → Costs old new (hunks_cost hs) (by_edit result) → CostsText old new x reads result
+pub text_chosen : (old new : State) (k : ℕ) (x : Identifier) (bytes reads : List ℕ) (hs : List Hunk) (result : Result ℕ EditFault) → text old.held.history x ≡ chars bytes
+    → Transforms nat_eq (chars bytes) reads hs
+    → All (KeepsWords (chars bytes) reads) hs → All (IsTight (chars bytes) reads) hs → (chars bytes ≡ reads → hs ≡ []) → KeepsLines (chars bytes) reads hs
+    → Costs old new (hunks_cost hs) (by_edit result) → CostsText old new x reads result
 text_chosen old new k x bytes reads hs result is transforms words tight unchanged lines c =
     chosen_costs old new x reads hs result
     (subst (λ t. AreChosen t reads hs) (sym is) (record { transforms = transforms; words = words; tight = tight; unchanged = unchanged; lines = λ other. lines })) c
@@ -171,7 +187,8 @@ without_at f ys k x l e =
     )
 
 -- the sum over members of a list, each once, is no more than that over the list
-sum_within : (f : Identifier → ℕ) (xs ys : List Identifier) → AllPairs (λ s t. s ≢ t) xs → ((x : Identifier) → Contains xs x → Contains ys x ⊎ (f x ≡ 0)) → sum_by f xs ≤ sum_by f ys
+sum_within : (f : Identifier → ℕ) (xs ys : List Identifier) → AllPairs (λ s t. s ≢ t) xs → ((x : Identifier) → Contains xs x → Contains ys x ⊎ (f x ≡ 0))
+    → sum_by f xs ≤ sum_by f ys
 sum_within f [] ys once m = omega arith
 sum_within f (x ∷ xs) ys once m =
     let later : (y : Identifier) → Contains xs y → Contains ys y ⊎ (f y ≡ 0) = λ y q. m y (contains_there x xs y q) in
@@ -198,7 +215,8 @@ no_letters : (o : List Op) (s : Identifier) → Lawful o → holds o s ≡ false
 no_letters o s w new = omega (arith, text_length o s w, ap length (nothing_shown o s w new))
 
 -- where texts stay, and what came is new, the sections show no more letters than before
-pub letters_shaped : (old mid : State) (n : ℕ) → Lawful old.held.history → Lawful mid.held.history → IsReshaped old mid n → SameTexts old.held.history mid.held.history → letters_from mid.held.history ≤ letters_from old.held.history
+pub letters_shaped : (old mid : State) (n : ℕ) → Lawful old.held.history → Lawful mid.held.history → IsReshaped old mid n → SameTexts old.held.history mid.held.history
+    → arranged_letters mid.held.history ≤ arranged_letters old.held.history
 letters_shaped old mid n w v shaped same =
     let h : List Op = old.held.history in
     let g : List Op = mid.held.history in
@@ -209,7 +227,8 @@ letters_shaped old mid n w v shaped same =
     omega (arith, as_before, within_old)
 
 -- a manuscript whose sections were added, dropped and moved, and then filled
-module _ (old : State) (ps : List Part) (g : List Op) (e : ℕ) (count : e ≡ length (arranged old.held.history)) (fewer : letters_from g ≤ letters_from old.held.history) where
+module _ (old : State) (ps : List Part) (g : List Op) (e : ℕ) (count : e ≡ length (arranged old.held.history))
+    (fewer : arranged_letters g ≤ arranged_letters old.held.history) where
   abbrev shaping : Cost
   shaping = cost (e + 2 * length ps) (2 * length ps) (length ps)
 
@@ -227,7 +246,8 @@ module _ (old : State) (ps : List Part) (g : List Op) (e : ℕ) (count : e ≡ l
   revision_lacks mid n why first lacks =
       costs_stop old mid shaping filling (revision_cost old.held.history ps) n why revision_more first lacks
 
-pub shaping_lacks : (old : State) (ps : List Part) (e : ℕ) (why : ReviseFault) → e ≡ length (arranged old.held.history) → LacksRoom old (cost (e + 2 * length ps) (2 * length ps) (length ps)) why
+pub shaping_lacks : (old : State) (ps : List Part) (e : ℕ) (why : ReviseFault) → e ≡ length (arranged old.held.history)
+    → LacksRoom old (cost (e + 2 * length ps) (2 * length ps) (length ps)) why
     → LacksRoom old (revision_cost old.held.history ps) why
 shaping_lacks old ps e why count lacks =
     lacks_more old (cost (e + 2 * length ps) (2 * length ps) (length ps)) (revision_cost old.held.history ps) why

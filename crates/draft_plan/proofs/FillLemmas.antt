@@ -90,8 +90,10 @@ one_more {V} {section} {old} adds s e =
     ap (filter (λ (c : Claim V). id_eq c.section s)) adds.in_front ∙ filter_yes (λ (c : Claim V). id_eq c.section s) adds.claim old (eq-id_eq adds.claim.section s (adds.on ∙ e))
 
 -- a retitle was made
-pub headed_by : (old new : State) (k n : ℕ) (x : Identifier) (title bytes : List ℕ) → Lawful old.held.history → section_placed old k ≡ Some x → RefusesFor (retitle_refusal old k) (Ok n)
-    → IsRetitleMade old new k title n → ShowsAsBefore old new → encode_utf8_all title ≡ bytes → (encode_utf8_all (heading old.held.history x) ≡ bytes → ⊥) → IsHeadedBy old new x bytes n
+pub headed_by : (old new : State) (k n : ℕ) (x : Identifier) (title bytes : List ℕ) → Lawful old.held.history → section_placed old k ≡ Some x
+    → RefusesFor (retitle_refusal old k) (Ok n)
+    → IsRetitleMade old new k title n → ShowsAsBefore old new → encode_utf8_all title ≡ bytes → (encode_utf8_all (heading old.held.history x) ≡ bytes → ⊥)
+    → IsHeadedBy old new x bytes n
 headed_by old new k n x title bytes w placed refuses made shows text_is other =
     let h : List Op = old.held.history in
     let e : Op = retitle_by old made.section title in
@@ -126,7 +128,8 @@ headed_by old new k n x title bytes w placed refuses made shows text_is other =
       nothing = λ q. absurd (other q);
     }
 
-pub headed_stops : (old new : State) (k : ℕ) (x : Identifier) (title : List ℕ) (why : MoveFault) → section_placed old k ≡ Some x → new ≡ old → TellsAbsence (section_cause old k) (Err why)
+pub headed_stops : (old new : State) (k : ℕ) (x : Identifier) (title : List ℕ) (why : MoveFault) → section_placed old k ≡ Some x → new ≡ old
+    → TellsAbsence (section_cause old k) (Err why)
     → RefusesFor (retitle_refusal old k) (Err why) → StopsAtLimit old new (fault.Move why)
 headed_stops old new k x title why placed unmade tells refuses = record {
   limit = note_limit (section_cause old k) why (section_there old k (got (arranged old.held.history) k x placed).0) tells;
@@ -146,7 +149,8 @@ at_section : (P : Identifier → Type 0) (s : State) (k : ℕ) (x : Identifier) 
 at_section P s k x e o = subst P (same_value (section_shown s k) o.0 x o.1 e) o.2
 
 -- it got the title, and then the text
-module _ (old mid new : State) (k n m : ℕ) (x : Identifier) (title bytes : List ℕ) (there : section_shown old k ≡ Some x) (hd : IsHeadedBy old mid x title n) (tx : IsTextRevised mid new k x bytes m) where
+module _ (old mid new : State) (k n m : ℕ) (x : Identifier) (title bytes : List ℕ) (there : section_shown old k ≡ Some x) (hd : IsHeadedBy old mid x title n)
+    (tx : IsTextRevised mid new k x bytes m) where
   abbrev part : Part
   part = record { title = title; text = bytes }
 
@@ -166,7 +170,13 @@ module _ (old mid new : State) (k n m : ℕ) (x : Identifier) (title bytes : Lis
     moved = r.keeps.moved ∙ hd.only.moved;
     others = λ t d.
         same_join old.held.history mid.held.history new.held.history t (hd.only.others t d)
-        (record { headed = r.keeps.headings t; reads = r.elsewhere t d; elements = r.others t d; ordered = r.ordered t d; retitled = ap (filter (λ (c : RetitleClaim). id_eq c.section t)) r.keeps.retitled });
+        (record {
+          headed = r.keeps.headings t;
+          reads = r.elsewhere t d;
+          elements = r.others t d;
+          ordered = r.ordered t d;
+          retitled = ap (filter (λ (c : RetitleClaim). id_eq c.section t)) r.keeps.retitled;
+        });
   }
 
   kept : KeepsElements old new x
@@ -199,7 +209,8 @@ module _ (old mid new : State) (k n m : ℕ) (x : Identifier) (title bytes : Lis
       let xs : List Identifier = shown (within x) old.held.history in
       let one : MakesOnly (InText x (shown (within x) mid.held.history)) mid new =
       at_section (λ y. MakesOnly (InText y (shown (within y) mid.held.history)) mid new) mid k x shown_there tx.touches in
-      only_join (InText x xs) old mid new (only_weaker InHeading (InText x xs) old mid (touches_weaker (λ s. ⊥) (λ y. ⊥) ⊥ (λ s. s ≡ x) (Contains xs) ⊥ (λ s b. absurd b) (λ y b. absurd b) (λ b. b)) hd.touches)
+      only_join (InText x xs) old mid new
+      (only_weaker InHeading (InText x xs) old mid (touches_weaker (λ s. ⊥) (λ y. ⊥) ⊥ (λ s. s ≡ x) (Contains xs) ⊥ (λ s b. absurd b) (λ y b. absurd b) (λ b. b)) hd.touches)
       (subst (λ ys. MakesOnly (InText x ys) mid new) hd.elements one)
 
   retitled : HasOneMore (retitles_of old.held.history x) (retitles_of new.held.history x)
@@ -226,7 +237,8 @@ module _ (old mid new : State) (k n m : ℕ) (x : Identifier) (title bytes : Lis
 
 -- a revised text that stopped, of a section that is there
 pub text_stops : (old mid new : State) (k n : ℕ) (x : Identifier) (title : List ℕ) (why : EditFault) → section_shown old k ≡ Some x → IsHeadedBy old mid x title n
-    → (failed why ≡ failed edit.NoSection) ↔ (section_shown mid k ≡ None) → (failed why ≡ failed edit.OutOfRange → ⊥) → StopsRevising mid new k why → StopsAtLimit old new (fault.Edit why)
+    → (failed why ≡ failed edit.NoSection) ↔ (section_shown mid k ≡ None) → (failed why ≡ failed edit.OutOfRange → ⊥) → StopsRevising mid new k why
+    → StopsAtLimit old new (fault.Edit why)
 text_stops old mid new k n x title why there hd absent in_range s =
     let shown_there : section_shown mid k ≡ Some x = ap (λ xs. slice_get xs k) hd.only.catalogue_is ∙ there in
     stops_behind old mid new n (fault.Edit why) hd.makes (by why (λ e. not_both (section_shown mid k) x (absent.0 (ap failed e)) shown_there) (λ e. in_range (ap failed e)) s)

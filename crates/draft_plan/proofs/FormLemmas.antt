@@ -1,10 +1,12 @@
 -- The form of parts, and how a list of parts reads back from it.
-use Rattle.std.proofs.Common.{Bool, List, [], ap, append_assoc, arith, cond, false, get_or, inl, inr, length, nat_eq, not, refl, rules, subst, sym, true, ℕ, ◌+◌, ◌++◌, ◌<◌, ◌∙◌, ◌∷◌, ◌≡◌, ◌&&◌}
+use Rattle.std.proofs.Common.{List, [], ap, append_assoc, arith, cond, false, get_or, inl, inr, length, nat_eq, not, refl, rules, subst, sym, true, ℕ, ◌+◌, ◌++◌, ◌<◌, ◌∙◌, ◌∷◌}
+use Rattle.std.proofs.Common.{◌≡◌, ◌&&◌}
 use Rattle.std.specs.Prelude.{All, None, Option, Some, Result, Ok, Err, codes, encode_utf8_all}
 use Rattle.std.specs.List.{join_with_byte, list_any, onto_first}
 use Rattle.std.specs.Str.{IsUtf8, chars, is_utf8}
 use lib.Utf8.{encode, scalar, scalars}
-use Rattle.std.proofs.lemmas.Bool.{and_from, and_left, and_parts, and_right, both_ways, cases_Bool, cases_eq, false_from_ne_true, eqb-true, ne_eqb, not_from_true, or_from, or_parts}
+use Rattle.std.proofs.lemmas.Bool.{and_from, and_left, and_parts, and_right, both_ways, cases_Bool, cases_eq, false_from_ne_true, eqb-true, ne_eqb, not_from_true, or_from}
+use Rattle.std.proofs.lemmas.Bool.{or_parts}
 use Rattle.std.proofs.lemmas.List.{append-nil}
 use Rattle.std.proofs.lemmas.List.Concat.{flat_map-cons}
 use Rattle.std.proofs.lemmas.List.Elements.{All-append, All-cons, All-from_get_or, All-head, All-nil, All-tail}
@@ -12,7 +14,7 @@ use Rattle.std.proofs.lemmas.List.Splits.{join_with_byte-slice_split, length-sli
 use Rattle.std.proofs.lemmas.Str.{IsUtf8-append, IsUtf8-encode, IsUtf8-from_is_utf8, IsUtf8-nil, encode_ascii, inside_one, is_utf8-from_IsUtf8}
 use Rattle.fugue_ids.specs.Titles.{ends_line, has_line_end}
 use Rattle.catalogue_notes.specs.Claims.{is_title}
-use Rattle.draft_plan.specs.Drafts.{Part, before_heading, first_bad, form, is_bad, is_bad_at, is_heading, draft_lines, part_form, part_under, parts_of, pieces, heading_of}
+use Rattle.draft_plan.specs.Drafts.{Part, before_heading, first_bad, form, is_bad, is_bad_at, is_heading, draft_lines, part_form, part_under, parts_of, pieces, heading_title}
 use Rattle.draft_plan.specs.Laws.{FormOfParts, IsPart, PartsOfForm, ended_lines, ends_part, with_empty_lines}
 use Rattle.draft_plan.proofs.LineLemmas.{IsLine, closed_ended, line_split, pieces_closed, pieces_split, split_lines}
 use Rattle.draft_plan.proofs.PartLemmas.{AreGood, ArePlain, before_all, heading_first, parts_plain, title_utf8}
@@ -90,8 +92,8 @@ good_lines : (ls : List (List ℕ)) → All IsUtf8 ls → ArePlain ls → AreGoo
 good_lines [] u h = All-nil (λ l. is_bad l ≡ false)
 good_lines (l ∷ ls) u h =
     let utf8 = not_from_true (is_utf8 l) (is_utf8-from_IsUtf8 l (All-head IsUtf8 l ls u)) in
-    let plain = and_left (is_heading l) (not (is_title (heading_of l))) (All-head (λ l. is_heading l ≡ false) l ls h) in
-    All-cons (λ l. is_bad l ≡ false) l ls (or_from (not (is_utf8 l)) (is_heading l && not (is_title (heading_of l))) utf8 plain)
+    let plain = and_left (is_heading l) (not (is_title (heading_title l))) (All-head (λ l. is_heading l ≡ false) l ls h) in
+    All-cons (λ l. is_bad l ≡ false) l ls (or_from (not (is_utf8 l)) (is_heading l && not (is_title (heading_title l))) utf8 plain)
     (good_lines ls (All-tail IsUtf8 l ls u) (All-tail (λ l. is_heading l ≡ false) l ls h))
 
 sign_utf8 : is_utf8 (codes "# ") ≡ true
@@ -161,7 +163,7 @@ join_block : (b : List ℕ) (bs : List (List ℕ)) → join_with_byte 10 (b ∷ 
 join_block b [] = sym (append-nil (b ++ 10 ∷ []))
 join_block b (c ∷ bs) = append_assoc b (10 ∷ join_with_byte 10 (c ∷ bs)) (10 ∷ []) ∙ ap (λ l. b ++ 10 ∷ l) (join_block c bs) ∙ sym (append_assoc b (10 ∷ []) (ended_lines (c ∷ bs)))
 
-heading_is : (line : List ℕ) → is_heading line ≡ true → line ≡ codes "# " ++ heading_of line
+heading_is : (line : List ℕ) → is_heading line ≡ true → line ≡ codes "# " ++ heading_title line
 heading_is [] e = absurd (both_ways false refl e)
 heading_is (a ∷ []) e = absurd (both_ways (nat_eq 35 a && false) (and_right (nat_eq 35 a) false refl) e)
 heading_is (a ∷ b ∷ line) e =
@@ -171,9 +173,9 @@ heading_is (a ∷ b ∷ line) e =
     (λ j. first j ∷ second j ∷ line)
 
 part_line : (l : List ℕ) (b : List (List ℕ)) (rest : List ℕ) → is_heading l ≡ true
-    → part_form (record { title = heading_of l; text = join_with_byte 10 b }) ++ rest ≡ (l ++ 10 ∷ []) ++ ((join_with_byte 10 b ++ 10 ∷ []) ++ rest)
+    → part_form (record { title = heading_title l; text = join_with_byte 10 b }) ++ rest ≡ (l ++ 10 ∷ []) ++ ((join_with_byte 10 b ++ 10 ∷ []) ++ rest)
 part_line l b rest e =
-    part_whole (record { title = heading_of l; text = join_with_byte 10 b }) rest
+    part_whole (record { title = heading_title l; text = join_with_byte 10 b }) rest
     ∙ ap (λ (h : List ℕ). h ++ 10 ∷ (join_with_byte 10 b ++ 10 ∷ rest)) (sym (heading_is l e))
     ∙ ap (λ (t : List ℕ). l ++ 10 ∷ t) (sym (append_assoc (join_with_byte 10 b) (10 ∷ []) rest))
     ∙ sym (append_assoc l (10 ∷ []) ((join_with_byte 10 b ++ 10 ∷ []) ++ rest))
@@ -190,14 +192,15 @@ reform_heading l (k ∷ ls) e more =
           ap (λ t. ended_lines (cond t (l ∷ [] ∷ with_empty_lines (k ∷ ls)) (l ∷ with_empty_lines (k ∷ ls)))) (and_from (is_heading l) (is_heading k) e t)
           ∙ ap (λ m. (l ++ 10 ∷ []) ++ ((10 ∷ []) ++ m)) one
           ∙ sym (part_line l [] (form (parts_of (k ∷ ls))) e)
-          ∙ ap (λ b. part_form (record { title = heading_of l; text = join_with_byte 10 b }) ++ form (parts_of (k ∷ ls))) (sym none)
+          ∙ ap (λ b. part_form (record { title = heading_title l; text = join_with_byte 10 b }) ++ form (parts_of (k ∷ ls))) (sym none)
           ∙ ap form (sym (ap (λ t. cond t (part_under l (k ∷ ls) ∷ parts_of (k ∷ ls)) (parts_of (k ∷ ls))) e))
       | inr n ↦
           let some : before_heading (k ∷ ls) ≡ k ∷ before_heading ls = ap (λ t. cond t [] (k ∷ before_heading ls)) n in
           ap (λ t. ended_lines (cond t (l ∷ [] ∷ with_empty_lines (k ∷ ls)) (l ∷ with_empty_lines (k ∷ ls)))) (and_right (is_heading l) (is_heading k) n)
-          ∙ ap (λ m. (l ++ 10 ∷ []) ++ m) (more ∙ ap (λ b. ended_lines b ++ form (parts_of (k ∷ ls))) some ∙ ap (λ b. b ++ form (parts_of (k ∷ ls))) (sym (join_block k (before_heading ls))))
+          ∙ ap (λ m. (l ++ 10 ∷ []) ++ m) (more ∙ ap (λ b. ended_lines b ++ form (parts_of (k ∷ ls))) some
+          ∙ ap (λ b. b ++ form (parts_of (k ∷ ls))) (sym (join_block k (before_heading ls))))
           ∙ sym (part_line l (k ∷ before_heading ls) (form (parts_of (k ∷ ls))) e)
-          ∙ ap (λ b. part_form (record { title = heading_of l; text = join_with_byte 10 b }) ++ form (parts_of (k ∷ ls))) (sym some)
+          ∙ ap (λ b. part_form (record { title = heading_title l; text = join_with_byte 10 b }) ++ form (parts_of (k ∷ ls))) (sym some)
           ∙ ap form (sym (ap (λ t. cond t (part_under l (k ∷ ls) ∷ parts_of (k ∷ ls)) (parts_of (k ∷ ls))) e))
     ]
 

@@ -54,7 +54,8 @@ keyed : (p : ReadPart) (text : List ℕ) → p.text.now ≡ text → text ≢ []
 keyed p [] e some = absurd (some refl)
 keyed p (b ∷ bs) e some = ap (λ t. not (is_nothing t)) e
 
-module _ (o n : List Op) (parts : List ReadPart) (p : Pairs) (is : IsMatched o parts p) (stand : AreSectionsOf o p (length parts) (arranged n)) (now : map seen_part parts ≡ arranged_parts n) (w : Lawful o) where
+module _ (o n : List Op) (parts : List ReadPart) (p : Pairs) (is : IsMatched o parts p) (stand : AreSectionsOf o p (length parts) (arranged n))
+    (now : map seen_part parts ≡ arranged_parts n) (w : Lawful o) where
   -- a section that has a part stands at its place
   paired : (i j : ℕ) (s : Identifier) → section_of p j ≡ Some i → slice_get (arranged o) i ≡ Some s → slice_get (arranged n) j ≡ Some s
   paired i j s e f = stand.kept j i s e f
@@ -68,7 +69,8 @@ module _ (o n : List Op) (parts : List ReadPart) (p : Pairs) (is : IsMatched o p
       let same : s.0 ≡ t = same_Some s.0 t (sym (stand.kept j i s.0 e s.1) ∙ f) in
       s.1 ∙ ap Some same
 
-  texts : (s t : Identifier) → Contains (arranged o) s → Contains (arranged n) t → (arranged_part o s).text ≡ (arranged_part n t).text → (arranged_part n t).text ≢ [] → KeepsText o n s ⊎ KeepsText o n t
+  texts : (s t : Identifier) → Contains (arranged o) s → Contains (arranged n) t → (arranged_part o s).text ≡ (arranged_part n t).text → (arranged_part n t).text ≢ []
+      → KeepsText o n s ⊎ KeepsText o n t
   texts s t a b e some =
       let i = stands_at (arranged o) s a in
       let j = stands_at (arranged n) t b in

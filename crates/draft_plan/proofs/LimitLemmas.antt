@@ -1,8 +1,9 @@
 -- What edits, moves and retitles take of the room that a replica has, and why they are refused.
-use Rattle.std.proofs.Common.{Bool, List, [], ap, arith, cond, false, inl, inr, length, nat_eq, nat_lt, refl, subst, suc, sym, true, ℕ, ◌+◌, ◌++◌, ◌-◌, ◌<◌, ◌≤◌, ◌^◌, ◌&&◌, ◌∙◌, ◌∷◌, ◌≡◌, ◌≢◌}
-use Rattle.std.specs.Prelude.{All, Err, None, Ok, Option, Result, Some, filter, flat_map, is_some, map, option_map, option_to_list}
+use Rattle.std.proofs.Common.{Bool, List, [], ap, arith, cond, false, length, nat_eq, nat_lt, refl, subst, suc, sym, true, ℕ, ◌+◌, ◌++◌, ◌-◌, ◌<◌, ◌≤◌, ◌^◌, ◌&&◌, ◌∙◌, ◌∷◌, ◌≡◌}
+use Rattle.std.proofs.Common.{◌≢◌}
+use Rattle.std.specs.Prelude.{All, Err, None, Ok, Option, Result, Some, flat_map, is_some, map, option_map, option_to_list}
 use Rattle.std.specs.Option.{option_or}
-use Rattle.std.proofs.lemmas.Bool.{cases_lt, eqb-true, true≢false}
+use Rattle.std.proofs.lemmas.Bool.{eqb-true}
 use Rattle.std.proofs.lemmas.Grind.{flat_map-append}
 use Rattle.std.proofs.lemmas.List.Elements.{All-append, All-cons, All-head, All-map, All-nil, All-tail, All-weaker}
 use Rattle.std.proofs.lemmas.Option.{none-some, same_Some}
@@ -18,10 +19,9 @@ use Rattle.origin_model.specs.edits.Effect.{Gains}
 use Rattle.origin_model.specs.edits.Refusal.{held_count, in_range, in_section, next_of_own, refused_elements, refused_ops}
 use Rattle.origin_model.specs.edits.State.{State}
 use Rattle.origin_model.specs.operations.Counters.{counters, mentioned_ids}
-use Rattle.origin_model.specs.operations.History.{holds}
 use Rattle.origin_model.specs.operations.Verdict.{names}
 use Rattle.origin_model.proofs.SharedLemmas.{Fits}
-use Rattle.origin_model.proofs.edits.FreshIdLemmas.{above_below, BelowAll, counters_below, held_below, history_below, IsBelow, none_from, waiting_below}
+use Rattle.origin_model.proofs.edits.FreshIdLemmas.{above_below, BelowAll, counters_below, held_below, history_below, IsBelow, waiting_below}
 use Rattle.origin_model.proofs.edits.MadeLemmas.{extended_length}
 use Rattle.catalogue_notes.specs.Lift.{stamp}
 use Rattle.catalogue_notes.specs.Moving.{as_move_fault, note_cause}
@@ -45,7 +45,8 @@ joined_below (op ∷ ops) h r c a ready own =
     All-map P (λ (named : Identifier × Role). named.0) (names op)
     (All-weaker (Fits h) (λ (named : Identifier × Role). P named.0) (λ named k. held_below r c h named.0 a (ap is_some k.1)) (names op) (joins h op ready.0).fit) in
     joined_below ops (op ∷ h) r c
-    (All-append P (mentioned_ids op) (flat_map mentioned_ids h) (All-append P (option_to_list (id_of op)) (map (λ named. named.0) (names op)) (All-head (MakesBelow r c) op ops own) named) a)
+    (All-append P (mentioned_ids op) (flat_map mentioned_ids h)
+    (All-append P (option_to_list (id_of op)) (map (λ named. named.0) (names op)) (All-head (MakesBelow r c) op ops own) named) a)
     ready.1 (All-tail (MakesBelow r c) op ops own)
 
 -- the next counter behind operations that join, of which each makes a counter below that
@@ -178,7 +179,8 @@ too_many s n few t = let l : s.most < held_count s + n = grind arith in omega (a
 spent : (s : State) (n : ℕ) → (nat_lt 0 n && nat_lt (2 ^ 32) (next_of_own s + n)) ≡ true → counters_left s < n
 spent s n t = let l : (0 < n) × (2 ^ 32 < next_of_own s + n) = grind arith in omega (arith, l.0, l.1)
 
-lacks_ops_by : (s : State) (n : ℕ) (c : Cost) (why : EditFault) (b : Bool) → (b ≡ true → operations_left s < n) → n ≤ c.operations → cond b (Some (edit.TooMany (held_count s))) None ≡ Some why
+lacks_ops_by : (s : State) (n : ℕ) (c : Cost) (why : EditFault) (b : Bool) → (b ≡ true → operations_left s < n) → n ≤ c.operations
+    → cond b (Some (edit.TooMany (held_count s))) None ≡ Some why
     → LacksRoom s c (fault.Edit why)
 lacks_ops_by s n c why true lacks l e =
     subst (λ w. LacksRoom s c (fault.Edit w)) (same_Some (edit.TooMany (held_count s)) why e) (omega (arith, lacks refl, l))
@@ -187,7 +189,8 @@ lacks_ops_by s n c why false lacks l e = absurd (none-some why e)
 pub lacks_ops : (s : State) (n : ℕ) (c : Cost) (why : EditFault) → held_count s ≤ s.most → n ≤ c.operations → refused_ops s n ≡ Some why → LacksRoom s c (fault.Edit why)
 lacks_ops s n c why few l e = lacks_ops_by s n c why (nat_lt s.most (held_count s + n)) (too_many s n few) l e
 
-pub lacks_elements : (s : State) (n : ℕ) (c : Cost) (why : EditFault) → held_count s ≤ s.most → n ≤ c.operations → n ≤ c.counters → refused_elements s n ≡ Some why → LacksRoom s c (fault.Edit why)
+pub lacks_elements : (s : State) (n : ℕ) (c : Cost) (why : EditFault) → held_count s ≤ s.most → n ≤ c.operations → n ≤ c.counters → refused_elements s n ≡ Some why
+    → LacksRoom s c (fault.Edit why)
 lacks_elements s n c why few l m e = by (nat_lt 0 n && nat_lt (2 ^ 32) (next_of_own s + n)) (spent s n) e
   where
     by : (b : Bool) → (b ≡ true → counters_left s < n) → cond b (Some (edit.IdsSpent (next_of_own s - 1))) (refused_ops s n) ≡ Some why → LacksRoom s c (fault.Edit why)
@@ -203,10 +206,12 @@ no_stamp s t = let e : stamp s.held.history ≡ 2 ^ 32 - 1 = eqb-true (stamp s.h
 
 pub lacks_note : (s : State) (why : MoveFault) → note_cause s ≡ Some why → held_count s ≤ s.most → LacksRoom s note_cost (fault.Move why)
 lacks_note s why e few =
-    by (nat_eq (stamp s.held.history) (2 ^ 32 - 1)) (nat_lt 0 1 && nat_lt (2 ^ 32) (next_of_own s + 1)) (nat_lt s.most (held_count s + 1)) (no_stamp s) (spent s 1) (too_many s 1 few) e
+    by (nat_eq (stamp s.held.history) (2 ^ 32 - 1)) (nat_lt 0 1 && nat_lt (2 ^ 32) (next_of_own s + 1)) (nat_lt s.most (held_count s + 1)) (no_stamp s) (spent s 1)
+    (too_many s 1 few) e
   where
     by : (a b c : Bool) → (a ≡ true → stamps_left s < 1) → (b ≡ true → counters_left s < 1) → (c ≡ true → operations_left s < 1)
-        → option_or (cond a (Some moving.StampsSpent) None) (option_map as_move_fault (cond b (Some (edit.IdsSpent (next_of_own s - 1))) (cond c (Some (edit.TooMany (held_count s))) None))) ≡ Some why
+        → option_or (cond a (Some moving.StampsSpent) None)
+        (option_map as_move_fault (cond b (Some (edit.IdsSpent (next_of_own s - 1))) (cond c (Some (edit.TooMany (held_count s))) None))) ≡ Some why
         → LacksRoom s note_cost (fault.Move why)
     by true b c f g h e = subst (λ w. LacksRoom s note_cost (fault.Move w)) (same_Some moving.StampsSpent why e) (f refl)
     by false true c f g h e = subst (λ w. LacksRoom s note_cost (fault.Move w)) (same_Some (moving.IdsSpent (next_of_own s - 1)) why e) (g refl)

@@ -1,5 +1,6 @@
 -- The lines of a text.
-use Rattle.std.proofs.Common.{List, [], ap, arith, cond, false, get_or, inl, inr, length, length-drop, nat_eq, not, refl, sym, take, drop, true, ℕ, ◌+◌, ◌++◌, ◌-◌, ◌<◌, ◌∙◌, ◌∷◌, ◌≡◌, ◌⊎◌}
+use Rattle.std.proofs.Common.{List, [], ap, arith, cond, false, get_or, inl, inr, length, length-drop, nat_eq, not, refl, sym, take, drop, true, ℕ, ◌+◌, ◌++◌, ◌-◌, ◌<◌, ◌∙◌, ◌∷◌}
+use Rattle.std.proofs.Common.{◌≡◌, ◌⊎◌}
 use Rattle.std.specs.Prelude.{All, None, Option, Some, position, ◌==◌}
 use Rattle.std.specs.List.{join_with_byte, onto_first, position_or_len, slice_split}
 use Rattle.std.proofs.lemmas.Bool.{cases_Bool, cases_lt, eqb-true, lt-ltb, not-true}

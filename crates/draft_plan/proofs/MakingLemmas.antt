@@ -6,7 +6,7 @@ use Rattle.fugue_ids.specs.declared.limits.TheConstants.{MOST_OPERATIONS}
 use Rattle.fugue_ids.specs.declared.op.Op.{Op}
 use Rattle.origin_model.specs.edits.State.{IsSound, State}
 use Rattle.origin_model.specs.operations.History.{accepted}
-use Rattle.draft_plan.specs.Changes.{PlanChange, ArePlanned, all_made, made_of}
+use Rattle.draft_plan.specs.Changes.{PlanChange, MakesChanges, all_made, made_of}
 use Rattle.draft_plan.specs.Revision.{Makes, StopsAtLimit}
 use Rattle.draft_plan.specs.declared.fault.ReviseFault.{ReviseFault}
 use Rattle.draft_plan.proofs.ChangeLemmas.{changed_join, changed_none, count_join, count_one, stops_after}
@@ -15,7 +15,7 @@ use Rattle.draft_plan.proofs.ChangeLemmas.{changed_join, changed_none, count_joi
 pub makes_none : (s : State) → Makes s s 0
 makes_none s = record { changes = []; changed = changed_none s; count = refl }
 
-pub makes_one : (old new : State) (c : PlanChange) (n : ℕ) → ArePlanned old new (c ∷ []) → n ≡ length (made_of old c) → Makes old new n
+pub makes_one : (old new : State) (c : PlanChange) (n : ℕ) → MakesChanges old new (c ∷ []) → n ≡ length (made_of old c) → Makes old new n
 makes_one old new c n changed count = record { changes = c ∷ []; changed = changed; count = count ∙ sym (count_one old c) }
 
 pub makes_join : (old mid new : State) (n m : ℕ) → Makes old mid n → Makes mid new m → Makes old new (n + m)

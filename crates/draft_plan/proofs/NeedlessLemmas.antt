@@ -35,7 +35,8 @@ stays_held [] h x f w e = e
 stays_held (op ∷ ops) h x f w e = stays_held ops (op ∷ h) x f w (holder-kept op f h x (joins h op (lawful_front ops (op ∷ h) w).0) e)
 
 -- an operation that was made was new, and is held
-made_held : (ops h : List Op) (op : Op) (x : Identifier) → Lawful (history_with h ops) → Contains ops op → id_of op ≡ Some x → (holder h x ≡ None) × (holder (history_with h ops) x ≡ Some op)
+made_held : (ops h : List Op) (op : Op) (x : Identifier) → Lawful (history_with h ops) → Contains ops op → id_of op ≡ Some x
+    → (holder h x ≡ None) × (holder (history_with h ops) x ≡ Some op)
 made_held [] h op x w m e = absurd (contains_none op m)
 made_held (next ∷ ops) h op x w m e =
     let j = joins h next (lawful_front ops (next ∷ h) w).0 in
@@ -116,7 +117,8 @@ module _ (old new : State) (w : Lawful old.held.history) (v : Lawful new.held.hi
   }
 
 -- sections were added, dropped and moved first
-pub touches_shaped : (old mid new : State) (n : ℕ) → Lawful old.held.history → IsReshaped old mid n → arranged new.held.history ≡ arranged mid.held.history → MakesOnly (InTexts mid.held.history) mid new
+pub touches_shaped : (old mid new : State) (n : ℕ) → Lawful old.held.history → IsReshaped old mid n → arranged new.held.history ≡ arranged mid.held.history
+    → MakesOnly (InTexts mid.held.history) mid new
     → MakesOnly (InRevision old.held.history new.held.history) old new
 touches_shaped old mid new n w first same only =
     let h : List Op = old.held.history in
@@ -124,9 +126,11 @@ touches_shaped old mid new n w first same only =
     let g : List Op = new.held.history in
     only_join (InRevision h g) old mid new
     (only_weaker (InSections h) (InRevision h g) old mid
-    (touches_weaker (λ s. ⊥) (Contains (shown catalogue h)) (Unit {0}) (Contains (arranged g)) (MayBeDeleted h g) (Unit {0}) (λ s b. absurd b) (λ x k. inl (shown_arranged h x w k)) (λ u. u)) first.touches)
+    (touches_weaker (λ s. ⊥) (Contains (shown catalogue h)) (Unit {0}) (Contains (arranged g)) (MayBeDeleted h g) (Unit {0}) (λ s b. absurd b)
+    (λ x k. inl (shown_arranged h x w k)) (λ u. u)) first.touches)
     (only_weaker (InTexts m) (InRevision h g) mid new
-    (touches_weaker (Contains (arranged m)) (IsElement m) ⊥ (Contains (arranged g)) (MayBeDeleted h g) (Unit {0}) (λ s k. subst (λ l. Contains l s) (sym same) k) earlier (λ b. tt)) only)
+    (touches_weaker (Contains (arranged m)) (IsElement m) ⊥ (Contains (arranged g)) (MayBeDeleted h g) (Unit {0}) (λ s k. subst (λ l. Contains l s) (sym same) k) earlier
+    (λ b. tt)) only)
   where
     -- an element that is shown of a section that is arranged now was so at the start, and the section stays
     earlier : (x : Identifier) → IsElement mid.held.history x → MayBeDeleted old.held.history new.held.history x

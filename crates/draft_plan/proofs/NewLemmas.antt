@@ -1,6 +1,6 @@
 -- Elements that a history does not hold yet.
-use Rattle.std.proofs.Common.{List, [], arith, false, inl, inr, subst, suc, sym, true, ℕ, ◌∙◌, ◌∷◌, ◌≡◌}
-use Rattle.std.proofs.lemmas.Bool.{cases_Bool, false_from_ne_true, true≢false}
+use Rattle.std.proofs.Common.{List, [], arith, false, subst, suc, sym, true, ℕ, ◌∙◌, ◌∷◌, ◌≡◌}
+use Rattle.std.proofs.lemmas.Bool.{false_from_ne_true, true≢false}
 use Rattle.std.proofs.lemmas.List.Elements.{All-cons, All-nil, All-weaker}
 use Rattle.fugue_ids.specs.Identifiers.{Identifier}
 use Rattle.fugue_ids.specs.declared.op.Op.{Op}
@@ -8,8 +8,8 @@ use Rattle.origin_model.specs.edits.Edits.{history_with, id_at, typed_ids}
 use Rattle.origin_model.specs.edits.Effect.{Gains}
 use Rattle.origin_model.specs.edits.Refusal.{next_of_own, put_ids}
 use Rattle.origin_model.specs.edits.State.{State}
-use Rattle.origin_model.specs.operations.History.{holds, is_own}
-use Rattle.origin_model.proofs.SharedLemmas.{holds-older, holds-other, holds-own}
+use Rattle.origin_model.specs.operations.History.{holds}
+use Rattle.origin_model.proofs.SharedLemmas.{holds-older}
 use Rattle.origin_model.proofs.edits.FreshIdLemmas.{NoneFrom, history_below, none_from}
 use Rattle.draft_plan.specs.Texts.{AreUnknown}
 

@@ -6,16 +6,15 @@ use Rattle.fugue_ids.specs.declared.op.Op.{Op}
 use Rattle.fugue_ids.specs.declared.op.Op.TheVariants.{Text}
 use Rattle.fugue_ids.proofs.IdentifierLemmas.{ne-id_eq}
 use Rattle.origin_model.specs.declared.operations.Place.TheVariants.{Catalogue as catalogue, Section as within}
-use Rattle.origin_model.specs.declared.operations.Place.{Place}
 use Rattle.origin_model.specs.edits.Edits.{Put, history_with, id_at, left_for, made, next_counter, right_for, typed_texts}
-use Rattle.origin_model.specs.operations.History.{element_of}
 use Rattle.origin_model.specs.order.Order.{order}
 use Rattle.origin_model.specs.order.Printed.{shown}
 use Rattle.origin_model.proofs.edits.MadeLemmas.{put_made}
 use Rattle.origin_model.proofs.SharedLemmas.{order-none}
 
 -- texts that are typed leave the orders of other sections
-typed_orders : (chs : List ℕ) (r c : ℕ) (s t : Identifier) (left right : Option Identifier) (h : List Op) → t ≢ s → order (within t) (history_with h (typed_texts r c s left right chs)) ≡ order (within t) h
+typed_orders : (chs : List ℕ) (r c : ℕ) (s t : Identifier) (left right : Option Identifier) (h : List Op) → t ≢ s
+    → order (within t) (history_with h (typed_texts r c s left right chs)) ≡ order (within t) h
 typed_orders [] r c s t left right h d = refl
 typed_orders (ch ∷ chs) r c s t left right h d =
     let first : Op = Text (id_at r c) s left right ch in

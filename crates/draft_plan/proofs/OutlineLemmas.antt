@@ -40,7 +40,8 @@ entry_at h es k e o l q = record {
 }
 
 -- the headings of the entries are those of the sections
-headings_are : (h : List Op) (es : List Entry) → All (IsEntry h) es → map (λ (e : Entry). string_bytes e.heading) es ≡ map (λ (p : Part). p.title) (map (arranged_part h) (map (λ (e : Entry). e.section) es))
+headings_are : (h : List Op) (es : List Entry) → All (IsEntry h) es
+    → map (λ (e : Entry). string_bytes e.heading) es ≡ map (λ (p : Part). p.title) (map (arranged_part h) (map (λ (e : Entry). e.section) es))
 headings_are h [] a = refl
 headings_are h (e ∷ es) a = λ i. (All-head (IsEntry h) e es a).headed i ∷ headings_are h es (All-tail (IsEntry h) e es a) i
 

@@ -1,5 +1,6 @@
 -- The parts that lines make.
-use Rattle.std.proofs.Common.{List, [], ap, append_assoc, arith, cond, false, inl, inr, length-append, nat_eq, not, refl, rules, subst, sym, take, true, ℕ, ◌+◌, ◌++◌, ◌-◌, ◌<◌, ◌≤◌, ◌∙◌, ◌∷◌, ◌≡◌, ◌⊎◌, ◌&&◌}
+use Rattle.std.proofs.Common.{List, [], ap, append_assoc, arith, cond, false, inl, inr, length-append, nat_eq, not, refl, rules, subst, sym, take, true, ℕ, ◌+◌, ◌++◌, ◌-◌, ◌<◌}
+use Rattle.std.proofs.Common.{◌≤◌, ◌∙◌, ◌∷◌, ◌≡◌, ◌⊎◌, ◌&&◌}
 use Rattle.std.specs.Prelude.{All, None, Some, length}
 use Rattle.std.specs.List.{join_with_byte}
 use Rattle.std.specs.Str.{IsUtf8, is_utf8}
@@ -10,7 +11,7 @@ use Rattle.std.proofs.lemmas.List.Elements.{All-append, All-cons, All-head, All-
 use Rattle.std.proofs.lemmas.Option.{none-some}
 use Rattle.std.proofs.lemmas.Str.{IsUtf8-append, IsUtf8-encode, IsUtf8-from_is_utf8, IsUtf8-nil}
 use Rattle.catalogue_notes.specs.Claims.{is_title}
-use Rattle.draft_plan.specs.Drafts.{Part, before_heading, first_bad, is_bad, is_bad_at, is_heading, draft_lines, part_under, parts_of, pieces, heading_of}
+use Rattle.draft_plan.specs.Drafts.{Part, before_heading, first_bad, is_bad, is_bad_at, is_heading, draft_lines, part_under, parts_of, pieces, heading_title}
 use Rattle.draft_plan.specs.Laws.{ends_part}
 use Rattle.draft_plan.specs.Readings.{IsFirstLine, IsFirstText, IsGood}
 use Rattle.draft_plan.proofs.LineLemmas.{line_split, pieces_closed}
@@ -74,11 +75,11 @@ good_whole d h =
     record { at_heading = heading_first (pieces d) none; good = good_all 1 (pieces d) none }
 
 -- the title of a heading that is not bad is one
-pub good_title : (l : List ℕ) → is_heading l ≡ true → is_bad l ≡ false → is_title (heading_of l) ≡ true
+pub good_title : (l : List ℕ) → is_heading l ≡ true → is_bad l ≡ false → is_title (heading_title l) ≡ true
 good_title l h e =
-    elim (and_cases (is_heading l) (not (is_title (heading_of l))) (or_parts (not (is_utf8 l)) (is_heading l && not (is_title (heading_of l))) e).1) [
+    elim (and_cases (is_heading l) (not (is_title (heading_title l))) (or_parts (not (is_utf8 l)) (is_heading l && not (is_title (heading_title l))) e).1) [
       | inl n ↦ absurd (both_ways (is_heading l) n h)
-      | inr n ↦ not-false (is_title (heading_of l)) n
+      | inr n ↦ not-false (is_title (heading_title l)) n
     ]
 
 pub title_utf8 : (t : List ℕ) → is_title t ≡ true → IsUtf8 t
@@ -88,7 +89,7 @@ title_utf8 t e =
     IsUtf8-from_is_utf8 t (and_parts _ _ two).0
 
 pub good_utf8 : (l : List ℕ) → is_bad l ≡ false → IsUtf8 l
-good_utf8 l e = IsUtf8-from_is_utf8 l (not-false (is_utf8 l) (or_parts (not (is_utf8 l)) (is_heading l && not (is_title (heading_of l))) e).0)
+good_utf8 l e = IsUtf8-from_is_utf8 l (not-false (is_utf8 l) (or_parts (not (is_utf8 l)) (is_heading l && not (is_title (heading_title l))) e).0)
 
 line_feed_utf8 : IsUtf8 (10 ∷ [])
 unfolding lib.Utf8.encode
@@ -148,7 +149,8 @@ passed_ended draft rest line behind p first plain whole s =
     record {
       front = front;
       draft_is = p.draft_is ∙ ap (λ r. p.front ++ r) s ∙ sym (joined p.front line behind);
-      pieces_are = p.pieces_are ∙ ap (λ l. pieces p.front ++ l) first.pieces_are ∙ sym (append_assoc (pieces p.front) (line ∷ []) (pieces behind)) ∙ ap (λ l. l ++ pieces behind) (sym alone);
+      pieces_are = p.pieces_are ∙ ap (λ l. pieces p.front ++ l) first.pieces_are ∙ sym (append_assoc (pieces p.front) (line ∷ []) (pieces behind))
+          ∙ ap (λ l. l ++ pieces behind) (sym alone);
       plain = All-same (λ l. is_heading l ≡ false) (pieces front) (pieces p.front ++ line ∷ []) alone
           (All-append (λ l. is_heading l ≡ false) (pieces p.front) (line ∷ []) p.plain (All-cons (λ l. is_heading l ≡ false) line [] plain (All-nil (λ l. is_heading l ≡ false))));
       whole = inr (λ x.
@@ -209,9 +211,9 @@ parts_end draft (b ∷ bs) ps same h = absurd (omega (arith, h))
 -- a part was read, and the rest is good
 pub record IsPartRead (draft heading text rest : List ℕ) : Type 0 where
   pub head : is_heading heading ≡ true
-  pub title : IsUtf8 (heading_of heading)
+  pub title : IsUtf8 (heading_title heading)
   pub text_utf8 : IsUtf8 text
-  pub parts : parts_of (pieces draft) ≡ record { title = heading_of heading; text = text } ∷ parts_of (pieces rest)
+  pub parts : parts_of (pieces draft) ≡ record { title = heading_title heading; text = text } ∷ parts_of (pieces rest)
   pub good : IsGood rest
 
 pub part_read : (draft heading behind text rest : List ℕ) → IsGood draft → IsFirstLine draft heading behind → IsFirstText behind text rest → IsPartRead draft heading text rest
@@ -221,11 +223,11 @@ part_read draft heading behind text rest g first t =
     let tail : AreGood (before_heading (pieces behind) ++ pieces rest) = subst AreGood t.pieces_are (All-tail (λ l. is_bad l ≡ false) heading (pieces behind) all) in
     record {
       head = head;
-      title = title_utf8 (heading_of heading) (good_title heading head (All-head (λ l. is_bad l ≡ false) heading (pieces behind) all));
+      title = title_utf8 (heading_title heading) (good_title heading head (All-head (λ l. is_bad l ≡ false) heading (pieces behind) all));
       text_utf8 = subst IsUtf8 (sym t.text_is) (join_utf8 (before_heading (pieces behind)) (good_left (before_heading (pieces behind)) (pieces rest) tail));
       parts = ap parts_of first.pieces_are ∙ parts_head heading (pieces behind) head
-          ∙ (λ j. record { title = heading_of heading; text = sym t.text_is j } ∷ parts_of (pieces behind))
-          ∙ ap (λ ps. record { title = heading_of heading; text = text } ∷ ps)
+          ∙ (λ j. record { title = heading_title heading; text = sym t.text_is j } ∷ parts_of (pieces behind))
+          ∙ ap (λ ps. record { title = heading_title heading; text = text } ∷ ps)
           (ap parts_of t.pieces_are ∙ parts_plain (before_heading (pieces behind)) (pieces rest) (before_plain (pieces behind)));
       good = record { at_heading = t.at_heading; good = good_right (before_heading (pieces behind)) (pieces rest) tail };
     }

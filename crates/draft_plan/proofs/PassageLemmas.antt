@@ -1,5 +1,6 @@
 -- Elements of lines that stay, and passages.
-use Rattle.std.proofs.Common.{List, [], ap, arith, drop, length, length-append, nat_eq, refl, subst, suc, sym, take, zero, ℕ, ◌+◌, ◌++◌, ◌-◌, ◌<◌, ◌≤◌, ◌∙◌, ◌∷◌, ◌≡◌, ◌⊎◌, inl, inr}
+use Rattle.std.proofs.Common.{List, [], ap, arith, drop, length, length-append, nat_eq, refl, subst, suc, sym, take, zero, ℕ, ◌+◌, ◌++◌, ◌-◌, ◌<◌, ◌≤◌, ◌∙◌, ◌∷◌, ◌≡◌, ◌⊎◌, inl}
+use Rattle.std.proofs.Common.{inr}
 use Rattle.std.specs.Prelude.{All, Some, slice_get}
 use Rattle.std.proofs.Math.Seq.{drop-append_seam}
 use Rattle.std.proofs.lemmas.List.{drop-drop, drop-take, length-drop, length-take-le, take-take}
@@ -29,7 +30,8 @@ abbrev point : (old new : ℕ) → Hunk
 point old new = record { old_at = old; old_len = 0; new_at = new; new_len = 0 }
 
 -- what stays from a later point on (a point is written as where a hunk begins)
-goes_to : (history : List Op) (old new : List ℕ) (xs : List Identifier) (same : length old ≡ length xs) (least : ℕ) (p : Hunk) (before : List Hunk) (r : Hunk) (behind : List Hunk) (ys : List Identifier)
+goes_to : (history : List Op) (old new : List ℕ) (xs : List Identifier) (same : length old ≡ length xs) (least : ℕ) (p : Hunk) (before : List Hunk) (r : Hunk) (behind : List Hunk)
+    (ys : List Identifier)
     → TransformsFrom nat_eq old new least (hunk_start p) before (hunk_start r) → AreOrdered old r.old_at behind → StayBetween history p.old_at xs ys (before ++ behind)
     → StayBetween history r.old_at xs (drop (r.new_at - p.new_at) ys) behind
 goes_to history old new xs same least p [] r behind ys t o s =
@@ -53,7 +55,8 @@ goes_to history old new xs same least p (h ∷ hs) r behind ys t o s =
 -- the elements of a line that no hunk touches stay, in their order
 line_stays : (history : List Op) (old new : List ℕ) (xs ys : List Identifier) (hs : List Hunk) → length old ≡ length xs → StayBetween history 0 xs ys hs
     → (at to len : ℕ) (before behind : List Hunk) → hs ≡ before ++ behind
-    → TransformsFrom nat_eq old new 0 (hunk_start (point 0 0)) before (hunk_start (point at to)) → TransformsFrom nat_eq old new 0 (hunk_start (point (at + len) (to + len))) behind (hunk_start (point (length old) (length new)))
+    → TransformsFrom nat_eq old new 0 (hunk_start (point 0 0)) before (hunk_start (point at to))
+    → TransformsFrom nat_eq old new 0 (hunk_start (point (at + len) (to + len))) behind (hunk_start (point (length old) (length new)))
     → take len (drop to ys) ≡ take len (drop at xs)
 line_stays history old new xs ys hs same s at to len before behind is front rest =
     let ordered = ordered_from nat_eq old new 0 (point (at + len) (to + len)) behind (point (length old) (length new)) rest in
@@ -126,7 +129,8 @@ record AreParted (old new : List ℕ) (least : ℕ) (p : Hunk) (hs : List Hunk) 
   front : TransformsFrom nat_eq old new least (hunk_start p) before (hunk_start (point at to))
   rest : TransformsFrom nat_eq old new 0 (hunk_start (point (at + len) (to + len))) behind (hunk_start q)
 
-part_hunks : (old new : List ℕ) (least : ℕ) (p : Hunk) (hs : List Hunk) (q : Hunk) (at len : ℕ) → TransformsFrom nat_eq old new least (hunk_start p) hs (hunk_start q) → p.old_at ≤ at → at + len ≤ q.old_at
+part_hunks : (old new : List ℕ) (least : ℕ) (p : Hunk) (hs : List Hunk) (q : Hunk) (at len : ℕ) → TransformsFrom nat_eq old new least (hunk_start p) hs (hunk_start q)
+    → p.old_at ≤ at → at + len ≤ q.old_at
     → All (λ h. (h.old_at + h.old_len ≤ at) ⊎ (at + len ≤ h.old_at)) hs → AreParted old new least p hs q at len
 part_hunks old new least p [] q at len t low high apart = record {
   before = [];
@@ -179,8 +183,10 @@ module _ (old new : State) (section : Identifier) (kept : KeepsSection old new s
   abbrev new_text : List ℕ
   new_text = text new.held.history section
 
-  stays : (at to len : ℕ) (before behind : List Hunk) → kept.elements.hunks ≡ before ++ behind → TransformsFrom nat_eq old_text new_text 0 (hunk_start (point 0 0)) before (hunk_start (point at to))
-      → TransformsFrom nat_eq old_text new_text 0 (hunk_start (point (at + len) (to + len))) behind (hunk_start (point (length old_text) (length new_text))) → take len (drop to ys) ≡ take len (drop at xs)
+  stays : (at to len : ℕ) (before behind : List Hunk) → kept.elements.hunks ≡ before ++ behind
+      → TransformsFrom nat_eq old_text new_text 0 (hunk_start (point 0 0)) before (hunk_start (point at to))
+      → TransformsFrom nat_eq old_text new_text 0 (hunk_start (point (at + len) (to + len))) behind (hunk_start (point (length old_text) (length new_text)))
+      → take len (drop to ys) ≡ take len (drop at xs)
   stays at to len before behind is front rest =
       line_stays old.held.history old_text new_text xs ys kept.elements.hunks (text_length old.held.history section w) kept.elements.stays at to len before behind is front rest
 
@@ -214,12 +220,14 @@ module _ (old new : State) (section : Identifier) (kept : KeepsSection old new s
         untouched
         (untouched_at_ends old_text new_text whole_start whole_start (kept.elements.lines other).lines kept.elements.hunks (kept.elements.lines other).gaps was.from was.to at)
 
-  passage_stays : (first last : Identifier) (elements : List Identifier) (was : IsShownPassage old.held.history section first last elements) → PassageStays old new section kept first last elements was
+  passage_stays : (first last : Identifier) (elements : List Identifier) (was : IsShownPassage old.held.history section first last elements)
+      → PassageStays old new section kept first last elements was
   passage_stays first last elements was = record {
     ends = λ other.
         let lines = kept.elements.lines other in
         let shows = AreShown new.held.history section first last in
-        All-weaker (LineStays old_text new_text kept.elements.hunks) (λ k. All (λ l. AreAmong k.old_at k.len was.from was.from → AreAmong l.old_at l.len was.to was.to → shows) lines.lines)
+        All-weaker (LineStays old_text new_text kept.elements.hunks)
+        (λ k. All (λ l. AreAmong k.old_at k.len was.from was.from → AreAmong l.old_at l.len was.to was.to → shows) lines.lines)
         (λ k sk. All-weaker (LineStays old_text new_text kept.elements.hunks) (λ l. AreAmong k.old_at k.len was.from was.from → AreAmong l.old_at l.len was.to was.to → shows)
         (λ l sl a b. (
           get_in ys (k.new_at + (was.from - k.old_at)) first

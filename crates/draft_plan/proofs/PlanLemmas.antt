@@ -1,5 +1,6 @@
 -- What a plan costs, of titles and texts, and of sections that are dropped and added.
-use Rattle.std.proofs.Common.{List, [], add-one, ap, arith, cond, false, get_or, inl, inr, length, map, refl, subst, suc, sym, true, zero, Bool, ℕ, ◌+◌, ◌*◌, ◌++◌, ◌<◌, ◌≤◌, ◌∙◌, ◌∷◌, ◌≡◌, ◌≢◌, ◌⊎◌}
+use Rattle.std.proofs.Common.{List, [], add-one, ap, arith, cond, false, get_or, inl, inr, length, map, refl, subst, suc, sym, true, zero, Bool, ℕ, ◌+◌, ◌*◌, ◌++◌, ◌<◌, ◌≤◌, ◌∙◌}
+use Rattle.std.proofs.Common.{◌∷◌, ◌≡◌, ◌≢◌, ◌⊎◌}
 use Rattle.std.specs.Prelude.{Err, None, Ok, Option, Result, Some, option_map, slice_get, slice_index_or}
 use Rattle.std.specs.List.{sum_by}
 use Rattle.std.specs.Str.{bytes_eq, chars, encode_utf8_all}
@@ -28,7 +29,8 @@ use Rattle.section_plan.specs.declared.part.Part.{Part as ReadPart}
 use Rattle.draft_plan.specs.Drafts.{Part}
 use Rattle.draft_plan.specs.Limits.{AreChosen, Cost, Costs, CostsText, LacksRoom, SameTexts, cost, hunks_cost, shown_letters, part_letters, plus, put_size}
 use Rattle.draft_plan.specs.Matching.{IsMatched}
-use Rattle.draft_plan.specs.Plans.{AreHunksOf, CostsFilling, CostsSection, LacksPlan, Plan, PlansMoves, added_count, dropped_count, filling, plan_cost, retitle_count, retitle_count_of_parts, section_before, shaping, sum_below, text_before, unmatched_count}
+use Rattle.draft_plan.specs.Plans.{AreHunksOf, CostsFilling, CostsSection, LacksPlan, Plan, PlansMoves, added_count, dropped_count, filling, plan_cost, retitle_count}
+use Rattle.draft_plan.specs.Plans.{retitle_count_of_parts, section_before, shaping, sum_below, text_before, unmatched_count}
 use Rattle.draft_plan.specs.Readings.{seen_part}
 use Rattle.draft_plan.specs.Shaping.{IsReshaped, StandsAs}
 use Rattle.draft_plan.specs.Texts.{size}
@@ -126,7 +128,8 @@ pub title_lacks : (s : State) (r : ℕ) (why : ReviseFault) → r ≡ 1 → Lack
 title_lacks s r why e l = lacks_more s note_cost (filling r []) why (up (omega (arith, e)) (omega (arith, e)) (omega (arith, e))) l
 
 -- the hunks of a text more
-one_text : (r t : ℕ) (hunks : List (List Hunk)) (hs : List Hunk) (rest : Cost) → rest.operations ≤ t + sum_by size (hs ∷ []) → rest.counters ≤ t + sum_by put_size (hs ∷ []) → rest.stamps ≤ t
+one_text : (r t : ℕ) (hunks : List (List Hunk)) (hs : List Hunk) (rest : Cost) → rest.operations ≤ t + sum_by size (hs ∷ []) → rest.counters ≤ t + sum_by put_size (hs ∷ [])
+    → rest.stamps ≤ t
     → IsUpTo (plus (filling r hunks) rest) (filling (r + t) (hunks ++ hs ∷ []))
 one_text r t hunks hs rest a b c = up (omega (arith, a, sum_by-append size hunks (hs ∷ []))) (omega (arith, b, sum_by-append put_size hunks (hs ∷ []))) (omega (arith, c))
 
@@ -138,7 +141,8 @@ text_up r hs = up (omega (arith, one_alone size hs)) (omega (arith, one_alone pu
 
 -- a section got its title and its text
 pub section_costs : (old mid new : State) (x : Identifier) (part : Part) (n m : ℕ) → text mid.held.history x ≡ text old.held.history x
-    → Costs old mid (filling (retitle_count old.held.history (Some x) (Some part.title)) []) (Ok n) → CostsText mid new x (chars part.text) (Ok m) → CostsSection old new x part (Ok (n + m))
+    → Costs old mid (filling (retitle_count old.held.history (Some x) (Some part.title)) []) (Ok n) → CostsText mid new x (chars part.text) (Ok m)
+    → CostsSection old new x part (Ok (n + m))
 section_costs old mid new x part n m same first next =
     let r : ℕ = retitle_count old.held.history (Some x) (Some part.title) in (
       next.0,
@@ -148,7 +152,8 @@ section_costs old mid new x part n m same first next =
 
 -- or its text was refused
 pub section_lacks : (old mid new : State) (x : Identifier) (part : Part) (n : ℕ) (why : EditFault) → text mid.held.history x ≡ text old.held.history x
-    → Costs old mid (filling (retitle_count old.held.history (Some x) (Some part.title)) []) (Ok n) → CostsText mid new x (chars part.text) (Err why) → CostsSection old new x part (Err (fault.Edit why))
+    → Costs old mid (filling (retitle_count old.held.history (Some x) (Some part.title)) []) (Ok n) → CostsText mid new x (chars part.text) (Err why)
+    → CostsSection old new x part (Err (fault.Edit why))
 section_lacks old mid new x part n edit.NoMemory same first next = inl tt
 section_lacks old mid new x part n edit.NoSection same first next = inl tt
 section_lacks old mid new x part n edit.OutOfRange same first next = inl tt
@@ -180,8 +185,10 @@ FillsFirst start now section ps place n =
     × Costs start now (filling (retitle_count_of_parts start.held.history section ps place) hunks) (Ok n)
 
 -- and the next section and part
-module _ (start now : State) (section : ℕ → Option Identifier) (ps : List Part) (k n : ℕ) (s : Identifier) (part : Part) (here : section k ≡ Some s) (is : slice_get ps k ≡ Some part)
-    (headed : heading now.held.history s ≡ heading start.held.history s) (reads : text now.held.history s ≡ text start.held.history s) (was : FillsFirst start now section ps k n) where
+module _ (start now : State) (section : ℕ → Option Identifier) (ps : List Part) (k n : ℕ) (s : Identifier) (part : Part) (here : section k ≡ Some s)
+    (is : slice_get ps k ≡ Some part)
+    (headed : heading now.held.history s ≡ heading start.held.history s) (reads : text now.held.history s ≡ text start.held.history s)
+    (was : FillsFirst start now section ps k n) where
   abbrev h : List Op
   h = start.held.history
 
@@ -214,7 +221,8 @@ module _ (start now : State) (section : ℕ → Option Identifier) (ps : List Pa
     ];
   }
 
-  joined : (rest : ℕ) → (hs : List Hunk) → retitle_count_of_parts h section ps k + r ≤ rest → IsUpTo (plus (filling (retitle_count_of_parts h section ps k) was.0) (filling r (hs ∷ []))) (filling rest (was.0 ++ hs ∷ []))
+  joined : (rest : ℕ) → (hs : List Hunk) → retitle_count_of_parts h section ps k + r ≤ rest
+      → IsUpTo (plus (filling (retitle_count_of_parts h section ps k) was.0) (filling r (hs ∷ []))) (filling rest (was.0 ++ hs ∷ []))
   joined rest hs l = up (omega (arith, l, sum_by-append size was.0 (hs ∷ []))) (omega (arith, l, sum_by-append put_size was.0 (hs ∷ []))) (omega (arith, l))
 
   -- it was filled
@@ -223,7 +231,8 @@ module _ (start now : State) (section : ℕ → Option Identifier) (ps : List Pa
     was.0 ++ c.0 ∷ [],
     omega (arith, was.1, length_push was.0 c.0),
     hunks_more c.0 c.1,
-    costs_join start now new (filling (retitle_count_of_parts h section ps k) was.0) (filling r (c.0 ∷ [])) (filling (retitle_count_of_parts h section ps (k + 1)) (was.0 ++ c.0 ∷ [])) n m
+    costs_join start now new (filling (retitle_count_of_parts h section ps k) was.0) (filling r (c.0 ∷ []))
+        (filling (retitle_count_of_parts h section ps (k + 1)) (was.0 ++ c.0 ∷ [])) n m
         (joined (retitle_count_of_parts h section ps (k + 1)) c.0 (omega (arith, one_more))) was.3 c.2,
   )
 
@@ -238,18 +247,21 @@ module _ (start now : State) (section : ℕ → Option Identifier) (ps : List Pa
   filling_lacks new why l (inr c) = (
     was.0 ++ c.0 ∷ [],
     hunks_more c.0 c.1,
-    costs_stop start now (filling (retitle_count_of_parts h section ps k) was.0) (filling r (c.0 ∷ [])) (filling (retitle_count_of_parts h section ps (length ps)) (was.0 ++ c.0 ∷ [])) n why
+    costs_stop start now (filling (retitle_count_of_parts h section ps k) was.0) (filling r (c.0 ∷ []))
+        (filling (retitle_count_of_parts h section ps (length ps)) (was.0 ++ c.0 ∷ [])) n why
         (joined (retitle_count_of_parts h section ps (length ps)) c.0 (within_all l)) was.3 c.2,
   )
 
 -- all of them were filled
-pub filling_all : (start new : State) (section : ℕ → Option Identifier) (ps : List Part) (k n : ℕ) → k ≤ length ps → FillsFirst start new section ps k n → CostsFilling start new section ps (Ok n)
+pub filling_all : (start new : State) (section : ℕ → Option Identifier) (ps : List Part) (k n : ℕ) → k ≤ length ps → FillsFirst start new section ps k n
+    → CostsFilling start new section ps (Ok n)
 filling_all start new section ps k n l was =
     let f : ℕ → ℕ = λ k. retitle_count start.held.history (section k) (option_map (λ (p : Part). p.title) (slice_get ps k)) in
     let longer = sum_below_longer f k (length ps) l in (
       was.0,
       was.2,
-      costs_more start new (filling (retitle_count_of_parts start.held.history section ps k) was.0) (filling (retitle_count_of_parts start.held.history section ps (length ps)) was.0) (Ok n)
+      costs_more start new (filling (retitle_count_of_parts start.held.history section ps k) was.0)
+          (filling (retitle_count_of_parts start.held.history section ps (length ps)) was.0) (Ok n)
           (up (omega (arith, longer)) (omega (arith, longer)) (omega (arith, longer))) was.3,
     )
 
@@ -275,11 +287,13 @@ hunks_within h (x ∷ xs) (p ∷ ps) (hs ∷ hunks) a =
       omega (arith, rest.1, one.counters, sum_by-cons put_size hs hunks, sum_by-cons (λ (p : Part). length (chars p.text)) p ps),
     )
 
-pub filling_within : (old new : State) (xs : List Identifier) (ps : List Part) (result : Result ℕ ReviseFault) → CostsFilling old new (slice_get xs) ps result → Costs old new (filling_cost old.held.history xs ps) result
+pub filling_within : (old new : State) (xs : List Identifier) (ps : List Part) (result : Result ℕ ReviseFault) → CostsFilling old new (slice_get xs) ps result
+    → Costs old new (filling_cost old.held.history xs ps) result
 filling_within old new xs ps result c =
     let h : List Op = old.held.history in
     let t : ℕ = retitle_count_of_parts h (slice_get xs) ps (length ps) in
-    let titles = sum_below_within (λ k. retitle_count h (slice_get xs k) (option_map (λ (p : Part). p.title) (slice_get ps k))) (length ps) (λ k. retitles_most h (slice_get xs k) (option_map (λ (p : Part). p.title) (slice_get ps k))) in
+    let titles = sum_below_within (λ k. retitle_count h (slice_get xs k) (option_map (λ (p : Part). p.title) (slice_get ps k))) (length ps)
+    (λ k. retitles_most h (slice_get xs k) (option_map (λ (p : Part). p.title) (slice_get ps k))) in
     let hunks = hunks_within h xs ps c.0 c.1 in
     costs_more old new (filling t c.0) (filling_cost h xs ps) result (up (omega (arith, titles, hunks.0)) (omega (arith, titles, hunks.1)) (omega (arith, titles))) c.2
 
@@ -287,7 +301,8 @@ no_part : Part
 no_part = record { title = []; text = [] }
 
 -- sections were matched with the parts of a draft, and came to stand as they do
-module _ (old mid : State) (n : ℕ) (read : List ReadPart) (ps : List Part) (are : map seen_part read ≡ ps) (pairs : Pairs) (matched : IsMatched old.held.history read pairs) (moved : ℕ)
+module _ (old mid : State) (n : ℕ) (read : List ReadPart) (ps : List Part) (are : map seen_part read ≡ ps) (pairs : Pairs) (matched : IsMatched old.held.history read pairs)
+    (moved : ℕ)
     (moves : PlansMoves old.held.history pairs (length ps) moved) where
   abbrev start : List Op
   start = old.held.history
@@ -301,7 +316,8 @@ module _ (old mid : State) (n : ℕ) (read : List ReadPart) (ps : List Part) (ar
       let c : Cost = shaping pairs moved (length (arranged start)) (length ps) in
       inr (plan [] (no_hunks start (section_before start pairs) ps), lacks_more old c (plan_cost start ps pairs moved []) why (up (omega arith) (omega arith) (omega arith)) lacks)
 
-  module _ (w : Lawful start) (v : Lawful mid.held.history) (shaped : IsReshaped old mid n) (same : SameTexts start mid.held.history) (stand : StandsAs start mid.held.history pairs ps)
+  module _ (w : Lawful start) (v : Lawful mid.held.history) (shaped : IsReshaped old mid n) (same : SameTexts start mid.held.history)
+      (stand : StandsAs start mid.held.history pairs ps)
       (inside : (j i : ℕ) → section_of pairs j ≡ Some i → i < length (arranged start)) where
     abbrev g : List Op
     g = mid.held.history
@@ -326,7 +342,11 @@ module _ (old mid : State) (n : ℕ) (read : List ReadPart) (ps : List Part) (ar
         titled_there : (s : Identifier) → section_of pairs k ≡ None → slice_get (arranged g) k ≡ Some s → retitle_count g (Some s) (title_at k) ≤ 0
         titled_there s e at =
             let is : slice_get ps k ≡ Some (get_or ps k no_part) = slice_get-get_or ps k no_part l in
-            omega (arith, ap (λ o. retitle_count g (Some s) (option_map (λ (p : Part). p.title) o)) is ∙ no_retitle g s (get_or ps k no_part).title (stand.titled k s (get_or ps k no_part) e at is))
+            omega (
+              arith,
+              ap (λ o. retitle_count g (Some s) (option_map (λ (p : Part). p.title) o)) is
+                  ∙ no_retitle g s (get_or ps k no_part).title (stand.titled k s (get_or ps k no_part) e at is),
+            )
 
         by : (o : Option ℕ) → section_of pairs k ≡ o → IsAsBefore k (slice_get (arranged g) k) (section_before start pairs k)
         by None e =
@@ -334,7 +354,8 @@ module _ (old mid : State) (n : ℕ) (read : List ReadPart) (ps : List Part) (ar
             let new : holds start s ≡ false = stand.sections.fresh k s e here.1 in
             let none : text g s ≡ [] = nil_from_length (text g s) (omega (arith, text_length g s v, ap length (same s), ap length (nothing_shown start s w new))) in
             subst (λ o. IsAsBefore k o (section_before start pairs k)) (sym here.1)
-            (subst (IsAsBefore k (Some s)) (sym (ap (λ o. elim o [ None ↦ None | Some i ↦ slice_get (arranged start) i ]) e)) (record { reads = none; titled = titled_there s e here.1 }))
+            (subst (IsAsBefore k (Some s)) (sym (ap (λ o. elim o [ None ↦ None | Some i ↦ slice_get (arranged start) i ]) e))
+            (record { reads = none; titled = titled_there s e here.1 }))
         by (Some i) e =
             let x = matched_with i e in
             let s = x.0 in
@@ -346,11 +367,13 @@ module _ (old mid : State) (n : ℕ) (read : List ReadPart) (ps : List Part) (ar
 
     titles_before : retitle_count_of_parts g (slice_get (arranged g)) ps (length ps) ≤ retitle_count_of_parts start (section_before start pairs) ps (length ps)
     titles_before =
-        sum_below_less (λ k. retitle_count g (slice_get (arranged g) k) (option_map (λ (p : Part). p.title) (slice_get ps k))) (λ k. retitle_count start (section_before start pairs k) (option_map (λ (p : Part). p.title) (slice_get ps k))) (length ps)
+        sum_below_less (λ k. retitle_count g (slice_get (arranged g) k) (option_map (λ (p : Part). p.title) (slice_get ps k)))
+        (λ k. retitle_count start (section_before start pairs k) (option_map (λ (p : Part). p.title) (slice_get ps k))) (length ps)
         (λ k l. (as_before k l).titled)
 
     -- and there was no room for the titles and texts
-    pub filling_lacks_plan : (new : State) (why : ReviseFault) → Costs old mid (shaping pairs moved (length (arranged start)) (length ps)) (Ok n) → CostsFilling mid new (slice_get (arranged g)) ps (Err why) → LacksPlan old ps why
+    pub filling_lacks_plan : (new : State) (why : ReviseFault) → Costs old mid (shaping pairs moved (length (arranged start)) (length ps)) (Ok n)
+        → CostsFilling mid new (slice_get (arranged g)) ps (Err why) → LacksPlan old ps why
     filling_lacks_plan new why first c =
         let hunks : List (List Hunk) = c.0 in
         let chosen : AreHunksOf start (section_before start pairs) ps hunks = record {
@@ -360,6 +383,7 @@ module _ (old mid : State) (n : ℕ) (read : List ReadPart) (ps : List Part) (ar
         } in
         inr (
           plan hunks chosen,
-          costs_stop old mid (shaping pairs moved (length (arranged start)) (length ps)) (filling (retitle_count_of_parts g (slice_get (arranged g)) ps (length ps)) hunks) (plan_cost start ps pairs moved hunks) n why
+          costs_stop old mid (shaping pairs moved (length (arranged start)) (length ps)) (filling (retitle_count_of_parts g (slice_get (arranged g)) ps (length ps)) hunks)
+              (plan_cost start ps pairs moved hunks) n why
               (up (omega (arith, titles_before)) (omega (arith, titles_before)) (omega (arith, titles_before))) first c.2,
         )

@@ -48,13 +48,16 @@ rank_less q (x ∷ xs) (suc m) (suc n) s l e t =
     elim (cases_Bool (q x)) [ inl y ↦ omega (arith, less, rank_yes q x xs m y, rank_yes q x xs n y) | inr y ↦ omega (arith, less, rank_no q x xs m y, rank_no q x xs n y) ]
 
 -- where those that are chosen stand in one order in two lists, two of them do
-pub one_order : (q : Identifier → Bool) (xs ys : List Identifier) (a b x y : ℕ) (s t : Identifier) → Distinct ys → filter q xs ≡ filter q ys → q s ≡ true → q t ≡ true → slice_get xs a ≡ Some s → slice_get xs b ≡ Some t
+pub one_order : (q : Identifier → Bool) (xs ys : List Identifier) (a b x y : ℕ) (s t : Identifier) → Distinct ys → filter q xs ≡ filter q ys → q s ≡ true → q t ≡ true
+    → slice_get xs a ≡ Some s → slice_get xs b ≡ Some t
     → slice_get ys x ≡ Some s → slice_get ys y ≡ Some t → a < b → x < y
 one_order q xs ys a b x y s t apart same p r at_a at_b at_x at_y l =
     let zs : List Identifier = filter q ys in
     let once : Distinct zs = AllPairs-filter (λ u v. u ≡ v → ⊥) q ys apart in
-    let first : rank q xs a ≡ rank q ys x = one_place zs (rank q xs a) (rank q ys x) s once (ap (λ l. slice_get l (rank q xs a)) (sym same) ∙ rank_at q xs a s at_a p) (rank_at q ys x s at_x p) in
-    let next : rank q xs b ≡ rank q ys y = one_place zs (rank q xs b) (rank q ys y) t once (ap (λ l. slice_get l (rank q xs b)) (sym same) ∙ rank_at q xs b t at_b r) (rank_at q ys y t at_y r) in
+    let first : rank q xs a ≡ rank q ys x =
+    one_place zs (rank q xs a) (rank q ys x) s once (ap (λ l. slice_get l (rank q xs a)) (sym same) ∙ rank_at q xs a s at_a p) (rank_at q ys x s at_x p) in
+    let next : rank q xs b ≡ rank q ys y =
+    one_place zs (rank q xs b) (rank q ys y) t once (ap (λ l. slice_get l (rank q xs b)) (sym same) ∙ rank_at q xs b t at_b r) (rank_at q ys y t at_y r) in
     let less = rank_less q xs a b s l at_a p in
     elim (cases_lt x y) [ inl in_front ↦ in_front | inr no_less ↦ let more = rank_le q ys y x no_less in absurd (omega (arith, first, next, less, more)) ]
 
@@ -83,7 +86,8 @@ flag_count q (x ∷ xs) =
     ]
 
 -- and no more flags than members, where each flag is of one that is chosen
-pub flags_most : (q : Identifier → Bool) (flags : List Bool) (xs : List Identifier) → length flags ≡ length xs → ((n : ℕ) (s : Identifier) → IsChosen flags n → slice_get xs n ≡ Some s → q s ≡ true)
+pub flags_most : (q : Identifier → Bool) (flags : List Bool) (xs : List Identifier) → length flags ≡ length xs
+    → ((n : ℕ) (s : Identifier) → IsChosen flags n → slice_get xs n ≡ Some s → q s ≡ true)
     → chosen_count flags ≤ length (filter q xs)
 flags_most q [] xs long each = omega arith
 flags_most q (b ∷ bs) [] long each = absurd (omega (arith, long))
@@ -91,6 +95,8 @@ flags_most q (b ∷ bs) (x ∷ xs) long each =
     let rest = flags_most q bs xs (omega (arith, long)) (λ n s c e. each (suc n) s c e) in
     by b (one_more b bs) (each 0 x) rest
   where
-    by : (c : Bool) → chosen_count (b ∷ bs) ≡ cond c 1 0 + chosen_count bs → (c ≡ true → slice_get (x ∷ xs) 0 ≡ Some x → q x ≡ true) → chosen_count bs ≤ length (filter q xs) → chosen_count (b ∷ bs) ≤ length (filter q (x ∷ xs))
+    by : (c : Bool) → chosen_count (b ∷ bs) ≡ cond c 1 0 + chosen_count bs → (c ≡ true → slice_get (x ∷ xs) 0 ≡ Some x → q x ≡ true) → chosen_count bs ≤ length (filter q xs)
+        → chosen_count (b ∷ bs) ≤ length (filter q (x ∷ xs))
     by true e here rest = let long = ap length (filter_yes q x xs (here refl refl)) in omega (arith, e, rest, long)
-    by false e here rest = elim (cases_Bool (q x)) [ inl y ↦ let long = ap length (filter_yes q x xs y) in omega (arith, e, rest, long) | inr y ↦ let long = ap length (filter_no q x xs y) in omega (arith, e, rest, long) ]
+    by false e here rest = elim (cases_Bool (q x))
+        [ inl y ↦ let long = ap length (filter_yes q x xs y) in omega (arith, e, rest, long) | inr y ↦ let long = ap length (filter_no q x xs y) in omega (arith, e, rest, long) ]

@@ -1,5 +1,6 @@
 -- Sections dropped and added: which are shown.
-use Rattle.std.proofs.Common.{List, [], ap, arith, drop, get_or, inl, inr, length, not, refl, subst, suc, sym, take, ℕ, ◌+◌, ◌++◌, ◌<◌, ◌≤◌, ◌∙◌, ◌∷◌, ◌≡◌, ◌≢◌, ◌⊎◌, true, false, zero}
+use Rattle.std.proofs.Common.{List, [], ap, arith, drop, get_or, inl, inr, length, not, refl, subst, suc, sym, take, ℕ, ◌+◌, ◌++◌, ◌<◌, ◌≤◌, ◌∙◌, ◌∷◌, ◌≡◌, ◌≢◌, ◌⊎◌, true, false}
+use Rattle.std.proofs.Common.{zero}
 use Rattle.std.specs.Prelude.{IsSome, None, Some, filter, option_map, slice_get}
 use Rattle.std.specs.List.{Contains}
 use Rattle.std.proofs.lemmas.Bool.{cases_eq, false≢true}
@@ -35,10 +36,12 @@ places_once (x ∷ xs) d (suc j) (suc k) s e f = ap suc (places_once xs (all_pai
 
 -- one of distinct members goes
 pub without_one : (xs : List Identifier) (k : ℕ) (s : Identifier) → Distinct xs → slice_get xs k ≡ Some s → IsWithout s xs (splice xs k 1 [])
-without_one xs k s d e t = (λ m. from t (subst (λ l. Contains l t) same m), λ both. subst (λ l. Contains l t) (sym same) (contains_filter (is_other s) xs t both.0 (ap not (ne-id_eq t s both.1))))
+without_one xs k s d e t =
+    (λ m. from t (subst (λ l. Contains l t) same m), λ both. subst (λ l. Contains l t) (sym same) (contains_filter (is_other s) xs t both.0 (ap not (ne-id_eq t s both.1))))
   where
     same : splice xs k 1 [] ≡ filter (is_other s) xs
-    same = let one : suc k ≡ k + 1 = omega arith in sym (filter_out xs k s d e ∙ ap (λ n. take k xs ++ drop n xs) one ∙ ap (λ l. l ++ drop (k + 1) xs) (sym (append-nil (take k xs))))
+    same = let one : suc k ≡ k + 1 =
+        omega arith in sym (filter_out xs k s d e ∙ ap (λ n. take k xs ++ drop n xs) one ∙ ap (λ l. l ++ drop (k + 1) xs) (sym (append-nil (take k xs))))
 
     from : (t : Identifier) → Contains (filter (is_other s) xs) t → Contains xs t × t ≢ s
     from t m = let both = contains_filter_from (is_other s) xs t m in (both.0, λ same. let e : not (id_eq t s) ≡ false = ap not (eq-id_eq t s same) in false≢true (sym e ∙ both.1))
@@ -71,7 +74,8 @@ left_stays ys p k xs was some = record {
     next i (inl l) = elim (cases_eq i k) [ inl e ↦ inr (subst (λ n. IsSome (part_of p n)) (sym e) some) | inr ne ↦ inl (omega arith) ]
 
 -- and one that has none goes
-pub left_goes : (ys : List Identifier) (p : Pairs) (k : ℕ) (xs zs : List Identifier) (s : Identifier) → AreDistinct ys → AreLeft ys p k xs → slice_get ys k ≡ Some s → part_of p k ≡ None → IsWithout s xs zs
+pub left_goes : (ys : List Identifier) (p : Pairs) (k : ℕ) (xs zs : List Identifier) (s : Identifier) → AreDistinct ys → AreLeft ys p k xs → slice_get ys k ≡ Some s
+    → part_of p k ≡ None → IsWithout s xs zs
     → AreLeft ys p (k + 1) zs
 left_goes ys p k xs zs s once was at none without = record {
   kept = λ i t e side. (without t).1 (was.kept i t e (earlier i side), λ same. other i t e same side);

@@ -76,7 +76,8 @@ module _ (old mid : State) (k left made : ℕ) (hs : List Hunk) (new : List ℕ)
 
   ordered : (p : ℕ) × AreOrdered old_text p (h ∷ back)
   ordered =
-      let transforms : Transforms nat_eq old_text new hs = subst (λ (y : Identifier). Transforms nat_eq (text old.held.history y) new hs) (same_section old k t.0 x t.1 done.1) t.2 in
+      let transforms : Transforms nat_eq old_text new hs =
+      subst (λ (y : Identifier). Transforms nat_eq (text old.held.history y) new hs) (same_section old k t.0 x t.1 done.1) t.2 in
       ordered_at old_text new hs back (left - 1) h transforms split
 
   there : section_shown mid k ≡ Some x
@@ -91,7 +92,8 @@ module _ (old mid : State) (k left made : ℕ) (hs : List Hunk) (new : List ℕ)
   next_news = news_within (text old.held.history t.0) new hs t.2 (left - 1) no_hunk (omega (arith, some, fits))
 
   -- it was made too
-  pub hunks_more : (now : State) (n : ℕ) → Lawful old.held.history → OfSection mid k (λ x. IsHunkMade mid now k x h new n) → OfSection old k (λ x. AreHunksMade old now k x (drop (left - 1) hs) new (made + n))
+  pub hunks_more : (now : State) (n : ℕ) → Lawful old.held.history → OfSection mid k (λ x. IsHunkMade mid now k x h new n)
+      → OfSection old k (λ x. AreHunksMade old now k x (drop (left - 1) hs) new (made + n))
   hunks_more now n w next =
       let one : IsHunkMade mid now k x h new n = subst (λ (y : Identifier). IsHunkMade mid now k y h new n) (same_section mid k next.0 x next.1 there) next.2 in
       let reads : splice (text mid.held.history x) h.old_at h.old_len put ≡ with_hunks old_text new 0 (h ∷ back) =
@@ -107,7 +109,8 @@ module _ (old mid : State) (k left made : ℕ) (hs : List Hunk) (new : List ℕ)
         stays = subst (λ (ys : List Identifier). StayBetween old.held.history 0 (shown_elements old x) ys (h ∷ back)) (sym one.shows)
             (stays_more old.held.history old_text (shown_elements old x) (shown_elements mid x) one.come ordered.0 h back (text_length old.held.history x w) ordered.1 one.as_many
             (new_earlier old mid _ done.2.revised.changed.gained one.come one.fresh) done.2.stays);
-        touches = only_join (InText x (shown_elements old x)) old mid now done.2.touches (only_weaker (InText x (take h.old_len (drop h.old_at (shown_elements mid x)))) (InText x (shown_elements old x)) mid now wider one.touches);
+        touches = only_join (InText x (shown_elements old x)) old mid now done.2.touches
+            (only_weaker (InText x (take h.old_len (drop h.old_at (shown_elements mid x)))) (InText x (shown_elements old x)) mid now wider one.touches);
         count = omega (arith, done.2.count, one.count, size_more h back);
       } in
       (x, done.1, subst (λ (r : List Hunk). AreHunksMade old now k x r new (made + n)) (sym split) more)
@@ -135,7 +138,8 @@ pub record IsTextAt (s : State) (k : ℕ) (bytes : List ℕ) : Type 0 where
   pub encoded : bytes ≡ encode_utf8_all (text s.held.history section)
   pub is : text s.held.history section ≡ chars bytes
 
-pub text_found : (s : State) (k : ℕ) (bytes : List ℕ) → IsUtf8 bytes → Some bytes ≡ option_map (λ x. encode_utf8_all (text s.held.history x)) (section_shown s k) → IsTextAt s k bytes
+pub text_found : (s : State) (k : ℕ) (bytes : List ℕ) → IsUtf8 bytes → Some bytes ≡ option_map (λ x. encode_utf8_all (text s.held.history x)) (section_shown s k)
+    → IsTextAt s k bytes
 text_found s k bytes u e =
     let found = found_in (λ x. encode_utf8_all (text s.held.history x)) (section_shown s k) bytes e in
     record {
@@ -155,7 +159,8 @@ pub text_transforms : (s : State) (k : ℕ) (bytes new : List ℕ) (hs : List Hu
 text_transforms s k bytes new hs t h = (t.section, t.shown, subst (λ (r : List ℕ). Transforms nat_eq r new hs) (sym t.is) h)
 
 -- all of them were made
-module _ (old now : State) (k n : ℕ) (bytes new : List ℕ) (hs : List Hunk) (t : IsTextAt old k bytes) (e : with_hunks (chars bytes) new 0 hs ≡ new) (r : OfSection old k (λ x. AreHunksMade old now k x hs new n)) where
+module _ (old now : State) (k n : ℕ) (bytes new : List ℕ) (hs : List Hunk) (t : IsTextAt old k bytes) (e : with_hunks (chars bytes) new 0 hs ≡ new)
+    (r : OfSection old k (λ x. AreHunksMade old now k x hs new n)) where
   old_is : text old.held.history r.0 ≡ chars bytes
   old_is = ap (text old.held.history) (same_section old k r.0 t.section r.1 t.shown) ∙ t.is
 
@@ -169,9 +174,11 @@ module _ (old now : State) (k n : ℕ) (bytes new : List ℕ) (hs : List Hunk) (
   abbrev Counts : (a b : List ℕ) → Type 0
   Counts a b = (kept : KeepsCommon old.held.history a b (shown_elements old r.0) (shown_elements now r.0)) × (n ≡ size kept.hunks)
 
-  pub text_keeps : Transforms nat_eq (chars bytes) new hs → All (KeepsWords (chars bytes) new) hs → All (IsTight (chars bytes) new) hs → (chars bytes ≡ new → hs ≡ []) → KeepsLines (chars bytes) new hs → OfSection old k (λ x. CountsHunks old now x n)
+  pub text_keeps : Transforms nat_eq (chars bytes) new hs → All (KeepsWords (chars bytes) new) hs → All (IsTight (chars bytes) new) hs → (chars bytes ≡ new → hs ≡ [])
+      → KeepsLines (chars bytes) new hs → OfSection old k (λ x. CountsHunks old now x n)
   text_keeps transforms words tight unchanged lines =
-      let kept : KeepsCommon old.held.history (chars bytes) new (shown_elements old r.0) (shown_elements now r.0) = record { hunks = hs; transforms = transforms; words = words; tight = tight; unchanged = unchanged; lines = λ other. lines; stays = r.2.stays } in (
+      let kept : KeepsCommon old.held.history (chars bytes) new (shown_elements old r.0) (shown_elements now r.0) =
+      record { hunks = hs; transforms = transforms; words = words; tight = tight; unchanged = unchanged; lines = λ other. lines; stays = r.2.stays } in (
         r.0,
         r.1,
         subst (λ (o : List ℕ). Counts o (text now.held.history r.0)) (sym old_is) (subst (Counts (chars bytes)) (sym all_revised.here) (kept, r.2.count)),
@@ -186,7 +193,8 @@ call_revised old now k bytes new hs (Ok n) t e r = text_revised old now k n byte
 call_revised old now k bytes new hs (Err why) t e r = tt
 
 pub call_keeps : (old now : State) (k : ℕ) (bytes new : List ℕ) (hs : List Hunk) (result : Result ℕ EditFault) → IsTextAt old k bytes → with_hunks (chars bytes) new 0 hs ≡ new
-    → Transforms nat_eq (chars bytes) new hs → All (KeepsWords (chars bytes) new) hs → All (IsTight (chars bytes) new) hs → (chars bytes ≡ new → hs ≡ []) → KeepsLines (chars bytes) new hs
+    → Transforms nat_eq (chars bytes) new hs → All (KeepsWords (chars bytes) new) hs → All (IsTight (chars bytes) new) hs → (chars bytes ≡ new → hs ≡ [])
+    → KeepsLines (chars bytes) new hs
     → IfOk result (λ n. OfSection old k (λ x. AreHunksMade old now k x hs new n)) → IfOk result (λ n. OfSection old k (λ x. CountsHunks old now x n))
 call_keeps old now k bytes new hs (Ok n) t e transforms words tight unchanged lines r = text_keeps old now k n bytes new hs t e r transforms words tight unchanged lines
 call_keeps old now k bytes new hs (Err why) t e transforms words tight unchanged lines r = tt
@@ -197,7 +205,8 @@ pub call_few : (old now : State) (k : ℕ) (bytes new : List ℕ) (hs : List Hun
 call_few old now k bytes new hs (Ok n) t e transforms r = text_few old now k n bytes new hs t e r transforms
 call_few old now k bytes new hs (Err why) t e transforms r = tt
 
-pub call_touches : (old now : State) (k : ℕ) (hs : List Hunk) (new : List ℕ) (result : Result ℕ EditFault) → IfOk result (λ n. OfSection old k (λ x. AreHunksMade old now k x hs new n))
+pub call_touches : (old now : State) (k : ℕ) (hs : List Hunk) (new : List ℕ) (result : Result ℕ EditFault)
+    → IfOk result (λ n. OfSection old k (λ x. AreHunksMade old now k x hs new n))
     → IfOk result (λ n. OfSection old k (λ x. MakesOnly (InText x (shown_elements old x)) old now))
 call_touches old now k hs new (Ok n) r = (r.0, r.1, r.2.touches)
 call_touches old now k hs new (Err why) r = tt
@@ -228,7 +237,8 @@ text_none f None e = refl
 text_none f (Some x) e = absurd (none-some (f x) e)
 
 -- a text typed scalar by scalar
-pub typed_more : (bytes scalars : List ℕ) (i ch : ℕ) → i < length scalars → ch ≡ get_or scalars i ch → bytes ≡ encode_utf8_all (take i scalars) → bytes ++ encode ch ≡ encode_utf8_all (take (i + 1) scalars)
+pub typed_more : (bytes scalars : List ℕ) (i ch : ℕ) → i < length scalars → ch ≡ get_or scalars i ch → bytes ≡ encode_utf8_all (take i scalars)
+    → bytes ++ encode ch ≡ encode_utf8_all (take (i + 1) scalars)
 typed_more bytes scalars i ch l is e =
     ap (λ b. b ++ encode ch) e ∙ ap (λ x. encode_utf8_all (take i scalars) ++ x) (sym (append-nil (encode ch)))
     ∙ sym (encodes-append (take i scalars) (ch ∷ [])) ∙ ap (λ x. encode_utf8_all (take i scalars ++ x ∷ [])) is ∙ ap encode_utf8_all (sym (take_more scalars i ch l))

@@ -83,7 +83,8 @@ filled_none s parts = record {
 }
 
 module _ (start now new : State) (parts : List Part) (j n m : ℕ) (s : Identifier) (part : Part) (w : Lawful start.held.history)
-    (before : AreFilled start now parts j n) (here : slice_get (arranged start.held.history) j ≡ Some s) (is : (d : Part) → part ≡ slice_index_or parts j d) (f : IsFilledIn now new s part m) where
+    (before : AreFilled start now parts j n) (here : slice_get (arranged start.held.history) j ≡ Some s) (is : (d : Part) → part ≡ slice_index_or parts j d)
+    (f : IsFilledIn now new s part m) where
   abbrev xs : List Identifier
   xs = arranged start.held.history
 
@@ -185,7 +186,8 @@ pub shown_holds : (h : List Op) (s : Identifier) → Lawful h → Contains (show
 shown_holds h s w m = ap is_some (shown_is h s w m).1
 
 -- sections were added, dropped and moved first
-pub revised_shaped : (old mid new : State) (parts : List Part) (n m : ℕ) → Lawful old.held.history → IsReshaped old mid n → IsRevision mid new parts m → IsRevision old new parts (n + m)
+pub revised_shaped : (old mid new : State) (parts : List Part) (n m : ℕ) → Lawful old.held.history → IsReshaped old mid n → IsRevision mid new parts m
+    → IsRevision old new parts (n + m)
 revised_shaped old mid new parts n m w first next = record {
   makes = makes_join old mid new n m first.makes next.makes;
   reads = next.reads;

@@ -1,5 +1,5 @@
 -- What one operation more leaves of the sections.
-use Rattle.std.proofs.Common.{Bool, List, [], ap, false, inl, inr, not, refl, sym, true, ◌&&◌, ◌||◌, ◌∙◌, ◌∷◌, ◌≡◌, ◌≢◌, ℕ}
+use Rattle.std.proofs.Common.{List, [], ap, false, inl, inr, not, refl, sym, true, ◌&&◌, ◌||◌, ◌∙◌, ◌∷◌, ◌≡◌, ◌≢◌, ℕ}
 use Rattle.std.specs.Prelude.{None, Option, Some, filter, flat_map, is_some}
 use Rattle.std.specs.List.{Contains}
 use Rattle.fugue_ids.specs.Identifiers.{Identifier, id_eq}
@@ -70,7 +70,8 @@ module _ (h : List Op) (e : Op) (w : Lawful h) (j : Joins h e) where
       let title : title_of (holder (e ∷ h) s) ≡ title_of (holder h s) = ap title_of (holder-kept e f.0 h s j f.1 ∙ sym f.1) in
       λ i. elim (won q s i) [ None ↦ title i | Some r ↦ r.value ]
 
-  pub section_kept : IsQuiet h e → (s : Identifier) → heading (e ∷ h) s ≡ heading h s → shown (within s) (e ∷ h) ≡ shown (within s) h → order (within s) (e ∷ h) ≡ order (within s) h → SameSection h (e ∷ h) s
+  pub section_kept : IsQuiet h e → (s : Identifier) → heading (e ∷ h) s ≡ heading h s → shown (within s) (e ∷ h) ≡ shown (within s) h
+      → order (within s) (e ∷ h) ≡ order (within s) h → SameSection h (e ∷ h) s
   section_kept q s headed same ordered = record {
     headed = headed;
     reads = text_kept s same;
@@ -112,7 +113,8 @@ places_kept h e q =
       part = λ op k. ap (λ b. op_eq e op || b) k ∙ or-true (op_eq e op);
       moved = moved;
       positions = λ s. ap (position_by s)
-          (ap (winner (e ∷ h) s) moved ∙ ap best (filter_same (counts (e ∷ h) s) (counts h s) (moves h) (λ c m. ap (λ b. id_eq c.section s && not (b || is_hidden h c.id)) (q.spares c m))));
+          (ap (winner (e ∷ h) s) moved
+          ∙ ap best (filter_same (counts (e ∷ h) s) (counts h s) (moves h) (λ c m. ap (λ b. id_eq c.section s && not (b || is_hidden h c.id)) (q.spares c m))));
     }
 
 -- the delete of a section deletes no move
@@ -131,15 +133,18 @@ delete_still h s w m = record {
 none_of : (h : List Op) (s : Identifier) (cs : List Retitle) → ((c : Retitle) → Contains cs c → c.section ≢ s) → filter (counts h s) cs ≡ []
 none_of h s [] other = refl
 none_of h s (c ∷ cs) other =
-    filter_no (counts h s) c cs (ap (λ b. b && not (is_hidden h c.id)) (ne-id_eq c.section s (other c (contains_here c cs)))) ∙ none_of h s cs (λ d m. other d (contains_there c cs d m))
+    filter_no (counts h s) c cs (ap (λ b. b && not (is_hidden h c.id)) (ne-id_eq c.section s (other c (contains_here c cs))))
+    ∙ none_of h s cs (λ d m. other d (contains_there c cs d m))
 
 -- a Section that is new is headed by its own title
-pub new_heading : (h : List Op) (x : Identifier) (left right : Option Identifier) (title : List ℕ) → Lawful h → holds h x ≡ false → heading (Section x left right title ∷ h) x ≡ title
+pub new_heading : (h : List Op) (x : Identifier) (left right : Option Identifier) (title : List ℕ) → Lawful h → holds h x ≡ false
+    → heading (Section x left right title ∷ h) x ≡ title
 new_heading h x left right title w fresh =
     let e : Op = Section x left right title in
     let other = λ (c : Retitle) (m : Contains (retitles h) c).
     let o = claim_found retitle_in is_valid_title (λ e r k. (title_shape e r k).own) title-kept h c w m in
     let f = section_held h c.section (passing_from (is_valid_title h) (retitle_in o.0) c o.2).1 in
     λ (d : c.section ≡ x). false≢true (sym fresh ∙ (ap (holds h) (sym d) ∙ ap is_some f.1)) in
-    let none : winner (e ∷ h) x (retitles (e ∷ h)) ≡ None = ap (winner (e ∷ h) x) (claims-none retitle_in is_valid_title e h refl) ∙ ap best (none_of (e ∷ h) x (retitles h) other) in
+    let none : winner (e ∷ h) x (retitles (e ∷ h)) ≡ None =
+    ap (winner (e ∷ h) x) (claims-none retitle_in is_valid_title e h refl) ∙ ap best (none_of (e ∷ h) x (retitles h) other) in
     ap (λ (o : Option Retitle). elim o [ None ↦ title_of (holder (e ∷ h) x) | Some r ↦ r.value ]) none ∙ ap title_of (holder-own e h x (id_eq-refl x))

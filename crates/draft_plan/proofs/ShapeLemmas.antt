@@ -1,5 +1,6 @@
 -- Sections added, dropped and moved.
-use Rattle.std.proofs.Common.{Bool, List, [], ap, arith, cond, drop, false, get_or, inl, inr, length, length-append, length-drop, nat_lt, refl, subst, suc, sym, take, true, zero, ℕ, ◌+◌, ◌++◌, ◌<◌, ◌≤◌, ◌∙◌, ◌∷◌, ◌≡◌, ◌≢◌, ◌⊎◌}
+use Rattle.std.proofs.Common.{Bool, List, [], ap, arith, cond, drop, false, get_or, inl, inr, length, length-append, length-drop, nat_lt, refl, subst, suc, sym, take, true, zero}
+use Rattle.std.proofs.Common.{ℕ, ◌+◌, ◌++◌, ◌<◌, ◌≤◌, ◌∙◌, ◌∷◌, ◌≡◌, ◌≢◌, ◌⊎◌}
 use Rattle.std.specs.Prelude.{Err, None, Ok, Option, Some, slice_get}
 use Rattle.std.specs.List.{Contains}
 use Rattle.std.specs.Option.{option_or}
@@ -107,7 +108,8 @@ reshaped_join old mid new n m first next was = record {
   keeps = keeps_join old.held.history mid.held.history new.held.history first.keeps next.keeps;
   touches = only_join (InSections old.held.history) old mid new first.touches
       (only_weaker (InSections mid.held.history) (InSections old.held.history) mid new
-      (touches_weaker (λ s. ⊥) (Contains (shown catalogue mid.held.history)) (Unit {0}) (λ s. ⊥) (Contains (shown catalogue old.held.history)) (Unit {0}) (λ s b. b) was (λ u. u)) next.touches);
+      (touches_weaker (λ s. ⊥) (Contains (shown catalogue mid.held.history)) (Unit {0}) (λ s. ⊥) (Contains (shown catalogue old.held.history)) (Unit {0}) (λ s b. b) was (λ u. u))
+      next.touches);
 }
 
 -- nothing is dropped then
@@ -159,14 +161,16 @@ one_keeps h e w j q same ordered came = record {
   came = came;
 }
 
-one_shaped : (old new : State) (e : Op) (n : ℕ) → new.held.history ≡ e ∷ old.held.history → Makes old new n → KeepsHeld old.held.history (e ∷ old.held.history) → Gains old new (e ∷ []) → InShape e → IsShaped old new n
+one_shaped : (old new : State) (e : Op) (n : ℕ) → new.held.history ≡ e ∷ old.held.history → Makes old new n → KeepsHeld old.held.history (e ∷ old.held.history)
+    → Gains old new (e ∷ []) → InShape e → IsShaped old new n
 one_shaped old new e n is makes keeps gained k = record { makes = makes; keeps = subst (KeepsHeld old.held.history) (sym is) keeps; touches = only_one InShape old new e gained k }
 
 pub history_is : (old new : State) (ops : List Op) → Gains old new ops → new.held.history ≡ history_with old.held.history ops
 history_is old new ops g = ap (λ (s : State). s.held.history) g.others
 
 -- a section was dropped
-pub drop_shaped : (old new : State) (k n : ℕ) → Lawful old.held.history → k < length (shown catalogue old.held.history) → RefusesExactly old (DropSection k) (Ok n) → IsMade old new (DropSection k) n
+pub drop_shaped : (old new : State) (k n : ℕ) → Lawful old.held.history → k < length (shown catalogue old.held.history) → RefusesExactly old (DropSection k) (Ok n)
+    → IsMade old new (DropSection k) n
     → IsReshaped old new n × (length (shown catalogue new.held.history) + 1 ≡ length (shown catalogue old.held.history)) × KeepsPlaces old.held.history new.held.history
 drop_shaped old new k n w l exact made =
     let h : List Op = old.held.history in
@@ -190,7 +194,8 @@ drop_shaped old new k n w l exact made =
     )
 
 -- a section was added
-pub add_shaped : (old new : State) (at n : ℕ) (title : List ℕ) → Lawful old.held.history → at ≤ length (shown catalogue old.held.history) → RefusesExactly old (Add at title) (Ok n) → IsMade old new (Add at title) n
+pub add_shaped : (old new : State) (at n : ℕ) (title : List ℕ) → Lawful old.held.history → at ≤ length (shown catalogue old.held.history)
+    → RefusesExactly old (Add at title) (Ok n) → IsMade old new (Add at title) n
     → IsShaped old new n × (length (shown catalogue new.held.history) ≡ length (shown catalogue old.held.history) + 1) × KeepsPlaces old.held.history new.held.history
 add_shaped old new at n title w l exact made =
     let h : List Op = old.held.history in
@@ -213,14 +218,16 @@ add_shaped old new at n title w l exact made =
     )
 
 -- a section was moved
-pub move_shaped : (old new : State) (k j n : ℕ) → Lawful old.held.history → RefusesFor (move_refusal old k j) (Ok n) → IsMoveMade old new k j n → ShowsAsBefore old new → IsShaped old new n
+pub move_shaped : (old new : State) (k j n : ℕ) → Lawful old.held.history → RefusesFor (move_refusal old k j) (Ok n) → IsMoveMade old new k j n → ShowsAsBefore old new
+    → IsShaped old new n
 move_shaped old new k j n w refuses made shows =
     let h : List Op = old.held.history in
     let e : Op = move_by old made.section k j in
     let is : new.held.history ≡ e ∷ h = history_is old new (e ∷ []) made.gained in
     let same = λ (p : Place). ap (shown p) (sym is) ∙ shows.lists p in
     let keeps : KeepsHeld h (e ∷ h) =
-    one_keeps h e w (joins h e made.moved.ready) (record { says = refl; spares = λ c m. refl }) (λ t. same (within t)) (λ t. ap (order (within t)) (sym is) ∙ shows.orders (within t)) (λ s m. inl (subst (λ l. Contains l s) (same catalogue) m)) in
+    one_keeps h e w (joins h e made.moved.ready) (record { says = refl; spares = λ c m. refl }) (λ t. same (within t))
+    (λ t. ap (order (within t)) (sym is) ∙ shows.orders (within t)) (λ s m. inl (subst (λ l. Contains l s) (same catalogue) m)) in
     let count : n ≡ length (made_of old (Move k j)) =
     made.count ∙ sym (ap (λ o. length (elim o as (λ _. List Op) [ None ↦ [] | Some section ↦ move_by old section k j ∷ [] ])) made.placed) in
     one_shaped old new e n is (makes_one old new (Move k j) n (changed_move old new k j n refuses made) count) keeps made.gained tt
@@ -244,11 +251,13 @@ drop_limit old k why l exact =
     let there : refusal_message old (DropSection k) ≡ refused_ops old 1 = ap (λ o. in_section o (λ x. refused_ops old 1)) x.1 in
     too_many (nat_lt old.most (held_count old + 1)) (held_count old) why (sym there ∙ (exact why (λ e. cc e)).0 refl)
 
-pub drop_stops : (old new : State) (k : ℕ) (why : EditFault) → k < length (shown catalogue old.held.history) → LeavesUnmade old new (DropSection k) why → RefusesExactly old (DropSection k) (Err why)
+pub drop_stops : (old new : State) (k : ℕ) (why : EditFault) → k < length (shown catalogue old.held.history) → LeavesUnmade old new (DropSection k) why
+    → RefusesExactly old (DropSection k) (Err why)
     → StopsAtLimit old new (fault.Edit why)
 drop_stops old new k why l left exact = record { limit = drop_limit old k why l exact; stops = stops_edit AnyChange old new (DropSection k) why tt left exact }
 
-add_limit : (old : State) (at : ℕ) (title : List ℕ) (why : EditFault) → at ≤ length (shown catalogue old.held.history) → RefusesExactly old (Add at title) (Err why) → IsLimit (fault.Edit why)
+add_limit : (old : State) (at : ℕ) (title : List ℕ) (why : EditFault) → at ≤ length (shown catalogue old.held.history) → RefusesExactly old (Add at title) (Err why)
+    → IsLimit (fault.Edit why)
 add_limit old at title edit.NoMemory l exact = tt
 add_limit old at title why l exact =
     let there : refusal_message old (Add at title) ≡ refused_elements old 1 =

@@ -15,10 +15,13 @@ pub shown_more : (h : List Op) (ys : List Identifier) (shown : List Shown) (k : 
     → map shown_part shown ≡ map (arranged_part h) (take k ys) → map shown_part (shown ++ x ∷ []) ≡ map (arranged_part h) (take (k + 1) ys)
 shown_more h ys shown k s x at is was =
     let g = got ys k s at in
-    map_push shown_part shown x ∙ (ap (λ l. l ++ shown_part x ∷ []) was ∙ (ap (λ e. map (arranged_part h) (take k ys) ++ e ∷ []) (is ∙ ap (arranged_part h) (sym g.1)) ∙ sym (map_more (arranged_part h) ys k s g.0)))
+    map_push shown_part shown x
+    ∙ (ap (λ l. l ++ shown_part x ∷ []) was
+    ∙ (ap (λ e. map (arranged_part h) (take k ys) ++ e ∷ []) (is ∙ ap (arranged_part h) (sym g.1)) ∙ sym (map_more (arranged_part h) ys k s g.0)))
 
 -- parts that were compared up to a place
-pub same_more : (a b : List ReadPart) (k : ℕ) (d : ReadPart) → k < length a → k < length b → map seen_part (take k a) ≡ map seen_part (take k b) → seen_part (get_or a k d) ≡ seen_part (get_or b k d)
+pub same_more : (a b : List ReadPart) (k : ℕ) (d : ReadPart) → k < length a → k < length b → map seen_part (take k a) ≡ map seen_part (take k b)
+    → seen_part (get_or a k d) ≡ seen_part (get_or b k d)
     → map seen_part (take (k + 1) a) ≡ map seen_part (take (k + 1) b)
 same_more a b k d l m was is =
     map_more seen_part a k d l ∙ (ap (λ x. x ++ seen_part (get_or a k d) ∷ []) was ∙ (ap (λ e. map seen_part (take k b) ++ e ∷ []) is ∙ sym (map_more seen_part b k d m)))

@@ -18,7 +18,8 @@ passages_are_spans history section first last elements w p =
     let listing : List Identifier = shown (within section) history in
     let in_order : AllPairs (λ x y. before (within section) history x y ≡ true) listing =
     AllPairs-filter (λ x y. before (within section) history x y ≡ true) (λ x. not (is_hidden history x)) (order (within section) history) total.agrees in
-    let begins : (margin_span history section first last).from ≡ p.from = count_at (before (within section) history) total.irreflexive total.transitive listing p.from first in_order p.begins in
+    let begins : (margin_span history section first last).from ≡ p.from =
+    count_at (before (within section) history) total.irreflexive total.transitive listing p.from first in_order p.begins in
     let one_more : suc p.to ≡ p.to + 1 = omega arith in
     let ends : (margin_span history section first last).to ≡ p.to + 1 =
     up_to (before (within section) history) total.irreflexive total.transitive last listing in_order (get_in listing p.to last p.ends)

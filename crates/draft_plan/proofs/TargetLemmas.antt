@@ -48,7 +48,8 @@ put_all xs at x t = (λ m. from (in_spliced xs (x ∷ []) at 0 t m), λ side. in
     from (inr m) = elim (contains_cases x [] t m) [ inl e ↦ inr (sym e) | inr k ↦ absurd (contains_none t k) ]
 
     into : Contains xs t ⊎ (t ≡ x) → Contains (splice xs at 0 (x ∷ [])) t
-    into (inr e) = Contains-append_left (take at xs ++ x ∷ []) (drop (at + 0) xs) t (Contains-append_right (take at xs) (x ∷ []) t (subst (Contains (x ∷ [])) (sym e) (contains_here x [])))
+    into (inr e) = Contains-append_left (take at xs ++ x ∷ []) (drop (at + 0) xs) t
+        (Contains-append_right (take at xs) (x ∷ []) t (subst (Contains (x ∷ [])) (sym e) (contains_here x [])))
     into (inl m) =
         let whole : take at xs ++ drop (at + 0) xs ≡ xs = let e : at + 0 ≡ at = omega arith in ap (λ n. take at xs ++ drop n xs) e ∙ take-append-drop at xs in
         elim (Contains-append_cases (take at xs) (drop (at + 0) xs) t (subst (λ l. Contains l t) (sym whole) m)) [
@@ -57,8 +58,10 @@ put_all xs at x t = (λ m. from (in_spliced xs (x ∷ []) at 0 t m), λ side. in
         ]
 
 -- a section was added
-pub added : (old new : State) (at n : ℕ) (title : List ℕ) (s : Identifier) → Lawful old.held.history → at ≤ length (shown catalogue old.held.history) → RefusesExactly old (Add at title) (Ok n)
-    → IsMade old new (Add at title) n → shown catalogue new.held.history ≡ splice (shown catalogue old.held.history) at 0 (added_ids old) → Some s ≡ slice_get (shown catalogue new.held.history) at
+pub added : (old new : State) (at n : ℕ) (title : List ℕ) (s : Identifier) → Lawful old.held.history → at ≤ length (shown catalogue old.held.history)
+    → RefusesExactly old (Add at title) (Ok n)
+    → IsMade old new (Add at title) n → shown catalogue new.held.history ≡ splice (shown catalogue old.held.history) at 0 (added_ids old)
+    → Some s ≡ slice_get (shown catalogue new.held.history) at
     → IsAdded old new at (encode_utf8_all title) s
 added old new at n title s w l exact made here is =
     let xs : List Identifier = shown catalogue old.held.history in
@@ -71,7 +74,9 @@ added old new at n title s w l exact made here is =
       places = (add_shaped old new at n title w l exact made).2;
       fresh = ap (holds old.held.history) same ∙ fresh old;
       there = sym is;
-      headed = ap encode_utf8_all (ap (heading new.held.history) same ∙ (ap (λ g. heading g x) (history_is old new (made_by old (Add at title)) made.gained) ∙ new_heading old.held.history x (left_for catalogue old.held.history at) (right_for catalogue old.held.history at) title w (fresh old)));
+      headed = ap encode_utf8_all (ap (heading new.held.history) same
+          ∙ (ap (λ g. heading g x) (history_is old new (made_by old (Add at title)) made.gained)
+          ∙ new_heading old.held.history x (left_for catalogue old.held.history at) (right_for catalogue old.held.history at) title w (fresh old)));
       all = λ t. rw (here, same) (put_all xs at x t);
     }
 
@@ -95,7 +100,8 @@ get_or_past_none : (xs : List (Option ℕ)) (i : ℕ) → length xs ≤ i → ge
 get_or_past_none xs i l = get_or_past xs i None l
 
 -- no part has its section yet
-pub targets_start : (start : State) (ys : List Identifier) (p : Pairs) (parts : ℕ) (ps : List Part) → IsMatching (length ys) parts p → AreLeft ys p (length ys) (shown catalogue start.held.history) → AreTargetsTo start start ys p ps 0 []
+pub targets_start : (start : State) (ys : List Identifier) (p : Pairs) (parts : ℕ) (ps : List Part) → IsMatching (length ys) parts p
+    → AreLeft ys p (length ys) (shown catalogue start.held.history) → AreTargetsTo start start ys p ps 0 []
 targets_start start ys p parts ps m left = record {
   long = refl;
   kept = λ j i s l e f. absurd (omega arith);
@@ -107,16 +113,19 @@ targets_start start ys p parts ps m left = record {
   titled = λ j s q e f g. cc;
 }
   where
-    paired : (i : ℕ) (s : Identifier) → slice_get ys i ≡ Some s → (o : Option ℕ) → part_of p i ≡ o → IsSome (part_of p i) → (j : ℕ) × (i' : ℕ) × (0 ≤ j) × (section_of p j ≡ Some i') × (slice_get ys i' ≡ Some s)
+    paired : (i : ℕ) (s : Identifier) → slice_get ys i ≡ Some s → (o : Option ℕ) → part_of p i ≡ o → IsSome (part_of p i)
+        → (j : ℕ) × (i' : ℕ) × (0 ≤ j) × (section_of p j ≡ Some i') × (slice_get ys i' ≡ Some s)
     paired i s e None f some = let g : false ≡ true = subst IsSome f some in cc
     paired i s e (Some j) f some = (j, i, omega arith, (m.inverse i j).1 f, e)
 
-    which : (i : ℕ) (s : Identifier) → slice_get ys i ≡ Some s → (length ys ≤ i) ⊎ IsSome (part_of p i) → (j : ℕ) × (i' : ℕ) × (0 ≤ j) × (section_of p j ≡ Some i') × (slice_get ys i' ≡ Some s)
+    which : (i : ℕ) (s : Identifier) → slice_get ys i ≡ Some s → (length ys ≤ i) ⊎ IsSome (part_of p i)
+        → (j : ℕ) × (i' : ℕ) × (0 ≤ j) × (section_of p j ≡ Some i') × (slice_get ys i' ≡ Some s)
     which i s e (inl l) = let within = (got ys i s e).0 in absurd (omega arith)
     which i s e (inr some) = paired i s e (part_of p i) refl some
 
 -- one part more
-module _ (start now new : State) (ys : List Identifier) (p : Pairs) (parts k : ℕ) (ps : List Part) (q : Part) (here : slice_get ps k ≡ Some q) (anchor : Option Identifier) (ts us : List Identifier) (m : IsMatching (length ys) parts p) (once : AreDistinct ys) (w : Lawful now.held.history)
+module _ (start now new : State) (ys : List Identifier) (p : Pairs) (parts k : ℕ) (ps : List Part) (q : Part) (here : slice_get ps k ≡ Some q) (anchor : Option Identifier)
+    (ts us : List Identifier) (m : IsMatching (length ys) parts p) (once : AreDistinct ys) (w : Lawful now.held.history)
     (held : (j i : ℕ) (s : Identifier) → section_of p j ≡ Some i → slice_get ys i ≡ Some s → holds start.held.history s ≡ true)
     (keeps : (t : Identifier) → holds start.held.history t ≡ true → holds now.held.history t ≡ true)
     (was : AreTargetsTo start now ys p ps k ts) (taken : IsPartTaken now new ys (section_of p k) anchor q.title ts us) where
@@ -185,7 +194,9 @@ module _ (start now new : State) (ys : List Identifier) (p : Pairs) (parts k : �
       by None f q g = true≢false (sym (shown_holds now.held.history s w (was.there s (get_in ts j s e))) ∙ (taken.came f).added.fresh)
       by (Some i) f None g = true≢false (sym (held k i s f (kept_here i f)) ∙ was.fresh j s g e)
       by (Some i) f (Some i') g =
-          let within : i' < length ys = let back = (m.inverse i' j).0 g in elim (cases_lt i' (length ys)) [ inl l ↦ l | inr n ↦ let none = get_or_past_none p.of_section.items i' (omega (arith, m.sections_are)) in cc ] in
+          let within : i' < length ys = let back =
+          (m.inverse i' j).0 g in elim (cases_lt i' (length ys))
+          [ inl l ↦ l | inr n ↦ let none = get_or_past_none p.of_section.items i' (omega (arith, m.sections_are)) in cc ] in
           let at = get_some ys i' within in
           let same : at.0 ≡ s = let t = was.kept j i' at.0 (before j s e) g at.1 in cc (t, e) in
           let same_place : i' ≡ i = once i' i s (at.1 ∙ ap Some same) (kept_here i f) in
@@ -227,7 +238,8 @@ module _ (start now new : State) (ys : List Identifier) (p : Pairs) (parts k : �
       ]
 
 -- each part has its section
-pub targets_all : (start now : State) (ys : List Identifier) (p : Pairs) (parts k : ℕ) (ps : List Part) (ts : List Identifier) → IsMatching (length ys) parts p → k ≡ parts → length ps ≡ parts → AreTargetsTo start now ys p ps k ts → AreTargets start now ys p ps ts
+pub targets_all : (start now : State) (ys : List Identifier) (p : Pairs) (parts k : ℕ) (ps : List Part) (ts : List Identifier) → IsMatching (length ys) parts p → k ≡ parts
+    → length ps ≡ parts → AreTargetsTo start now ys p ps k ts → AreTargets start now ys p ps ts
 targets_all start now ys p parts k ps ts m is long was = record {
   long = was.long ∙ (is ∙ sym long);
   kept = λ j i s e f. was.kept j i s (below j i e) e f;
@@ -242,25 +254,33 @@ targets_all start now ys p parts k ps ts m is long was = record {
 
 -- a section that is matched is within, and is held where it is left
 pub matched_within : (sections parts : ℕ) (p : Pairs) (j i : ℕ) → IsMatching sections parts p → section_of p j ≡ Some i → i < sections
-matched_within sections parts p j i m e = let back = (m.inverse i j).0 e in elim (cases_lt i sections) [ inl l ↦ l | inr n ↦ let none = get_or_past_none p.of_section.items i (omega (arith, m.sections_are)) in cc ]
+matched_within sections parts p j i m e = let back =
+    (m.inverse i j).0 e in elim (cases_lt i sections) [ inl l ↦ l | inr n ↦ let none = get_or_past_none p.of_section.items i (omega (arith, m.sections_are)) in cc ]
 
-pub matched_held : (start : State) (ys : List Identifier) (parts : ℕ) (p : Pairs) → Lawful start.held.history → IsMatching (length ys) parts p → AreLeft ys p (length ys) (shown catalogue start.held.history)
+pub matched_held : (start : State) (ys : List Identifier) (parts : ℕ) (p : Pairs) → Lawful start.held.history → IsMatching (length ys) parts p
+    → AreLeft ys p (length ys) (shown catalogue start.held.history)
     → (j i : ℕ) (s : Identifier) → section_of p j ≡ Some i → slice_get ys i ≡ Some s → holds start.held.history s ≡ true
 matched_held start ys parts p w m left j i s e f =
     let pair = (m.inverse i j).0 e in
     shown_holds start.held.history s w (left.kept i s f (inr (subst IsSome (sym pair) refl)))
 
 -- and nothing was moved for it
-pub taken_places : (old new : State) (sections : List Identifier) (place : Option ℕ) (anchor : Option Identifier) (title : List ℕ) (before targets : List Identifier) → IsPartTaken old new sections place anchor title before targets
+pub taken_places : (old new : State) (sections : List Identifier) (place : Option ℕ) (anchor : Option Identifier) (title : List ℕ) (before targets : List Identifier)
+    → IsPartTaken old new sections place anchor title before targets
     → KeepsPlaces old.held.history new.held.history
-taken_places old new sections (Some i) anchor title before targets taken = subst (λ (s : State). KeepsPlaces old.held.history s.held.history) (sym (taken.kept i refl).1) (places_none old.held.history)
+taken_places old new sections (Some i) anchor title before targets taken =
+    subst (λ (s : State). KeepsPlaces old.held.history s.held.history) (sym (taken.kept i refl).1) (places_none old.held.history)
 taken_places old new sections None anchor title before targets taken = (taken.came refl).added.places
 
 -- what sections are added behind is one of those of the parts before
-pub anchored_in : (anchor : Option Identifier) (xs ys : List Identifier) → IfSome anchor (λ t. Contains xs t) → ((t : Identifier) → Contains xs t → Contains ys t) → IfSome anchor (λ t. Contains ys t)
+pub anchored_in : (anchor : Option Identifier) (xs ys : List Identifier) → IfSome anchor (λ t. Contains xs t) → ((t : Identifier) → Contains xs t → Contains ys t)
+    → IfSome anchor (λ t. Contains ys t)
 anchored_in None xs ys none within = none
 anchored_in (Some s) xs ys m within = within s m
 
-pub anchored_more : (old new : Option Identifier) (xs ys : List Identifier) (s : Identifier) → ys ≡ xs ++ s ∷ [] → IfSome old (λ t. Contains xs t) → (new ≡ Some s) ⊎ (new ≡ old) → IfSome new (λ t. Contains ys t)
-anchored_more old new xs ys s is was (inl e) = subst (λ o. IfSome o (λ t. Contains ys t)) (sym e) (subst (λ l. Contains l s) (sym is) (Contains-append_right xs (s ∷ []) s (contains_here s [])))
-anchored_more old new xs ys s is was (inr e) = subst (λ o. IfSome o (λ t. Contains ys t)) (sym e) (anchored_in old xs ys was (λ t m. subst (λ l. Contains l t) (sym is) (Contains-append_left xs (s ∷ []) t m)))
+pub anchored_more : (old new : Option Identifier) (xs ys : List Identifier) (s : Identifier) → ys ≡ xs ++ s ∷ [] → IfSome old (λ t. Contains xs t) → (new ≡ Some s) ⊎ (new ≡ old)
+    → IfSome new (λ t. Contains ys t)
+anchored_more old new xs ys s is was (inl e) =
+    subst (λ o. IfSome o (λ t. Contains ys t)) (sym e) (subst (λ l. Contains l s) (sym is) (Contains-append_right xs (s ∷ []) s (contains_here s [])))
+anchored_more old new xs ys s is was (inr e) =
+    subst (λ o. IfSome o (λ t. Contains ys t)) (sym e) (anchored_in old xs ys was (λ t m. subst (λ l. Contains l t) (sym is) (Contains-append_left xs (s ∷ []) t m)))

@@ -1,5 +1,5 @@
 -- Cuts and puts in the text of one section, one after another.
-use Rattle.std.proofs.Common.{Bool, List, [], ap, arith, cond, drop, false, length, length-append, refl, subst, suc, sym, take, true, ℕ, ◌+◌, ◌++◌, ◌≤◌, ◌∙◌, ◌∷◌, ◌≡◌, ◌≢◌}
+use Rattle.std.proofs.Common.{Bool, List, [], ap, arith, cond, drop, false, length, length-append, refl, subst, suc, sym, take, true, ℕ, ◌+◌, ◌++◌, ◌≤◌, ◌∙◌, ◌∷◌, ◌≡◌}
 use Rattle.std.specs.Prelude.{All, Option, Some, None, Ok, Err, slice_get}
 use Rattle.std.proofs.Math.Seq.{drop-append_seam, take-append_seam}
 use Rattle.std.proofs.lemmas.Bool.{le-ltb}
@@ -13,8 +13,9 @@ use Rattle.origin_model.specs.declared.edit_fault.EditFault.{EditFault}
 use Rattle.origin_model.specs.declared.edit_fault.EditFault.TheVariants.{IdsSpent, NoMemory, OutOfRange, TooMany}
 use Rattle.origin_model.specs.declared.operations.Place.TheVariants.{Section as within}
 use Rattle.origin_model.specs.edits.Edits.{Command, Cut, Put, history_with, splice, typed_ids}
-use Rattle.origin_model.specs.edits.Effect.{Gains, IsMade, LeavesUnmade, OfSection}
-use Rattle.origin_model.specs.edits.Refusal.{RefusesExactly, in_range, in_section, made_by, next_of_own, put_ids, refusal_message, refused_elements, refused_ops, section_shown, shown_count}
+use Rattle.origin_model.specs.edits.Effect.{IsMade, LeavesUnmade, OfSection}
+use Rattle.origin_model.specs.edits.Refusal.{RefusesExactly, in_range, in_section, made_by, next_of_own, put_ids, refusal_message, refused_elements, refused_ops, section_shown}
+use Rattle.origin_model.specs.edits.Refusal.{shown_count}
 use Rattle.origin_model.specs.edits.State.{IsSound, State}
 use Rattle.origin_model.specs.operations.History.{accepted}
 use Rattle.origin_model.specs.operations.Verdict.{Lawful}
@@ -71,7 +72,8 @@ module _ (old new : State) (k at n count : ℕ) (x : Identifier) (w : Lawful old
       }
 
 -- a put that was made in a text
-module _ (old new : State) (k at count : ℕ) (chs : List ℕ) (x : Identifier) (w : Lawful old.held.history) (e : section_shown old k ≡ Some x) (within_text : at ≤ length (shown_elements old x))
+module _ (old new : State) (k at count : ℕ) (chs : List ℕ) (x : Identifier) (w : Lawful old.held.history) (e : section_shown old k ≡ Some x)
+    (within_text : at ≤ length (shown_elements old x))
     (exact : RefusesExactly old (Put k at chs) (Ok count)) (made : IsMade old new (Put k at chs) count) where
   put_is : new.held.history ≡ history_with old.held.history (made_by old (Put k at chs))
   put_is = history_is old new (made_by old (Put k at chs)) made.gained
@@ -140,7 +142,8 @@ revised_none s k x = record {
 pub revised_few : (old new : State) (k : ℕ) (x : Identifier) (r : List ℕ) (n : ℕ) → IsRevised old new k x r n → IsSound new → n ≤ MOST_OPERATIONS
 revised_few old new k x r n i st =
     let ops : List Op = all_made old i.changes in
-    let long : length (accepted new.held.history) ≡ length (accepted old.held.history) + length ops = ap length i.changed.gained.accepted_are ∙ length-append (accepted old.held.history) ops in
+    let long : length (accepted new.held.history) ≡ length (accepted old.held.history) + length ops =
+    ap length i.changed.gained.accepted_are ∙ length-append (accepted old.held.history) ops in
     omega (arith, long, i.count, length-reverse new.held.history, st.few, st.most_within.1)
 
 -- what was cut and what was put in its place
@@ -190,7 +193,8 @@ typed_long : (replica c : ℕ) (chs : List ℕ) → length (typed_ids replica c 
 typed_long replica c [] = refl
 typed_long replica c (ch ∷ chs) = ap suc (typed_long replica (suc c) chs)
 
-pub hunk_made : (old mid new : State) (k cut put : ℕ) (h : Hunk) (scalars chs : List ℕ) → IsWithinText old k (h.old_at + h.old_len) → h.new_at + h.new_len ≤ length scalars → chs ≡ take h.new_len (drop h.new_at scalars)
+pub hunk_made : (old mid new : State) (k cut put : ℕ) (h : Hunk) (scalars chs : List ℕ) → IsWithinText old k (h.old_at + h.old_len) → h.new_at + h.new_len ≤ length scalars
+    → chs ≡ take h.new_len (drop h.new_at scalars)
     → IsCutAndPut old mid new k h.old_at h.old_len cut put chs → OfSection old k (λ x. IsHunkMade old new k x h scalars (cut + put))
 hunk_made old mid new k cut put h scalars chs l m is i =
     let at : ℕ = h.old_at in
@@ -215,10 +219,18 @@ hunk_made old mid new k cut put h scalars chs l m is i =
         come = come;
         as_many = typed_long mid.number (next_of_own mid) chs ∙ long;
         fresh = new_earlier old mid _ first.changed.gained come (put_new mid chs);
-        count = omega (arith, i.cut_made.count, i.put_made.count, cut_count old k at n (allowed old (Cut k at n) cut i.cuts), put_count mid k at chs (allowed mid (Put k at chs) put i.puts), long);
+        count = omega (
+          arith,
+          i.cut_made.count,
+          i.put_made.count,
+          cut_count old k at n (allowed old (Cut k at n) cut i.cuts),
+          put_count mid k at chs (allowed mid (Put k at chs) put i.puts),
+          long,
+        );
         touches = only_join (InText x (take n (drop at (shown_elements old x)))) old mid new (cut_touches old mid k at n cut x i.lawful e i.cuts i.cut_made)
             (put_touches mid new k at put chs x i.then_lawful there still i.puts i.put_made (take n (drop at (shown_elements old x))));
-        shows = put_shows mid new k at put chs x i.then_lawful there still i.puts i.put_made ∙ ap (λ xs. splice xs at 0 come) left ∙ spliced_again (shown_elements old x) come at n here;
+        shows = put_shows mid new k at put chs x i.then_lawful there still i.puts i.put_made ∙ ap (λ xs. splice xs at 0 come) left
+            ∙ spliced_again (shown_elements old x) come at n here;
         revised = subst (λ r. IsRevised old new k x r (cut + put)) reads
             (revised_join old mid new k x (splice old_text at n []) (splice (text mid.held.history x) at 0 chs) cut put first next);
       },
@@ -245,7 +257,8 @@ limit_elements true n other why k e = subst IsLimit (same_Some (IdsSpent n) why 
 limit_elements false n other why k e = k e
 
 -- the first cause, where there is the section and the position
-first_cause : (s : State) (k position : ℕ) (x : Identifier) (causes : Identifier → Option EditFault) (why : EditFault) → section_shown s k ≡ Some x → position ≤ length (shown_elements s x)
+first_cause : (s : State) (k position : ℕ) (x : Identifier) (causes : Identifier → Option EditFault) (why : EditFault) → section_shown s k ≡ Some x
+    → position ≤ length (shown_elements s x)
     → in_section (section_shown s k) (λ y. in_range position (shown_count s (within y)) (causes y)) ≡ Some why → causes x ≡ Some why
 first_cause s k position x causes why e l refused =
     let found = ap (λ o. in_section o (λ y. in_range position (shown_count s (within y)) (causes y))) e in
@@ -261,7 +274,8 @@ cut_limit s k at n why w l exact =
     by_cause s (Cut k at n) why exact
     (λ f refused. limit_ops _ _ f (first_cause s k (at + n) l.0 (λ y. refused_ops s n) f l.1 (in_elements s l.0 (at + n) w l.2) refused))
 
-put_limit : (s : State) (k at : ℕ) (chs : List ℕ) (x : Identifier) (why : EditFault) → section_shown s k ≡ Some x → at ≤ length (shown_elements s x) → RefusesExactly s (Put k at chs) (Err why) → IsLimit why
+put_limit : (s : State) (k at : ℕ) (chs : List ℕ) (x : Identifier) (why : EditFault) → section_shown s k ≡ Some x → at ≤ length (shown_elements s x)
+    → RefusesExactly s (Put k at chs) (Err why) → IsLimit why
 put_limit s k at chs x why e l exact =
     by_cause s (Put k at chs) why exact
     (λ f refused. limit_elements _ _ (refused_ops s (length chs)) f (limit_ops _ _ f) (first_cause s k at x (λ y. refused_elements s (length chs)) f e l refused))
@@ -274,11 +288,13 @@ put_behind_limit old mid k at n cut chs why w l cuts made exact =
     let whole : at ≤ length (text old.held.history x) = omega (arith, l.2) in
     let first = cut_revised old mid k at n cut x w l.1 cuts made in
     let still : at ≤ length (shown_elements mid x) =
-    subst (λ (xs : List Identifier). at ≤ length xs) (sym (cut_shows old mid k at n cut x w l.1 cuts made)) (still_within (shown_elements old x) at n (in_elements old x at w whole)) in
+    subst (λ (xs : List Identifier). at ≤ length xs) (sym (cut_shows old mid k at n cut x w l.1 cuts made))
+    (still_within (shown_elements old x) at n (in_elements old x at w whole)) in
     put_limit mid k at chs x why (still_there old mid k x (splice (text old.held.history x) at n []) cut first l.1) still exact
 
 -- hunks were made, and then the edits stopped
-pub revised_stops : (old mid new : State) (k n : ℕ) (x : Identifier) (r : List ℕ) (why : EditFault) → IsRevised old mid k x r n → StopsEditing mid new k why → StopsEditing old new k why
+pub revised_stops : (old mid new : State) (k n : ℕ) (x : Identifier) (r : List ℕ) (why : EditFault) → IsRevised old mid k x r n → StopsEditing mid new k why
+    → StopsEditing old new k why
 revised_stops old mid new k n x r why i stops = stops_after (EditsText k) old mid new i.changes (revise_fault.Edit why) i.edits i.changed stops
 
 -- memory was wanting before anything was made

@@ -1,5 +1,6 @@
 -- Sections moved until they stand in the order of a draft's parts.
-use Rattle.std.specs.Prelude.{◌≡◌, ◌≢◌, ◌⊎◌, ◌↔◌, ℕ, ◌<◌, ◌≤◌, true, false, Bool, Option, Some, IsSome, List, filter, insert, length, slice_get, slice_index, slice_index_or}
+use Rattle.std.specs.Prelude.{◌≡◌, ◌≢◌, ◌⊎◌, ◌↔◌, ℕ, ◌<◌, ◌≤◌, true, false, Bool, Option, Some, IsSome, List, filter, insert, length}
+use Rattle.std.specs.Prelude.{slice_get, slice_index, slice_index_or}
 use Rattle.fugue_ids.specs.Identifiers.{Identifier}
 use Rattle.fugue_ids.specs.declared.op.Op.{Op}
 use Rattle.catalogue_notes.specs.Arranged.{arranged}
@@ -20,7 +21,8 @@ pub record IsOrderOf (sections arranged : List Identifier) (order : List ℕ) : 
 -- a part has a place exactly where it is matched and stands there, in front of one
 pub record ArePlacesTo (order : List ℕ) (pairs : Pairs) (place : ℕ) (places : List (Option ℕ)) : Type 0 where
   pub long : length places ≡ length order
-  pub each : (part x : ℕ) → (rise_value places part ≡ Some x) ↔ ((x < place) × (slice_index order x ≡ part) × IsSome (section_of pairs part))
+  pub each : (part x : ℕ) → (rise_value places part ≡ Some x)
+      ↔ ((x < place) × (slice_index order x ≡ part) × IsSome (section_of pairs part))
 
 -- a part got a place, if it is one of them
 pub record PutsPlace (old new : List (Option ℕ)) (part place : ℕ) : Type 0 where
@@ -63,5 +65,6 @@ pub record ArrangesFew (old new : List Op) (pairs : Pairs) (sections : List Iden
   pub long : length stays ≡ length sections
   pub few : MovesFewTo old new stays sections (length sections)
   pub matched : (j : ℕ) → IsChosen stays j → IsSome (section_of pairs j)
-  pub most : (chosen : Identifier → Bool) → ((j : ℕ) (s : Identifier) → slice_get sections j ≡ Some s → chosen s ≡ true → IsSome (section_of pairs j))
+  pub most : (chosen : Identifier → Bool)
+      → ((j : ℕ) (s : Identifier) → slice_get sections j ≡ Some s → chosen s ≡ true → IsSome (section_of pairs j))
       → filter chosen (arranged old) ≡ filter chosen sections → length (filter chosen sections) ≤ chosen_count stays

@@ -45,7 +45,7 @@ AreAllowed s [] = Unit {0}
 AreAllowed s (change ∷ changes) = (change_refusal s change ≡ None) × AreAllowed (replica_behind s change) changes
 
 -- the changes are made, one after another, and nothing else
-pub record ArePlanned (old new : State) (changes : List PlanChange) : Type 0 where
+pub record MakesChanges (old new : State) (changes : List PlanChange) : Type 0 where
   pub allowed : AreAllowed old changes
   pub gained : Gains old new (all_made old changes)
 
@@ -71,5 +71,5 @@ pub record Stops (Only : PlanChange → Type 0) (old new : State) (why : ReviseF
   pub changes : List PlanChange
   pub only : All Only changes
   pub mid : State
-  pub changed : ArePlanned old mid changes
+  pub changed : MakesChanges old mid changes
   pub stop : StopsAt Only mid new why

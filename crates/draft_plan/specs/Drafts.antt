@@ -1,5 +1,6 @@
 -- What a draft says: a list of parts, each a title and a text. A draft, its lines, titles and texts are lists of bytes.
-use Rattle.std.specs.Prelude.{ℕ, ◌+◌, nat_eq, Bool, false, if◌then◌else◌, not, ◌&&◌, ◌||◌, Option, Some, None, Result, Ok, Err, List, [], ◌∷◌, ◌++◌, drop, flat_map, codes}
+use Rattle.std.specs.Prelude.{ℕ, ◌+◌, nat_eq, Bool, false, if◌then◌else◌, not, ◌&&◌, ◌||◌, Option, Some, None, Result, Ok, Err, List, []}
+use Rattle.std.specs.Prelude.{◌∷◌, ◌++◌, drop, flat_map, codes}
 use Rattle.std.specs.List.{join_with_byte, list_any, onto_first, slice_split, starts_with}
 use Rattle.std.specs.Str.{is_utf8}
 use Rattle.catalogue_notes.specs.Claims.{is_title}
@@ -33,12 +34,12 @@ abbrev pub is_heading : List ℕ → Bool
 is_heading line = starts_with nat_eq line (codes "# ")
 
 -- what follows these two bytes
-abbrev pub heading_of : List ℕ → List ℕ
-heading_of line = drop 2 line
+abbrev pub heading_title : List ℕ → List ℕ
+heading_title line = drop 2 line
 
 -- the line is not UTF-8, or it is a heading whose title is no Title
 abbrev pub is_bad : List ℕ → Bool
-is_bad line = not (is_utf8 line) || (is_heading line && not (is_title (heading_of line)))
+is_bad line = not (is_utf8 line) || (is_heading line && not (is_title (heading_title line)))
 
 -- the line of this number, from 1, is bad, or it is the first one and no heading
 abbrev pub is_bad_at : ℕ → List ℕ → Bool
@@ -61,7 +62,7 @@ before_heading (line ∷ lines) = if is_heading line then [] else line ∷ befor
 
 -- a heading, and the lines behind it up to the next heading, joined by LF
 abbrev pub part_under : (heading : List ℕ) → (behind : List (List ℕ)) → Part
-part_under heading behind = record { title = heading_of heading; text = join_with_byte 10 (before_heading behind) }
+part_under heading behind = record { title = heading_title heading; text = join_with_byte 10 (before_heading behind) }
 
 -- a line in front of others, of which the parts are known: each heading begins a part
 abbrev pub add_line : (line : List ℕ) → (behind : List (List ℕ)) → List Part → List Part

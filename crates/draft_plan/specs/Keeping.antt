@@ -28,16 +28,19 @@ KeepsText old new s = SectionStays old new s × ((arranged_part old s).text ≡ 
 -- where one section had a text, and one has it now, and it is not empty, the one or the other stays with it. So as many
 -- stay with a text as had it, or as have it, whichever are fewer
 abbrev pub TextsAreKept : (old new : List Op) → Type 0
-TextsAreKept old new = (s t : Identifier) → Contains (arranged old) s → Contains (arranged new) t → (arranged_part old s).text ≡ (arranged_part new t).text → (arranged_part new t).text ≢ []
+TextsAreKept old new = (s t : Identifier) → Contains (arranged old) s → Contains (arranged new) t
+    → (arranged_part old s).text ≡ (arranged_part new t).text → (arranged_part new t).text ≢ []
     → KeepsText old new s ⊎ KeepsText old new t
 
 -- no dropped and no added section have the same heading
 abbrev pub NoneIsLost : (old new : List Op) → Type 0
-NoneIsLost old new = (s t : Identifier) → IsDropped old new s → IsAddedBy old new t → (arranged_part old s).title ≢ (arranged_part new t).title
+NoneIsLost old new = (s t : Identifier) → IsDropped old new s → IsAddedBy old new t
+    → (arranged_part old s).title ≢ (arranged_part new t).title
 
 -- no dropped and no added section have texts that are alike, as lists of scalars
 abbrev pub NoneIsAlike : (old new : List Op) → Type 0
-NoneIsAlike old new = (s t : Identifier) → IsDropped old new s → IsAddedBy old new t → alike (chars (arranged_part old s).text) (chars (arranged_part new t).text) ≡ false
+NoneIsAlike old new = (s t : Identifier) → IsDropped old new s → IsAddedBy old new t
+    → alike (chars (arranged_part old s).text) (chars (arranged_part new t).text) ≡ false
 
 -- the section is one of these
 abbrev pub is_one_of : List Identifier → Identifier → Bool
@@ -60,7 +63,8 @@ InOneOrder old new chosen = filter chosen (arranged old) ≡ filter chosen (arra
 pub record MovesFew (old new : List Op) : Type 0 where
   pub once : (s : Identifier) → SectionStays old new s → HasOneMore (moves_of old s) (moves_of new s)
   pub order : InOneOrder old new (stays_unmoved old new)
-  pub most : (chosen : Identifier → Bool) → InOneOrder old new chosen → length (filter chosen (arranged new)) ≤ length (filter (stays_unmoved old new) (arranged new))
+  pub most : (chosen : Identifier → Bool) → InOneOrder old new chosen
+      → length (filter chosen (arranged new)) ≤ length (filter (stays_unmoved old new) (arranged new))
 
 -- what a revision keeps
 pub record KeepsSections (old new : List Op) : Type 0 where

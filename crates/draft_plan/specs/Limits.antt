@@ -99,7 +99,7 @@ pub record AreChosen (old new : List ℕ) (hunks : List Hunk) : Type 0 where
   pub unchanged : old ≡ new → hunks ≡ []
   pub lines : (old ≡ new → ⊥) → KeepsLines old new hunks
 
--- a refusal of an edit as one of a draft
+-- the result of an edit as one of a revision
 abbrev pub by_edit : Result ℕ EditFault → Result ℕ ReviseFault
 by_edit (Ok n) = Ok n
 by_edit (Err why) = Err (fault.Edit why)
@@ -115,8 +115,8 @@ abbrev pub shown_letters : List Op → List Identifier → ℕ
 shown_letters h sections = sum_by (λ s. length (text h s)) sections
 
 -- how many letters all arranged sections show
-abbrev pub letters_from : List Op → ℕ
-letters_from h = shown_letters h (arranged h)
+abbrev pub arranged_letters : List Op → ℕ
+arranged_letters h = shown_letters h (arranged h)
 
 -- how many letters parts have
 abbrev pub part_letters : List Part → ℕ
@@ -126,7 +126,8 @@ part_letters parts = sum_by (λ (p : Part). length (chars p.text)) parts
 -- dropped. Each part is added, moved and retitled.
 abbrev pub revision_cost : List Op → List Part → Cost
 revision_cost h parts =
-    cost (letters_from h + part_letters parts + length (arranged h) + 3 * length parts) (part_letters parts + 3 * length parts) (2 * length parts)
+    cost (arranged_letters h + part_letters parts + length (arranged h) + 3 * length parts) (part_letters parts + 3 * length parts)
+    (2 * length parts)
 
 -- memory was wanting
 abbrev pub IsOutOfMemory : ReviseFault → Type 0

@@ -38,30 +38,38 @@ LieUntouched hs from to = All (λ h. (h.old_at + h.old_len ≤ from) ⊎ (to < h
 -- What is left of a passage of a section that stays. Where its first and its last element stand in lines that stay, both
 -- stay; where both stand in one such line, or the section keeps its text, or no hunk touches it, all of it stays. So it does
 -- where it stands in the common front or in the common end of a stretch between lines that stay, as far as whole words allow.
-pub record PassageStays (old new : State) (section : Identifier) (kept : KeepsSection old new section) (first last : Identifier) (elements : List Identifier)
+pub record PassageStays (old new : State) (section : Identifier) (kept : KeepsSection old new section) (first last : Identifier)
+    (elements : List Identifier)
     (was : IsShownPassage old.held.history section first last elements) : Type 0 where
   pub ends : (other : text old.held.history section ≡ text new.held.history section → ⊥)
-      → All (λ k. All (λ l. AreAmong k.old_at k.len was.from was.from → AreAmong l.old_at l.len was.to was.to → AreShown new.held.history section first last)
+      → All (λ k. All (λ l. AreAmong k.old_at k.len was.from was.from → AreAmong l.old_at l.len was.to was.to
+      → AreShown new.held.history section first last)
       (kept.elements.lines other).lines) (kept.elements.lines other).lines
   pub line : (other : text old.held.history section ≡ text new.held.history section → ⊥)
-      → All (λ l. AreAmong l.old_at l.len was.from was.to → IsShownPassage new.held.history section first last elements) (kept.elements.lines other).lines
+      → All (λ l. AreAmong l.old_at l.len was.from was.to → IsShownPassage new.held.history section first last elements)
+      (kept.elements.lines other).lines
   pub untouched : LieUntouched kept.elements.hunks was.from was.to → IsShownPassage new.held.history section first last elements
   pub at_ends : (other : text old.held.history section ≡ text new.held.history section → ⊥)
-      → AreAtSomeEnds (text old.held.history section) (text new.held.history section) whole_start whole_start (kept.elements.lines other).lines kept.elements.hunks
+      → AreAtSomeEnds (text old.held.history section) (text new.held.history section) whole_start whole_start
+      (kept.elements.lines other).lines kept.elements.hunks
       (kept.elements.lines other).gaps was.from was.to → IsShownPassage new.held.history section first last elements
-  pub same_text : text new.held.history section ≡ text old.held.history section → IsShownPassage new.held.history section first last elements
+  pub same_text : text new.held.history section ≡ text old.held.history section
+      → IsShownPassage new.held.history section first last elements
 
 -- so it is with each passage of each section that a revision keeps: a comment on it keeps the letters that it names
 abbrev pub PassagesStay : Type 0
-PassagesStay = (old new : State) (section first last : Identifier) (elements : List Identifier) (kept : KeepsSection old new section) → Lawful old.held.history
+PassagesStay = (old new : State) (section first last : Identifier) (elements : List Identifier) (kept : KeepsSection old new section)
+    → Lawful old.held.history
     → (was : IsShownPassage old.held.history section first last elements) → PassageStays old new section kept first last elements was
 
 -- The span of a comment whose anchors are the first and the last element of a passage: it begins where the passage does, and
 -- ends behind it. So it cuts the passage out of what is shown.
-pub record IsSpanned (history : List Op) (section first last : Identifier) (elements : List Identifier) (p : IsShownPassage history section first last elements) : Type 0 where
+pub record IsSpanned (history : List Op) (section first last : Identifier) (elements : List Identifier)
+    (p : IsShownPassage history section first last elements) : Type 0 where
   pub begins : (margin_span history section first last).from ≡ p.from
   pub ends : (margin_span history section first last).to ≡ p.to + 1
-  pub reads : take ((margin_span history section first last).to - (margin_span history section first last).from) (drop (margin_span history section first last).from (shown (within section) history)) ≡ elements
+  pub reads : take ((margin_span history section first last).to - (margin_span history section first last).from)
+      (drop (margin_span history section first last).from (shown (within section) history)) ≡ elements
 
 -- so it is with each passage: where it stays, what is printed of a comment on it tells where it stands
 abbrev pub PassagesAreSpans : Type 0

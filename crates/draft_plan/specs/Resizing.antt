@@ -1,5 +1,6 @@
 -- Sections dropped and added, until there is one for each part of a draft.
-use Rattle.std.specs.Prelude.{◌≡◌, ◌≢◌, ◌⊎◌, ◌↔◌, ℕ, ◌+◌, ◌≤◌, ◌<◌, false, Option, Some, None, IsSome, List, [], ◌∷◌, ◌++◌, length, slice_get}
+use Rattle.std.specs.Prelude.{◌≡◌, ◌≢◌, ◌⊎◌, ◌↔◌, ℕ, ◌+◌, ◌≤◌, ◌<◌, false, Option, Some, None, IsSome, List, [], ◌∷◌, ◌++◌, length}
+use Rattle.std.specs.Prelude.{slice_get}
 use Rattle.std.specs.List.{Contains}
 use Rattle.std.specs.Str.{encode_utf8_all}
 use Rattle.fugue_ids.specs.Identifiers.{Identifier}
@@ -33,7 +34,8 @@ pub record IsAdded (old new : State) (number : ℕ) (title : List ℕ) (section 
   pub fresh : holds old.held.history section ≡ false
   pub there : slice_get (shown catalogue new.held.history) number ≡ Some section
   pub headed : encode_utf8_all (heading new.held.history section) ≡ title
-  pub all : (t : Identifier) → Contains (shown catalogue new.held.history) t ↔ (Contains (shown catalogue old.held.history) t ⊎ (t ≡ section))
+  pub all : (t : Identifier) → Contains (shown catalogue new.held.history) t
+      ↔ (Contains (shown catalogue old.held.history) t ⊎ (t ≡ section))
 
 -- the number behind that of a section, or the first number
 pub record IsBehind (shown_now : List Identifier) (section : Option Identifier) (number : ℕ) : Type 0 where
@@ -49,12 +51,15 @@ pub record ComesBehind (old new : State) (anchor : Option Identifier) (title : L
 
 -- the sections of the parts in front of one: a part has the section that it is matched with, or one that was not held at
 -- the start and stands under its title. What is shown besides are the sections of later parts
-pub record AreTargetsTo (start now : State) (sections : List Identifier) (pairs : Pairs) (parts : List Part) (part : ℕ) (targets : List Identifier) : Type 0 where
+pub record AreTargetsTo (start now : State) (sections : List Identifier) (pairs : Pairs) (parts : List Part) (part : ℕ)
+    (targets : List Identifier) : Type 0 where
   pub long : length targets ≡ part
-  pub kept : (j i : ℕ) (s : Identifier) → j < part → section_of pairs j ≡ Some i → slice_get sections i ≡ Some s → slice_get targets j ≡ Some s
+  pub kept : (j i : ℕ) (s : Identifier) → j < part → section_of pairs j ≡ Some i → slice_get sections i ≡ Some s
+      → slice_get targets j ≡ Some s
   pub fresh : (j : ℕ) (s : Identifier) → section_of pairs j ≡ None → slice_get targets j ≡ Some s → holds start.held.history s ≡ false
   pub there : (s : Identifier) → Contains targets s → Contains (shown catalogue now.held.history) s
-  pub later : (j i : ℕ) (s : Identifier) → section_of pairs j ≡ Some i → slice_get sections i ≡ Some s → Contains (shown catalogue now.held.history) s
+  pub later : (j i : ℕ) (s : Identifier) → section_of pairs j ≡ Some i → slice_get sections i ≡ Some s
+      → Contains (shown catalogue now.held.history) s
   pub only : (s : Identifier) → Contains (shown catalogue now.held.history) s
       → Contains targets s ⊎ ((j : ℕ) × (i : ℕ) × (part ≤ j) × (section_of pairs j ≡ Some i) × (slice_get sections i ≡ Some s))
   pub once : AreDistinct targets
@@ -62,7 +67,8 @@ pub record AreTargetsTo (start now : State) (sections : List Identifier) (pairs 
 
 -- these are the shown sections, each once, and each part has the section that it is matched with, or one that was not held
 -- and stands under its title
-pub record AreTargets (start now : State) (sections : List Identifier) (pairs : Pairs) (parts : List Part) (targets : List Identifier) : Type 0 where
+pub record AreTargets (start now : State) (sections : List Identifier) (pairs : Pairs) (parts : List Part)
+    (targets : List Identifier) : Type 0 where
   pub long : length targets ≡ length parts
   pub kept : (j i : ℕ) (s : Identifier) → section_of pairs j ≡ Some i → slice_get sections i ≡ Some s → slice_get targets j ≡ Some s
   pub fresh : (j : ℕ) (s : Identifier) → section_of pairs j ≡ None → slice_get targets j ≡ Some s → holds start.held.history s ≡ false
@@ -72,7 +78,8 @@ pub record AreTargets (start now : State) (sections : List Identifier) (pairs : 
 
 -- the section of one part more came to these: that at a place, or, where there is none, one that was added with the title
 -- behind a section, or as the first one
-pub record IsPartTaken (old new : State) (sections : List Identifier) (place : Option ℕ) (anchor : Option Identifier) (title : List ℕ) (before targets : List Identifier) : Type 0 where
+pub record IsPartTaken (old new : State) (sections : List Identifier) (place : Option ℕ) (anchor : Option Identifier) (title : List ℕ)
+    (before targets : List Identifier) : Type 0 where
   pub section : Identifier
   pub targets_are : targets ≡ before ++ section ∷ []
   pub kept : (i : ℕ) → place ≡ Some i → (slice_get sections i ≡ Some section) × (new ≡ old)

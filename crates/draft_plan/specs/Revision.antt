@@ -13,7 +13,7 @@ use Rattle.catalogue_notes.specs.Arranged.{arranged, heading}
 use Rattle.catalogue_notes.specs.Claims.{Move as MoveClaim, Retitle as RetitleClaim}
 use Rattle.catalogue_notes.specs.Lift.{moves, retitles}
 use Rattle.catalogue_notes.specs.declared.moving.MoveFault.TheVariants as moving
-use Rattle.draft_plan.specs.Changes.{PlanChange, ArePlanned, Stops, all_made}
+use Rattle.draft_plan.specs.Changes.{PlanChange, MakesChanges, Stops, all_made}
 use Rattle.draft_plan.specs.Drafts.{Part}
 use Rattle.draft_plan.specs.Plain.{arranged_parts}
 use Rattle.draft_plan.specs.Texts.{KeepsElements}
@@ -35,7 +35,7 @@ HasOneMore old new = (new ≡ old) ⊎ (drop 1 new ≡ old)
 -- n operations were made, by changes one after another
 pub record Makes (old new : State) (n : ℕ) : Type 0 where
   pub changes : List PlanChange
-  pub changed : ArePlanned old new changes
+  pub changed : MakesChanges old new changes
   pub count : n ≡ length (all_made old changes)
 
 -- of a section that is shown before and after the elements stay that stand between hunks from its old text to its new

@@ -75,7 +75,8 @@ pub record AreSectionsOf (old : List Op) (pairs : Pairs) (parts : ℕ) (sections
 -- the section of a part that was matched with none has the part's title as its heading
 abbrev pub AreTitled : (now : List Op) → Pairs → List Part → (sections : List Identifier) → Type 0
 AreTitled now pairs parts sections =
-    (j : ℕ) (s : Identifier) (p : Part) → section_of pairs j ≡ None → slice_get sections j ≡ Some s → slice_get parts j ≡ Some p → encode_utf8_all (heading now s) ≡ p.title
+    (j : ℕ) (s : Identifier) (p : Part) → section_of pairs j ≡ None → slice_get sections j ≡ Some s → slice_get parts j ≡ Some p
+    → encode_utf8_all (heading now s) ≡ p.title
 
 -- what is arranged are the sections of these parts, and those that were added stand under their titles
 pub record StandsAs (old new : List Op) (pairs : Pairs) (parts : List Part) : Type 0 where

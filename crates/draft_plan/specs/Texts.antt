@@ -20,7 +20,7 @@ use Rattle.catalogue_notes.specs.Arranged.{arranged, heading}
 use Rattle.catalogue_notes.specs.Arranging.{Arranges}
 use Rattle.catalogue_notes.specs.Lift.{moves, retitles, stamp}
 use Rattle.catalogue_notes.specs.declared.arranger.Arranger.{Arranger}
-use Rattle.draft_plan.specs.Changes.{PlanChange, ArePlanned, Edit, Stops, all_made}
+use Rattle.draft_plan.specs.Changes.{PlanChange, MakesChanges, Edit, Stops, all_made}
 use Rattle.draft_plan.specs.declared.fault.ReviseFault.TheVariants as fault
 
 -- the change is a put or a cut in this section, by what is shown
@@ -45,7 +45,7 @@ pub record KeepsArrangement (old new : List Op) : Type 0 where
 pub record IsRevised (old new : State) (k : ℕ) (section : Identifier) (reads : List ℕ) (n : ℕ) : Type 0 where
   pub changes : List PlanChange
   pub edits : All (EditsText k) changes
-  pub changed : ArePlanned old new changes
+  pub changed : MakesChanges old new changes
   pub count : n ≡ length (all_made old changes)
   pub here : text new.held.history section ≡ reads
   pub elsewhere : (t : Identifier) → t ≢ section → text new.held.history t ≡ text old.held.history t
@@ -66,8 +66,8 @@ StayBetween history from old new (h ∷ hs) =
     × (new ≡ take (h.old_at - from) (drop from old) ++ come ++ rest) × StayBetween history (h.old_at + h.old_len) old rest hs
 
 -- There are hunks that transform one text into the other, in which whole words go and come, that are as short as these
--- allow, and that leave the lines of a heaviest common order; two texts that are the same have none. Of the elements those stay that stand between the hunks,
--- and no others: what comes in the place of a hunk is new to the history.
+-- allow, and that leave the lines of a heaviest common order; two texts that are the same have none. Of the elements
+-- those stay that stand between the hunks, and no others: what comes in the place of a hunk is new to the history.
 pub record KeepsCommon (history : List Op) (old_text new_text : List ℕ) (old new : List Identifier) : Type 0 where
   pub hunks : List Hunk
   pub transforms : Transforms nat_eq old_text new_text hunks

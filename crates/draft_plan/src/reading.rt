@@ -6,7 +6,7 @@ ghost use Rattle.std.specs.List.{join_with_byte};
 ghost use Rattle.std.specs.Str.{IsUtf8};
 ghost use Rattle.draft_plan.specs.Drafts.{first_bad, is_bad_at, is_heading as is_heading_in};
 ghost use Rattle.catalogue_notes.specs.Claims.{is_title as is_title_in};
-ghost use Rattle.draft_plan.specs.Drafts.{draft_lines, parts_of, pieces, heading_of};
+ghost use Rattle.draft_plan.specs.Drafts.{draft_lines, parts_of, pieces, heading_title};
 ghost use Rattle.draft_plan.specs.Laws.{ends_part};
 ghost use Rattle.draft_plan.specs.Readings.{IsFirstLine, IsFirstText, IsGood, seen_part};
 
@@ -40,7 +40,7 @@ pub(crate) fn is_heading(line: &[u8]) -> bool
 
 /// Whether a heading has no title.
 fn has_bad_title(line: &[u8]) -> bool
-    ensures { result ≡ (is_heading_in line.now && not (is_title_in (heading_of line.now))) }
+    ensures { result ≡ (is_heading_in line.now && not (is_title_in (heading_title line.now))) }
 {
     is_heading(line) && !is_line(&line[2..], LONGEST_TITLE)
 }

@@ -84,7 +84,8 @@ module _ (old new : State) (bytes : List ℕ) (before after : SourceView) (told 
   answer_is (Err fault.NoMemory) ok err = tt
 
 -- where the source tells its bytes, these decide the answer
-pub answers_exactly : (old new : State) (before after : SourceView) (result : Result ℕ ScriptFault) → IfOk result (ScriptRuns old new before after) → IfErr result (ScriptStops old new before after)
+pub answers_exactly : (old new : State) (before after : SourceView) (result : Result ℕ ScriptFault) → IfOk result (ScriptRuns old new before after)
+    → IfErr result (ScriptStops old new before after)
     → IfSome before.left (ScriptAnswersBy result old)
 answers_exactly old new before after result ok err = by before.left refl
   where

@@ -139,6 +139,7 @@ script_course old script = by (lines_course old (lines script))
         → ((new : State) × (n : ℕ) × RunsWhole old new script n) ⊎ ((new : State) × (f : ScriptFault) × (f ≢ fault.NoMemory) × StopsAtLine old new script f)
     by (inl all) = inl (all.new, length all.ops, record { ops = all.ops; leads = all.leads; accepted_are = leads_grow old all.new (lines script) all.ops all.leads; count = refl })
     by (inr h) =
-        let run : RunsUpTo old h.new script h.line (length h.front + 1) = record { front = h.front; back = h.back; split = h.split; number_is = refl; ops = h.ops; leads = h.leads } in
+        let run : RunsUpTo old h.new script h.line (length h.front + 1) =
+        record { front = h.front; back = h.back; split = h.split; number_is = refl; ops = h.ops; leads = h.leads } in
         let end = halts old h.new script h.line (length h.front + 1) h.cause run h.faulty in
         inr (h.new, fault_at (length h.front + 1) h.cause, end.0, end.1)

@@ -170,7 +170,11 @@ edit_decided line = by (add_decided line) (put_decided line) (cut_decided line) 
     none adds puts cuts drops (Add at title) asks =
         adds (at, let can = asks.writable.0 in omega (arith, can), (title, scalars_within (length line) title (title_short line title at asks) asks.writable.1, asks))
     none adds puts cuts drops (Put k at new) asks =
-        puts (k, let can = asks.writable.0 in omega (arith, can), (at, asks.writable.1, (new, scalars_within (length line) new (text_short line new k at asks) asks.writable.2, asks)))
+        puts (
+          k,
+          let can = asks.writable.0 in omega (arith, can),
+          (at, asks.writable.1, (new, scalars_within (length line) new (text_short line new k at asks) asks.writable.2, asks)),
+        )
     none adds puts cuts drops (Cut k at n) asks = cuts (k, let can = asks.writable.0 in omega (arith, can), (at, asks.writable.1, (n, asks.writable.2, asks)))
     none adds puts cuts drops (DropSection k) asks = drops (k, let can = asks.writable in omega (arith, can), asks)
 

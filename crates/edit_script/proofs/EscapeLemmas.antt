@@ -1,5 +1,6 @@
 -- How a line writes the scalars of a text, and that it is read in one way.
-use Rattle.std.proofs.Common.{◌≡◌, ◌<◌, ℕ, zero, suc, false, nat_eq, List, [], ◌∷◌, ◌++◌, ◌⊎◌, inl, inr, length, refl, sym, ap, ap₂, ◌∙◌, arith, lit<, append_assoc, append-nil, length-append}
+use Rattle.std.proofs.Common.{◌≡◌, ◌<◌, ℕ, zero, suc, false, nat_eq, List, [], ◌∷◌, ◌++◌, ◌⊎◌, inl, inr, length, refl, sym, ap, ap₂, ◌∙◌, arith, lit<, append_assoc, append-nil}
+use Rattle.std.proofs.Common.{length-append}
 use Rattle.std.specs.List.{flat_map}
 use Rattle.std.specs.Prelude.{encode_utf8}
 use Rattle.std.proofs.lemmas.Bool.{cases_Bool, eqb-true, eqb-false}
@@ -38,7 +39,8 @@ slash_first a x y e =
 
 -- no scalar's writing begins with another's
 one_writing : (a b : ℕ) (x y : List ℕ) → Written a → Written b → escaped_scalar a ++ x ≡ escaped_scalar b ++ y → (a ≡ b) × (x ≡ y)
-one_writing a b x y (line_end i e) (line_end j f) is = let s : 92 ∷ 110 ∷ x ≡ 92 ∷ 110 ∷ y = sym (ap (λ (l : List ℕ). l ++ x) e) ∙ is ∙ ap (λ (l : List ℕ). l ++ y) f in (i ∙ sym j, cc)
+one_writing a b x y (line_end i e) (line_end j f) is = let s : 92 ∷ 110 ∷ x ≡ 92 ∷ 110 ∷ y =
+    sym (ap (λ (l : List ℕ). l ++ x) e) ∙ is ∙ ap (λ (l : List ℕ). l ++ y) f in (i ∙ sym j, cc)
 one_writing a b x y (line_end i e) (backslash j f) is =
     let s : 92 ∷ 110 ∷ x ≡ 92 ∷ 92 ∷ y = sym (ap (λ (l : List ℕ). l ++ x) e) ∙ is ∙ ap (λ (l : List ℕ). l ++ y) f in
     absurd (other_head 110 92 x y (cc) refl)
@@ -47,7 +49,8 @@ one_writing a b x y (line_end i e) (plain differs other f) is =
 one_writing a b x y (backslash i e) (line_end j f) is =
     let s : 92 ∷ 92 ∷ x ≡ 92 ∷ 110 ∷ y = sym (ap (λ (l : List ℕ). l ++ x) e) ∙ is ∙ ap (λ (l : List ℕ). l ++ y) f in
     absurd (other_head 92 110 x y (cc) refl)
-one_writing a b x y (backslash i e) (backslash j f) is = let s : 92 ∷ 92 ∷ x ≡ 92 ∷ 92 ∷ y = sym (ap (λ (l : List ℕ). l ++ x) e) ∙ is ∙ ap (λ (l : List ℕ). l ++ y) f in (i ∙ sym j, cc)
+one_writing a b x y (backslash i e) (backslash j f) is = let s : 92 ∷ 92 ∷ x ≡ 92 ∷ 92 ∷ y =
+    sym (ap (λ (l : List ℕ). l ++ x) e) ∙ is ∙ ap (λ (l : List ℕ). l ++ y) f in (i ∙ sym j, cc)
 one_writing a b x y (backslash i e) (plain differs other f) is =
     absurd (other ((slash_first b (92 ∷ x) y (sym (ap (λ (l : List ℕ). l ++ x) e) ∙ is ∙ ap (λ (l : List ℕ). l ++ y) f)).0))
 one_writing a b x y (plain differs other e) (line_end j f) is =
@@ -116,25 +119,35 @@ no_other_backslash text x z c d is c_is d_is no_n no_slash ch y other =
     ]
 
 -- what is behind a front of a written text
-pub written_behind : (done all rest : List ℕ) → flat_map escaped_scalar done ++ rest ≡ flat_map escaped_scalar all → (more : List ℕ) × (all ≡ done ++ more) × (flat_map escaped_scalar more ≡ rest)
+pub written_behind : (done all rest : List ℕ) → flat_map escaped_scalar done ++ rest ≡ flat_map escaped_scalar all
+    → (more : List ℕ) × (all ≡ done ++ more) × (flat_map escaped_scalar more ≡ rest)
 written_behind [] all rest is = (all, refl, sym is)
 written_behind (a ∷ done) [] rest is =
     let long = ap length is in
-    absurd (omega (arith, long, length-append (escaped_scalar a ++ flat_map escaped_scalar done) rest, length-append (escaped_scalar a) (flat_map escaped_scalar done), escaped_some a))
+    absurd (omega (
+      arith,
+      long,
+      length-append (escaped_scalar a ++ flat_map escaped_scalar done) rest,
+      length-append (escaped_scalar a) (flat_map escaped_scalar done),
+      escaped_some a,
+    ))
 written_behind (a ∷ done) (b ∷ all) rest is =
-    let same = escaped_same a b (flat_map escaped_scalar done ++ rest) (flat_map escaped_scalar all) (sym (append_assoc (escaped_scalar a) (flat_map escaped_scalar done) rest) ∙ is) in
+    let same = escaped_same a b (flat_map escaped_scalar done ++ rest) (flat_map escaped_scalar all)
+    (sym (append_assoc (escaped_scalar a) (flat_map escaped_scalar done) rest) ∙ is) in
     let further = written_behind done all rest same.1 in
     (further.0, ap₂ (λ (c : ℕ) (l : List ℕ). c ∷ l) (sym same.0) further.1, further.2)
 
 -- one more scalar was read
-pub written_next : (text new rest behind : List ℕ) (ch : ℕ) → text ≡ flat_map escaped_scalar new ++ rest → rest ≡ escaped_scalar ch ++ behind → text ≡ flat_map escaped_scalar (new ++ ch ∷ []) ++ behind
+pub written_next : (text new rest behind : List ℕ) (ch : ℕ) → text ≡ flat_map escaped_scalar new ++ rest → rest ≡ escaped_scalar ch ++ behind
+    → text ≡ flat_map escaped_scalar (new ++ ch ∷ []) ++ behind
 written_next text new rest behind ch is first =
     is ∙ ap (λ (l : List ℕ). flat_map escaped_scalar new ++ l) first ∙ sym (append_assoc (flat_map escaped_scalar new) (escaped_scalar ch) behind)
     ∙ ap (λ (l : List ℕ). l ++ behind) (sym (flat_map_push new ch))
   where
     flat_map_push : (xs : List ℕ) (x : ℕ) → flat_map escaped_scalar (xs ++ x ∷ []) ≡ flat_map escaped_scalar xs ++ escaped_scalar x
     flat_map_push [] x = simp append-nil
-    flat_map_push (y ∷ xs) x = ap (λ (l : List ℕ). escaped_scalar y ++ l) (flat_map_push xs x) ∙ sym (append_assoc (escaped_scalar y) (flat_map escaped_scalar xs) (escaped_scalar x))
+    flat_map_push (y ∷ xs) x =
+        ap (λ (l : List ℕ). escaped_scalar y ++ l) (flat_map_push xs x) ∙ sym (append_assoc (escaped_scalar y) (flat_map escaped_scalar xs) (escaped_scalar x))
 
 -- where no scalar is read of what is left, the text is none
 pub stuck : (text new rest other : List ℕ) → text ≡ flat_map escaped_scalar new ++ rest → 0 < length rest

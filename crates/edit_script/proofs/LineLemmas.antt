@@ -107,7 +107,8 @@ spelled_scalars text title utf8 is =
     let same = encodes_same title (chars text) (is ∙ sym (encodes-chars text utf8)) in
     ap all_scalars same ∙ scalars-chars text utf8
 
-pub add_asks : (rest text title : List ℕ) (at : ℕ) → rest ≡ decimal (at + 1) ++ 32 ∷ text → at + 1 < 2 ^ 32 → encode_utf8_all title ≡ text → all_scalars title ≡ true → IsTitleText text
+pub add_asks : (rest text title : List ℕ) (at : ℕ) → rest ≡ decimal (at + 1) ++ 32 ∷ text → at + 1 < 2 ^ 32 → encode_utf8_all title ≡ text → all_scalars title ≡ true
+    → IsTitleText text
     → Asks (codes "add " ++ rest) (Add at title)
 add_asks rest text title at is small spelled scalars is_title =
     record {

@@ -3,7 +3,6 @@ use Rattle.std.proofs.Common.{◌≡◌, ◌↔◌, ◌<◌, ◌≤◌, ◌+◌,
 use Rattle.std.specs.Prelude.{Result, Ok, Err, IfOk, IfErr, IfSome, IsNone, ok_or, option_map, encode_utf8_all}
 use Rattle.std.specs.Str.{chars, IsUtf8}
 use Rattle.std.proofs.lemmas.Bool.{cases_Bool, cases_lt, ltb-true}
-use Rattle.std.proofs.lemmas.Option.{same_Some}
 use Rattle.std.proofs.lemmas.Str.{encodes-chars, encodes_same}
 use Rattle.fugue_ids.specs.Identifiers.{Identifier}
 use Rattle.origin_model.specs.operations.Verdict.{Lawful}
@@ -23,7 +22,8 @@ use Rattle.edit_script.specs.Lines.{IsSpan, Made, Unmade}
 use Rattle.fugue_ids.proofs.OptionLemmas.{some_is_none}
 
 -- an edit by scalars that was made is the edit by clusters
-pub made_in : (old new : State) (command by other : Command) (result : Result ℕ EditFault) → other ≡ command → by ≡ by_scalars old command → line_refusal old command ≡ refusal_message old by
+pub made_in : (old new : State) (command by other : Command) (result : Result ℕ EditFault) → other ≡ command → by ≡ by_scalars old command
+    → line_refusal old command ≡ refusal_message old by
     → RefusesExactly old by result → IfOk result (IsMade old new by) → IfOk result (Made old new other)
 made_in old new command by other (Err fault) same is refusal_is exact made = tt
 made_in old new command by other (Ok n) same is refusal_is exact made =
@@ -34,7 +34,8 @@ made_in old new command by other (Ok n) same is refusal_is exact made =
     })
 
 -- and one that was not made is not
-pub unmade_in : (old new : State) (command by other : Command) (result : Result ℕ EditFault) → other ≡ command → by ≡ by_scalars old command → line_refusal old command ≡ refusal_message old by
+pub unmade_in : (old new : State) (command by other : Command) (result : Result ℕ EditFault) → other ≡ command → by ≡ by_scalars old command
+    → line_refusal old command ≡ refusal_message old by
     → RefusesExactly old by result → IfErr result (LeavesUnmade old new by) → IfErr result (Unmade old new other)
 unmade_in old new command by other (Ok n) same is refusal_is exact left = tt
 unmade_in old new command by other (Err NoSection) same is refusal_is exact left =
@@ -76,12 +77,6 @@ cut_refusal s k at n found spans =
     rw shown (in_range_fits (at + n) (length (shown_clusters s spans.section)) (refused_ops s (scalars_from s spans.section at n)) spans.enough
     ∙ ap (λ (p : ℕ × ℕ). refused_ops s p.1) (sym spans.found_is)
     ∙ sym (in_range_fits (found.0 + found.1) (shown_count s (within spans.section)) (refused_ops s found.1) spans.within))
-
--- where a text was found, there is the section
-pub shown_text : (found : Option Identifier) (written : Identifier → List ℕ) (bytes : List ℕ) → Some bytes ≡ option_map written found
-    → (x : Identifier) × (found ≡ Some x) × (bytes ≡ written x)
-shown_text None written bytes e = cc
-shown_text (Some x) written bytes e = (x, refl, same_Some bytes (written x) e)
 
 pub span_found : (s : State) (k at n : ℕ) (bytes : List ℕ) (x : Identifier) (r : Option (ℕ × ℕ)) (result : Result (ℕ × ℕ) EditFault) (fault : EditFault) → result ≡ ok_or r fault
     → section_shown s k ≡ Some x → bytes ≡ encode_utf8_all (text s.held.history x) → IsUtf8 bytes → Lawful s.held.history

@@ -141,7 +141,8 @@ parts_of : (x y : List ℕ) (xs ys : List (List ℕ)) → x ∷ xs ≡ y ∷ ys 
 parts_of x y xs ys e = (cc, cc)
 
 -- one line is the first faulty one
-first_once : (s m n : State) (front other back behind : List (List ℕ)) (line second : List ℕ) (ops others : List Op) (a b : LineFault) → LinesLead s m front ops → LinesLead s n other others
+first_once : (s m n : State) (front other back behind : List (List ℕ)) (line second : List ℕ) (ops others : List Op) (a b : LineFault) → LinesLead s m front ops
+    → LinesLead s n other others
     → IsFaulty m line a → IsFaulty n second b → front ++ line ∷ back ≡ other ++ second ∷ behind → (m ≡ n) × (line ≡ second) × (length front ≡ length other)
 first_once s m n [] [] back behind line second ops others a b x y fx fy is = (x.0 ∙ sym y.0, (parts_of line second back behind is).0, refl)
 first_once s m n [] (l ∷ other) back behind line second ops others a b x y fx fy is =
@@ -157,7 +158,8 @@ first_once s m n (k ∷ front) (l ∷ other) back behind line second ops others 
     (further.0, further.1, ap suc further.2)
 
 -- a script that is run to its end has no faulty line
-none_faulty : (s t m : State) (front back : List (List ℕ)) (line : List ℕ) (ops others : List Op) (cause : LineFault) → LinesLead s t (front ++ line ∷ back) ops → LinesLead s m front others
+none_faulty : (s t m : State) (front back : List (List ℕ)) (line : List ℕ) (ops others : List Op) (cause : LineFault) → LinesLead s t (front ++ line ∷ back) ops
+    → LinesLead s m front others
     → IsFaulty m line cause → ⊥
 none_faulty s t m [] back line ops others cause x y faulty = faulty_does_not s x.0 line x.1 cause x.3 (subst (λ (n : State). IsFaulty n line cause) y.0 faulty)
 none_faulty s t m (l ∷ front) back line ops others cause x y faulty =
@@ -183,20 +185,23 @@ stopped old new script fault.ReadFault other s = absurd s
 stopped old new script fault.TooLong other s = absurd s
 stopped old new script fault.NoMemory other s = absurd (other refl)
 
-stops_once : (old a b : State) (script : List ℕ) (f g : ScriptFault) → f ≢ fault.NoMemory → g ≢ fault.NoMemory → StopsAtLine old a script f → StopsAtLine old b script g → (a ≡ b) × (f ≡ g)
+stops_once : (old a b : State) (script : List ℕ) (f g : ScriptFault) → f ≢ fault.NoMemory → g ≢ fault.NoMemory → StopsAtLine old a script f → StopsAtLine old b script g
+    → (a ≡ b) × (f ≡ g)
 stops_once old a b script f g not_f not_g at_f at_g =
     let x = stopped old a script f not_f at_f in
     let y = stopped old b script g not_g at_g in
     let same = first_once old a b x.run.front y.run.front x.run.back y.run.back x.line y.line x.run.ops y.run.ops x.cause y.cause x.run.leads y.run.leads x.faulty y.faulty
     (sym x.run.split ∙ y.run.split) in
     let numbers : x.n ≡ y.n = x.run.number_is ∙ ap (λ (k : ℕ). k + 1) same.2 ∙ sym y.run.number_is in
-    let causes = faulty_once b y.line x.cause y.cause (subst (λ (s : State). IsFaulty s y.line x.cause) same.0 (subst (λ (l : List ℕ). IsFaulty a l x.cause) same.1 x.faulty)) y.faulty in
+    let causes = faulty_once b y.line x.cause y.cause
+    (subst (λ (s : State). IsFaulty s y.line x.cause) same.0 (subst (λ (l : List ℕ). IsFaulty a l x.cause) same.1 x.faulty)) y.faulty in
     (same.0, x.is ∙ ap₂ fault_at numbers causes ∙ sym y.is)
 
 stops_or_runs : (old a b : State) (script : List ℕ) (n : ℕ) (f : ScriptFault) → f ≢ fault.NoMemory → RunsWhole old a script n → StopsAtLine old b script f → ⊥
 stops_or_runs old a b script n f not_f whole at_f =
     let x = stopped old b script f not_f at_f in
-    none_faulty old a b x.run.front x.run.back x.line whole.ops x.run.ops x.cause (subst (λ (ls : List (List ℕ)). LinesLead old a ls whole.ops) x.run.split whole.leads) x.run.leads x.faulty
+    none_faulty old a b x.run.front x.run.back x.line whole.ops x.run.ops x.cause
+    (subst (λ (ls : List (List ℕ)). LinesLead old a ls whole.ops) x.run.split whole.leads) x.run.leads x.faulty
 
 whole_once : (old a b : State) (script : List ℕ) (m n : ℕ) → RunsWhole old a script m → RunsWhole old b script n → (a ≡ b) × (m ≡ n)
 whole_once old a b script m n x y =

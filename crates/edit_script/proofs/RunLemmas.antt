@@ -1,5 +1,6 @@
 -- How the lines of a script are run one after another.
-use Rattle.std.proofs.Common.{◌≡◌, ◌<◌, ◌≤◌, ◌+◌, inl, inr, suc, ℕ, Bool, true, false, cond, List, [], ◌∷◌, ◌++◌, length, take, drop, Option, Some, None, refl, sym, ap, subst, ◌∙◌, arith, append_assoc, append-nil, length-append, length-drop, Bor}
+use Rattle.std.proofs.Common.{◌≡◌, ◌<◌, ◌≤◌, ◌+◌, inl, inr, suc, ℕ, Bool, true, false, cond, List, [], ◌∷◌, ◌++◌, length, take, drop, Option, Some, None, refl, sym, ap, subst, ◌∙◌}
+use Rattle.std.proofs.Common.{arith, append_assoc, append-nil, length-append, length-drop, Bor}
 use Rattle.std.specs.Prelude.{position, ◌==◌, Result, Ok, Err, IfErr, IfOk}
 use Rattle.std.specs.Option.{option_copied}
 use Rattle.std.specs.List.{onto_first, position_or_len}
@@ -34,7 +35,8 @@ leads_grow old new (line ∷ ls) ops leads =
     ∙ append_assoc (accepted old.held.history) leads.1 leads.2 ∙ ap (λ (l : List Op). accepted old.held.history ++ l) (sym leads.5)
 
 -- one line more
-leads_next : (old mid new : State) (ls : List (List ℕ)) (line : List ℕ) (done first : List Op) → LinesLead old mid ls done → Does mid new line first → LinesLead old new (ls ++ line ∷ []) (done ++ first)
+leads_next : (old mid new : State) (ls : List (List ℕ)) (line : List ℕ) (done first : List Op) → LinesLead old mid ls done → Does mid new line first
+    → LinesLead old new (ls ++ line ∷ []) (done ++ first)
 leads_next old mid new [] line done first leads does =
     (new, first, [], subst (λ (s : State). Does s new line first) leads.0 does, (refl, refl), ap (λ (l : List Op). l ++ first) leads.1 ∙ sym (append-nil first))
 leads_next old mid new (l ∷ ls) line done first leads does = (
@@ -72,7 +74,8 @@ left_behind bytes line (Some rest) begins = (begins.0, omega (arith, begins.1))
 pub less_left : (bytes line : List ℕ) (behind : Option (List ℕ)) → BeginsWith bytes line behind → bytes_left behind < bytes_left (Some bytes)
 less_left bytes line behind begins = omega (arith, (left_behind bytes line behind begins).1)
 
-pub walk_next : (old now new : State) (script bytes line : List ℕ) (behind : Option (List ℕ)) (number : ℕ) → Walk old now script (Some bytes) number → BeginsWith bytes line behind → WasRun now new line
+pub walk_next : (old now new : State) (script bytes line : List ℕ) (behind : Option (List ℕ)) (number : ℕ) → Walk old now script (Some bytes) number → BeginsWith bytes line behind
+    → WasRun now new line
     → Walk old new script behind (number + 1)
 walk_next old now new script bytes line behind number walk begins run =
     let left = left_behind bytes line behind begins in
@@ -108,16 +111,19 @@ walk_over old now script number n walk counted =
     }
 
 -- no fewer are accepted than before
-pub walk_grows : (old now : State) (script : List ℕ) (rest : Option (List ℕ)) (number : ℕ) → Walk old now script rest number → length (accepted old.held.history) ≤ length (accepted now.held.history)
+pub walk_grows : (old now : State) (script : List ℕ) (rest : Option (List ℕ)) (number : ℕ) → Walk old now script rest number
+    → length (accepted old.held.history) ≤ length (accepted now.held.history)
 walk_grows old now script rest number walk =
     let grown = leads_grow old now walk.front walk.ops walk.leads in omega (arith, ap length grown, length-append (accepted old.held.history) walk.ops)
 
 -- the same, by what the code keeps of the rest
-pub walk_at : (old now : State) (script : List ℕ) (rest : Option (Bor (List ℕ))) (bytes : Bor (List ℕ)) (number : ℕ) → Walk old now script (option_copied rest) number → rest ≡ Some bytes
+pub walk_at : (old now : State) (script : List ℕ) (rest : Option (Bor (List ℕ))) (bytes : Bor (List ℕ)) (number : ℕ) → Walk old now script (option_copied rest) number
+    → rest ≡ Some bytes
     → Walk old now script (Some bytes.now) number
 walk_at old now script rest bytes number walk is = subst (λ (o : Option (Bor (List ℕ))). Walk old now script (option_copied o) number) is walk
 
-pub walk_at_end : (old now : State) (script : List ℕ) (rest : Option (Bor (List ℕ))) (number : ℕ) → Walk old now script (option_copied rest) number → rest ≡ None → Walk old now script None number
+pub walk_at_end : (old now : State) (script : List ℕ) (rest : Option (Bor (List ℕ))) (number : ℕ) → Walk old now script (option_copied rest) number → rest ≡ None
+    → Walk old now script None number
 walk_at_end old now script rest number walk is = subst (λ (o : Option (Bor (List ℕ))). Walk old now script (option_copied o) number) is walk
 
 pub less_at : (rest : Option (Bor (List ℕ))) (bytes : Bor (List ℕ)) (line : List ℕ) (behind : Option (List ℕ)) → rest ≡ Some bytes → BeginsWith bytes.now line behind
@@ -126,7 +132,8 @@ less_at rest bytes line behind is begins =
     subst (λ (o : Option (Bor (List ℕ))). bytes_left behind < bytes_left (option_copied o)) (sym is) (less_left bytes.now line behind begins)
 
 -- the fault of a line is that of the script
-pub stops : (old mid new : State) (script line : List ℕ) (n : ℕ) (cause : LineFault) → RunsUpTo old mid script line n → LineFails mid new line cause → StopsAtLine old new script (fault_at n cause)
+pub stops : (old mid new : State) (script line : List ℕ) (n : ℕ) (cause : LineFault) → RunsUpTo old mid script line n → LineFails mid new line cause
+    → StopsAtLine old new script (fault_at n cause)
 stops old mid new script line n why.Bad run fails = (line, subst (λ (s : State). RunsUpTo old s script line n) (sym fails.0) run, fails.1)
 stops old mid new script line n (why.Edit edit.NoSection) run fails =
     subst (λ (s : State). StopsAtLine old s script (fault_at n (why.Edit edit.NoSection))) (sym fails.0) (line, run, fails.1)
@@ -158,7 +165,8 @@ not_found : (b : Bool) (n : ℕ) → cond b (Some n) None ≡ None → b ≡ fal
 not_found true n e = cc
 not_found false n e = refl
 
-pub first_line : (script : List ℕ) (end : ℕ) → position (λ (b : ℕ). b == 10) script ≡ Some end → BeginsWith script (take end script) (Some (drop (end + 1) script)) × (end < length script)
+pub first_line : (script : List ℕ) (end : ℕ) → position (λ (b : ℕ). b == 10) script ≡ Some end
+    → BeginsWith script (take end script) (Some (drop (end + 1) script)) × (end < length script)
 first_line script end is =
     let found = found_at _ _ _ is in
     let within = ltb-true _ _ found.0 in
@@ -175,7 +183,8 @@ pub last_line : (script : List ℕ) → position (λ (b : ℕ). b == 10) script 
 last_line script is = no_break script (ltb-false _ _ (not_found _ _ is))
 
 -- a script that was read whole stops at a line
-pub stops_read : (old new : State) (before after : SourceView) (script : List ℕ) (result : Result ℕ ScriptFault) → IsScript before after script → IfErr result (StopsAtLine old new script)
+pub stops_read : (old new : State) (before after : SourceView) (script : List ℕ) (result : Result ℕ ScriptFault) → IsScript before after script
+    → IfErr result (StopsAtLine old new script)
     → IfErr result (ScriptStops old new before after)
 stops_read old new before after script (Ok n) is stopped = tt
 stops_read old new before after script (Err (fault.BadLine n)) is stopped = (script, is, stopped)
@@ -188,7 +197,8 @@ stops_read old new before after script (Err fault.TooLong) is stopped = absurd s
 stops_read old new before after script (Err fault.NoMemory) is stopped = inr (script, is, stopped)
 
 -- and one that is run to its end
-pub runs_read : (old new : State) (before after : SourceView) (script : List ℕ) (result : Result ℕ ScriptFault) → IsScript before after script → IfOk result (RunsWhole old new script)
+pub runs_read : (old new : State) (before after : SourceView) (script : List ℕ) (result : Result ℕ ScriptFault) → IsScript before after script
+    → IfOk result (RunsWhole old new script)
     → IfOk result (ScriptRuns old new before after)
 runs_read old new before after script (Ok n) is whole = (script, is, whole)
 runs_read old new before after script (Err f) is whole = tt

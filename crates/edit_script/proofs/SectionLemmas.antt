@@ -1,5 +1,6 @@
 -- The clusters that are kept of sections, before and after an edit.
-use Rattle.std.proofs.Common.{◌≡◌, ◌≢◌, ◌<◌, ◌≤◌, ◌+◌, ◌↔◌, inl, inr, ℕ, true, nat_lt, List, [], ◌∷◌, length, take, drop, Option, Some, None, append_assoc, refl, sym, ap, subst, ◌∙◌, arith}
+use Rattle.std.proofs.Common.{◌≡◌, ◌≢◌, ◌<◌, ◌≤◌, ◌+◌, ◌↔◌, inl, inr, ℕ, true, nat_lt, List, [], ◌∷◌, length, take, drop, Option, Some, None, append_assoc, refl, sym, ap, subst}
+use Rattle.std.proofs.Common.{◌∙◌, arith}
 use Rattle.std.specs.Prelude.{Result, Ok, Err, IfOk, IfSome, IsNone, OnOk, option_map, encode_utf8_all}
 use Rattle.std.specs.List.{splice}
 use Rattle.std.specs.Str.{chars, IsUtf8}
@@ -29,7 +30,8 @@ use Rattle.fugue_ids.proofs.OptionLemmas.{some_is_none}
 use Rattle.origin_model.proofs.edits.MadeLemmas.{lawful_front}
 
 -- where each text stays, what is kept of them does
-same_texts : (texts : List (Identifier × List ℕ)) (old new : State) → ((t : Identifier) → text new.held.history t ≡ text old.held.history t) → AreShownTexts texts old → AreShownTexts texts new
+same_texts : (texts : List (Identifier × List ℕ)) (old new : State) → ((t : Identifier) → text new.held.history t ≡ text old.held.history t) → AreShownTexts texts old
+    → AreShownTexts texts new
 same_texts texts old new same are t = of (entry_at texts t) (are t)
   where
     of : (o : Option (List ℕ)) → IfSome o (λ kept. kept ≡ shown_text_in old t) → IfSome o (λ kept. kept ≡ shown_text_in new t)
@@ -37,7 +39,8 @@ same_texts texts old new same are t = of (entry_at texts t) (are t)
     of (Some kept) e = e ∙ ap encode_utf8_all (sym (same t))
 
 -- where all texts but one stay, and that one is not kept
-other_texts : (texts : List (Identifier × List ℕ)) (old new : State) (x : Identifier) → entry_at texts x ≡ None → ((t : Identifier) → t ≢ x → text new.held.history t ≡ text old.held.history t)
+other_texts : (texts : List (Identifier × List ℕ)) (old new : State) (x : Identifier) → entry_at texts x ≡ None
+    → ((t : Identifier) → t ≢ x → text new.held.history t ≡ text old.held.history t)
     → AreShownTexts texts old → AreShownTexts texts new
 other_texts texts old new x none others are t =
     elim (cases_id t x) [
@@ -59,8 +62,10 @@ kept_chars : (s : State) (x : Identifier) (kept : List ℕ) → IsUtf8 kept → 
 kept_chars s x kept utf8 is = encodes_same (chars kept) (text s.held.history x) (encodes-chars kept utf8 ∙ is)
 
 -- clusters that were found in the text of a section
-pub passage_found : (s : State) (k at n : ℕ) (x : Identifier) (kept : List ℕ) (found : ℕ × ℕ) → section_shown s k ≡ Some x → kept ≡ shown_text_in s x → Lawful s.held.history → IsUtf8 kept
-    → found ≡ span (clusters kept) at n → (IsNone (Some found) ↔ (length (clusters kept) < at + n)) → found.0 + found.1 ≤ length (chars kept) → IsClusterPassage s k at n x kept found
+pub passage_found : (s : State) (k at n : ℕ) (x : Identifier) (kept : List ℕ) (found : ℕ × ℕ) → section_shown s k ≡ Some x → kept ≡ shown_text_in s x → Lawful s.held.history
+    → IsUtf8 kept
+    → found ≡ span (clusters kept) at n → (IsNone (Some found) ↔ (length (clusters kept) < at + n)) → found.0 + found.1 ≤ length (chars kept)
+    → IsClusterPassage s k at n x kept found
 passage_found s k at n x kept found shown kept_is lawful utf8 span_is none fits =
     let same = ap (λ (b : List ℕ). length (clusters b)) kept_is in
     let enough : at + n ≤ length (clusters kept) = elim (cases_lt (length (clusters kept)) (at + n)) [ inl few ↦ absurd (some_is_none found (none.1 few)) | inr rest ↦ rest ] in
@@ -82,11 +87,13 @@ passage_found s k at n x kept found shown kept_is lawful utf8 span_is none fits 
     }
 
 -- and clusters that are not there
-pub passage_missing : (s : State) (k at n : ℕ) (x : Identifier) (kept : List ℕ) → section_shown s k ≡ Some x → kept ≡ shown_text_in s x → length (clusters kept) < at + n → HasNoSpan s k at n OutOfRange
+pub passage_missing : (s : State) (k at n : ℕ) (x : Identifier) (kept : List ℕ) → section_shown s k ≡ Some x → kept ≡ shown_text_in s x → length (clusters kept) < at + n
+    → HasNoSpan s k at n OutOfRange
 passage_missing s k at n x kept shown is few = (x, shown, omega (arith, few, ap (λ (b : List ℕ). length (clusters b)) is))
 
 -- what was read of a shown section
-pub read_shown : (found : Option Identifier) (written : Identifier → List ℕ) (bytes kept : List ℕ) → Some bytes ≡ option_map written found → kept ≡ bytes → IfSome found (λ x. kept ≡ written x)
+pub read_shown : (found : Option Identifier) (written : Identifier → List ℕ) (bytes kept : List ℕ) → Some bytes ≡ option_map written found → kept ≡ bytes
+    → IfSome found (λ x. kept ≡ written x)
 read_shown None written bytes kept e is = cc
 read_shown (Some x) written bytes kept e is = is ∙ same_Some bytes (written x) e
 
@@ -99,14 +106,16 @@ read_hidden (Some x) written kept e = cc
 pub kept_at : (found : Option (List ℕ)) (kept : List ℕ) (P : List ℕ → Type 0) → Some kept ≡ found → IfSome found P → P kept
 kept_at found kept P is p = let e = subst (λ (o : Option (List ℕ)). IfSome o P) (sym is) p in e
 
-pub taken_out : (old new : List (Identifier × List ℕ)) (s : State) (x : Identifier) → entry_at new x ≡ None → ((y : Identifier) → y ≢ x → entry_at new y ≡ entry_at old y) → AreShownTexts old s → AreShownTexts new s
+pub taken_out : (old new : List (Identifier × List ℕ)) (s : State) (x : Identifier) → entry_at new x ≡ None → ((y : Identifier) → y ≢ x → entry_at new y ≡ entry_at old y)
+    → AreShownTexts old s → AreShownTexts new s
 taken_out old new s x none others are y =
     elim (cases_id y x) [
       | inl same ↦ subst (λ (o : Option (List ℕ)). IfSome o (λ kept. kept ≡ shown_text_in s y)) (sym (ap (entry_at new) same ∙ none)) tt
       | inr other ↦ subst (λ (o : Option (List ℕ)). IfSome o (λ kept. kept ≡ shown_text_in s y)) (sym (others y other)) (are y)
     ]
 
-pub put_in : (old new : List (Identifier × List ℕ)) (s : State) (x : Identifier) (kept : List ℕ) → entry_at new x ≡ Some kept → ((y : Identifier) → y ≢ x → entry_at new y ≡ entry_at old y)
+pub put_in : (old new : List (Identifier × List ℕ)) (s : State) (x : Identifier) (kept : List ℕ) → entry_at new x ≡ Some kept
+    → ((y : Identifier) → y ≢ x → entry_at new y ≡ entry_at old y)
     → kept ≡ shown_text_in s x → AreShownTexts old s → AreShownTexts new s
 put_in old new s x kept here others is are y =
     elim (cases_id y x) [
@@ -120,7 +129,8 @@ span_fits s k at n x kept span passage =
     let same = same_Some passage.spans.section x (sym passage.spans.shown ∙ passage.shown) in
     subst (λ (y : Identifier). span.0 + span.1 ≤ shown_count s (within y)) same passage.spans.within
 
-module _ (texts after : List (Identifier × List ℕ)) (old new : State) (k at n : ℕ) (x : Identifier) (kept : List ℕ) (span : ℕ × ℕ) (passage : IsClusterPassage old k at n x kept span)
+module _ (texts after : List (Identifier × List ℕ)) (old new : State) (k at n : ℕ) (x : Identifier) (kept : List ℕ) (span : ℕ × ℕ)
+    (passage : IsClusterPassage old k at n x kept span)
     (none : entry_at texts x ≡ None) (are : AreShownTexts texts old) where
   -- an edit of a text by scalars is kept
   edit_kept : (ops : List Op) (chs : List ℕ) → Gains old new ops → IsTextEdit old.held.history ops x span.0 span.1 chs
@@ -168,7 +178,8 @@ add_kept texts old new at title (Err fault) lawful exact made are = tt
 add_kept texts old new at title (Ok n) lawful exact made are =
     let within = in_range_within at (shown_count old catalogue) (refused_elements old 1) (allowed old (Add at title) n exact) in
     same_texts texts old new
-    (λ t. ap (λ (s : State). text s.held.history t) made.gained.others ∙ add_keeps_texts old.number old.held.history old.held.waiting at title t (was_lawful old new _ made.gained lawful) within) are
+    (λ t. ap (λ (s : State). text s.held.history t) made.gained.others
+    ∙ add_keeps_texts old.number old.held.history old.held.waiting at title t (was_lawful old new _ made.gained lawful) within) are
 
 pub drop_kept : (texts : List (Identifier × List ℕ)) (old new : State) (k : ℕ) (result : Result ℕ EditFault) → Lawful new.held.history
     → RefusesExactly old (DropSection k) result → IfOk result (IsMade old new (DropSection k)) → AreShownTexts texts old → OnOk result (AreShownTexts texts new)
@@ -179,4 +190,5 @@ drop_kept texts old new k (Ok n) lawful exact made are = of (section_shown old k
     of None is refused = cc
     of (Some x) is refused =
         same_texts texts old new
-        (λ t. ap (λ (s : State). text s.held.history t) made.gained.others ∙ drop_keeps_texts old.number old.held.history old.held.waiting k x t (was_lawful old new _ made.gained lawful) is) are
+        (λ t. ap (λ (s : State). text s.held.history t) made.gained.others
+        ∙ drop_keeps_texts old.number old.held.history old.held.waiting k x t (was_lawful old new _ made.gained lawful) is) are

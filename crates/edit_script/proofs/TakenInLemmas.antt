@@ -73,7 +73,11 @@ edit_fits s (Put k at new) lawful allowed =
     let by = ap (λ (o : Option Identifier). elim o as (λ _. Command) [ None ↦ Put k at new | Some x ↦ in_scalars s x (Put k at new) ]) found.1 in
     subst (λ (c : Command). Fit s (made_by s c)) (sym by) (record {
       ready = put_ready s.number s.held.history s.held.waiting k (scalars (take at (shown_clusters s found.0))) new found.0 lawful found.1;
-      room = omega (arith, elements_fit s (length new) others.1, put_counted s.number s.held.history s.held.waiting k found.0 (scalars (take at (shown_clusters s found.0))) new found.1);
+      room = omega (
+        arith,
+        elements_fit s (length new) others.1,
+        put_counted s.number s.held.history s.held.waiting k found.0 (scalars (take at (shown_clusters s found.0))) new found.1,
+      );
     })
 edit_fits s (Cut k at n) lawful allowed =
     let found = section_there (section_shown s k) (λ (x : Identifier). in_range (at + n) (length (shown_clusters s x)) (refused_ops s (scalars_from s x at n))) allowed in
@@ -81,7 +85,11 @@ edit_fits s (Cut k at n) lawful allowed =
     let by = ap (λ (o : Option Identifier). elim o as (λ _. Command) [ None ↦ Cut k at n | Some x ↦ in_scalars s x (Cut k at n) ]) found.1 in
     subst (λ (c : Command). Fit s (made_by s c)) (sym by) (record {
       ready = (cut_takes s.number s.held.history s.held.waiting k (scalars (take at (shown_clusters s found.0))) (scalars_from s found.0 at n) found.0 lawful found.1).0.ready;
-      room = omega (arith, ops_fit s (scalars_from s found.0 at n) others.1, cut_few s.number s.held.history s.held.waiting k (scalars (take at (shown_clusters s found.0))) (scalars_from s found.0 at n) found.0 found.1);
+      room = omega (
+        arith,
+        ops_fit s (scalars_from s found.0 at n) others.1,
+        cut_few s.number s.held.history s.held.waiting k (scalars (take at (shown_clusters s found.0))) (scalars_from s found.0 at n) found.0 found.1,
+      );
     })
 edit_fits s (Add at title) lawful allowed =
     let others = position_within at (shown_count s catalogue) (refused_elements s 1) allowed in

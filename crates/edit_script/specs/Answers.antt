@@ -34,4 +34,5 @@ ScriptAnswerIs old bytes (Err fault) = EndsIn old bytes fault
 
 -- each answer comes exactly where the bytes say so, but for a fault of the source and want of memory
 abbrev pub ScriptAnswersBy : Result ℕ ScriptFault → State → List ℕ → Type 0
-ScriptAnswersBy result old bytes = IsScriptByBytes result → (answer : Result ℕ ScriptFault) → IsScriptByBytes answer → (result ≡ answer) ↔ ScriptAnswerIs old bytes answer
+ScriptAnswersBy result old bytes = IsScriptByBytes result → (answer : Result ℕ ScriptFault) → IsScriptByBytes answer
+    → (result ≡ answer) ↔ ScriptAnswerIs old bytes answer

@@ -1,5 +1,6 @@
 -- The lines of a script, and what each asks for.
-use Rattle.std.specs.Prelude.{◌≡◌, ◌≢◌, ◌⊎◌, ℕ, ◌+◌, ◌<◌, ◌^◌, ◌==◌, true, Option, Some, None, length, List, [], ◌∷◌, ◌++◌, All, codes, decimal, encode_utf8, encode_utf8_all, if◌then◌else◌}
+use Rattle.std.specs.Prelude.{◌≡◌, ◌≢◌, ◌⊎◌, ℕ, ◌+◌, ◌<◌, ◌^◌, ◌==◌, true, Option, Some, None, length, List, [], ◌∷◌, ◌++◌, All, codes}
+use Rattle.std.specs.Prelude.{decimal, encode_utf8, encode_utf8_all, if◌then◌else◌}
 use Rattle.std.specs.List.{flat_map, join_with_byte, slice_split}
 use Rattle.std.specs.Str.{IsUtf8, all_scalars}
 use Rattle.fugue_ids.specs.Titles.{IsTitleText}

@@ -1,4 +1,5 @@
--- Laws of scripts: what a line asks for and what a script comes to is exactly one thing, and what a script made comes to the same where it is taken in.
+-- Laws of scripts: what a line asks for and what a script comes to is exactly one thing, and what a script made comes
+-- to the same where it is taken in.
 use Rattle.std.specs.Prelude.{◌≡◌, ◌≢◌, ◌⊎◌, ℕ, List, ◌++◌}
 use Rattle.fugue_ids.specs.declared.op.Op.{Op}
 use Rattle.origin_model.specs.operations.History.{accepted}
@@ -19,10 +20,13 @@ pub record AsksOnce : Type 0 where
 -- from a state a script comes to its end or to its first faulty line, and to one of these, where memory is not wanting
 pub record RunsOnce : Type 0 where
   pub some : (old : State) (script : List ℕ)
-      → ((new : State) × (n : ℕ) × RunsWhole old new script n) ⊎ ((new : State) × (f : ScriptFault) × (f ≢ NoMemory) × StopsAtLine old new script f)
+      → ((new : State) × (n : ℕ) × RunsWhole old new script n)
+      ⊎ ((new : State) × (f : ScriptFault) × (f ≢ NoMemory) × StopsAtLine old new script f)
   pub whole : (old a b : State) (script : List ℕ) (m n : ℕ) → RunsWhole old a script m → RunsWhole old b script n → (a ≡ b) × (m ≡ n)
-  pub stops : (old a b : State) (script : List ℕ) (f g : ScriptFault) → f ≢ NoMemory → g ≢ NoMemory → StopsAtLine old a script f → StopsAtLine old b script g → (a ≡ b) × (f ≡ g)
-  pub apart : (old a b : State) (script : List ℕ) (n : ℕ) (f : ScriptFault) → f ≢ NoMemory → RunsWhole old a script n → StopsAtLine old b script f → ⊥
+  pub stops : (old a b : State) (script : List ℕ) (f g : ScriptFault) → f ≢ NoMemory → g ≢ NoMemory → StopsAtLine old a script f
+      → StopsAtLine old b script g → (a ≡ b) × (f ≡ g)
+  pub apart : (old a b : State) (script : List ℕ) (n : ℕ) (f : ScriptFault) → f ≢ NoMemory → RunsWhole old a script n
+      → StopsAtLine old b script f → ⊥
 
 -- operations that are taken in where a replica was come to where it is, and all of them are kept
 pub record AreTakenIn (old new : State) (made : List Op) : Type 0 where

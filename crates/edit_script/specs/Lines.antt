@@ -62,7 +62,8 @@ pub record IsSpan (s : State) (k at n : ℕ) (found : ℕ × ℕ) : Type 0 where
 -- there is no such section, or it has fewer clusters
 abbrev pub HasNoSpan : State → (k at n : ℕ) → EditFault → Type 0
 HasNoSpan s k at n edit.NoSection = section_shown s k ≡ None
-HasNoSpan s k at n edit.OutOfRange = (section : Identifier) × (section_shown s k ≡ Some section) × (length (shown_clusters s section) < at + n)
+HasNoSpan s k at n edit.OutOfRange =
+    (section : Identifier) × (section_shown s k ≡ Some section) × (length (shown_clusters s section) < at + n)
 HasNoSpan s k at n edit.NoMemory = Unit {0}
 HasNoSpan s k at n _ = ⊥
 

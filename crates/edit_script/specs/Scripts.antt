@@ -13,7 +13,8 @@ use Rattle.origin_model.specs.edits.Effect.{Gains, StopsPartly}
 use Rattle.origin_model.specs.declared.edit_fault.EditFault.{EditFault}
 use Rattle.origin_model.specs.declared.edit_fault.EditFault.TheVariants as edit
 use Rattle.edit_script.specs.declared.run.ScriptFault.{ScriptFault}
-use Rattle.edit_script.specs.declared.run.ScriptFault.TheVariants.{BadLine, NoSection, OutOfRange, IdsSpent, TooMany, ReadFault, TooLong, NoMemory}
+use Rattle.edit_script.specs.declared.run.ScriptFault.TheVariants.{BadLine, NoSection, OutOfRange, IdsSpent, TooMany, ReadFault, TooLong}
+use Rattle.edit_script.specs.declared.run.ScriptFault.TheVariants.{NoMemory}
 use Rattle.edit_script.specs.Grammar.{Asks, IsFaultyLine, IsNote, lines}
 use Rattle.edit_script.specs.Sources.{IsLonger, IsScript}
 
@@ -25,7 +26,8 @@ shown_clusters s section = clusters (encode_utf8_all (text s.held.history sectio
 abbrev pub scalars_from : State → Identifier → (at n : ℕ) → ℕ
 scalars_from s section at n = (span (shown_clusters s section) at n).1
 
--- an edit of a section by scalars: a place in clusters is the number of scalars in front of it, and clusters have the scalars that they have
+-- an edit of a section by scalars: a place in clusters is the number of scalars in front of it, and clusters have the
+-- scalars that they have
 abbrev pub in_scalars : State → Identifier → Command → Command
 in_scalars s section (Put k at new) = Put k (scalars (take at (shown_clusters s section))) new
 in_scalars s section (Cut k at n) = Cut k (scalars (take at (shown_clusters s section))) (scalars_from s section at n)
@@ -45,8 +47,10 @@ by_scalars s command = elim (edited_section s command) [ None ↦ command | Some
 
 -- why an edit by clusters is refused, by the first cause that there is
 abbrev pub line_refusal : State → Command → Option EditFault
-line_refusal s (Put k at new) = in_section (section_shown s k) (λ x. in_range at (length (shown_clusters s x)) (refused_elements s (length new)))
-line_refusal s (Cut k at n) = in_section (section_shown s k) (λ x. in_range (at + n) (length (shown_clusters s x)) (refused_ops s (scalars_from s x at n)))
+line_refusal s (Put k at new) =
+    in_section (section_shown s k) (λ x. in_range at (length (shown_clusters s x)) (refused_elements s (length new)))
+line_refusal s (Cut k at n) =
+    in_section (section_shown s k) (λ x. in_range (at + n) (length (shown_clusters s x)) (refused_ops s (scalars_from s x at n)))
 line_refusal s (Add at title) = refusal_message s (Add at title)
 line_refusal s (DropSection k) = refusal_message s (DropSection k)
 
@@ -64,7 +68,8 @@ Does old new line ops = (IsNote line × (new ≡ old) × (ops ≡ [])) ⊎ ((com
 abbrev pub LinesLead : (old new : State) (lines : List (List ℕ)) (ops : List Op) → Type 0
 LinesLead old new [] ops = (new ≡ old) × (ops ≡ [])
 LinesLead old new (line ∷ lines) ops =
-    (mid : State) × (first : List Op) × (others : List Op) × Does old mid line first × LinesLead mid new lines others × (ops ≡ first ++ others)
+    (mid : State) × (first : List Op) × (others : List Op) × Does old mid line first × LinesLead mid new lines others
+    × (ops ≡ first ++ others)
 
 -- the script was run to its end, with n operations made
 pub record RunsWhole (old new : State) (script : List ℕ) (n : ℕ) : Type 0 where
@@ -88,15 +93,18 @@ IsRefusedEdit s line fault = (command : Command) × Asks line command × (line_r
 
 -- memory was wanting for a line: nothing of it was made, or the first ones of its operations
 abbrev pub IsPartlyMade : (old new : State) → List ℕ → Type 0
-IsPartlyMade old new line = (new ≡ old) ⊎ ((command : Command) × Asks line command × StopsPartly old new (made_by old (by_scalars old command)))
+IsPartlyMade old new line =
+    (new ≡ old) ⊎ ((command : Command) × Asks line command × StopsPartly old new (made_by old (by_scalars old command)))
 
 -- the first faulty line, and its fault
 abbrev pub StopsAtLine : (old new : State) (script : List ℕ) → ScriptFault → Type 0
 StopsAtLine old new script (BadLine n) = (line : List ℕ) × RunsUpTo old new script line n × IsFaultyLine line
 StopsAtLine old new script (NoSection n) = (line : List ℕ) × RunsUpTo old new script line n × IsRefusedEdit new line edit.NoSection
 StopsAtLine old new script (OutOfRange n) = (line : List ℕ) × RunsUpTo old new script line n × IsRefusedEdit new line edit.OutOfRange
-StopsAtLine old new script (IdsSpent count) = (line : List ℕ) × (n : ℕ) × RunsUpTo old new script line n × IsRefusedEdit new line (edit.IdsSpent count)
-StopsAtLine old new script (TooMany count) = (line : List ℕ) × (n : ℕ) × RunsUpTo old new script line n × IsRefusedEdit new line (edit.TooMany count)
+StopsAtLine old new script (IdsSpent count) =
+    (line : List ℕ) × (n : ℕ) × RunsUpTo old new script line n × IsRefusedEdit new line (edit.IdsSpent count)
+StopsAtLine old new script (TooMany count) =
+    (line : List ℕ) × (n : ℕ) × RunsUpTo old new script line n × IsRefusedEdit new line (edit.TooMany count)
 StopsAtLine old new script NoMemory = (line : List ℕ) × (n : ℕ) × (mid : State) × RunsUpTo old mid script line n × IsPartlyMade mid new line
 StopsAtLine old new script ReadFault = ⊥
 StopsAtLine old new script TooLong = ⊥
@@ -105,7 +113,8 @@ StopsAtLine old new script TooLong = ⊥
 abbrev pub ScriptStops : (old new : State) (before after : SourceView) → ScriptFault → Type 0
 ScriptStops old new before after ReadFault = new ≡ old
 ScriptStops old new before after TooLong = (new ≡ old) × IsLonger before after
-ScriptStops old new before after NoMemory = ((new ≡ old) × (after ≡ before)) ⊎ ((script : List ℕ) × IsScript before after script × StopsAtLine old new script NoMemory)
+ScriptStops old new before after NoMemory =
+    ((new ≡ old) × (after ≡ before)) ⊎ ((script : List ℕ) × IsScript before after script × StopsAtLine old new script NoMemory)
 ScriptStops old new before after fault = (script : List ℕ) × IsScript before after script × StopsAtLine old new script fault
 
 -- the script that the source had left was run to its end

@@ -3,7 +3,8 @@ use Rattle.std.specs.Prelude.{◌≡◌, ℕ, ◌+◌, ◌-◌, ◌<◌, ◌≤�
 use Rattle.std.specs.Io.KnownBytes.{prepend_known}
 use Rattle.outer_ports.specs.Sources.{SourceView, ReadsSome, KeepsCount}
 use Rattle.edit_script.specs.declared.run.ScriptFault.{ScriptFault}
-use Rattle.edit_script.specs.declared.run.ScriptFault.TheVariants.{BadLine, NoSection, OutOfRange, IdsSpent, TooMany, ReadFault, TooLong, NoMemory}
+use Rattle.edit_script.specs.declared.run.ScriptFault.TheVariants.{BadLine, NoSection, OutOfRange, IdsSpent, TooMany, ReadFault, TooLong}
+use Rattle.edit_script.specs.declared.run.ScriptFault.TheVariants.{NoMemory}
 use Rattle.edit_script.specs.declared.script.TheConstants.{LONGEST_SCRIPT}
 
 -- a read whose buffer is the part of this one behind `from`

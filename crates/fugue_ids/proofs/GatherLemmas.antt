@@ -114,6 +114,7 @@ flush_writes {T} {S} x result u v w p text s t =
     (text_joins {E = Failed} {T = Unit {0}} {S = S} tt result u v w s.ok.gone p s.ok.wrote t)
 
 -- or it was not gathered, and a front of it is written
-pub stop_writes : {T S : Type 0} (u v : OutView) (p text : List ℕ) → GathersText {T = T} u v [] p (Err (record {})) text → WritesBytes {E = Failed} {T = S} u v (Err (record {})) text
+pub stop_writes : {T S : Type 0} (u v : OutView) (p text : List ℕ) → GathersText {T = T} u v [] p (Err (record {})) text
+    → WritesBytes {E = Failed} {T = S} u v (Err (record {})) text
 stop_writes {T} {S} u v p text s =
     subst (WritesBytes {E = Failed} {T = S} u v (Err (record {}))) (append-nil text) (text_stops {E = Failed} {T = T} {S = S} (record {}) u v text [] s.err)

@@ -74,7 +74,8 @@ sure_joins x (Err e) (Some r) (Some q) m n f0 f1 f2 is s t =
 
 -- nothing was to go out
 pub text_none : {E T : Type 0} (x : T) (v : OutView) → WritesBytes {E = E} {T = T} v v (Ok x) []
-text_none {E} {T} x v = record { ok = took_none v v refl refl; err = tt; cause = record { later = omega arith; failed = tt }; sure = sure_none v.room v.faults; calm_told = λ tells. refl }
+text_none {E} {T} x v =
+    record { ok = took_none v v refl refl; err = tt; cause = record { later = omega arith; failed = tt }; sure = sure_none v.room v.faults; calm_told = λ tells. refl }
   where
     sure_none : (room : Option ℕ) (faults : ℕ) → IfSome room (λ r. IsSure {E = E} {T = T} r 0 faults faults (Ok x))
     sure_none None faults = tt
@@ -115,7 +116,8 @@ take_front_rest : (at : ℕ) (piece : List ℕ) → take at piece ++ take (lengt
 take_front_rest at piece = ap (λ (t : List ℕ). take at piece ++ t) (take_all (length piece - at) (drop at piece) (omega (arith, length-drop at piece))) ∙ take-append-drop at piece
 
 pub front_grows : (at n : ℕ) (piece : List ℕ) → take at piece ++ take n (take (length piece - at) (drop at piece)) ≡ take (at + n) piece
-front_grows at n piece = ap (λ (t : List ℕ). take at piece ++ take n t) (take_all (length piece - at) (drop at piece) (omega (arith, length-drop at piece))) ∙ sym (take-add at n piece)
+front_grows at n piece =
+    ap (λ (t : List ℕ). take at piece ++ take n t) (take_all (length piece - at) (drop at piece) (omega (arith, length-drop at piece))) ∙ sym (take-add at n piece)
 
 sure_call : (E T : Type 0) (x : T) (room : Option ℕ) (n m before now : ℕ) → m ≡ n → IfSome room (λ r. n ≤ r) → IfSome room (λ r. now ≡ before)
     → IfSome room (λ r. IsSure {E = E} {T = T} r m before now (Ok x))

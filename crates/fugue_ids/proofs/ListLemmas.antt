@@ -1,13 +1,15 @@
 -- What std's lemmas do not say of `All`, `Contains`, `AllPairs` and `position_or_len`.
 -- std has `All-nil`, `All-cons`, `All-head`, `All-tail`, `All-append`, `All-map`, `All-filter`, `All-weaker`, `All-contains`, `All-get_or`,
--- `All-from_recursion`, `recursion_from_All`, `Contains-get_or` and `Contains-append_left`, `_right`, `_cases` (`lemmas.List.Elements`), and `AllPairs-cons` (`lemmas.List.Kept`).
+-- `All-from_recursion`, `recursion_from_All`, `Contains-get_or` and `Contains-append_left`, `_right`, `_cases`
+-- (`lemmas.List.Elements`), and `AllPairs-cons` (`lemmas.List.Kept`).
 use Rattle.std.specs.Prelude.{[], Bool, cond, false, filter, length, List, map, nat_eq, refl, slice_get, Some, suc, true, zero, ℕ, ◌&&◌, ◌++◌, ◌+◌, ◌<◌, ◌∷◌, ◌≡◌, ◌⊎◌}
 use Rattle.std.specs.Cmp.Lexicographic.{pointwise}
 use Rattle.std.specs.List.{All, AllPairs, Contains, insert}
 use Rattle.std.proofs.Common.{ap, arith, get_or, inl, inr, subst, sym, take, drop, ◌∙◌}
 use Rattle.std.proofs.lemmas.List.{take-append-drop}
 use Rattle.std.proofs.lemmas.Bool.{and_from, cases_Bool, eq-eqb, true≢false}
-use Rattle.std.proofs.lemmas.List.Elements.{All-append, All-contains, All-contains_itself, All-cons, All-filter, All-map, filter_passes, All-head, All-tail, All-nil, Contains-append_cases, Contains-append_left, Contains-append_right, Contains-get_or}
+use Rattle.std.proofs.lemmas.List.Elements.{All-append, All-contains, All-contains_itself, All-cons, All-filter, All-map, filter_passes, All-head, All-tail, All-nil}
+use Rattle.std.proofs.lemmas.List.Elements.{Contains-append_cases, Contains-append_left, Contains-append_right, Contains-get_or}
 use Rattle.std.proofs.lemmas.List.Kept.{AllPairs-cons}
 
 module _ {X : Type 0} where

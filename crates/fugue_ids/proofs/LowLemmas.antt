@@ -11,7 +11,8 @@ use Rattle.fugue_ids.specs.Listed.{HoldsOrigin}
 use Rattle.fugue_ids.specs.declared.key.Key.{Key}
 use Rattle.fugue_ids.proofs.IdentifierLemmas.{origin_eq-refl}
 use Rattle.fugue_ids.proofs.ListLemmas.{contains_cases, contains_here, contains_none, contains_there}
-use Rattle.fugue_ids.proofs.PartedLemmas.{Apart, BeginsWith, EndsWith, apart_back, apart_first, apart_front, apart_rest, first_held, front_three, in_three, last_behind, last_ends, last_some, mid_three, not_first, not_last, rest_three, there, to_held}
+use Rattle.fugue_ids.proofs.PartedLemmas.{Apart, BeginsWith, EndsWith, apart_back, apart_first, apart_front, apart_rest, first_held, front_three, in_three, last_behind, last_ends}
+use Rattle.fugue_ids.proofs.PartedLemmas.{last_some, mid_three, not_first, not_last, rest_three, there, to_held}
 
 -- elements of keys up to k
 module _ (k : Key) where
@@ -62,19 +63,23 @@ module _ (k : Key) where
   low_other e es t = ap (λ b. if b then e ∷ lows es else lows es) t
 
   -- where a front ends with a low element, so do its low ones
-  low_ends : (es : List Keyed) (from : Option Identifier) (front more : List Keyed) → Apart es → es ≡ front ++ more → EndsWith from front → HoldsOrigin (ids (lows es)) from → EndsWith from (lows front)
+  low_ends : (es : List Keyed) (from : Option Identifier) (front more : List Keyed) → Apart es → es ≡ front ++ more → EndsWith from front → HoldsOrigin (ids (lows es)) from
+      → EndsWith from (lows front)
   low_ends es None front more a w e c = ap lows e
   low_ends es (Some x) front more a w (fs, e, is, same) c =
       let whole : es ≡ fs ++ e ∷ more = w ∙ ap (λ f. f ++ more) is ∙ append_assoc fs (e ∷ []) more in
-      let t : is_low k e ≡ true = low_here fs e more (subst Apart whole a) (subst (λ z. Contains (ids (lows (fs ++ e ∷ more))) z) (sym same) (subst (λ l. Contains (ids (lows l)) x) whole c)) in
+      let t : is_low k e ≡ true =
+      low_here fs e more (subst Apart whole a) (subst (λ z. Contains (ids (lows (fs ++ e ∷ more))) z) (sym same) (subst (λ l. Contains (ids (lows l)) x) whole c)) in
       (lows fs, e, ap lows is ∙ filter-append (is_low k) fs (e ∷ []) ∙ ap (λ l. lows fs ++ l) (low_one e [] t), same)
 
   -- where a back begins with a low element, so do its low ones
-  pub low_begins : (es : List Keyed) (to : Option Identifier) (more back : List Keyed) → Apart es → es ≡ more ++ back → BeginsWith to back → HoldsOrigin (ids (lows es)) to → BeginsWith to (lows back)
+  pub low_begins : (es : List Keyed) (to : Option Identifier) (more back : List Keyed) → Apart es → es ≡ more ++ back → BeginsWith to back → HoldsOrigin (ids (lows es)) to
+      → BeginsWith to (lows back)
   low_begins es None more back a w b c = ap lows b
   low_begins es (Some y) more back a w (e, bs, is, same) c =
       let whole : es ≡ more ++ e ∷ bs = w ∙ ap (λ t. more ++ t) is in
-      let t : is_low k e ≡ true = low_here more e bs (subst Apart whole a) (subst (λ z. Contains (ids (lows (more ++ e ∷ bs))) z) (sym same) (subst (λ l. Contains (ids (lows l)) y) whole c)) in
+      let t : is_low k e ≡ true =
+      low_here more e bs (subst Apart whole a) (subst (λ z. Contains (ids (lows (more ++ e ∷ bs))) z) (sym same) (subst (λ l. Contains (ids (lows l)) y) whole c)) in
       (e, lows bs, ap lows is ∙ low_one e bs t, same)
 
   -- what the last low one is, where the search may end at the element that the part begins behind
@@ -84,9 +89,11 @@ module _ (k : Key) where
       let p = in_three es from to a (low_held es from f) t in
       let ends : EndsWith from (lows p.front) = low_ends es from p.front (p.mid ++ p.back) a p.whole p.ends f in
       let found : v ≡ last_id (lows p.front ++ lows p.mid) = e ∙ ap (last_low k) (front_three es from to a p) ∙ ap last_id (filter-append (is_low k) p.front p.mid) in
-      chosen p.front p.mid (apart_front (p.front ++ p.mid) p.back (subst Apart (p.whole ∙ sym (append_assoc p.front p.mid p.back)) a)) from v ends p.ends (lows p.mid) refl found ∙ ap (last_low k) (sym (mid_three es from to a p))
+      chosen p.front p.mid (apart_front (p.front ++ p.mid) p.back (subst Apart (p.whole ∙ sym (append_assoc p.front p.mid p.back)) a)) from v ends p.ends (lows p.mid) refl found
+      ∙ ap (last_low k) (sym (mid_three es from to a p))
     where
-      chosen : (front mid : List Keyed) → Apart (front ++ mid) → (from v : Option Identifier) → EndsWith from (lows front) → EndsWith from front → (found : List Keyed) → lows mid ≡ found
+      chosen : (front mid : List Keyed) → Apart (front ++ mid) → (from v : Option Identifier) → EndsWith from (lows front) → EndsWith from front → (found : List Keyed)
+          → lows mid ≡ found
           → v ≡ last_id (lows front ++ lows mid) → (if origin_eq v from then None else v) ≡ last_id (lows mid)
       chosen front mid a from v ends own [] is e =
           let same : v ≡ from = e ∙ ap (λ l. last_id (lows front ++ l)) is ∙ ap last_id (append-nil (lows front)) ∙ last_ends (lows front) from ends in

@@ -10,7 +10,8 @@ use Rattle.fugue_ids.specs.Listed.{HoldsOrigin}
 use Rattle.fugue_ids.specs.declared.key.Key.{Key}
 use Rattle.fugue_ids.proofs.IdentifierLemmas.{eq-id_eq, ne-id_eq}
 use Rattle.fugue_ids.proofs.ListLemmas.{contains_here, contains_none}
-use Rattle.fugue_ids.proofs.PartedLemmas.{Apart, BeginsWith, apart_back, first_begins, first_held, front_is, in_back, in_front, in_three, last_some, mid_three, others, part_at, rest_at, rest_three, there, to_held}
+use Rattle.fugue_ids.proofs.PartedLemmas.{Apart, BeginsWith, apart_back, first_begins, first_held, front_is, in_back, in_front, in_three, last_some, mid_three, others, part_at}
+use Rattle.fugue_ids.proofs.PartedLemmas.{rest_at, rest_three, there, to_held}
 use Rattle.fugue_ids.proofs.LowLemmas.{low_begins, low_held, low_one, lows}
 
 -- a part of the list, and an element of it: what stands around that
@@ -42,9 +43,11 @@ around es from to m a f t c =
     rest_three es from to a p ∙ ap (λ l. l ++ p.back) q.whole ∙ append_assoc q.front (q.here ∷ q.back) p.back in
     let apart : Apart (rest_of from es) = subst Apart (sym (rest_three es from to a p)) (apart_back p.front (p.mid ++ p.back) (subst Apart p.whole a)) in
     let whole : es ≡ (p.front ++ q.front) ++ q.here ∷ more =
-    p.whole ∙ ap (λ l. p.front ++ (l ++ p.back)) q.whole ∙ ap (λ l. p.front ++ l) (append_assoc q.front (q.here ∷ q.back) p.back) ∙ sym (append_assoc p.front q.front (q.here ∷ more)) in
+    p.whole ∙ ap (λ l. p.front ++ (l ++ p.back)) q.whole ∙ ap (λ l. p.front ++ l) (append_assoc q.front (q.here ∷ q.back) p.back)
+    ∙ sym (append_assoc p.front q.front (q.here ∷ more)) in
     let behind_m : rest_of (Some m) es ≡ more =
-    ap (λ z. rest_of (Some z) es) (sym q.is) ∙ ap (rest_of (Some q.here.id)) whole ∙ rest_at (p.front ++ q.front) more q.here (others (p.front ++ q.front) more q.here (subst Apart whole a)) in
+    ap (λ z. rest_of (Some z) es) (sym q.is) ∙ ap (rest_of (Some q.here.id)) whole
+    ∙ rest_at (p.front ++ q.front) more q.here (others (p.front ++ q.front) more q.here (subst Apart whole a)) in
     record {
       front = q.front;
       here = q.here;
@@ -111,7 +114,8 @@ module _ (es : List Keyed) (from to : Option Identifier) (m : Identifier) (r : A
   -- the element is held
   pub member_held : Contains (ids es) m
   member_held =
-      let c : Contains (ids (r.front ++ r.here ∷ rest_of (Some m) es)) m = subst (Contains (ids (r.front ++ r.here ∷ rest_of (Some m) es))) r.is (there r.front r.here (rest_of (Some m) es)) in
+      let c : Contains (ids (r.front ++ r.here ∷ rest_of (Some m) es)) m =
+      subst (Contains (ids (r.front ++ r.here ∷ rest_of (Some m) es))) r.is (there r.front r.here (rest_of (Some m) es)) in
       to_held es from (Some m) (subst (λ l. Contains (ids l) m) (sym r.rest) c)
 
   -- the element is a low one of the part, where its key is low
@@ -136,7 +140,8 @@ module _ (es : List Keyed) (from to : Option Identifier) (m : Identifier) (r : A
         let whole : rest_of from es ≡ (r.front ++ r.here ∷ r.back) ++ r.after =
         r.rest ∙ ap (λ l. r.front ++ r.here ∷ l) r.more ∙ sym (append_assoc r.front (r.here ∷ r.back) r.after) in
         let b : BeginsWith to (lows k r.after) = low_begins k (rest_of from es) to (r.front ++ r.here ∷ r.back) r.after r.apart whole r.begins t in
-        subst (λ l. HoldsOrigin (ids l) to) (sym (ap (lows k) r.more ∙ filter-append (is_low k) r.back r.after)) (back_held (lows k r.back) (lows k r.after) to (begins_held (lows k r.after) to b))
+        subst (λ l. HoldsOrigin (ids l) to) (sym (ap (lows k) r.more ∙ filter-append (is_low k) r.back r.after))
+        (back_held (lows k r.back) (lows k r.after) to (begins_held (lows k r.after) to b))
 
     abbrev up_to : List Keyed
     up_to = r.front ++ r.here ∷ []
@@ -164,6 +169,7 @@ module _ (es : List Keyed) (from to : Option Identifier) (m : Identifier) (r : A
         first_of xs (Some s) e = ((λ f. absurd (true≢false f), λ f. absurd (contains_none s (subst (λ l. Contains l s) f (first_found xs s (sym e))))), first_found xs s (sym e))
 
 -- an element of a part whose ends are low
-pub around_low : (es : List Keyed) (k : Key) (from to : Option Identifier) (m : Identifier) → Apart es → HoldsOrigin (ids (lows k es)) from → HoldsOrigin (ids (lows k (rest_of from es))) to
+pub around_low : (es : List Keyed) (k : Key) (from to : Option Identifier) (m : Identifier) → Apart es → HoldsOrigin (ids (lows k es)) from
+    → HoldsOrigin (ids (lows k (rest_of from es))) to
     → Contains (ids (between from to es)) m → Around es from to m
 around_low es k from to m a f t c = around es from to m a (low_held k es from f) (low_held k (rest_of from es) to t) c

@@ -214,13 +214,15 @@ last_some y [] = (y.id, refl, contains_here y.id [])
 last_some y (z ∷ zs) = let r = last_some z zs in (r.0, r.1, contains_there y.id (ids (z ∷ zs)) r.0 r.2)
 
 -- an element behind the front is not the one that the front ends with
-pub not_last : (front mid : List Keyed) → Apart (front ++ mid) → (from : Option Identifier) (z : Identifier) → EndsWith from front → Contains (ids mid) z → origin_eq (Some z) from ≡ false
+pub not_last : (front mid : List Keyed) → Apart (front ++ mid) → (from : Option Identifier) (z : Identifier) → EndsWith from front → Contains (ids mid) z
+    → origin_eq (Some z) from ≡ false
 not_last front mid a None z e c = refl
 not_last front mid a (Some x) z (fs, e, is, same) c =
     ne-id_eq z x (λ d. apart_across front mid z a (subst (λ l. Contains (ids l) z) (sym is) (subst (Contains (ids (fs ++ e ∷ []))) (same ∙ sym d) (there fs e []))) c)
 
 -- an element before the back is not the one that the back begins with
-pub not_first : (mid back : List Keyed) → Apart (mid ++ back) → (to : Option Identifier) (z : Identifier) → BeginsWith to back → Contains (ids mid) z → origin_eq (Some z) to ≡ false
+pub not_first : (mid back : List Keyed) → Apart (mid ++ back) → (to : Option Identifier) (z : Identifier) → BeginsWith to back → Contains (ids mid) z
+    → origin_eq (Some z) to ≡ false
 not_first mid back a None z e c = refl
 not_first mid back a (Some y) z (e, bs, is, same) c =
     ne-id_eq z y (λ d. apart_across mid back z a c (subst (λ l. Contains (ids l) z) (sym is) (subst (Contains (ids (e ∷ bs))) (same ∙ sym d) (contains_here e.id (ids bs)))))

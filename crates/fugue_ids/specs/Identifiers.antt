@@ -6,7 +6,7 @@ use Rattle.std.specs.Cmp.{IsEquivalence}
 use Rattle.std.proofs.lemmas.Cmp.{and_equiv, lists_equiv, nat_eq_equiv, on_equiv}
 use lib.Pointwise.{pointwise}
 
--- the identifier of an element: a replica and its counter (the dot of a version vector)
+-- an identifier of an element or a note: a replica's number, and a counter of that replica
 pub record Identifier : Type 0 where
   pub replica : ℕ
   pub counter : ℕ

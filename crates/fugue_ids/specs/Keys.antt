@@ -1,9 +1,10 @@
 -- Elements in an order, each with its key: two numbers by which searches find their way. The depth decides, and then the forest.
-use Rattle.std.specs.Prelude.{◌≡◌, ◌<◌, ◌^◌, nat_eq, nat_lt, Option, Some, None, Bool, true, false, not, ◌&&◌, ◌||◌, if◌then◌else◌, List, [], ◌∷◌, map, filter}
+use Rattle.std.specs.Prelude.{◌≡◌, ◌<◌, ◌^◌, nat_eq, nat_lt, Option, Some, None, Bool, true, false, not, ◌&&◌, ◌||◌, if◌then◌else◌, List}
+use Rattle.std.specs.Prelude.{[], ◌∷◌, map, filter}
 use Rattle.fugue_ids.specs.Identifiers.{Identifier, id_eq}
 use Rattle.fugue_ids.specs.declared.key.Key.{Key}
 
--- an element with the key by which its siblings are ordered
+-- an element with the key by which searches find it among the elements of its place
 pub record Keyed : Type 0 where
   pub id : Identifier
   pub key : Key

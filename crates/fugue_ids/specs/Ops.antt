@@ -7,7 +7,8 @@ use Rattle.fugue_ids.specs.declared.op.OpKey.{OpKey}
 use Rattle.fugue_ids.specs.declared.op.OpKey.TheVariants.{Own, Target}
 use lib.Pointwise.{pointwise}
 
--- what an operation is looked up by: the identifier of the element or note that it makes; a Delete makes none, and is looked up by its target
+-- what an operation is looked up by: the identifier of the element or note that it makes; a Delete makes none, and is
+-- looked up by its target
 abbrev pub key_of : Op → OpKey
 key_of (Section id left right title) = Own id
 key_of (Text id section left right ch) = Own id

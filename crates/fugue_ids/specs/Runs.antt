@@ -34,7 +34,12 @@ run_from start text = in_a_row start.id start.section start.left start.right tex
 
 -- what the Text says that stands so many behind the first
 abbrev pub start_behind : RunStart → ℕ → RunStart
-start_behind start n = record { id = id_behind start.id n; section = start.section; left = left_behind start.left start.id n; right = start.right }
+start_behind start n = record {
+  id = id_behind start.id n;
+  section = start.section;
+  left = left_behind start.left start.id n;
+  right = start.right;
+}
 
 -- the Text that says so
 abbrev pub text_by : RunStart → ℕ → Op

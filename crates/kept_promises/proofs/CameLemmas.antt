@@ -14,7 +14,8 @@ use Rattle.origin_model.specs.operations.History.{has_op, holder}
 use Rattle.origin_model.specs.operations.Verdict.{Lawful, first_missing, fits, id_held, names, verdict}
 use Rattle.origin_model.specs.order.Laws.{IsPartOf}
 use Rattle.origin_model.specs.taking.Taking.{Accepted, Answer, Held, Waits, answer, decided_on, held_from, intake, is_decided, joined, settle, settled_within, held_after}
-use Rattle.origin_model.proofs.SharedLemmas.{Fits, IsEarliest, Within-part, accepted_is_ready, all_fit, becomes_ready, cases_held, earliest_found, fit_each, found, has-append, missing-held, when_ready, within-none, within-some, without}
+use Rattle.origin_model.proofs.SharedLemmas.{Fits, IsEarliest, Within-part, accepted_is_ready, all_fit, becomes_ready, cases_held, earliest_found, fit_each, found, has-append}
+use Rattle.origin_model.proofs.SharedLemmas.{missing-held, when_ready, within-none, within-some, without}
 use Rattle.fugue_ids.proofs.IdentifierLemmas.{not_some}
 
 -- ---- what each operation that is accepted has
@@ -30,7 +31,8 @@ module _ (P : Op → Type 0) (old : List Op) where
     pub waiting : (x : Op) → has_op s.waiting x ≡ true → BecomesSo x
 
   -- one more
-  joins : (h w v : List Op) (op : Op) → Came (record { history = h; waiting = w }) → verdict h op ≡ Ready → P op → ((x : Op) → has_op v x ≡ true → BecomesSo x) → Came (record { history = op ∷ h; waiting = v })
+  joins : (h w v : List Op) (op : Op) → Came (record { history = h; waiting = w }) → verdict h op ≡ Ready → P op → ((x : Op) → has_op v x ≡ true → BecomesSo x)
+      → Came (record { history = op ∷ h; waiting = v })
   joins h w v op c ready p rest =
       record {
         lawful = (ready, c.lawful);
@@ -78,7 +80,8 @@ module _ (P : Op → Type 0) (old : List Op) where
   pub came : (hold most : ℕ) (s : Held) (ops : List Op) → Came s → All P ops → Came (held_from hold most s ops)
   came hold most s [] c p = c
   came hold most s (op ∷ ops) c p =
-      came hold most (intake hold most s op) ops (settling (held_after (answer hold most s op) s op) (answered hold most s op (answer hold most s op) refl c (All-head P op ops p))) (All-tail P op ops p)
+      came hold most (intake hold most s op) ops
+      (settling (held_after (answer hold most s op) s op) (answered hold most s op (answer hold most s op) refl c (All-head P op ops p))) (All-tail P op ops p)
 
 -- ---- what an operation waits for
 id_stays : (a b : List Op) → Lawful b → IsPartOf a b → (o : Option Identifier) → id_held a o ≡ true → id_held b o ≡ true

@@ -1,6 +1,6 @@
 -- What `why` printed passes `check`.
 use Rattle.std.proofs.Common.{List, [], ap, append-nil, inl, inr, subst, sym, true, ℕ, ◌-◌, ◌++◌, ◌∙◌, ◌∷◌, ◌≡◌}
-use Rattle.std.specs.Prelude.{IfSome, None, Option, Some, codes}
+use Rattle.std.specs.Prelude.{IfSome, None, Ok, Option, Some, codes}
 use Rattle.std.specs.Io.KnownBytes.{prepend_known}
 use Rattle.std.proofs.lemmas.Bool.{false≢true, or_right}
 use Rattle.fugue_ids.specs.Identifiers.{Identifier}
@@ -22,11 +22,10 @@ use Rattle.version_views.proofs.FrontMakingLemmas.{intakes_grow}
 use Rattle.command_kinds.specs.Changes.{Change, change}
 use Rattle.command_kinds.specs.Crashes.{IsFinished}
 use Rattle.command_kinds.specs.Files.{FileHolds}
-use Rattle.command_kinds.specs.Refusal.{status_of}
-use Rattle.command_kinds.specs.Report.{ReportMeets}
-use Rattle.command_kinds.specs.TextOut.{TextMeets, WritesReport}
-use Rattle.command_kinds.specs.declared.refusal.Refusal.{Refusal}
-use Rattle.command_kinds.specs.declared.refusal.Refusal.TheVariants as refusal
+use Rattle.command_kinds.proofs.ActLemmas.{did_all, refusal_unfinished}
+use Rattle.command_kinds.specs.Acts.{NotesLine, Performs}
+use Rattle.command_kinds.specs.Report.{reporting}
+use Rattle.command_kinds.specs.TextOut.{ReportGoesOut, WritesReport, writing_found}
 use Rattle.command_kinds.specs.declared.status.Status.{Status}
 use Rattle.command_kinds.specs.declared.status.Status.TheVariants as status
 use Rattle.outer_ports.specs.Sources.{SourceView}
@@ -43,7 +42,8 @@ use Rattle.kept_promises.proofs.PossibleLemmas.{text_valid}
 use Rattle.kept_promises.proofs.ViewLemmas.{Reported, reported}
 
 -- ---- the identifiers of a file's operations are such as there are
-possible_in : (replica : Replica) (bytes : List ℕ) → IsFileOf replica bytes → (op : Op) → has_op replica.held.history op ≡ true → (i : Identifier) → id_of op ≡ Some i → IsIdentifier i
+possible_in : (replica : Replica) (bytes : List ℕ) → IsFileOf replica bytes → (op : Op) → has_op replica.held.history op ≡ true → (i : Identifier) → id_of op ≡ Some i
+    → IsIdentifier i
 possible_in replica bytes of op m =
     let loads : Loads MOST_OPERATIONS bytes replica of.0 = of.1 in
     let begun : Came HasPossibleId [] nothing_held = record { lawful = tt; part = λ x k. k; each = λ x k. inl k; waiting = λ x k. absurd (false≢true k) } in
@@ -69,34 +69,18 @@ certificates_stay was now runs b x y text is =
     ap (λ h. has_op h op) whole ∙ has-append g.newer was.held.history op ∙ or_right (has_op g.newer op) (has_op was.held.history op) m in
     certificates_pass was now b.image b.left b.began b.ended part x y text is
 
--- ---- no refusal is a good end
-never_done : (why : Refusal) → status_of why ≡ status.Done → ⊥
-never_done refusal.Words is = cc is
-never_done _ is = cc is
-
-never_partial : (why : Refusal) → status_of why ≡ status.Partial → ⊥
-never_partial refusal.Words is = cc is
-never_partial _ is = cc is
-
-refused_unfinished : (why : Refusal) → IsFinished (status_of why) → ⊥
-refused_unfinished why (inl is) = never_done why is
-refused_unfinished why (inr is) = never_partial why is
-
+-- ---- a command that did all
 wrote_yes : (replica : Replica) (text : List ℕ) (output notes : Change OutView) (end : Status) → IsValidText replica.held.history text → IsFinished end
     → WritesReport (check_tells text replica) output notes end → Took output.old output.new (codes "yes" ++ 10 ∷ [])
-wrote_yes replica text output notes end valid done (inr none) = absurd (refused_unfinished none.why (subst IsFinished none.end_is done))
-wrote_yes replica text output notes end valid done (inl wrote) = by_end end wrote.2.meets done (elim wrote.1 [ inl is ↦ is.1 | inr is ↦ absurd (is.0 valid) ])
+wrote_yes replica text output notes end valid done wrote = all (did_all (writing_found (check_tells text replica) output) notes end wrote done)
   where
-    by_end : (e : Status) → TextMeets wrote.0 output notes e → IsFinished e → wrote.0 ≡ codes "yes" ++ 10 ∷ [] → Took output.old output.new (codes "yes" ++ 10 ∷ [])
-    by_end status.Done meets d is = subst (Took output.old output.new) is meets.wrote
-    by_end status.Partial meets d is = absurd meets
-    by_end _ meets d is = absurd (elim d [ inl k ↦ cc k | inr k ↦ cc k ])
+    all : (d : Unit {0}) × ReportGoesOut (check_tells text replica) output (Ok d) × NotesLine None status.Done notes end → Took output.old output.new (codes "yes" ++ 10 ∷ [])
+    all (d, inl out, noted) = subst (Took output.old output.new) (elim out.1 [ inl is ↦ is.1 | inr is ↦ absurd (is.0 valid) ]) out.2.comes
+    all (d, inr none, noted) = cc none.1
 
-nothing_reported : (file : Change DiskView) (output notes : Change OutView) (end : Status) → IsFinished end → ReportMeets nothing_said file output notes end → ⊥
-nothing_reported file output notes status.Done done meets = meets.found.3
-nothing_reported file output notes status.Partial done meets = meets
-nothing_reported file output notes _ (inl d) meets = cc d
-nothing_reported file output notes _ (inr d) meets = cc d
+nothing_reported : (file : Change DiskView) (output notes : Change OutView) (end : Status) → IsFinished end
+    → Performs (reporting nothing_said file output) notes end → ⊥
+nothing_reported file output notes end done performs = (did_all (reporting nothing_said file output) notes end performs done).1.found.3
 
 -- the text that was read is what the input had
 read_whole : (input : Change SourceView) (text read : List ℕ) → input.old.left ≡ Some text → IsTextRead input read → read ≡ text
@@ -120,7 +104,8 @@ why_passes_check why check between s t k p q text follow of printed check_of giv
 
     valid : (now : Replica) (end : End) → FileHolds check.old.home now end → IsValidText now.held.history text
     valid now end holds =
-        certificates_stay a.replica now between (read_between why check between s t follow printed.no_crash a.synced a.replica now a.end end a.holds holds) a.told.0 a.told.1 text a.told.3
+        certificates_stay a.replica now between (read_between why check between s t follow printed.no_crash a.synced a.replica now a.end end a.holds holds) a.told.0 a.told.1 text
+        a.told.3
 
     by : ChecksText (change check.old.streams.input check.new.streams.input) (change check.old.home check.new.home) (change check.old.streams.output check.new.streams.output)
         (change check.old.streams.notes check.new.streams.notes) check.end → Took check.old.streams.output check.new.streams.output (codes "yes" ++ 10 ∷ [])
@@ -128,7 +113,9 @@ why_passes_check why check between s t k p q text follow of printed check_of giv
         let l = checked.loaded in
         let same : checked.text ≡ text = read_whole (change check.old.streams.input check.new.streams.input) text checked.text given checked.read in
         wrote_yes l.0 text (change check.old.streams.output check.new.streams.output) (change check.old.streams.notes check.new.streams.notes) check.end (valid l.0 l.1 l.2) done.1
-        (subst (λ z. WritesReport (check_tells z l.0) (change check.old.streams.output check.new.streams.output) (change check.old.streams.notes check.new.streams.notes) check.end) same l.3)
-    by (inr (inl unread)) = absurd (refused_unfinished unread.none.why (subst IsFinished unread.none.end_is done.1))
+        (subst (λ z. WritesReport (check_tells z l.0) (change check.old.streams.output check.new.streams.output)
+        (change check.old.streams.notes check.new.streams.notes) check.end) same l.3)
+    by (inr (inl unread)) = absurd (refusal_unfinished unread.none.why (subst IsFinished unread.none.end_is done.1))
     by (inr (inr unloaded)) =
-        absurd (nothing_reported (change check.old.home check.new.home) (change check.old.streams.output check.new.streams.output) (change check.old.streams.notes check.new.streams.notes) check.end done.1 unloaded.reports.meets)
+        absurd (nothing_reported (change check.old.home check.new.home) (change check.old.streams.output check.new.streams.output)
+        (change check.old.streams.notes check.new.streams.notes) check.end done.1 unloaded.reports.performs)

@@ -1,5 +1,5 @@
 -- What is taken in never passes the limit on the number that is held.
-use Rattle.std.proofs.Common.{Bool, List, [], arith, false, inl, inr, length, nat_eq, refl, subst, suc, sym, true, ℕ, ◌+◌, ◌∷◌, ◌≡◌, ◌≢◌, ◌≤◌, ap}
+use Rattle.std.proofs.Common.{Bool, List, [], arith, false, length, nat_eq, refl, suc, true, ℕ, ◌+◌, ◌∷◌, ◌≡◌, ◌≢◌, ◌≤◌, ap}
 use Rattle.std.specs.Prelude.{if◌then◌else◌}
 use Rattle.std.proofs.lemmas.Bool.{eqb-false, false≢true}
 use Rattle.std.proofs.lemmas.List.{length-append}
@@ -7,10 +7,11 @@ use Rattle.fugue_ids.specs.declared.op.Op.{Op}
 use Rattle.origin_model.specs.declared.operations.Verdict.{Verdict}
 use Rattle.origin_model.specs.declared.operations.Verdict.TheVariants.{Ready, Stray}
 use Rattle.origin_model.specs.operations.Verdict.{verdict}
-use Rattle.origin_model.specs.taking.Taking.{Accepted, Again, Answer, Conflict, Held, TooMany, Waits, answer, answer_by, held_from, intake, is_again, is_kept, is_taken, joined, settle, settled_within, held_after}
-use Rattle.origin_model.proofs.SharedLemmas.{IsEarliest, earliest_found, within-none, within-some, without}
+use Rattle.origin_model.specs.taking.Taking.{Accepted, Again, Answer, Conflict, Held, TooMany, Waits, answer, answer_by, held_from, intake, is_again, is_kept, is_taken, joined}
+use Rattle.origin_model.specs.taking.Taking.{held_after}
+use Rattle.origin_model.proofs.SharedLemmas.{IsEarliest, without}
 use Rattle.replica_core.proofs.DecisionLemmas.{not_most}
-use Rattle.replica_file.proofs.LoadingLemmas.{settle_few, within_few}
+use Rattle.replica_file.proofs.LoadingLemmas.{settle_few}
 
 -- how many operations are held
 abbrev pub count : Held → ℕ

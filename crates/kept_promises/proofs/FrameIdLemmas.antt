@@ -25,7 +25,8 @@ framed_has (Text id section left right ch) has i e = own_is id i e has.0
 framed_has (Delete target) has i e = cc e
 framed_has (Note id named code body) has i e = own_is id i e has.0
 
-run_has : (id section : Identifier) (left right : Option Identifier) (text : List ℕ) → 0 < id.replica → id.replica < 2 ^ 32 → id.counter + length text ≤ 2 ^ 32 → All HasPossibleId (in_a_row id section left right text)
+run_has : (id section : Identifier) (left right : Option Identifier) (text : List ℕ) → 0 < id.replica → id.replica < 2 ^ 32 → id.counter + length text ≤ 2 ^ 32
+    → All HasPossibleId (in_a_row id section left right text)
 run_has id section left right [] some fits few = All-nil HasPossibleId
 run_has id section left right (ch ∷ text) some fits few =
     let own : IsIdentifier id = record { some_replica = some; replica_fits = fits; counter_fits = omega (arith, few) } in

@@ -4,7 +4,7 @@ use Rattle.std.specs.Prelude.{IfSome, None, Some}
 use Rattle.fugue_ids.specs.declared.limits.TheConstants.{MOST_OPERATIONS}
 use Rattle.fugue_ids.specs.declared.op.Op.{Op}
 use Rattle.outer_ports.specs.disk.Disks.{DiskView}
-use Rattle.outer_ports.specs.disk.Moments.{History, after_moment}
+use Rattle.outer_ports.specs.disk.Moments.{History, past_after_step}
 use Rattle.outer_ports.specs.disk.States.{DiskState, IsCrashImage, IsHonest, at_rest, durable}
 use Rattle.origin_model.specs.edits.State.{State as Replica}
 use Rattle.origin_model.specs.files.Image.{Content}
@@ -110,14 +110,14 @@ read_meanwhile m found honest (inr crash) = subst (λ (s : DiskState). IsCrashIm
 
 module _ (first later : CommandRun) (between : List CommandRun) (s t : DiskState) (follow : FollowEachOther (first ∷ between ++ later ∷ []) s t) where
   -- the first one is told, and settled the file; the later one reads what it became
-  pub read_between : first.crash ≡ None → first.new.home.past ≡ after_moment durable first.old.home.past → (was now : Replica) (at end : End)
+  pub read_between : first.crash ≡ None → first.new.home.past ≡ past_after_step durable first.old.home.past → (was now : Replica) (at end : End)
       → FileHolds first.old.home was at → FileHolds later.old.home now end → Became was between now
   read_between ended synced was now at end had has =
       let leads : LeadsFrom first follow.0 follow.1 = follow.3 in
       let rest = parted between (later ∷ []) follow.1 t follow.4 in
       let image : List ℕ = leads.began.last.seen in
       let stands : follow.1 ≡ leads.stood.last = subst (λ o. StandsAfterRun o leads.began leads.stood follow.1) ended leads.behind in
-      let settled : Some leads.stood ≡ after_moment durable (Some leads.began) = sym leads.stood_is ∙ synced ∙ ap (after_moment durable) leads.began_is in
+      let settled : Some leads.stood ≡ past_after_step durable (Some leads.began) = sym leads.stood_is ∙ synced ∙ ap (past_after_step durable) leads.began_is in
       let lies : follow.1 ≡ at_rest image = stands ∙ last_settled leads.stood leads.began settled in
       let began : Loads MOST_OPERATIONS image was at = holds_told first.old.home leads.began was at leads.began_is had in
       let runs : FollowEachOther between (at_rest image) rest.0 = subst (λ z. FollowEachOther between z rest.0) lies rest.1 in
@@ -135,5 +135,5 @@ module _ (first later : CommandRun) (between : List CommandRun) (s t : DiskState
         ended = (end, subst (λ bytes. Loads MOST_OPERATIONS bytes now end) seen (holds_told later.old.home read.began now end read.began_is has));
       }
     where
-      last_settled : (stood began : History) → Some stood ≡ after_moment durable (Some began) → stood.last ≡ at_rest began.last.seen
+      last_settled : (stood began : History) → Some stood ≡ past_after_step durable (Some began) → stood.last ≡ at_rest began.last.seen
       last_settled stood began e = cc e

@@ -1,7 +1,6 @@
 -- A version stays the one with its name, where nothing that comes gives the name or withdraws it.
 use Rattle.std.proofs.Common.{Bool, List, [], ap, false, inl, inr, nat_eq, not, refl, subst, sym, true, ℕ, ◌&&◌, ◌++◌, ◌∙◌, ◌∷◌, ◌≡◌, ◌≢◌, length}
 use Rattle.std.specs.Prelude.{All, None, Option, Some, if◌then◌else◌}
-use Rattle.std.specs.List.{Contains}
 use Rattle.std.proofs.lemmas.List.Elements.{All-head, All-tail}
 use Rattle.std.proofs.lemmas.Bool.{cases_Bool, false_from_ne_true, false≢true, or_cases, or_left, or_parts, or_right, true≢false}
 use lib.Pointwise.{bytes_decides, pointwise}
@@ -10,7 +9,7 @@ use Rattle.fugue_ids.specs.Ops.{id_of, op_eq}
 use Rattle.fugue_ids.specs.declared.op.Op.{Op}
 use Rattle.fugue_ids.specs.declared.op.Op.TheVariants.{Delete, Note, Section, Text}
 use Rattle.fugue_ids.proofs.IdentifierLemmas.{id_eq-refl, id_eq-true}
-use Rattle.fugue_ids.proofs.ListLemmas.{all_from_contains, contains_cases, contains_none}
+use Rattle.fugue_ids.proofs.ListLemmas.{all_from_contains}
 use Rattle.fugue_ids.proofs.OpLemmas.{op_eq-refl, op_eq-true}
 use Rattle.origin_model.specs.declared.operations.Role.TheVariants.{Any}
 use Rattle.origin_model.specs.declared.operations.Verdict.TheVariants.{Ready}
@@ -139,7 +138,8 @@ module _ (old : List Op) (r : ℕ) (name : List ℕ) where
       let each : All (λ op. leaves_version g.newer old r name op ≡ true) g.newer =
       all_from_contains (λ op. leaves_version g.newer old r name op ≡ true) g.newer (λ x k.
       let m : has_op g.newer x ≡ true = has_member g.newer x k in
-      let there : has_op (held_from hold most start ops).history x ≡ true = subst (λ h. has_op h x ≡ true) (sym g.grown) (has-append g.newer old x ∙ or_left (has_op g.newer x) (has_op old x) m) in
+      let there : has_op (held_from hold most start ops).history x ≡ true =
+      subst (λ h. has_op h x ≡ true) (sym g.grown) (has-append g.newer old x ∙ or_left (has_op g.newer x) (has_op old x) m) in
       elim (c.each x there) [
         | inl e ↦ absurd (true≢false (sym e ∙ newer_absent g.newer old x lawful m))
         | inr p ↦ leaves_it g.newer x p

@@ -48,7 +48,8 @@ module _ (h : List Op) (w : Lawful h) where
 
   -- the five lines of a step at siblings, and its reason
   sibling_held : (s : Step) (r : Reason) → IsHeld h s.x → IsHeld h s.y → IsSiblingStep h s r
-      → All (IsHeldLine h) ((proof_line claim (s.x ∷ s.y ∷ []) ∷ proof_line down s.down_x ∷ proof_line down s.down_y ∷ proof_line right s.right_x ∷ proof_line right s.right_y ∷ []) ++ reason_line r ∷ [])
+      → All (IsHeldLine h) ((proof_line claim (s.x ∷ s.y ∷ []) ∷ proof_line down s.down_x ∷ proof_line down s.down_y ∷ proof_line right s.right_x ∷ proof_line right s.right_y
+      ∷ []) ++ reason_line r ∷ [])
   sibling_held s r k l t =
       let P : ProofLine → Type 0 = IsHeldLine h in
       let right_x : All (IsHeld h) s.right_x = subst (All (IsHeld h)) (sym t.right_x) (chain-held next_right h t.a) in
@@ -98,4 +99,5 @@ module _ (h : List Op) (w : Lawful h) where
         some c v e = subst (IsValid h) e v
 
         each : All (λ (l : ProofLine). All IsPossible l.ids) (proof_lines c)
-        each = All-weaker (IsHeldLine h) (λ (l : ProofLine). All IsPossible l.ids) (λ l held. All-weaker (IsHeld h) IsPossible id_possible l.ids held) (proof_lines c) (lines_held c valid)
+        each = All-weaker (IsHeldLine h) (λ (l : ProofLine). All IsPossible l.ids) (λ l held. All-weaker (IsHeld h) IsPossible id_possible l.ids held) (proof_lines c)
+            (lines_held c valid)

@@ -88,7 +88,8 @@ change_ready s (Move k j) w e = by (section_placed s k) refl
     by : (o : Option Identifier) → section_placed s k ≡ o → ReadyInTurn s.held.history (elim o [ None ↦ [] | Some section ↦ move_by s section k j ∷ [] ])
     by None is = tt
     by (Some section) is = (
-      noted_ready s.number s.held.history s.held.waiting (move_names section (origins_for s.held.history k j)) MOVE_CODE (move_body (stamp s.held.history + 1) (origins_for s.held.history k j)) w
+      noted_ready s.number s.held.history s.held.waiting (move_names section (origins_for s.held.history k j)) MOVE_CODE
+          (move_body (stamp s.held.history + 1) (origins_for s.held.history k j)) w
           (move_held s.held.history w section k j (get_in (arranged s.held.history) k section is)),
       tt,
     )
@@ -98,7 +99,9 @@ change_ready s (Retitle k title) w e = by (section_placed s k) refl
     by None is = tt
     by (Some section) is = (
       noted_ready s.number s.held.history s.held.waiting (section ∷ []) RETITLE_CODE (retitle_body (stamp s.held.history + 1) (encode_utf8_all title)) w
-          (are_held s.held.history (section ∷ []) (All-cons (IsHeld s.held.history) section [] (section_held s.held.history w section (get_in (arranged s.held.history) k section is)) (All-nil (IsHeld s.held.history)))),
+          (are_held s.held.history (section ∷ [])
+          (All-cons (IsHeld s.held.history) section [] (section_held s.held.history w section (get_in (arranged s.held.history) k section is))
+          (All-nil (IsHeld s.held.history)))),
       tt,
     )
 

@@ -1,8 +1,9 @@
 -- A revision of the replica as it was, behind which the rest is taken in, comes to what the whole holds.
-use Rattle.std.proofs.Common.{Bool, List, [], ap, append-nil, arith, drop, false, inl, inr, length, refl, reverse, subst, sym, take, true, ℕ, ◌-◌, ◌++◌, ◌||◌, ◌∙◌, ◌∷◌, ◌≡◌, ◌≤◌, ◌⊎◌}
+use Rattle.std.proofs.Common.{Bool, List, [], ap, append-nil, arith, drop, false, inl, inr, length, refl, reverse, subst, sym, take, true, ℕ, ◌-◌, ◌++◌, ◌||◌, ◌∙◌, ◌∷◌, ◌≡◌, ◌≤◌}
+use Rattle.std.proofs.Common.{◌⊎◌}
 use Rattle.std.specs.Prelude.{All, None, Option, Some, if◌then◌else◌, not}
 use Rattle.std.proofs.lemmas.Bool.{cases_Bool, false≢true, or_cases, or_left, or_right}
-use Rattle.std.proofs.lemmas.List.{reverse-append, reverse-reverse, take-append-drop}
+use Rattle.std.proofs.lemmas.List.{reverse-reverse, take-append-drop}
 use Rattle.std.proofs.lemmas.List.Elements.{All-head, All-nil, All-tail, All-weaker}
 use Rattle.fugue_ids.specs.Ops.{op_eq}
 use Rattle.fugue_ids.specs.declared.op.Op.{Op}
@@ -115,7 +116,8 @@ came_revised past draft revised quiet w revises =
     }
 
 module _ (n : ℕ) (was : Replica) (revised : Outcome) (w : Lawful was.held.history) (settled : IsSettled was.held) (few : count was.held ≤ was.most)
-    (came : Reached (replica_at n was) revised) (whole : Held) (whole_is : whole ≡ held_from was.hold was.most was.held revised.saved) (behind : ComesAfterAccepted was.held revised.saved whole) where
+    (came : Reached (replica_at n was) revised) (whole : Held) (whole_is : whole ≡ held_from was.hold was.most was.held revised.saved)
+    (behind : ComesAfterAccepted was.held revised.saved whole) where
   abbrev h : List Op
   h = was.held.history
 
@@ -214,11 +216,13 @@ module _ (n : ℕ) (was : Replica) (revised : Outcome) (w : Lawful was.held.hist
       let same : SameOps t.last whole.history = λ x. t.same x ∙ same_whole ops within (λ x m. inr (in_accepted h x ∙ m)) x in
       let whole_settled : IsSettled whole = subst IsSettled (sym whole_is) (stays_settled was.hold was.most was.held revised.saved settled) in
       let undecided : Undecided t.last waiting =
-      All-weaker (λ op. decided_on whole.history op ≡ false) (λ op. decided_on t.last op ≡ false) (λ op e. ap is_decided (same_verdict t.last whole.history t.lawful lawful same op) ∙ e) waiting
+      All-weaker (λ op. decided_on whole.history op ≡ false) (λ op. decided_on t.last op ≡ false)
+      (λ op e. ap is_decided (same_verdict t.last whole.history t.lawful lawful same op) ∙ e) waiting
       (subst (Undecided whole.history) behind.waiting whole_settled) in
       let small : length t.last ≤ length whole.history = part_short t.last whole.history t.lawful (λ x m. sym (same x) ∙ m) in
       let long : length whole.waiting ≡ length waiting = ap length behind.waiting in
-      let leaves : Leaves was.hold was.most t.last [] waiting = all_stay was.hold was.most t.last waiting [] (All-nil (λ op. decided_on t.last op ≡ false)) undecided (omega (arith, small, fits, long)) in
+      let leaves : Leaves was.hold was.most t.last [] waiting =
+      all_stay was.hold was.most t.last waiting [] (All-nil (λ op. decided_on t.last op ≡ false)) undecided (omega (arith, small, fits, long)) in
       let together : held_from was.hold was.most (state_of came.last []) (ops ++ waiting) ≡ held_from was.hold was.most (state_of t.last []) waiting =
       sym (held-append was.hold was.most (state_of came.last []) ops waiting) ∙ ap (λ s. held_from was.hold was.most s waiting) t.state in
       record {
@@ -245,7 +249,8 @@ since_is n guest input course was whole w settled few gives = by_moment (moment_
     came_by draft revised (inl back) = came_back (replica_at n was) draft revised refl past_lawful back
     came_by draft revised (inr revises) = came_revised (replica_at n was) draft revised refl past_lawful revises
 
-    by_given : (given : Finding Outcome) → RevisionGives guest input course (replica_at n was) given → ComesInWhole was given (Does whole) → IsRevisedThenMerged n guest input course was whole.held
+    by_given : (given : Finding Outcome) → RevisionGives guest input course (replica_at n was) given → ComesInWhole was given (Does whole)
+        → IsRevisedThenMerged n guest input course was whole.held
     by_given (Refuses why) gives comes = no_outcome comes
       where
         no_outcome : {why : Refusal} → Does whole ≡ Refuses why → IsRevisedThenMerged n guest input course was whole.held

@@ -1,5 +1,5 @@
 -- What `view` prints stays.
-use Rattle.std.proofs.Common.{List, ap, refl, subst, sym, ℕ, ◌∙◌, ◌≡◌}
+use Rattle.std.proofs.Common.{List, ap, inl, refl, subst, sym, ℕ, ◌∙◌, ◌≡◌}
 use Rattle.std.specs.Prelude.{All, IsSome, None, Option, Some}
 use Rattle.std.specs.Io.KnownBytes.{append_known}
 use Rattle.std.proofs.lemmas.List.{append_cancel_left}
@@ -7,7 +7,7 @@ use Rattle.std.proofs.lemmas.List.Elements.{All-weaker}
 use Rattle.fugue_ids.specs.Outs.{OutTells, OutView, Took}
 use Rattle.fugue_ids.specs.declared.limits.TheConstants.{MOST_OPERATIONS}
 use Rattle.origin_model.specs.edits.State.{State as Replica}
-use Rattle.outer_ports.specs.disk.Moments.{after_moment}
+use Rattle.outer_ports.specs.disk.Moments.{past_after_step}
 use Rattle.outer_ports.specs.disk.States.{durable}
 use Rattle.replica_file.specs.declared.load_file.End.{End}
 use Rattle.version_views.specs.Laws.{view_named}
@@ -16,7 +16,8 @@ use Rattle.version_views.specs.Views.{view}
 use Rattle.command_kinds.specs.Changes.{change}
 use Rattle.command_kinds.specs.Files.{FileHolds}
 use Rattle.command_kinds.specs.Findings.{Does}
-use Rattle.command_kinds.specs.Report.{ReportMeets, Reports, Telling}
+use Rattle.command_kinds.proofs.ActLemmas.{did_all}
+use Rattle.command_kinds.specs.Report.{Reports, Telling, reporting}
 use Rattle.manuscript_cli.specs.NamedVersions.{view_tells, version_text}
 use Rattle.manuscript_cli.specs.Run.{MeetsAs, Reporting, family}
 use Rattle.manuscript_cli.specs.Runs.{CommandRun}
@@ -45,7 +46,7 @@ pub record Reported (tells : Telling) (run : CommandRun) (text : List ℕ) : Typ
   pub end : End
   pub holds : FileHolds run.old.home replica end
   pub told : tells replica (Does text)
-  pub synced : run.new.home.past ≡ after_moment durable run.old.home.past
+  pub synced : run.new.home.past ≡ past_after_step durable run.old.home.past
 
 same_written : (old : Option (List ℕ)) (a b : List ℕ) → IsSome old → append_known old a ≡ append_known old b → a ≡ b
 same_written None a b told e = cc told
@@ -57,9 +58,10 @@ took_once old new a b told one two = same_written old.written a b told (sym one.
 pub reported : (tells : Telling) (run : CommandRun) (text : List ℕ) → family run.words run.command ≡ Reporting tells → PrintedBytes run text → Reported tells run text
 reported tells run text of printed =
     let meets = subst (λ f. MeetsAs f run.old run.new run.end) of run.meets in
-    let reports : Reports tells (change run.old.home run.new.home) (change run.old.streams.output run.new.streams.output) (change run.old.streams.notes run.new.streams.notes) run.end = meets.does in
-    let wrote = subst (ReportMeets tells (change run.old.home run.new.home) (change run.old.streams.output run.new.streams.output) (change run.old.streams.notes run.new.streams.notes)) printed.done reports.meets in
-    let same : wrote.bytes ≡ text = took_once run.old.streams.output run.new.streams.output wrote.bytes text printed.told wrote.came.wrote printed.took in
+    let reports : Reports tells (change run.old.home run.new.home) (change run.old.streams.output run.new.streams.output)
+    (change run.old.streams.notes run.new.streams.notes) run.end = meets.does in
+    let wrote = (did_all (reporting tells (change run.old.home run.new.home) (change run.old.streams.output run.new.streams.output)) _ _ reports.performs (inl printed.done)).1 in
+    let same : wrote.bytes ≡ text = took_once run.old.streams.output run.new.streams.output wrote.bytes text printed.told wrote.came printed.took in
     let found = wrote.found in
     record { replica = found.0; end = found.1; holds = found.2; told = subst (λ bytes. tells found.0 (Does bytes)) same found.3; synced = wrote.synced }
 

@@ -15,8 +15,10 @@ use Rattle.origin_model.specs.edits.Edits.{ReadyInTurn}
 use Rattle.origin_model.specs.operations.History.{has_op, holder, holds, is_own}
 use Rattle.origin_model.specs.operations.Verdict.{Lawful, first_line, first_missing, first_stray, fits, id_held, names, verdict}
 use Rattle.origin_model.specs.order.Laws.{IsPartOf, SameOps}
-use Rattle.origin_model.specs.taking.Taking.{Accepted, Again, Answer, Conflict, MeetsNoLimit, TooMany, Waits, answer, answer_by, answers_from, decided_on, held_from, intake, is_decided, is_taken, settle, held_after}
-use Rattle.origin_model.proofs.SharedLemmas.{accepted_is_ready, becomes_ready, cases_held, found, has-holder, holder-has, id_held-nil, names_within, ready_absent, settle-settled, swap_or, when_ready, Within-part}
+use Rattle.origin_model.specs.taking.Taking.{Accepted, Again, Answer, Conflict, MeetsNoLimit, TooMany, Waits, answer, answer_by, answers_from, decided_on, held_from, intake}
+use Rattle.origin_model.specs.taking.Taking.{is_decided, is_taken, settle, held_after}
+use Rattle.origin_model.proofs.SharedLemmas.{accepted_is_ready, becomes_ready, cases_held, found, has-holder, holder-has, id_held-nil, names_within, ready_absent, settle-settled}
+use Rattle.origin_model.proofs.SharedLemmas.{swap_or, when_ready, Within-part}
 use Rattle.origin_model.proofs.edits.EditIntakeLemmas.{accepts, state_of}
 use Rattle.origin_model.proofs.edits.UndecidedLemmas.{Undecided}
 use Rattle.kept_promises.proofs.FewLemmas.{too_many}
@@ -144,7 +146,8 @@ module _ (hold most : ℕ) (whole : List Op) (is_lawful : Lawful whole) (few : l
             step p p ops op (had_intake p op t) (λ e. cc (sym e ∙ had_answer p op t)) (λ x. had_has p ops op x t) (all_taken ops (op ∷ h) p w f part r.1 others)
         | inr n ↦
             let v : verdict p op ≡ Ready = ready_in h p op w f g here r.0 n in
-            let part : IsPartOf (op ∷ h) (op ∷ p) = λ x k. elim (or_cases (op_eq op x) (has_op h x) k) [ inl q ↦ or_left (op_eq op x) (has_op p x) q | inr j ↦ or_right (op_eq op x) (has_op p x) (g x j) ] in
+            let part : IsPartOf (op ∷ h) (op ∷ p) =
+            λ x k. elim (or_cases (op_eq op x) (has_op h x) k) [ inl q ↦ or_left (op_eq op x) (has_op p x) q | inr j ↦ or_right (op_eq op x) (has_op p x) (g x j) ] in
             step p (op ∷ p) ops op (new_intake p op w f here v) (λ e. cc (sym e ∙ new_answer p op w f here v)) (λ x. moved (op_eq op x) (has_op p x) (has_op ops x))
             (all_taken ops (op ∷ h) (op ∷ p) (v, w) (grows_part p op f here) part r.1 others)
       ]

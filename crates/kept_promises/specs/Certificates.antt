@@ -11,10 +11,12 @@ use Rattle.manuscript_cli.specs.Why.{IsWhy}
 use Rattle.manuscript_cli.specs.declared.command.Command.TheVariants.{Check, Why}
 use Rattle.kept_promises.specs.Keeping.{Became, IsFileOf, PrintedBytes}
 
--- A certificate that is printed of a file is read as a valid one in each file, of whichever replica, that has accepted the operations of the first.
+-- A certificate that is printed of a file is read as a valid one in each file, of whichever replica, that has accepted
+-- the operations of the first.
 abbrev pub CertificatesPass : Type 0
 CertificatesPass =
-    (mine other : Replica) (first second : List ℕ) → IsFileOf mine first → IsFileOf other second → IsPartOf mine.held.history other.held.history
+    (mine other : Replica) (first second : List ℕ) → IsFileOf mine first → IsFileOf other second
+    → IsPartOf mine.held.history other.held.history
     → (x y : Identifier) (text : List ℕ) → IsWhy mine.held.history x y text → IsValidText other.held.history text
 
 -- so it is in the same file, whatever runs on it

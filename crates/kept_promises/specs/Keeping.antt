@@ -11,12 +11,14 @@ use Rattle.command_kinds.specs.Files.{HasOps, Header}
 use Rattle.command_kinds.specs.declared.status.Status.TheVariants.{Done}
 use Rattle.manuscript_cli.specs.Runs.{AllBrought, CommandRun, FollowEachOther}
 
--- Whatever runs leave of a file that lay still, also by a crash, it has the header and the operations that it had, and behind these what the runs brought.
+-- Whatever runs leave of a file that lay still, also by a crash, it has the header and the operations that it had, and
+-- behind these what the runs brought.
 abbrev pub FilesKeepOperations : Type 0
 FilesKeepOperations =
     (header : Header) (ops : List Op) (image : List ℕ) (runs : List CommandRun) (last : DiskState)
     → HasOps header ops image → FollowEachOther runs (at_rest image) last
-    → IsHonest last × ((left : List ℕ) → IsCrashImage last left → (brought : List Op) × AllBrought runs brought × HasOps header (ops ++ brought) left)
+    → IsHonest last × ((left : List ℕ) → IsCrashImage last left
+    → (brought : List Op) × AllBrought runs brought × HasOps header (ops ++ brought) left)
 
 -- the bytes of a file are loaded as this replica
 abbrev pub IsFileOf : Replica → List ℕ → Type 0

@@ -40,7 +40,8 @@ behind_first n held = drop n (accepted held.history)
 
 -- A revision of the replica as it was when n operations were accepted came to this state. If it then takes in what was accepted
 -- behind these, or merges all that the file holds, it comes to what the file has now.
-pub record IsRevisedThenMerged (n : ℕ) (guest : DiskView) (input : SourceView) (course : Finding Outcome) (was : Replica) (now : Held) : Type 0 where
+pub record IsRevisedThenMerged (n : ℕ) (guest : DiskView) (input : SourceView) (course : Finding Outcome) (was : Replica)
+    (now : Held) : Type 0 where
   pub revised : Outcome
   pub gives : RevisionGives guest input course (replica_at n was) (Does revised)
   pub rest : ComesTo was revised.held (behind_first n was.held) now.history

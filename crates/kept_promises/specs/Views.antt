@@ -25,7 +25,8 @@ written_for name replica = view_named replica.held.history replica.number name
 abbrev pub ViewsStay : Type 0
 ViewsStay =
     (was now : Replica) (runs : List CommandRun) → Became was runs now
-    → (brought : List Op) × AllBrought runs brought × ((name : List ℕ) → All (LeavesName was name) brought → written_for name now ≡ written_for name was)
+    → (brought : List Op) × AllBrought runs brought
+    × ((name : List ℕ) → All (LeavesName was name) brought → written_for name now ≡ written_for name was)
 
 -- the run is of `view` with this name
 pub record IsViewRun (run : CommandRun) (name : List ℕ) : Type 0 where

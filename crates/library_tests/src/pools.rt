@@ -56,7 +56,7 @@ pub fn step_beside(
 ) -> Result<(), Fail> {
     let mut tally = Tally::default();
     assert!(rt; replica.is_settled() && has_room(&tally));
-    let mut kept = Vec::new(alloc);
+    let mut kept: Vec<Op> = Vec::new(alloc);
     replica.feed_keeping(op.clone_in(alloc)?, &mut tally, &mut kept)?;
     let is_kept = plain.take_in(alloc, op)?;
     let is_same = match kept.as_slice() {

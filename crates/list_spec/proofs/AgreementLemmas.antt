@@ -17,10 +17,12 @@ use Rattle.origin_model.specs.taking.Taking.{Answer, Full, Held, IsSettled, TooM
 use Rattle.origin_model.specs.edits.Edits.{ReadyInTurn, history_with}
 use Rattle.origin_model.specs.edits.State.{State}
 use Rattle.origin_model.specs.edits.Effect.{with_ops}
-use Rattle.origin_model.proofs.SharedLemmas.{accept_covers, covered_closed, Covers, Covers-same, fold_covers, has-append, has-holder, has-moved, is_own-id, nothing_covers, nothing_settled, order_by_set, parts_join, same_closed, settles}
+use Rattle.origin_model.proofs.SharedLemmas.{accept_covers, covered_closed, Covers, Covers-same, fold_covers, has-append, has-holder, has-moved, is_own-id, nothing_covers}
+use Rattle.origin_model.proofs.SharedLemmas.{nothing_settled, order_by_set, parts_join, same_closed, settles}
 use Rattle.origin_model.proofs.edits.UndecidedLemmas.{all_stay}
 use Rattle.list_spec.specs.Agreement.{AllAgree, GotEverything, HasEverything, all_answers, answer_at, answers_to, begun, brought, brought_by, where_true}
-use Rattle.list_spec.specs.Worlds.{Deliver, Edit, Event, Noting, World, after_event, after_events, after_making, changed_world, replica_after_delivery, effect, made_at, note_effect, pool_with, world}
+use Rattle.list_spec.specs.Worlds.{Deliver, Edit, Event, Noting, World, after_event, after_events, after_making, changed_replicas, replica_after_delivery, effect, made_at}
+use Rattle.list_spec.specs.Worlds.{note_effect, pool_with, world}
 use Rattle.list_spec.proofs.EffectLemmas.{IsEffect, effect_is, note_effect_is}
 use Rattle.list_spec.proofs.PoolLemmas.{pool_keeps}
 use Rattle.list_spec.proofs.WorldLemmas.{HasOther, IsAt, IsMember, IsSound, event_keeps, event_sound, find_at, none_changes, one_changes, one_makes, world_sound}
@@ -36,7 +38,8 @@ lawful_consistent h w a b i m n e f =
     let q = sym (has-holder h i a w m (is_own-id a i e)) ∙ has-holder h i b w n (is_own-id b i f) in cc q
 
 -- operations that are Ready in turn come to those that came before
-makes_covers : (came ops : List Op) (h w : List Op) → Covers came (record { history = h; waiting = w }) → ReadyInTurn h ops → Covers (ops ++ came) (record { history = history_with h ops; waiting = w })
+makes_covers : (came ops : List Op) (h w : List Op) → Covers came (record { history = h; waiting = w }) → ReadyInTurn h ops
+    → Covers (ops ++ came) (record { history = history_with h ops; waiting = w })
 makes_covers came [] h w c r = c
 makes_covers came (op ∷ ops) h w c r =
     let s : Held = record { history = h; waiting = w } in
@@ -52,7 +55,8 @@ makes_has came ops s has e =
     }
 
 -- an operation of a lawful pool is delivered to a replica, and meets no limit
-delivery_has : (pool came : List Op) (op : Op) (s : State) → Lawful pool → has_op pool op ≡ true → IsPartOf came pool → Has came s.held → WithinLimits (answer s.hold s.most s.held op ∷ [])
+delivery_has : (pool came : List Op) (op : Op) (s : State) → Lawful pool → has_op pool op ≡ true → IsPartOf came pool → Has came s.held
+    → WithinLimits (answer s.hold s.most s.held op ∷ [])
     → Has (op ∷ came) (replica_after_delivery op s).held
 delivery_has pool came op s w m f has l =
     record {
@@ -71,7 +75,8 @@ others_have : (n : ℕ) (came : List Op) (ss : List State) → All (HasOther n) 
 others_have n came ss other = All-weaker (HasOther n) (HasAt n came) (λ s o e. absurd (o e)) ss other
 
 -- the replica with the number n, among the others, has what came
-one_has : (n : ℕ) (came : List Op) (front : List State) (s : State) (back : List State) → All (HasOther n) front → All (HasOther n) back → Has came s.held → All (HasAt n came) (front ++ s ∷ back)
+one_has : (n : ℕ) (came : List Op) (front : List State) (s : State) (back : List State) → All (HasOther n) front → All (HasOther n) back → Has came s.held
+    → All (HasAt n came) (front ++ s ∷ back)
 one_has n came front s back before behind has =
     All-append (HasAt n came) front (s ∷ back) (others_have n came front before) (All-cons (HasAt n came) s back (λ e. has) (others_have n came back behind))
 
@@ -82,10 +87,10 @@ had_by n came ss k has =
 
 -- a change of another replica leaves what the one with the number n has
 other_changes : (n number : ℕ) (f : State → State) (came : List Op) (ss : List State) → ((s : State) → (f s).number ≡ s.number) → (number ≡ n → ⊥) → All (HasAt n came) ss
-    → All (HasAt n came) (changed_world number f ss)
+    → All (HasAt n came) (changed_replicas number f ss)
 other_changes n number f came [] stays other has = All-nil (HasAt n came)
 other_changes n number f came (s ∷ ss) stays other has =
-    All-cons (HasAt n came) (if nat_eq s.number number then f s else s) (changed_world number f ss)
+    All-cons (HasAt n came) (if nat_eq s.number number then f s else s) (changed_replicas number f ss)
     (elim (cases_Bool (nat_eq s.number number)) [
       | inl t ↦ subst (λ b. HasAt n came (if b then f s else s)) (sym t) (λ e. absurd (other (sym (eqb-true s.number number t) ∙ sym (stays s) ∙ e)))
       | inr t ↦ subst (λ b. HasAt n came (if b then f s else s)) (sym t) (All-head (HasAt n came) s ss has)
@@ -93,17 +98,19 @@ other_changes n number f came (s ∷ ss) stays other has =
     (other_changes n number f came ss stays other (All-tail (HasAt n came) s ss has))
 
 -- what a replica makes comes to it
-making_has : (n : ℕ) (came : List Op) (w : World) (makes : State → List Op) → ((s : State) → Lawful s.held.history → IsEffect s (makes s)) → IsSound w → All (HasAt n came) w.replicas
-    → All (HasAt n (made_at n makes w.replicas ++ came)) (changed_world n (λ (s : State). with_ops s (makes s)) w.replicas)
+making_has : (n : ℕ) (came : List Op) (w : World) (makes : State → List Op) → ((s : State) → Lawful s.held.history → IsEffect s (makes s)) → IsSound w
+    → All (HasAt n came) w.replicas
+    → All (HasAt n (made_at n makes w.replicas ++ came)) (changed_replicas n (λ (s : State). with_ops s (makes s)) w.replicas)
 making_has n came w makes own sound has =
     let made : State → State = λ s. with_ops s (makes s) in
     elim (find_at n w.replicas sound.distinct) [
-      | inl a ↦ subst (All (HasAt n (made_at n makes w.replicas ++ came))) (sym (none_changes n made w.replicas a)) (others_have n (made_at n makes w.replicas ++ came) w.replicas a)
+      | inl a ↦ subst (All (HasAt n (made_at n makes w.replicas ++ came))) (sym (none_changes n made w.replicas a))
+          (others_have n (made_at n makes w.replicas ++ came) w.replicas a)
       | inr k ↦
           let all : All (IsMember w.pool) (k.front ++ k.it ∷ k.back) = subst (All (IsMember w.pool)) k.whole sound.members in
           let it : IsMember w.pool k.it = All-head (IsMember w.pool) k.it k.back (all_behind (IsMember w.pool) k.front (k.it ∷ k.back) all) in
           let new = makes_has came (makes k.it) k.it (had_by n came w.replicas k has) (own k.it it.lawful) in
-          subst (λ ops. All (HasAt n (ops ++ came)) (changed_world n made w.replicas)) (sym (one_makes n makes w.replicas k))
+          subst (λ ops. All (HasAt n (ops ++ came)) (changed_replicas n made w.replicas)) (sym (one_makes n makes w.replicas k))
           (subst (All (HasAt n (makes k.it ++ came))) (sym (one_changes n made w.replicas k)) (one_has n (makes k.it ++ came) k.front (made k.it) k.back k.before k.behind new))
     ]
 
@@ -122,14 +129,16 @@ one_answers n op ss k =
     ∙ (λ i. none_answers n op k.front k.before i ++ (where_true (eq-eqb k.it.number n k.number i) its ++ none_answers n op k.back k.behind i))
 
 -- what is delivered to a replica comes to it
-receiving_has : (n : ℕ) (came : List Op) (op : Op) (w : World) → has_op w.pool op ≡ true → IsPartOf came w.pool → IsSound w → WithinLimits (answer_at n op w.replicas) → All (HasAt n came) w.replicas
-    → All (HasAt n (op ∷ came)) (changed_world n (replica_after_delivery op) w.replicas)
+receiving_has : (n : ℕ) (came : List Op) (op : Op) (w : World) → has_op w.pool op ≡ true → IsPartOf came w.pool → IsSound w → WithinLimits (answer_at n op w.replicas)
+    → All (HasAt n came) w.replicas
+    → All (HasAt n (op ∷ came)) (changed_replicas n (replica_after_delivery op) w.replicas)
 receiving_has n came op w m f sound l has =
     elim (find_at n w.replicas sound.distinct) [
       | inl a ↦ subst (All (HasAt n (op ∷ came))) (sym (none_changes n (replica_after_delivery op) w.replicas a)) (others_have n (op ∷ came) w.replicas a)
       | inr k ↦
           let new = delivery_has w.pool came op k.it sound.lawful m f (had_by n came w.replicas k has) (subst WithinLimits (one_answers n op w.replicas k) l) in
-          subst (All (HasAt n (op ∷ came))) (sym (one_changes n (replica_after_delivery op) w.replicas k)) (one_has n (op ∷ came) k.front (replica_after_delivery op k.it) k.back k.before k.behind new)
+          subst (All (HasAt n (op ∷ came))) (sym (one_changes n (replica_after_delivery op) w.replicas k))
+          (one_has n (op ∷ came) k.front (replica_after_delivery op k.it) k.back k.before k.behind new)
     ]
 
 -- what a pool takes in it has
@@ -159,7 +168,7 @@ brought_part n w (Noting number named code body) =
     let ops : List Op = made_at number (λ (s : State). note_effect s named code body) w.replicas in
     part_where (nat_eq number n) ops (pool_with w.pool ops) (λ t. pooled_all ops w.pool)
 brought_part n w (Deliver number op) =
-    let new : World = record { replicas = changed_world number (replica_after_delivery op) w.replicas; pool = w.pool } in
+    let new : World = record { replicas = changed_replicas number (replica_after_delivery op) w.replicas; pool = w.pool } in
     let after : World = if has_op w.pool op then new else w in
     let same : after.pool ≡ w.pool = elim (has_op w.pool op) as (λ b. (if b then new else w).pool ≡ w.pool) [ true ↦ refl | false ↦ refl ] in
     part_where (nat_eq number n) (where_true (has_op w.pool op) (op ∷ [])) after.pool (λ t.
@@ -167,14 +176,16 @@ brought_part n w (Deliver number op) =
     ap (λ l. has_op l x) same ∙ (elim (or_cases (op_eq op x) false k) [ inl q ↦ subst (λ y. has_op w.pool y ≡ true) (op_eq-true op x q) m | inr f ↦ absurd (false≢true f) ])))
 
 -- what an event makes at one replica comes to it, and the others have what they had
-event_makes : (n number : ℕ) (came : List Op) (w : World) (makes : State → List Op) → ((s : State) → Lawful s.held.history → IsEffect s (makes s)) → IsSound w → All (HasAt n came) w.replicas
+event_makes : (n number : ℕ) (came : List Op) (w : World) (makes : State → List Op) → ((s : State) → Lawful s.held.history → IsEffect s (makes s)) → IsSound w
+    → All (HasAt n came) w.replicas
     → All (HasAt n (where_true (nat_eq number n) (made_at number makes w.replicas) ++ came)) (after_making w number makes).replicas
 event_makes n number came w makes own sound has =
     let made : State → State = λ s. with_ops s (makes s) in
-    let Goal : Bool → Type 0 = λ b. All (HasAt n (where_true b (made_at number makes w.replicas) ++ came)) (changed_world number made w.replicas) in
+    let Goal : Bool → Type 0 = λ b. All (HasAt n (where_true b (made_at number makes w.replicas) ++ came)) (changed_replicas number made w.replicas) in
     elim (cases_Bool (nat_eq number n)) [
       | inl t ↦ subst Goal (sym t)
-          (subst (λ k. All (HasAt n (made_at k makes w.replicas ++ came)) (changed_world k made w.replicas)) (sym (eqb-true number n t)) (making_has n came w makes own sound has))
+          (subst (λ k. All (HasAt n (made_at k makes w.replicas ++ came)) (changed_replicas k made w.replicas)) (sym (eqb-true number n t))
+          (making_has n came w makes own sound has))
       | inr f ↦ subst Goal (sym f) (other_changes n number made came w.replicas (λ s. refl) (eqb-false number n f) has)
     ]
 
@@ -182,9 +193,10 @@ event_makes n number came w makes own sound has =
 event_has : (n : ℕ) (came : List Op) (w : World) (event : Event) → IsSound w → IsPartOf came w.pool → WithinLimits (answers_to n w event) → All (HasAt n came) w.replicas
     → All (HasAt n (brought_by n w event ++ came)) (after_event w event).replicas
 event_has n came w (Edit number command) sound f l has = event_makes n number came w (λ (s : State). effect s command) (effect_is command) sound has
-event_has n came w (Noting number named code body) sound f l has = event_makes n number came w (λ (s : State). note_effect s named code body) (note_effect_is named code body) sound has
+event_has n came w (Noting number named code body) sound f l has =
+    event_makes n number came w (λ (s : State). note_effect s named code body) (note_effect_is named code body) sound has
 event_has n came w (Deliver number op) sound f l has =
-    let new : World = record { replicas = changed_world number (replica_after_delivery op) w.replicas; pool = w.pool } in
+    let new : World = record { replicas = changed_replicas number (replica_after_delivery op) w.replicas; pool = w.pool } in
     let Goal : Bool → Bool → Type 0 = λ b c. All (HasAt n (where_true b (where_true c (op ∷ [])) ++ came)) (if c then new else w).replicas in
     let Answered : Bool → Bool → Type 0 = λ b c. WithinLimits (where_true b (where_true c (answer_at number op w.replicas))) in
     let unchanged : (b : Bool) → Goal b false = λ b. elim b as (λ b. Goal b false) [ true ↦ has | false ↦ has ] in
@@ -195,7 +207,7 @@ event_has n came w (Deliver number op) sound f l has =
             let e : number ≡ n = eqb-true number n t in
             let within : WithinLimits (answer_at number op w.replicas) = subst (λ b. Answered b true) t (subst (Answered (nat_eq number n)) m l) in
             subst (λ b. Goal b true) (sym t)
-            (subst (λ k. All (HasAt n (op ∷ came)) (changed_world k (replica_after_delivery op) w.replicas)) (sym e)
+            (subst (λ k. All (HasAt n (op ∷ came)) (changed_replicas k (replica_after_delivery op) w.replicas)) (sym e)
             (receiving_has n came op w m f sound (subst (λ k. WithinLimits (answer_at k op w.replicas)) e within) has))
         | inr g ↦ subst (λ b. Goal b true) (sym g) (other_changes n number (replica_after_delivery op) came w.replicas (λ s. refl) (eqb-false number n g) has)
       ])
@@ -234,7 +246,8 @@ events_have n came w (event ∷ events) sound f l has =
 
 -- at first nothing came
 begun_has : (n : ℕ) (replicas : List State) → All (λ (s : State). s.held ≡ nothing_held) replicas → All (HasAt n []) replicas
-begun_has n replicas empty = All-weaker (λ (s : State). s.held ≡ nothing_held) (HasAt n []) (λ s e i. subst (Has []) (sym e) (record { covers = nothing_covers; settled = nothing_settled })) replicas empty
+begun_has n replicas empty =
+    All-weaker (λ (s : State). s.held ≡ nothing_held) (HasAt n []) (λ s e i. subst (Has []) (sym e) (record { covers = nothing_covers; settled = nothing_settled })) replicas empty
 
 -- a replica that got everything has accepted everything
 pub has_everything : HasEverything
@@ -266,6 +279,8 @@ all_agree replicas events new =
     let Whole : State → Type 0 = λ s. GotEverything replicas events s.number → SameOps s.held.history w.pool in
     let whole : All Whole w.replicas = has_everything replicas events new in
     let lawful : (s : State) → Contains w.replicas s → Lawful s.held.history = λ s m. (All-contains (IsMember w.pool) w.replicas s sound.members m).lawful in
-    all_from_contains (λ (s : State). All (λ (t : State). GotEverything replicas events s.number → GotEverything replicas events t.number → IsSameText s.held.history t.held.history) w.replicas) w.replicas (λ s m.
-    all_from_contains (λ (t : State). GotEverything replicas events s.number → GotEverything replicas events t.number → IsSameText s.held.history t.held.history) w.replicas (λ t k g h.
+    all_from_contains (λ (s : State). All (λ (t : State). GotEverything replicas events s.number → GotEverything replicas events t.number
+    → IsSameText s.held.history t.held.history) w.replicas) w.replicas (λ s m.
+    all_from_contains (λ (t : State). GotEverything replicas events s.number → GotEverything replicas events t.number → IsSameText s.held.history t.held.history) w.replicas
+    (λ t k g h.
     order_by_set s.held.history t.held.history (lawful s m) (lawful t k) (λ x. All-contains Whole w.replicas s whole m g x ∙ sym (All-contains Whole w.replicas t whole k h x))))

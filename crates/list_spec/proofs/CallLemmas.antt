@@ -1,4 +1,5 @@
--- A call that edits a replica is an edit of the world, for want of memory a smaller one; one that makes a note is a noting, or for want of memory none.
+-- A call that edits a replica is an edit of the world, for want of memory a smaller one; one that makes a note is a
+-- noting, or for want of memory none.
 use Rattle.std.proofs.Common.{List, [], ap, arith, false, inl, inr, length, nat_lt, refl, subst, sym, ◌&&◌, ◌+◌, ◌-◌, ◌<◌, ◌^◌, ◌∙◌, ◌≡◌, ◌≢◌, ◌≤◌, ◌⊎◌, ℕ}
 use Rattle.std.specs.Prelude.{Err, None, Ok, Option, Some, if◌then◌else◌, slice_get, take}
 use Rattle.std.proofs.lemmas.Bool.{le-ltb, ltb-false}
@@ -60,7 +61,8 @@ smaller_cut s k at j n l e =
 -- an empty put makes nothing
 nothing_made : (s : State) → made_by s (Put 0 0 []) ≡ []
 nothing_made s =
-    elim (slice_get (shown catalogue s.held.history) 0) as (λ z. elim z [ None ↦ [] | Some x ↦ put_in s.number s.held.history s.held.waiting x 0 [] ] ≡ []) [ None ↦ refl | Some x ↦ refl ]
+    elim (slice_get (shown catalogue s.held.history) 0) as (λ z. elim z [ None ↦ [] | Some x ↦ put_in s.number s.held.history s.held.waiting x 0 [] ] ≡ [])
+    [ None ↦ refl | Some x ↦ refl ]
 
 makes_nothing : (s : State) → effect s (Put 0 0 []) ≡ []
 makes_nothing s = by_refusal (refusal_message s (Put 0 0 [])) refl
@@ -78,7 +80,8 @@ no_part : (command : Command) (s : State) (j : ℕ) → j ≡ 0 → IsPart comma
 no_part command s j e = (Put 0 0 [], makes_nothing s ∙ ap (λ n. take n (effect s command)) (sym e))
 
 -- the first ones, by those of the edit that is not refused
-part_by : (command done : Command) (s : State) (j : ℕ) → refusal_message s command ≡ None → refusal_message s done ≡ None → take j (made_by s command) ≡ made_by s done → IsPart command s j
+part_by : (command done : Command) (s : State) (j : ℕ) → refusal_message s command ≡ None → refusal_message s done ≡ None → take j (made_by s command) ≡ made_by s done
+    → IsPart command s j
 part_by command done s j e f is = (done, made_whole done s f ∙ sym is ∙ ap (take j) (sym (made_whole command s e)))
 
 smaller : (command : Command) (s : State) (j : ℕ) → refusal_message s command ≡ None → j < length (made_by s command) → IsPart command s j
@@ -177,7 +180,8 @@ note_named s fault k e = never_more s 1 (k ∙ ap Some e)
 pub calls_are_notings : CallsAreNotings
 calls_are_notings named code body old new (Ok n) held call =
     record {
-      is = λ m. call.made.gained.others ∙ sym (ap (with_ops old) (note_whole named code body old (by_refusal (note_refusal old) refl) (list_all-from_AllPass (holds old.held.history) named held)));
+      is = λ m. call.made.gained.others
+          ∙ sym (ap (with_ops old) (note_whole named code body old (by_refusal (note_refusal old) refl) (list_all-from_AllPass (holds old.held.history) named held)));
       unmade = λ e. cc e;
     }
   where

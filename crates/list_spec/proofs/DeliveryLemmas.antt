@@ -66,7 +66,8 @@ unfolding settle
 settling pool older s g = steps pool older s.waiting s g
 
 -- what the answer changes
-answering : (hold most : ℕ) (pool older : List Op) (s : Held) (op : Op) → has_op pool op ≡ true → IsGrown pool older s → IsGrown pool older (held_after (answer hold most s op) s op)
+answering : (hold most : ℕ) (pool older : List Op) (s : Held) (op : Op) → has_op pool op ≡ true → IsGrown pool older s
+    → IsGrown pool older (held_after (answer hold most s op) s op)
 answering hold most pool older s op m g = by_answer (answer hold most s op) refl
   where
     by_answer : (a : Answer) → answer hold most s op ≡ a → IsGrown pool older (held_after a s op)

@@ -1,4 +1,5 @@
--- What an edit and a noting make: operations of their replica that are Ready in turn, and none where they are refused. Those of an edit land where they were asked, and a note shows nothing.
+-- What an edit and a noting make: operations of their replica that are Ready in turn, and none where they are refused.
+-- Those of an edit land where they were asked, and a note shows nothing.
 use Rattle.std.proofs.Common.{Bool, List, [], ap, false, inl, inr, refl, subst, sym, true, ◌∙◌, ◌∷◌, ◌≡◌, ℕ, suc}
 use Rattle.std.specs.Prelude.{All, None, Option, Some, drop, if◌then◌else◌, slice_get, take}
 use Rattle.std.specs.List.{list_all}
@@ -13,7 +14,8 @@ use Rattle.origin_model.specs.declared.operations.Place.TheVariants.{Catalogue a
 use Rattle.origin_model.specs.operations.History.{holds}
 use Rattle.origin_model.specs.operations.Verdict.{Lawful}
 use Rattle.origin_model.specs.order.Printed.{shown}
-use Rattle.origin_model.specs.edits.Edits.{Add, Command, Cut, DropSection, Put, ReadyInTurn, op_of_add, cut_in, deletes_of, id_at, left_for, made, next_counter, put_in, right_for, typed_texts}
+use Rattle.origin_model.specs.edits.Edits.{Add, Command, Cut, DropSection, Put, ReadyInTurn, op_of_add, cut_in, deletes_of, id_at, left_for, made, next_counter, put_in, right_for}
+use Rattle.origin_model.specs.edits.Edits.{typed_texts}
 use Rattle.origin_model.specs.edits.State.{State}
 use Rattle.origin_model.specs.edits.Refusal.{made_by, refusal_message}
 use Rattle.origin_model.specs.edits.Effect.{Lands, with_ops}
@@ -37,7 +39,8 @@ made_none command s fault e = ap (λ o. elim o [ None ↦ made_by s command | So
 -- the operations are by their replica
 typed_by : (chs : List ℕ) (r c : ℕ) (s : Identifier) (l q : Option Identifier) → All (IsBy r) (typed_texts r c s l q chs)
 typed_by [] r c s l q = All-nil (IsBy r)
-typed_by (ch ∷ chs) r c s l q = All-cons (IsBy r) (Text (id_at r c) s l q ch) (typed_texts r (suc c) s (Some (id_at r c)) q chs) refl (typed_by chs r (suc c) s (Some (id_at r c)) q)
+typed_by (ch ∷ chs) r c s l q =
+    All-cons (IsBy r) (Text (id_at r c) s l q ch) (typed_texts r (suc c) s (Some (id_at r c)) q chs) refl (typed_by chs r (suc c) s (Some (id_at r c)) q)
 
 deletes_by : (r : ℕ) (xs : List Identifier) → All (IsBy r) (deletes_of xs)
 deletes_by r xs = All-map (IsBy r) (λ x. Delete x) xs (all_from_contains (λ x. IsBy r (Delete x)) xs (λ x m. tt))
@@ -80,7 +83,8 @@ effect_is command s w = by_refusal (refusal_message s command) refl
           by = made_are_by s.number s.held.history s.held.waiting command;
           unknown = made_unknown s.number s.held.history s.held.waiting command;
         })
-    by_refusal (Some fault) e = subst (IsEffect s) (sym (made_none command s fault e)) (record { ready = tt; by = All-nil (IsBy s.number); unknown = All-nil (IsUnknown s.held.waiting) })
+    by_refusal (Some fault) e =
+        subst (IsEffect s) (sym (made_none command s fault e)) (record { ready = tt; by = All-nil (IsBy s.number); unknown = All-nil (IsUnknown s.held.waiting) })
 
 -- an edit that is not refused lands where it was asked
 pub lands : (command : Command) (s : State) → Lawful s.held.history → refusal_message s command ≡ None → Lands s (replica_after_edit command s) command
@@ -117,13 +121,15 @@ note_effect_is named code body s w = by_refusal (note_refusal s) refl
           | inl t ↦ subst (IsEffect s) (sym (note_whole named code body s e t)) (record {
             ready = (noted_ready s.number s.held.history s.held.waiting named code body w (AllPass-from_list_all (holds s.held.history) named t), tt);
             by = All-cons (IsBy s.number) (note_by s named code body) [] refl (All-nil (IsBy s.number));
-            unknown = All-cons (IsUnknown s.held.waiting) (note_by s named code body) [] (noted_unknown s.number s.held.history s.held.waiting named code body) (All-nil (IsUnknown s.held.waiting));
+            unknown = All-cons (IsUnknown s.held.waiting) (note_by s named code body) [] (noted_unknown s.number s.held.history s.held.waiting named code body)
+                (All-nil (IsUnknown s.held.waiting));
           })
           | inr f ↦ subst (IsEffect s) (sym (note_lacking named code body s f)) none
         ]
 
 -- a noting shows nothing, and what waits waits
-pub note_quiet : (named : List Identifier) (code : ℕ) (body : List ℕ) (s : State) → ShowsAsBefore s (replica_after_note named code body s) × ((replica_after_note named code body s).held.waiting ≡ s.held.waiting)
+pub note_quiet : (named : List Identifier) (code : ℕ) (body : List ℕ) (s : State)
+    → ShowsAsBefore s (replica_after_note named code body s) × ((replica_after_note named code body s).held.waiting ≡ s.held.waiting)
 note_quiet named code body s = (by (list_all (holds s.held.history) named) (note_refusal s), refl)
   where
     by : (b : Bool) (o : Option EditFault) → ShowsAsBefore s (with_ops s (note_of s named code body b o))

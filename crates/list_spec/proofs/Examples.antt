@@ -33,7 +33,8 @@ texts w = map (λ (s : State). text s.held.history section) w.replicas
 abbrev pub counts : World → List ℕ
 counts w = map (λ (s : State). length s.held.history) w.replicas
 
--- both type at the start of an empty section, and hear of each other later: replica 1 first hears the second scalar, which waits for the first
+-- both type at the start of an empty section, and hear of each other later: replica 1 first hears the second scalar,
+-- which waits for the first
 abbrev typing : List Event
 typing =
     Edit 1 (Add 0 (codes "T"))

@@ -44,7 +44,8 @@ strong_list replicas earlier later new =
 pub edits_land : EditsLand
 edits_land replicas events command new =
     let w : World = world replicas events in
-    All-weaker (IsMember w.pool) (λ (s : State). refusal_message s command ≡ None → Lands s (replica_after_edit command s) command) (λ s m e. lands command s m.lawful e) w.replicas (world_sound replicas events new).members
+    All-weaker (IsMember w.pool) (λ (s : State). refusal_message s command ≡ None → Lands s (replica_after_edit command s) command)
+    (λ s m e. lands command s m.lawful e) w.replicas (world_sound replicas events new).members
 
 -- a noting shows nothing
 pub notings_show_nothing : NotingsShowNothing

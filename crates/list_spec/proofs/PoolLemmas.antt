@@ -1,4 +1,5 @@
--- What an edit adds to the pool. The key fact: only the replica with a number makes identifiers with that number, and it never forgets one, so the pool holds none of them that its own history lacks.
+-- What an edit adds to the pool. The key fact: only the replica with a number makes identifiers with that number, and
+-- it never forgets one, so the pool holds none of them that its own history lacks.
 use Rattle.std.proofs.Common.{Bool, List, [], ap, false, inl, inr, ◌∙◌, ◌∷◌, ◌≡◌, ◌≢◌, refl, subst, sym, true, ℕ}
 use Rattle.std.specs.Prelude.{All, IfSome, None, Option, Some, if◌then◌else◌}
 use Rattle.std.proofs.lemmas.Bool.{cases_Bool, false_from_ne_true, or_left, or_right, true≢false}

@@ -1,4 +1,5 @@
--- Why the premises of the laws of worlds are there: each law is stated without one of them, and a small world or call breaks it. That replicas have distinct numbers is tried in Examples.
+-- Why the premises of the laws of worlds are there: each law is stated without one of them, and a small world or call
+-- breaks it. That replicas have distinct numbers is tried in Examples.
 use Rattle.std.proofs.Common.{Bool, List, [], ap, false, refl, true, ◌∙◌, ◌∷◌, ◌≡◌, ◌≢◌, ℕ, length}
 use Rattle.std.specs.Prelude.{All, AllPairs, Err, IfErr, IfOk, None, Ok, OnErr, Result, Some, codes, nat_eq, slice_get}
 use Rattle.std.proofs.lemmas.Bool.{false≢true, true≢false}
@@ -61,16 +62,19 @@ edits_land_empty :
 unfolding order chain
 edits_land_empty law =
     let add : Command = Add 1 (codes "U") in
-    let lands : Lands twice (replica_after_edit add twice) add = All-head (λ (s : State). refusal_message s add ≡ None → Lands s (replica_after_edit add s) add) twice [] (law (twice ∷ []) [] add (one_number twice)) refl in
+    let lands : Lands twice (replica_after_edit add twice) add =
+    All-head (λ (s : State). refusal_message s add ≡ None → Lands s (replica_after_edit add s) add) twice [] (law (twice ∷ []) [] add (one_number twice)) refl in
     true≢false (ap second_is_it lands.splices.here)
 
 -- a refused edit does not land: there is no such position
 edits_land_refused :
-    ((replicas : List State) (events : List Event) (command : Command) → AreNew replicas → All (λ (s : State). Lands s (replica_after_edit command s) command) (world replicas events).replicas) → ⊥
+    ((replicas : List State) (events : List Event) (command : Command) → AreNew replicas
+    → All (λ (s : State). Lands s (replica_after_edit command s) command) (world replicas events).replicas) → ⊥
 unfolding order chain
 edits_land_refused law =
     let add : Command = Add 5 (codes "T") in
-    let lands : Lands new_one (replica_after_edit add new_one) add = All-head (λ (s : State). Lands s (replica_after_edit add s) add) new_one [] (law (new_one ∷ []) [] add alone) in
+    let lands : Lands new_one (replica_after_edit add new_one) add =
+    All-head (λ (s : State). Lands s (replica_after_edit add s) add) new_one [] (law (new_one ∷ []) [] add alone) in
     true≢false (ap (λ xs. nat_eq (length xs) 0) lands.splices.here)
 
 -- the edit that is asked for in these calls, which a new replica does not refuse
@@ -155,5 +159,6 @@ notings_unmade :
     → RefusesNote old result → IsNoting named code body old new result) → ⊥
 notings_unmade law =
     let other : State = record new_one { number = 2 } in
-    let noting : IsNoting [] 0 [] new_one other (Err NoMemory) = law [] 0 [] new_one other (Err NoMemory) (none_lacks new_one) tt (λ fault n. (λ e. absurd (n (cc e)), λ e. cc e)) in
+    let noting : IsNoting [] 0 [] new_one other (Err NoMemory) =
+    law [] 0 [] new_one other (Err NoMemory) (none_lacks new_one) tt (λ fault n. (λ e. absurd (n (cc e)), λ e. cc e)) in
     false≢true (ap (λ (s : State). nat_eq s.number 1) (noting.unmade refl))

@@ -1,4 +1,5 @@
--- What is so of every world: the pool is lawful, and each replica's history is a lawful part of it that has all identifiers which the replica made.
+-- What is so of every world: the pool is lawful, and each replica's history is a lawful part of it that has all
+-- identifiers which the replica made.
 use Rattle.std.proofs.Common.{Bool, List, [], ap, append-nil, false, inl, inr, nat_eq, refl, subst, sym, true, ◌++◌, ◌∙◌, ◌∷◌, ◌≡◌, ◌≢◌, ◌⊎◌, ℕ}
 use Rattle.std.specs.Prelude.{All, AllPairs, flat_map, if◌then◌else◌, map}
 use Rattle.std.proofs.lemmas.Bool.{cases_Bool, eq-eqb, eqb-true, eqb-false, false≢true, ne_eqb}
@@ -15,7 +16,8 @@ use Rattle.origin_model.specs.edits.Edits.{id_at}
 use Rattle.origin_model.proofs.edits.MadeLemmas.{ready_lawful}
 use Rattle.origin_model.specs.edits.State.{State}
 use Rattle.origin_model.specs.edits.Effect.{with_ops}
-use Rattle.list_spec.specs.Worlds.{AreNew, Deliver, Edit, Event, Noting, World, after_event, after_events, after_making, changed_world, replica_after_delivery, effect, made_at, note_effect, numbers, pool_with, world}
+use Rattle.list_spec.specs.Worlds.{AreNew, Deliver, Edit, Event, Noting, World, after_event, after_events, after_making, changed_replicas, replica_after_delivery, effect, made_at}
+use Rattle.list_spec.specs.Worlds.{note_effect, numbers, pool_with, world}
 use Rattle.list_spec.proofs.DeliveryLemmas.{taking_in}
 use Rattle.list_spec.proofs.EffectLemmas.{IsEffect, effect_is, note_effect_is}
 use Rattle.list_spec.proofs.PoolLemmas.{HoldsOwn, IsBy, pool_adds, pool_all, pool_keeps}
@@ -51,16 +53,33 @@ find_at n (s ∷ ss) d =
     elim (cases_Bool (nat_eq s.number n)) [
       | inl t ↦
           let e : s.number ≡ n = eqb-true s.number n t in
-          let others : All (λ (x : State). s.number ≢ x.number) ss = all_from_map (λ (x : State). x.number) (λ m. s.number ≢ m) ss (all_pairs_head (λ m k. m ≢ k) s.number (numbers ss) d) in
-          inr (record { front = []; it = s; back = ss; whole = refl; number = e; before = All-nil (HasOther n); behind = All-weaker (λ (x : State). s.number ≢ x.number) (HasOther n) (λ x a b. a (e ∙ sym b)) ss others })
+          let others : All (λ (x : State). s.number ≢ x.number) ss =
+          all_from_map (λ (x : State). x.number) (λ m. s.number ≢ m) ss (all_pairs_head (λ m k. m ≢ k) s.number (numbers ss) d) in
+          inr (record {
+            front = [];
+            it = s;
+            back = ss;
+            whole = refl;
+            number = e;
+            before = All-nil (HasOther n);
+            behind = All-weaker (λ (x : State). s.number ≢ x.number) (HasOther n) (λ x a b. a (e ∙ sym b)) ss others;
+          })
       | inr t ↦ elim (find_at n ss (all_pairs_tail (λ m k. m ≢ k) s.number (numbers ss) d)) [
         | inl a ↦ inl (All-cons (HasOther n) s ss (eqb-false s.number n t) a)
-        | inr k ↦ inr (record { front = s ∷ k.front; it = k.it; back = k.back; whole = ap (λ l. s ∷ l) k.whole; number = k.number; before = All-cons (HasOther n) s k.front (eqb-false s.number n t) k.before; behind = k.behind })
+        | inr k ↦ inr (record {
+          front = s ∷ k.front;
+          it = k.it;
+          back = k.back;
+          whole = ap (λ l. s ∷ l) k.whole;
+          number = k.number;
+          before = All-cons (HasOther n) s k.front (eqb-false s.number n t) k.before;
+          behind = k.behind;
+        })
       ]
     ]
 
 -- where no replica has the number, none changes and nothing is made
-pub none_changes : (n : ℕ) (f : State → State) (ss : List State) → All (HasOther n) ss → changed_world n f ss ≡ ss
+pub none_changes : (n : ℕ) (f : State → State) (ss : List State) → All (HasOther n) ss → changed_replicas n f ss ≡ ss
 none_changes n f [] a = refl
 none_changes n f (s ∷ ss) a = λ i. (if ne_eqb s.number n (All-head (HasOther n) s ss a) i then f s else s) ∷ none_changes n f ss (All-tail (HasOther n) s ss a) i
 
@@ -69,7 +88,7 @@ none_makes n makes [] a = refl
 none_makes n makes (s ∷ ss) a = λ i. (if ne_eqb s.number n (All-head (HasOther n) s ss a) i then makes s else []) ++ none_makes n makes ss (All-tail (HasOther n) s ss a) i
 
 -- otherwise that one changes
-pub one_changes : (n : ℕ) (f : State → State) (ss : List State) (k : IsAt n ss) → changed_world n f ss ≡ k.front ++ f k.it ∷ k.back
+pub one_changes : (n : ℕ) (f : State → State) (ss : List State) (k : IsAt n ss) → changed_replicas n f ss ≡ k.front ++ f k.it ∷ k.back
 one_changes n f ss k =
     let g : State → State = λ s. if nat_eq s.number n then f s else s in
     ap (map g) k.whole ∙ map-append g k.front (k.it ∷ k.back)
@@ -83,7 +102,7 @@ one_makes n makes ss k =
     ap (flat_map g) k.whole ∙ flat_map-append g k.front (k.it ∷ k.back) ∙ (λ i. none_makes n makes k.front k.before i ++ at i)
 
 -- a change that keeps numbers keeps those of all
-numbers_stay : (n : ℕ) (f : State → State) (ss : List State) → ((s : State) → (f s).number ≡ s.number) → numbers (changed_world n f ss) ≡ numbers ss
+numbers_stay : (n : ℕ) (f : State → State) (ss : List State) → ((s : State) → (f s).number ≡ s.number) → numbers (changed_replicas n f ss) ≡ numbers ss
 numbers_stay n f [] e = refl
 numbers_stay n f (s ∷ ss) e =
     let here : (b : Bool) → (if b then f s else s).number ≡ s.number = λ b. elim b as (λ b. (if b then f s else s).number ≡ s.number) [ true ↦ e s | false ↦ refl ] in
@@ -165,10 +184,12 @@ making_goes w n makes own g =
 -- a replica behind a delivery
 receives : (pool : List Op) (op : Op) (s : State) → has_op pool op ≡ true → IsMember pool s → IsMember pool (replica_after_delivery op s)
 receives pool op s k m =
-    let g = taking_in s.hold s.most pool s.held.history s.held op k (record { lawful = m.lawful; history_part = m.history_part; waiting_part = m.waiting_part; keeps = λ i h. h }) in
+    let g = taking_in s.hold s.most pool s.held.history s.held op k
+    (record { lawful = m.lawful; history_part = m.history_part; waiting_part = m.waiting_part; keeps = λ i h. h }) in
     record { lawful = g.lawful; history_part = g.history_part; waiting_part = g.waiting_part; own = λ c h. g.keeps (id_at s.number c) (m.own c h) }
 
-receive_all : (pool : List Op) (op : Op) (n : ℕ) (ss : List State) → has_op pool op ≡ true → All (IsMember pool) ss → All (IsMember pool) (changed_world n (replica_after_delivery op) ss)
+receive_all : (pool : List Op) (op : Op) (n : ℕ) (ss : List State) → has_op pool op ≡ true → All (IsMember pool) ss
+    → All (IsMember pool) (changed_replicas n (replica_after_delivery op) ss)
 receive_all pool op n ss k m =
     All-map (IsMember pool) (λ (s : State). if nat_eq s.number n then replica_after_delivery op s else s) ss
     (All-weaker (IsMember pool) (λ (s : State). IsMember pool (if nat_eq s.number n then replica_after_delivery op s else s))
@@ -189,7 +210,7 @@ pub event_sound : (w : World) (event : Event) → IsSound w → IsSound (after_e
 event_sound w (Edit n command) g = making_sound w n (λ (s : State). effect s command) (effect_is command) g
 event_sound w (Noting n named code body) g = making_sound w n (λ (s : State). note_effect s named code body) (note_effect_is named code body) g
 event_sound w (Deliver n op) g =
-    let new : World = record { replicas = changed_world n (replica_after_delivery op) w.replicas; pool = w.pool } in
+    let new : World = record { replicas = changed_replicas n (replica_after_delivery op) w.replicas; pool = w.pool } in
     elim (cases_Bool (has_op w.pool op)) [
       | inl t ↦ subst IsSound (sym (ap (λ b. if b then new else w) t))
           (record {
@@ -221,7 +242,7 @@ pub event_keeps : (w : World) (event : Event) → IsPartOf w.pool (after_event w
 event_keeps w (Edit n command) x k = pool_keeps w.pool (made_at n (λ (s : State). effect s command) w.replicas) x k
 event_keeps w (Noting n named code body) x k = pool_keeps w.pool (made_at n (λ (s : State). note_effect s named code body) w.replicas) x k
 event_keeps w (Deliver n op) x k =
-    let new : World = record { replicas = changed_world n (replica_after_delivery op) w.replicas; pool = w.pool } in
+    let new : World = record { replicas = changed_replicas n (replica_after_delivery op) w.replicas; pool = w.pool } in
     elim (has_op w.pool op) as (λ b. has_op (if b then new else w).pool x ≡ true) [ true ↦ k | false ↦ k ]
 
 pub events_keep : (w : World) (events : List Event) → IsPartOf w.pool (after_events w events).pool

@@ -1,4 +1,6 @@
--- Strong eventual consistency (Shapiro and others, "Conflict-free Replicated Data Types"): replicas that got the same operations agree. The strong list specification says that nothing wrong is ever shown; this says that all is shown where all has come.
+-- Strong eventual consistency (Shapiro and others, "Conflict-free Replicated Data Types"): replicas that got the same
+-- operations agree. The strong list specification says that nothing wrong is ever shown; this says that all is shown
+-- where all has come.
 use Rattle.std.specs.Prelude.{ℕ, Bool, nat_eq, if◌then◌else◌, List, [], ◌∷◌, ◌++◌, flat_map, All}
 use Rattle.fugue_ids.specs.declared.op.Op.{Op}
 use Rattle.origin_model.specs.operations.History.{has_op}
@@ -15,7 +17,8 @@ where_true b xs = if b then xs else []
 -- the operations that an event brings to the replica with the number n: those that are made there, or the one that is delivered
 abbrev pub brought_by : ℕ → World → Event → List Op
 brought_by n w (Edit number command) = where_true (nat_eq number n) (made_at number (λ (s : State). effect s command) w.replicas)
-brought_by n w (Noting number named code body) = where_true (nat_eq number n) (made_at number (λ (s : State). note_effect s named code body) w.replicas)
+brought_by n w (Noting number named code body) =
+    where_true (nat_eq number n) (made_at number (λ (s : State). note_effect s named code body) w.replicas)
 brought_by n w (Deliver number op) = where_true (nat_eq number n) (where_true (has_op w.pool op) (op ∷ []))
 
 -- the answer of the replica with this number to an operation
@@ -50,11 +53,13 @@ pub record GotEverything (replicas : List State) (events : List Event) (n : ℕ)
 abbrev pub HasEverything : Type 0
 HasEverything =
     (replicas : List State) (events : List Event) → AreNew replicas
-    → All (λ (s : State). GotEverything replicas events s.number → SameOps s.held.history (world replicas events).pool) (world replicas events).replicas
+    → All (λ (s : State). GotEverything replicas events s.number → SameOps s.held.history (world replicas events).pool)
+    (world replicas events).replicas
 
 -- any two that got everything have the same order, and show and print the same
 abbrev pub AllAgree : Type 0
 AllAgree =
     (replicas : List State) (events : List Event) → AreNew replicas
-    → All (λ (s : State). All (λ (t : State). GotEverything replicas events s.number → GotEverything replicas events t.number → IsSameText s.held.history t.held.history)
+    → All (λ (s : State). All (λ (t : State). GotEverything replicas events s.number → GotEverything replicas events t.number
+    → IsSameText s.held.history t.held.history)
     (world replicas events).replicas) (world replicas events).replicas

@@ -16,7 +16,8 @@ pub record IsEditCall (command : Command) (old new : State) (result : Result ℕ
   pub refused : RefusesExactly old command result
   pub unmade : IfErr result (λ fault. LeavesUnmade old new command fault)
 
--- the call is an edit of the world: the one that was asked for or, where memory was wanting, a smaller one, which makes the first of its operations
+-- the call is an edit of the world: the one that was asked for or, where memory was wanting, a smaller one, which makes
+-- the first of its operations
 pub record IsWorldEdit (command : Command) (old new : State) (result : Result ℕ EditFault) : Type 0 where
   pub done : Command
   pub is : new ≡ replica_after_edit done old
@@ -26,7 +27,8 @@ pub record IsWorldEdit (command : Command) (old new : State) (result : Result �
 
 -- every such call is an edit
 abbrev pub CallsAreEdits : Type 0
-CallsAreEdits = (command : Command) (old new : State) (result : Result ℕ EditFault) → IsEditCall command old new result → IsWorldEdit command old new result
+CallsAreEdits = (command : Command) (old new : State) (result : Result ℕ EditFault) → IsEditCall command old new result
+    → IsWorldEdit command old new result
 
 -- what `note` promises of the note that it is asked for
 pub record IsNoteCall (named : List Identifier) (code : ℕ) (body : List ℕ) (old new : State) (result : Result ℕ EditFault) : Type 0 where

@@ -1,4 +1,7 @@
--- The strong list specification (Attiya and others, "Specification and Complexity of Collaborative Text Editing"): one order over all elements that were ever inserted, and every list that any replica shows at any moment is in it, with exactly the elements that the replica accepted and that no Delete it accepted names; and an edit lands where it was asked.
+-- The strong list specification (Attiya and others, "Specification and Complexity of Collaborative Text Editing"): one
+-- order over all elements that were ever inserted, and every list that any replica shows at any moment is in it, with
+-- exactly the elements that the replica accepted and that no Delete it accepted names; and an edit lands where it was
+-- asked.
 use Rattle.std.specs.Prelude.{◌≡◌, ℕ, None, not, List, ◌++◌, filter, All, AllPairs}
 use Rattle.fugue_ids.specs.Identifiers.{Identifier}
 use Rattle.fugue_ids.specs.declared.op.Op.{Op}
@@ -16,7 +19,8 @@ use Rattle.origin_model.specs.edits.Effect.{Lands}
 use Rattle.origin_model.specs.edits.Noting.{ShowsAsBefore}
 use Rattle.list_spec.specs.Worlds.{AreNew, Event, replica_after_note, replica_after_edit, world}
 
--- a replica's history is lawful and made of operations of the pool; its elements stand in the order of the pool, with those that it lacks left out, and of these it shows the ones that no Delete of its own history names
+-- a replica's history is lawful and made of operations of the pool; its elements stand in the order of the pool, with
+-- those that it lacks left out, and of these it shows the ones that no Delete of its own history names
 pub record IsView (pool history : List Op) : Type 0 where
   pub lawful : Lawful history
   pub part : IsPartOf history pool
@@ -31,13 +35,15 @@ pub record IsOneList (pool : List Op) (replicas : List State) : Type 0 where
 
 -- whatever happens, and whatever happened later: the one order over all that was ever made is that of every replica at every moment
 abbrev pub StrongList : Type 0
-StrongList = (replicas : List State) (earlier later : List Event) → AreNew replicas → IsOneList (world replicas (earlier ++ later)).pool (world replicas earlier).replicas
+StrongList = (replicas : List State) (earlier later : List Event) → AreNew replicas
+    → IsOneList (world replicas (earlier ++ later)).pool (world replicas earlier).replicas
 
 -- in every world an edit that is not refused lands where it was asked
 abbrev pub EditsLand : Type 0
 EditsLand =
     (replicas : List State) (events : List Event) (command : Command) → AreNew replicas
-    → All (λ (s : State). refusal_message s command ≡ None → Lands s (replica_after_edit command s) command) (world replicas events).replicas
+    → All (λ (s : State). refusal_message s command ≡ None → Lands s (replica_after_edit command s) command)
+    (world replicas events).replicas
 
 -- a noting leaves what each place has and shows, and what waits
 abbrev pub NotingsShowNothing : Type 0

@@ -1,5 +1,5 @@
--- Worlds: replicas that authors edit and in which they make notes, and to which the operations that were made are delivered, in whatever order and however often.
--- A history and a pool are newest first.
+-- Worlds: replicas that authors edit and in which they make notes, and to which the operations that were made are
+-- delivered, in whatever order and however often. A history and a pool are newest first.
 use Rattle.std.specs.Prelude.{◌≡◌, ◌≢◌, ℕ, nat_eq, if◌then◌else◌, Some, None, List, [], ◌∷◌, map, flat_map, All, AllPairs}
 use Rattle.std.specs.List.{list_all}
 use Rattle.fugue_ids.specs.Identifiers.{Identifier}
@@ -57,8 +57,8 @@ abbrev pub replica_after_delivery : Op → State → State
 replica_after_delivery op s = record s { held = intake s.hold s.most s.held op }
 
 -- the replicas where the one with this number changed
-abbrev pub changed_world : ℕ → (State → State) → List State → List State
-changed_world number change replicas = map (λ (s : State). if nat_eq s.number number then change s else s) replicas
+abbrev pub changed_replicas : ℕ → (State → State) → List State → List State
+changed_replicas number change replicas = map (λ (s : State). if nat_eq s.number number then change s else s) replicas
 
 -- the operations that the replica with this number makes
 abbrev pub made_at : ℕ → (State → List Op) → List State → List Op
@@ -72,14 +72,17 @@ pool_with pool (op ∷ ops) = pool_with (if has_op pool op then pool else op ∷
 -- the world where the replica with this number made operations
 abbrev pub after_making : World → ℕ → (State → List Op) → World
 after_making w number makes =
-    record { replicas = changed_world number (λ (s : State). with_ops s (makes s)) w.replicas; pool = pool_with w.pool (made_at number makes w.replicas) }
+    record {
+      replicas = changed_replicas number (λ (s : State). with_ops s (makes s)) w.replicas;
+      pool = pool_with w.pool (made_at number makes w.replicas);
+    }
 
 -- the world behind an event; only what was made can be delivered
 abbrev pub after_event : World → Event → World
 after_event w (Edit number command) = after_making w number (λ (s : State). effect s command)
 after_event w (Noting number named code body) = after_making w number (λ (s : State). note_effect s named code body)
 after_event w (Deliver number op) =
-    if has_op w.pool op then record { replicas = changed_world number (replica_after_delivery op) w.replicas; pool = w.pool } else w
+    if has_op w.pool op then record { replicas = changed_replicas number (replica_after_delivery op) w.replicas; pool = w.pool } else w
 
 -- the world after these events
 abbrev pub after_events : World → List Event → World

@@ -21,7 +21,8 @@ pub arranged_text_by_set : ArrangedBySet → IsFixedBySet arranged_text
 arranged_text_by_set arranged a b x y same = (arranged a b x y same).same_text
 
 -- so is what was printed of one
-pub printed_by_set : (text : List Op → List ℕ) → IsFixedBySet text → (history : List Op) (output : Change OutView) → Lawful history → Took output.old output.new (text history) → PrintedBySet text history output
+pub printed_by_set : (text : List Op → List ℕ) → IsFixedBySet text → (history : List Op) (output : Change OutView) → Lawful history → Took output.old output.new (text history)
+    → PrintedBySet text history output
 printed_by_set text fixed history output lawful took = record {
   lawful = lawful;
   printed = λ other is same. subst (Took output.old output.new) (fixed history other lawful is same) took;

@@ -18,7 +18,8 @@ check_once text replica w (Does a) (Refuses why) one two = absurd two
 check_once text replica w (Refuses why) b one two = absurd one
 
 -- the answer that is written
-pub answer_told : (text bytes : List ℕ) (replica : Replica) (valid : Bool) → (valid ≡ true) ↔ IsValidText replica.held.history text → (valid ≡ true → bytes ≡ codes "yes" ++ 10 ∷ [])
+pub answer_told : (text bytes : List ℕ) (replica : Replica) (valid : Bool) → (valid ≡ true) ↔ IsValidText replica.held.history text
+    → (valid ≡ true → bytes ≡ codes "yes" ++ 10 ∷ [])
     → (valid ≡ false → bytes ≡ codes "no" ++ 10 ∷ []) → check_tells text replica (Does bytes)
 answer_told text bytes replica valid tested affirms denies =
     elim (cases_Bool valid) [

@@ -1,5 +1,5 @@
 -- How many operations the parts of a draft take at least.
-use Rattle.std.proofs.Common.{◌≡◌, ℕ, ◌+◌, ◌<◌, ◌≤◌, List, [], ◌∷◌, length, map, nat_lt, true, false, refl, arith, sym, ap, take, get_or}
+use Rattle.std.proofs.Common.{◌≡◌, ℕ, ◌+◌, ◌<◌, ◌≤◌, List, [], ◌∷◌, length, map, true, false, refl, arith, sym, ap, take, get_or}
 use Rattle.std.specs.List.{sum_by}
 use Rattle.std.specs.Str.{chars}
 use Rattle.std.proofs.lemmas.List.Sums.{sum_by-cons, sum_by_more_le}
@@ -23,11 +23,14 @@ taken_all (part ∷ parts) =
 
 module _ (parts : List ReadPart) where
   -- the parts before one have a place, and it and its letters have none behind them
-  pub is_over : (at : ℕ) (d : ReadPart) (room letters : ℕ) → at < length parts → room + sum_by taken (take at parts) ≡ MOST_OPERATIONS → letters ≡ length (chars (get_or parts at d).text.now) → room ≤ letters → true ≡ is_too_large (map seen_part parts)
+  pub is_over : (at : ℕ) (d : ReadPart) (room letters : ℕ) → at < length parts → room + sum_by taken (take at parts) ≡ MOST_OPERATIONS
+      → letters ≡ length (chars (get_or parts at d).text.now) → room ≤ letters → true ≡ is_too_large (map seen_part parts)
   is_over at d room letters there left long over =
-      sym (lt-ltb MOST_OPERATIONS (length (map seen_part parts) + part_letters (map seen_part parts)) (omega (arith, left, long, over, sum_by_more_le taken parts at d there, taken_all parts)))
+      sym (lt-ltb MOST_OPERATIONS (length (map seen_part parts) + part_letters (map seen_part parts))
+      (omega (arith, left, long, over, sum_by_more_le taken parts at d there, taken_all parts)))
 
   -- all parts have a place
   pub is_within : (at room : ℕ) → length parts ≤ at → room + sum_by taken (take at parts) ≡ MOST_OPERATIONS → false ≡ is_too_large (map seen_part parts)
   is_within at room all left =
-      sym (le-ltb MOST_OPERATIONS (length (map seen_part parts) + part_letters (map seen_part parts)) (omega (arith, left, ap (sum_by taken) (take_all at parts all), taken_all parts)))
+      sym (le-ltb MOST_OPERATIONS (length (map seen_part parts) + part_letters (map seen_part parts))
+      (omega (arith, left, ap (sum_by taken) (take_all at parts all), taken_all parts)))

@@ -1,5 +1,6 @@
 -- The lines of `list`, by what was counted.
-use Rattle.std.proofs.Common.{List, [], Some, None, add-one, ap, append_assoc, arith, drop, get_or, length, not, refl, suc, sym, take, zero, ℕ, ◌+◌, ◌++◌, ◌<◌, ◌≤◌, ◌∙◌, ◌∷◌, ◌≡◌, ◌≢◌}
+use Rattle.std.proofs.Common.{List, [], Some, None, add-one, ap, append_assoc, arith, drop, get_or, length, not, refl, suc, sym, take, zero, ℕ, ◌+◌, ◌++◌, ◌<◌, ◌≤◌, ◌∙◌, ◌∷◌, ◌≡◌}
+use Rattle.std.proofs.Common.{◌≢◌}
 use Rattle.std.specs.Prelude.{All, decimal, flat_map, slice_get}
 use Rattle.std.specs.List.{AllPairs}
 use Rattle.std.proofs.lemmas.List.{length-map, length-take, take_more}
@@ -28,11 +29,14 @@ use Rattle.manuscript_cli.specs.declared.list.Counted.{Counted}
 -- one more is counted
 counted_more : (h : List Op) (at i : ℕ) (ss : List Identifier) (s : Identifier) → i < length ss → s ≡ get_or ss i s
     → counted_from h at (take (i + 1) ss) ≡ counted_from h at (take i ss) ++ record { at = at + i; clusters = cluster_count h s } ∷ []
-counted_more h at i ss s below is = ap (counted_from h at) (take_more ss i s below ∙ ap (λ x. take i ss ++ x ∷ []) (sym is)) ∙ last at (take i ss) ∙ ap (λ k. counted_from h at (take i ss) ++ record { at = at + k; clusters = cluster_count h s } ∷ []) (length_front i ss (omega (arith, below)))
+counted_more h at i ss s below is =
+    ap (counted_from h at) (take_more ss i s below ∙ ap (λ x. take i ss ++ x ∷ []) (sym is)) ∙ last at (take i ss)
+    ∙ ap (λ k. counted_from h at (take i ss) ++ record { at = at + k; clusters = cluster_count h s } ∷ []) (length_front i ss (omega (arith, below)))
   where
     last : (k : ℕ) (xs : List Identifier) → counted_from h k (xs ++ s ∷ []) ≡ counted_from h k xs ++ record { at = k + length xs; clusters = cluster_count h s } ∷ []
     last k [] = ap (λ n. record { at = n; clusters = cluster_count h s } ∷ []) (omega arith)
-    last k (x ∷ xs) = ap (λ l. record { at = k; clusters = cluster_count h x } ∷ l) (last (suc k) xs ∙ ap (λ n. counted_from h (suc k) xs ++ record { at = n; clusters = cluster_count h s } ∷ []) (omega arith))
+    last k (x ∷ xs) = ap (λ l. record { at = k; clusters = cluster_count h x } ∷ l)
+        (last (suc k) xs ∙ ap (λ n. counted_from h (suc k) xs ++ record { at = n; clusters = cluster_count h s } ∷ []) (omega arith))
 
     length_front : (n : ℕ) (xs : List Identifier) → n ≤ length xs → length (take n xs) ≡ n
     length_front n xs l = omega (arith, length-take n xs, l)
@@ -44,7 +48,8 @@ counted_next h i ss s below is =
 
 -- the number of an entry is that of its section
 number_is : (h : List Op) (e : Entry) → Lawful h → IsEntry h e → number_of h e.section ≡ e.number + 1
-number_is h e w is = ap (λ n. n + 1) (index_at (shown catalogue h) e.number e.section (AllPairs-filter (λ x y. x ≢ y) (λ x. not (is_hidden h x)) (order catalogue h) (order_total catalogue h w).once) is.numbered)
+number_is h e w is = ap (λ n. n + 1)
+    (index_at (shown catalogue h) e.number e.section (AllPairs-filter (λ x y. x ≢ y) (λ x. not (is_hidden h x)) (order catalogue h) (order_total catalogue h w).once) is.numbered)
   where
     index_at : (xs : List Identifier) (k : ℕ) (s : Identifier) → AllPairs (λ x y. x ≢ y) xs → slice_get xs k ≡ Some s → index_of xs s ≡ k
     index_at xs k s d k_is =
@@ -75,7 +80,8 @@ lines_behind h all at (e ∷ rest) w is each =
     (λ i. line i ++ lines_behind h all (suc at) rest w here.1 (All-tail (IsEntry h) e rest each) i)
 
 -- all of them are the lines of the arrangement
-pub all_lines : (h : List Op) (entries : List Entry) → Lawful h → IsOutline h entries → flat_map (counted_line entries) (counted_from h 0 (entry_sections entries)) ≡ section_lines h 1 (arranged h)
+pub all_lines : (h : List Op) (entries : List Entry) → Lawful h → IsOutline h entries
+    → flat_map (counted_line entries) (counted_from h 0 (entry_sections entries)) ≡ section_lines h 1 (arranged h)
 all_lines h entries w is = lines_behind h entries 0 entries w refl is.each ∙ ap (section_lines h 1) is.listed
 
 -- sections are few

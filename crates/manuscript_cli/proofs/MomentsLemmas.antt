@@ -39,7 +39,8 @@ moments_of_some file = by_past file.past
 -- one batch more takes none away
 batch_grows : (hold : ℕ) (earlier : List Batch) (batch : Batch) → accepted_by hold earlier ≤ accepted_by hold (earlier ++ batch ∷ [])
 batch_grows hold earlier batch =
-    let grows : GrowsHistory (held hold MOST_OPERATIONS (batch_ops earlier)).history (held hold MOST_OPERATIONS (batch_ops earlier ++ batch_ops (batch ∷ []))).history = files_grow hold MOST_OPERATIONS (batch_ops earlier) (batch_ops (batch ∷ [])) in
+    let grows : GrowsHistory (held hold MOST_OPERATIONS (batch_ops earlier)).history (held hold MOST_OPERATIONS (batch_ops earlier ++ batch_ops (batch ∷ []))).history =
+    files_grow hold MOST_OPERATIONS (batch_ops earlier) (batch_ops (batch ∷ [])) in
     let ops : batch_ops (earlier ++ batch ∷ []) ≡ batch_ops earlier ++ batch_ops (batch ∷ []) = flat_map-append (λ (b : Batch). b.ops) earlier (batch ∷ []) in
     omega (
       arith,
@@ -60,8 +61,10 @@ rise_more before now to moments grows rise = elim (cases_lt before now) [
 moments_rise : (hold : ℕ) (earlier batches : List Batch) → RiseTo (accepted_by hold earlier) (moments_behind hold earlier batches) (accepted_by hold (earlier ++ batches))
 moments_rise hold earlier [] = ap (accepted_by hold) (sym (append-nil earlier))
 moments_rise hold earlier (batch ∷ batches) =
-    rise_more (accepted_by hold earlier) (accepted_by hold (earlier ++ batch ∷ [])) (accepted_by hold (earlier ++ batch ∷ batches)) (moments_behind hold (earlier ++ batch ∷ []) batches) (batch_grows hold earlier batch)
-    (subst (λ (l : List Batch). RiseTo (accepted_by hold (earlier ++ batch ∷ [])) (moments_behind hold (earlier ++ batch ∷ []) batches) (accepted_by hold l)) (append_assoc earlier (batch ∷ []) batches)
+    rise_more (accepted_by hold earlier) (accepted_by hold (earlier ++ batch ∷ [])) (accepted_by hold (earlier ++ batch ∷ batches))
+    (moments_behind hold (earlier ++ batch ∷ []) batches) (batch_grows hold earlier batch)
+    (subst (λ (l : List Batch). RiseTo (accepted_by hold (earlier ++ batch ∷ [])) (moments_behind hold (earlier ++ batch ∷ []) batches) (accepted_by hold l))
+    (append_assoc earlier (batch ∷ []) batches)
     (moments_rise hold (earlier ++ batch ∷ []) batches))
 
 pub tell_file : MomentsTellFile

@@ -19,7 +19,8 @@ use Rattle.manuscript_cli.specs.NamedVersions.{note_refused, version_on, version
 use Rattle.command_kinds.specs.Notes.{NoteComes, unless_refused}
 
 -- a note is not refused for want of memory
-by_tests : (b c : Bool) (greatest held : ℕ) → (if b then Some (note_fault.IdsSpent greatest) else (if c then Some (note_fault.TooMany held) else None)) ≡ Some note_fault.NoMemory → ⊥
+by_tests : (b c : Bool) (greatest held : ℕ) → (if b then Some (note_fault.IdsSpent greatest) else (if c then Some (note_fault.TooMany held) else None)) ≡ Some note_fault.NoMemory
+    → ⊥
 by_tests true c greatest held e = cc e
 by_tests false true greatest held e = cc e
 by_tests false false greatest held e = cc e

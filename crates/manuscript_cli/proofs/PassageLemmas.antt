@@ -21,7 +21,8 @@ use Rattle.manuscript_cli.specs.Margins.{ends_of}
 use Rattle.manuscript_cli.specs.Remark.{place_names, remark_on, remark_refused}
 
 -- where nothing was refused, there is no refusal
-none_refused : (o : Option RemarkFault) → IfSome o (λ (f : RemarkFault). ◌⊎◌ (◌≡◌ {A = Result (Unit {0}) RemarkFault} (Ok tt) (Err f)) (◌≡◌ {A = Result (Unit {0}) RemarkFault} (Ok tt) (Err fault.NoMemory))) → o ≡ None
+none_refused : (o : Option RemarkFault) → IfSome o
+    (λ (f : RemarkFault). ◌⊎◌ (◌≡◌ {A = Result (Unit {0}) RemarkFault} (Ok tt) (Err f)) (◌≡◌ {A = Result (Unit {0}) RemarkFault} (Ok tt) (Err fault.NoMemory))) → o ≡ None
 none_refused None h = refl
 none_refused (Some f) h = elim h [ inl e ↦ cc | inr e ↦ cc ]
 

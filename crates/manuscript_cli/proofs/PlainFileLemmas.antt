@@ -45,6 +45,7 @@ start_ended (Some h) before after file most n same next none below told =
     told ∙ take_all (length after) seen (omega (arith, short, long)) ∙ sym (take_all most seen (omega (arith, short, below)))
 
 -- or as many as were asked for
-pub start_full : (past : Option History) (bytes : List ℕ) (most : ℕ) → most ≤ length bytes → length bytes ≤ most → IfSome past (λ h. bytes ≡ take (length bytes) h.last.seen) → IfSome past (λ h. bytes ≡ take most h.last.seen)
+pub start_full : (past : Option History) (bytes : List ℕ) (most : ℕ) → most ≤ length bytes → length bytes ≤ most → IfSome past (λ h. bytes ≡ take (length bytes) h.last.seen)
+    → IfSome past (λ h. bytes ≡ take most h.last.seen)
 start_full None bytes most a b told = tt
 start_full (Some h) bytes most a b told = let e : length bytes ≡ most = omega (arith, a, b) in told ∙ ap (λ k. take k h.last.seen) e

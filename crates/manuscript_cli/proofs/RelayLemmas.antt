@@ -1,5 +1,5 @@
 -- What `relay` does, by what listening, serving and noting do.
-use Rattle.std.proofs.Common.{◌≡◌, ◌≢◌, refl, ℕ, ◌<◌, ◌≤◌, List, length, ◌++◌, ap, sym, subst, ◌∙◌, inl, inr, arith}
+use Rattle.std.proofs.Common.{◌≡◌, refl, ℕ, ◌<◌, ◌≤◌, List, length, ◌++◌, ap, sym, subst, ◌∙◌, inl, inr, arith}
 use Rattle.std.specs.Prelude.{IsSome, Option, None, Some, Result, Ok, Err, is_some, option_map}
 use Rattle.std.specs.Io.KnownBytes.{append_known}
 use Rattle.fugue_ids.specs.Causes.{Faulted}
@@ -12,18 +12,18 @@ use Rattle.outer_ports.specs.declared.latest.Latest.{Latest}
 use Rattle.outer_ports.specs.declared.dock.MemStep.{MemStep}
 use Rattle.relay_core.specs.declared.relay.TheConstants.{MOST_LOGGED}
 use Rattle.relay_sync.specs.Sending.{DockRisesFor}
-use Rattle.relay_sync.specs.Serving.{BlamesDock, HaveCome, GaveSteps, Lasts, NoneAfter, Serves, ServesPartly, ServingStops, Spends, StopsInTurn, SufficesForDock, ServedStep, closed_in, count_over, ended_in, ends_behind, sent_to, steps_of}
+use Rattle.relay_sync.specs.Serving.{BlamesDock, HaveCome, GaveSteps, Lasts, NoneAfter, Serves, ServesPartly, ServingStops, Spends, StopsInTurn, DockSuffices, ServedStep}
+use Rattle.relay_sync.specs.Serving.{closed_in, count_over, ended_in, ends_behind, sent_to, steps_of}
 use Rattle.relay_sync.specs.declared.serving.ServeFault.{ServeFault}
 use Rattle.relay_sync.specs.declared.serving.ServeFault.TheVariants as serve_fault
-use Rattle.command_kinds.proofs.TextLemmas.{told_blameless}
-use Rattle.command_kinds.specs.Printing.{NoteMeets, NotesBlameless}
-use Rattle.command_kinds.specs.Refusal.{refusal_line, serve_refusal, status_of, Reported}
-use Rattle.manuscript_cli.specs.Relay.{CallsAreSure, IsEnough, IsIdle, NeverBlamed, RelayMeets, Relays, RiseOutside, ServingMeets, listening, log_line, most_steps, ready_line}
-use Rattle.command_kinds.specs.Changes.{Change, HasRoom, CountsNoFault, change, notes_room}
+use Rattle.command_kinds.proofs.ActLemmas.{inside_result, performs_inside}
+use Rattle.command_kinds.specs.Acts.{Performs, TellsResult}
+use Rattle.command_kinds.specs.Refusal.{serve_refusal}
+use Rattle.manuscript_cli.specs.Relay.{CallsAreSure, IsEnough, IsIdle, NeverBlamed, Relays, RiseOutside, ServingMeets, listening, most_steps, ready_line, serving}
+use Rattle.command_kinds.specs.Changes.{Change, CountsNoFault, change}
 use Rattle.command_kinds.specs.declared.refusal.Refusal.{Refusal}
 use Rattle.command_kinds.specs.declared.refusal.Refusal.TheVariants as refusal
 use Rattle.command_kinds.specs.declared.status.Status.{Status}
-use Rattle.command_kinds.specs.declared.status.Status.TheVariants as status
 
 -- from one dock to another nothing was taken, sent or ended: what is done from the second on is done from the first on
 module _ (first second last : DockView) (idle : IsIdle first second) (later : first.faults ≤ second.faults) where
@@ -81,7 +81,7 @@ module _ (first second last : DockView) (idle : IsIdle first second) (later : fi
   }
 
   -- what suffices still does
-  suffices_on : (sessions : ℕ) (relay : Relay) → SufficesForDock sessions relay first → SufficesForDock sessions relay second
+  suffices_on : (sessions : ℕ) (relay : Relay) → DockSuffices sessions relay first → DockSuffices sessions relay second
   suffices_on sessions relay s = record {
     turns = s.turns;
     behind = s.behind;
@@ -103,7 +103,8 @@ module _ (first second last : DockView) (idle : IsIdle first second) (later : fi
     turns_are = so.turns_are;
   }
 
-  stops_from : (sessions steps : ℕ) (fault : ServeFault) (old new : Relay) → ServingStops sessions steps fault old new second last → ServingStops sessions steps fault old new first last
+  stops_from : (sessions steps : ℕ) (fault : ServeFault) (old new : Relay) → ServingStops sessions steps fault old new second last
+      → ServingStops sessions steps fault old new first last
   unfolding serves_partly_from in_turn_from
   stops_from sessions steps fault old new stops = record {
     turns = stops.turns;
@@ -118,7 +119,8 @@ module _ (first second last : DockView) (idle : IsIdle first second) (later : fi
 
 -- a dock that is listening suffices as before
 as_listening : (sessions port : ℕ) (dock : DockView) → IsEnough sessions dock → IsEnough sessions (listening port dock)
-as_listening sessions port dock s = record { turns = s.turns; behind = s.behind; coming = s.coming; last = s.last; runs = s.runs; over = s.over; lasts = record { room = s.lasts.room; ends = s.lasts.ends } }
+as_listening sessions port dock s =
+    record { turns = s.turns; behind = s.behind; coming = s.coming; last = s.last; runs = s.runs; over = s.over; lasts = record { room = s.lasts.room; ends = s.lasts.ends } }
 
 is_sure : (sessions : ℕ) (dock : DockView) → IsEnough sessions dock → CallsAreSure dock
 is_sure sessions dock s = ap is_some s.lasts.ends.1
@@ -127,7 +129,8 @@ is_sure sessions dock s = ap is_some s.lasts.ends.1
 module _ (port sessions : ℕ) (output : Change OutView) (dock : Change DockView) (second : DockView) (ready : Took output.old output.new ready_line)
     (idle : IsIdle (listening port dock.old) second) (later : dock.old.faults ≤ second.faults) (relay : Relay) where
   pub all_served : (logged : ℕ) → logged ≡ length relay.log
-      → (turns : List ServedStep) × Serves (new_relay MOST_LOGGED) relay second dock.new turns × (sessions ≤ count_over turns) × NoneAfter sessions turns × (length turns ≤ most_steps)
+      → (turns : List ServedStep) × Serves (new_relay MOST_LOGGED) relay second dock.new turns × (sessions ≤ count_over turns) × NoneAfter sessions turns
+      × (length turns ≤ most_steps)
       → ServingMeets port sessions output dock (Ok logged)
   all_served logged is served = (
     ready,
@@ -143,17 +146,28 @@ module _ (port sessions : ℕ) (output : Change OutView) (dock : Change DockView
   )
 
   pub not_all_served : (fault : ServeFault) (result : Result (Unit {0}) ServeFault) → result ≡ Err fault
-      → (result ≡ Err serve_fault.TooLong → (turns : List ServedStep) × Serves (new_relay MOST_LOGGED) relay second dock.new turns × (count_over turns < sessions) × NoneAfter sessions turns × (length turns ≡ most_steps))
+      → (result ≡ Err serve_fault.TooLong → (turns : List ServedStep) × Serves (new_relay MOST_LOGGED) relay second dock.new turns × (count_over turns < sessions)
+      × NoneAfter sessions turns × (length turns ≡ most_steps))
       → ServingStops sessions most_steps fault (new_relay MOST_LOGGED) relay second dock.new → (result ≡ Err serve_fault.DockFault → Faulted second.faults dock.new.faults)
       → ServingMeets port sessions output dock (Err (serve_refusal fault))
   not_all_served serve_fault.DockFault result is long partly rose =
       inr (inr (record {
         ready = ready;
-        partly = record { relay = relay; stops = stops_from (listening port dock.old) second dock.new idle later sessions most_steps serve_fault.DockFault (new_relay MOST_LOGGED) relay partly };
+        partly = record {
+          relay = relay;
+          stops = stops_from (listening port dock.old) second dock.new idle later sessions most_steps serve_fault.DockFault
+              (new_relay MOST_LOGGED) relay partly;
+        };
         rose = omega (arith, rose is, later);
       }))
-  not_all_served serve_fault.NoMemory result is long partly rose =
-      (ready, record { relay = relay; stops = stops_from (listening port dock.old) second dock.new idle later sessions most_steps serve_fault.NoMemory (new_relay MOST_LOGGED) relay partly })
+  not_all_served serve_fault.NoMemory result is long partly rose = (
+    ready,
+    record {
+      relay = relay;
+      stops = stops_from (listening port dock.old) second dock.new idle later sessions most_steps serve_fault.NoMemory
+          (new_relay MOST_LOGGED) relay partly;
+    },
+  )
   not_all_served serve_fault.TooLong result is long partly rose =
       let so = long is in (
         ready,
@@ -168,19 +182,23 @@ module _ (port sessions : ℕ) (output : Change OutView) (dock : Change DockView
       )
 
   -- where the steps at entry are enough
-  never_rose : (result : Result (Unit {0}) ServeFault) → BlamesDock sessions (new_relay MOST_LOGGED) second dock.new result → IsEnough sessions dock.old → dock.new.faults ≡ dock.old.faults
+  never_rose : (result : Result (Unit {0}) ServeFault) → BlamesDock sessions (new_relay MOST_LOGGED) second dock.new result → IsEnough sessions dock.old
+      → dock.new.faults ≡ dock.old.faults
   never_rose result blames s =
       blames.calm (suffices_on (listening port dock.old) second dock.new idle later sessions (new_relay MOST_LOGGED) (as_listening sessions port dock.old s))
       ∙ idle.calm (is_sure sessions dock.old s)
 
-  pub served_blameless : {T : Type 0} (logged : T) (result : Result (Unit {0}) ServeFault) → BlamesDock sessions (new_relay MOST_LOGGED) second dock.new result → NeverBlamed sessions output dock (Ok logged)
+  pub served_blameless : {T : Type 0} (logged : T) (result : Result (Unit {0}) ServeFault) → BlamesDock sessions (new_relay MOST_LOGGED) second dock.new result
+      → NeverBlamed sessions output dock (Ok logged)
   served_blameless logged result blames = record { calm = never_rose result blames; sure = λ s has is. cc is }
 
-  pub stopped_blameless : {T : Type 0} (fault : ServeFault) → BlamesDock {T = Unit {0}} sessions (new_relay MOST_LOGGED) second dock.new (Err fault) → NeverBlamed {T = T} sessions output dock (Err (serve_refusal fault))
+  pub stopped_blameless : {T : Type 0} (fault : ServeFault) → BlamesDock {T = Unit {0}} sessions (new_relay MOST_LOGGED) second dock.new (Err fault)
+      → NeverBlamed {T = T} sessions output dock (Err (serve_refusal fault))
   stopped_blameless fault blames = record {
     calm = never_rose (Err fault) blames;
     sure = λ s has is.
-        blames.sure (suffices_on (listening port dock.old) second dock.new idle later sessions (new_relay MOST_LOGGED) (as_listening sessions port dock.old s)) (ap Err (dock_fault fault (cc is)));
+        blames.sure (suffices_on (listening port dock.old) second dock.new idle later sessions (new_relay MOST_LOGGED) (as_listening sessions port dock.old s))
+        (ap Err (dock_fault fault (cc is)));
   }
     where
       dock_fault : (fault : ServeFault) → serve_refusal fault ≡ refusal.Outside → fault ≡ serve_fault.DockFault
@@ -209,47 +227,23 @@ module _ (port : ℕ) (output : Change OutView) (dock : Change DockView) (second
   pub stopped_told : (fault : ServeFault) → DockRisesFor (fault ≡ serve_fault.DockFault) second dock.new → RiseOutside {T = ℕ} output dock (Err (serve_refusal fault))
   stopped_told fault rises = record {
     of_output = λ tells not. opened.of_output tells (λ is. cc is);
-    of_dock = λ tells not. rises.calm_told (still_tells port dock.old second idle tells) (λ blamed. not (ap (λ f. Err (serve_refusal f)) blamed)) ∙ opened.of_dock tells (λ is. cc is);
+    of_dock = λ tells not. rises.calm_told (still_tells port dock.old second idle tells) (λ blamed. not (ap (λ f. Err (serve_refusal f)) blamed))
+        ∙ opened.of_dock tells (λ is. cc is);
   }
 
 -- from what was served to the ends of the command
-module _ (port sessions : ℕ) (output notes : Change OutView) (dock : Change DockView) (output_calm : CountsNoFault (length ready_line) output.old output.new)
-    (notes_calm : CountsNoFault notes_room notes.old notes.new) where
-  ends_so : (end : Status) → RelayMeets port sessions output notes dock end → (IsEnough sessions dock.old → dock.new.faults ≡ dock.old.faults)
-      → (IsEnough sessions dock.old → HasRoom (length ready_line) output.old → HasRoom notes_room notes.old → end ≢ status.OutsideFault)
-      → {T : Type 0} (result : Result T Refusal) → RiseOutside output dock result → (end ≢ status.OutsideFault → result ≢ Err refusal.Outside) → NotesBlameless notes end
-      → Relays port sessions output notes dock end
-  ends_so end meets calm never result rise outside notes_blameless = record {
-    meets = meets;
-    output_calm = output_calm;
-    notes_calm = notes_calm;
-    dock_calm = calm;
-    never_outside = never;
-    output_blameless = λ tells not. rise.of_output tells (outside not);
-    notes_blameless = notes_blameless;
-    dock_blameless = λ tells not. rise.of_dock tells (outside not);
-  }
-
-  pub relay_noted : (logged : ℕ) (end : Status) → ServingMeets port sessions output dock (Ok logged) → NeverBlamed sessions output dock (Ok logged) → RiseOutside output dock (Ok logged)
-      → NoteMeets (log_line logged) status.Done notes.old notes.new end → NotesBlameless notes end → Relays port sessions output notes dock end
-  relay_noted logged end served blameless rise (inl noted) notes_blameless =
-      subst (Relays port sessions output notes dock) (sym noted.end_is)
-      (ends_so status.Done (record { logged = logged; served = served; noted = noted.took }) blameless.calm (λ s has notes_have is. cc is)
-      (Ok logged) rise (λ not is. cc is) (subst (NotesBlameless notes) noted.end_is notes_blameless))
-  relay_noted logged end served blameless rise (inr failed) notes_blameless =
-      subst (Relays port sessions output notes dock) (sym failed.1)
-      (ends_so status.OutsideFault (inr (record { logged = logged; served = served; failed = failed.0 })) blameless.calm
-      (λ s has notes_have is. failed.0.no_room notes_have) (Ok logged) rise (λ not is. cc is) (subst (NotesBlameless notes) failed.1 notes_blameless))
-
-  pub relay_stopped : (why : Refusal) → ServingMeets port sessions output dock (Err why) → NeverBlamed {T = ℕ} sessions output dock (Err why) → RiseOutside {T = ℕ} output dock (Err why)
-      → Reported notes.old notes.new (refusal_line why) → Relays port sessions output notes dock (status_of why)
-  relay_stopped refusal.Outside stops blameless rise told =
-      ends_so status.OutsideFault (inl (record { stops = stops; noted = told })) blameless.calm (λ s has notes_have is. blameless.sure s has refl)
-      (Err refusal.Outside) rise (λ not is. not refl) (told_blameless refusal.Outside notes told)
-  relay_stopped refusal.TooLong stops blameless rise told =
-      ends_so status.Limit (record { stops = stops; noted = told }) blameless.calm (λ s has notes_have is. cc is)
-      (Err refusal.TooLong) rise (λ not is. cc is) (told_blameless refusal.TooLong notes told)
-  relay_stopped refusal.NoMemory stops blameless rise told =
-      ends_so status.NoMemory (record { stops = stops; noted = told }) blameless.calm (λ s has notes_have is. cc is)
-      (Err refusal.NoMemory) rise (λ not is. cc is) (told_blameless refusal.NoMemory notes told)
-  relay_stopped _ stops blameless rise told = absurd stops
+pub relay_ends : (port sessions : ℕ) (output notes : Change OutView) (dock : Change DockView) (end : Status) (result : Result ℕ Refusal)
+    → CountsNoFault (length ready_line) output.old output.new → ServingMeets port sessions output dock result → NeverBlamed sessions output dock result
+    → RiseOutside output dock result → (let act = serving port sessions output dock in TellsResult act.line act.status result notes end)
+    → Relays port sessions output notes dock end
+relay_ends port sessions output notes dock end result output_calm served blameless rise told =
+    let act = serving port sessions output dock in
+    let performs : Performs act notes end = record { result = result; did = served; told = told } in
+    record {
+      performs = performs;
+      output_calm = output_calm;
+      dock_calm = blameless.calm;
+      never_outside = λ enough has room. performs_inside act notes end performs (λ logged. inl refl) (λ logged some. room) (blameless.sure enough has);
+      output_blameless = λ tells not. rise.of_output tells (inside_result act.line act.status result notes end told.noted not);
+      dock_blameless = λ tells not. rise.of_dock tells (inside_result act.line act.status result notes end told.noted not);
+    }

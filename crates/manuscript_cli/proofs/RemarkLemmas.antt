@@ -21,7 +21,8 @@ use Rattle.command_kinds.proofs.NoteLemmas.{note_gives_none, op_gives}
 use Rattle.manuscript_cli.specs.Remarks.{withdraw_on, withdraw_refused, withdrawal}
 
 -- where nothing was refused, there is no refusal
-none_refused : (o : Option WithdrawFault) → IfSome o (λ (f : WithdrawFault). ◌⊎◌ (◌≡◌ {A = Result (Unit {0}) WithdrawFault} (Ok tt) (Err f)) (◌≡◌ {A = Result (Unit {0}) WithdrawFault} (Ok tt) (Err fault.NoMemory))) → o ≡ None
+none_refused : (o : Option WithdrawFault) → IfSome o
+    (λ (f : WithdrawFault). ◌⊎◌ (◌≡◌ {A = Result (Unit {0}) WithdrawFault} (Ok tt) (Err f)) (◌≡◌ {A = Result (Unit {0}) WithdrawFault} (Ok tt) (Err fault.NoMemory))) → o ≡ None
 none_refused None h = refl
 none_refused (Some f) h = elim h [ inl e ↦ cc | inr e ↦ cc ]
 
@@ -29,7 +30,8 @@ none_refused (Some f) h = elim h [ inl e ↦ cc | inr e ↦ cc ]
 has_room : (s : Replica) → option_map as_withdraw_fault (refused_ops s 1) ≡ None → length s.held.history + length s.held.waiting + 1 ≤ s.most
 has_room s e = by (nat_lt s.most (held_count s + 1)) refl e
   where
-    by : (b : Bool) → nat_lt s.most (held_count s + 1) ≡ b → option_map as_withdraw_fault (if b then Some (edit.TooMany (held_count s)) else None) ≡ None → length s.held.history + length s.held.waiting + 1 ≤ s.most
+    by : (b : Bool) → nat_lt s.most (held_count s + 1) ≡ b → option_map as_withdraw_fault (if b then Some (edit.TooMany (held_count s)) else None) ≡ None
+        → length s.held.history + length s.held.waiting + 1 ≤ s.most
     by true k e = cc
     by false k e = grind (arith, nat_tests)
 

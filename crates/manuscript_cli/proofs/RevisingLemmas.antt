@@ -1,5 +1,6 @@
 -- What a draft gives to a replica, by how far it was read.
-use Rattle.std.proofs.Common.{◌≡◌, ◌≢◌, ◌⊎◌, ◌↔◌, inl, inr, ℕ, suc, zero, List, [], ◌∷◌, ◌++◌, ◌+◌, ◌-◌, ◌<◌, ◌≤◌, length, take, Option, Some, None, refl, sym, ap, subst, ◌∙◌, arith, drop, drop_at, length-append, min, nat_eq, nat_lt, true, false, ◌&&◌}
+use Rattle.std.proofs.Common.{◌≡◌, ◌≢◌, ◌⊎◌, ◌↔◌, inl, inr, ℕ, suc, zero, List, [], ◌∷◌, ◌++◌, ◌+◌, ◌-◌, ◌<◌, ◌≤◌, length, take, Option, Some, None, refl, sym, ap, subst, ◌∙◌}
+use Rattle.std.proofs.Common.{arith, drop, drop_at, length-append, min, nat_eq, nat_lt, true, false, ◌&&◌}
 use Rattle.std.specs.Prelude.{Bool, IfErr, IfOk, IfSome, MatchResult, Result, Ok, Err, if◌then◌else◌, option_map}
 use Rattle.std.specs.Option.{option_or}
 use Rattle.std.specs.List.{common_prefix_len}
@@ -41,7 +42,8 @@ use Rattle.command_kinds.specs.Crashes.{IsFinished}
 use Rattle.command_kinds.specs.Edit.{IsLeftScript, made_outcome}
 use Rattle.command_kinds.specs.Findings.{Finding, Refuses, Does}
 use Rattle.command_kinds.specs.Giving.{GivesTo}
-use Rattle.manuscript_cli.specs.Revising.{BaseStops, DraftGives, HasBytes, IsHandedBack, IsRevisedTo, LooksAtBase, MeetsLimit, RevisionGives, Revises, TextStops, base_refusal, draft_refusal, empties, is_too_large, parts_fault_refusal, parts_refusal, revise_refusal, revised_outcome, revision, text_refusal}
+use Rattle.manuscript_cli.specs.Revising.{BaseStops, DraftGives, HasBytes, IsHandedBack, IsRevisedTo, LooksAtBase, MeetsLimit, RevisionGives, Revises, TextStops, base_refusal}
+use Rattle.manuscript_cli.specs.Revising.{draft_refusal, empties, is_too_large, parts_fault_refusal, parts_refusal, revise_refusal, revised_outcome, revision, text_refusal}
 use Rattle.manuscript_cli.specs.SectionCounts.{section_counts}
 use Rattle.command_kinds.specs.Saving.{Giver, GivesOnce, Outcome, ReadsInput}
 use Rattle.command_kinds.specs.Changes.{Change}
@@ -55,7 +57,8 @@ use Rattle.command_kinds.proofs.EditLemmas.{read_more, read_whole}
 use Rattle.manuscript_cli.proofs.RevisionTakenLemmas.{changed_suffice}
 
 -- a giver's refusal is what it gave
-pub refused : (giver : Giver) (before after : Replica) (kept : Option (List Op)) (why : Refusal) → giver.Gives before (Refuses why) → why ≢ refusal.Words → why ≢ refusal.Outside → GivesTo giver before after kept (Err why)
+pub refused : (giver : Giver) (before after : Replica) (kept : Option (List Op)) (why : Refusal) → giver.Gives before (Refuses why) → why ≢ refusal.Words → why ≢ refusal.Outside
+    → GivesTo giver before after kept (Err why)
 refused giver before after kept refusal.Words gives no_words inside = absurd (no_words refl)
 refused giver before after kept refusal.Outside gives no_words inside = absurd (inside refl)
 refused giver before after kept refusal.NoMemory gives no_words inside = tt
@@ -76,40 +79,51 @@ module _ (guest : DiskView) (input : SourceView) (replica : Replica) (base : Lis
   gives_base course why e = let d = left_bytes input.left in (base, has, d.0, d.1, inl (ap (λ o. option_or o (text_refusal replica d.0)) e))
 
   -- or the text
-  pub gives_text : (course : Finding Outcome) (draft : List ℕ) (why : Refusal) → IsLeftScript input draft → base_refusal replica.held.history base ≡ None → text_refusal replica draft ≡ Some why → RevisionGives guest input course replica (Refuses why)
+  pub gives_text : (course : Finding Outcome) (draft : List ℕ) (why : Refusal) → IsLeftScript input draft → base_refusal replica.held.history base ≡ None
+      → text_refusal replica draft ≡ Some why → RevisionGives guest input course replica (Refuses why)
   gives_text course draft why left good e = (base, has, draft, left, inl (ap (λ o. option_or o (text_refusal replica draft)) good ∙ e))
 
   allows : (draft : List ℕ) → base_refusal replica.held.history base ≡ None → text_refusal replica draft ≡ None → draft_refusal replica base draft ≡ None
   allows draft good e = ap (λ o. option_or o (text_refusal replica draft)) good ∙ e
 
   -- or a limit is met
-  pub gives_limit : (draft : List ℕ) (why : Refusal) → IsLeftScript input draft → base_refusal replica.held.history base ≡ None → text_refusal replica draft ≡ None → MeetsLimit replica draft why → RevisionGives guest input (Refuses why) replica (Refuses why)
+  pub gives_limit : (draft : List ℕ) (why : Refusal) → IsLeftScript input draft → base_refusal replica.held.history base ≡ None → text_refusal replica draft ≡ None
+      → MeetsLimit replica draft why → RevisionGives guest input (Refuses why) replica (Refuses why)
   gives_limit draft why left good e meets = (base, has, draft, left, inr (allows draft good e, refl, meets))
 
   -- or the draft comes
-  pub gives_draft : (draft : List ℕ) (outcome : Outcome) → IsLeftScript input draft → base_refusal replica.held.history base ≡ None → text_refusal replica draft ≡ None → IsHandedBack replica draft outcome ⊎ Revises replica draft outcome → RevisionGives guest input (Does outcome) replica (Does outcome)
+  pub gives_draft : (draft : List ℕ) (outcome : Outcome) → IsLeftScript input draft → base_refusal replica.held.history base ≡ None → text_refusal replica draft ≡ None
+      → IsHandedBack replica draft outcome ⊎ Revises replica draft outcome → RevisionGives guest input (Does outcome) replica (Does outcome)
   gives_draft draft outcome left good e revises = (base, has, draft, left, (allows draft good e, refl, revises))
 
 -- a text within the limit
-text_short : (replica : Replica) (draft : List ℕ) → length draft ≤ LONGEST_TEXT → text_refusal replica draft ≡ (if bytes_eq draft (arranged_text replica.held.history) then None else parts_refusal replica (parts draft))
-text_short replica draft short = ap (λ t. if t then Some refusal.TooLong else (if bytes_eq draft (arranged_text replica.held.history) then None else parts_refusal replica (parts draft))) (le-ltb LONGEST_TEXT (length draft) short)
+text_short : (replica : Replica) (draft : List ℕ) → length draft ≤ LONGEST_TEXT
+    → text_refusal replica draft ≡ (if bytes_eq draft (arranged_text replica.held.history) then None else parts_refusal replica (parts draft))
+text_short replica draft short =
+    ap (λ t. if t then Some refusal.TooLong else (if bytes_eq draft (arranged_text replica.held.history) then None else parts_refusal replica (parts draft)))
+    (le-ltb LONGEST_TEXT (length draft) short)
 
 -- one that is another than what was printed, or the same
-text_other : (replica : Replica) (draft : List ℕ) → length draft ≤ LONGEST_TEXT → draft ≢ arranged_text replica.held.history → text_refusal replica draft ≡ parts_refusal replica (parts draft)
+text_other : (replica : Replica) (draft : List ℕ) → length draft ≤ LONGEST_TEXT → draft ≢ arranged_text replica.held.history
+    → text_refusal replica draft ≡ parts_refusal replica (parts draft)
 text_other replica draft short other =
     text_short replica draft short
-    ∙ ap (λ t. if t then None else parts_refusal replica (parts draft)) (false_from_ne_true (bytes_eq draft (arranged_text replica.held.history)) (λ t. other ((bytes_eq-Decides draft (arranged_text replica.held.history)).0 t)))
+    ∙ ap (λ t. if t then None else parts_refusal replica (parts draft))
+    (false_from_ne_true (bytes_eq draft (arranged_text replica.held.history)) (λ t. other ((bytes_eq-Decides draft (arranged_text replica.held.history)).0 t)))
 
 pub text_same : (replica : Replica) (draft : List ℕ) → length draft ≤ LONGEST_TEXT → draft ≡ arranged_text replica.held.history → text_refusal replica draft ≡ None
-text_same replica draft short same = text_short replica draft short ∙ ap (λ t. if t then None else parts_refusal replica (parts draft)) ((bytes_eq-Decides draft (arranged_text replica.held.history)).1 same)
+text_same replica draft short same =
+    text_short replica draft short ∙ ap (λ t. if t then None else parts_refusal replica (parts draft)) ((bytes_eq-Decides draft (arranged_text replica.held.history)).1 same)
 
-module _ (replica : Replica) (draft : List ℕ) (ps : List Part) (short : length draft ≤ LONGEST_TEXT) (other : draft ≢ arranged_text replica.held.history) (e : parts draft ≡ Ok ps) where
+module _ (replica : Replica) (draft : List ℕ) (ps : List Part) (short : length draft ≤ LONGEST_TEXT) (other : draft ≢ arranged_text replica.held.history)
+    (e : parts draft ≡ Ok ps) where
   pub text_empty : empties replica.held.history ps ≡ true → text_refusal replica draft ≡ Some refusal.EmptyDraft
   text_empty none =
       text_other replica draft short other
       ∙ (ap (parts_refusal replica) e ∙ ap (λ t. if t then Some refusal.EmptyDraft else (if is_too_large ps then Some (refusal.TooMany (held_count replica)) else None)) none)
 
-  by_size : (large : Bool) → empties replica.held.history ps ≡ false → is_too_large ps ≡ large → text_refusal replica draft ≡ (if large then Some (refusal.TooMany (held_count replica)) else None)
+  by_size : (large : Bool) → empties replica.held.history ps ≡ false → is_too_large ps ≡ large
+      → text_refusal replica draft ≡ (if large then Some (refusal.TooMany (held_count replica)) else None)
   by_size large some size =
       text_other replica draft short other
       ∙ (ap (parts_refusal replica) e ∙ ap (λ t. if t then Some refusal.EmptyDraft else (if is_too_large ps then Some (refusal.TooMany (held_count replica)) else None)) some
@@ -121,11 +135,14 @@ module _ (replica : Replica) (draft : List ℕ) (ps : List Part) (short : length
   pub text_large : empties replica.held.history ps ≡ false → is_too_large ps ≡ true → text_refusal replica draft ≡ Some (refusal.TooMany (held_count replica))
   text_large = by_size true
 
-pub text_bad : (replica : Replica) (draft : List ℕ) (line : ℕ) → length draft ≤ LONGEST_TEXT → draft ≢ arranged_text replica.held.history → parts draft ≡ Err line → text_refusal replica draft ≡ Some (refusal.BadDraft line)
+pub text_bad : (replica : Replica) (draft : List ℕ) (line : ℕ) → length draft ≤ LONGEST_TEXT → draft ≢ arranged_text replica.held.history → parts draft ≡ Err line
+    → text_refusal replica draft ≡ Some (refusal.BadDraft line)
 text_bad replica draft line short other e = text_other replica draft short other ∙ ap (parts_refusal replica) e
 
 pub text_long : (replica : Replica) (draft : List ℕ) → LONGEST_TEXT < length draft → text_refusal replica draft ≡ Some refusal.TooLong
-text_long replica draft long = ap (λ t. if t then Some refusal.TooLong else (if bytes_eq draft (arranged_text replica.held.history) then None else parts_refusal replica (parts draft))) (lt-ltb LONGEST_TEXT (length draft) long)
+text_long replica draft long =
+    ap (λ t. if t then Some refusal.TooLong else (if bytes_eq draft (arranged_text replica.held.history) then None else parts_refusal replica (parts draft)))
+    (lt-ltb LONGEST_TEXT (length draft) long)
 
 -- what was read of the input was left
 pub text_left : (input : Change SourceView) (text : List ℕ) → IsTextRead input text → IsLeftScript input.old text
@@ -161,7 +178,8 @@ base_read a b =
     ∙ ap (λ t. if t then None else Some n) (ends_with n (length a) (length b) (length (take (length a + 1) b)) (length-take (length a + 1) b))
 
 -- a revised replica is an outcome
-pub outcome_of : (replica last : Replica) (draft : List ℕ) (ps : List Part) (n : ℕ) → draft ≢ arranged_text replica.held.history → parts draft ≡ Ok ps → (r : IsRevisedTo replica last ps n) → Revises replica draft (revised_outcome last (all_made replica r.revised.makes.changes))
+pub outcome_of : (replica last : Replica) (draft : List ℕ) (ps : List Part) (n : ℕ) → draft ≢ arranged_text replica.held.history → parts draft ≡ Ok ps
+    → (r : IsRevisedTo replica last ps n) → Revises replica draft (revised_outcome last (all_made replica r.revised.makes.changes))
 outcome_of replica last draft ps n other e r =
     let made : List Op = all_made replica r.revised.makes.changes in
     record {
@@ -179,9 +197,12 @@ outcome_of replica last draft ps n other e r =
     }
 
 -- a draft that came gives what was made
-pub draft_gives : (guest : Change DiskView) (input : Change SourceView) (replica last : Replica) (base draft : List ℕ) (ps : List Part) (n : ℕ) (kept : Option (List Op)) → HasBytes guest.old base
-    → IsLeftScript input.old draft → base_refusal replica.held.history base ≡ None → length draft ≤ LONGEST_TEXT → draft ≢ arranged_text replica.held.history → parts draft ≡ Ok ps → empties replica.held.history ps ≡ false → is_too_large ps ≡ false → IsSettled replica.held → IsRevisedTo replica last ps n
-    → (course : Finding Outcome) × GivesTo (revision guest input course) replica last kept (Ok (note.Revised n (section_counts last.held.history (drop (length (accepted replica.held.history)) (accepted last.held.history)))))
+pub draft_gives : (guest : Change DiskView) (input : Change SourceView) (replica last : Replica) (base draft : List ℕ) (ps : List Part) (n : ℕ) (kept : Option (List Op))
+    → HasBytes guest.old base
+    → IsLeftScript input.old draft → base_refusal replica.held.history base ≡ None → length draft ≤ LONGEST_TEXT → draft ≢ arranged_text replica.held.history → parts draft ≡ Ok ps
+    → empties replica.held.history ps ≡ false → is_too_large ps ≡ false → IsSettled replica.held → IsRevisedTo replica last ps n
+    → (course : Finding Outcome) × GivesTo (revision guest input course) replica last kept
+    (Ok (note.Revised n (section_counts last.held.history (drop (length (accepted replica.held.history)) (accepted last.held.history)))))
 draft_gives guest input replica last base draft ps n kept has left good short other e some fits settled r =
     let makes = r.revised.makes in
     let made : List Op = all_made replica makes.changes in
@@ -190,19 +211,23 @@ draft_gives guest input replica last base draft ps n kept has left good short ot
     let last_made : length (accepted last.held.history) - n ≡ length (accepted replica.held.history) =
     omega (arith, ap length makes.changed.gained.accepted_are, length-append (accepted replica.held.history) made, makes.count) in
     let behind : drop (length (accepted replica.held.history)) (accepted last.held.history) ≡ made =
-    ap (drop (length (accepted replica.held.history))) makes.changed.gained.accepted_are ∙ drop_at (accepted replica.held.history) made (length (accepted replica.held.history)) refl in (
+    ap (drop (length (accepted replica.held.history))) makes.changed.gained.accepted_are
+    ∙ drop_at (accepted replica.held.history) made (length (accepted replica.held.history)) refl in (
       Does outcome,
       record {
         outcome = outcome;
-        gives = gives_draft guest.old input.old replica base has draft outcome left good (text_reads replica draft ps short other e some fits) (inr (outcome_of replica last draft ps n other e r));
+        gives = gives_draft guest.old input.old replica base has draft outcome left good (text_reads replica draft ps short other e some fits)
+            (inr (outcome_of replica last draft ps n other e r));
         suffices = record { same_state = enough.same_state; place = enough.place };
-        saved = ap (drop (length (accepted last.held.history) - n)) makes.changed.gained.accepted_are ∙ drop_at (accepted replica.held.history) made (length (accepted last.held.history) - n) (sym last_made);
+        saved = ap (drop (length (accepted last.held.history) - n)) makes.changed.gained.accepted_are
+            ∙ drop_at (accepted replica.held.history) made (length (accepted last.held.history) - n) (sym last_made);
         noted = record { line = (λ i. revised_text (sym makes.count i) (section_counts last.held.history (sym behind i))); status = refl };
       },
     )
 
 -- and what was printed gives nothing
-pub same_gives : (guest : Change DiskView) (input : Change SourceView) (replica : Replica) (base draft : List ℕ) (kept : Option (List Op)) → HasBytes guest.old base → IsLeftScript input.old draft
+pub same_gives : (guest : Change DiskView) (input : Change SourceView) (replica : Replica) (base draft : List ℕ) (kept : Option (List Op)) → HasBytes guest.old base
+    → IsLeftScript input.old draft
     → base_refusal replica.held.history base ≡ None → length draft ≤ LONGEST_TEXT → draft ≡ arranged_text replica.held.history → IsSettled replica.held → IsSound replica
     → (course : Finding Outcome) × GivesTo (revision guest input course) replica replica kept (Ok (note.Revised 0 (record { added = 0; dropped = 0; moved = 0; retitled = 0 })))
 same_gives guest input replica base draft kept has left good short same settled stands =
@@ -213,13 +238,15 @@ same_gives guest input replica base draft kept has left good short same settled 
         outcome = outcome;
         gives = gives_draft guest.old input.old replica base has draft outcome left good (text_same replica draft short same) (inl (record { same = same; outcome_is = refl }));
         suffices = changed_suffice replica replica [] settled stands none;
-        saved = ap (drop (length (accepted replica.held.history) - 0)) none.gained.accepted_are ∙ drop_at (accepted replica.held.history) [] (length (accepted replica.held.history) - 0) (omega arith);
+        saved = ap (drop (length (accepted replica.held.history) - 0)) none.gained.accepted_are
+            ∙ drop_at (accepted replica.held.history) [] (length (accepted replica.held.history) - 0) (omega arith);
         noted = record { line = refl; status = refl };
       },
     )
 
 -- what is told gives one thing
-one_gives : (base draft : List ℕ) (course : Finding Outcome) (replica : Replica) (a b : Finding Outcome) → DraftGives base draft course replica a → DraftGives base draft course replica b → a ≡ b
+one_gives : (base draft : List ℕ) (course : Finding Outcome) (replica : Replica) (a b : Finding Outcome) → DraftGives base draft course replica a
+    → DraftGives base draft course replica b → a ≡ b
 one_gives base draft course replica (Refuses why) (Refuses other) (inl x) (inl y) = let e : Some why ≡ Some other = sym x ∙ y in cc e
 one_gives base draft course replica (Refuses why) (Refuses other) (inl x) (inr y) = let e : Some why ≡ None = sym x ∙ y.0 in cc e
 one_gives base draft course replica (Refuses why) (Refuses other) (inr x) (inl y) = let e : Some other ≡ None = sym y ∙ x.0 in cc e
@@ -240,7 +267,8 @@ pub revision_once : (guest : Change DiskView) (input : Change SourceView) (cours
 revision_once guest input course told replica one two a b =
     let base : a.0 ≡ b.0 = sym (file_is guest.old.past told.0.0 a.0 told.0.1 a.1) ∙ file_is guest.old.past told.0.0 b.0 told.0.1 b.1 in
     let draft : a.2 ≡ b.2 = sym (left_is input.old.left told.1.0 a.2 told.1.1 a.3) ∙ left_is input.old.left told.1.0 b.2 told.1.1 b.3 in
-    one_gives b.0 b.2 course replica one two (subst (λ (z : List ℕ). DraftGives z b.2 course replica one) base (subst (λ (z : List ℕ). DraftGives a.0 z course replica one) draft a.4)) b.4
+    one_gives b.0 b.2 course replica one two
+    (subst (λ (z : List ℕ). DraftGives z b.2 course replica one) base (subst (λ (z : List ℕ). DraftGives a.0 z course replica one) draft a.4)) b.4
 
 -- a base is refused for itself, and a limit is no other cause
 never_words : (h : List Op) (base : List ℕ) → base_refusal h base ≡ Some refusal.Words → ⊥
@@ -265,15 +293,18 @@ no_fault (fault.Move moving.NoMemory) = (λ e. cc e, λ e. cc e)
 
 module _ (guest : Change DiskView) (input : Change SourceView) (before after : Replica) (kept : Option (List Op)) where
   -- a base that was not found good gives its refusal
-  pub base_gives : (F : Type 0) (why : Refusal) → BaseStops why guest.old before.held.history → (why ≡ refusal.Outside → F) → LooksOnly guest.old guest.new F → GivesTo (revision guest input (Refuses why)) before after kept (Err why)
-  base_gives F refusal.Outside stops fails looks = (inl (looks.rose (fails refl)), λ sure. subst (λ (o : Option RoomView). IfSome o (λ room. F → ⊥)) sure.0.1 looks.sure (fails refl))
+  pub base_gives : (F : Type 0) (why : Refusal) → BaseStops why guest.old before.held.history → (why ≡ refusal.Outside → F) → LooksOnly guest.old guest.new F
+      → GivesTo (revision guest input (Refuses why)) before after kept (Err why)
+  base_gives F refusal.Outside stops fails looks =
+      (inl (looks.rose (fails refl)), λ sure. subst (λ (o : Option RoomView). IfSome o (λ room. F → ⊥)) sure.0.1 looks.sure (fails refl))
   base_gives F refusal.NoMemory stops fails looks = tt
   base_gives F refusal.Words stops fails looks = never_words before.held.history stops.0 stops.2
   base_gives F why stops fails looks = gives_base guest.old input.old before stops.0 stops.1 (Refuses why) why stops.2
 
   module _ (base : List ℕ) (has : HasBytes guest.old base) (good : base_refusal before.held.history base ≡ None) where
     -- a text that was not read too
-    pub input_gives : (F : Type 0) (why : Refusal) → HasNoInputText input why → (why ≡ refusal.Outside → F) → KeepsCount input.old input.new F → GivesTo (revision guest input (Refuses why)) before after kept (Err why)
+    pub input_gives : (F : Type 0) (why : Refusal) → HasNoInputText input why → (why ≡ refusal.Outside → F) → KeepsCount input.old input.new F
+        → GivesTo (revision guest input (Refuses why)) before after kept (Err why)
     input_gives F refusal.Outside none fails count = (inr (count.rose (fails refl)), λ sure. count.succeeds sure.1 (fails refl))
     input_gives F refusal.NoMemory none fails count = tt
     input_gives F refusal.TooLong none fails count =
@@ -282,7 +313,8 @@ module _ (guest : Change DiskView) (input : Change SourceView) (before after : R
     input_gives F _ none fails count = absurd none
 
     -- one that is too large
-    large_gives : (draft : List ℕ) (ps : List Part) (why : Refusal) → draft ≢ arranged_text before.held.history → IsTextRead input draft → parts draft ≡ Ok ps → empties before.held.history ps ≡ false
+    large_gives : (draft : List ℕ) (ps : List Part) (why : Refusal) → draft ≢ arranged_text before.held.history → IsTextRead input draft → parts draft ≡ Ok ps
+        → empties before.held.history ps ≡ false
         → is_too_large ps ≡ true → why ≡ refusal.TooMany (held_count before) → GivesTo (revision guest input (Refuses why)) before after kept (Err why)
     large_gives draft ps why other read e some large is =
         let full : Refusal = refusal.TooMany (held_count before) in
@@ -290,7 +322,8 @@ module _ (guest : Change DiskView) (input : Change SourceView) (before after : R
         (gives_text guest.old input.old before base has (Refuses full) draft full (text_left input draft read) good (text_large before draft ps read.short other e some large))
 
     -- one that meets a limit
-    limit_gives : (draft : List ℕ) (ps : List Part) (why : Refusal) → draft ≢ arranged_text before.held.history → IsTextRead input draft → parts draft ≡ Ok ps → empties before.held.history ps ≡ false
+    limit_gives : (draft : List ℕ) (ps : List Part) (why : Refusal) → draft ≢ arranged_text before.held.history → IsTextRead input draft → parts draft ≡ Ok ps
+        → empties before.held.history ps ≡ false
         → is_too_large ps ≡ false → MeetsLimit before draft why → GivesTo (revision guest input (Refuses why)) before after kept (Err why)
     limit_gives draft ps refusal.Words other read e some fits limit = absurd ((no_fault limit.fault).0 (sym limit.why_is))
     limit_gives draft ps refusal.Outside other read e some fits limit = absurd ((no_fault limit.fault).1 (sym limit.why_is))
@@ -299,7 +332,8 @@ module _ (guest : Change DiskView) (input : Change SourceView) (before after : R
         gives_limit guest.old input.old before base has draft why (text_left input draft read) good (text_reads before draft ps read.short other e some fits) limit
 
     -- and one that is no draft, or that did not come
-    pub text_gives : (draft : List ℕ) (why : Refusal) → draft ≢ arranged_text before.held.history → IsTextRead input draft → TextStops why before draft → GivesTo (revision guest input (Refuses why)) before after kept (Err why)
+    pub text_gives : (draft : List ℕ) (why : Refusal) → draft ≢ arranged_text before.held.history → IsTextRead input draft → TextStops why before draft
+        → GivesTo (revision guest input (Refuses why)) before after kept (Err why)
     text_gives draft refusal.NoMemory other read stops = tt
     text_gives draft (refusal.BadDraft line) other read stops =
         gives_text guest.old input.old before base has (Refuses (refusal.BadDraft line)) draft (refusal.BadDraft line) (text_left input draft read) good
@@ -314,7 +348,8 @@ module _ (guest : Change DiskView) (input : Change SourceView) (before after : R
 
 -- how the objects are left
 pub base_looked : (guest : Change DiskView) (end : Status) (F : Type 0) → LooksOnly guest.old guest.new F → (F → end ≡ status.OutsideFault) → LooksAtBase guest end
-base_looked guest end F looks blamed = record { past = looks.past; room = looks.room; calm = looks.calm; blameless = λ tells inside. looks.calm_told tells (λ failed. inside (blamed failed)) }
+base_looked guest end F looks blamed =
+    record { past = looks.past; room = looks.room; calm = looks.calm; blameless = λ tells inside. looks.calm_told tells (λ failed. inside (blamed failed)) }
 
 pub input_left : (input : SourceView) (end : Status) → (IsFinished end → ⊥) → ReadsInput input input end
 input_left input end may = record { read = λ done. absurd (may done); calm = λ sure. refl; blameless = λ tells inside. refl }
@@ -331,8 +366,10 @@ pub draft_stops : {T : Type 0} (result : Result T DraftFault) (why : Refusal) (r
 draft_stops (Ok x) why replica draft is bad = cc is
 draft_stops (Err fault) why replica draft is bad = subst (λ (w : Refusal). TextStops w replica draft) (sym is) (parts_stop fault (Err fault) replica draft refl bad)
 
-pub limit_stops : (fault : ReviseFault) (replica last : Replica) (draft : List ℕ) (ps : List Part) → parts draft ≡ Ok ps → empties replica.held.history ps ≡ false → is_too_large ps ≡ false → StopsAtLimit replica last fault
-    → LacksRoom replica (revision_cost replica.held.history ps) fault → LacksPlan replica ps fault → (arranged_parts replica.held.history ≡ ps → IsOutOfMemory fault) → TextStops (revise_refusal fault) replica draft
+pub limit_stops : (fault : ReviseFault) (replica last : Replica) (draft : List ℕ) (ps : List Part) → parts draft ≡ Ok ps → empties replica.held.history ps ≡ false
+    → is_too_large ps ≡ false → StopsAtLimit replica last fault
+    → LacksRoom replica (revision_cost replica.held.history ps) fault → LacksPlan replica ps fault → (arranged_parts replica.held.history ≡ ps → IsOutOfMemory fault)
+    → TextStops (revise_refusal fault) replica draft
 limit_stops (fault.Edit edit.NoSection) replica last draft ps e some fits stops lacks planned spared = tt
 limit_stops (fault.Edit edit.OutOfRange) replica last draft ps e some fits stops lacks planned spared = tt
 limit_stops (fault.Edit edit.NoMemory) replica last draft ps e some fits stops lacks planned spared = tt
@@ -341,8 +378,27 @@ limit_stops (fault.Move moving.NoPlace) replica last draft ps e some fits stops 
 limit_stops (fault.Move moving.NoMemory) replica last draft ps e some fits stops lacks planned spared = tt
 limit_stops why replica last draft ps e some fits stops lacks planned spared = elim planned [
   | inl wants ↦ absurd wants
-  | inr p ↦
-      (ps, e, some, inr (fits, record { fault = why; why_is = refl; no_want = λ is. cc is; last = last; stops = stops; ps = ps; reads = e; plan = p.0; no_room = p.1; lacks = lacks; changes = λ same. spared same }))
+  | inr p ↦ (
+    ps,
+    e,
+    some,
+    inr (
+      fits,
+      record {
+        fault = why;
+        why_is = refl;
+        no_want = λ is. cc is;
+        last = last;
+        stops = stops;
+        ps = ps;
+        reads = e;
+        plan = p.0;
+        no_room = p.1;
+        lacks = lacks;
+        changes = λ same. spared same;
+      },
+    ),
+  )
 ]
 
 -- a draft that is too large
@@ -351,20 +407,24 @@ pub too_large_stops : (replica : Replica) (draft : List ℕ) (ps : List Part) (w
 too_large_stops replica draft ps why e some large is = subst (λ (w : Refusal). TextStops w replica draft) (sym is) (ps, e, some, inl (large, refl))
 
 -- a revision that stopped
-pub revise_stops : (result : Result ℕ ReviseFault) (why : Refusal) (replica last : Replica) (draft : List ℕ) (ps : List Part) → MatchResult result (λ (n : ℕ). Err why ≡ Ok n) (λ fault. why ≡ revise_refusal fault)
-    → parts draft ≡ Ok ps → empties replica.held.history ps ≡ false → is_too_large ps ≡ false → IfErr result (λ f. StopsAtLimit replica last f) → Costs replica last (revision_cost replica.held.history ps) result
+pub revise_stops : (result : Result ℕ ReviseFault) (why : Refusal) (replica last : Replica) (draft : List ℕ) (ps : List Part)
+    → MatchResult result (λ (n : ℕ). Err why ≡ Ok n) (λ fault. why ≡ revise_refusal fault)
+    → parts draft ≡ Ok ps → empties replica.held.history ps ≡ false → is_too_large ps ≡ false → IfErr result (λ f. StopsAtLimit replica last f)
+    → Costs replica last (revision_cost replica.held.history ps) result
     → IfErr result (λ f. LacksPlan replica ps f) → (arranged_parts replica.held.history ≡ ps → IfErr result (λ f. IsOutOfMemory f)) → TextStops why replica draft
 revise_stops (Ok n) why replica last draft ps is e some fits stops costs planned spared = cc is
 revise_stops (Err f) why replica last draft ps is e some fits stops costs planned spared =
     subst (λ (w : Refusal). TextStops w replica draft) (sym is) (limit_stops f replica last draft ps e some fits stops costs planned spared)
 
 -- or that came to an end
-revised_of : (n : ℕ) (replica last : Replica) (ps : List Part) → ArrangedReads → IsRevision replica last ps n → MakesNothing replica last ps n → Costs replica last (revision_cost replica.held.history ps) (Ok n)
+revised_of : (n : ℕ) (replica last : Replica) (ps : List Part) → ArrangedReads → IsRevision replica last ps n → MakesNothing replica last ps n
+    → Costs replica last (revision_cost replica.held.history ps) (Ok n)
     → IsSound last → IsSettled last.held → IsRevisedTo replica last ps n
 revised_of n replica last ps law r same costs st settled =
     record { revised = r; prints = (law last.held.history).form_is ∙ ap form r.reads; same = same; costs = costs; stands = st; settled = settled }
 
-pub revised_to : (result : Result ℕ ReviseFault) (n : ℕ) (replica last : Replica) (ps : List Part) → result ≡ Ok n → ArrangedReads → IfOk result (λ m. IsRevision replica last ps m) → IfOk result (λ m. MakesNothing replica last ps m)
+pub revised_to : (result : Result ℕ ReviseFault) (n : ℕ) (replica last : Replica) (ps : List Part) → result ≡ Ok n → ArrangedReads
+    → IfOk result (λ m. IsRevision replica last ps m) → IfOk result (λ m. MakesNothing replica last ps m)
     → Costs replica last (revision_cost replica.held.history ps) result → IsSound last → IsSettled last.held → IsRevisedTo replica last ps n
 revised_to result n replica last ps is law r same costs st settled =
     revised_of n replica last ps law (subst (λ t. IfOk t (λ m. IsRevision replica last ps m)) is r) (subst (λ t. IfOk t (λ m. MakesNothing replica last ps m)) is same)
@@ -377,14 +437,16 @@ base_is None a bytes most is told = (bytes, tt, refl)
 base_is (Some h) a bytes most is told = (h.last.seen, refl, ap (first_difference a) (told ∙ ap (λ n. take n h.last.seen) is) ∙ base_read a h.last.seen)
 
 -- why a base is refused, or that it is not, by what was read
-module _ (past : Option History) (h : List Op) (a bytes : List ℕ) (most : ℕ) (a_is : a ≡ arranged_text h) (is : most ≡ length a + 1) (told : IfSome past (λ h. bytes ≡ take most h.last.seen)) where
+module _ (past : Option History) (h : List Op) (a bytes : List ℕ) (most : ℕ) (a_is : a ≡ arranged_text h) (is : most ≡ length a + 1)
+    (told : IfSome past (λ h. bytes ≡ take most h.last.seen)) where
   there : (o : Option ℕ) → first_difference a bytes ≡ o
       → (base : List ℕ) × IfSome past (λ h. h.last.seen ≡ base) × (base_refusal h base ≡ option_map refusal.BaseDiffers o)
   there o e =
       let b = base_is past a bytes most is told in
       (b.0, b.1, ap (option_map refusal.BaseDiffers) (ap (λ t. first_difference t b.0) (sym a_is) ∙ sym b.2 ∙ e))
 
-  pub differs_there : (at : ℕ) → first_difference a bytes ≡ Some at → (base : List ℕ) × IfSome past (λ h. h.last.seen ≡ base) × (base_refusal h base ≡ Some (refusal.BaseDiffers at))
+  pub differs_there : (at : ℕ) → first_difference a bytes ≡ Some at
+      → (base : List ℕ) × IfSome past (λ h. h.last.seen ≡ base) × (base_refusal h base ≡ Some (refusal.BaseDiffers at))
   differs_there at e = there (Some at) e
 
   pub good_there : first_difference a bytes ≡ None → (base : List ℕ) × IfSome past (λ h. h.last.seen ≡ base) × (base_refusal h base ≡ None)

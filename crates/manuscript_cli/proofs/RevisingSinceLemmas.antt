@@ -31,7 +31,8 @@ use Rattle.command_kinds.specs.declared.refusal.Refusal.TheVariants as refusal
 use Rattle.outer_ports.specs.Sources.{SourceView}
 use Rattle.outer_ports.specs.disk.Disks.{DiskView}
 use Rattle.manuscript_cli.specs.Revising.{RevisionGives, revision}
-use Rattle.manuscript_cli.specs.RevisingSince.{BringsRevision, ComesInWhole, HasNoPlaceFor, FindsNoRoom, GivesSince, MomentDecidesAlone, SinceGives, moment_refusal, noted_revision, revision_since, told_of_whole}
+use Rattle.manuscript_cli.specs.RevisingSince.{BringsRevision, ComesInWhole, HasNoPlaceFor, FindsNoRoom, GivesSince, MomentDecidesAlone, SinceGives, moment_refusal, noted_revision}
+use Rattle.manuscript_cli.specs.RevisingSince.{revision_since, told_of_whole}
 use Rattle.manuscript_cli.specs.declared.revise.Revised.{Revised}
 use Rattle.replica_file.specs.Loading.{CanTake}
 use Rattle.manuscript_cli.proofs.RevisingLemmas.{revision_once}
@@ -70,7 +71,8 @@ module _ (start now : Replica) (ops rest : List Op) (op : Op) (behind : List Op)
   answered : answer now.hold now.most now.held op ≡ answer start.hold start.most at op
   answered = ap (λ (s : Replica). answer s.hold s.most s.held op) was.now_is
 
-  pub taken_more : (new : Replica) → new ≡ record now { held = intake now.hold now.most now.held op } → answer now.hold now.most now.held op ≢ AnswersTooMany → IsSettled new.held → AreTaken start new ops behind
+  pub taken_more : (new : Replica) → new ≡ record now { held = intake now.hold now.most now.held op } → answer now.hold now.most now.held op ≢ AnswersTooMany → IsSettled new.held
+      → AreTaken start new ops behind
   taken_more new e other settled =
       record {
         done = was.done ++ op ∷ [];
@@ -84,7 +86,8 @@ module _ (start now : Replica) (ops rest : List Op) (op : Op) (behind : List Op)
 
   pub one_too_many : answer now.hold now.most now.held op ≡ AnswersTooMany → IsOneTooMany start ops
   one_too_many many places =
-      no_place_left start.hold start.most start.held was.done behind op (subst (MeetsNoLimit start.hold start.most start.held) (was.parts ∙ ap (λ l. was.done ++ l) is) places) (sym answered ∙ many)
+      no_place_left start.hold start.most start.held was.done behind op (subst (MeetsNoLimit start.hold start.most start.held) (was.parts ∙ ap (λ l. was.done ++ l) is) places)
+      (sym answered ∙ many)
 
   pub full_finds : (fault : FeedFault) → FeedsNot fault now op → HasNoPlaceFor fault start ops
   full_finds (feed_fault.TooMany limit) many = one_too_many many.1
@@ -94,7 +97,8 @@ pub taken_all : (start now : Replica) (ops rest : List Op) → AreTaken start no
 taken_all start now ops rest was none = subst (MeetsNoLimit start.hold start.most start.held) (sym (was.parts ∙ ap (λ l. was.done ++ l) none ∙ append-nil was.done)) was.place
 
 -- why what was made has no place
-pub full_room : (fault : FeedFault) (replica : Replica) (ops : List Op) (why : Refusal) → why ≡ refusal.TooMany (held_count replica) → HasNoPlaceFor fault replica ops → FindsNoRoom (told_fault why fault) replica ops
+pub full_room : (fault : FeedFault) (replica : Replica) (ops : List Op) (why : Refusal) → why ≡ refusal.TooMany (held_count replica) → HasNoPlaceFor fault replica ops
+    → FindsNoRoom (told_fault why fault) replica ops
 full_room (feed_fault.TooMany limit) replica ops why is none = subst (λ (w : Refusal). FindsNoRoom w replica ops) (sym is) (refl, none)
 full_room feed_fault.NoMemory replica ops why is none = tt
 
@@ -133,7 +137,8 @@ module _ (n : ℕ) (guest : Change DiskView) (input : Change SourceView) (replic
     told_gives past after kept refusal.Words gave = gave
     told_gives past after kept why gave = gives_since (Refuses why) (Refuses (told_of_whole replica why)) gave refl
 
-    pub brought_gives : (past after : Replica) (kept : Option (List Op)) (given result : Result Revised Refusal) → GivesTo (revision guest input course) (replica_at n replica) past kept (noted_revision given)
+    pub brought_gives : (past after : Replica) (kept : Option (List Op)) (given result : Result Revised Refusal)
+        → GivesTo (revision guest input course) (replica_at n replica) past kept (noted_revision given)
         → BringsRevision replica after past given result → GivesTo (revision_since n guest input course) replica after kept (noted_revision result)
     brought_gives past after kept (Ok revised) (Ok brought) gave brings =
         let place = subst (MeetsNoLimit replica.hold replica.most replica.held) gave.saved brings.2 in
@@ -157,7 +162,8 @@ module _ (n : ℕ) (guest : Change DiskView) (input : Change SourceView) (replic
         subst (λ (w : Refusal). GivesTo (revision_since n guest input course) replica after kept (Err w)) (sym brings) (told_gives past after kept why gave)
 
 -- where the whole may end so, the revision of the replica as it was may
-pub may_bring : (old new past : Replica) (given result : Result Revised Refusal) (end : Status) → BringsRevision old new past given result → MayEnd (noted_revision result) end → MayEnd (noted_revision given) end
+pub may_bring : (old new past : Replica) (given result : Result Revised Refusal) (end : Status) → BringsRevision old new past given result → MayEnd (noted_revision result) end
+    → MayEnd (noted_revision given) end
 may_bring old new past (Ok revised) result end brings may = record { finished = λ done. refl; blames = λ blamed. absurd (no_error blamed) }
   where
     no_error : IsErrOf {T = Note} (Ok (note.Revised revised.made revised.sections)) refusal.Outside → ⊥
@@ -173,7 +179,8 @@ may_bring old new past (Err why) (Err told) end brings may =
 
 -- ---- where the moment refuses
 -- a replica that takes a draft of this moment is not in such a file
-pub moment_may : (n : ℕ) (home : DiskView) (replica : Replica) (end : End) (guest : Change DiskView) (input : Change SourceView) → FileHolds home replica end → moment_refusal n replica ≡ None → MomentDecidesAlone n home guest input
+pub moment_may : (n : ℕ) (home : DiskView) (replica : Replica) (end : End) (guest : Change DiskView) (input : Change SourceView) → FileHolds home replica end
+    → moment_refusal n replica ≡ None → MomentDecidesAlone n home guest input
 moment_may n home replica end guest input holds may refuses =
     let same : refuses.replica ≡ replica = ap (λ (l : Replica × End). l.0) (holds_once home refuses.told (refuses.replica, refuses.end) (replica, end) refuses.holds holds) in
     absurd (cc (sym refuses.refused ∙ ap (moment_refusal n) same ∙ may))

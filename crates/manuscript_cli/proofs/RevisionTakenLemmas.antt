@@ -18,7 +18,7 @@ use Rattle.catalogue_notes.specs.Lift.{stamp}
 use Rattle.catalogue_notes.specs.Making.{move_body, move_names, origins_for, retitle_body}
 use Rattle.catalogue_notes.specs.declared.limits.TheConstants.{MOVE_CODE, RETITLE_CODE}
 use Rattle.catalogue_notes.specs.Moving.{move_by, retitle_by, section_placed}
-use Rattle.draft_plan.specs.Changes.{PlanChange, ArePlanned, Edit, Move, Retitle, all_made, replica_behind, made_of}
+use Rattle.draft_plan.specs.Changes.{PlanChange, MakesChanges, Edit, Move, Retitle, all_made, replica_behind, made_of}
 use Rattle.edit_script.proofs.TakenInLemmas.{all_find_place}
 use Rattle.edit_script.specs.Laws.{AreTakenIn}
 use Rattle.command_kinds.specs.Edit.{made_outcome}
@@ -39,12 +39,15 @@ change_unknown s (Move k j) = by (section_placed s k)
   where
     by : (o : Option Identifier) → All (IsUnknown s.held.waiting) (elim o [ None ↦ [] | Some section ↦ move_by s section k j ∷ [] ])
     by None = All-nil (IsUnknown s.held.waiting)
-    by (Some section) = one_unknown s.held.waiting (move_by s section k j) (noted_unknown s.number s.held.history s.held.waiting (move_names section (origins_for s.held.history k j)) MOVE_CODE (move_body (stamp s.held.history + 1) (origins_for s.held.history k j)))
+    by (Some section) = one_unknown s.held.waiting (move_by s section k j)
+        (noted_unknown s.number s.held.history s.held.waiting (move_names section (origins_for s.held.history k j)) MOVE_CODE
+        (move_body (stamp s.held.history + 1) (origins_for s.held.history k j)))
 change_unknown s (Retitle k title) = by (section_placed s k)
   where
     by : (o : Option Identifier) → All (IsUnknown s.held.waiting) (elim o [ None ↦ [] | Some section ↦ retitle_by s section title ∷ [] ])
     by None = All-nil (IsUnknown s.held.waiting)
-    by (Some section) = one_unknown s.held.waiting (retitle_by s section title) (noted_unknown s.number s.held.history s.held.waiting (section ∷ []) RETITLE_CODE (retitle_body (stamp s.held.history + 1) (encode_utf8_all title)))
+    by (Some section) = one_unknown s.held.waiting (retitle_by s section title)
+        (noted_unknown s.number s.held.history s.held.waiting (section ∷ []) RETITLE_CODE (retitle_body (stamp s.held.history + 1) (encode_utf8_all title)))
 
 all_unknown : (s : Replica) (changes : List PlanChange) → All (IsUnknown s.held.waiting) (all_made s changes)
 all_unknown s [] = All-nil (IsUnknown s.held.waiting)
@@ -52,7 +55,7 @@ all_unknown s (change ∷ changes) =
     All-append (IsUnknown s.held.waiting) (made_of s change) (all_made (replica_behind s change) changes) (change_unknown s change) (all_unknown (replica_behind s change) changes)
 
 -- so a later load comes to the state in which the revision ended
-module _ (old new : Replica) (changes : List PlanChange) (settled : IsSettled old.held) (stands : IsSound new) (changed : ArePlanned old new changes) where
+module _ (old new : Replica) (changes : List PlanChange) (settled : IsSettled old.held) (stands : IsSound new) (changed : MakesChanges old new changes) where
   abbrev made : List Op
   made = all_made old changes
 
@@ -61,7 +64,8 @@ module _ (old new : Replica) (changes : List PlanChange) (settled : IsSettled ol
 
   fits : length old.held.history + length old.held.waiting + length made ≤ old.most
   fits =
-      let few : length (history_with old.held.history made) + length old.held.waiting ≤ old.most = subst (λ (s : Replica). length s.held.history + length s.held.waiting ≤ s.most) changed.gained.others stands.few in
+      let few : length (history_with old.held.history made) + length old.held.waiting ≤ old.most =
+      subst (λ (s : Replica). length s.held.history + length s.held.waiting ≤ s.most) changed.gained.others stands.few in
       omega (arith, few, extended_length old.held.history made)
 
   taken : AreTakenIn old new made

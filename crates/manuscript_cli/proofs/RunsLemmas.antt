@@ -19,9 +19,12 @@ use Rattle.manuscript_cli.specs.Runs.{AllBrought, Brought, CommandRun, DidAll, E
 use Rattle.manuscript_cli.specs.Touched.{Touched}
 use Rattle.command_kinds.specs.declared.status.Status.{Status}
 use Rattle.command_kinds.specs.declared.status.Status.TheVariants as status
+use Rattle.command_kinds.proofs.ActLemmas.{did_all}
+use Rattle.command_kinds.specs.New.{creating}
 
 -- what was left since a moment was left then, or by a state that came since
-left_since : (old new : History) (P : List ℕ → Type 0) → LeavesOnly old new P → ((image : List ℕ) → IsCrashImage old.last image → P image) → (image : List ℕ) → LeftSince new (moment_number old) image → P image
+left_since : (old new : History) (P : List ℕ → Type 0) → LeavesOnly old new P → ((image : List ℕ) → IsCrashImage old.last image → P image) → (image : List ℕ)
+    → LeftSince new (moment_number old) image → P image
 left_since old new P leaves first image left =
     let long : length (moments new) ≡ length leaves.recent + length (moments old) = ap length leaves.grows ∙ length-append leaves.recent (moments old) in
     let grown = ap (λ (l : List DiskState). get_or l (moment_number new - left.m) new.last) leaves.grows in
@@ -31,7 +34,8 @@ left_since old new P leaves first image left =
           leaves.each (moment_number new - left.m) new.last below image (subst (λ s. IsCrashImage s image) is left.left)
       | inr at ↦
           let none : moment_number new - left.m - length leaves.recent ≡ 0 = omega (arith, long, left.since, left.until) in
-          let is = grown ∙ get_or-append_right leaves.recent (moments old) (length leaves.recent) (moment_number new - left.m) new.last refl at ∙ ap (λ (k : ℕ). get_or (moments old) k new.last) none in
+          let is = grown ∙ get_or-append_right leaves.recent (moments old) (length leaves.recent) (moment_number new - left.m) new.last refl at
+          ∙ ap (λ (k : ℕ). get_or (moments old) k new.last) none in
           first image (subst (λ s. IsCrashImage s image) is left.left)
     ]
 
@@ -54,7 +58,8 @@ record Went (header : Header) (ops more gave : List Op) (began stood : History) 
   last : IsSafe header ops more stood.last ⊎ IsSafe header had gave stood.last
   finished : Finished → IsSafe header (had ++ gave) [] stood.last ⊎ ((gave ≡ []) × IsSafe header ops more stood.last)
 
-module _ (header : Header) (ops more gave : List Op) (h k : History) (end : Status) (safe : IsSafe header ops more h.last) (stays : StaysSafe header ops more gave h (Some k) end) where
+module _ (header : Header) (ops more gave : List Op) (h k : History) (end : Status) (safe : IsSafe header ops more h.last)
+    (stays : StaysSafe header ops more gave h (Some k) end) where
   abbrev Left : List ℕ → Type 0
   Left image = HasOpsOr header ops more image ⊎ HasOpsOr header stays.had gave image
 
@@ -72,7 +77,8 @@ module _ (header : Header) (ops more gave : List Op) (h k : History) (end : Stat
       HasOnly : List Op → List Op → DiskState → Type 0
       HasOnly first second s = (image : List ℕ) → IsCrashImage s image → HasOpsOr header first second image
 
-      by_recent : (recent : List DiskState) → moments k ≡ recent ++ moments stays.loaded → All (HasOnly stays.had gave) recent → IsSafe header ops more k.last ⊎ IsSafe header stays.had gave k.last
+      by_recent : (recent : List DiskState) → moments k ≡ recent ++ moments stays.loaded → All (HasOnly stays.had gave) recent
+          → IsSafe header ops more k.last ⊎ IsSafe header stays.had gave k.last
       by_recent [] grows each =
           let same : k.last ≡ stays.loaded.last = cc grows in
           inl (record { honest = honest; leaves = subst (HasOnly ops more) (sym same) (last_leaves (HasOpsOr header ops more) h stays.loaded stays.loads safe.leaves) })
@@ -101,7 +107,8 @@ module _ (header : Header) (ops more : List Op) (began stood : History) (safe : 
   })
 
 -- a run on a file that is told, and safe at entry
-module _ (old new : Touched) (end : Status) (began stood : History) (began_is : old.home.past ≡ Some began) (stood_is : new.home.past ≡ Some stood) (header : Header) (ops more : List Op)
+module _ (old new : Touched) (end : Status) (began stood : History) (began_is : old.home.past ≡ Some began) (stood_is : new.home.past ≡ Some stood) (header : Header)
+    (ops more : List Op)
     (safe : IsSafe header ops more began.last) where
   abbrev Goes : (List Op → Type 0) → Type 0
   Goes Gave = (gave : List Op) × Gave gave × Went header ops more gave began stood (IsFinished end)
@@ -191,7 +198,8 @@ module _ (header : Header) (run : CommandRun) (ops more gave : List Op) (given :
     brings = λ base which. (had, one, gave, record { gave = gave; given = given; all_or_none = inl refl }, elim which [ inl is ↦ is | inr is ↦ is ∙ append-nil (had ++ gave) ]);
   }
 
-  next : (began stood : History) → Went header ops more gave began stood (IsFinished run.end) → (crash : Option (List ℕ)) → run.crash ≡ crash → StandsAfterRun crash began stood s → Next header run ops more s
+  next : (began stood : History) → Went header ops more gave began stood (IsFinished run.end) → (crash : Option (List ℕ)) → run.crash ≡ crash → StandsAfterRun crash began stood s
+      → Next header run ops more s
   next began stood went None is behind = by_end (finished_or_not run.end)
     where
       by_end : IsFinished run.end ⊎ (IsFinished run.end → ⊥) → Next header run ops more s
@@ -216,7 +224,8 @@ meanwhile_safe header ops more s t (inr crash) safe = subst (IsSafe header ops m
 
 run_next : (header : Header) (ops more : List Op) (run : CommandRun) (s t : DiskState) → IsSafe header ops more s → LeadsFrom run s t → Next header run ops more t
 run_next header ops more run s t safe leads =
-    let went = goes run.old run.new run.end leads.began leads.stood leads.began_is leads.stood_is header ops more (subst (IsSafe header ops more) (sym leads.begins) safe) (family run.words run.command) run.meets in
+    let went = goes run.old run.new run.end leads.began leads.stood leads.began_is leads.stood_is header ops more (subst (IsSafe header ops more) (sym leads.begins) safe)
+    (family run.words run.command) run.meets in
     next header run ops more went.0 went.1 t leads.began leads.stood went.2 run.crash refl leads.behind
 
 -- whatever is left of a safe file behind some runs has one of its lists, and then what they brought
@@ -233,9 +242,11 @@ pub record EachHasAll (header : Header) (runs : List CommandRun) (ops more : Lis
 
 no_more_runs : (header : Header) (ops more : List Op) (image : List ℕ) → HasOpsOr header ops more image → HasAll header [] ops more image
 no_more_runs header ops more image (inl has) = record { base = ops; one = inl refl; brought = []; all = refl; has = subst (λ l. HasOps header l image) (sym (append-nil ops)) has }
-no_more_runs header ops more image (inr has) = record { base = ops ++ more; one = inr refl; brought = []; all = refl; has = subst (λ l. HasOps header l image) (sym (append-nil (ops ++ more))) has }
+no_more_runs header ops more image (inr has) =
+    record { base = ops ++ more; one = inr refl; brought = []; all = refl; has = subst (λ l. HasOps header l image) (sym (append-nil (ops ++ more))) has }
 
-one_run_more : (header : Header) (run : CommandRun) (runs : List CommandRun) (ops more : List Op) (s : DiskState) (next : Next header run ops more s) (image : List ℕ) → HasAll header runs next.first next.second image → HasAll header (run ∷ runs) ops more image
+one_run_more : (header : Header) (run : CommandRun) (runs : List CommandRun) (ops more : List Op) (s : DiskState) (next : Next header run ops more s) (image : List ℕ)
+    → HasAll header runs next.first next.second image → HasAll header (run ∷ runs) ops more image
 one_run_more header run runs ops more s next image rest =
     let brings = next.brings rest.base rest.one in
     record {
@@ -246,7 +257,8 @@ one_run_more header run runs ops more s next image rest =
       has = subst (λ l. HasOps header l image) (ap (λ (l : List Op). l ++ rest.brought) brings.4 ∙ append_assoc brings.0 brings.2 rest.brought) rest.has;
     }
 
-pub all_in : (header : Header) (runs : List CommandRun) (ops more : List Op) (s t : DiskState) → IsSafe header ops more s → FollowEachOther runs s t → EachHasAll header runs ops more t
+pub all_in : (header : Header) (runs : List CommandRun) (ops more : List Op) (s t : DiskState) → IsSafe header ops more s → FollowEachOther runs s t
+    → EachHasAll header runs ops more t
 all_in header [] ops more s t safe same =
     let stays = subst (IsSafe header ops more) (sym same) safe in
     record { honest = stays.honest; leaves = λ image is. no_more_runs header ops more image (stays.leaves image is) }
@@ -259,7 +271,8 @@ all_in header (run ∷ runs) ops more s t safe follow =
 pub each_finished_is_in : EachFinishedIsIn
 each_finished_is_in words replica hold old new made runs last meets made_is follow =
     let header : Header = record { replica = replica; hold = hold } in
-    let safe : IsSafe header [] [] made.last = subst (λ o. IfSome o (λ (k : History). IsSafe header [] [] k.last)) made_is meets.does.meets.safe in
+    let created = (did_all (creating replica hold _) _ _ meets.does.performs (inl refl)).1 in
+    let safe : IsSafe header [] [] made.last = subst (λ o. IfSome o (λ (k : History). IsSafe header [] [] k.last)) made_is created.safe in
     let all = all_in header runs [] [] made.last last safe follow in (
       all.honest,
       λ image is.

@@ -5,10 +5,12 @@ use Rattle.fugue_ids.specs.declared.op.Op.{Op}
 use Rattle.manuscript_cli.specs.SectionCounts.{changes_section, count_of_kind}
 use Rattle.manuscript_cli.specs.declared.section_counts.SectionChange.{SectionChange}
 
-counted : (h rest : List Op) (change : SectionChange) (op : Op) (b : Bool) → changes_section h change op ≡ b → count_of_kind h (op ∷ rest) change ≡ cond b 1 0 + count_of_kind h rest change
+counted : (h rest : List Op) (change : SectionChange) (op : Op) (b : Bool) → changes_section h change op ≡ b
+    → count_of_kind h (op ∷ rest) change ≡ cond b 1 0 + count_of_kind h rest change
 counted h rest change op b e = ap (λ t. length (cond t (op ∷ filter (changes_section h change) rest) (filter (changes_section h change) rest))) e ∙ by b
   where
-    by : (b : Bool) → length (cond b (op ∷ filter (changes_section h change) rest) (filter (changes_section h change) rest)) ≡ cond b 1 0 + length (filter (changes_section h change) rest)
+    by : (b : Bool) → length (cond b (op ∷ filter (changes_section h change) rest) (filter (changes_section h change) rest)) ≡ cond b 1 0 + length
+        (filter (changes_section h change) rest)
     by true = omega arith
     by false = omega arith
 

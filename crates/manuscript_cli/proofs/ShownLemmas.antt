@@ -1,5 +1,5 @@
 -- No replica shows more sections and letters than it may hold operations.
-use Rattle.std.proofs.Common.{◌≡◌, ◌≢◌, ◌⊎◌, inl, inr, ℕ, ◌+◌, ◌≤◌, List, [], ◌∷◌, Option, None, Some, length, ap, sym, ◌∙◌, refl, arith}
+use Rattle.std.proofs.Common.{◌≡◌, ◌≢◌, inl, inr, ℕ, ◌+◌, ◌≤◌, List, [], ◌∷◌, Option, None, Some, length, ap, sym, ◌∙◌, refl, arith}
 use Rattle.std.specs.Prelude.{All, AllPairs, count_by, not}
 use Rattle.std.specs.List.{sum_by}
 use Rattle.std.proofs.lemmas.List.Edits.{length-insert}
@@ -32,10 +32,12 @@ one_more p op h x e =
     ap length (order-some p op h x e) ∙ length-insert (order p h) (count_by stands (order p h)) x (count_by-le-length stands (order p h))
 
 -- sections that are not the place of the operation have the elements that they had
-others_stay : (p : Place) (op : Op) (h : List Op) (x : Identifier) (sections : List Identifier) → element_of p op ≡ Some x → All (λ s. p ≢ within s) sections → elements (op ∷ h) sections ≡ elements h sections
+others_stay : (p : Place) (op : Op) (h : List Op) (x : Identifier) (sections : List Identifier) → element_of p op ≡ Some x → All (λ s. p ≢ within s) sections
+    → elements (op ∷ h) sections ≡ elements h sections
 others_stay p op h x [] e apart = refl
 others_stay p op h x (s ∷ sections) e apart =
-    let here : order (within s) (op ∷ h) ≡ order (within s) h = order-none (within s) op h (none_elsewhere p (within s) op x e (λ same. All-head (λ s. p ≢ within s) s sections apart (sym same))) in
+    let here : order (within s) (op ∷ h) ≡ order (within s) h =
+    order-none (within s) op h (none_elsewhere p (within s) op x e (λ same. All-head (λ s. p ≢ within s) s sections apart (sym same))) in
     let rest = others_stay p op h x sections e (All-tail (λ s. p ≢ within s) s sections apart) in
     omega (arith, ap length here, rest, sum_by-cons (λ s. length (order (within s) (op ∷ h))) s sections, sum_by-cons (λ s. length (order (within s) h)) s sections)
 
@@ -61,7 +63,12 @@ never_catalogue sections = all_from_contains (λ s. catalogue ≢ within s) sect
 -- or of the catalogue
 elements_few : (h : List Op) (sections : List Identifier) → AllPairs (λ s t. s ≢ t) sections → length (order catalogue h) + elements h sections ≤ length h
 elements_few [] sections once =
-    omega (arith, order_bounded catalogue [], sum_by-le (λ s. length (order (within s) [])) 0 sections (all_from_contains (λ s. length (order (within s) []) ≤ 0) sections (λ s member. order_bounded (within s) [])))
+    omega (
+      arith,
+      order_bounded catalogue [],
+      sum_by-le (λ s. length (order (within s) [])) 0 sections
+          (all_from_contains (λ s. length (order (within s) []) ≤ 0) sections (λ s member. order_bounded (within s) [])),
+    )
 elements_few (op ∷ h) sections once =
     let before = elements_few h sections once in
     elim (cases_origin (element_of catalogue op)) [
@@ -89,9 +96,17 @@ letters_few h s =
     )
 
 -- no more sections and letters are shown than there are operations
-shown_few : (h : List Op) (sections : List Identifier) → AllPairs (λ s t. s ≢ t) sections → length sections ≡ length (shown catalogue h) → length sections + sum_by (λ s. length (text h s)) sections ≤ length h
+shown_few : (h : List Op) (sections : List Identifier) → AllPairs (λ s t. s ≢ t) sections → length sections ≡ length (shown catalogue h)
+    → length sections + sum_by (λ s. length (text h s)) sections ≤ length h
 shown_few h sections once all =
-    omega (arith, all, length-filter (λ x. not (is_hidden h x)) (order catalogue h), count_by-le-length (λ x. not (is_hidden h x)) (order catalogue h), elements_few h sections once, sum_by-le-sum_by (λ s. length (text h s)) (λ s. length (order (within s) h)) sections (letters_few h))
+    omega (
+      arith,
+      all,
+      length-filter (λ x. not (is_hidden h x)) (order catalogue h),
+      count_by-le-length (λ x. not (is_hidden h x)) (order catalogue h),
+      elements_few h sections once,
+      sum_by-le-sum_by (λ s. length (text h s)) (λ s. length (order (within s) h)) sections (letters_few h),
+    )
 
 pub shows_no_more : ShowsNoMore
 shows_no_more s stands =

@@ -1,5 +1,6 @@
 -- What was made on the replica as it was comes behind all that the whole has accepted.
-use Rattle.std.proofs.Common.{Bool, List, [], ap, arith, cond, eqb-true, false, inl, inr, length, nat_eq, nat_lt, not, refl, subst, suc, sym, true, ℕ, ◌+◌, ◌++◌, ◌-◌, ◌||◌, ◌∙◌, ◌∷◌, ◌≡◌, ◌≤◌, ◌⊎◌, take}
+use Rattle.std.proofs.Common.{Bool, List, [], ap, arith, cond, eqb-true, false, inl, inr, length, nat_eq, nat_lt, not, refl, subst, suc, sym, true, ℕ, ◌+◌, ◌++◌, ◌-◌, ◌||◌, ◌∙◌}
+use Rattle.std.proofs.Common.{◌∷◌, ◌≡◌, ◌≤◌, ◌⊎◌, take}
 use Rattle.std.specs.Prelude.{All, None, Option, Some, drop, flat_map, if◌then◌else◌, is_some, slice_get}
 use Rattle.std.proofs.lemmas.Bool.{cases_Bool, false_from_ne_true, or_cases, or_left, or_parts, or_right, true≢false}
 use Rattle.std.proofs.lemmas.List.{append-nil, append_cancel_left}
@@ -13,7 +14,8 @@ use Rattle.fugue_ids.proofs.ListLemmas.{all_from_contains}
 use Rattle.fugue_ids.proofs.OpLemmas.{op_eq-refl, op_eq-true}
 use Rattle.origin_model.specs.declared.operations.Place.TheVariants.{Catalogue as catalogue, Section as within}
 use Rattle.origin_model.specs.declared.operations.Verdict.TheVariants.{Ready}
-use Rattle.origin_model.specs.edits.Edits.{Add, Command, Cut, DropSection, Put, ReadyInTurn, above_all, cut_in, deletes_of, history_with, id_at, left_for, made, next_counter, op_of_add, put_in, right_for, typed_texts}
+use Rattle.origin_model.specs.edits.Edits.{Add, Command, Cut, DropSection, Put, ReadyInTurn, above_all, cut_in, deletes_of, history_with, id_at, left_for, made, next_counter}
+use Rattle.origin_model.specs.edits.Edits.{op_of_add, put_in, right_for, typed_texts}
 use Rattle.origin_model.specs.edits.Refusal.{next_of_own}
 use Rattle.origin_model.specs.edits.State.{State as Replica, IsSound}
 use Rattle.origin_model.specs.operations.Counters.{counters, mentioned_ids}
@@ -21,14 +23,16 @@ use Rattle.origin_model.specs.operations.History.{accepted, has_op, holds, is_ow
 use Rattle.origin_model.specs.operations.Verdict.{Lawful, id_held, names, verdict}
 use Rattle.origin_model.specs.order.Laws.{IsPartOf}
 use Rattle.origin_model.specs.order.Printed.{shown}
-use Rattle.origin_model.specs.taking.Taking.{Accepted, Again, Answer, Conflict, MeetsNoLimit, Held, IsSettled, TooMany, answer, answer_by, answers_from, held_from, intake, is_again, is_taken, settle, held_after}
-use Rattle.origin_model.proofs.SharedLemmas.{becomes_ready, counters-append, has-holder, holds-older, holds-other, holds-own, Lawful-append, names_within, part_at_end, settle-settled, when_ready, Within-part}
+use Rattle.origin_model.specs.taking.Taking.{Accepted, Again, Answer, Conflict, MeetsNoLimit, Held, IsSettled, TooMany, answer, answer_by, answers_from, held_from, intake}
+use Rattle.origin_model.specs.taking.Taking.{is_again, is_taken, settle, held_after}
+use Rattle.origin_model.proofs.SharedLemmas.{becomes_ready, counters-append, has-holder, holds-older, holds-other, holds-own, Lawful-append, names_within, part_at_end}
+use Rattle.origin_model.proofs.SharedLemmas.{settle-settled, when_ready, Within-part}
 use Rattle.origin_model.proofs.edits.EditIntakeLemmas.{accepts, not_waiting, state_of}
 use Rattle.origin_model.proofs.edits.FreshIdLemmas.{BelowAll, IsUnknown, history_below, new_unknown, waiting_below}
 use Rattle.origin_model.proofs.edits.MadeLemmas.{join_at_end}
 use Rattle.origin_model.proofs.edits.UndecidedLemmas.{Undecided, stays}
 use Rattle.catalogue_notes.specs.Moving.{move_by, retitle_by, section_placed}
-use Rattle.draft_plan.specs.Changes.{PlanChange, ArePlanned, Edit, Move, Retitle, all_made, replica_behind, made_of}
+use Rattle.draft_plan.specs.Changes.{PlanChange, MakesChanges, Edit, Move, Retitle, all_made, replica_behind, made_of}
 use Rattle.version_views.specs.Fronts.{replica_at}
 use Rattle.version_views.specs.Views.{first_ops}
 use Rattle.version_views.proofs.ViewLemmas.{parts}
@@ -47,7 +51,8 @@ IsFrom r c op = (id_of op ≡ None) ⊎ ((n : ℕ) × (id_of op ≡ Some (id_at 
 typed_from : (chs : List ℕ) (r c n : ℕ) (s : Identifier) (l q : Option Identifier) → c ≤ n → All (IsFrom r c) (typed_texts r n s l q chs)
 typed_from [] r c n s l q k = All-nil (IsFrom r c)
 typed_from (ch ∷ chs) r c n s l q k =
-    All-cons (IsFrom r c) (Text (id_at r n) s l q ch) (typed_texts r (suc n) s (Some (id_at r n)) q chs) (inr (n, refl, k)) (typed_from chs r c (suc n) s (Some (id_at r n)) q (omega (arith, k)))
+    All-cons (IsFrom r c) (Text (id_at r n) s l q ch) (typed_texts r (suc n) s (Some (id_at r n)) q chs) (inr (n, refl, k))
+    (typed_from chs r c (suc n) s (Some (id_at r n)) q (omega (arith, k)))
 
 deletes_from : (r c : ℕ) (xs : List Identifier) → All (IsFrom r c) (deletes_of xs)
 deletes_from r c xs = All-map (IsFrom r c) (λ x. Delete x) xs (all_from_contains (λ x. IsFrom r c (Delete x)) xs (λ x m. inl refl))
@@ -103,7 +108,8 @@ all_from : (s : Replica) (c : ℕ) (changes : List PlanChange) → c ≤ next_of
 all_from s c [] l = All-nil (IsFrom s.number c)
 all_from s c (change ∷ changes) l =
     let grows : next_of_own s ≤ next_of_own (replica_behind s change) = next_grows s.number (made_of s change) s.held.history s.held.waiting in
-    All-append (IsFrom s.number c) (made_of s change) (all_made (replica_behind s change) changes) (change_from s c change l) (all_from (replica_behind s change) c changes (omega (arith, l, grows)))
+    All-append (IsFrom s.number c) (made_of s change) (all_made (replica_behind s change) changes) (change_from s c change l)
+    (all_from (replica_behind s change) c changes (omega (arith, l, grows)))
 
 -- operations below whose counter c is neither have nor name such an identifier
 unknown_from : (r c : ℕ) (ops : List Op) (op : Op) → BelowAll r c ops → IsFrom r c op → IsUnknown ops op
@@ -201,16 +207,19 @@ module _ (hold most : ℕ) (start w : List Op) where
   had_again : (p : List Op) (op : Op) → Undecided p w → has_op p op ≡ true → intake hold most (state_of p w) op ≡ state_of p w
   had_again p op u t =
       let is : answer hold most (state_of p w) op ≡ Again =
-      ap (λ z. if z || has_op w op then Again else if is_taken (state_of p w) op then Conflict else answer_by (nat_eq (length p + length w) most) (nat_eq (length w) hold) (verdict p op)) t in
+      ap (λ z. if z || has_op w op then Again else if is_taken (state_of p w) op then Conflict else
+      answer_by (nat_eq (length p + length w) most) (nat_eq (length w) hold) (verdict p op)) t in
       ap (λ a. settle (held_after a (state_of p w) op)) is ∙ settle-settled (state_of p w) u
 
-  has_room : (p : List Op) (op : Op) → Undecided p w → verdict p op ≡ Ready → IsUnknown w op → (answer hold most (state_of p w) op ≡ TooMany → ⊥) → nat_eq (length p + length w) most ≡ false
+  has_room : (p : List Op) (op : Op) → Undecided p w → verdict p op ≡ Ready → IsUnknown w op → (answer hold most (state_of p w) op ≡ TooMany → ⊥)
+      → nat_eq (length p + length w) most ≡ false
   has_room p op u v k other =
       let again : is_again (state_of p w) op ≡ false = λ i. (when_ready p op v).absent i || not_waiting p w op u v i in
       let clash : is_taken (state_of p w) op ≡ false = λ i. (when_ready p op v).fresh i || k.0 i in
       false_from_ne_true _ (λ full. other (λ i. if again i then Again else if clash i then Conflict else answer_by (full i) (nat_eq (length w) hold) (v i)))
 
-  new_accepted : (p : List Op) (op : Op) → Undecided p w → verdict p op ≡ Ready → IsUnknown w op → (answer hold most (state_of p w) op ≡ TooMany → ⊥) → intake hold most (state_of p w) op ≡ state_of (op ∷ p) w
+  new_accepted : (p : List Op) (op : Op) → Undecided p w → verdict p op ≡ Ready → IsUnknown w op → (answer hold most (state_of p w) op ≡ TooMany → ⊥)
+      → intake hold most (state_of p w) op ≡ state_of (op ∷ p) w
   new_accepted p op u v k other =
       let ok : answer hold most (state_of p w) op ≡ Accepted = accepts hold most p w op u v k.0 (has_room p op u v k other) in
       ap (λ a. settle (held_after a (state_of p w) op)) ok ∙ settle-settled (state_of (op ∷ p) w) (stays op p w k u)
@@ -229,16 +238,19 @@ module _ (hold most : ℕ) (start w : List Op) where
       }
 
   -- so is one that it lacks
-  new_taken : (op : Op) (ops h p : List Op) → has_op p op ≡ false → ReadyInTurn (op ∷ h) ops → intake hold most (state_of p w) op ≡ state_of (op ∷ p) w → IsTaken (op ∷ h) (op ∷ p) ops
+  new_taken : (op : Op) (ops h p : List Op) → has_op p op ≡ false → ReadyInTurn (op ∷ h) ops → intake hold most (state_of p w) op ≡ state_of (op ∷ p) w
+      → IsTaken (op ∷ h) (op ∷ p) ops
       → IsTaken h p (op ∷ ops)
   new_taken op ops h p f turn next later =
-      let is : op ∷ lacking_ops (op ∷ p) ops ≡ lacking_ops p (op ∷ ops) = ap (λ z. op ∷ z) (lacked-other p h ops op (later_absent (op ∷ h) ops turn)) ∙ sym (lacked-new p ops op f) in
+      let is : op ∷ lacking_ops (op ∷ p) ops ≡ lacking_ops p (op ∷ ops) =
+      ap (λ z. op ∷ z) (lacked-other p h ops op (later_absent (op ∷ h) ops turn)) ∙ sym (lacked-new p ops op f) in
       record {
         state = ap (λ s. held_from hold most s ops) next ∙ later.state ∙ ap (λ z. state_of (history_with p z) w) is;
         part = subst (λ z. IsPartOf (history_with (op ∷ h) ops) (history_with p z)) is later.part;
       }
 
-  all_taken : (ops h p : List Op) → IsBeside h p → Undecided p w → ReadyInTurn h ops → All (IsUnknown start) ops → All (IsUnknown w) ops → MeetsNoLimit hold most (state_of p w) ops → IsTaken h p ops
+  all_taken : (ops h p : List Op) → IsBeside h p → Undecided p w → ReadyInTurn h ops → All (IsUnknown start) ops → All (IsUnknown w) ops
+      → MeetsNoLimit hold most (state_of p w) ops → IsTaken h p ops
   all_taken [] h p b u r k l place = record { state = refl; part = b.part }
   all_taken (op ∷ ops) h p b u r k l place =
       let is_place : Answer → Type 0 = λ a. a ≡ TooMany → ⊥ in
@@ -281,15 +293,18 @@ module _ (n : ℕ) (replica : Replica) (settled : IsSettled replica.held) (stand
   past = replica_at n replica
 
   past_lawful : Lawful past.held.history
-  past_lawful = Lawful-append (take (length replica.held.history - n) replica.held.history) (first_ops n replica.held.history) (subst Lawful (sym (parts n replica.held.history)) stands.lawful)
+  past_lawful = Lawful-append (take (length replica.held.history - n) replica.held.history) (first_ops n replica.held.history)
+      (subst Lawful (sym (parts n replica.held.history)) stands.lawful)
 
   past_part : IsPartOf past.held.history replica.held.history
-  past_part = subst (IsPartOf (first_ops n replica.held.history)) (parts n replica.held.history) (part_at_end (take (length replica.held.history - n) replica.held.history) (first_ops n replica.held.history))
+  past_part = subst (IsPartOf (first_ops n replica.held.history)) (parts n replica.held.history)
+      (part_at_end (take (length replica.held.history - n) replica.held.history) (first_ops n replica.held.history))
 
   next_same : next_of_own replica ≡ next_of_own past
   next_same = eqb-true (next_of_own replica) (next_of_own past) (none_since (nat_lt (length replica.held.history) n) (same_next replica past) n may)
 
-  changes_behind : (last : Replica) (changes : List PlanChange) → ArePlanned past last changes → Lawful last.held.history → MeetsNoLimit replica.hold replica.most replica.held (all_made past changes)
+  changes_behind : (last : Replica) (changes : List PlanChange) → MakesChanges past last changes → Lawful last.held.history
+      → MeetsNoLimit replica.hold replica.most replica.held (all_made past changes)
       → ComesAfterAccepted replica.held (all_made past changes) (held_from replica.hold replica.most replica.held (all_made past changes))
   changes_behind last changes changed lawful place =
       let r : ℕ = replica.number in
@@ -306,7 +321,8 @@ module _ (n : ℕ) (replica : Replica) (settled : IsSettled replica.held) (stand
       subst (ComesAfterAccepted replica.held ops) (sym all.state)
       (record {
         behind = join_at_end old (lacking_ops old ops);
-        each = All-weaker (λ op. has_op (history_with past.held.history ops) op ≡ true) (λ op. has_op (history_with old (lacking_ops old ops)) op ≡ true) (λ op m. all.part op m) ops (all_in ops past.held.history);
+        each = All-weaker (λ op. has_op (history_with past.held.history ops) op ≡ true) (λ op. has_op (history_with old (lacking_ops old ops)) op ≡ true)
+            (λ op m. all.part op m) ops (all_in ops past.held.history);
         had = All-weaker (IsUnknown old) (λ op. has_op old op ≡ true → (x : Identifier) × (op ≡ Delete x)) (λ op u m. is_delete old op stands.lawful u m) ops unknown;
         waiting = refl;
       })
@@ -323,7 +339,8 @@ module _ (n : ℕ) (replica : Replica) (settled : IsSettled replica.held) (stand
       subst (λ l. ComesAfterAccepted replica.held l (held_from replica.hold replica.most replica.held l)) (sym saved)
       (changes_behind revises.last makes.changes makes.changed lawful (subst (MeetsNoLimit replica.hold replica.most replica.held) saved place))
 
-  pub comes_behind : (draft : List ℕ) (outcome : Outcome) → Suffices past outcome → IsHandedBack past draft outcome ⊎ Revises past draft outcome → MeetsNoLimit replica.hold replica.most replica.held outcome.saved
+  pub comes_behind : (draft : List ℕ) (outcome : Outcome) → Suffices past outcome → IsHandedBack past draft outcome ⊎ Revises past draft outcome
+      → MeetsNoLimit replica.hold replica.most replica.held outcome.saved
       → ComesAfterAccepted replica.held outcome.saved (held_from replica.hold replica.most replica.held outcome.saved)
   comes_behind draft outcome suffices (inl back) place =
       subst (λ (o : Outcome). ComesAfterAccepted replica.held o.saved (held_from replica.hold replica.most replica.held o.saved)) (sym back.outcome_is) (none_behind replica.held)

@@ -3,7 +3,9 @@ use Rattle.std.proofs.Common.{List, ap, arith, inl, inr, length, ℕ, ◌≤◌}
 use Rattle.std.specs.Prelude.{None}
 use Rattle.manuscript_cli.specs.Command.{IsCommand, Names}
 use Rattle.manuscript_cli.specs.declared.command.Command.{Command}
-use Rattle.manuscript_cli.specs.declared.command.Command.TheVariants.{Show, New, Edit, Print, Take, Send, Merge, Relay, Sync, Bulk, Why, Check, Move, Retitle, Arrange, Authors, Changes, Past, Moments, Revise, ReviseSince, List as ListCommand, Comment, Comments, Remarks, Withdraw, Remark, Version, Versions, View, About}
+use Rattle.manuscript_cli.specs.declared.command.Command.TheVariants.{Show, New, Edit, Print, Take, Send, Merge, Relay, Sync, Bulk, Why, Check, Move, Retitle, Arrange, Authors}
+use Rattle.manuscript_cli.specs.declared.command.Command.TheVariants.{Changes, Past, Moments, Revise, ReviseSince, List as ListCommand, Comment, Comments, Remarks, Withdraw}
+use Rattle.manuscript_cli.specs.declared.command.Command.TheVariants.{Remark, Version, Versions, View, About}
 
 few_words : (words : List (List ℕ)) (command : Command) → Names words command → length words ≤ 6
 few_words words (Show hold) (inl alone) = omega (arith, ap length alone.0)

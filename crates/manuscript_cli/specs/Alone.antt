@@ -19,4 +19,5 @@ pub record WritesAlone (text : List ℕ) (output notes : Change OutView) (end : 
 -- the name and the version of the program, what it was proved with, and its licence
 abbrev pub about_text : List ℕ
 about_text =
-    codes "manuscript 0.7.0, of Petreltombac" ++ 10 ∷ codes "proved with rattle-kit-13f" ++ 10 ∷ codes "MIT License, in the file LICENSE of the sources and of the release" ++ 10 ∷ []
+    codes "manuscript 0.7.0, of Petreltombac" ++ 10 ∷ codes "proved with rattle-kit-13f"
+    ++ 10 ∷ codes "MIT License, in the file LICENSE of the sources and of the release" ++ 10 ∷ []

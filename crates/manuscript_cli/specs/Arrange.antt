@@ -34,12 +34,14 @@ placed_note k None (Some section) note = Does (note section)
 -- `move`: the section that stands at k goes to j
 abbrev pub move_on : (k j : ℕ) → NoteOn
 move_on k j replica =
-    placed_note k (option_map (move_refused k j) (move_refusal replica (k - 1) (j - 1))) (section_placed replica (k - 1)) (λ section. move_by replica section (k - 1) (j - 1))
+    placed_note k (option_map (move_refused k j) (move_refusal replica (k - 1) (j - 1))) (section_placed replica (k - 1))
+    (λ section. move_by replica section (k - 1) (j - 1))
 
 -- `retitle`: the section that stands at k gets the title, which is given in UTF-8
 abbrev pub retitle_on : ℕ → List ℕ → NoteOn
 retitle_on k title replica =
-    placed_note k (option_map (move_refused k 0) (retitle_refusal replica (k - 1))) (section_placed replica (k - 1)) (λ section. note_by replica (section ∷ []) RETITLE_CODE (retitle_body (stamp replica.held.history + 1) title))
+    placed_note k (option_map (move_refused k 0) (retitle_refusal replica (k - 1))) (section_placed replica (k - 1))
+    (λ section. note_by replica (section ∷ []) RETITLE_CODE (retitle_body (stamp replica.held.history + 1) title))
 
 -- `arrange` reports the sections as they are arranged
 abbrev pub arrange_tells : Telling

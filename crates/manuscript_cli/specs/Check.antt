@@ -4,7 +4,7 @@ use Rattle.std.specs.Io.KnownBytes.{prepend_known}
 use Rattle.fugue_ids.specs.Outs.{OutView}
 use Rattle.outer_ports.specs.Sources.{KeepsCount, SourceView}
 use Rattle.outer_ports.specs.disk.Disks.{DiskView}
-use Rattle.outer_ports.specs.disk.Moments.{after_moment}
+use Rattle.outer_ports.specs.disk.Moments.{past_after_step}
 use Rattle.outer_ports.specs.disk.States.{durable}
 use Rattle.origin_model.specs.edits.State.{State as Replica}
 use Rattle.order_proof.specs.Readings.{IsValidText}
@@ -24,7 +24,8 @@ use Rattle.command_kinds.specs.declared.status.Status.{Status}
 -- what `check` tells of a text: `yes` exactly where it is that of a valid certificate, else `no`
 abbrev pub check_tells : (text : List ℕ) → Telling
 check_tells text replica (Does bytes) =
-    (IsValidText replica.held.history text × (bytes ≡ codes "yes" ++ 10 ∷ [])) ⊎ (¬ (IsValidText replica.held.history text) × (bytes ≡ codes "no" ++ 10 ∷ []))
+    (IsValidText replica.held.history text × (bytes ≡ codes "yes" ++ 10 ∷ []))
+    ⊎ (¬ (IsValidText replica.held.history text) × (bytes ≡ codes "no" ++ 10 ∷ []))
 check_tells text replica (Refuses why) = ⊥
 
 -- the text is all that the input had left
@@ -91,7 +92,7 @@ pub record CheckedText (input : Change SourceView) (file : Change DiskView) (out
 pub record ReadNoText (input : Change SourceView) (file : Change DiskView) (output notes : Change OutView) (end : Status) : Type 0 where
   pub none : NoTextRead input output notes end
   pub holds : (replica : Replica) × (at : End) × FileHolds file.old replica at
-  pub synced : file.new.past ≡ after_moment durable file.old.past
+  pub synced : file.new.past ≡ past_after_step durable file.old.past
   pub keeps : KeepsFile file
   pub crash : NeverTorn (λ gave. gave ≡ []) file end
   pub file_blameless : DiskBlameless file end

@@ -9,8 +9,12 @@ use Rattle.outer_ports.specs.declared.disk.file_disk.Opening.TheVariants.{Readin
 use Rattle.bulk_world.specs.declared.making.TheConstants.{MOST_TURNS}
 use Rattle.manuscript_cli.specs.Number.{IsNumber}
 use Rattle.manuscript_cli.specs.declared.command.Command.{Command}
-use Rattle.manuscript_cli.specs.declared.command.Command.TheVariants.{Show, New, Edit, Print, Take, Send, Merge, Relay, Sync, Bulk, Why, Check, Move, Retitle, Arrange, Authors, Changes, Past, Moments, Revise, ReviseSince, List as ListCommand, Comment, Comments, Remarks, Withdraw, Remark, Version, Versions, View, About}
-use Rattle.manuscript_cli.specs.declared.words.TheConstants.{GREATEST_CURSOR, GREATEST_MOMENT, GREATEST_PLACE, GREATEST_PORT, GREATEST_REMARK, GREATEST_REPLICA, GREATEST_SEED, MOST_SESSIONS, USUAL_HOLD}
+use Rattle.manuscript_cli.specs.declared.command.Command.TheVariants.{Show, New, Edit, Print, Take, Send, Merge, Relay, Sync, Bulk, Why}
+use Rattle.manuscript_cli.specs.declared.command.Command.TheVariants.{Check, Move, Retitle, Arrange, Authors, Changes, Past, Moments}
+use Rattle.manuscript_cli.specs.declared.command.Command.TheVariants.{Revise, ReviseSince, List as ListCommand, Comment, Comments, Remarks}
+use Rattle.manuscript_cli.specs.declared.command.Command.TheVariants.{Withdraw, Remark, Version, Versions, View, About}
+use Rattle.manuscript_cli.specs.declared.words.TheConstants.{GREATEST_CURSOR, GREATEST_MOMENT, GREATEST_PLACE, GREATEST_PORT}
+use Rattle.manuscript_cli.specs.declared.words.TheConstants.{GREATEST_REMARK, GREATEST_REPLICA, GREATEST_SEED, MOST_SESSIONS, USUAL_HOLD}
 
 -- `show HOLD`
 pub record NamesShow (words : List (List ℕ)) (hold : ℕ) : Type 0 where

@@ -16,7 +16,7 @@ use Rattle.origin_model.specs.edits.State.{State as Replica}
 use Rattle.replica_file.specs.declared.load_file.End.{End}
 use Rattle.command_kinds.specs.Files.{FileHolds}
 use Rattle.command_kinds.specs.Findings.{IsDecided}
-use Rattle.command_kinds.specs.Show.{ShowEndsAs, Showed, status_after}
+use Rattle.command_kinds.specs.Show.{PrintsInput, ShowEndsAs, shown_notes, status_after}
 use Rattle.command_kinds.specs.Changes.{Change, IsSpecified, Streams, change}
 use Rattle.command_kinds.specs.declared.status.Status.{Status}
 use Rattle.command_kinds.specs.declared.status.Status.TheVariants as status
@@ -27,22 +27,27 @@ pub record CountedNoFault (old new : Streams) : Type 0 where
   pub output : Faulted old.output.faults new.output.faults → ⊥
   pub notes : Faulted old.notes.faults new.notes.faults → ⊥
 
--- The accepted operations are lawful, and what was printed is the text, the manuscript say, of every lawful list that has the same operations.
+-- The accepted operations are lawful, and what was printed is the text, the manuscript say, of every lawful list that
+-- has the same operations.
 pub record PrintedBySet (text : List Op → List ℕ) (history : List Op) (output : Change OutView) : Type 0 where
   pub lawful : Lawful history
   pub printed : (other : List Op) → Lawful other → SameOps history other → Took output.old output.new (text other)
 
 -- all was shown, and the set of the accepted operations alone fixes what was printed
 pub record ShowedBySet (hold : ℕ) (ops : List Op) (old new : Streams) (end : Status) : Type 0 where
-  pub showed : Showed hold nothing_held ops old new end
+  pub printed : PrintsInput hold old new ops
+  pub noted : Took old.notes new.notes (shown_notes hold nothing_held ops)
+  pub status : end ≡ status_after hold nothing_held ops
   pub by_set : PrintedBySet manuscript (held hold MOST_OPERATIONS ops).history (change old.output new.output)
 
--- For every stream of framed operations, however ordered, cut or repeated, the manuscript printed is the visible part of one total order fixed
--- by the set of accepted operations alone; an operation is accepted exactly when its causes are and its identifier holds no other record,
--- otherwise it waits within the stated capacity or is refused by name; so replicas that accepted the same set print equal bytes.
+-- For every stream of framed operations, however ordered, cut or repeated, the manuscript printed is the visible part
+-- of one total order fixed by the set of accepted operations alone; an operation is accepted exactly when its causes
+-- are and its identifier holds no other record, otherwise it waits within the stated capacity or is refused by name; so
+-- replicas that accepted the same set print equal bytes.
 abbrev pub Headline : (hold : ℕ) → Streams → Streams → Status → Type 0
 Headline hold old new end =
-    (bytes : List ℕ) (ops : List Op) → old.input.left ≡ Some bytes → Reads Version2 bytes ops EndsWhole → length bytes ≤ STREAM_LIMIT → MeetsNoLimit hold MOST_OPERATIONS nothing_held ops
+    (bytes : List ℕ) (ops : List Op) → old.input.left ≡ Some bytes → Reads Version2 bytes ops EndsWhole → length bytes ≤ STREAM_LIMIT
+    → MeetsNoLimit hold MOST_OPERATIONS nothing_held ops
     → CountedNoFault old new → end ≢ status.NoMemory → ShowedBySet hold ops old new end
 
 -- the status to which a stream leads
@@ -68,4 +73,5 @@ ShowIsDecided hold old new end =
 -- what was printed of a file that is told, in this form, is fixed by the set of the operations that its replica accepted
 abbrev pub PrintsBySet : (text : List Op → List ℕ) → DiskView → (output : Change OutView) → Status → Type 0
 PrintsBySet text home output end =
-    end ≡ status.Done → IsSpecified home → (replica : Replica) (at : End) → FileHolds home replica at → PrintedBySet text replica.held.history output
+    end ≡ status.Done → IsSpecified home → (replica : Replica) (at : End) → FileHolds home replica at
+    → PrintedBySet text replica.held.history output

@@ -1,5 +1,6 @@
 -- The command `list`: what a file's replica holds, and its sections as they are arranged.
-use Rattle.std.specs.Prelude.{◌≡◌, ℕ, suc, ◌+◌, nat_eq, if◌then◌else◌, Some, None, List, [], ◌∷◌, ◌++◌, codes, decimal, length, slice_get, string_bytes}
+use Rattle.std.specs.Prelude.{◌≡◌, ℕ, suc, ◌+◌, nat_eq, if◌then◌else◌, Some, None, List, [], ◌∷◌, ◌++◌, codes, decimal, length, slice_get}
+use Rattle.std.specs.Prelude.{string_bytes}
 use Rattle.std.specs.Str.{encode_utf8_all}
 use Rattle.fugue_ids.specs.Identifiers.{Identifier}
 use Rattle.fugue_ids.specs.Listed.{index_of}
@@ -17,7 +18,8 @@ use Rattle.manuscript_cli.specs.declared.list.Counted.{Counted}
 -- the replica's number, how many operations may wait, how many were accepted, and how many wait
 abbrev pub replica_line : Replica → List ℕ
 replica_line replica =
-    codes "replica " ++ decimal replica.number ++ codes ", hold " ++ decimal replica.hold ++ codes ", accepted " ++ decimal (length replica.held.history) ++ codes ", waiting " ++ decimal (length replica.held.waiting) ++ 10 ∷ []
+    codes "replica " ++ decimal replica.number ++ codes ", hold " ++ decimal replica.hold ++ codes ", accepted "
+    ++ decimal (length replica.held.history) ++ codes ", waiting " ++ decimal (length replica.held.waiting) ++ 10 ∷ []
 
 -- a section's number in the catalogue, from 1
 abbrev pub number_of : List Op → Identifier → ℕ
@@ -33,7 +35,8 @@ in_brackets place number = if nat_eq place number then [] else codes " (" ++ dec
 
 -- a section's place in the arrangement, its number in the catalogue where that is another, how many clusters it has, its heading, LF
 abbrev pub list_line : List Op → (place : ℕ) → Identifier → List ℕ
-list_line h place s = decimal place ++ in_brackets place (number_of h s) ++ 32 ∷ decimal (cluster_count h s) ++ 32 ∷ encode_utf8_all (heading h s) ++ 10 ∷ []
+list_line h place s = decimal place ++ in_brackets place (number_of h s) ++ 32 ∷ decimal (cluster_count h s)
+    ++ 32 ∷ encode_utf8_all (heading h s) ++ 10 ∷ []
 
 -- the lines of sections, of which the first stands at the place
 abbrev pub section_lines : List Op → (place : ℕ) → List Identifier → List ℕ
@@ -50,7 +53,8 @@ list_tells replica found = found ≡ Does (list_text replica)
 
 -- the line of an entry, whose place counts from 0
 abbrev pub entry_line : (at : ℕ) → Entry → (clusters : ℕ) → List ℕ
-entry_line at e clusters = decimal (at + 1) ++ in_brackets (at + 1) (e.number + 1) ++ 32 ∷ decimal clusters ++ 32 ∷ string_bytes e.heading ++ 10 ∷ []
+entry_line at e clusters =
+    decimal (at + 1) ++ in_brackets (at + 1) (e.number + 1) ++ 32 ∷ decimal clusters ++ 32 ∷ string_bytes e.heading ++ 10 ∷ []
 
 -- the line of an entry whose clusters were counted
 abbrev pub counted_line : List Entry → Counted → List ℕ

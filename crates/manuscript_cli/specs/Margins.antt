@@ -33,12 +33,14 @@ ends_of replica s range =
 
 -- what a comment on n clusters names, from the cluster p on of the section with k shown ones before it
 abbrev pub passage_names : Replica → (k p n : ℕ) → List Identifier
-passage_names replica k p n = elim (section_shown replica k) [ None ↦ [] | Some s ↦ ends_of replica s (range_of replica.held.history s p n) ]
+passage_names replica k p n =
+    elim (section_shown replica k) [ None ↦ [] | Some s ↦ ends_of replica s (range_of replica.held.history s p n) ]
 
 -- `comment`: on n clusters of section k, from the cluster p on
 abbrev pub comment_on : (k p n : ℕ) → List ℕ → NoteOn
 comment_on k p n text replica =
-    unless_refused (option_map (comment_refused k) (comment_refusal replica (k - 1) p n)) (note_by replica (passage_names replica (k - 1) p n) COMMENT_CODE text)
+    unless_refused (option_map (comment_refused k) (comment_refusal replica (k - 1) p n))
+    (note_by replica (passage_names replica (k - 1) p n) COMMENT_CODE text)
 
 -- `comments` reports where the comments stand, and what they say
 abbrev pub comments_tells : Telling

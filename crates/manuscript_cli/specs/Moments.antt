@@ -22,7 +22,8 @@ moments_tells moments replica found = found ≡ Does (moments_text moments (acce
 
 -- where the file is told and holds a replica, these are its moments
 abbrev pub AreMomentsOf : DiskView → List ℕ → Type 0
-AreMomentsOf file moments = (replica : Replica) (end : End) → FileHolds file replica end → IfSome file.past (λ h. HasMoments h.last.seen moments)
+AreMomentsOf file moments = (replica : Replica) (end : End) → FileHolds file replica end
+    → IfSome file.past (λ h. HasMoments h.last.seen moments)
 
 -- the command `moments`: the moments of the file are told
 pub record TellsMoments (file : Change DiskView) (output notes : Change OutView) (end : Status) : Type 0 where
@@ -30,11 +31,13 @@ pub record TellsMoments (file : Change DiskView) (output notes : Change OutView)
   pub are : AreMomentsOf file.old moments
   pub reports : Reports (moments_tells moments) file output notes end
 
--- the moments of a file rise, the last one is the number of operations that its replica accepted, and what is told of them adds up to all of these
+-- the moments of a file rise, the last one is the number of operations that its replica accepted, and what is told of
+-- them adds up to all of these
 pub record AreAllReported (moments : List ℕ) (replica : Replica) : Type 0 where
   pub rise : RiseTo 0 moments (length (accepted replica.held.history))
   pub tell : TellAll moments (accepted replica.held.history)
 
 -- the moments of a file tell of all of its operations
 abbrev pub MomentsTellFile : Type 0
-MomentsTellFile = (bytes moments : List ℕ) (replica : Replica) (end : End) → Loads MOST_OPERATIONS bytes replica end → HasMoments bytes moments → AreAllReported moments replica
+MomentsTellFile = (bytes moments : List ℕ) (replica : Replica) (end : End) → Loads MOST_OPERATIONS bytes replica end
+    → HasMoments bytes moments → AreAllReported moments replica

@@ -1,21 +1,22 @@
 -- The command `relay`: it listens on a port, and serves the sessions of others with a relay that is new.
-use Rattle.std.specs.Prelude.{◌≡◌, ◌≢◌, ◌⊎◌, ℕ, ◌<◌, ◌≤◌, List, [], ◌∷◌, ◌++◌, length, Result, Ok, Err, is_some, true, codes, decimal, option_map}
+use Rattle.std.specs.Prelude.{◌≡◌, ◌≢◌, ◌⊎◌, ℕ, ◌<◌, ◌≤◌, List, [], ◌∷◌, ◌++◌, length, Result, Ok, Err, is_some, true, codes, decimal, Some}
+use Rattle.std.specs.Prelude.{option_map}
 use Rattle.fugue_ids.specs.Causes.{Faulted}
 use Rattle.fugue_ids.specs.Outs.{OutTells, OutView, Took}
 use Rattle.origin_model.specs.relay.Relay.{Relay, new_relay}
 use Rattle.outer_ports.specs.Latest.{once_more}
 use Rattle.outer_ports.specs.dock.Docks.{DockTells, DockView, SendsNothing, TakesNothing, listening_of}
 use Rattle.relay_core.specs.declared.relay.TheConstants.{MOST_LOGGED}
-use Rattle.relay_sync.specs.Serving.{NoneAfter, Serves, ServingStops, SufficesForDock, ServedStep, count_over}
+use Rattle.relay_sync.specs.Serving.{NoneAfter, Serves, ServingStops, DockSuffices, ServedStep, count_over}
 use Rattle.relay_sync.specs.declared.serving.ServeFault.{ServeFault}
 use Rattle.relay_sync.specs.declared.serving.ServeFault.TheVariants as serve_fault
-use Rattle.command_kinds.specs.Printing.{NotNoted, NotesBlameless, WroteFront}
-use Rattle.command_kinds.specs.Refusal.{refusal_line, Reported}
+use Rattle.command_kinds.specs.Printing.{WroteFront}
 use Rattle.command_kinds.specs.Changes.{Change, HasRoom, OutBlameless, CountsNoFault, notes_room}
 use Rattle.command_kinds.specs.declared.refusal.Refusal.{Refusal}
 use Rattle.command_kinds.specs.declared.refusal.Refusal.TheVariants as refusal
 use Rattle.command_kinds.specs.declared.status.Status.{Status}
 use Rattle.command_kinds.specs.declared.status.Status.TheVariants as status
+use Rattle.command_kinds.specs.Acts.{Act, Performs}
 
 -- what goes out once the port is listened on
 abbrev pub ready_line : List ℕ
@@ -47,7 +48,8 @@ pub record IsIdle (old new : DockView) : Type 0 where
   pub ends : new.ends ≡ old.ends
   pub calm : CallsAreSure old → new.faults ≡ old.faults
 
--- A new relay was given the dock's steps, and served so many sessions: the last step brought the last of them to its end, and none was asked for behind it.
+-- A new relay was given the dock's steps, and served so many sessions: the last step brought the last of them to its
+-- end, and none was asked for behind it.
 pub record ServedAll (port sessions : ℕ) (dock : Change DockView) (logged : ℕ) : Type 0 where
   pub turns : List ServedStep
   pub relay : Relay
@@ -92,24 +94,28 @@ pub record ServingFailed (port sessions : ℕ) (output : Change OutView) (dock :
 
 -- the port is listened on, and that was said, or why not
 abbrev pub OpeningMeets : (port : ℕ) → (output : Change OutView) → Change DockView → Result (Unit {0}) Refusal → Type 0
-OpeningMeets port output dock (Ok done) = Took output.old output.new ready_line × IsIdle (listening port dock.old) dock.new × (dock.old.faults ≤ dock.new.faults)
+OpeningMeets port output dock (Ok done) =
+    Took output.old output.new ready_line × IsIdle (listening port dock.old) dock.new × (dock.old.faults ≤ dock.new.faults)
 OpeningMeets port output dock (Err refusal.Outside) = ListeningFailed output dock ⊎ ReadyFailed port output dock
 OpeningMeets port output dock (Err _) = ⊥
 
 -- what was served, and how many frames the log has; or why not all
 abbrev pub ServingMeets : (port sessions : ℕ) → (output : Change OutView) → Change DockView → Result ℕ Refusal → Type 0
 ServingMeets port sessions output dock (Ok logged) = Took output.old output.new ready_line × ServedAll port sessions dock logged
-ServingMeets port sessions output dock (Err refusal.Outside) = ListeningFailed output dock ⊎ ReadyFailed port output dock ⊎ ServingFailed port sessions output dock
+ServingMeets port sessions output dock (Err refusal.Outside) =
+    ListeningFailed output dock ⊎ ReadyFailed port output dock ⊎ ServingFailed port sessions output dock
 ServingMeets port sessions output dock (Err refusal.TooLong) = Took output.old output.new ready_line × TookAllSteps port sessions dock
-ServingMeets port sessions output dock (Err refusal.NoMemory) = Took output.old output.new ready_line × ServedPartly serve_fault.NoMemory port sessions dock
+ServingMeets port sessions output dock (Err refusal.NoMemory) =
+    Took output.old output.new ready_line × ServedPartly serve_fault.NoMemory port sessions dock
 ServingMeets port sessions output dock (Err _) = ⊥
 
 -- the steps that a dock gives a new relay are enough, and there is room for what they ask for
 abbrev pub IsEnough : (sessions : ℕ) → DockView → Type 0
-IsEnough sessions dock = SufficesForDock sessions (new_relay MOST_LOGGED) dock
+IsEnough sessions dock = DockSuffices sessions (new_relay MOST_LOGGED) dock
 
 -- where they are enough no fault of the dock is counted, and none is told where the output has room
-pub record NeverBlamed {T : Type 0} (sessions : ℕ) (output : Change OutView) (dock : Change DockView) (result : Result T Refusal) : Type 0 where
+pub record NeverBlamed {T : Type 0} (sessions : ℕ) (output : Change OutView) (dock : Change DockView)
+    (result : Result T Refusal) : Type 0 where
   pub calm : IsEnough sessions dock.old → dock.new.faults ≡ dock.old.faults
   pub sure : IsEnough sessions dock.old → HasRoom (length ready_line) output.old → result ≢ Err refusal.Outside
 
@@ -118,31 +124,13 @@ pub record RiseOutside {T : Type 0} (output : Change OutView) (dock : Change Doc
   pub of_output : OutTells output.old → result ≢ Err refusal.Outside → output.new.faults ≡ output.old.faults
   pub of_dock : DockTells dock.old → result ≢ Err refusal.Outside → dock.new.faults ≡ dock.old.faults
 
--- all was served, and noted
-pub record FinishedServing (port sessions : ℕ) (output notes : Change OutView) (dock : Change DockView) : Type 0 where
-  pub logged : ℕ
-  pub served : ServingMeets port sessions output dock (Ok logged)
-  pub noted : Took notes.old notes.new (log_line logged)
-
--- all was served, and the notes failed
-pub record NotesFailedServing (port sessions : ℕ) (output notes : Change OutView) (dock : Change DockView) : Type 0 where
-  pub logged : ℕ
-  pub served : ServingMeets port sessions output dock (Ok logged)
-  pub failed : NotNoted (log_line logged) notes.old notes.new
-
--- it stopped, and the notes got the refusal's line
-pub record StoppedServing (port sessions : ℕ) (output notes : Change OutView) (dock : Change DockView) (why : Refusal) : Type 0 where
-  pub stops : ServingMeets port sessions output dock (Err why)
-  pub noted : Reported notes.old notes.new (refusal_line why)
-
--- what was done, for each way in which the command may end
-abbrev pub RelayMeets : (port sessions : ℕ) → (output notes : Change OutView) → Change DockView → Status → Type 0
-RelayMeets port sessions output notes dock status.Done = FinishedServing port sessions output notes dock
-RelayMeets port sessions output notes dock status.OutsideFault =
-    StoppedServing port sessions output notes dock refusal.Outside ⊎ NotesFailedServing port sessions output notes dock
-RelayMeets port sessions output notes dock status.Limit = StoppedServing port sessions output notes dock refusal.TooLong
-RelayMeets port sessions output notes dock status.NoMemory = StoppedServing port sessions output notes dock refusal.NoMemory
-RelayMeets port sessions output notes dock _ = ⊥
+-- the act of `relay`: how many frames its log has is noted
+abbrev pub serving : (port sessions : ℕ) → (output : Change OutView) → Change DockView → Act ℕ
+serving port sessions output dock = record {
+  Comes = ServingMeets port sessions output dock;
+  line = λ logged. Some (log_line logged);
+  status = λ logged. status.Done;
+}
 
 -- where the dock tells, its count of faults rises with an outside fault alone
 abbrev pub DockBlameless : Change DockView → Status → Type 0
@@ -150,13 +138,12 @@ DockBlameless dock end = DockTells dock.old → end ≢ status.OutsideFault → 
 
 -- the command `relay`
 pub record Relays (port sessions : ℕ) (output notes : Change OutView) (dock : Change DockView) (end : Status) : Type 0 where
-  pub meets : RelayMeets port sessions output notes dock end
+  pub performs : Performs (serving port sessions output dock) notes end
   -- sure objects with room count no fault
   pub output_calm : CountsNoFault (length ready_line) output.old output.new
-  pub notes_calm : CountsNoFault notes_room notes.old notes.new
   pub dock_calm : IsEnough sessions dock.old → dock.new.faults ≡ dock.old.faults
   -- and where all are, no outside fault comes
-  pub never_outside : IsEnough sessions dock.old → HasRoom (length ready_line) output.old → HasRoom notes_room notes.old → end ≢ status.OutsideFault
+  pub never_outside : IsEnough sessions dock.old → HasRoom (length ready_line) output.old → HasRoom notes_room notes.old
+      → end ≢ status.OutsideFault
   pub output_blameless : OutBlameless output end
-  pub notes_blameless : NotesBlameless notes end
   pub dock_blameless : DockBlameless dock end

@@ -1,5 +1,6 @@
 -- The command `revise`: the draft on the input is what a file's replica comes to show, where the other file has what it showed.
-use Rattle.std.specs.Prelude.{◌≡◌, ◌≢◌, ◌⊎◌, ◌+◌, ◌≤◌, ℕ, true, false, Bool, nat_eq, nat_lt, ◌&&◌, if◌then◌else◌, Option, Some, None, Result, Ok, Err, IfSome, List, [], ◌++◌, length, option_map}
+use Rattle.std.specs.Prelude.{◌≡◌, ◌≢◌, ◌⊎◌, ◌+◌, ◌≤◌, ℕ, true, false, Bool, nat_eq, nat_lt, ◌&&◌, if◌then◌else◌, Option, Some, None}
+use Rattle.std.specs.Prelude.{Result, Ok, Err, IfSome, List, [], ◌++◌, length, option_map}
 use Rattle.std.specs.Option.{option_or}
 use Rattle.std.specs.Str.{bytes_eq}
 use Rattle.fugue_ids.specs.Causes.{Faulted}
@@ -16,7 +17,7 @@ use Rattle.catalogue_notes.specs.Arranged.{arranged, arranged_text}
 use Rattle.catalogue_notes.specs.declared.moving.MoveFault.TheVariants as move_fault
 use Rattle.draft_plan.specs.Differences.{first_difference}
 use Rattle.draft_plan.specs.Drafts.{Part, form, parts}
-use Rattle.draft_plan.specs.Limits.{Costs, LacksRoom, letters_from, part_letters, revision_cost}
+use Rattle.draft_plan.specs.Limits.{Costs, LacksRoom, arranged_letters, part_letters, revision_cost}
 use Rattle.draft_plan.specs.Plain.{arranged_parts}
 use Rattle.draft_plan.specs.Plans.{Plan, plan_cost}
 use Rattle.draft_plan.specs.Revision.{IsRevision, MakesNothing, StopsAtLimit}
@@ -50,18 +51,20 @@ is_too_large ps = nat_lt MOST_OPERATIONS (length ps + part_letters ps)
 
 -- no replica shows so much
 abbrev pub ShowsNoMore : Type 0
-ShowsNoMore = (s : Replica) → IsSound s → length (arranged s.held.history) + letters_from s.held.history ≤ MOST_OPERATIONS
+ShowsNoMore = (s : Replica) → IsSound s → length (arranged s.held.history) + arranged_letters s.held.history ≤ MOST_OPERATIONS
 
 -- why what a draft says is not taken: a line is bad, or it has nothing, or too much
 abbrev pub parts_refusal : Replica → Result (List Part) ℕ → Option Refusal
 parts_refusal replica (Ok ps) =
-    if empties replica.held.history ps then Some refusal.EmptyDraft else (if is_too_large ps then Some (refusal.TooMany (held_count replica)) else None)
+    if empties replica.held.history ps then Some refusal.EmptyDraft else
+    (if is_too_large ps then Some (refusal.TooMany (held_count replica)) else None)
 parts_refusal replica (Err line) = Some (refusal.BadDraft line)
 
 -- why the bytes are no draft: there are too many, or what they say is not taken, unless they are what was printed
 abbrev pub text_refusal : Replica → (draft : List ℕ) → Option Refusal
 text_refusal replica draft =
-    if nat_lt LONGEST_TEXT (length draft) then Some refusal.TooLong else (if bytes_eq draft (arranged_text replica.held.history) then None else parts_refusal replica (parts draft))
+    if nat_lt LONGEST_TEXT (length draft) then Some refusal.TooLong else
+    (if bytes_eq draft (arranged_text replica.held.history) then None else parts_refusal replica (parts draft))
 
 -- why a draft is not taken, by the first cause that there is
 abbrev pub draft_refusal : Replica → (base draft : List ℕ) → Option Refusal
@@ -105,7 +108,8 @@ revised_outcome last made = record {
   status = status.Done;
 }
 
--- the outcome of another draft: these operations were made one after another, and what is shown behind them is the form of the draft's parts
+-- the outcome of another draft: these operations were made one after another, and what is shown behind them is the form
+-- of the draft's parts
 pub record Revises (replica : Replica) (draft : List ℕ) (outcome : Outcome) : Type 0 where
   pub other : draft ≢ arranged_text replica.held.history
   pub ps : List Part
@@ -140,7 +144,8 @@ DraftGives base draft course replica (Refuses why) =
     (draft_refusal replica base draft ≡ Some why)
     ⊎ ((draft_refusal replica base draft ≡ None) × (course ≡ Refuses why) × MeetsLimit replica draft why)
 DraftGives base draft course replica (Does outcome) =
-    (draft_refusal replica base draft ≡ None) × (course ≡ Does outcome) × (IsHandedBack replica draft outcome ⊎ Revises replica draft outcome)
+    (draft_refusal replica base draft ≡ None) × (course ≡ Does outcome)
+    × (IsHandedBack replica draft outcome ⊎ Revises replica draft outcome)
 
 -- the file, where it is told, has these bytes
 abbrev pub HasBytes : DiskView → List ℕ → Type 0
@@ -180,4 +185,5 @@ TextStops (refusal.BadDraft line) replica draft = parts draft ≡ Err line
 TextStops refusal.EmptyDraft replica draft = (ps : List Part) × (parts draft ≡ Ok ps) × (empties replica.held.history ps ≡ true)
 TextStops why replica draft =
     (ps : List Part) × (parts draft ≡ Ok ps) × (empties replica.held.history ps ≡ false)
-    × (((is_too_large ps ≡ true) × (why ≡ refusal.TooMany (held_count replica))) ⊎ ((is_too_large ps ≡ false) × MeetsLimit replica draft why))
+    × (((is_too_large ps ≡ true) × (why ≡ refusal.TooMany (held_count replica)))
+    ⊎ ((is_too_large ps ≡ false) × MeetsLimit replica draft why))

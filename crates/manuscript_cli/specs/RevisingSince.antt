@@ -1,5 +1,7 @@
--- `revise` with a number: the draft was written from what was shown when so many operations were accepted. It is planned on the replica as it was then, and what it makes comes behind all that the file has.
-use Rattle.std.specs.Prelude.{All, filter, true, ◌++◌, ◌≡◌, ℕ, nat_eq, nat_lt, not, ◌-◌, Bool, drop, if◌then◌else◌, Option, Some, None, List, length, Result, Ok, Err}
+-- `revise` with a number: the draft was written from what was shown when so many operations were accepted. It is
+-- planned on the replica as it was then, and what it makes comes behind all that the file has.
+use Rattle.std.specs.Prelude.{All, filter, true, ◌++◌, ◌≡◌, ℕ, nat_eq, nat_lt, not, ◌-◌, Bool, drop, if◌then◌else◌, Option, Some, None}
+use Rattle.std.specs.Prelude.{List, length, Result, Ok, Err}
 use Rattle.fugue_ids.specs.Identifiers.{Identifier}
 use Rattle.fugue_ids.specs.declared.op.Op.{Op}
 use Rattle.fugue_ids.specs.declared.op.Op.TheVariants.{Delete}
@@ -36,7 +38,8 @@ made_since n replica = not (same_next replica (replica_at n replica))
 -- why no draft is taken that was written when n operations were accepted: fewer are, or the replica made some since
 abbrev pub moment_refusal : ℕ → Replica → Option Refusal
 moment_refusal n replica =
-    if nat_lt (length replica.held.history) n then Some (refusal.NoMoment n) else (if made_since n replica then Some (refusal.OwnSince n) else None)
+    if nat_lt (length replica.held.history) n then Some (refusal.NoMoment n) else
+    (if made_since n replica then Some (refusal.OwnSince n) else None)
 
 -- a limit tells how many operations the whole holds
 abbrev pub told_of_whole : Replica → Refusal → Refusal
@@ -60,14 +63,16 @@ MomentDecidesAlone n home guest input = RefusesMoment n home → (input.new ≡ 
 abbrev pub lacking_ops : List Op → List Op → List Op
 lacking_ops history ops = filter (λ op. not (has_op history op)) ops
 
--- what was made is all accepted, behind what was accepted before, which lacked all of it but Deletes that others made too; what waits is what waited
+-- what was made is all accepted, behind what was accepted before, which lacked all of it but Deletes that others made
+-- too; what waits is what waited
 pub record ComesAfterAccepted (old : Held) (made : List Op) (new : Held) : Type 0 where
   pub behind : accepted new.history ≡ accepted old.history ++ lacking_ops old.history made
   pub each : All (λ op. has_op new.history op ≡ true) made
   pub had : All (λ op. has_op old.history op ≡ true → (x : Identifier) × (op ≡ Delete x)) made
   pub waiting : new.waiting ≡ old.waiting
 
--- what comes in the whole of what a draft gives to the replica as it was: what it makes is saved as it is, and taken in behind all that the whole holds, if there is room for it
+-- what comes in the whole of what a draft gives to the replica as it was: what it makes is saved as it is, and taken in
+-- behind all that the whole holds, if there is room for it
 abbrev pub ComesInWhole : Replica → (given found : Finding Outcome) → Type 0
 ComesInWhole replica (Refuses why) found = found ≡ Refuses (told_of_whole replica why)
 ComesInWhole replica (Does outcome) (Does whole) =
@@ -77,7 +82,8 @@ ComesInWhole replica (Does outcome) (Does whole) =
 ComesInWhole replica (Does outcome) (Refuses why) = (why ≡ refusal.TooMany (held_count replica)) × IsOneTooMany replica outcome.saved
 
 -- a revision since a moment gives what the replica as it was then gave, taken in by the whole
-abbrev pub GivesSince : (moment : Option Refusal) → ℕ → DiskView → SourceView → (course : Finding Outcome) → Replica → Finding Outcome → Type 0
+abbrev pub GivesSince : (moment : Option Refusal) → ℕ → DiskView → SourceView → (course : Finding Outcome) → Replica → Finding Outcome
+    → Type 0
 GivesSince (Some why) n guest input course replica found = found ≡ Refuses why
 GivesSince None n guest input course replica found =
     (given : Finding Outcome) × RevisionGives guest input course (replica_at n replica) given × ComesInWhole replica given found
@@ -112,7 +118,8 @@ FindsNoRoom _ replica made = ⊥
 
 -- what a revision of the replica as it was comes to in the whole, which the former takes the place of where it comes to its end
 abbrev pub BringsRevision : (old new past : Replica) → (given result : Result Revised Refusal) → Type 0
-BringsRevision old new past (Ok revised) (Ok brought) = (brought ≡ revised) × (new ≡ past) × MeetsNoLimit old.hold old.most old.held (made_last past revised)
+BringsRevision old new past (Ok revised) (Ok brought) =
+    (brought ≡ revised) × (new ≡ past) × MeetsNoLimit old.hold old.most old.held (made_last past revised)
 BringsRevision old new past (Ok revised) (Err why) = FindsNoRoom why old (made_last past revised)
 BringsRevision old new past (Err why) (Ok brought) = ⊥
 BringsRevision old new past (Err why) (Err told) = told ≡ told_of_whole old why

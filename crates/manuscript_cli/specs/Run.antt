@@ -17,7 +17,8 @@ use Rattle.command_kinds.specs.Printing.{NotesBlameless}
 use Rattle.command_kinds.specs.Refusal.{refusal_line, Reported}
 use Rattle.manuscript_cli.specs.Relay.{DockBlameless, Relays}
 use Rattle.command_kinds.specs.Report.{Reports, Telling, print_tells, send_tells}
-use Rattle.manuscript_cli.specs.Savers.{RunsSaving, Saver, edit_saver, merge_saver, note_saver, revise_saver, revise_since_saver, sync_saver, take_saver}
+use Rattle.manuscript_cli.specs.Savers.{RunsSaving, Saver, edit_saver, merge_saver, note_saver, revise_saver, revise_since_saver}
+use Rattle.manuscript_cli.specs.Savers.{sync_saver, take_saver}
 use Rattle.command_kinds.specs.Saving.{Outcome}
 use Rattle.command_kinds.specs.Show.{Shows}
 use Rattle.command_kinds.specs.Changes.{DiskBlameless, OutBlameless, SourceBlameless, WireBlameless, change}
@@ -27,7 +28,10 @@ use Rattle.manuscript_cli.specs.Touched.{Touched}
 use Rattle.passage_remarks.specs.Spelling.{passage_of}
 use Rattle.manuscript_cli.specs.Why.{why_tells}
 use Rattle.manuscript_cli.specs.declared.command.Command.{Command}
-use Rattle.manuscript_cli.specs.declared.command.Command.TheVariants.{Show, New, Edit, Print, Take, Send, Merge, Relay, Sync, Bulk, Why, Check, Move, Retitle, Arrange, Authors, Changes, Past, Moments, Revise, ReviseSince, List as ListCommand, Comment, Comments, Remarks, Withdraw, Remark, Version, Versions, View, About}
+use Rattle.manuscript_cli.specs.declared.command.Command.TheVariants.{Show, New, Edit, Print, Take, Send, Merge, Relay, Sync, Bulk, Why}
+use Rattle.manuscript_cli.specs.declared.command.Command.TheVariants.{Check, Move, Retitle, Arrange, Authors, Changes, Past, Moments}
+use Rattle.manuscript_cli.specs.declared.command.Command.TheVariants.{Revise, ReviseSince, List as ListCommand, Comment, Comments, Remarks}
+use Rattle.manuscript_cli.specs.declared.command.Command.TheVariants.{Withdraw, Remark, Version, Versions, View, About}
 use Rattle.command_kinds.specs.declared.refusal.Refusal.TheVariants.{Words}
 use Rattle.command_kinds.specs.declared.status.Status.{Status}
 use Rattle.command_kinds.specs.declared.status.Status.TheVariants.{Usage}
@@ -51,12 +55,14 @@ pub record RunsNew (replica hold : ℕ) (old new : Touched) (end : Status) : Typ
 -- a command that reports uses the file, the output, and the notes
 pub record RunsReport (tells : Telling) (old new : Touched) (end : Status) : Type 0 where
   pub others : new ≡ record old { streams = record old.streams { output = new.streams.output; notes = new.streams.notes }; home = new.home }
-  pub does : Reports tells (change old.home new.home) (change old.streams.output new.streams.output) (change old.streams.notes new.streams.notes) end
+  pub does : Reports tells (change old.home new.home) (change old.streams.output new.streams.output)
+      (change old.streams.notes new.streams.notes) end
 
 -- `relay` uses the dock, the output, and the notes
 pub record RunsRelay (port sessions : ℕ) (old new : Touched) (end : Status) : Type 0 where
   pub others : new ≡ record old { streams = record old.streams { output = new.streams.output; notes = new.streams.notes }; dock = new.dock }
-  pub does : Relays port sessions (change old.streams.output new.streams.output) (change old.streams.notes new.streams.notes) (change old.dock new.dock) end
+  pub does : Relays port sessions (change old.streams.output new.streams.output) (change old.streams.notes new.streams.notes)
+      (change old.dock new.dock) end
 
 -- a command that uses no file uses the output, and the notes
 pub record RunsAlone (text : List ℕ) (old new : Touched) (end : Status) : Type 0 where
@@ -66,12 +72,14 @@ pub record RunsAlone (text : List ℕ) (old new : Touched) (end : Status) : Type
 -- `check` uses the streams, and the file
 pub record RunsCheck (old new : Touched) (end : Status) : Type 0 where
   pub others : new ≡ record old { streams = new.streams; home = new.home }
-  pub does : ChecksText (change old.streams.input new.streams.input) (change old.home new.home) (change old.streams.output new.streams.output) (change old.streams.notes new.streams.notes) end
+  pub does : ChecksText (change old.streams.input new.streams.input) (change old.home new.home)
+      (change old.streams.output new.streams.output) (change old.streams.notes new.streams.notes) end
 
 -- `moments` uses the file, the output, and the notes
 pub record RunsMoments (old new : Touched) (end : Status) : Type 0 where
   pub others : new ≡ record old { streams = record old.streams { output = new.streams.output; notes = new.streams.notes }; home = new.home }
-  pub does : TellsMoments (change old.home new.home) (change old.streams.output new.streams.output) (change old.streams.notes new.streams.notes) end
+  pub does : TellsMoments (change old.home new.home) (change old.streams.output new.streams.output)
+      (change old.streams.notes new.streams.notes) end
 
 -- the commands, by what they promise
 pub data Family : Type 1 where
@@ -87,7 +95,8 @@ pub data Family : Type 1 where
   Checking : Family
   TellingMoments : Family
 
--- by the words too: the last of them is the title of a retitle, the text of a comment or the name of a version, and the third spells a passage; sections count from 1
+-- by the words too: the last of them is the title of a retitle, the text of a comment or the name of a version, and the
+-- third spells a passage; sections count from 1
 abbrev pub family : List (List ℕ) → Option Command → Family
 family words None = NoCommand
 family words (Some (Show hold)) = Showing hold
@@ -139,7 +148,8 @@ MeetsAs TellingMoments old new end = RunsMoments old new end
 abbrev pub Meets : List (List ℕ) → Option Command → Touched → Touched → Status → Type 0
 Meets words command = MeetsAs (family words command)
 
--- No object that tells counts a fault that is not told: its count rises with an outside fault alone, or for a refusal that the notes did not take.
+-- No object that tells counts a fault that is not told: its count rises with an outside fault alone, or for a refusal
+-- that the notes did not take.
 pub record IsBlameless (old new : Touched) (end : Status) : Type 0 where
   pub input : SourceBlameless (change old.streams.input new.streams.input) end
   pub output : OutBlameless (change old.streams.output new.streams.output) end

@@ -18,14 +18,16 @@ use Rattle.command_kinds.specs.declared.status.Status.TheVariants.{Done}
 -- what a command gave to be saved in its home file: but for one that saves, nothing
 abbrev pub GaveAs : Family → Touched → Touched → Status → List Op → Type 0
 GaveAs (Saving saver) old new end ops = GaveOutcome (saver old new).giver old.home end ops
-GaveAs (Choosing saver) old new end ops = (course : Finding Outcome) × RunsSaving (saver course old new) old new end × GaveOutcome (saver course old new).giver old.home end ops
+GaveAs (Choosing saver) old new end ops =
+    (course : Finding Outcome) × RunsSaving (saver course old new) old new end × GaveOutcome (saver course old new).giver old.home end ops
 GaveAs _ old new end ops = ops ≡ []
 
 -- the operations that the run of a command gave to be saved
 abbrev pub GaveBy : List (List ℕ) → Option Command → Touched → Touched → Status → List Op → Type 0
 GaveBy words command = GaveAs (family words command)
 
--- One run of the program, as `run` promises it: it ended with its status, or a crash came at one of its moments, and left these bytes in the home file.
+-- One run of the program, as `run` promises it: it ended with its status, or a crash came at one of its moments, and
+-- left these bytes in the home file.
 pub record CommandRun : Type 0 where
   pub words : List (List ℕ)
   pub command : Option Command
@@ -71,12 +73,15 @@ IsMeanwhile s t = (t ≡ s) ⊎ ((image : List ℕ) × IsCrashImage s image × (
 -- runs one after another lead the file from one state to another, and nobody else writes it
 abbrev pub FollowEachOther : List CommandRun → DiskState → DiskState → Type 0
 FollowEachOther [] s t = t ≡ s
-FollowEachOther (run ∷ runs) s t = (found : DiskState) × (left : DiskState) × IsMeanwhile s found × LeadsFrom run found left × FollowEachOther runs left t
+FollowEachOther (run ∷ runs) s t =
+    (found : DiskState) × (left : DiskState) × IsMeanwhile s found × LeadsFrom run found left × FollowEachOther runs left t
 
--- From a `new` that did all on, whatever a crash after the runs leaves has the header that `new` wrote, and its operations are in order those that each
--- finished command gave, and of each other one all or none; what a read gives is one of these.
+-- From a `new` that did all on, whatever a crash after the runs leaves has the header that `new` wrote, and its
+-- operations are in order those that each finished command gave, and of each other one all or none; what a read gives
+-- is one of these.
 abbrev pub EachFinishedIsIn : Type 0
 EachFinishedIsIn =
     (words : List (List ℕ)) (replica hold : ℕ) (old new : Touched) (made : History) (runs : List CommandRun) (last : DiskState)
     → Meets words (Some (New replica hold)) old new Done → new.home.past ≡ Some made → FollowEachOther runs made.last last
-    → IsHonest last × ((image : List ℕ) → IsCrashImage last image → (ops : List Op) × AllBrought runs ops × HasOps (record { replica = replica; hold = hold }) ops image)
+    → IsHonest last × ((image : List ℕ) → IsCrashImage last image
+    → (ops : List Op) × AllBrought runs ops × HasOps (record { replica = replica; hold = hold }) ops image)

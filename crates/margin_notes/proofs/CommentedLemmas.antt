@@ -1,5 +1,7 @@
 -- A comment that is made is one of its section's, and its span is the scalars of its clusters; and when there is none.
-use Rattle.margin_notes.proofs.Words.{All-cons, All-nil, AllPairs, Identifier, IsIn, Lawful, List, None, Note, Op, Option, Some, [], ap, arith, before, false, drop, holds, id_eq, if◌then◌else◌, inl, inr, is_hidden, length, not, option_map, order, or_right, refl, shown, slice_get, subst, suc, sym, take, true, zero, ℕ, ◌&&◌, ◌+◌, ◌-◌, ◌<◌, ◌||◌, ◌∙◌, ◌∷◌, ◌≡◌, ◌≤◌, within}
+use Rattle.margin_notes.proofs.Words.{All-cons, All-nil, AllPairs, Identifier, IsIn, Lawful, List, None, Note, Op, Option, Some, [], ap, arith, before, false, drop, holds, id_eq}
+use Rattle.margin_notes.proofs.Words.{if◌then◌else◌, inl, inr, is_hidden, length, not, option_map, order, or_right, refl, shown, slice_get, subst, suc, sym, take, true, zero, ℕ}
+use Rattle.margin_notes.proofs.Words.{◌&&◌, ◌+◌, ◌-◌, ◌<◌, ◌||◌, ◌∙◌, ◌∷◌, ◌≡◌, ◌≤◌, within}
 use Rattle.std.specs.Prelude.{◌↔◌, IfErr, IfOk, IfSome, IsNone, IsSome, Result, ok_or, option_and_then, encode_utf8_all}
 use Rattle.std.specs.List.{Contains}
 use Rattle.std.specs.Str.{IsUtf8}
@@ -90,11 +92,14 @@ text_there None written bytes e = cc
 text_there (Some x) written bytes e = (x, refl, same_Some bytes (written x) e)
 
 -- the range of the clusters that were found
-pub range_found : (s : State) (k at n : ℕ) (bytes : List ℕ) (x : Identifier) (r : Option (ℕ × ℕ)) (result : Result (ℕ × ℕ) CommentFault) (fault : CommentFault) → result ≡ ok_or r fault
+pub range_found : (s : State) (k at n : ℕ) (bytes : List ℕ) (x : Identifier) (r : Option (ℕ × ℕ)) (result : Result (ℕ × ℕ) CommentFault) (fault : CommentFault)
+    → result ≡ ok_or r fault
     → section_shown s k ≡ Some x → bytes ≡ encode_utf8_all (text s.held.history x) → IsUtf8 bytes → Lawful s.held.history
-    → IfSome r (λ found. found ≡ scalar_range (clusters bytes) at n) → (IsNone r ↔ (length (clusters bytes) < at + n)) → IfSome r (λ found. found.0 + found.1 ≤ length (chars bytes))
+    → IfSome r (λ found. found ≡ scalar_range (clusters bytes) at n) → (IsNone r ↔ (length (clusters bytes) < at + n))
+    → IfSome r (λ found. found.0 + found.1 ≤ length (chars bytes))
     → IfOk result (IsRange s k at n)
-range_found s k at n bytes x None result fault is shown bytes_are utf8 lawful spans none within_text = subst (λ (q : Result (ℕ × ℕ) CommentFault). IfOk q (IsRange s k at n)) (sym is) tt
+range_found s k at n bytes x None result fault is shown bytes_are utf8 lawful spans none within_text =
+    subst (λ (q : Result (ℕ × ℕ) CommentFault). IfOk q (IsRange s k at n)) (sym is) tt
 range_found s k at n bytes x (Some found) result fault is shown bytes_are utf8 lawful spans none within_text =
     let same = ap (λ (b : List ℕ). length (clusters b)) bytes_are in
     let enough : at + n ≤ length (clusters bytes) = elim (cases_lt (length (clusters bytes)) (at + n)) [ inl few ↦ absurd (some_is_none found (none.1 few)) | inr fits ↦ fits ] in
@@ -126,7 +131,8 @@ scalar_there s k at n found i r l =
 pub passage_found : (s : State) (k at n : ℕ) (found : ℕ × ℕ) (first last : Identifier) (named : List Identifier) → IsRange s k at n found → 0 < n
     → shown_element s k found.0 ≡ Some first → shown_element s k (found.0 + found.1 - 1) ≡ Some last → named ≡ first ∷ last ∷ [] → NamesPassage s k at n named
 passage_found s k at n found first last named r l a b e =
-    let in_it : (i : ℕ) → shown_element s k i ≡ slice_get (shown (within r.section) s.held.history) i = λ i. ap (option_and_then (λ x. slice_get (shown (within x) s.held.history) i)) r.shown_at in
+    let in_it : (i : ℕ) → shown_element s k i ≡ slice_get (shown (within r.section) s.held.history) i =
+    λ i. ap (option_and_then (λ x. slice_get (shown (within x) s.held.history) i)) r.shown_at in
     record {
       section = r.section;
       first = first;
@@ -149,7 +155,8 @@ is_text_in h s x m = ap (λ o. elim o [ None ↦ false | Some op ↦ stands_at (
 pub names_held : (s : State) (k at n : ℕ) (named : List Identifier) → NamesPassage s k at n named → Lawful s.held.history → AreHeld s.held.history named
 names_held s k at n named p w =
     let h : List Op = s.held.history in
-    let held : (i : ℕ) (x : Identifier) → slice_get (shown (within p.section) h) i ≡ Some x → holds h x ≡ true = λ i x e. IsIn-held (within p.section) h x (shown_in (within p.section) h i x w e) in
+    let held : (i : ℕ) (x : Identifier) → slice_get (shown (within p.section) h) i ≡ Some x
+    → holds h x ≡ true = λ i x e. IsIn-held (within p.section) h x (shown_in (within p.section) h i x w e) in
     subst (AreHeld h) (sym p.named_are)
     (All-cons (λ i. holds h i ≡ true) p.first (p.last ∷ []) (held _ p.first p.passage.first_is)
     (All-cons (λ i. holds h i ≡ true) p.last [] (held _ p.last p.passage.last_is) (All-nil (λ i. holds h i ≡ true))))
@@ -201,7 +208,8 @@ module _ (h : List Op) (id s a b : Identifier) (body : List ℕ) (i j : ℕ) (go
       ∙ ap suc (count_at (before (within s) whole) total.irreflexive total.transitive listing j b in_order at_b)
 
 -- the comment that was made stands on its clusters
-pub stands_on : (old new : State) (k at n count : ℕ) (body : List ℕ) (named : List Identifier) → is_text body ≡ true → NamesPassage old k at n named → IsNoted old new named COMMENT_CODE body count
+pub stands_on : (old new : State) (k at n count : ℕ) (body : List ℕ) (named : List Identifier) → is_text body ≡ true → NamesPassage old k at n named
+    → IsNoted old new named COMMENT_CODE body count
     → ShowsAsBefore old new → IsSound new → IsCommented old new k at n body
 stands_on old new k at n count body named good p noted shows stands =
     let q = p.passage in
@@ -229,6 +237,7 @@ stands_on old new k at n count body named good p noted shows stands =
       ends = ap (λ z. (margin_span z s p.first p.last).to) h ∙ made_ends old.held.history id s p.first p.last body r.0 (r.0 + r.1 - 1) good w at_a at_b le ∙ end;
     }
 
-pub made_on : (old new : State) (k at n count : ℕ) (body : List ℕ) (named : List Identifier) → NamesPassage old k at n named → IsNoted old new named COMMENT_CODE body count → IsCommentMade old new k at n body count
+pub made_on : (old new : State) (k at n count : ℕ) (body : List ℕ) (named : List Identifier) → NamesPassage old k at n named → IsNoted old new named COMMENT_CODE body count
+    → IsCommentMade old new k at n body count
 made_on old new k at n count body named p noted =
     record { section = p.section; first = p.first; last = p.last; passage = p.passage; noted = subst (λ ns. IsNoted old new ns COMMENT_CODE body count) p.named_are noted }

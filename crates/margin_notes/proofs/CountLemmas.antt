@@ -1,16 +1,18 @@
 -- Lists of identifiers in order: how many members stand before one, and which number it has.
-use Rattle.margin_notes.proofs.Words.{All, All-cons, All-contains, All-head, All-tail, All-weaker, AllPairs, Bool, Contains, Identifier, List, None, Some, [], all_from_contains, all_pairs_head, all_pairs_tail, ap, arith, cases_Bool, cond, count_by, false, id_eq, if◌then◌else◌, inl, inr, length, not, or_right, refl, slice_get, subst, suc, sym, take, true, true≢false, zero, ℕ, ◌+◌, ◌<◌, ◌||◌, ◌∙◌, ◌∷◌, ◌≡◌}
+use Rattle.margin_notes.proofs.Words.{All, All-cons, All-contains, All-weaker, AllPairs, Bool, Contains, Identifier, List, None, Some, [], all_from_contains, all_pairs_head}
+use Rattle.margin_notes.proofs.Words.{all_pairs_tail, ap, arith, cases_Bool, cond, count_by, false, id_eq, if◌then◌else◌, inl, inr, length, not, or_right, refl, slice_get, subst}
+use Rattle.margin_notes.proofs.Words.{suc, sym, take, true, true≢false, zero, ℕ, ◌+◌, ◌<◌, ◌||◌, ◌∙◌, ◌∷◌, ◌≡◌}
 use Rattle.std.specs.Prelude.{nat_lt}
 use Rattle.std.proofs.lemmas.Bool.{false_from_ne_true}
 use Rattle.std.proofs.lemmas.Bool.Decides.{nat_tests}
-use Rattle.std.proofs.lemmas.List.Sums.{sum_by-cons}
 use Rattle.fugue_ids.specs.Listed.{index_of}
 use Rattle.fugue_ids.proofs.IdentifierLemmas.{cases_id, eq-id_eq, index_of-here, index_of-there, ne-id_eq}
-use Rattle.fugue_ids.proofs.ListLemmas.{contains_cases, contains_filter_from, contains_here, contains_map, contains_map_from, contains_none, contains_there}
-use Rattle.section_list.specs.Cells.{Cell, section_cell_ids, section_cells_shown, section_shown_before}
+use Rattle.fugue_ids.proofs.ListLemmas.{contains_cases, contains_here, contains_none, contains_there}
+use Rattle.run_store.specs.Cells.{cell_ids, cells_shown, shown_before}
+use Rattle.run_store.specs.declared.cell.Cell.{Cell}
 use Rattle.margin_notes.specs.Listing.{number_from}
 use Rattle.origin_model.proofs.edits.SplitLemmas.{get_in}
-use Rattle.section_list.proofs.PlainLemmas.{visible_listed}
+use Rattle.section_list.proofs.ShownLemmas.{visible_listed}
 use Rattle.origin_model.proofs.SharedLemmas.{count-no, count-yes, none_pass}
 
 lt_suc : (i j : ℕ) → nat_lt (suc i) (suc j) ≡ nat_lt i j
@@ -109,28 +111,28 @@ module _ (R : Identifier → Identifier → Bool) (irrefl : (a : Identifier) →
       ]
 
   -- so many visible cells stand before the cell of x
-  pub shown_before : (cells : List Cell) (x : Identifier) → AllPairs T (section_cell_ids cells) → Contains (section_cell_ids cells) x
-      → section_shown_before cells x ≡ count_by (λ y. R y x) (section_cell_ids (section_cells_shown cells))
-  shown_before [] x o c = absurd (contains_none x c)
-  shown_before (e ∷ es) x o c =
+  pub counted_before : (cells : List Cell) (x : Identifier) → AllPairs T (cell_ids cells) → Contains (cell_ids cells) x
+      → shown_before cells x ≡ count_by (λ y. R y x) (cell_ids (cells_shown cells))
+  counted_before [] x o c = absurd (contains_none x c)
+  counted_before (e ∷ es) x o c =
       let q : Identifier → Bool = λ y. R y x in
-      let ids : List Identifier = section_cell_ids es in
+      let ids : List Identifier = cell_ids es in
       elim (cases_id x e.id) [
         | inl d ↦
             let none : All (λ y. q y ≡ false) (e.id ∷ ids) = subst (λ z. All (λ y. R y z ≡ false) (e.id ∷ ids)) (sym d) (none_first e.id ids o) in
-            ap (λ n. length (section_cells_shown (take n (e ∷ es)))) (index_of-here e.id ids x d)
-            ∙ sym (none_pass q (section_cell_ids (section_cells_shown (e ∷ es)))
-            (all_from_contains (λ y. q y ≡ false) (section_cell_ids (section_cells_shown (e ∷ es))) (λ y k. All-contains (λ z. q z ≡ false) (e.id ∷ ids) y none (visible_listed (e ∷ es) y k))))
+            ap (λ n. length (cells_shown (take n (e ∷ es)))) (index_of-here e.id ids x d)
+            ∙ sym (none_pass q (cell_ids (cells_shown (e ∷ es)))
+            (all_from_contains (λ y. q y ≡ false) (cell_ids (cells_shown (e ∷ es))) (λ y k. All-contains (λ z. q z ≡ false) (e.id ∷ ids) y none (visible_listed (e ∷ es) y k))))
         | inr d ↦
             let k : Contains ids x = in_back e.id ids x d c in
             let first : q e.id ≡ true = All-contains (T e.id) ids x (all_pairs_head T e.id ids o) k in
-            let front : List Cell = section_cells_shown (take (index_of ids x) es) in
-            let rest : List Cell = section_cells_shown es in
-            let same : length front ≡ count_by q (section_cell_ids rest) = shown_before es x (all_pairs_tail T e.id ids o) k in
-            ap (λ n. length (section_cells_shown (take n (e ∷ es)))) (index_of-there e.id ids x d)
-            ∙ elim e.hidden as (λ (b : Bool). length (cond (not b) (e ∷ front) front) ≡ count_by q (section_cell_ids (cond (not b) (e ∷ rest) rest))) [
+            let front : List Cell = cells_shown (take (index_of ids x) es) in
+            let rest : List Cell = cells_shown es in
+            let same : length front ≡ count_by q (cell_ids rest) = counted_before es x (all_pairs_tail T e.id ids o) k in
+            ap (λ n. length (cells_shown (take n (e ∷ es)))) (index_of-there e.id ids x d)
+            ∙ elim e.hidden as (λ (b : Bool). length (cond (not b) (e ∷ front) front) ≡ count_by q (cell_ids (cond (not b) (e ∷ rest) rest))) [
               | true ↦ same
-              | false ↦ ap suc same ∙ sym (count-yes q e.id (section_cell_ids rest) first)
+              | false ↦ ap suc same ∙ sym (count-yes q e.id (cell_ids rest) first)
             ]
       ]
 

@@ -1,12 +1,13 @@
 -- The place of an operation that is a comment, and its line by that place.
-use Rattle.margin_notes.proofs.Words.{Bool, Delete, Note, Section, Text, cases_Bool, id_of, inl, inr, true≢false, Identifier, IsIn, List, None, Op, Option, Some, [], ap, before, false, holder, id_eq, if◌then◌else◌, not, option_map, refl, slice_get, subst, sym, true, within, ℕ, ◌&&◌, ◌++◌, ◌||◌, ◌∙◌, ◌∷◌, ◌≡◌}
+use Rattle.margin_notes.proofs.Words.{Bool, Delete, Note, Section, Text, cases_Bool, id_of, inl, inr, true≢false, Identifier, IsIn, List, None, Op, Option, Some, [], ap, before}
+use Rattle.margin_notes.proofs.Words.{false, holder, id_eq, if◌then◌else◌, option_map, refl, slice_get, subst, sym, true, within, ℕ, ◌&&◌, ◌++◌, ◌||◌, ◌∙◌, ◌∷◌, ◌≡◌}
 use Rattle.std.specs.Prelude.{decimal, option_and_then}
 use Rattle.origin_model.specs.order.Printed.{is_withdrawn}
 use Rattle.replica_core.specs.Index.{if_section_or_note, is_section_or_note, section_or_note_at}
 use Rattle.margin_notes.specs.Comments.{Comment, comment_in, is_text_of}
 use Rattle.margin_notes.specs.Listing.{CommentLine, anchors_of, body_of, line_for, listed_line, line_of_comment, section_number, commented_section, text_section}
 use Rattle.margin_notes.specs.Margins.{margin_span}
-use Rattle.margin_notes.specs.Placing.{PlacedComment, comment_placed, placed_in_section, placed_from, placed_in}
+use Rattle.margin_notes.specs.Placing.{PlacedComment, comment_placed, placed_in_section, placed_comment, placed_in}
 use Rattle.margin_notes.specs.declared.reading.Anchors.{Anchors}
 use Rattle.margin_notes.proofs.MemberLemmas.{comment_says, has_section, section_is, text_at, text_of}
 use Rattle.margin_notes.proofs.PassageLemmas.{both_parts, text_in}
@@ -49,7 +50,8 @@ comment_from op a e = by (comment_in op) refl e
 pub no_comment : (h : List Op) (op : Op) → None ≡ option_map anchors_of (comment_in op) → None ≡ placed_in h op
 no_comment h op e = by (comment_in op) e
   where
-    by : (o : Option Comment) → None ≡ option_map anchors_of o → ◌≡◌ {A = Option PlacedComment} None (elim o [ None ↦ None | Some c ↦ if is_withdrawn h c.id then None else placed_in_section h c ])
+    by : (o : Option Comment) → None ≡ option_map anchors_of o
+        → ◌≡◌ {A = Option PlacedComment} None (elim o [ None ↦ None | Some c ↦ if is_withdrawn h c.id then None else placed_in_section h c ])
     by None e = refl
     by (Some c) e = cc
 
@@ -73,7 +75,7 @@ module _ (h : List Op) (op : Op) (a : Anchors) (read : Some a ≡ option_map anc
     by_section = by_comment ∙ ap (λ b. if b then None else placed_in_section h found.0) (ap (is_withdrawn h) (sym same_id) ∙ stands)
 
     pub section_missing : ((c : Comment) → a ≡ anchors_of c → None ≡ commented_section h c) → None ≡ placed_in h op
-    section_missing f = sym (by_section ∙ ap (option_map (placed_from h found.0)) (sym (f found.0 found.2)))
+    section_missing f = sym (by_section ∙ ap (option_map (placed_comment h found.0)) (sym (f found.0 found.2)))
 
     -- and a section has it
     module _ (s : Identifier) (at_section : (c : Comment) → a ≡ anchors_of c → Some s ≡ commented_section h c) where
@@ -93,14 +95,14 @@ module _ (h : List Op) (op : Op) (a : Anchors) (read : Some a ≡ option_map anc
           let body : body_of (slice_get ops at) ≡ c.text = ap body_of here ∙ (comment_says op c found.1).body in
           let from_is : from ≡ (margin_span h s c.first c.last).from = begins ∙ ap (λ (b : Anchors). (margin_span h s b.first b.last).from) found.2 in
           let to_is : to ≡ (margin_span h s c.first c.last).to = ends ∙ ap (λ (b : Anchors). (margin_span h s b.first b.last).to) found.2 in
-          let one : comment_placed ops (record { section = s; id = a.id; from = from; to = to; at = at }) ≡ placed_from h c s = λ i. record {
+          let one : comment_placed ops (record { section = s; id = a.id; from = from; to = to; at = at }) ≡ placed_comment h c s = λ i. record {
             section = s;
             id = same_id i;
             from = from_is i;
             to = to_is i;
             text = body i;
           } in
-          ap Some one ∙ sym (by_section ∙ ap (option_map (placed_from h c)) (sym (at_section c found.2)))
+          ap Some one ∙ sym (by_section ∙ ap (option_map (placed_comment h c)) (sym (at_section c found.2)))
 
 -- the line of a comment that stands in the section with the number k
 abbrev pub placed_line : ℕ → PlacedComment → CommentLine
@@ -113,14 +115,16 @@ line_placed h p = option_map (λ k. placed_line k p) (section_number h p.section
 pub line_by_place : (h : List Op) (op : Op) → listed_line h op ≡ option_and_then (line_placed h) (placed_in h op)
 line_by_place h op = by (comment_in op)
   where
-    at : (c : Comment) (o : Option Identifier) → (elim o [ None ↦ None | Some s ↦ option_map (λ k. line_of_comment h k s c) (section_number h s) ]) ≡ option_and_then (line_placed h) (option_map (placed_from h c) o)
+    at : (c : Comment) (o : Option Identifier) → (elim o [ None ↦ None | Some s ↦ option_map (λ k. line_of_comment h k s c) (section_number h s) ]) ≡ option_and_then
+        (line_placed h) (option_map (placed_comment h c) o)
     at c None = refl
     at c (Some s) = refl
 
     by : (o : Option Comment) → (elim o [ None ↦ None | Some c ↦ if is_withdrawn h c.id then None else line_for h c ])
         ≡ option_and_then (line_placed h) (elim o [ None ↦ None | Some c ↦ if is_withdrawn h c.id then None else placed_in_section h c ])
     by None = refl
-    by (Some c) = elim (is_withdrawn h c.id) as (λ (b : Bool). (if b then None else line_for h c) ≡ option_and_then (line_placed h) (if b then None else placed_in_section h c)) [ true ↦ refl | false ↦ at c (commented_section h c) ]
+    by (Some c) = elim (is_withdrawn h c.id) as (λ (b : Bool). (if b then None else line_for h c) ≡ option_and_then (line_placed h) (if b then None else placed_in_section h c))
+        [ true ↦ refl | false ↦ at c (commented_section h c) ]
 
 -- so it is of whatever stands somewhere
 pub line_at_place : (h : List Op) (o : Option Op) → option_and_then (listed_line h) o ≡ option_and_then (line_placed h) (option_and_then (placed_in h) o)
@@ -141,9 +145,9 @@ no_line h op e = line_by_place h op ∙ ap (option_and_then (line_placed h)) (no
 pub placed_own : (h : List Op) (op : Op) (p : PlacedComment) → placed_in h op ≡ Some p → id_of op ≡ Some p.id
 placed_own h op p e = by (comment_in op) refl e
   where
-    at : (c : Comment) (o : Option Identifier) → option_map (placed_from h c) o ≡ Some p → c.id ≡ p.id
+    at : (c : Comment) (o : Option Identifier) → option_map (placed_comment h c) o ≡ Some p → c.id ≡ p.id
     at c None k = cc
-    at c (Some s) k = let d : placed_from h c s ≡ p = cc in ap (λ (x : PlacedComment). x.id) d
+    at c (Some s) k = let d : placed_comment h c s ≡ p = cc in ap (λ (x : PlacedComment). x.id) d
 
     by : (o : Option Comment) → comment_in op ≡ o → (elim o [ None ↦ None | Some c ↦ if is_withdrawn h c.id then None else placed_in_section h c ]) ≡ Some p → id_of op ≡ Some p.id
     by None says k = cc

@@ -67,7 +67,8 @@ not_shown = (refl, refl)
 
 -- one shown scalar, whose span has it alone; a comment on a scalar that was hidden before is on nothing
 single :
-    (margin_span written section (id 1 1) (id 1 1) ≡ spans_are 0 1) × (margin_span written section (id 1 5) (id 1 5) ≡ spans_are 4 5) × (margin_span moved section (id 1 2) (id 1 2) ≡ spans_are 3 3)
+    (margin_span written section (id 1 1) (id 1 1) ≡ spans_are 0 1) × (margin_span written section (id 1 5) (id 1 5) ≡ spans_are 4 5)
+    × (margin_span moved section (id 1 2) (id 1 2) ≡ spans_are 3 3)
 unfolding order before chain
 single = (refl, refl, refl)
 
@@ -81,8 +82,10 @@ is_listed op = elim (comments_in (op ∷ two_sections) section) [ [] ↦ false |
 
 -- the wrong way round, of two sections, a Section among the names, one name, three names, and another code: no comment
 ignored :
-    (is_listed (note 9 (id 1 2) (id 1 4) (codes "a")) ≡ true) × (is_listed (note 9 (id 1 2) (id 1 2) (codes "a")) ≡ true) × (is_listed (note 9 (id 1 4) (id 1 2) (codes "a")) ≡ false)
-    × (is_listed (note 9 (id 1 2) (id 1 8) (codes "a")) ≡ false) × (is_listed (note 9 (id 1 0) (id 1 2) (codes "a")) ≡ false) × (is_listed (note 9 (id 1 2) (id 1 7) (codes "a")) ≡ false)
+    (is_listed (note 9 (id 1 2) (id 1 4) (codes "a")) ≡ true) × (is_listed (note 9 (id 1 2) (id 1 2) (codes "a")) ≡ true)
+    × (is_listed (note 9 (id 1 4) (id 1 2) (codes "a")) ≡ false)
+    × (is_listed (note 9 (id 1 2) (id 1 8) (codes "a")) ≡ false) × (is_listed (note 9 (id 1 0) (id 1 2) (codes "a")) ≡ false)
+    × (is_listed (note 9 (id 1 2) (id 1 7) (codes "a")) ≡ false)
     × (is_listed (Note (id 1 9) (id 1 2 ∷ []) 3 (codes "a")) ≡ false) × (is_listed (Note (id 1 9) (id 1 2 ∷ id 1 3 ∷ id 1 4 ∷ []) 3 (codes "a")) ≡ false)
     × (is_listed (Note (id 1 9) (id 1 2 ∷ id 1 4 ∷ []) 4 (codes "a")) ≡ false) × (is_listed (note 9 (id 1 6) (id 1 6) (codes "a")) ≡ false)
 unfolding order before chain is_utf8 chars encode

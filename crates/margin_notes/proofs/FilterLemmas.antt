@@ -1,6 +1,7 @@
 -- Lists of identifiers that tests keep a part of.
 use Rattle.fugue_ids.proofs.ListLemmas.{filter-both}
-use Rattle.margin_notes.proofs.Words.{All, All-head, All-tail, All-weaker, AllPairs, Bool, Identifier, List, [], all_pairs_head, all_pairs_tail, ap, cases_Bool, cond, drop, false, filter, inl, inr, length, not, refl, subst, sym, take, true, true≢false, ◌&&◌, ◌∙◌, ◌∷◌, ◌≡◌}
+use Rattle.margin_notes.proofs.Words.{All, All-head, All-tail, All-weaker, AllPairs, Bool, Identifier, List, [], all_pairs_head, all_pairs_tail, ap, cases_Bool, cond, drop, false}
+use Rattle.margin_notes.proofs.Words.{filter, inl, inr, length, not, refl, subst, sym, take, true, true≢false, ◌∙◌, ◌∷◌, ◌≡◌}
 use Rattle.origin_model.proofs.edits.SplitLemmas.{filter_all}
 use Rattle.std.proofs.Math.Bool.{and_comm}
 

@@ -1,5 +1,6 @@
 -- Lists of what some members say.
-use Rattle.margin_notes.proofs.Words.{AllPairs, Contains, List, None, Option, Some, [], all_from_contains, all_pairs_head, all_pairs_tail, All-contains, ap, flat_map, inl, inr, option_to_list, refl, subst, sym, ◌++◌, ◌∙◌, ◌∷◌, ◌≡◌}
+use Rattle.margin_notes.proofs.Words.{AllPairs, Contains, List, None, Option, Some, [], all_from_contains, all_pairs_head, all_pairs_tail, All-contains, ap, flat_map, inl, inr}
+use Rattle.margin_notes.proofs.Words.{option_to_list, refl, subst, sym, ◌++◌, ◌∙◌, ◌∷◌, ◌≡◌}
 use Rattle.std.proofs.lemmas.List.Kept.{AllPairs-cons}
 use Rattle.std.proofs.lemmas.List.{append-nil}
 use Rattle.std.proofs.lemmas.List.Concat.{flat_map-append}
@@ -14,7 +15,8 @@ module _ {X Y : Type 0} (f : X → Option Y) where
   said_from [] y c = absurd (contains_none y c)
   said_from (x ∷ xs) y c = by (λ k. let r = said_from xs y k in (r.0, contains_there x xs r.0 r.1, r.2)) (f x) refl c
     where
-      by : (Contains (said xs) y → (z : X) × Contains (x ∷ xs) z × (f z ≡ Some y)) → (o : Option Y) → f x ≡ o → Contains (option_to_list o ++ said xs) y → (z : X) × Contains (x ∷ xs) z × (f z ≡ Some y)
+      by : (Contains (said xs) y → (z : X) × Contains (x ∷ xs) z × (f z ≡ Some y)) → (o : Option Y) → f x ≡ o → Contains (option_to_list o ++ said xs) y
+          → (z : X) × Contains (x ∷ xs) z × (f z ≡ Some y)
       by rest None e k = rest k
       by rest (Some z) e k = elim (contains_cases z (said xs) y k) [ inl d ↦ (x, contains_here x xs, e ∙ ap Some d) | inr m ↦ rest m ]
 
@@ -32,7 +34,8 @@ module _ {X Y : Type 0} (f : X → Option Y) where
       later (Some w) k = contains_there w (said xs) y k
 
   -- what members have to each other, what they say has
-  pub said_pairs : (R : X → X → Type 0) (S : Y → Y → Type 0) → ((a b : X) (u v : Y) → R a b → f a ≡ Some u → f b ≡ Some v → S u v) → (xs : List X) → AllPairs R xs → AllPairs S (said xs)
+  pub said_pairs : (R : X → X → Type 0) (S : Y → Y → Type 0) → ((a b : X) (u v : Y) → R a b → f a ≡ Some u → f b ≡ Some v → S u v) → (xs : List X) → AllPairs R xs
+      → AllPairs S (said xs)
   said_pairs R S g [] p = all_pairs_nil S
   said_pairs R S g (x ∷ xs) p = by (said_pairs R S g xs (all_pairs_tail R x xs p)) (f x) refl
     where

@@ -1,5 +1,7 @@
 -- The lines of all sections are in the order of their numbers and identifiers, and say what the definitions write.
-use Rattle.margin_notes.proofs.Words.{All, All-contains, AllPairs, Contains, Identifier, Lawful, List, None, Op, Option, Some, [], all_from_contains, all_pairs_head, all_pairs_tail, ap, arith, cases_Bool, false, flat_map, id_of, if◌then◌else◌, inl, inr, map, not, option_map, refl, reverse, subst, suc, sym, true, true≢false, ℕ, ◌++◌, ◌<◌, ◌≤◌, ◌∙◌, ◌∷◌, ◌≡◌}
+use Rattle.margin_notes.proofs.Words.{All, All-contains, AllPairs, Contains, Identifier, Lawful, List, None, Op, Option, Some, [], all_from_contains, all_pairs_head}
+use Rattle.margin_notes.proofs.Words.{all_pairs_tail, ap, arith, cases_Bool, false, flat_map, id_of, if◌then◌else◌, inl, inr, map, not, option_map, refl, reverse, subst, suc, sym}
+use Rattle.margin_notes.proofs.Words.{true, true≢false, ℕ, ◌++◌, ◌<◌, ◌≤◌, ◌∙◌, ◌∷◌, ◌≡◌}
 use Rattle.std.specs.Prelude.{◌≢◌, ◌⊎◌}
 use Rattle.std.proofs.lemmas.List.Concat.{flat_map-append}
 use Rattle.std.proofs.lemmas.List.Elements.{Contains-append_cases, Contains-append_left, Contains-append_right}
@@ -58,7 +60,8 @@ module _ (h : List Op) where
       let rest : List CommentLine = listed_from h (suc k) ss in
       all_pairs_append Below here rest
       (all_pairs_map (line_of_comment h k s) Below cs
-      (all_pairs_weaker Earlier (λ c d. Below (line_of_comment h k s c) (line_of_comment h k s d)) (λ c d e. inr (refl, e)) cs (by_id_ordered (comments_in h s) (listed_apart h s w))))
+      (all_pairs_weaker Earlier (λ c d. Below (line_of_comment h k s c) (line_of_comment h k s d)) (λ c d e. inr (refl, e)) cs
+      (by_id_ordered (comments_in h s) (listed_apart h s w))))
       (listed_ordered (suc k) ss w)
       (all_from_contains (λ x. All (Below x) rest) here (λ x m. all_from_contains (Below x) rest (λ y n.
       let f = contains_map_from (line_of_comment h k s) cs x m in
@@ -66,7 +69,8 @@ module _ (h : List Op) where
       inl (omega (arith, e, numbers_from (suc k) ss y n)))))
 
   -- the line of a comment is there
-  pub listed_in : (k : ℕ) (ss : List Identifier) (s : Identifier) (n : ℕ) (c : Comment) → number_from k ss s ≡ Some n → Contains (comments_in h s) c → Contains (listed_from h k ss) (line_of_comment h n s c)
+  pub listed_in : (k : ℕ) (ss : List Identifier) (s : Identifier) (n : ℕ) (c : Comment) → number_from k ss s ≡ Some n → Contains (comments_in h s) c
+      → Contains (listed_from h k ss) (line_of_comment h n s c)
   listed_in k [] s n c e m = cc
   listed_in k (x ∷ ss) s n c e m =
       elim (cases_id x s) [
@@ -210,7 +214,8 @@ module _ (h : List Op) where
       let k = said_from (listed_line h) h (line_of_comment h l.number i.section i.comment) (line_to i.section l.number i.comment i.number_is i.listed) in
       said_in (listed_line h) xs k.0 l (f k.0 k.1) (k.2 ∙ ap Some (sym i.line_is))
 
-  pub same_lines : Lawful h → (l : CommentLine) → (Contains (lines_in h (reverse h)) l → Contains (listed_comments h) l) × (Contains (listed_comments h) l → Contains (lines_in h (reverse h)) l)
+  pub same_lines : Lawful h → (l : CommentLine)
+      → (Contains (lines_in h (reverse h)) l → Contains (listed_comments h) l) × (Contains (listed_comments h) l → Contains (lines_in h (reverse h)) l)
   same_lines w l = (
     same_one (reverse h) (λ op. Contains-permutation (reverse h) h op (IsPermutation-sym h (reverse h) (IsPermutation-reverse h))) w l,
     other_one (reverse h) (λ op. Contains-permutation h (reverse h) op (IsPermutation-reverse h)) w l,

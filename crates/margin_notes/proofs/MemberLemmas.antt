@@ -1,5 +1,6 @@
 -- The comments of a section, and which operations they are.
-use Rattle.margin_notes.proofs.Words.{AllPairs, Bool, Contains, Identifier, Lawful, List, None, Note, Op, Option, Some, Text, Section, Delete, [], ap, before, cases_Bool, false, holder, id_eq, id_of, if◌then◌else◌, inl, inr, not, refl, stands_at, subst, sym, true, within, ◌&&◌, ◌||◌, ◌∙◌, ◌∷◌, ◌≡◌}
+use Rattle.margin_notes.proofs.Words.{AllPairs, Bool, Contains, Identifier, Lawful, List, None, Note, Op, Option, Some, Text, Section, Delete, [], ap, before, cases_Bool, false}
+use Rattle.margin_notes.proofs.Words.{holder, id_eq, id_of, if◌then◌else◌, inl, inr, not, stands_at, subst, sym, true, within, ◌&&◌, ◌||◌, ◌∙◌, ◌∷◌, ◌≡◌}
 use Rattle.std.specs.Prelude.{nat_eq}
 use Rattle.std.proofs.lemmas.List.Kept.{AllPairs-filter}
 use Rattle.fugue_ids.proofs.IdentifierLemmas.{id_eq-refl, id_eq-true}

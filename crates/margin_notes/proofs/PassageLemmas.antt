@@ -1,8 +1,11 @@
 -- The elements between two anchors, and the comments of a section, stay as they are while the history grows.
-use Rattle.margin_notes.proofs.Words.{All, All-weaker, Bool, Delete, Identifier, IsIn, IsPartOf, KeepsOrder, Lawful, List, None, Note, Op, Option, Place, Section, Some, Text, [], all_from_contains, ap, before, cases_Bool, false, filter, first_missing, has_op, holder, holds, id_eq, id_of, if◌then◌else◌, inl, inr, names, or_right, order, refl, stands_at, sym, true, within, ◌&&◌, ◌++◌, ◌||◌, ◌∙◌, ◌∷◌, ◌≡◌}
+use Rattle.margin_notes.proofs.Words.{All-weaker, Bool, Delete, Identifier, IsIn, KeepsOrder, Lawful, List, None, Note, Op, Option, Place, Section, Some, Text, [], ap, before}
+use Rattle.margin_notes.proofs.Words.{cases_Bool, false, filter, first_missing, holder, holds, id_eq, id_of, if◌then◌else◌, inl, inr, names, order, refl, stands_at, sym, true}
+use Rattle.margin_notes.proofs.Words.{within, ◌&&◌, ◌++◌, ◌||◌, ◌∙◌, ◌∷◌, ◌≡◌}
 use Rattle.origin_model.specs.declared.operations.Role.{Role}
 use Rattle.origin_model.specs.declared.operations.Role.TheVariants.{Any}
-use Rattle.origin_model.proofs.SharedLemmas.{cases_held, found, has-append, holder_owns, holds-older, IsHeld, Lawful-append, order-in, order_total, own_id, part_at_end, parts_keep_order, when_ready, Within-append}
+use Rattle.origin_model.proofs.SharedLemmas.{cases_held, found, holder_owns, holds-older, IsHeld, Lawful-append, order-in, own_id, part_at_end, parts_keep_order, when_ready}
+use Rattle.origin_model.proofs.SharedLemmas.{Within-append}
 use Rattle.std.specs.Prelude.{is_some, nat_eq}
 use Rattle.fugue_ids.proofs.IdentifierLemmas.{not_some}
 use Rattle.margin_notes.specs.declared.limits.TheConstants.{COMMENT_CODE}
@@ -62,7 +65,8 @@ pub comment_stays : (s : Identifier) (c : Comment) (new h : List Op) → Lawful 
 comment_stays s c new h w a b =
     let whole : List Op = new ++ h in
     (λ i. text_stays s new h c.first w a i && text_stays s new h c.last w b i && (id_eq c.first c.last || before (within s) whole c.first c.last))
-    ∙ same_tests (is_text_of h s c.first) (is_text_of h s c.last) (id_eq c.first c.last || before (within s) whole c.first c.last) (id_eq c.first c.last || before (within s) h c.first c.last)
+    ∙ same_tests (is_text_of h s c.first) (is_text_of h s c.last) (id_eq c.first c.last || before (within s) whole c.first c.last)
+    (id_eq c.first c.last || before (within s) h c.first c.last)
     (λ t u. ap (λ v. id_eq c.first c.last || v) (sym ((keeps (within s) new h w).same_before c.first c.last (text_in s h c.first t) (text_in s h c.last u))))
 
 -- what a test lets through is what was given

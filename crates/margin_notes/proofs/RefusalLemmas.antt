@@ -1,5 +1,6 @@
 -- When a comment is refused: by its section, by its clusters, or by its note.
-use Rattle.margin_notes.proofs.Words.{Bool, Identifier, None, Option, Some, ap, false, if◌then◌else◌, inl, inr, length, option_map, refl, subst, sym, true, ℕ, ◌&&◌, ◌+◌, ◌-◌, ◌∙◌, ◌≡◌, ◌≢◌}
+use Rattle.margin_notes.proofs.Words.{Bool, Identifier, None, Option, Some, ap, false, if◌then◌else◌, inl, inr, length, option_map, refl, subst, sym, true, ℕ, ◌&&◌, ◌+◌, ◌-◌, ◌∙◌}
+use Rattle.margin_notes.proofs.Words.{◌≡◌, ◌≢◌}
 use Rattle.std.specs.Prelude.{◌^◌, ◌↔◌, ◌⊎◌, Err, IfSome, Ok, Result, nat_lt}
 use Rattle.std.proofs.lemmas.Bool.{le-ltb, lt-ltb}
 use Rattle.origin_model.specs.declared.edit_fault.EditFault.{EditFault}

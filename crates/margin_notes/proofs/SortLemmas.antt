@@ -1,5 +1,7 @@
 -- Lists in a strict order, and comments by identifier.
-use Rattle.margin_notes.proofs.Words.{All, All-head, All-tail, All-cons, All-contains, All-nil, All-weaker, AllPairs, Bool, Contains, Identifier, List, [], all_from_contains, all_pairs_head, all_pairs_tail, ap, arith, cases_Bool, false, if◌then◌else◌, inl, inr, length, refl, subst, suc, sym, true, true≢false, ◌∙◌, ◌∷◌, ◌≡◌}
+use Rattle.margin_notes.proofs.Words.{All, All-head, All-tail, All-cons, All-contains, All-nil, All-weaker, AllPairs, Bool, Contains, Identifier, List, [], all_from_contains}
+use Rattle.margin_notes.proofs.Words.{all_pairs_head, all_pairs_tail, ap, arith, cases_Bool, false, if◌then◌else◌, inl, inr, length, refl, subst, suc, sym, true, true≢false, ◌∙◌}
+use Rattle.margin_notes.proofs.Words.{◌∷◌, ◌≡◌}
 use Rattle.std.specs.Prelude.{◌≢◌, ◌⊎◌}
 use Rattle.std.proofs.lemmas.Bool.Decides.{nat_tests}
 use Rattle.std.proofs.lemmas.List.Kept.{AllPairs-cons}

@@ -1,5 +1,6 @@
 -- Entries that are sorted are the lines of the sections.
-use Rattle.margin_notes.proofs.Words.{AllPairs, Some, Identifier, Lawful, List, Op, [], all_pairs_head, all_pairs_tail, ap, arith, catalogue, cases_Bool, false, flat_map, id_eq, inl, inr, map, refl, reverse, shown, subst, sym, true, true≢false, ◌++◌, ◌<◌, ◌∙◌, ◌∷◌, ◌≡◌}
+use Rattle.margin_notes.proofs.Words.{AllPairs, Some, Identifier, Lawful, List, Op, [], all_pairs_head, all_pairs_tail, ap, arith, catalogue, cases_Bool, false, flat_map, id_eq}
+use Rattle.margin_notes.proofs.Words.{inl, inr, map, refl, reverse, shown, subst, sym, true, true≢false, ◌++◌, ◌<◌, ◌∙◌, ◌∷◌, ◌≡◌}
 use Rattle.std.specs.Prelude.{IsPermutation, IsSorted, ◌≢◌}
 use Rattle.std.proofs.Common.{get_or}
 use Rattle.std.specs.Cmp.{IsTotalOrder}
@@ -87,7 +88,8 @@ pairs_reversed R flips (x ∷ xs) o =
     (λ k d l. flips x _ (All-permutation (R x) xs (reverse xs) (IsPermutation-reverse xs) (all_pairs_head R x xs o) k d l)))
 
 -- sorted entries of all operations are the lines of the sections
-module _ (h : List Op) (w : Lawful h) (es fs : List Entry) (are : map (line_of_entry (reverse h)) es ≡ lines_in h (reverse h)) (p : IsPermutation es fs) (sorted : IsSorted entry_cmp fs) where
+module _ (h : List Op) (w : Lawful h) (es fs : List Entry) (are : map (line_of_entry (reverse h)) es ≡ lines_in h (reverse h)) (p : IsPermutation es fs)
+    (sorted : IsSorted entry_cmp fs) where
   abbrev line : Entry → CommentLine
   line = line_of_entry (reverse h)
 
@@ -101,7 +103,8 @@ module _ (h : List Op) (w : Lawful h) (es fs : List Entry) (are : map (line_of_e
   ordered : AllPairs Below (map line fs)
   ordered =
       all_pairs_map line Below fs (λ i j d l m.
-      not_greater (reverse h) (get_or fs i d) (get_or fs j d) (sorted_far (λ a b. is_lt (entry_cmp a b)) (ranks_by entries_total (λ e. e)) fs sorted i j d (omega (arith, l)) m) (apart i j d l m))
+      not_greater (reverse h) (get_or fs i d) (get_or fs j d) (sorted_far (λ a b. is_lt (entry_cmp a b)) (ranks_by entries_total (λ e. e)) fs sorted i j d (omega (arith, l)) m)
+      (apart i j d l m))
 
   lines : IsPermutation (lines_in h (reverse h)) (map line fs)
   lines = subst (λ l. IsPermutation l (map line fs)) are (IsPermutation-map line es fs p)
@@ -123,5 +126,6 @@ entries_write h es are = bytes_are (reverse h) es ∙ ap (flat_map (λ (l : Comm
 -- no two comments that stand in sections have one identifier
 pub placed_apart : (h : List Op) → Lawful h → AllPairs (λ (a b : PlacedComment). a.id ≢ b.id) (placed_comments h)
 placed_apart h w =
-    said_pairs (placed_in h) HaveOtherIds (λ (a b : PlacedComment). a.id ≢ b.id) (λ a b u v other e f d. other u.id (placed_own h a u e) (placed_own h b v f ∙ ap Some (sym d))) (reverse h)
+    said_pairs (placed_in h) HaveOtherIds (λ (a b : PlacedComment). a.id ≢ b.id) (λ a b u v other e f d. other u.id (placed_own h a u e) (placed_own h b v f ∙ ap Some (sym d)))
+    (reverse h)
     (pairs_reversed HaveOtherIds (λ a b other i e f. other i f e) h (lawful_own h w))

@@ -1,5 +1,6 @@
 -- The two numbers of a span cut the visible elements between the anchors out of those that are shown.
-use Rattle.margin_notes.proofs.Words.{All-weaker, AllPairs, Bool, Identifier, IsIn, Lawful, List, Op, Place, ap, arith, before, cases_Bool, count_by, drop, false, filter, id_eq, inl, inr, is_hidden, length, not, order, refl, shown, subst, sym, take, true, within, ◌&&◌, ◌+◌, ◌-◌, ◌||◌, ◌∙◌, ◌≡◌, ◌≤◌, ℕ}
+use Rattle.margin_notes.proofs.Words.{All-weaker, AllPairs, Bool, Identifier, IsIn, Lawful, List, Op, Place, ap, arith, before, cases_Bool, count_by, drop, false, filter, id_eq}
+use Rattle.margin_notes.proofs.Words.{inl, inr, is_hidden, length, not, order, refl, shown, subst, sym, take, true, within, ◌&&◌, ◌+◌, ◌-◌, ◌||◌, ◌∙◌, ◌≡◌, ◌≤◌, ℕ}
 use Rattle.std.proofs.lemmas.Bool.{or_cases, or_right}
 use Rattle.std.proofs.lemmas.List.{drop-take}
 use Rattle.std.proofs.lemmas.List.Elements.{All-filter}
@@ -81,7 +82,8 @@ module _ (p : Place) (h : List Op) (w : Lawful h) (a b : Identifier) (in_a : IsI
       filter-both is_up_to (λ x. not (is_before x)) (shown p h)
       ∙ filter-agree (λ x. is_up_to x && not (is_before x)) (stands_between p h a b) (shown p h)
       (All-weaker (IsIn p h) (λ x. (is_up_to x && not (is_before x)) ≡ stands_between p h a b x)
-      (λ x m. and_comm (is_up_to x) (not (is_before x)) ∙ sym (ap (λ c. c && is_up_to x) (not_before x m))) (shown p h) (All-filter visible (IsIn p h) (order p h) (order-in p h w)))
+      (λ x m. and_comm (is_up_to x) (not (is_before x)) ∙ sym (ap (λ c. c && is_up_to x) (not_before x m))) (shown p h)
+      (All-filter visible (IsIn p h) (order p h) (order-in p h w)))
       ∙ filter-swap (stands_between p h a b) visible (order p h)
 
   abbrev from : ℕ

@@ -19,7 +19,8 @@ module _ {E Y : Type 0} (f : Op → Option Y) (g : E → Y) (ops : List Op) wher
   walk_passes entries i op below is none are = are ∙ sym (append-nil (said f (take i ops))) ∙ sym (more i op below is ∙ ap (λ o. said f (take i ops) ++ option_to_list o) none)
 
   -- and one that says what an entry stands for
-  pub walk_puts : (entries new : List E) (e : E) (i : ℕ) (op : Op) → i < length ops → op ≡ get_or ops i op → Some (g e) ≡ f op → new ≡ entries ++ e ∷ [] → IsPutDown f g ops entries i
+  pub walk_puts : (entries new : List E) (e : E) (i : ℕ) (op : Op) → i < length ops → op ≡ get_or ops i op → Some (g e) ≡ f op → new ≡ entries ++ e ∷ []
+      → IsPutDown f g ops entries i
       → IsPutDown f g ops new (i + 1)
   walk_puts entries new e i op below is said_is new_is are =
       ap (map g) new_is
@@ -28,6 +29,7 @@ module _ {E Y : Type 0} (f : Op → Option Y) (g : E → Y) (ops : List Op) wher
       ∙ sym (more i op below is)
 
   -- between the Sections and Notes nothing is said
-  pub walk_between : ((op : Op) → is_section_or_note op ≡ false → f op ≡ None) → (entries : List E) (i : ℕ) (op : Op) → i < length ops → op ≡ get_or ops i op → is_section_or_note op ≡ false
+  pub walk_between : ((op : Op) → is_section_or_note op ≡ false → f op ≡ None) → (entries : List E) (i : ℕ) (op : Op) → i < length ops → op ≡ get_or ops i op
+      → is_section_or_note op ≡ false
       → IsPutDown f g ops entries i → IsPutDown f g ops entries (i + 1)
   walk_between silent entries i op below is other = walk_passes entries i op below is (silent op other)

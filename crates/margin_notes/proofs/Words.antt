@@ -1,5 +1,6 @@
 -- The words in which proofs here speak.
-pub use Rattle.std.proofs.Common.{Bool, List, [], ap, arith, cond, drop, false, inl, inr, length, not, refl, subst, suc, sym, take, true, zero, ℕ, ◌&&◌, ◌++◌, ◌+◌, ◌-◌, ◌<◌, ◌||◌, ◌∙◌, ◌∷◌, ◌≡◌, ◌≢◌, ◌≤◌}
+pub use Rattle.std.proofs.Common.{Bool, List, [], ap, arith, cond, drop, false, inl, inr, length, not, refl, subst, suc, sym, take, true, zero, ℕ, ◌&&◌, ◌++◌, ◌+◌, ◌-◌, ◌<◌, ◌||◌}
+pub use Rattle.std.proofs.Common.{◌∙◌, ◌∷◌, ◌≡◌, ◌≢◌, ◌≤◌}
 pub use Rattle.std.specs.Prelude.{None, Option, Some, codes, count_by, filter, flat_map, if◌then◌else◌, map, option_map, option_to_list, reverse, slice_get}
 pub use Rattle.std.specs.List.{All, AllPairs, Contains, repeat}
 pub use Rattle.std.proofs.lemmas.Bool.{cases_Bool, false≢true, or_right, true≢false}

@@ -1,5 +1,6 @@
 -- What a comment of a replica is, and when there is none. Sections and clusters count from 0.
-use Rattle.std.specs.Prelude.{◌≡◌, ◌≢◌, ◌⊎◌, ℕ, ◌+◌, ◌-◌, ◌<◌, ◌≤◌, nat_lt, Option, Some, None, if◌then◌else◌, Result, Err, IfSome, List, [], ◌∷◌, length, option_and_then, option_map, slice_get}
+use Rattle.std.specs.Prelude.{◌≡◌, ◌≢◌, ◌⊎◌, ℕ, ◌+◌, ◌-◌, ◌<◌, ◌≤◌, nat_lt, Option, Some, None, if◌then◌else◌, Result, Err, IfSome, List}
+use Rattle.std.specs.Prelude.{[], ◌∷◌, length, option_and_then, option_map, slice_get}
 use Rattle.std.specs.List.{Contains}
 use Rattle.std.specs.Str.{encode_utf8_all}
 use Rattle.fugue_ids.specs.Identifiers.{Identifier}
@@ -36,7 +37,8 @@ as_comment_fault edit.NoMemory = NoMemory
 
 -- the section has fewer clusters, or one note more is refused
 abbrev pub range_refusal : State → Identifier → (at n : ℕ) → Option CommentFault
-range_refusal s x at n = if nat_lt (length (clusters_of s.held.history x)) (at + n) then Some OutOfRange else option_map as_comment_fault (note_refusal s)
+range_refusal s x at n =
+    if nat_lt (length (clusters_of s.held.history x)) (at + n) then Some OutOfRange else option_map as_comment_fault (note_refusal s)
 
 -- why there is no such comment, by the first cause that there is
 abbrev pub comment_refusal : State → (k at n : ℕ) → Option CommentFault
@@ -60,7 +62,8 @@ pub record IsRange (s : State) (k at n : ℕ) (found : ℕ × ℕ) : Type 0 wher
 -- why there are no such clusters
 abbrev pub HasNoRange : State → (k at n : ℕ) → CommentFault → Type 0
 HasNoRange s k at n NoSection = section_shown s k ≡ None
-HasNoRange s k at n OutOfRange = (section : Identifier) × (section_shown s k ≡ Some section) × (length (clusters_of s.held.history section) < at + n)
+HasNoRange s k at n OutOfRange =
+    (section : Identifier) × (section_shown s k ≡ Some section) × (length (clusters_of s.held.history section) < at + n)
 HasNoRange s k at n NoMemory = section_shown s k ≢ None
 HasNoRange s k at n _ = ⊥
 

@@ -1,5 +1,6 @@
 -- Comments on passages: notes of code 3, which name the first and the last scalar of what they are about. A history is newest first.
-use Rattle.std.specs.Prelude.{ℕ, nat_eq, Option, Some, None, Bool, false, if◌then◌else◌, not, ◌&&◌, ◌||◌, List, [], ◌∷◌, filter, flat_map, option_to_list}
+use Rattle.std.specs.Prelude.{ℕ, nat_eq, Option, Some, None, Bool, false, if◌then◌else◌, not, ◌&&◌, ◌||◌, List, [], ◌∷◌, filter, flat_map}
+use Rattle.std.specs.Prelude.{option_to_list}
 use Rattle.fugue_ids.specs.Identifiers.{Identifier, id_eq, id_lt}
 use Rattle.fugue_ids.specs.Titles.{is_line}
 use Rattle.fugue_ids.specs.declared.limits.TheConstants.{LONGEST_BODY}

@@ -31,5 +31,6 @@ CommentsStay = (s : Identifier) (c : Comment) (op : Op) (new h : List Op) → La
 -- the span of a comment cuts the shown elements of its passage out of those of the section
 abbrev pub SpanIsPassage : Type 0
 SpanIsPassage = (h : List Op) (s : Identifier) (c : Comment) → Lawful h → is_in_section h s c ≡ true
-    → take ((margin_span h s c.first c.last).to - (margin_span h s c.first c.last).from) (drop (margin_span h s c.first c.last).from (shown (within s) h))
+    → take ((margin_span h s c.first c.last).to - (margin_span h s c.first c.last).from)
+    (drop (margin_span h s c.first c.last).from (shown (within s) h))
     ≡ filter (λ x. not (is_hidden h x)) (passage (within s) h c.first c.last)

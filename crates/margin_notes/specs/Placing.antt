@@ -17,8 +17,8 @@ pub record PlacedComment : Type 0 where
   pub text : List ℕ
 
 -- a comment with its section and its place there
-abbrev pub placed_from : List Op → Comment → Identifier → PlacedComment
-placed_from h c s = record {
+abbrev pub placed_comment : List Op → Comment → Identifier → PlacedComment
+placed_comment h c s = record {
   section = s;
   id = c.id;
   from = (margin_span h s c.first c.last).from;
@@ -28,7 +28,7 @@ placed_from h c s = record {
 
 -- where a section has it
 abbrev pub placed_in_section : List Op → Comment → Option PlacedComment
-placed_in_section h c = option_map (placed_from h c) (commented_section h c)
+placed_in_section h c = option_map (placed_comment h c) (commented_section h c)
 
 -- where an operation stands, if it is a comment that no Delete names
 abbrev pub placed_in : List Op → Op → Option PlacedComment

@@ -73,7 +73,8 @@ last_in_front (x ∷ []) back = refl
 last_in_front (x ∷ y ∷ xs) back = last_in_front (y ∷ xs) back
 
 -- a list in a strict order has each member at one position
-at_once : (R : Relation) → ((x : Identifier) → R x x ≡ false) → (xs : List Identifier) → AllPairs (λ x y. R x y ≡ true) xs → (z : Identifier) (i j : ℕ) → i < length xs → j < length xs
+at_once : (R : Relation) → ((x : Identifier) → R x x ≡ false) → (xs : List Identifier) → AllPairs (λ x y. R x y ≡ true) xs → (z : Identifier) (i j : ℕ) → i < length xs
+    → j < length xs
     → get_or xs i z ≡ z → get_or xs j z ≡ z → i ≡ j
 at_once R strict xs o z i j a b e k =
     elim (cases_order i j) [
@@ -147,7 +148,8 @@ module _ (s : Identifier) (base own other whole : List Op) (u : Lawful base) (v 
       before_it : left_for p base (length front) ≡ last_before front
       before_it = ap (λ l. in_front l (length front)) e ∙ last_in_front front back
 
-      by_list : (xs : List Identifier) → IsOwn p whole own other xs → ((z : Identifier) → Contains xs z → holds base z ≡ false) → IsPutInOneGo p own (left_for p base (length front)) xs
+      by_list : (xs : List Identifier) → IsOwn p whole own other xs → ((z : Identifier) → Contains xs z → holds base z ≡ false)
+          → IsPutInOneGo p own (left_for p base (length front)) xs
           → (x : Identifier) → Contains xs x → StandsAt R front back x
       by_list [] o n g x m = absurd (contains_none x m)
       by_list (y ∷ ys) o n g x m =

@@ -90,7 +90,8 @@ draft_a = record {
   transforms = transforms 97;
   stays = (a ∷ [], [], refl, All-cons (λ y. holds base y ≡ false) a [] refl (All-nil (λ y. holds base y ≡ false)), refl, refl);
   put = λ i. elim (cases_at i) [
-    | inl e ↦ subst (λ n. IsPutInOneGo (within section) (letter_a ∷ base) (left_for (within section) base n) ((if nat_eq 1 n then a ∷ [] else []) ++ [])) e ((x ∷ [], [], refl, refl), tt)
+    | inl e ↦ subst (λ n. IsPutInOneGo (within section) (letter_a ∷ base) (left_for (within section) base n) ((if nat_eq 1 n then a ∷ [] else []) ++ [])) e
+        ((x ∷ [], [], refl, refl), tt)
     | inr n ↦ subst (IsPutInOneGo (within section) (letter_a ∷ base) (left_for (within section) base i)) (sym (elsewhere a i n)) tt
   ];
 }
@@ -104,7 +105,8 @@ draft_b = record {
   transforms = transforms 98;
   stays = (b ∷ [], [], refl, All-cons (λ y. holds base y ≡ false) b [] refl (All-nil (λ y. holds base y ≡ false)), refl, refl);
   put = λ i. elim (cases_at i) [
-    | inl e ↦ subst (λ n. IsPutInOneGo (within section) (letter_b ∷ base) (left_for (within section) base n) ((if nat_eq 1 n then b ∷ [] else []) ++ [])) e ((x ∷ [], [], refl, refl), tt)
+    | inl e ↦ subst (λ n. IsPutInOneGo (within section) (letter_b ∷ base) (left_for (within section) base n) ((if nat_eq 1 n then b ∷ [] else []) ++ [])) e
+        ((x ∷ [], [], refl, refl), tt)
     | inr n ↦ subst (IsPutInOneGo (within section) (letter_b ∷ base) (left_for (within section) base i)) (sym (elsewhere b i n)) tt
   ];
 }

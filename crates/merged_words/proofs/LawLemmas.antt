@@ -20,7 +20,8 @@ use Rattle.merged_words.specs.Drafts.{ComeTogether, DraftsMerge, IsAuthoredDraft
 use Rattle.merged_words.proofs.ListLemmas.{StandsAt, left_of_it, merged, merged_from, merged_ordered, merged_put, merged_stays}
 use Rattle.merged_words.proofs.PassageLemmas.{both, both_first, both_from, both_ordered, both_second, goes_first, in_whole}
 use Rattle.merged_words.proofs.MergeLemmas.{reads_merged}
-use Rattle.merged_words.proofs.DraftLemmas.{base_whole, come, come_shown, come_stands, hidden_cut, hidden_from, in_shown, is_own, own_hides, own_shown_from, part_shown_ordered, puts_come, scalar, shown_in, stays_uncut, text_is}
+use Rattle.merged_words.proofs.DraftLemmas.{base_whole, come, come_shown, come_stands, hidden_cut, hidden_from, in_shown, is_own, own_hides, own_shown_from, part_shown_ordered}
+use Rattle.merged_words.proofs.DraftLemmas.{puts_come, scalar, shown_in, stays_uncut, text_is}
 
 -- the same of the other author
 turned : (base a b whole : List Op) → ComeTogether base a b whole → ComeTogether base b a whole
@@ -165,4 +166,5 @@ drafts_merge s base a b whole u d e c = is_merge s base a b whole u d e c
 pub no_third_word : NoThirdWord
 no_third_word s base a b whole u d e c separate m n =
     merges_keep_words (text base s) (draft_change s base a d) (draft_change s base b e) separate
-    (record { transforms = d.transforms; words = m.0; separate = m.1 }) (record { transforms = e.transforms; words = n.0; separate = n.1 }) (text whole s) (is_merge s base a b whole u d e c)
+    (record { transforms = d.transforms; words = m.0; separate = m.1 }) (record { transforms = e.transforms; words = n.0; separate = n.1 }) (text whole s)
+    (is_merge s base a b whole u d e c)

@@ -8,7 +8,8 @@ use Rattle.merged_words.proofs.ListLemmas.{left_of_it, merged}
 
 module _ (scalar : Identifier → ℕ) (a b : TextChange) (puts : ℕ → List Identifier) (gone : Identifier → Bool) (S : List Identifier)
     (two : (i : ℕ) → PutBoth a b i (map scalar (puts i)))
-    (left : (front : List Identifier) (c : Identifier) (cs : List Identifier) → S ≡ front ++ c ∷ cs → IsLeftScalar a b (length front) (scalar c) (map scalar (left_of_it gone c))) where
+    (left : (front : List Identifier) (c : Identifier) (cs : List Identifier) → S ≡ front ++ c ∷ cs
+    → IsLeftScalar a b (length front) (scalar c) (map scalar (left_of_it gone c))) where
   pub reads_merged : (front cs : List Identifier) → S ≡ front ++ cs → (i : ℕ) → i ≡ length front → IsMergeFrom a b i (map scalar cs) (map scalar (merged puts gone i cs))
   reads_merged front [] s i l = two i
   reads_merged front (c ∷ cs) s i l =

@@ -8,7 +8,8 @@ use Rattle.fugue_ids.specs.Identifiers.{Identifier}
 use Rattle.fugue_ids.specs.Listed.{last_before}
 use Rattle.fugue_ids.specs.declared.op.Op.{Op}
 use Rattle.fugue_ids.proofs.IdentifierLemmas.{not_some}
-use Rattle.fugue_ids.proofs.ListLemmas.{all_from_contains, all_pairs_across, all_pairs_append, all_pairs_before, all_pairs_behind, all_pairs_head, all_pairs_tail, contains_cases, contains_here, contains_middle_cases, contains_none, contains_there}
+use Rattle.fugue_ids.proofs.ListLemmas.{all_from_contains, all_pairs_across, all_pairs_append, all_pairs_before, all_pairs_behind, all_pairs_head, all_pairs_tail, contains_cases}
+use Rattle.fugue_ids.proofs.ListLemmas.{contains_here, contains_middle_cases, contains_none, contains_there}
 use Rattle.origin_model.specs.declared.operations.Place.{Place}
 use Rattle.origin_model.specs.edits.Passages.{GoesForward, Relation}
 use Rattle.origin_model.specs.operations.History.{holds}
@@ -47,10 +48,12 @@ in_whole p part whole w f x m = record { op = m.op; held = Within-part part whol
 passed_member : (h : List Op) (x e : Identifier) → Lawful h → holds h x ≡ true → Passes (lefts h x) (lefts h e) → Contains (lefts h e) x
 passed_member h x e w k q =
     let front : List Identifier = chain_above next_left h (left_at h x) in
-    subst (λ l. Contains l x) (sym (q.1 ∙ ap (λ l. l ++ q.0) (lefts-above h x w k))) (Contains-append_left (front ++ x ∷ []) q.0 x (Contains-append_right front (x ∷ []) x (contains_here x [])))
+    subst (λ l. Contains l x) (sym (q.1 ∙ ap (λ l. l ++ q.0) (lefts-above h x w k)))
+    (Contains-append_left (front ++ x ∷ []) q.0 x (Contains-append_right front (x ∷ []) x (contains_here x [])))
 
 -- the chain of left origins of each member of a forward passage passes its first element
-passage_passes : (p : Place) (h : List Op) (x : Identifier) (xs : List Identifier) → Lawful h → GoesForward p h x xs → (e : Identifier) → Contains xs e → Passes (lefts h x) (lefts h e)
+passage_passes : (p : Place) (h : List Op) (x : Identifier) (xs : List Identifier) → Lawful h → GoesForward p h x xs → (e : Identifier) → Contains xs e
+    → Passes (lefts h x) (lefts h e)
 passage_passes p h x [] w g e m = absurd (contains_none e m)
 passage_passes p h x (y ∷ ys) w g e m =
     let one : lefts h y ≡ lefts h x ++ y ∷ [] = lefts-above h y w (IsIn-held p h y g.0) ∙ ap (λ o. chain_above next_left h o ++ y ∷ []) g.1 in
@@ -102,12 +105,14 @@ module _ (p : Place) (whole : List Op) (w : Lawful whole) where
     first_here = here x (contains_here x xs)
 
     -- what stands behind the first and hangs on nothing of it stands behind all
-    pub all_before : (e : Identifier) → IsIn p whole e → (Contains (x ∷ xs) e → ⊥) → (Passes (lefts whole x) (lefts whole e) → ⊥) → R x e ≡ true → (z : Identifier) → Contains (x ∷ xs) z → R z e ≡ true
+    pub all_before : (e : Identifier) → IsIn p whole e → (Contains (x ∷ xs) e → ⊥) → (Passes (lefts whole x) (lefts whole e) → ⊥) → R x e ≡ true → (z : Identifier)
+        → Contains (x ∷ xs) z → R z e ≡ true
     all_before e m other n a z k =
         elim (contains_cases x xs z k) [
           | inl d ↦ subst (λ q. R q e ≡ true) d a
           | inr j ↦
-              let same : (q : Identifier) → Contains (x ∷ xs) q → lefts own q ≡ lefts whole q = λ q t. lefts-within own whole q v w (Within-part own whole w f) (IsIn-held p own q (each q t)) in
+              let same : (q : Identifier) → Contains (x ∷ xs) q
+              → lefts own q ≡ lefts whole q = λ q t. lefts-within own whole q v w (Within-part own whole w f) (IsIn-held p own q (each q t)) in
               let pass : Passes (lefts whole x) (lefts whole z) =
               subst (λ l. Passes l (lefts whole z)) (same x (contains_here x xs)) (subst (Passes (lefts own x)) (same z k) (passage_passes p own x xs v g z j)) in
               elim (cases_Bool (R e z)) [
@@ -243,12 +248,14 @@ module _ (p : Place) (whole : List Op) (w : Lawful whole) where
       stand_apart b a y x ys xs n m (turned p whole w x y (in_whole p a whole w m.part x mx) (in_whole p b whole w n.part y my) d k) z t i j
 
   -- both are in order
-  pub both_ordered : (a b : List Op) (xs ys : List Identifier) → IsOwn p whole a b xs → IsOwn p whole b a ys → AllPairs (λ x y. before p whole x y ≡ true) (both (before p whole) xs ys)
+  pub both_ordered : (a b : List Op) (xs ys : List Identifier) → IsOwn p whole a b xs → IsOwn p whole b a ys
+      → AllPairs (λ x y. before p whole x y ≡ true) (both (before p whole) xs ys)
   both_ordered a b xs ys m n =
       let T : Identifier → Identifier → Type 0 = λ x y. before p whole x y ≡ true in
       elim (cases_Bool (goes_first (before p whole) xs ys)) [
         | inl k ↦ subst (λ (q : Bool). AllPairs T (if q then xs ++ ys else ys ++ xs)) (sym k)
             (all_pairs_append T xs ys m.ordered n.ordered (all_from_contains (λ x. All (T x) ys) xs (λ x i. all_from_contains (T x) ys (λ y j. across a b xs ys m n k x y i j))))
         | inr k ↦ subst (λ (q : Bool). AllPairs T (if q then xs ++ ys else ys ++ xs)) (sym k)
-            (all_pairs_append T ys xs n.ordered m.ordered (all_from_contains (λ y. All (T y) xs) ys (λ y j. all_from_contains (T y) xs (λ x i. across_back a b xs ys m n k y x j i))))
+            (all_pairs_append T ys xs n.ordered m.ordered
+            (all_from_contains (λ y. All (T y) xs) ys (λ y j. all_from_contains (T y) xs (λ x i. across_back a b xs ys m n k y x j i))))
       ]

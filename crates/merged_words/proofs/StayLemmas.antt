@@ -1,5 +1,6 @@
 -- What stays and what comes where the hunks of a text are made.
-use Rattle.std.proofs.Common.{Bool, List, [], ap, append_assoc, arith, drop, false, get_or, inl, inr, length, nat_eq, refl, subst, sym, take, true, ℕ, ◌+◌, ◌++◌, ◌-◌, ◌<◌, ◌≤◌, ◌∙◌, ◌∷◌, ◌≡◌, ◌⊎◌}
+use Rattle.std.proofs.Common.{Bool, List, [], ap, append_assoc, arith, drop, false, get_or, inl, inr, length, nat_eq, refl, subst, sym, take, true, ℕ, ◌+◌, ◌++◌, ◌-◌, ◌<◌, ◌≤◌}
+use Rattle.std.proofs.Common.{◌∙◌, ◌∷◌, ◌≡◌, ◌⊎◌}
 use Rattle.std.specs.Prelude.{if◌then◌else◌, map}
 use Rattle.std.specs.List.{All, AllPairs, Contains}
 use Rattle.std.proofs.lemmas.Bool.{cases_lt, eq-eqb, eqb-true}
@@ -8,7 +9,8 @@ use Rattle.std.proofs.Math.Seq.{drop-append_seam, take-append_seam}
 use Rattle.std.proofs.lemmas.List.Elements.{All-contains, Contains-append_cases, Contains-append_left, Contains-append_right}
 use Rattle.fugue_ids.specs.Identifiers.{Identifier}
 use Rattle.fugue_ids.specs.declared.op.Op.{Op}
-use Rattle.fugue_ids.proofs.ListLemmas.{all_from_contains, all_pairs_across, all_pairs_append, all_pairs_before, all_pairs_behind, all_pairs_nil, contains_cases, contains_here, contains_none, contains_there}
+use Rattle.fugue_ids.proofs.ListLemmas.{all_from_contains, all_pairs_across, all_pairs_append, all_pairs_before, all_pairs_behind, all_pairs_nil, contains_cases, contains_here}
+use Rattle.fugue_ids.proofs.ListLemmas.{contains_none, contains_there}
 use Rattle.origin_model.specs.operations.History.{holds}
 use Rattle.text_diff.specs.Hunks.{Transforms, TransformsFrom, hunk_start}
 use Rattle.text_diff.specs.Merges.{puts_at}
@@ -29,7 +31,8 @@ begins_within old new least p [] q t = omega (arith, t.order, t.old_within)
 begins_within old new least p (h ∷ hs) q t = omega (arith, t.1.order, t.1.old_within)
 
 -- and follow one another
-follow_from : (old new : List ℕ) (n : ℕ) → length old ≡ n → (least : ℕ) (p : Hunk) (hs : List Hunk) (q : Hunk) → TransformsFrom nat_eq old new least (hunk_start p) hs (hunk_start q)
+follow_from : (old new : List ℕ) (n : ℕ) → length old ≡ n → (least : ℕ) (p : Hunk) (hs : List Hunk) (q : Hunk)
+    → TransformsFrom nat_eq old new least (hunk_start p) hs (hunk_start q)
     → Follow n p.old_at p.new_at hs
 follow_from old new n e least p [] q t = tt
 follow_from old new n e least p (h ∷ hs) q t =
@@ -126,7 +129,14 @@ module _ (F : List Op) (S : List Identifier) where
         | inl k ↦
             let short : k.0 < d = omega (arith, k.1, length-take-le d (drop from S) fits) in
             let o = behind_at from z k.0 (omega (arith, short, fits)) (sym (get_or-take d (drop from S) k.0 z short) ∙ k.2) in
-            inr (from + k.0, omega arith, o.0, o.1, not_cut h hs (from + k.0) (λ a b. omega (arith, a, short, f.0)) (front_stays (length S) end (h.new_at + h.new_len) hs f.3 (from + k.0) (omega (arith, short, f.0))))
+            inr (
+              from + k.0,
+              omega arith,
+              o.0,
+              o.1,
+              not_cut h hs (from + k.0) (λ a b. omega (arith, a, short, f.0))
+                  (front_stays (length S) end (h.new_at + h.new_len) hs f.3 (from + k.0) (omega (arith, short, f.0))),
+            )
         | inr k ↦ elim (Contains-append_cases st.0 st.1 z k) [
           | inl o ↦ inl (h.old_at, Contains-append_left (here h.old_at) (more h.old_at) z (if_in (nat_eq h.old_at h.old_at) st.0 z (eq-eqb h.old_at h.old_at refl) o))
           | inr o ↦ elim (members end (h.new_at + h.new_len) st.1 hs st.5 f.3 z o) [
@@ -205,12 +215,14 @@ module _ (F : List Op) (S : List Identifier) where
       let long : length front ≡ d = length-take-le d (drop from S) (omega (arith, length-drop from S, f.0, f.1)) in
       let there : new_from + d ≡ h.new_at = omega (arith, f.0, f.2) in
       let behind : drop h.new_at whole ≡ st.0 ++ st.1 =
-      ap (λ n. drop n whole) (sym there) ∙ sym (drop-drop d new_from whole) ∙ ap (drop d) (sym e ∙ st.4 ∙ append_assoc front st.0 st.1) ∙ ap (λ n. drop n (front ++ (st.0 ++ st.1))) (sym long)
+      ap (λ n. drop n whole) (sym there) ∙ sym (drop-drop d new_from whole) ∙ ap (drop d) (sym e ∙ st.4 ∙ append_assoc front st.0 st.1)
+      ∙ ap (λ n. drop n (front ++ (st.0 ++ st.1))) (sym long)
       ∙ drop-append_seam front (st.0 ++ st.1) in
       let come : take h.new_len (drop h.new_at whole) ≡ st.0 = ap (take h.new_len) behind ∙ ap (λ n. take n (st.0 ++ st.1)) (sym st.2) ∙ take-append_seam st.0 st.1 in
       let rest : st.1 ≡ drop (h.new_at + h.new_len) whole =
       sym (drop-append_seam st.0 st.1) ∙ ap (λ n. drop n (st.0 ++ st.1)) st.2 ∙ ap (drop h.new_len) (sym behind) ∙ drop-drop h.new_len h.new_at whole in
-      let is_put : put (map scalar whole) h ≡ map scalar st.0 = ap (take h.new_len) (drop-map scalar h.new_at whole) ∙ take-map scalar h.new_len (drop h.new_at whole) ∙ ap (map scalar) come in
+      let is_put : put (map scalar whole) h ≡ map scalar st.0 =
+      ap (take h.new_len) (drop-map scalar h.new_at whole) ∙ take-map scalar h.new_len (drop h.new_at whole) ∙ ap (map scalar) come in
       (λ k. (if nat_eq h.old_at i then is_put k else []) ++ puts_are scalar whole (h.old_at + h.old_len) (h.new_at + h.new_len) st.1 hs st.5 f.3 rest i k)
       ∙ ap (λ l. l ++ map scalar (comes_at F (h.old_at + h.old_len) S st.1 hs st.5 i)) (by_test (nat_eq h.old_at i) st.0)
       ∙ sym (map-append scalar (if nat_eq h.old_at i then st.0 else []) (comes_at F (h.old_at + h.old_len) S st.1 hs st.5 i))

@@ -24,7 +24,8 @@ use Rattle.text_diff.specs.declared.hunk.Hunk.{Hunk}
 use Rattle.draft_plan.specs.Texts.{StayBetween}
 
 -- the elements that come where a hunk begins at a position
-abbrev pub comes_at : (history : List Op) (from : ℕ) (old new : List Identifier) (hunks : List Hunk) → StayBetween history from old new hunks → (i : ℕ)
+abbrev pub comes_at : (history : List Op) (from : ℕ) (old new : List Identifier) (hunks : List Hunk)
+    → StayBetween history from old new hunks → (i : ℕ)
     → List Identifier
 comes_at history from old new [] stays i = []
 comes_at history from old new (h ∷ hs) stays i =
@@ -32,7 +33,8 @@ comes_at history from old new (h ∷ hs) stays i =
 
 -- an element stands directly behind another one, or it is the first
 abbrev pub IsDirectlyBehind : Place → List Op → Option Identifier → Identifier → Type 0
-IsDirectlyBehind p h left x = (front : List Identifier) × (back : List Identifier) × (order p h ≡ front ++ x ∷ back) × (last_before front ≡ left)
+IsDirectlyBehind p h left x =
+    (front : List Identifier) × (back : List Identifier) × (order p h ≡ front ++ x ∷ back) × (last_before front ≡ left)
 
 -- elements were put in one go: the first stands directly behind what is in front, and each has the one before as left origin
 abbrev pub IsPutInOneGo : Place → List Op → Option Identifier → List Identifier → Type 0
@@ -73,8 +75,10 @@ draft_change section base own draft = record { new = text own section; hunks = d
 -- where two authors' drafts of one section come together, its text is what both changes give
 abbrev pub DraftsMerge : Type 0
 DraftsMerge =
-    (section : Identifier) (base a b whole : List Op) → Lawful base → (d : IsAuthoredDraft section base a) (e : IsAuthoredDraft section base b)
-    → ComeTogether base a b whole → IsMerge (text base section) (draft_change section base a d) (draft_change section base b e) (text whole section)
+    (section : Identifier) (base a b whole : List Op) → Lawful base
+    → (d : IsAuthoredDraft section base a) (e : IsAuthoredDraft section base b)
+    → ComeTogether base a b whole → IsMerge (text base section) (draft_change section base a d) (draft_change section base b e)
+    (text whole section)
 
 -- in a draft whole words go and come, each hunk from a seam to a seam
 abbrev pub GoesByWords : (section : Identifier) (base own : List Op) → IsAuthoredDraft section base own → Type 0
@@ -83,7 +87,8 @@ GoesByWords section base own draft = All (IsOfWords (text base section) (text ow
 -- then each word of it is a word of the old text or of one of the new ones
 abbrev pub NoThirdWord : Type 0
 NoThirdWord =
-    (section : Identifier) (base a b whole : List Op) → Lawful base → (d : IsAuthoredDraft section base a) (e : IsAuthoredDraft section base b)
+    (section : Identifier) (base a b whole : List Op) → Lawful base
+    → (d : IsAuthoredDraft section base a) (e : IsAuthoredDraft section base b)
     → ComeTogether base a b whole → IsSeparate (text base section) → GoesByWords section base a d → GoesByWords section base b e
     → (word : List ℕ) → Contains (words (text whole section)) word
     → IsWordOf (text base section ∷ (text a section ∷ (text b section ∷ []))) word

@@ -32,7 +32,8 @@ pub alike : {T : Type 0} (s : Store T) → IsAlike s s
 alike s = record { shapes = refl; values = refl; kept = λ l made. made }
 
 -- a node came and went
-pub unmade-alike : {T : Type 0} (s u v : Store T) (h : Shape) (value w : T) → shapes_of u ≡ shapes_of s ++ h ∷ [] → values_of u ≡ values_of s ++ value ∷ [] → IsKept s u → IsLess u v w → (w ≡ value) × IsAlike s v
+pub unmade-alike : {T : Type 0} (s u v : Store T) (h : Shape) (value w : T) → shapes_of u ≡ shapes_of s ++ h ∷ [] → values_of u ≡ values_of s ++ value ∷ [] → IsKept s u
+    → IsLess u v w → (w ≡ value) × IsAlike s v
 unmade-alike s u v h value w shapes values kept less =
     let p = same-first (shapes_of v) (shapes_of s) less.shape h (sym less.shapes ∙ shapes) in
     let q = same-first (values_of v) (values_of s) w value (sym less.values ∙ values) in
@@ -74,5 +75,6 @@ alike-roped wt s u root m n r a same = record {
   weighs = λ i v e. ap (λ (xs : List Shape). (shape_at xs i).own) a.shapes ∙ r.weighs i v (ap (λ xs. slice_get xs i) (sym a.values) ∙ e);
   mapped = λ k l e. a.kept l (r.mapped k l (sym (same k) ∙ e));
   keyed = λ k l e. ap (λ (xs : List Shape). (shape_at xs l.number).key) a.shapes ∙ r.keyed k l (sym (same k) ∙ e);
-  listed = λ i b. (let at = r.listed i (omega (arith, b, alike-count s u root r.sound a)) in (at.0, at.1, ap (λ (xs : List Shape). value_of n (shape_at xs i).key) a.shapes ∙ same (shape_at (shapes_of s) i).key ∙ at.2));
+  listed = λ i b. (let at = r.listed i (omega (arith, b, alike-count s u root r.sound a)) in
+      (at.0, at.1, ap (λ (xs : List Shape). value_of n (shape_at xs i).key) a.shapes ∙ same (shape_at (shapes_of s) i).key ∙ at.2));
 }

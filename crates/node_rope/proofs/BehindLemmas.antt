@@ -1,5 +1,6 @@
 -- The nodes of a subtree stand together in the order, and what stands behind one of them.
-use Rattle.std.proofs.Common.{◌≡◌, inl, inr, ℕ, zero, suc, ◌+◌, ◌<◌, ◌≤◌, List, [], ◌∷◌, ◌++◌, length, length-append, get_or, slice_get, Option, None, Some, refl, sym, ap, ◌∙◌, subst, arith}
+use Rattle.std.proofs.Common.{◌≡◌, inl, inr, ℕ, zero, suc, ◌+◌, ◌<◌, ◌≤◌, List, [], ◌∷◌, ◌++◌, length, length-append, get_or, slice_get, Option, None, Some, refl, sym, ap, ◌∙◌}
+use Rattle.std.proofs.Common.{subst, arith}
 use Rattle.std.proofs.lemmas.List.{append_assoc, append-nil}
 use Rattle.std.proofs.Math.Seq.{get_or-append_seam}
 use Rattle.fugue_ids.specs.Identifiers.{Identifier}
@@ -56,10 +57,13 @@ module _ {T : Type 0} (s : Store T) (root : Option Link) (sound : HasRightLinks 
         let up = ap link_number e.1 in
         let high : t.count i < t.count p = higher s root sound i e.0 e.1 in
         let above = parts k p (omega (arith, h, high)) (made-below s e.0 (sound.made_parent i e.0 e.1)) in
-        let node : nodes_in_order s root ≡ above.front ++ ((all_nodes t (t.left p) ++ p ∷ all_nodes t (t.right p)) ++ above.back) = above.split ∙ ap (λ ys. above.front ++ (ys ++ above.back)) (whole-node t sound.counted p) in
+        let node : nodes_in_order s root ≡ above.front ++ ((all_nodes t (t.left p) ++ p ∷ all_nodes t (t.right p)) ++ above.back) =
+        above.split ∙ ap (λ ys. above.front ++ (ys ++ above.back)) (whole-node t sound.counted p) in
         elim (sound.below i p up) as (λ _. IsPart (nodes_in_order s root) (all_nodes t (Some i))) [
-          | inl f ↦ subst (λ (o : Option ℕ). IsPart (nodes_in_order s root) (all_nodes t o)) f (part-left (nodes_in_order s root) (all_nodes t (t.left p)) (p ∷ all_nodes t (t.right p)) [] above.front above.back node)
-          | inr f ↦ subst (λ (o : Option ℕ). IsPart (nodes_in_order s root) (all_nodes t o)) f (part-right (nodes_in_order s root) (all_nodes t (t.left p)) p (all_nodes t (t.right p)) above.front above.back node)
+          | inl f ↦ subst (λ (o : Option ℕ). IsPart (nodes_in_order s root) (all_nodes t o)) f
+              (part-left (nodes_in_order s root) (all_nodes t (t.left p)) (p ∷ all_nodes t (t.right p)) [] above.front above.back node)
+          | inr f ↦ subst (λ (o : Option ℕ). IsPart (nodes_in_order s root) (all_nodes t o)) f
+              (part-right (nodes_in_order s root) (all_nodes t (t.left p)) p (all_nodes t (t.right p)) above.front above.back node)
         ])
   ]
 
@@ -71,7 +75,8 @@ module _ {T : Type 0} (s : Store T) (root : Option Link) (sound : HasRightLinks 
   pub first-left : (x l : ℕ) → t.left x ≡ Some l → slice_get (all_nodes t (Some x)) 0 ≡ slice_get (all_nodes t (Some l)) 0
   first-left x l e =
       let long : 0 < length (all_nodes t (Some l)) = omega (arith, length-whole t sound.counted (Some l), sound.counted l) in
-      ap (λ ys. slice_get ys 0) (whole-node t sound.counted x) ∙ ap (λ o. slice_get (all_nodes t o ++ x ∷ all_nodes t (t.right x)) 0) e ∙ first-of (all_nodes t (Some l)) (x ∷ all_nodes t (t.right x)) long
+      ap (λ ys. slice_get ys 0) (whole-node t sound.counted x) ∙ ap (λ o. slice_get (all_nodes t o ++ x ∷ all_nodes t (t.right x)) 0) e
+      ∙ first-of (all_nodes t (Some l)) (x ∷ all_nodes t (t.right x)) long
 
   pub first-here : (x : ℕ) → t.left x ≡ None → slice_get (all_nodes t (Some x)) 0 ≡ Some x
   first-here x e = ap (λ ys. slice_get ys 0) (whole-node t sound.counted x) ∙ ap (λ o. slice_get (all_nodes t o ++ x ∷ all_nodes t (t.right x)) 0) e
@@ -83,7 +88,8 @@ module _ {T : Type 0} (s : Store T) (root : Option Link) (sound : HasRightLinks 
   pub last-up : (x i p : ℕ) → t.right p ≡ Some i → IsLast (all_nodes t (Some i)) x → IsLast (all_nodes t (Some p)) x
   last-up x i p e last = record {
     front = all_nodes t (t.left p) ++ p ∷ last.front;
-    split = whole-node t sound.counted p ∙ ap (λ o. all_nodes t (t.left p) ++ p ∷ all_nodes t o) e ∙ ap (λ ys. all_nodes t (t.left p) ++ p ∷ ys) last.split ∙ sym (append_assoc (all_nodes t (t.left p)) (p ∷ last.front) (x ∷ []));
+    split = whole-node t sound.counted p ∙ ap (λ o. all_nodes t (t.left p) ++ p ∷ all_nodes t o) e ∙ ap (λ ys. all_nodes t (t.left p) ++ p ∷ ys) last.split
+        ∙ sym (append_assoc (all_nodes t (t.left p)) (p ∷ last.front) (x ∷ []));
   }
 
   pub followed-up : (x i : ℕ) (p : Link) → IsMade s p → t.left p.number ≡ Some i → IsLast (all_nodes t (Some i)) x → IsFollowed (nodes_in_order s root) x (Some p.number)
@@ -93,7 +99,9 @@ module _ {T : Type 0} (s : Store T) (root : Option Link) (sound : HasRightLinks 
       record {
         front = w.front ++ last.front;
         back = p.number ∷ (R ++ w.back);
-        split = w.split ∙ ap (λ ys. w.front ++ (ys ++ w.back)) (whole-node t sound.counted p.number ∙ ap (λ o. all_nodes t o ++ p.number ∷ R) e ∙ ap (λ ys. ys ++ p.number ∷ R) last.split ∙ append_assoc last.front (x ∷ []) (p.number ∷ R))
+        split = w.split ∙ ap (λ ys. w.front ++ (ys ++ w.back))
+            (whole-node t sound.counted p.number ∙ ap (λ o. all_nodes t o ++ p.number ∷ R) e ∙ ap (λ ys. ys ++ p.number ∷ R) last.split
+            ∙ append_assoc last.front (x ∷ []) (p.number ∷ R))
             ∙ ap (λ ys. w.front ++ ys) (append_assoc last.front (x ∷ p.number ∷ R) w.back) ∙ sym (append_assoc w.front last.front (x ∷ p.number ∷ (R ++ w.back)));
         next = refl;
       }
@@ -101,7 +109,8 @@ module _ {T : Type 0} (s : Store T) (root : Option Link) (sound : HasRightLinks 
   pub followed-top : (x i : ℕ) → i < made_count s → (shape_at (shapes_of s) i).parent ≡ None → IsLast (all_nodes t (Some i)) x → IsFollowed (nodes_in_order s root) x None
   followed-top x i b e last = record { front = last.front; back = []; split = ap (all_nodes t) (sound.top i b e) ∙ last.split; next = refl }
 
-  pub followed-right : (l : Link) (r n : ℕ) → IsMade s l → t.right l.number ≡ Some r → slice_get (all_nodes t (Some r)) 0 ≡ Some n → IsFollowed (nodes_in_order s root) l.number (Some n)
+  pub followed-right : (l : Link) (r n : ℕ) → IsMade s l → t.right l.number ≡ Some r → slice_get (all_nodes t (Some r)) 0 ≡ Some n
+      → IsFollowed (nodes_in_order s root) l.number (Some n)
   followed-right l r n made e first =
       let w = together l made in
       let x = l.number in
@@ -111,7 +120,8 @@ module _ {T : Type 0} (s : Store T) (root : Option Link) (sound : HasRightLinks 
       record {
         front = w.front ++ L;
         back = R ++ w.back;
-        split = w.split ∙ ap (λ ys. w.front ++ (ys ++ w.back)) (whole-node t sound.counted x ∙ ap (λ o. L ++ x ∷ all_nodes t o) e) ∙ ap (λ ys. w.front ++ ys) (append_assoc L (x ∷ R) w.back) ∙ sym (append_assoc w.front L (x ∷ (R ++ w.back)));
+        split = w.split ∙ ap (λ ys. w.front ++ (ys ++ w.back)) (whole-node t sound.counted x ∙ ap (λ o. L ++ x ∷ all_nodes t o) e)
+            ∙ ap (λ ys. w.front ++ ys) (append_assoc L (x ∷ R) w.back) ∙ sym (append_assoc w.front L (x ∷ (R ++ w.back)));
         next = sym first ∙ sym (first-of R w.back long);
       }
 
@@ -122,16 +132,20 @@ module _ {T : Type 0} (wt : T → Own) (s : Store T) (root : Option Link) (m : B
       let inside : length f.front < length (nodes_in_order s root) = omega (arith, ap length f.split, length-append f.front (l.number ∷ f.back)) in
       stands wt s root m r k l at (length f.front) inside (ap (λ xs. get_or xs (length f.front) 0) f.split ∙ get_or-append_seam f.front l.number f.back 0)
 
-  pub item-behind : (n : Link) (f : IsFollowed (nodes_in_order s root) l.number (Some n.number)) → StandsAt (rope_items_of s root) (length f.front + 1) (shape_at (shapes_of s) n.number).key
+  pub item-behind : (n : Link) (f : IsFollowed (nodes_in_order s root) l.number (Some n.number))
+      → StandsAt (rope_items_of s root) (length f.front + 1) (shape_at (shapes_of s) n.number).key
   item-behind n f = by f.back f.split f.next where
-    by : (back : List ℕ) → nodes_in_order s root ≡ f.front ++ l.number ∷ back → Some n.number ≡ slice_get back 0 → StandsAt (rope_items_of s root) (length f.front + 1) (shape_at (shapes_of s) n.number).key
+    by : (back : List ℕ) → nodes_in_order s root ≡ f.front ++ l.number ∷ back → Some n.number ≡ slice_get back 0
+        → StandsAt (rope_items_of s root) (length f.front + 1) (shape_at (shapes_of s) n.number).key
     by [] e next = absurd (cc)
     by (b ∷ rest) e next =
         let is : n.number ≡ b = cc in
         let split : nodes_in_order s root ≡ (f.front ++ l.number ∷ []) ++ b ∷ rest = e ∙ sym (append_assoc f.front (l.number ∷ []) (b ∷ rest)) in
         let place : length (f.front ++ l.number ∷ []) ≡ length f.front + 1 = length-append f.front (l.number ∷ []) in
         let inside : length f.front + 1 < length (nodes_in_order s root) = omega (arith, place, ap length split, length-append (f.front ++ l.number ∷ []) (b ∷ rest)) in
-        key-seen wt s root m r (length f.front + 1) n inside (ap (λ xs. get_or xs (length f.front + 1) 0) split ∙ ap (λ (i : ℕ). get_or ((f.front ++ l.number ∷ []) ++ b ∷ rest) i 0) (sym place) ∙ get_or-append_seam (f.front ++ l.number ∷ []) b rest 0 ∙ sym is)
+        key-seen wt s root m r (length f.front + 1) n inside
+        (ap (λ xs. get_or xs (length f.front + 1) 0) split ∙ ap (λ (i : ℕ). get_or ((f.front ++ l.number ∷ []) ++ b ∷ rest) i 0) (sym place)
+        ∙ get_or-append_seam (f.front ++ l.number ∷ []) b rest 0 ∙ sym is)
 
   pub item-last : (f : IsFollowed (nodes_in_order s root) l.number None) → length (rope_items_of s root) ≡ length f.front + 1
   item-last f = by f.back f.split f.next where

@@ -18,10 +18,12 @@ module _ (ss : List Shape) (ct : HasCounts (tree_of ss)) (wt : IsWeighed ss) whe
   weigh-self : (x i : ℕ) → i ≡ count_of (tree_of ss) (link_number (shape_at ss x).left) → weight_at ss (shape_at ss x).left ≡ weigh ss (take i (all_nodes (tree_of ss) (Some x)))
   weigh-self x i e = weight-sum ss (shape_at ss x).left ∙ weight-is (link_number (shape_at ss x).left) ∙ ap (weigh ss) (sym (first-self (tree_of ss) ct x i e))
 
-  weigh-left : (p c i w : ℕ) → link_number (shape_at ss p).left ≡ Some c → i ≤ (shape_at ss c).count → w ≡ weigh ss (take i (all_nodes (tree_of ss) (Some c))) → w ≡ weigh ss (take i (all_nodes (tree_of ss) (Some p)))
+  weigh-left : (p c i w : ℕ) → link_number (shape_at ss p).left ≡ Some c → i ≤ (shape_at ss c).count → w ≡ weigh ss (take i (all_nodes (tree_of ss) (Some c)))
+      → w ≡ weigh ss (take i (all_nodes (tree_of ss) (Some p)))
   weigh-left p c i w e h f = f ∙ ap (weigh ss) (sym (first-left (tree_of ss) ct p c i e h))
 
-  weigh-right : (p c i j w : ℕ) → link_number (shape_at ss p).right ≡ Some c → j ≡ count_of (tree_of ss) (link_number (shape_at ss p).left) + suc i → w ≡ weigh ss (take i (all_nodes (tree_of ss) (Some c)))
+  weigh-right : (p c i j w : ℕ) → link_number (shape_at ss p).right ≡ Some c → j ≡ count_of (tree_of ss) (link_number (shape_at ss p).left) + suc i
+      → w ≡ weigh ss (take i (all_nodes (tree_of ss) (Some c)))
       → weight_at ss (shape_at ss p).left + ((shape_at ss p).own.weight + w) ≡ weigh ss (take j (all_nodes (tree_of ss) (Some p)))
   weigh-right p c i j w e f h =
       let l = weight-sum ss (shape_at ss p).left ∙ weight-is (link_number (shape_at ss p).left) in
@@ -38,7 +40,8 @@ pub record IsClimbing {T : Type 0} (s : Store T) (i : ℕ) (cur : Link) (h : Sha
   pub here : get_or (all_nodes (tree_of (shapes_of s)) (Some cur.number)) count 0 ≡ i
   pub weighs : weight ≡ weigh (shapes_of s) (take count (all_nodes (tree_of (shapes_of s)) (Some cur.number)))
 
-pub climb-starts : {T : Type 0} (s : Store T) (root : Option Link) → HasRightLinks s root → (at : Link) → IsMade s at → (h : Shape) → h ≡ shape_at (shapes_of s) at.number → (count weight : ℕ) → count ≡ count_of (tree_of (shapes_of s)) (link_number h.left) → weight ≡ weight_at (shapes_of s) h.left
+pub climb-starts : {T : Type 0} (s : Store T) (root : Option Link) → HasRightLinks s root → (at : Link) → IsMade s at → (h : Shape) → h ≡ shape_at (shapes_of s) at.number
+    → (count weight : ℕ) → count ≡ count_of (tree_of (shapes_of s)) (link_number h.left) → weight ≡ weight_at (shapes_of s) h.left
     → IsClimbing s at.number at h count weight
 climb-starts s root so at made h read count weight is_count is_weight =
     let ss = shapes_of s in
@@ -53,7 +56,8 @@ climb-starts s root so at made h read count weight is_count is_weight =
       weighs = w ∙ weigh-self ss so.counted so.weighed i count c;
     }
 
-module _ {T : Type 0} (s : Store T) (root : Option Link) (so : HasRightLinks s root) (i : ℕ) (cur : Link) (h : Shape) (count weight : ℕ) (inv : IsClimbing s i cur h count weight) where
+module _ {T : Type 0} (s : Store T) (root : Option Link) (so : HasRightLinks s root) (i : ℕ) (cur : Link) (h : Shape) (count weight : ℕ)
+    (inv : IsClimbing s i cur h count weight) where
   abbrev hs : List Shape
   hs = shapes_of s
 
@@ -84,7 +88,14 @@ module _ {T : Type 0} (s : Store T) (root : Option Link) (so : HasRightLinks s r
       over-count = omega (arith, so.counted p, ap (λ (f : Shape). f.count) inv.read, ap (λ (f : Shape). f.count) read, ap (count_of t) right)
 
       over-weight : g.weight ≡ weight_at hs (shape_at hs p).left + ((shape_at hs p).own.weight + h.weight)
-      over-weight = omega (arith, so.weighed p, weight-sum hs (shape_at hs p).left, ap (λ (f : Shape). f.weight) inv.read, ap (λ (f : Shape). f.weight) read, ap (sum_of sum_measure (weights hs)) right)
+      over-weight = omega (
+        arith,
+        so.weighed p,
+        weight-sum hs (shape_at hs p).left,
+        ap (λ (f : Shape). f.weight) inv.read,
+        ap (λ (f : Shape). f.weight) read,
+        ap (sum_of sum_measure (weights hs)) right,
+      )
 
       pub climb-right : IsClimbing s i up g (count + (g.count - h.count)) (weight + (g.weight - h.weight))
       climb-right =

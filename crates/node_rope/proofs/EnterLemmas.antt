@@ -10,11 +10,12 @@ use Rattle.node_rope.specs.Walk.{HasCounts, IsLinked, mirror}
 use Rattle.node_rope.specs.Sums.{sum_measure, lesser, no_rank}
 use Rattle.node_rope.specs.Joined.{IsJoined, IsSummedBut, IsBelow}
 use Rattle.node_rope.specs.Grown.{new_beside, joined_beside}
-use Rattle.node_rope.specs.Sides.{other_side}
+use Rattle.node_rope.specs.Sides.{mirrored_shape}
 use Rattle.node_rope.proofs.FaceLemmas.{tree_by}
 use Rattle.node_rope.proofs.MirrorLemmas.{mirror-but, mirror-linked, mirror-below}
 use Rattle.node_rope.proofs.ShapeLemmas.{weight-sum, least-sum}
-use Rattle.node_rope.proofs.JoinLemmas.{some-or-not, count-sum, counted-summed, joined-sums, adding-commutes, lesser-commutes, joined-proper, joined-linked, joined-below, joined-top, joined-crown}
+use Rattle.node_rope.proofs.JoinLemmas.{some-or-not, count-sum, counted-summed, joined-sums, adding-commutes, lesser-commutes, joined-proper, joined-linked, joined-below}
+use Rattle.node_rope.proofs.JoinLemmas.{joined-top, joined-crown}
 use Rattle.node_rope.proofs.JoinWriteLemmas as joining
 use Rattle.node_rope.proofs.JoinWriteLemmas.{AreWithin}
 use Rattle.fugue_ids.proofs.OptionLemmas.{cases_number}
@@ -45,14 +46,14 @@ pub record IsEntered (f g : ℕ → Shape) (at l : Link) (w : Own) : Type 0 wher
   pub parents : (i : ℕ) (m : Link) → (g i).parent ≡ Some m → Came f at l m
 
 -- the same with the sides exchanged
-flip-came : (f : ℕ → Shape) (at l m : Link) → Came (λ i. other_side (f i)) at l m → Came f at l m
+flip-came : (f : ℕ → Shape) (at l m : Link) → Came (λ i. mirrored_shape (f i)) at l m → Came f at l m
 flip-came f at l m (inl e) = inl e
 flip-came f at l m (inr (inl e)) = inr (inl e)
 flip-came f at l m (inr (inr (j, inl e))) = inr (inr (j, inr (inl e)))
 flip-came f at l m (inr (inr (j, inr (inl e)))) = inr (inr (j, inl e))
 flip-came f at l m (inr (inr (j, inr (inr e)))) = inr (inr (j, inr (inr e)))
 
-pub flip-entered : (f g : ℕ → Shape) (at l : Link) (w : Own) → IsEntered (λ i. other_side (f i)) (λ i. other_side (g i)) at l w → IsEntered f g at l w
+pub flip-entered : (f g : ℕ → Shape) (at l : Link) (w : Own) → IsEntered (λ i. mirrored_shape (f i)) (λ i. mirrored_shape (g i)) at l w → IsEntered f g at l w
 flip-entered f g at l w e = record {
   counts = mirror-but sum_measure adding-commutes (tree_by g) (λ _. 1) (λ i. (g i).count) 1 (Some at.number) e.counts;
   weighs = mirror-but sum_measure adding-commutes (tree_by g) (λ i. (g i).own.weight) (λ i. (g i).weight) w.weight (Some at.number) e.weighs;
@@ -76,7 +77,8 @@ flip-entered f g at l w e = record {
 no-link : (m : Link) → None ≡ Some m → ⊥
 no-link m e = cc
 
-module _ (ss : List Shape) (at l : Link) (key : Identifier) (w : Own) (ct : HasCounts (tree_of ss)) (wt : IsWeighed ss) (rt : IsRanked ss) (fits : w.rank ≤ no_rank) (linked : IsLinked (tree_of ss)) (below : IsBelow (tree_of ss))
+module _ (ss : List Shape) (at l : Link) (key : Identifier) (w : Own) (ct : HasCounts (tree_of ss)) (wt : IsWeighed ss) (rt : IsRanked ss) (fits : w.rank ≤ no_rank)
+    (linked : IsLinked (tree_of ss)) (below : IsBelow (tree_of ss))
     (within : AreWithin ss) (in_y : at.number < length ss) (number : l.number ≡ length ss) where
   abbrev h_before : Shape
   h_before = new_beside Left ss at key w
@@ -90,12 +92,14 @@ module _ (ss : List Shape) (at l : Link) (key : Identifier) (w : Own) (ct : HasC
   new_before_is : shape_at us_before l.number ≡ h_before
   new_before_is = joining.at_n-before ss at l h_before ct within in_y number refl refl refl
 
-  same_before : {X : Type 0} (f : Shape → X) → ((s : Shape) (q : Option Link) → f (record s { parent = q }) ≡ f s) → ((s : Shape) (q : Option Link) → f (record s { left = q }) ≡ f s) → (x : ℕ) → x ≢ l.number → f (shape_at us_before x) ≡ f (shape_at ss x)
+  same_before : {X : Type 0} (f : Shape → X) → ((s : Shape) (q : Option Link) → f (record s { parent = q }) ≡ f s)
+      → ((s : Shape) (q : Option Link) → f (record s { left = q }) ≡ f s) → (x : ℕ) → x ≢ l.number → f (shape_at us_before x) ≡ f (shape_at ss x)
   same_before = joining.field-before ss at l h_before ct within in_y number refl refl refl
 
   entered_lefts_before : (i : ℕ) (m : Link) → (shape_at us_before i).left ≡ Some m → Came (shape_at ss) at l m
   entered_lefts_before i m e = elim (cases_number i at.number) as (λ _. Came (shape_at ss) at l m) [
-    | inl f ↦ inl (link-same l m (sym (ap (λ s. s.left) (joining.at_y_before ss at l h_before ct within in_y number refl refl refl)) ∙ ap (λ (j : ℕ). (shape_at us_before j).left) (sym f) ∙ e))
+    | inl f ↦ inl (link-same l m (sym (ap (λ s. s.left) (joining.at_y_before ss at l h_before ct within in_y number refl refl refl))
+        ∙ ap (λ (j : ℕ). (shape_at us_before j).left) (sym f) ∙ e))
     | inr f ↦ elim (cases_number i l.number) as (λ _. Came (shape_at ss) at l m) [
       | inl g ↦ inr (inr (at.number, inl (sym (ap (λ s. s.left) new_before_is) ∙ ap (λ (j : ℕ). (shape_at us_before j).left) (sym g) ∙ e)))
       | inr g ↦ inr (inr (i, inl (sym (joining.others-before ss at l h_before ct within in_y number refl refl refl (λ s. s.left) (λ s q. refl) i f g) ∙ e)))
@@ -123,14 +127,18 @@ module _ (ss : List Shape) (at l : Link) (key : Identifier) (w : Own) (ct : HasC
       let u = (tree_of us_before) in
       let c = ct in
       let j = joins_before in
-      let cs = joined-sums t u c linked below at.number l.number j sum_measure adding-commutes (λ _. 1) (λ _. 1) (tree_of ss).count (tree_of us_before).count (counted-summed t c) (λ x e. refl)
-      (λ x e. same_before (λ s. s.count) (λ s q. refl) (λ s q. refl) x e) (omega (arith, ap (λ s. s.count) new_before_is, count-sum (tree_of ss) (link_number (shape_at ss at.number).left))) (omega arith) in
+      let cs = joined-sums t u c linked below at.number l.number j sum_measure adding-commutes (λ _. 1) (λ _. 1) (tree_of ss).count (tree_of us_before).count (counted-summed t c)
+      (λ x e. refl)
+      (λ x e. same_before (λ s. s.count) (λ s q. refl) (λ s q. refl) x e)
+      (omega (arith, ap (λ s. s.count) new_before_is, count-sum (tree_of ss) (link_number (shape_at ss at.number).left))) (omega arith) in
       let own_new : (shape_at us_before l.number).own ≡ w = ap (λ s. s.own) new_before_is in
       let ws = joined-sums t u c linked below at.number l.number j sum_measure adding-commutes (owns ss) (owns us_before) (weights ss) (weights us_before) wt
-      (λ x e. same_before (λ s. s.own.weight) (λ s q. refl) (λ s q. refl) x e) (λ x e. same_before (λ s. s.weight) (λ s q. refl) (λ s q. refl) x e) (omega (arith, ap (λ s. s.weight) new_before_is, ap (λ o. o.weight) own_new, weight-sum ss (shape_at ss at.number).left)) (omega arith) in
+      (λ x e. same_before (λ s. s.own.weight) (λ s q. refl) (λ s q. refl) x e) (λ x e. same_before (λ s. s.weight) (λ s q. refl) (λ s q. refl) x e)
+      (omega (arith, ap (λ s. s.weight) new_before_is, ap (λ o. o.weight) own_new, weight-sum ss (shape_at ss at.number).left)) (omega arith) in
       let rank_new = ap (λ o. o.rank) own_new in
       let ls = joined-sums t u c linked below at.number l.number j lesser lesser-commutes (ranks ss) (ranks us_before) (leasts ss) (leasts us_before) rt
-      (λ x e. same_before (λ s. s.own.rank) (λ s q. refl) (λ s q. refl) x e) (λ x e. same_before (λ s. s.least) (λ s q. refl) (λ s q. refl) x e) (ap (λ s. s.least) new_before_is ∙ (λ i. min (least-sum ss (shape_at ss at.number).left i) (sym rank_new i))) (omega (arith, rank_new, fits)) in
+      (λ x e. same_before (λ s. s.own.rank) (λ s q. refl) (λ s q. refl) x e) (λ x e. same_before (λ s. s.least) (λ s q. refl) (λ s q. refl) x e)
+      (ap (λ s. s.least) new_before_is ∙ (λ i. min (least-sum ss (shape_at ss at.number).left i) (sym rank_new i))) (omega (arith, rank_new, fits)) in
       record {
         counts = cs;
         weighs = subst (λ (d : ℕ). IsSummedBut sum_measure u (owns us_before) (weights us_before) d (Some at.number)) (ap (λ o. o.weight) own_new) ws;

@@ -36,7 +36,8 @@ record StandsIn (size : List ℕ → ℕ) (own : ℕ → ℕ) (xs : List ℕ) (w
   inside : r < own x
 
 -- the loop reads the node l, and what is left of it
-module _ {T : Type 0} (size : List ℕ → ℕ) (own : ℕ → ℕ) (S : IsSize size own) (s : Store T) (root : Option Link) (sound : HasRightLinks s root) (w : ℕ) (o : Option Link) (r : ℕ) (reached : IsReached size s (nodes_in_order s root) w o r) (l : Link) (is_l : o ≡ Some l)
+module _ {T : Type 0} (size : List ℕ → ℕ) (own : ℕ → ℕ) (S : IsSize size own) (s : Store T) (root : Option Link) (sound : HasRightLinks s root) (w : ℕ) (o : Option Link) (r : ℕ)
+    (reached : IsReached size s (nodes_in_order s root) w o r) (l : Link) (is_l : o ≡ Some l)
     (h : Shape) (read : h ≡ shape_at (shapes_of s) l.number) (left : ℕ) (is_left : left ≡ size (all_nodes (tree_of (shapes_of s)) (link_number h.left))) where
   abbrev x : ℕ
   x = l.number
@@ -51,7 +52,8 @@ module _ {T : Type 0} (size : List ℕ → ℕ) (own : ℕ → ℕ) (S : IsSize 
   R = all_nodes (tree_of (shapes_of s)) (link_number h.right)
 
   node : all_nodes (tree_of (shapes_of s)) (Some x) ≡ L ++ x ∷ R
-  node = whole-node (tree_of (shapes_of s)) sound.counted x ∙ ap (λ (g : Shape). all_nodes (tree_of (shapes_of s)) (link_number g.left) ++ x ∷ all_nodes (tree_of (shapes_of s)) (link_number g.right)) (sym read)
+  node = whole-node (tree_of (shapes_of s)) sound.counted x
+      ∙ ap (λ (g : Shape). all_nodes (tree_of (shapes_of s)) (link_number g.left) ++ x ∷ all_nodes (tree_of (shapes_of s)) (link_number g.right)) (sym read)
 
   all : size (all_nodes (tree_of (shapes_of s)) (Some x)) ≡ size L + (own x + size R)
   all = ap size node ∙ S.both L (x ∷ R) ∙ ap (λ n. size L + n) (S.one x R)
@@ -63,7 +65,14 @@ module _ {T : Type 0} (size : List ℕ → ℕ) (own : ℕ → ℕ) (S : IsSize 
   split-here = parts ∙ sym (append_assoc at.front L (x ∷ (R ++ at.back)))
 
   pub goes-left : r < left → IsReached size s (nodes_in_order s root) w h.left r
-  goes-left k = record { front = at.front; back = x ∷ (R ++ at.back); split = parts; before = at.before; here = inl (omega (arith, k, is_left)); made = subst (λ (g : Shape). AreMade s g.left) (sym read) (sound.made_left x) }
+  goes-left k = record {
+    front = at.front;
+    back = x ∷ (R ++ at.back);
+    split = parts;
+    before = at.before;
+    here = inl (omega (arith, k, is_left));
+    made = subst (λ (g : Shape). AreMade s g.left) (sym read) (sound.made_left x);
+  }
 
   stands-behind : (front : List ℕ) × (back : List ℕ) × (nodes_in_order s root ≡ front ++ x ∷ back) × (size front + r ≡ w + left)
   stands-behind = (at.front ++ L, R ++ at.back, split-here, omega (arith, at.before, S.both at.front L, is_left))
@@ -82,7 +91,8 @@ module _ {T : Type 0} (size : List ℕ → ℕ) (own : ℕ → ℕ) (S : IsSize 
   }
 
 -- ---- by weight
-module _ {T : Type 0} (s : Store T) (root : Option Link) (sound : HasRightLinks s root) (w : ℕ) (o : Option Link) (r : ℕ) (reached : IsReached (weigh (shapes_of s)) s (nodes_in_order s root) w o r) (l : Link) (is_l : o ≡ Some l)
+module _ {T : Type 0} (s : Store T) (root : Option Link) (sound : HasRightLinks s root) (w : ℕ) (o : Option Link) (r : ℕ)
+    (reached : IsReached (weigh (shapes_of s)) s (nodes_in_order s root) w o r) (l : Link) (is_l : o ≡ Some l)
     (h : Shape) (read : h ≡ shape_at (shapes_of s) l.number) (left : ℕ) (is_left : left ≡ weight_at (shapes_of s) h.left) where
   abbrev ss : List Shape
   ss = shapes_of s
@@ -105,7 +115,8 @@ module _ {T : Type 0} (s : Store T) (root : Option Link) (sound : HasRightLinks 
   find-right k j = rw own (goes-right (weigh ss) (owns ss) (weighing ss) s root sound w o r reached l is_l h read left sum k (omega (arith, own, j)))
 
 -- ---- by place
-module _ {T : Type 0} (s : Store T) (root : Option Link) (sound : HasRightLinks s root) (w : ℕ) (o : Option Link) (r : ℕ) (reached : IsReached length s (nodes_in_order s root) w o r) (l : Link) (is_l : o ≡ Some l)
+module _ {T : Type 0} (s : Store T) (root : Option Link) (sound : HasRightLinks s root) (w : ℕ) (o : Option Link) (r : ℕ)
+    (reached : IsReached length s (nodes_in_order s root) w o r) (l : Link) (is_l : o ≡ Some l)
     (h : Shape) (read : h ≡ shape_at (shapes_of s) l.number) (left : ℕ) (is_left : left ≡ count_of (tree_of (shapes_of s)) (link_number h.left)) where
   size : left ≡ length (all_nodes (tree_of (shapes_of s)) (link_number h.left))
   size = is_left ∙ sym (length-whole (tree_of (shapes_of s)) sound.counted (link_number h.left))
@@ -131,5 +142,7 @@ module _ {T : Type 0} (s : Store T) (root : Option Link) (sound : HasRightLinks 
   place-right k = goes-right length (λ _. 1) counting s root sound w o r reached l is_l h read left size (omega (arith, k)) (omega (arith, k))
 
 -- ---- the start
-pub starts : {T : Type 0} (size : List ℕ → ℕ) (own : ℕ → ℕ) → IsSize size own → (s : Store T) (root : Option Link) (sound : HasRightLinks s root) (w : ℕ) → IsReached size s (nodes_in_order s root) w root w
-starts size own S s root sound w = record { front = []; back = []; split = sym (append-nil (nodes_in_order s root)); before = omega (arith, S.none); here = inr refl; made = sound.made_root }
+pub starts : {T : Type 0} (size : List ℕ → ℕ) (own : ℕ → ℕ) → IsSize size own → (s : Store T) (root : Option Link) (sound : HasRightLinks s root) (w : ℕ)
+    → IsReached size s (nodes_in_order s root) w root w
+starts size own S s root sound w =
+    record { front = []; back = []; split = sym (append-nil (nodes_in_order s root)); before = omega (arith, S.none); here = inr refl; made = sound.made_root }

@@ -6,7 +6,7 @@ use Rattle.node_rope.specs.declared.cells.Link.{Link}
 use Rattle.node_rope.specs.declared.cells.Own.{Own}
 use Rattle.node_rope.specs.Made.{IsMade, IsKept, made_count, shapes_of, values_of}
 use Rattle.node_rope.specs.Shapes.{HasRightLinks, AreMade, shape_at, link_number, tree_of, nodes_in_order, IsWeighed, IsRanked}
-use Rattle.node_rope.specs.Walk.{count_of, HasCounts, members_before, after, mirror}
+use Rattle.node_rope.specs.Walk.{count_of, HasCounts, with_node_before, after, mirror}
 use Rattle.node_rope.specs.Joined.{IsJoined}
 use Rattle.node_rope.specs.Grown.{IsGrown}
 use Rattle.node_rope.specs.Rising.{IsRising, IsRaised, SameLinks, AreSmall}
@@ -35,7 +35,8 @@ are-within s root sound = record {
   parents = λ x m e. numbered s (shape_at (shapes_of s) x).parent m (sound.made_parent x) e;
 }
 
-module _ {T : Type 0} (s u : Store T) (root : Option Link) (at l : Link) (w : Own) (sound : HasRightLinks s root) (e : IsEntered (shape_at (shapes_of s)) (shape_at (shapes_of u)) at l w)
+module _ {T : Type 0} (s u : Store T) (root : Option Link) (at l : Link) (w : Own) (sound : HasRightLinks s root)
+    (e : IsEntered (shape_at (shapes_of s)) (shape_at (shapes_of u)) at l w)
     (kept : IsKept s u) (number : l.number ≡ made_count s) (made_l : IsMade u l) (made_at : IsMade s at) (count : made_count u ≡ made_count s + 1) where
   came-made : (m : Link) → Came (shape_at (shapes_of s)) at l m → IsMade u m
   came-made m (inl f) = subst (λ (k : Link). IsMade u k) (sym f) made_l
@@ -68,7 +69,8 @@ module _ {T : Type 0} (s u : Store T) (root : Option Link) (at l : Link) (w : Ow
     ];
   }
 
-  module _ (v : Store T) (cv : HasCounts (tree_of (shapes_of v))) (wv : IsWeighed (shapes_of v)) (rv : IsRanked (shapes_of v)) (links : SameLinks (shapes_of u) (shapes_of v)) (raised : IsRaised (shapes_of u) (shapes_of v) w None)
+  module _ (v : Store T) (cv : HasCounts (tree_of (shapes_of v))) (wv : IsWeighed (shapes_of v)) (rv : IsRanked (shapes_of v)) (links : SameLinks (shapes_of u) (shapes_of v))
+      (raised : IsRaised (shapes_of u) (shapes_of v) w None)
       (kept' : IsKept u v) (count' : made_count v ≡ made_count u) where
     small-count : (i : ℕ) → (shape_at (shapes_of v) i).count ≤ suc (made_count v)
     small-count i =
@@ -105,18 +107,23 @@ module _ {T : Type 0} (s u : Store T) (root : Option Link) (at l : Link) (w : Ow
       small = small-count;
     }
 
-    pub grown-walk-before : IsJoined (tree_of (shapes_of s)) (tree_of (shapes_of u)) at.number l.number → nodes_in_order v root ≡ flat_map (members_before at.number l.number) (nodes_in_order s root)
+    pub grown-walk-before : IsJoined (tree_of (shapes_of s)) (tree_of (shapes_of u)) at.number l.number
+        → nodes_in_order v root ≡ flat_map (with_node_before at.number l.number) (nodes_in_order s root)
     grown-walk-before j = attached-walk (tree_of (shapes_of s)) (tree_of (shapes_of v)) sound.counted cv at.number l.number
-        (joined-attached (tree_of (shapes_of s)) (tree_of (shapes_of u)) sound.counted sound.linked sound.below at.number l.number j (tree_of (shapes_of v)) (λ i. ap link_number (links i).left) (λ i. ap link_number (links i).right))
+        (joined-attached (tree_of (shapes_of s)) (tree_of (shapes_of u)) sound.counted sound.linked sound.below at.number l.number j (tree_of (shapes_of v))
+        (λ i. ap link_number (links i).left) (λ i. ap link_number (links i).right))
         (count_of (tree_of (shapes_of s)) (link_number root)) (link_number root) (omega arith) root-old
 
-    pub grown-walk-after : IsJoined (mirror (tree_of (shapes_of s))) (mirror (tree_of (shapes_of u))) at.number l.number → nodes_in_order v root ≡ flat_map (after at.number l.number) (nodes_in_order s root)
+    pub grown-walk-after : IsJoined (mirror (tree_of (shapes_of s))) (mirror (tree_of (shapes_of u))) at.number l.number
+        → nodes_in_order v root ≡ flat_map (after at.number l.number) (nodes_in_order s root)
     grown-walk-after j = attached-walk-after (tree_of (shapes_of s)) (tree_of (shapes_of v)) sound.counted cv at.number l.number
-        (joined-attached (mirror (tree_of (shapes_of s))) (mirror (tree_of (shapes_of u))) (mirror-counted (tree_of (shapes_of s)) sound.counted) (mirror-linked (tree_of (shapes_of s)) sound.linked) (mirror-below (tree_of (shapes_of s)) sound.below)
+        (joined-attached (mirror (tree_of (shapes_of s))) (mirror (tree_of (shapes_of u))) (mirror-counted (tree_of (shapes_of s)) sound.counted)
+        (mirror-linked (tree_of (shapes_of s)) sound.linked) (mirror-below (tree_of (shapes_of s)) sound.below)
         at.number l.number j (mirror (tree_of (shapes_of v))) (λ i. ap link_number (links i).right) (λ i. ap link_number (links i).left))
         (count_of (tree_of (shapes_of s)) (link_number root)) (link_number root) (omega arith) root-old
 
-    pub grown : (key : Identifier) (value : T) → values_of v ≡ values_of s ++ value ∷ [] → (shape_at (shapes_of u) l.number).key ≡ key → (shape_at (shapes_of u) l.number).own ≡ w → IsGrown s v root key w value l
+    pub grown : (key : Identifier) (value : T) → values_of v ≡ values_of s ++ value ∷ [] → (shape_at (shapes_of u) l.number).key ≡ key → (shape_at (shapes_of u) l.number).own ≡ w
+        → IsGrown s v root key w value l
     grown key value values k o = record {
       sound = sound-again;
       number = number;

@@ -42,7 +42,8 @@ module _ {M : Type 0} (m : Measure M) (C : IsCommutative m) where
   turn-round l o r = C.comm l (m.both o r) ∙ ap (λ x. m.both x l) (C.comm o r) ∙ C.assoc r o l
 
 module _ (t u : Tree) (ct : HasCounts t) (linked : IsLinked t) (below : IsBelow t) (y n : ℕ) (j : IsJoined t u y n) where
-  module _ {M : Type 0} (m : Measure M) (C : IsCommutative m) (own own' s s' : ℕ → M) (summed : IsSummed m t own s) (eo : (x : ℕ) → x ≢ n → own' x ≡ own x) (es : (x : ℕ) → x ≢ n → s' x ≡ s x)
+  module _ {M : Type 0} (m : Measure M) (C : IsCommutative m) (own own' s s' : ℕ → M) (summed : IsSummed m t own s) (eo : (x : ℕ) → x ≢ n → own' x ≡ own x)
+      (es : (x : ℕ) → x ≢ n → s' x ≡ s x)
       (en : s' n ≡ m.both (sum_of m s (t.left y)) (own' n)) (alone : m.both (own' n) m.none ≡ own' n) where
     -- a sum of a child is as it was
     same : (o : Option ℕ) → (o ≡ Some n → ⊥) → sum_of m s' o ≡ sum_of m s o
@@ -67,7 +68,8 @@ module _ (t u : Tree) (ct : HasCounts t) (linked : IsLinked t) (below : IsBelow 
 
     right-other : (x : ℕ) → x ≢ y → x ≢ n → Right x
     right-other x xy xn = es x xn ∙ summed x
-        ∙ (λ i. m.both (sym (ap (sum_of m s') (j.others_left x xy xn) ∙ same (t.left x) (j.new_left x)) i) (m.both (sym (eo x xn) i) (sym (ap (sum_of m s') (j.others_right x xn) ∙ same (t.right x) (j.new_right x)) i)))
+        ∙ (λ i. m.both (sym (ap (sum_of m s') (j.others_left x xy xn) ∙ same (t.left x) (j.new_left x)) i)
+        (m.both (sym (eo x xn) i) (sym (ap (sum_of m s') (j.others_right x xn) ∙ same (t.right x) (j.new_right x)) i)))
 
     pub joined-sums : IsSummedBut m u own' s' (own' n) (Some y)
     joined-sums = record {
@@ -168,7 +170,8 @@ module _ (t u : Tree) (ct : HasCounts t) (linked : IsLinked t) (below : IsBelow 
   }
 
 -- ---- one step of the climb: what is lacking is added at x
-module _ {M : Type 0} (m : Measure M) (C : IsCommutative m) (t u : Tree) (linked : IsLinked t) (below : IsBelow t) (own s s' : ℕ → M) (d : M) (x : ℕ) (same_left : (i : ℕ) → u.left i ≡ t.left i) (same_right : (i : ℕ) → u.right i ≡ t.right i)
+module _ {M : Type 0} (m : Measure M) (C : IsCommutative m) (t u : Tree) (linked : IsLinked t) (below : IsBelow t) (own s s' : ℕ → M) (d : M) (x : ℕ)
+    (same_left : (i : ℕ) → u.left i ≡ t.left i) (same_right : (i : ℕ) → u.right i ≡ t.right i)
     (here : s' x ≡ m.both (s x) d) (others : (i : ℕ) → i ≢ x → s' i ≡ s i) (proper : t.parent x ≡ Some x → ⊥) (b : IsSummedBut m t own s d (Some x)) where
   same_sum : (o : Option ℕ) → (o ≡ Some x → ⊥) → sum_of m s' o ≡ sum_of m s o
   same_sum None h = refl
@@ -207,7 +210,8 @@ module _ {M : Type 0} (m : Measure M) (C : IsCommutative m) (t u : Tree) (linked
   sums-here = here ∙ b.low x refl ∙ (λ i. m.both (left_is x (λ g. proper (linked.from_left x x g)) i) (m.both (own x) (right_is x (λ g. proper (linked.from_right x x g)) i)))
 
   sums-other : (z : ℕ) → z ≢ x → (t.parent x ≡ Some z → ⊥) → Sums z
-  sums-other z f e = others z f ∙ b.rest z (λ g. f (some-same z x (sym g))) ∙ (λ i. m.both (left_is z (λ g. e (linked.from_left z x g)) i) (m.both (own z) (right_is z (λ g. e (linked.from_right z x g)) i)))
+  sums-other z f e = others z f ∙ b.rest z (λ g. f (some-same z x (sym g)))
+      ∙ (λ i. m.both (left_is z (λ g. e (linked.from_left z x g)) i) (m.both (own z) (right_is z (λ g. e (linked.from_right z x g)) i)))
 
   pub raised-once : IsSummedBut m u own s' d (t.parent x)
   raised-once = record {

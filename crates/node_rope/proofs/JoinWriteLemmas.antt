@@ -36,7 +36,8 @@ pub with_parent-other : (ss : List Shape) (o q : Option Link) (j : ℕ) → (lin
 with_parent-other ss None q j h = refl
 with_parent-other ss (Some l) q j h = set_other ss l.number j _ (λ e. h (ap Some (sym e)))
 
-pub with_parent-same : (ss : List Shape) (o q : Option Link) (j : ℕ) → link_number o ≡ Some j → j < length ss → shape_at (with_parent ss o q) j ≡ record (shape_at ss j) { parent = q }
+pub with_parent-same : (ss : List Shape) (o q : Option Link) (j : ℕ) → link_number o ≡ Some j → j < length ss
+    → shape_at (with_parent ss o q) j ≡ record (shape_at ss j) { parent = q }
 with_parent-same ss None q j e h = absurd (none-some j e)
 with_parent-same ss (Some l) q j e h =
     let is = some-same l.number j e in
@@ -82,7 +83,8 @@ module _ (ss : List Shape) (at l : Link) (h : Shape) (ct : HasCounts (tree_of ss
   away_before x e = set_other mid-before y_before x (record (shape_at ss y_before) { left = Some l }) e
 
   pub at_n-before : shape_at us-before l.number ≡ h
-  at_n-before = away_before l.number (λ e. omega (arith, number, in_y, e)) ∙ with_parent-other more-before o-before (Some l) l.number (λ e. let k = within.lefts y_before l.number e in omega (arith, k, number))
+  at_n-before = away_before l.number (λ e. omega (arith, number, in_y, e))
+      ∙ with_parent-other more-before o-before (Some l) l.number (λ e. let k = within.lefts y_before l.number e in omega (arith, k, number))
       ∙ ap (shape_at more-before) number ∙ got-new ss h
 
   pub at_m-before : (m : ℕ) → link_number o-before ≡ Some m → shape_at us-before m ≡ record (shape_at ss m) { parent = Some l }
@@ -90,14 +92,16 @@ module _ (ss : List Shape) (at l : Link) (h : Shape) (ct : HasCounts (tree_of ss
       let with_l : Shape → Shape = λ s. record s { parent = Some l } in
       let small = below-left (tree_of ss) ct y_before m e in
       let k = within.lefts y_before m e in
-      away_before m (λ f. omega (arith, small, ap (λ (j : ℕ). (shape_at ss j).count) f)) ∙ with_parent-same more-before o-before (Some l) m e (omega (arith, k, length-append ss (h ∷ [])))
+      away_before m (λ f. omega (arith, small, ap (λ (j : ℕ). (shape_at ss j).count) f))
+      ∙ with_parent-same more-before o-before (Some l) m e (omega (arith, k, length-append ss (h ∷ [])))
       ∙ ap with_l (got-more ss h m (λ f. omega (arith, k, f)))
 
   pub at_else-before : (x : ℕ) → x ≢ l.number → x ≢ y_before → (link_number o-before ≡ Some x → ⊥) → shape_at us-before x ≡ shape_at ss x
   at_else-before x xn xy e = away_before x xy ∙ with_parent-other more-before o-before (Some l) x e ∙ got-more ss h x (λ f. xn (f ∙ sym number))
 
   -- a field that neither write touches
-  pub field-before : {X : Type 0} (f : Shape → X) → ((s : Shape) (q : Option Link) → f (record s { parent = q }) ≡ f s) → ((s : Shape) (q : Option Link) → f (record s { left = q }) ≡ f s) → (x : ℕ) → x ≢ l.number → f (shape_at us-before x) ≡ f (shape_at ss x)
+  pub field-before : {X : Type 0} (f : Shape → X) → ((s : Shape) (q : Option Link) → f (record s { parent = q }) ≡ f s)
+      → ((s : Shape) (q : Option Link) → f (record s { left = q }) ≡ f s) → (x : ℕ) → x ≢ l.number → f (shape_at us-before x) ≡ f (shape_at ss x)
   field-before f p q x xn = elim (cases_number x y_before) as (λ _. f (shape_at us-before x) ≡ f (shape_at ss x)) [
     | inl e ↦ ap (λ (j : ℕ). f (shape_at us-before j)) e ∙ ap f at_y_before ∙ q (shape_at ss y_before) (Some l) ∙ ap (λ (j : ℕ). f (shape_at ss j)) (sym e)
     | inr e ↦ elim (some-or-not (link_number o-before) x) as (λ _. f (shape_at us-before x) ≡ f (shape_at ss x)) [
@@ -107,7 +111,8 @@ module _ (ss : List Shape) (at l : Link) (h : Shape) (ct : HasCounts (tree_of ss
   ]
 
   -- a field that only the write of the parent touches
-  pub others-before : {X : Type 0} (f : Shape → X) → ((s : Shape) (q : Option Link) → f (record s { parent = q }) ≡ f s) → (x : ℕ) → x ≢ y_before → x ≢ l.number → f (shape_at us-before x) ≡ f (shape_at ss x)
+  pub others-before : {X : Type 0} (f : Shape → X) → ((s : Shape) (q : Option Link) → f (record s { parent = q }) ≡ f s) → (x : ℕ) → x ≢ y_before → x ≢ l.number
+      → f (shape_at us-before x) ≡ f (shape_at ss x)
   others-before f p x e xn = elim (some-or-not (link_number o-before) x) as (λ _. f (shape_at us-before x) ≡ f (shape_at ss x)) [
     | inl g ↦ ap f (at_m-before x g) ∙ p (shape_at ss x) (Some l)
     | inr g ↦ ap f (at_else-before x xn e g)

@@ -1,5 +1,6 @@
 -- Each node of a rope stands in its order, and the list has each node's value under its key.
-use Rattle.std.proofs.Common.{◌≡◌, ◌≢◌, ◌⊎◌, inl, inr, ℕ, zero, suc, ◌+◌, ◌<◌, ◌≤◌, false, cond, List, [], ◌∷◌, ◌++◌, length, map, flat_map, slice_get, get_or, Option, None, Some, refl, sym, ap, ◌∙◌, subst, arith}
+use Rattle.std.proofs.Common.{◌≡◌, ◌≢◌, ◌⊎◌, inl, inr, ℕ, zero, suc, ◌+◌, ◌<◌, ◌≤◌, false, cond, List, [], ◌∷◌, ◌++◌, length, map, flat_map, slice_get, get_or, Option, None, Some}
+use Rattle.std.proofs.Common.{refl, sym, ap, ◌∙◌, subst, arith}
 use Rattle.std.specs.Prelude.{eqb, is_some}
 use Rattle.std.proofs.lemmas.Bool.{false_from_ne_true}
 use Rattle.std.proofs.lemmas.Bool.Decides.{eqb_tells}
@@ -60,11 +61,13 @@ module _ {T : Type 0} (s : Store T) (root : Option Link) (sound : HasRightLinks 
 
   pub over-left : (x i p : ℕ) → t.left p ≡ Some i → Among x (all_nodes t (Some i)) → Among x (all_nodes t (Some p))
   over-left x i p e a =
-      subst (Among x) (sym (whole-node t sound.counted p)) (among-left x (all_nodes t (t.left p)) (p ∷ all_nodes t (t.right p)) (subst (λ (o : Option ℕ). Among x (all_nodes t o)) (sym e) a))
+      subst (Among x) (sym (whole-node t sound.counted p))
+      (among-left x (all_nodes t (t.left p)) (p ∷ all_nodes t (t.right p)) (subst (λ (o : Option ℕ). Among x (all_nodes t o)) (sym e) a))
 
   pub over-right : (x i p : ℕ) → t.right p ≡ Some i → Among x (all_nodes t (Some i)) → Among x (all_nodes t (Some p))
   over-right x i p e a =
-      subst (Among x) (sym (whole-node t sound.counted p)) (among-right x (all_nodes t (t.left p)) (p ∷ all_nodes t (t.right p)) (inr (subst (λ (o : Option ℕ). Among x (all_nodes t o)) (sym e) a)))
+      subst (Among x) (sym (whole-node t sound.counted p))
+      (among-right x (all_nodes t (t.left p)) (p ∷ all_nodes t (t.right p)) (inr (subst (λ (o : Option ℕ). Among x (all_nodes t o)) (sym e) a)))
 
   climbs : (k x i : ℕ) → suc (suc (made_count s)) ≤ t.count i + k → i < made_count s → Among x (all_nodes t (Some i)) → Among x (nodes_in_order s root)
   climbs zero x i h b a = absurd (omega (arith, h, sound.small i))
@@ -79,7 +82,8 @@ module _ {T : Type 0} (s : Store T) (root : Option Link) (sound : HasRightLinks 
 
   -- each node stands in the order
   pub in-order : (i : ℕ) → i < made_count s → Among i (nodes_in_order s root)
-  in-order i h = climbs (suc (suc (made_count s))) i i (omega arith) h (subst (Among i) (sym (whole-node t sound.counted i)) (among-right i (all_nodes t (t.left i)) (i ∷ all_nodes t (t.right i)) (inl refl)))
+  in-order i h = climbs (suc (suc (made_count s))) i i (omega arith) h
+      (subst (Among i) (sym (whole-node t sound.counted i)) (among-right i (all_nodes t (t.left i)) (i ∷ all_nodes t (t.right i)) (inl refl)))
 
   made-under : (k : ℕ) (o : Option ℕ) → count_of t o ≤ k → ((x : ℕ) → o ≡ Some x → x < made_count s) → (x : ℕ) → Among x (all_nodes t o) → x < made_count s
   made-under k None h b x a = absurd a
@@ -102,14 +106,16 @@ pub value-made : {T : Type 0} (s : Store T) (x : ℕ) → x < made_count s → (
 value-made s x h = some-of (values_of s) x (omega (arith, h, length-values s))
 
 -- the items of a second store, where each is made from the one of the same node
-pub mapped-items : {T : Type 0} (s v : Store T) (f : Identifier × T → Identifier × T) → ((x : ℕ) → x < made_count s → (a : T) → slice_get (values_of s) x ≡ Some a → item_at v x ≡ f ((shape_at (shapes_of s) x).key, a) ∷ [])
+pub mapped-items : {T : Type 0} (s v : Store T) (f : Identifier × T → Identifier × T)
+    → ((x : ℕ) → x < made_count s → (a : T) → slice_get (values_of s) x ≡ Some a → item_at v x ≡ f ((shape_at (shapes_of s) x).key, a) ∷ [])
     → (xs : List ℕ) → ((x : ℕ) → Among x xs → x < made_count s) → flat_map (item_at v) xs ≡ map f (flat_map (item_at s) xs)
 mapped-items s v f each [] made = refl
 mapped-items {T} s v f each (x ∷ xs) made =
     let h = made x (inl refl) in
     let a = value-made s x h in
     let p : Identifier × T = f ((shape_at (shapes_of s) x).key, a.0) in
-    ap (λ (ys : List (Identifier × T)). ys ++ flat_map (item_at v) xs) (each x h a.0 a.1) ∙ ap (λ (ys : List (Identifier × T)). p ∷ ys) (mapped-items s v f each xs (λ y b. made y (inr b)))
+    ap (λ (ys : List (Identifier × T)). ys ++ flat_map (item_at v) xs) (each x h a.0 a.1)
+    ∙ ap (λ (ys : List (Identifier × T)). p ∷ ys) (mapped-items s v f each xs (λ y b. made y (inr b)))
     ∙ ap (λ (ys : List (Identifier × T)). map f (ys ++ flat_map (item_at s) xs)) (sym (item-is s x a.0 h a.1))
 
 read-value : {X : Type 0} (xs : List X) (i : ℕ) (d v : X) → slice_get xs i ≡ Some v → get_or xs i d ≡ v
@@ -121,25 +127,30 @@ pub value-read : {T : Type 0} (s : Store T) (i : ℕ) (d v : T) → d ≡ get_or
 value-read s i d v e f = e ∙ read-value (values_of s) i d v f
 
 -- the list's value under a key that one node has
-pub value-among : {T : Type 0} (s : Store T) (k : Identifier) (y : ℕ) (v : T) → ((x : ℕ) → x < made_count s → id_eq (shape_at (shapes_of s) x).key k ≡ eqb x y) → slice_get (values_of s) y ≡ Some v
+pub value-among : {T : Type 0} (s : Store T) (k : Identifier) (y : ℕ) (v : T) → ((x : ℕ) → x < made_count s → id_eq (shape_at (shapes_of s) x).key k ≡ eqb x y)
+    → slice_get (values_of s) y ≡ Some v
     → (xs : List ℕ) → ((x : ℕ) → Among x xs → x < made_count s) → Among y xs → value_under k (flat_map (item_at s) xs) ≡ Some v
 value-among s k y v alone is [] made a = absurd a
 value-among {T} s k y v alone is (x ∷ xs) made a =
     let w = value-made s x (made x (inl refl)) in
     let rest = flat_map (item_at s) xs in
-    let here = ap (λ (ys : List (Identifier × T)). value_under k (ys ++ rest)) (item-is s x w.0 (made x (inl refl)) w.1) ∙ ap (λ b. cond b (Some w.0) (value_under k rest)) (alone x (made x (inl refl))) in
+    let here = ap (λ (ys : List (Identifier × T)). value_under k (ys ++ rest)) (item-is s x w.0 (made x (inl refl)) w.1)
+    ∙ ap (λ b. cond b (Some w.0) (value_under k rest)) (alone x (made x (inl refl))) in
     here ∙ elim (eqb_tells x y) as (λ _. cond (eqb x y) (Some w.0) (value_under k rest) ≡ Some v) [
       | inl e ↦ ap (λ b. cond b (Some w.0) (value_under k rest)) e.0 ∙ sym w.1 ∙ ap (slice_get (values_of s)) e.1 ∙ is
-      | inr e ↦ ap (λ b. cond b (Some w.0) (value_under k rest)) e.0 ∙ value-among s k y v alone is xs (λ z b. made z (inr b)) (elim a as (λ _. Among y xs) [ inl f ↦ absurd (e.1 f) | inr b ↦ b ])
+      | inr e ↦ ap (λ b. cond b (Some w.0) (value_under k rest)) e.0
+          ∙ value-among s k y v alone is xs (λ z b. made z (inr b)) (elim a as (λ _. Among y xs) [ inl f ↦ absurd (e.1 f) | inr b ↦ b ])
     ]
 
 -- and under one that no node has
-pub value-none : {T : Type 0} (s : Store T) (k : Identifier) → ((x : ℕ) → x < made_count s → id_eq (shape_at (shapes_of s) x).key k ≡ false) → (xs : List ℕ) → ((x : ℕ) → Among x xs → x < made_count s) → value_under k (flat_map (item_at s) xs) ≡ None
+pub value-none : {T : Type 0} (s : Store T) (k : Identifier) → ((x : ℕ) → x < made_count s → id_eq (shape_at (shapes_of s) x).key k ≡ false) → (xs : List ℕ)
+    → ((x : ℕ) → Among x xs → x < made_count s) → value_under k (flat_map (item_at s) xs) ≡ None
 value-none s k other [] made = refl
 value-none {T} s k other (x ∷ xs) made =
     let w = value-made s x (made x (inl refl)) in
     let rest = flat_map (item_at s) xs in
-    ap (λ (ys : List (Identifier × T)). value_under k (ys ++ rest)) (item-is s x w.0 (made x (inl refl)) w.1) ∙ ap (λ b. cond b (Some w.0) (value_under k rest)) (other x (made x (inl refl))) ∙ value-none s k other xs (λ z b. made z (inr b))
+    ap (λ (ys : List (Identifier × T)). value_under k (ys ++ rest)) (item-is s x w.0 (made x (inl refl)) w.1)
+    ∙ ap (λ b. cond b (Some w.0) (value_under k rest)) (other x (made x (inl refl))) ∙ value-none s k other xs (λ z b. made z (inr b))
 
 module _ {T : Type 0} (wt : T → Own) (s : Store T) (root : Option Link) (m : BlockMap Link) (r : IsRope wt s root m) where
   -- a key of the map is that of its node alone
@@ -155,7 +166,8 @@ module _ {T : Type 0} (wt : T → Own) (s : Store T) (root : Option Link) (m : B
   ]
 
   pub held : (k : Identifier) (l : Link) → value_of m k ≡ Some l → (v : T) → slice_get (values_of s) l.number ≡ Some v → value_under k (rope_items_of s root) ≡ Some v
-  held k l e v is = value-among s k l.number v (alone k l e) is (nodes_in_order s root) (all-made s root r.sound) (in-order s root r.sound l.number (made-below s l (r.mapped k l e)))
+  held k l e v is = value-among s k l.number v (alone k l e) is (nodes_in_order s root) (all-made s root r.sound)
+      (in-order s root r.sound l.number (made-below s l (r.mapped k l e)))
 
   -- the value of a node stands under its key
   pub node-holds : (l : Link) → IsMade s l → (d : T) → d ≡ get_or (values_of s) l.number d → value_under (shape_at (shapes_of s) l.number).key (rope_items_of s root) ≡ Some d
@@ -198,7 +210,8 @@ module _ {T : Type 0} (wt : T → Own) (s : Store T) (root : Option Link) (m : B
   }
 
 -- the grown store, whose nodes moved in the tree
-pub regrown : {T : Type 0} (s u v : Store T) (root top : Option Link) (key : Identifier) (w : Own) (value : T) (l : Link) → IsGrown s u root key w value l → IsRearranged u v root top → IsGrown s v top key w value l
+pub regrown : {T : Type 0} (s u v : Store T) (root top : Option Link) (key : Identifier) (w : Own) (value : T) (l : Link) → IsGrown s u root key w value l
+    → IsRearranged u v root top → IsGrown s v top key w value l
 regrown s u v root top key w value l g e = record {
   sound = e.sound;
   number = g.number;
@@ -215,10 +228,12 @@ got-end : {X : Type 0} (xs : List X) (y : X) (i : ℕ) (x : X) → slice_get (xs
 got-end [] y zero x e = inr (refl, cc)
 got-end [] y (suc i) x e = absurd (cc)
 got-end (z ∷ xs) y zero x e = inl e
-got-end (z ∷ xs) y (suc i) x e = elim (got-end xs y i x e) as (λ _. (slice_get xs i ≡ Some x) ⊎ ((suc i ≡ suc (length xs)) × (y ≡ x))) [ inl h ↦ inl h | inr h ↦ inr (ap suc h.0, h.1) ]
+got-end (z ∷ xs) y (suc i) x e =
+    elim (got-end xs y i x e) as (λ _. (slice_get xs i ≡ Some x) ⊎ ((suc i ≡ suc (length xs)) × (y ≡ x))) [ inl h ↦ inl h | inr h ↦ inr (ap suc h.0, h.1) ]
 
 -- one more node, and its key
-pub grown-roped : {T : Type 0} (wt : T → Own) (s v : Store T) (root top : Option Link) (m p : BlockMap Link) (key : Identifier) (w : Own) (value : T) (l : Link) → IsRope wt s root m → IsGrown s v top key w value l → IsKept s v
+pub grown-roped : {T : Type 0} (wt : T → Own) (s v : Store T) (root top : Option Link) (m p : BlockMap Link) (key : Identifier) (w : Own) (value : T) (l : Link)
+    → IsRope wt s root m → IsGrown s v top key w value l → IsKept s v
     → made_count s < 4194304 → w.weight < 4194305 → w.rank ≤ no_rank → w ≡ wt value → value_of m key ≡ None → IsReplaced (value_of m) (value_of p) key (Some l) → IsRope wt v top p
 grown-roped wt s v root top m p key w value l r g kept few small fits is none set = record {
   sound = g.sound;
@@ -260,7 +275,8 @@ grown-roped wt s v root top m p key w value l r g kept few small fits is none se
   differs : (x : Link) → Some x ≡ None → ⊥
   differs x e = cc
 
-module _ {T : Type 0} (s v : Store T) (root : Option Link) (key : Identifier) (w : Own) (value : T) (l : Link) (none : made_count s ≡ 0) (shapes : shapes_of v ≡ shapes_of s ++ only key w ∷ []) (values : values_of v ≡ values_of s ++ value ∷ []) (number : l.number ≡ made_count s)
+module _ {T : Type 0} (s v : Store T) (root : Option Link) (key : Identifier) (w : Own) (value : T) (l : Link) (none : made_count s ≡ 0)
+    (shapes : shapes_of v ≡ shapes_of s ++ only key w ∷ []) (values : values_of v ≡ values_of s ++ value ∷ []) (number : l.number ≡ made_count s)
     (made : IsMade v l) (count : made_count v ≡ made_count s + 1) (fits : w.rank ≤ no_rank) where
   none-there : shapes_of s ≡ []
   none-there = nil_from_length (shapes_of s) (length-shapes s ∙ none)

@@ -21,7 +21,8 @@ pub with_child-other : (ss : List Shape) (o : Option Link) (p : ℕ) (c : Link) 
 with_child-other ss None p c j h = refl
 with_child-other ss (Some g) p c j h = set_other ss g.number j _ (λ e. h (ap Some (sym e)))
 
-pub with_child-same : (ss : List Shape) (o : Option Link) (p : ℕ) (c : Link) (j : ℕ) → link_number o ≡ Some j → j < length ss → shape_at (with_child ss o p c) j ≡ with_swapped_child (shape_at ss j) p c
+pub with_child-same : (ss : List Shape) (o : Option Link) (p : ℕ) (c : Link) (j : ℕ) → link_number o ≡ Some j → j < length ss
+    → shape_at (with_child ss o p c) j ≡ with_swapped_child (shape_at ss j) p c
 with_child-same ss None p c j e h = absurd (none-some j e)
 with_child-same ss (Some g) p c j e h =
     let is = some-same g.number j e in
@@ -30,10 +31,11 @@ with_child-same ss (Some g) p c j e h =
 
 pub leads-tells : (o : Option Link) (i : ℕ) → ((leads o i ≡ true) × (link_number o ≡ Some i)) ⊎ ((leads o i ≡ false) × (link_number o ≡ Some i → ⊥))
 leads-tells None i = inr (refl, none-some i)
-leads-tells (Some l) i = elim (eqb_tells l.number i) as (λ _. ((leads (Some l) i ≡ true) × (link_number (Some l) ≡ Some i)) ⊎ ((leads (Some l) i ≡ false) × (link_number (Some l) ≡ Some i → ⊥))) [
-  | inl e ↦ inl (e.0, ap Some e.1)
-  | inr e ↦ inr (e.0, λ f. e.1 (some-same l.number i f))
-]
+leads-tells (Some l) i =
+    elim (eqb_tells l.number i) as (λ _. ((leads (Some l) i ≡ true) × (link_number (Some l) ≡ Some i)) ⊎ ((leads (Some l) i ≡ false) × (link_number (Some l) ≡ Some i → ⊥))) [
+      | inl e ↦ inl (e.0, ap Some e.1)
+      | inr e ↦ inr (e.0, λ f. e.1 (some-same l.number i f))
+    ]
 
 -- a link of the node over c, with c in the place of p
 pub relinked-moved : (o : Option Link) (p : ℕ) (c : Link) → link_number (relinked_child o p c) ≡ replaced_child p c.number (link_number o)
@@ -48,5 +50,6 @@ relinked-from o p c m h = elim (leads-tells o p) as (λ _. (m ≡ c) ⊎ (o ≡ 
   | inr e ↦ inr (sym (ap (λ b. cond b (Some c) o) e.0) ∙ h)
 ]
 
-pub swapped-field : {X : Type 0} (f : Shape → X) → ((s : Shape) (q : Option Link) → f (record s { left = q }) ≡ f s) → ((s : Shape) (q : Option Link) → f (record s { right = q }) ≡ f s) → (h : Shape) (p : ℕ) (c : Link) → f (with_swapped_child h p c) ≡ f h
+pub swapped-field : {X : Type 0} (f : Shape → X) → ((s : Shape) (q : Option Link) → f (record s { left = q }) ≡ f s)
+    → ((s : Shape) (q : Option Link) → f (record s { right = q }) ≡ f s) → (h : Shape) (p : ℕ) (c : Link) → f (with_swapped_child h p c) ≡ f h
 swapped-field f l r h p c = r (record h { left = relinked_child h.left p c }) (relinked_child h.right p c) ∙ l h (relinked_child h.left p c)

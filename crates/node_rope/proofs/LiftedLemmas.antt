@@ -13,7 +13,8 @@ use Rattle.node_rope.proofs.RaiseLemmas.{set_same, set_other}
 use Rattle.node_rope.proofs.JoinWriteLemmas.{length-with_parent, with_parent-other, with_parent-same}
 use Rattle.node_rope.proofs.LiftLemmas.{with_child-other, with_child-same, leads-tells, relinked-moved, swapped-field}
 
-module _ (ss : List Shape) (p c : Link) (ct : HasCounts (tree_of ss)) (linked : IsLinked (tree_of ss)) (was : link_number (shape_at ss p.number).left ≡ Some c.number) (in_p : p.number < length ss) (in_c : c.number < length ss) where
+module _ (ss : List Shape) (p c : Link) (ct : HasCounts (tree_of ss)) (linked : IsLinked (tree_of ss)) (was : link_number (shape_at ss p.number).left ≡ Some c.number)
+    (in_p : p.number < length ss) (in_c : c.number < length ss) where
   abbrev t : Tree
   t = tree_of ss
 
@@ -33,14 +34,21 @@ module _ (ss : List Shape) (p c : Link) (ct : HasCounts (tree_of ss)) (linked : 
   differ e = omega (arith, low, ap t.count e)
 
   abbrev new_p : Shape
-  new_p = record above { left = below.right; parent = Some c; count = (above.count - below.count) + tree_count_at ss below.right; weight = (above.weight - below.weight) + weight_at ss below.right; least = min (least_at ss below.right) (min above.own.rank (least_at ss above.right)) }
+  new_p = record above {
+    left = below.right;
+    parent = Some c;
+    count = (above.count - below.count) + tree_count_at ss below.right;
+    weight = (above.weight - below.weight) + weight_at ss below.right;
+    least = min (least_at ss below.right) (min above.own.rank (least_at ss above.right));
+  }
 
   abbrev new_c : Shape
   new_c = record below { right = Some p; parent = above.parent; count = above.count; weight = above.weight; least = above.least }
 
   pub at_c : shape_at after c.number ≡ new_c
   unfolding lifted_shapes
-  at_c = set_same (slice_set (with_parent ss below.right (Some p)) p.number new_p) c.number new_c (omega (arith, in_c, length-set (with_parent ss below.right (Some p)) p.number new_p, length-with_parent ss below.right (Some p)))
+  at_c = set_same (slice_set (with_parent ss below.right (Some p)) p.number new_p) c.number new_c
+      (omega (arith, in_c, length-set (with_parent ss below.right (Some p)) p.number new_p, length-with_parent ss below.right (Some p)))
 
   pub at_p : shape_at after p.number ≡ new_p
   unfolding lifted_shapes
@@ -59,10 +67,12 @@ module _ (ss : List Shape) (p c : Link) (ct : HasCounts (tree_of ss)) (linked : 
   pub at_other : (i : ℕ) → i ≢ p.number → i ≢ c.number → (link_number below.right ≡ Some i → ⊥) → shape_at after i ≡ shape_at ss i
   at_other i f g h = at_else i f g ∙ with_parent-other ss below.right (Some p) i h
 
-module _ (ss : List Shape) (p c : Link) (ct : HasCounts (tree_of ss)) (linked : IsLinked (tree_of ss)) (was : link_number (shape_at ss p.number).left ≡ Some c.number) (in_p : p.number < length ss) (in_c : c.number < length ss)
+module _ (ss : List Shape) (p c : Link) (ct : HasCounts (tree_of ss)) (linked : IsLinked (tree_of ss)) (was : link_number (shape_at ss p.number).left ≡ Some c.number)
+    (in_p : p.number < length ss) (in_c : c.number < length ss)
     (in_right : (m : ℕ) → link_number (shape_at ss c.number).right ≡ Some m → m < length ss)
     (in_top : (g : ℕ) → link_number (shape_at ss p.number).parent ≡ Some g → g < length ss)
-    (over : (g : ℕ) → link_number (shape_at ss p.number).parent ≡ Some g → (link_number (shape_at ss g).left ≡ Some p.number) ⊎ (link_number (shape_at ss g).right ≡ Some p.number)) where
+    (over : (g : ℕ) → link_number (shape_at ss p.number).parent ≡ Some g
+    → (link_number (shape_at ss g).left ≡ Some p.number) ⊎ (link_number (shape_at ss g).right ≡ Some p.number)) where
   abbrev t' : Tree
   t' = tree_of ss
 
@@ -97,10 +107,19 @@ module _ (ss : List Shape) (p c : Link) (ct : HasCounts (tree_of ss)) (linked : 
   not_top_c : link_number top ≡ Some c.number → ⊥
   not_top_c e = omega (arith, under_top c.number e, low')
 
-  pub all_c : shape_at all c.number ≡ record (shape_at ss c.number) { right = Some p; parent = top; count = (shape_at ss p.number).count; weight = (shape_at ss p.number).weight; least = (shape_at ss p.number).least }
+  pub all_c : shape_at all c.number ≡ record (shape_at ss c.number)
+      { right = Some p; parent = top; count = (shape_at ss p.number).count; weight = (shape_at ss p.number).weight; least = (shape_at ss p.number).least }
   all_c = with_child-other once_lifted top p.number c c.number not_top_c ∙ at_c ss p c ct linked was in_p in_c
 
-  pub all_p : shape_at all p.number ≡ record (shape_at ss p.number) { left = (shape_at ss c.number).right; parent = Some c; count = ((shape_at ss p.number).count - (shape_at ss c.number).count) + tree_count_at ss (shape_at ss c.number).right; weight = ((shape_at ss p.number).weight - (shape_at ss c.number).weight) + weight_at ss (shape_at ss c.number).right; least = min (least_at ss (shape_at ss c.number).right) (min (shape_at ss p.number).own.rank (least_at ss (shape_at ss p.number).right)) }
+  pub all_p : shape_at all p.number ≡ record (shape_at ss p.number) {
+    left = (shape_at ss c.number).right;
+    parent = Some c;
+    count = ((shape_at ss p.number).count - (shape_at ss c.number).count) + tree_count_at ss (shape_at ss c.number).right;
+    weight =
+        ((shape_at ss p.number).weight - (shape_at ss c.number).weight) + weight_at ss (shape_at ss c.number).right;
+    least =
+        min (least_at ss (shape_at ss c.number).right) (min (shape_at ss p.number).own.rank (least_at ss (shape_at ss p.number).right));
+  }
   all_p = with_child-other once_lifted top p.number c p.number not_top_p ∙ at_p ss p c ct linked was in_p in_c
 
   -- a node that is none of the two: the one over them, or one whose links stay
@@ -112,27 +131,31 @@ module _ (ss : List Shape) (p c : Link) (ct : HasCounts (tree_of ss)) (linked : 
     at_top e = with_child-same once_lifted top p.number c i e (omega (arith, in_top i e, length-lifted))
         ∙ ap (λ h. with_swapped_child h p.number c) (at_other ss p c ct linked was in_p in_c i ip ic (no_middle e))
 
-    pub at_rest : (link_number top ≡ Some i → ⊥) → (shape_at all i ≡ shape_at ss i) ⊎ ((link_number (shape_at ss c.number).right ≡ Some i) × (shape_at all i ≡ record (shape_at ss i) { parent = Some p }))
-    at_rest e = elim (leads-tells (shape_at ss c.number).right i) as (λ _. (shape_at all i ≡ shape_at ss i) ⊎ ((link_number (shape_at ss c.number).right ≡ Some i) × (shape_at all i ≡ record (shape_at ss i) { parent = Some p }))) [
-      | inl f ↦ inr (f.1, with_child-other once_lifted top p.number c i e ∙ at_middle ss p c ct linked was in_p in_c i f.1 (in_right i f.1))
-      | inr f ↦ inl (with_child-other once_lifted top p.number c i e ∙ at_other ss p c ct linked was in_p in_c i ip ic f.1)
-    ]
+    pub at_rest : (link_number top ≡ Some i → ⊥)
+        → (shape_at all i ≡ shape_at ss i) ⊎ ((link_number (shape_at ss c.number).right ≡ Some i) × (shape_at all i ≡ record (shape_at ss i) { parent = Some p }))
+    at_rest e = elim (leads-tells (shape_at ss c.number).right i) as
+        (λ _. (shape_at all i ≡ shape_at ss i) ⊎ ((link_number (shape_at ss c.number).right ≡ Some i) × (shape_at all i ≡ record (shape_at ss i) { parent = Some p }))) [
+          | inl f ↦ inr (f.1, with_child-other once_lifted top p.number c i e ∙ at_middle ss p c ct linked was in_p in_c i f.1 (in_right i f.1))
+          | inr f ↦ inl (with_child-other once_lifted top p.number c i e ∙ at_other ss p c ct linked was in_p in_c i ip ic f.1)
+        ]
 
     links : (u'.left i ≡ replaced_child p.number c.number (t'.left i)) × (u'.right i ≡ replaced_child p.number c.number (t'.right i)) × (u'.count i ≡ t'.count i)
-    links = elim (leads-tells top i) as (λ _. (u'.left i ≡ replaced_child p.number c.number (t'.left i)) × (u'.right i ≡ replaced_child p.number c.number (t'.right i)) × (u'.count i ≡ t'.count i)) [
-      | inl e ↦ (
-        ap (λ h. link_number h.left) (at_top e.1) ∙ relinked-moved (shape_at ss i).left p.number c,
-        ap (λ h. link_number h.right) (at_top e.1) ∙ relinked-moved (shape_at ss i).right p.number c,
-        ap (λ h. h.count) (at_top e.1),
-      )
-      | inr e ↦ (
-          let l : replaced_child p.number c.number (t'.left i) ≡ t'.left i = moved-other p.number c.number (t'.left i) (λ f. e.1 (linked.from_left i p.number f)) in
-          let r : replaced_child p.number c.number (t'.right i) ≡ t'.right i = moved-other p.number c.number (t'.right i) (λ f. e.1 (linked.from_right i p.number f)) in
-          elim (at_rest e.1) as (λ _. (u'.left i ≡ replaced_child p.number c.number (t'.left i)) × (u'.right i ≡ replaced_child p.number c.number (t'.right i)) × (u'.count i ≡ t'.count i)) [
-            | inl f ↦ (ap (λ h. link_number h.left) f ∙ sym l, ap (λ h. link_number h.right) f ∙ sym r, ap (λ h. h.count) f)
-            | inr f ↦ (ap (λ h. link_number h.left) f.1 ∙ sym l, ap (λ h. link_number h.right) f.1 ∙ sym r, ap (λ h. h.count) f.1)
-          ])
-    ]
+    links = elim (leads-tells top i) as (λ _. (u'.left i ≡ replaced_child p.number c.number (t'.left i)) × (u'.right i ≡ replaced_child p.number c.number (t'.right i))
+        × (u'.count i ≡ t'.count i)) [
+          | inl e ↦ (
+            ap (λ h. link_number h.left) (at_top e.1) ∙ relinked-moved (shape_at ss i).left p.number c,
+            ap (λ h. link_number h.right) (at_top e.1) ∙ relinked-moved (shape_at ss i).right p.number c,
+            ap (λ h. h.count) (at_top e.1),
+          )
+          | inr e ↦ (
+              let l : replaced_child p.number c.number (t'.left i) ≡ t'.left i = moved-other p.number c.number (t'.left i) (λ f. e.1 (linked.from_left i p.number f)) in
+              let r : replaced_child p.number c.number (t'.right i) ≡ t'.right i = moved-other p.number c.number (t'.right i) (λ f. e.1 (linked.from_right i p.number f)) in
+              elim (at_rest e.1) as (λ _. (u'.left i ≡ replaced_child p.number c.number (t'.left i)) × (u'.right i ≡ replaced_child p.number c.number (t'.right i))
+              × (u'.count i ≡ t'.count i)) [
+                | inl f ↦ (ap (λ h. link_number h.left) f ∙ sym l, ap (λ h. link_number h.right) f ∙ sym r, ap (λ h. h.count) f)
+                | inr f ↦ (ap (λ h. link_number h.left) f.1 ∙ sym l, ap (λ h. link_number h.right) f.1 ∙ sym r, ap (λ h. h.count) f.1)
+              ])
+        ]
 
     parent_stays : (link_number (shape_at ss c.number).right ≡ Some i → ⊥) → u'.parent i ≡ t'.parent i
     parent_stays f = elim (leads-tells top i) as (λ _. u'.parent i ≡ t'.parent i) [
@@ -146,7 +169,8 @@ module _ (ss : List Shape) (p c : Link) (ct : HasCounts (tree_of ss)) (linked : 
   middle_parent : (m : ℕ) → t'.right c.number ≡ Some m → u'.parent m ≡ Some p.number
   middle_parent m e =
       let small = below-right t' ct c.number m e in
-      ap (λ h. link_number h.parent) (with_child-other once_lifted top p.number c m (λ f. omega (arith, under_top m f, low', small)) ∙ at_middle ss p c ct linked was in_p in_c m e (in_right m e))
+      ap (λ h. link_number h.parent) (with_child-other once_lifted top p.number c m (λ f. omega (arith, under_top m f, low', small))
+      ∙ at_middle ss p c ct linked was in_p in_c m e (in_right m e))
 
   pub turned : IsTurned t' u' p.number c.number
   turned = record {
@@ -169,7 +193,8 @@ module _ (ss : List Shape) (p c : Link) (ct : HasCounts (tree_of ss)) (linked : 
   }
 
   -- a field that no write touches
-  pub untouched : {X : Type 0} (f : Shape → X) → ((s : Shape) (q : Option Link) → f (record s { left = q }) ≡ f s) → ((s : Shape) (q : Option Link) → f (record s { right = q }) ≡ f s) → ((s : Shape) (q : Option Link) → f (record s { parent = q }) ≡ f s)
+  pub untouched : {X : Type 0} (f : Shape → X) → ((s : Shape) (q : Option Link) → f (record s { left = q }) ≡ f s)
+      → ((s : Shape) (q : Option Link) → f (record s { right = q }) ≡ f s) → ((s : Shape) (q : Option Link) → f (record s { parent = q }) ≡ f s)
       → (i : ℕ) → i ≢ p.number → i ≢ c.number → f (shape_at all i) ≡ f (shape_at ss i)
   untouched f l r q i ip ic = elim (leads-tells top i) as (λ _. f (shape_at all i) ≡ f (shape_at ss i)) [
     | inl e ↦ ap f (at_top i ip ic e.1) ∙ swapped-field f l r (shape_at ss i) p.number c

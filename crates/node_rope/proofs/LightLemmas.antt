@@ -17,7 +17,8 @@ pub bounded : (ss : List Shape) → ((i : ℕ) → owns ss i < 4194305) → (xs 
 bounded ss h [] = omega arith
 bounded ss h (x ∷ xs) = omega (arith, h x, bounded ss h xs)
 
-pub are-small : {T : Type 0} (s : Store T) (root : Option Link) → HasRightLinks s root → made_count s < 4194305 → ((i : ℕ) → (shape_at (shapes_of s) i).own.weight < 4194305) → (w : ℕ) → w < 4194305 → AreSmall (shapes_of s) (w + w)
+pub are-small : {T : Type 0} (s : Store T) (root : Option Link) → HasRightLinks s root → made_count s < 4194305 → ((i : ℕ) → (shape_at (shapes_of s) i).own.weight < 4194305)
+    → (w : ℕ) → w < 4194305 → AreSmall (shapes_of s) (w + w)
 are-small s root sound few light w hw = record {
   counts = λ i. omega (arith, sound.small i);
   weights = λ i. (
@@ -29,7 +30,9 @@ module _ (key : Identifier) (w : Own) where
   abbrev pub only : Shape
   only = record { key = key; left = None; right = None; parent = None; count = 1; weight = w.weight; least = w.rank; own = w }
 
-  no-left : (i : ℕ) → ((shape_at (only ∷ []) i).left ≡ None) × ((shape_at (only ∷ []) i).right ≡ None) × ((shape_at (only ∷ []) i).parent ≡ None) × ((shape_at (only ∷ []) i).count ≡ 1) × ((shape_at (only ∷ []) i).weight ≡ (shape_at (only ∷ []) i).own.weight) × ((shape_at (only ∷ []) i).least ≡ (shape_at (only ∷ []) i).own.rank)
+  no-left : (i : ℕ) → ((shape_at (only ∷ []) i).left ≡ None) × ((shape_at (only ∷ []) i).right ≡ None) × ((shape_at (only ∷ []) i).parent ≡ None)
+      × ((shape_at (only ∷ []) i).count ≡ 1) × ((shape_at (only ∷ []) i).weight ≡ (shape_at (only ∷ []) i).own.weight)
+      × ((shape_at (only ∷ []) i).least ≡ (shape_at (only ∷ []) i).own.rank)
   no-left zero = (refl, refl, refl, refl, refl, refl)
   no-left (suc i) = (refl, refl, refl, refl, refl, refl)
 
@@ -39,14 +42,31 @@ module _ (key : Identifier) (w : Own) where
 
   pub single-sound : {T : Type 0} (v : Store T) (l : Link) → shapes_of v ≡ only ∷ [] → made_count v ≡ 1 → l.number ≡ 0 → IsMade v l → w.rank ≤ no_rank → HasRightLinks v (Some l)
   single-sound v l is count number made fits =
-      let part : (i : ℕ) → ((shape_at (shapes_of v) i).left ≡ None) × ((shape_at (shapes_of v) i).right ≡ None) × ((shape_at (shapes_of v) i).parent ≡ None) × ((shape_at (shapes_of v) i).count ≡ 1) × ((shape_at (shapes_of v) i).weight ≡ (shape_at (shapes_of v) i).own.weight) × ((shape_at (shapes_of v) i).least ≡ (shape_at (shapes_of v) i).own.rank) =
-      λ i. subst (λ (xs : List Shape). ((shape_at xs i).left ≡ None) × ((shape_at xs i).right ≡ None) × ((shape_at xs i).parent ≡ None) × ((shape_at xs i).count ≡ 1) × ((shape_at xs i).weight ≡ (shape_at xs i).own.weight) × ((shape_at xs i).least ≡ (shape_at xs i).own.rank)) (sym is) (no-left i) in
+      let part : (i : ℕ) → ((shape_at (shapes_of v) i).left ≡ None) × ((shape_at (shapes_of v) i).right ≡ None) × ((shape_at (shapes_of v) i).parent ≡ None)
+      × ((shape_at (shapes_of v) i).count ≡ 1) × ((shape_at (shapes_of v) i).weight ≡ (shape_at (shapes_of v) i).own.weight)
+      × ((shape_at (shapes_of v) i).least ≡ (shape_at (shapes_of v) i).own.rank) =
+      λ i. subst (λ (xs : List Shape). ((shape_at xs i).left ≡ None) × ((shape_at xs i).right ≡ None) × ((shape_at xs i).parent ≡ None) × ((shape_at xs i).count ≡ 1)
+      × ((shape_at xs i).weight ≡ (shape_at xs i).own.weight) × ((shape_at xs i).least ≡ (shape_at xs i).own.rank)) (sym is) (no-left i) in
       let ranks-fit : (i : ℕ) → (shape_at (shapes_of v) i).own.rank ≤ no_rank = λ i. subst (λ (xs : List Shape). (shape_at xs i).own.rank ≤ no_rank) (sym is) (only-fits fits i) in
       let none : (o : Option Link) (m : Link) → o ≡ None → o ≡ Some m → ⊥ = λ o m e f. cc in
       let no-number : (o : Option Link) (m : ℕ) → o ≡ None → link_number o ≡ Some m → ⊥ = λ o m e f. (let g : link_number None ≡ Some m = sym (ap link_number e) ∙ f in cc) in
       record {
-        counted = λ x. let p = part x in omega (arith, p.3, ap (λ o. Rattle.node_rope.specs.Walk.count_of (tree_of (shapes_of v)) (link_number o)) p.0, ap (λ o. Rattle.node_rope.specs.Walk.count_of (tree_of (shapes_of v)) (link_number o)) p.1);
-        weighed = λ x. let p = part x in omega (arith, p.4, ap (λ o. Rattle.node_rope.specs.Sums.sum_of Rattle.node_rope.specs.Sums.sum_measure (Rattle.node_rope.specs.Shapes.weights (shapes_of v)) (link_number o)) p.0, ap (λ o. Rattle.node_rope.specs.Sums.sum_of Rattle.node_rope.specs.Sums.sum_measure (Rattle.node_rope.specs.Shapes.weights (shapes_of v)) (link_number o)) p.1);
+        counted = λ x. let p = part x in
+            omega (
+              arith,
+              p.3,
+              ap (λ o. Rattle.node_rope.specs.Walk.count_of (tree_of (shapes_of v)) (link_number o)) p.0,
+              ap (λ o. Rattle.node_rope.specs.Walk.count_of (tree_of (shapes_of v)) (link_number o)) p.1,
+            );
+        weighed = λ x. let p = part x in
+            omega (
+              arith,
+              p.4,
+              ap (λ o. Rattle.node_rope.specs.Sums.sum_of Rattle.node_rope.specs.Sums.sum_measure (Rattle.node_rope.specs.Shapes.weights (shapes_of v))
+                  (link_number o)) p.0,
+              ap
+                  (λ o. Rattle.node_rope.specs.Sums.sum_of Rattle.node_rope.specs.Sums.sum_measure (Rattle.node_rope.specs.Shapes.weights (shapes_of v)) (link_number o)) p.1,
+            );
         ranked = λ x. (
             let p = part x in
             let f = ranks-fit x in

@@ -25,14 +25,16 @@ module _ {X Y : Type 0} (f : X → Y) where
   map-same (x ∷ xs) zero w r e h = ap (λ y. y ∷ map f xs) (h ∙ ap f e)
   map-same (x ∷ xs) (suc i) w r e h = ap (λ ys. f x ∷ ys) (map-same xs i w r e h)
 
-older-same : {T : Type 0} (ns : List (Node T)) (i j : ℕ) (w r : Node T) → r ≡ get_or ns i r → w.older ≡ r.older → (n : Node T) → slice_get (slice_set ns i w) j ≡ Some n → (m : Node T) × (slice_get ns j ≡ Some m) × (m.older ≡ n.older)
+older-same : {T : Type 0} (ns : List (Node T)) (i j : ℕ) (w r : Node T) → r ≡ get_or ns i r → w.older ≡ r.older → (n : Node T) → slice_get (slice_set ns i w) j ≡ Some n
+    → (m : Node T) × (slice_get ns j ≡ Some m) × (m.older ≡ n.older)
 older-same [] i j w r e h n g = absurd (cc)
 older-same (x ∷ ns) zero zero w r e h n g = let k : w ≡ n = cc in (x, refl, sym (ap (λ y. y.older) e) ∙ sym h ∙ ap (λ y. y.older) k)
 older-same (x ∷ ns) zero (suc j) w r e h n g = (n, g, refl)
 older-same (x ∷ ns) (suc i) zero w r e h n g = let k : x ≡ n = cc in (x, refl, ap (λ y. y.older) k)
 older-same (x ∷ ns) (suc i) (suc j) w r e h n g = older-same ns i j w r e h n g
 
-pub filed-set : {T Z : Type 0} (s : Spot) (ns : List (Node T)) (ms : List (Mooring Z)) (i : ℕ) (w r : Node T) → r ≡ get_or ns i r → w.older ≡ r.older → IsFiled s ns ms → IsFiled s (slice_set ns i w) ms
+pub filed-set : {T Z : Type 0} (s : Spot) (ns : List (Node T)) (ms : List (Mooring Z)) (i : ℕ) (w r : Node T) → r ≡ get_or ns i r → w.older ≡ r.older → IsFiled s ns ms
+    → IsFiled s (slice_set ns i w) ms
 filed-set s ns ms i w r e h f = record {
   last = subst (λ (k : ℕ). MooringsLead ms s k) (sym (length-set ns i w)) f.last;
   each = λ j n g. let m = older-same ns i j w r e h n g in subst (λ (q : Spot). MooringsLead ms q j) m.2 (f.each j m.0 m.1);
@@ -47,9 +49,11 @@ got-last : {T : Type 0} (ns : List (Node T)) (w : Node T) (i : ℕ) (n : Node T)
 got-last [] w zero n g = inr (refl, cc)
 got-last [] w (suc i) n g = absurd (cc)
 got-last (x ∷ ns) w zero n g = inl g
-got-last (x ∷ ns) w (suc i) n g = elim (got-last ns w i n g) as (λ _. (slice_get ns i ≡ Some n) ⊎ ((suc i ≡ suc (length ns)) × (w ≡ n))) [ inl h ↦ inl h | inr h ↦ inr (ap suc h.0, h.1) ]
+got-last (x ∷ ns) w (suc i) n g =
+    elim (got-last ns w i n g) as (λ _. (slice_get ns i ≡ Some n) ⊎ ((suc i ≡ suc (length ns)) × (w ≡ n))) [ inl h ↦ inl h | inr h ↦ inr (ap suc h.0, h.1) ]
 
-pub filed-more : {T Z : Type 0} (s : Spot) (ns : List (Node T)) (ms : List (Mooring Z)) (w : Node T) (t : Spot) (m : Mooring Z) → length ns ≡ length ms → IsFiled s ns ms → w.older ≡ s → t.address ≡ m.0
+pub filed-more : {T Z : Type 0} (s : Spot) (ns : List (Node T)) (ms : List (Mooring Z)) (w : Node T) (t : Spot) (m : Mooring Z) → length ns ≡ length ms → IsFiled s ns ms
+    → w.older ≡ s → t.address ≡ m.0
     → IsFiled t (ns ++ w ∷ []) (ms ++ m ∷ [])
 filed-more s ns ms w t m pair f h a = record {
   last =
@@ -57,7 +61,8 @@ filed-more s ns ms w t m pair f h a = record {
       subst (λ (n : ℕ). MooringsLead (ms ++ m ∷ []) t n) longer (subst (λ (p : denote.RawPtr.Ptr). LiesAt (ms ++ m ∷ []) (length ns) p) (sym a) (lies-last ms m (length ns) pair));
   each = λ i n g. elim (got-last ns w i n g) as (λ _. MooringsLead (ms ++ m ∷ []) n.older i) [
     | inl k ↦ leads-longer ms (m ∷ []) n.older i (f.each i n k)
-    | inr k ↦ leads-longer ms (m ∷ []) n.older i (subst (λ (q : Spot). MooringsLead ms q i) (sym h ∙ ap (λ y. y.older) k.1) (subst (λ (j : ℕ). MooringsLead ms s j) (sym k.0) f.last))
+    | inr k ↦ leads-longer ms (m ∷ []) n.older i
+        (subst (λ (q : Spot). MooringsLead ms q i) (sym h ∙ ap (λ y. y.older) k.1) (subst (λ (j : ℕ). MooringsLead ms s j) (sym k.0) f.last))
   ];
 }
 
@@ -71,7 +76,8 @@ got-first [] w i n g = absurd (cc)
 got-first (x ∷ ns) w zero n g = g
 got-first (x ∷ ns) w (suc i) n g = got-first ns w i n g
 
-pub filed-less : {T Z : Type 0} (s : Spot) (ns : List (Node T)) (ms : List (Mooring Z)) (w : Node T) (m : Mooring Z) → length ns ≡ length ms → IsFiled s (ns ++ w ∷ []) (ms ++ m ∷ []) → IsFiled w.older ns ms
+pub filed-less : {T Z : Type 0} (s : Spot) (ns : List (Node T)) (ms : List (Mooring Z)) (w : Node T) (m : Mooring Z) → length ns ≡ length ms
+    → IsFiled s (ns ++ w ∷ []) (ms ++ m ∷ []) → IsFiled w.older ns ms
 filed-less s ns ms w m pair f = record {
   last = leads-shorter ms (m ∷ []) w.older (length ns) (omega arith) (f.each (length ns) w (slice_get-seam ns w));
   each = λ i n g. let h = slice_get_within ns i n g in leads-shorter ms (m ∷ []) n.older i (omega arith) (f.each i n (got-first ns w i n g));

@@ -21,11 +21,13 @@ among-drop x (suc i) (y ∷ xs) a = inr (among-drop x i xs a)
 
 -- what is picked of two lists in step
 module _ {A B K : Type 0} (f : A → K) (h : B → K) (a : A) (b : B) (same : f a ≡ h b) where
-  pick-first : (test : Bool) (p : Option A) (q : Option B) → option_map f p ≡ option_map h q → option_map f (or_else (cond test (Some a) None) p) ≡ option_map h (or_else (cond test (Some b) None) q)
+  pick-first : (test : Bool) (p : Option A) (q : Option B) → option_map f p ≡ option_map h q
+      → option_map f (or_else (cond test (Some a) None) p) ≡ option_map h (or_else (cond test (Some b) None) q)
   pick-first true p q e = ap Some same
   pick-first false p q e = e
 
-  pick-last : (test : Bool) (p : Option A) (q : Option B) → option_map f p ≡ option_map h q → option_map f (or_else p (cond test (Some a) None)) ≡ option_map h (or_else q (cond test (Some b) None))
+  pick-last : (test : Bool) (p : Option A) (q : Option B) → option_map f p ≡ option_map h q
+      → option_map f (or_else p (cond test (Some a) None)) ≡ option_map h (or_else q (cond test (Some b) None))
   pick-last true None None e = ap Some same
   pick-last false None None e = refl
   pick-last test None (Some y) e = absurd (cc)
@@ -71,12 +73,16 @@ module _ {T : Type 0} (wt : T → Own) (s : Store T) (weighs : (i : ℕ) (v : T)
       ∙ pick-last (λ (q : Identifier × T). q.0) key p x refl (nat_le (ranks (shapes_of s) x) most) F G (items-last xs (λ y a. made y (inr a)))
 
 module _ {T : Type 0} (wt : T → Own) (s : Store T) (root : Option Link) (m : BlockMap Link) (r : IsRope wt s root m) (most : ℕ) where
-  pub first-seen : (from : ℕ) → first_low_key (λ v. (wt v).rank) most (drop from (rope_items_of s root)) ≡ option_map (λ x. (shape_at (shapes_of s) x).key) (first_low (ranks (shapes_of s)) most (drop from (nodes_in_order s root)))
+  pub first-seen : (from : ℕ) → first_low_key (λ v. (wt v).rank) most (drop from (rope_items_of s root)) ≡ option_map (λ x. (shape_at (shapes_of s) x).key)
+      (first_low (ranks (shapes_of s)) most (drop from (nodes_in_order s root)))
   first-seen from =
       let nodes = all-made s root r.sound in
-      ap (first_low_key (λ v. (wt v).rank) most) (items-drop wt s r.weighs most (nodes_in_order s root) nodes from) ∙ items-first wt s r.weighs most (drop from (nodes_in_order s root)) (λ x a. nodes x (among-drop x from (nodes_in_order s root) a))
+      ap (first_low_key (λ v. (wt v).rank) most) (items-drop wt s r.weighs most (nodes_in_order s root) nodes from)
+      ∙ items-first wt s r.weighs most (drop from (nodes_in_order s root)) (λ x a. nodes x (among-drop x from (nodes_in_order s root) a))
 
-  pub last-seen : (to : ℕ) → last_low_key (λ v. (wt v).rank) most (take to (rope_items_of s root)) ≡ option_map (λ x. (shape_at (shapes_of s) x).key) (last_low (ranks (shapes_of s)) most (take to (nodes_in_order s root)))
+  pub last-seen : (to : ℕ) → last_low_key (λ v. (wt v).rank) most (take to (rope_items_of s root)) ≡ option_map (λ x. (shape_at (shapes_of s) x).key)
+      (last_low (ranks (shapes_of s)) most (take to (nodes_in_order s root)))
   last-seen to =
       let nodes = all-made s root r.sound in
-      ap (last_low_key (λ v. (wt v).rank) most) (items-take s (nodes_in_order s root) nodes to) ∙ items-last wt s r.weighs most (take to (nodes_in_order s root)) (λ x a. nodes x (among-take x to (nodes_in_order s root) a))
+      ap (last_low_key (λ v. (wt v).rank) most) (items-take s (nodes_in_order s root) nodes to)
+      ∙ items-last wt s r.weighs most (take to (nodes_in_order s root)) (λ x a. nodes x (among-take x to (nodes_in_order s root) a))

@@ -1,5 +1,6 @@
 -- The first low node as seen from a side, by the least ranks of subtrees.
-use Rattle.std.proofs.Common.{◌≡◌, ℕ, zero, suc, ◌-◌, ◌<◌, ◌≤◌, min, Bool, true, false, ◌||◌, cond, List, [], ◌∷◌, ◌++◌, length, drop, take, Option, None, Some, refl, sym, ap, ◌∙◌, arith}
+use Rattle.std.proofs.Common.{◌≡◌, ℕ, zero, suc, ◌-◌, ◌<◌, ◌≤◌, min, Bool, true, false, ◌||◌, cond, List, [], ◌∷◌, ◌++◌, length, drop, take, Option, None, Some, refl, sym, ap, ◌∙◌}
+use Rattle.std.proofs.Common.{arith}
 use Rattle.std.specs.Prelude.{nat_le, is_some, reverse}
 use Rattle.std.proofs.lemmas.Bool.Decides.{nat_tests}
 use Rattle.std.proofs.lemmas.List.{reverse-append, length-reverse, length-drop, take-append-drop}
@@ -60,7 +61,9 @@ module _ {X : Type 0} (rank : X → ℕ) (most : ℕ) where
   -- the last one is the first from the end
   pub first-reversed : (xs : List X) → first_low rank most (reverse xs) ≡ last_low rank most xs
   first-reversed [] = refl
-  first-reversed (x ∷ xs) = ap (first_low rank most) (reverse-append (x ∷ []) xs) ∙ first-append (reverse xs) (x ∷ []) ∙ ap (or_else (first_low rank most (reverse xs))) (or_else-none (if_low rank most x)) ∙ ap (λ o. or_else o (if_low rank most x)) (first-reversed xs)
+  first-reversed (x ∷ xs) =
+      ap (first_low rank most) (reverse-append (x ∷ []) xs) ∙ first-append (reverse xs) (x ∷ [])
+      ∙ ap (or_else (first_low rank most (reverse xs))) (or_else-none (if_low rank most x)) ∙ ap (λ o. or_else o (if_low rank most x)) (first-reversed xs)
 
 le-told : (a b : ℕ) → a ≤ b → nat_le a b ≡ true
 le-told a b h = grind (arith, nat_tests)
@@ -122,14 +125,17 @@ module _ {T : Type 0} (s : Store T) (root : Option Link) (so : HasRightLinks s r
   low None = false
   low (Some x) = nat_le (leasts ss x) most
 
-  first-node : (x : ℕ) → first_low rank most (all_nodes t (Some x)) ≡ or_else (first_low rank most (all_nodes t (t.left x))) (or_else (if_low rank most x) (first_low rank most (all_nodes t (t.right x))))
+  first-node : (x : ℕ) → first_low rank most (all_nodes t (Some x)) ≡ or_else (first_low rank most (all_nodes t (t.left x)))
+      (or_else (if_low rank most x) (first_low rank most (all_nodes t (t.right x))))
   first-node x = ap (first_low rank most) (whole-node t ct x) ∙ first-append rank most (all_nodes t (t.left x)) (x ∷ all_nodes t (t.right x))
 
   -- a node and what is below it has a low one where its least rank is low
-  low-node : (o q : Option ℕ) (r least : ℕ) → r ≤ no_rank → least ≡ min (sum_of lesser (leasts ss) o) (min r (sum_of lesser (leasts ss) q)) → (low o || (nat_le r most || low q)) ≡ nat_le least most
+  low-node : (o q : Option ℕ) (r least : ℕ) → r ≤ no_rank → least ≡ min (sum_of lesser (leasts ss) o) (min r (sum_of lesser (leasts ss) q))
+      → (low o || (nat_le r most || low q)) ≡ nat_le least most
   low-node None None r least h e = let k : least ≡ r = omega (arith, e, h) in rw k (or-swap (nat_le r most) false)
   low-node None (Some b) r least h e = let k : least ≡ min r (leasts ss b) = omega (arith, e, h) in rw k (le-min r (leasts ss b) most)
-  low-node (Some a) None r least h e = let k : least ≡ min (leasts ss a) r = omega (arith, e, h) in rw k (ap (λ b. nat_le (leasts ss a) most || b) (or-swap (nat_le r most) false) ∙ le-min (leasts ss a) r most)
+  low-node (Some a) None r least h e = let k : least ≡ min (leasts ss a) r =
+      omega (arith, e, h) in rw k (ap (λ b. nat_le (leasts ss a) most || b) (or-swap (nat_le r most) false) ∙ le-min (leasts ss a) r most)
   low-node (Some a) (Some b) r least h e = rw e (ap (λ c. nat_le (leasts ss a) most || c) (le-min r (leasts ss b) most) ∙ le-min (leasts ss a) (min r (leasts ss b)) most)
 
   has-low : (k : ℕ) (o : Option ℕ) → count_of t o ≤ k → is_some (first_low rank most (all_nodes t o)) ≡ low o
@@ -140,7 +146,8 @@ module _ {T : Type 0} (s : Store T) (root : Option Link) (so : HasRightLinks s r
       let r = has-low k (t.right x) (omega (arith, ct x)) in
       let L = first_low rank most (all_nodes t (t.left x)) in
       let R = first_low rank most (all_nodes t (t.right x)) in
-      ap is_some (first-node x) ∙ is_some-or L (or_else (if_low rank most x) R) ∙ (λ i. l i || is_some-or (if_low rank most x) R i) ∙ (λ i. low (t.left x) || (if-low rank most x i || r i))
+      ap is_some (first-node x) ∙ is_some-or L (or_else (if_low rank most x) R) ∙ (λ i. l i || is_some-or (if_low rank most x) R i)
+      ∙ (λ i. low (t.left x) || (if-low rank most x i || r i))
       ∙ low-node (t.left x) (t.right x) (rank x) (leasts ss x) (fits x) (rt x)
 
   low-is : (o : Option Link) → low (link_number o) ≡ low_at ss most o
@@ -175,7 +182,8 @@ module _ {T : Type 0} (s : Store T) (root : Option Link) (so : HasRightLinks s r
     from-is = ap (λ (g : Shape). or_else (if_low rank most x) (low_below ss most d g.right)) (sym is)
 
     below-is : low_below ss most d (Some l) ≡ or_else (low_below ss most d h.left) (low_from ss most d (Some l))
-    below-is = first-node x ∙ (λ i. or_else (first_low rank most (all_nodes t (left-is i))) (or_else (if_low rank most x) (first_low rank most (all_nodes t (seen-right d ss x i)))))
+    below-is = first-node x
+        ∙ (λ i. or_else (first_low rank most (all_nodes t (left-is i))) (or_else (if_low rank most x) (first_low rank most (all_nodes t (seen-right d ss x i)))))
 
     pub goes-near : low_at ss most h.left ≡ true → low_below ss most d (Some l) ≡ low_below ss most d h.left
     goes-near e = below-is ∙ or_else-some (low_below ss most d h.left) (low_from ss most d (Some l)) (told h.left ∙ e)
@@ -215,8 +223,10 @@ module _ {T : Type 0} (s : Store T) (root : Option Link) (so : HasRightLinks s r
       left-length : length L ≡ count_of (tree_of ss) (link_number h.left)
       left-length = length-whole t ct (link_number h.left) ∙ seen-count d (tree_of ss) (link_number h.left)
 
-      pub place-near : rest ≤ count_of (tree_of ss) (link_number h.left) → first_low rank most (drop rest (all_nodes t (Some x))) ≡ or_else (first_low rank most (drop rest L)) (low_from ss most d (Some l))
-      place-near e = ap (λ xs. first_low rank most (drop rest xs)) split ∙ ap (first_low rank most) (drop-first L (x ∷ R) rest (omega (arith, e, left-length))) ∙ first-append rank most (drop rest L) (x ∷ R) ∙ ap (or_else (first_low rank most (drop rest L))) (sym from-is)
+      pub place-near : rest ≤ count_of (tree_of ss) (link_number h.left)
+          → first_low rank most (drop rest (all_nodes t (Some x))) ≡ or_else (first_low rank most (drop rest L)) (low_from ss most d (Some l))
+      place-near e = ap (λ xs. first_low rank most (drop rest xs)) split ∙ ap (first_low rank most) (drop-first L (x ∷ R) rest (omega (arith, e, left-length)))
+          ∙ first-append rank most (drop rest L) (x ∷ R) ∙ ap (or_else (first_low rank most (drop rest L))) (sym from-is)
 
       pub place-far : count_of (tree_of ss) (link_number h.left) < rest → drop rest (all_nodes t (Some x)) ≡ drop (rest - count_of (tree_of ss) (link_number h.left) - 1) R
       place-far e = ap (drop rest) split ∙ drop-past L x R (rest - count_of (tree_of ss) (link_number h.left) - 1) rest (omega (arith, e, left-length))
@@ -232,8 +242,11 @@ drop-reversed xs i =
     let size : length xs - i ≡ length (reverse (drop i xs)) = sym (length-reverse (drop i xs) ∙ length-drop i xs) in
     (λ j. drop (size j) (all_nodes j)) ∙ drop-all (reverse (drop i xs)) (reverse (take i xs))
 
-pub last-seen-right : {T : Type 0} (s : Store T) (root : Option Link) → HasRightLinks s root → (most to : ℕ) → first_low (ranks (shapes_of s)) most (drop (count_of (tree_of (shapes_of s)) (link_number root) - to) (seen_order Right s root)) ≡ last_low (ranks (shapes_of s)) most (take to (nodes_in_order s root))
+pub last-seen-right : {T : Type 0} (s : Store T) (root : Option Link) → HasRightLinks s root → (most to : ℕ)
+    → first_low (ranks (shapes_of s)) most (drop (count_of (tree_of (shapes_of s)) (link_number root) - to) (seen_order Right s root)) ≡ last_low (ranks (shapes_of s)) most
+    (take to (nodes_in_order s root))
 last-seen-right s root so most to =
     let xs = nodes_in_order s root in
     let n = length-whole (tree_of (shapes_of s)) so.counted (link_number root) in
-    ap (first_low (ranks (shapes_of s)) most) ((λ j. drop (sym n j - to) (whole-mirrored (tree_of (shapes_of s)) (link_number root) j)) ∙ drop-reversed xs to) ∙ first-reversed (ranks (shapes_of s)) most (take to xs)
+    ap (first_low (ranks (shapes_of s)) most) ((λ j. drop (sym n j - to) (whole-mirrored (tree_of (shapes_of s)) (link_number root) j)) ∙ drop-reversed xs to)
+    ∙ first-reversed (ranks (shapes_of s)) most (take to xs)

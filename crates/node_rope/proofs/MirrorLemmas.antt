@@ -36,7 +36,8 @@ walk-mirrored t f None = refl
 walk-mirrored t zero (Some x) = refl
 walk-mirrored t (suc f) (Some x) =
     ap (λ xs. xs ++ x ∷ tree_walk (mirror t) f (t.left x)) (walk-mirrored t f (t.right x)) ∙ ap (λ xs. reverse (tree_walk t f (t.right x)) ++ x ∷ xs) (walk-mirrored t f (t.left x))
-    ∙ sym (append_assoc (reverse (tree_walk t f (t.right x))) (x ∷ []) (reverse (tree_walk t f (t.left x)))) ∙ ap (λ xs. xs ++ reverse (tree_walk t f (t.left x))) (sym (reverse-append (x ∷ []) (tree_walk t f (t.right x))))
+    ∙ sym (append_assoc (reverse (tree_walk t f (t.right x))) (x ∷ []) (reverse (tree_walk t f (t.left x))))
+    ∙ ap (λ xs. xs ++ reverse (tree_walk t f (t.left x))) (sym (reverse-append (x ∷ []) (tree_walk t f (t.right x))))
     ∙ sym (reverse-append (tree_walk t f (t.left x)) (x ∷ tree_walk t f (t.right x)))
 
 pub whole-mirrored : (t : Tree) (o : Option ℕ) → all_nodes (mirror t) o ≡ reverse (all_nodes t o)

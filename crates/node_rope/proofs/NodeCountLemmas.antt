@@ -38,7 +38,8 @@ enough (suc n) xs h =
     let r = enough n (without n xs) (λ i b. among-without n i xs (λ e. omega (arith, b, e)) (h i (omega (arith, b)))) in
     omega (arith, l, r)
 
-pub few-made : {T : Type 0} (wt : T → Own) (s : Store T) (root : Option Link) (m : BlockMap Link) → IsRope wt s root m → (xs : List (Identifier × T)) → rope_items_of s root ≡ xs → made_count s ≤ length xs
+pub few-made : {T : Type 0} (wt : T → Own) (s : Store T) (root : Option Link) (m : BlockMap Link) → IsRope wt s root m → (xs : List (Identifier × T)) → rope_items_of s root ≡ xs
+    → made_count s ≤ length xs
 few-made wt s root m r xs e =
     let all = enough (made_count s) (nodes_in_order s root) (in-order s root r.sound) in
     let long = order-length wt s root m r in

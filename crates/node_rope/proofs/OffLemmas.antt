@@ -21,7 +21,8 @@ shifted-summed ss less more l off =
     let e : (h.weight + more) - less ≡ sum = omega (arith, off.weight) in
     ap (λ (w : ℕ). record h { weight = w }) e ∙ ap (λ (r : ℕ). record h { weight = sum; least = r }) off.least
 
-module _ {T : Type 0} (s u : Store T) (root : Option Link) (l : Link) (less more : ℕ) (b : IsSoundBut s root (Some l)) (off : IsOff (shapes_of s) less more l) (is : shapes_of u ≡ slice_set (shapes_of s) l.number (reweighed_node less more (shape_at (shapes_of s) l.number))) where
+module _ {T : Type 0} (s u : Store T) (root : Option Link) (l : Link) (less more : ℕ) (b : IsSoundBut s root (Some l)) (off : IsOff (shapes_of s) less more l)
+    (is : shapes_of u ≡ slice_set (shapes_of s) l.number (reweighed_node less more (shape_at (shapes_of s) l.number))) where
   abbrev x : ℕ
   x = l.number
 
@@ -76,24 +77,35 @@ module _ {T : Type 0} (s u : Store T) (root : Option Link) (l : Link) (less more
 
     -- the sum there has gained what the child has
     gained : weight_at us (shape_at ss y).left + (weight_at us (shape_at ss y).right + less) ≡ weight_at ss (shape_at ss y).left + (weight_at ss (shape_at ss y).right + more)
-    gained = elim side as (λ _. weight_at us (shape_at ss y).left + (weight_at us (shape_at ss y).right + less) ≡ weight_at ss (shape_at ss y).left + (weight_at ss (shape_at ss y).right + more)) [
-      | inl f ↦ (let l' = weight-here (shape_at ss y).left f in let r' = weight-there (shape_at ss y).right (λ g. b.tree.linked.apart y x f g) in omega (arith, l', r'))
-      | inr f ↦ (let l' = weight-there (shape_at ss y).left (λ g. b.tree.linked.apart y x g f) in let r' = weight-here (shape_at ss y).right f in omega (arith, l', r'))
-    ]
+    gained = elim side as (λ _. weight_at us (shape_at ss y).left + (weight_at us (shape_at ss y).right + less) ≡ weight_at ss
+        (shape_at ss y).left + (weight_at ss (shape_at ss y).right + more)) [
+          | inl f ↦ (let l' = weight-here (shape_at ss y).left f in let r' = weight-there (shape_at ss y).right (λ g. b.tree.linked.apart y x f g) in omega (arith, l', r'))
+          | inr f ↦ (let l' = weight-there (shape_at ss y).left (λ g. b.tree.linked.apart y x g f) in let r' = weight-here (shape_at ss y).right f in omega (arith, l', r'))
+        ]
 
     parent-off : IsOff us less more p
     parent-off =
         let other : link_number (Some l) ≡ Some y → ⊥ = λ e. apart (sym (some-same x y e)) in
         let old = b.tree.weighed y other in
         let left : least_at ss (shape_at ss y).left ≡ least_at us (shape_at us y).left = sym (ap (λ (h : Shape). least_at us h.left) same ∙ same-least-at (shape_at ss y).left) in
-        let right : least_at ss (shape_at ss y).right ≡ least_at us (shape_at us y).right = sym (ap (λ (h : Shape). least_at us h.right) same ∙ same-least-at (shape_at ss y).right) in
+        let right : least_at ss (shape_at ss y).right ≡ least_at us (shape_at us y).right =
+        sym (ap (λ (h : Shape). least_at us h.right) same ∙ same-least-at (shape_at ss y).right) in
         let rank : (shape_at ss y).own.rank ≡ (shape_at us y).own.rank = sym (ap (λ (h : Shape). h.own.rank) same) in record {
-          weight = omega (arith, old, gained, ap (λ (h : Shape). h.weight) same, ap (λ (h : Shape). h.own.weight) same, ap (λ (h : Shape). weight_at us h.left) same, ap (λ (h : Shape). weight_at us h.right) same);
+          weight = omega (
+            arith,
+            old,
+            gained,
+            ap (λ (h : Shape). h.weight) same,
+            ap (λ (h : Shape). h.own.weight) same,
+            ap (λ (h : Shape). weight_at us h.left) same,
+            ap (λ (h : Shape). weight_at us h.right) same,
+          );
           least = same-least y ∙ b.tree.ranked y other ∙ (λ j. min (left j) (min (rank j) (right j)));
         }
 
 -- the sum and the difference fit
-pub off-fits : {T : Type 0} (s : Store T) (root o : Option Link) (l : Link) → o ≡ Some l → IsSoundBut s root o → (more : ℕ) → more < 4294967296 → (shape_at (shapes_of s) l.number).weight + more < 18446744073709551616
+pub off-fits : {T : Type 0} (s : Store T) (root o : Option Link) (l : Link) → o ≡ Some l → IsSoundBut s root o → (more : ℕ) → more < 4294967296
+    → (shape_at (shapes_of s) l.number).weight + more < 18446744073709551616
 off-fits s root o l is_l b more small = omega (arith, b.bound l.number, b.tree.small l.number, b.few, small)
 
 pub off-covers : (ss : List Shape) (less more : ℕ) (o : Option Link) (l : Link) → o ≡ Some l → AreOff ss less more o → less ≤ (shape_at ss l.number).weight + more
@@ -104,7 +116,8 @@ pub record IsShiftedOnce {T : Type 0} (s u : Store T) (root : Option Link) (less
   pub once : IsSummedOnce s u root o q
   pub off : AreOff (shapes_of u) less more q
 
-pub shifted-step : {T : Type 0} (s u : Store T) (root : Option Link) (less more : ℕ) (o q : Option Link) (l : Link) → o ≡ Some l → IsSoundBut s root o → AreOff (shapes_of s) less more o → q ≡ (shape_at (shapes_of s) l.number).parent → made_count u ≡ made_count s → IsKept s u
+pub shifted-step : {T : Type 0} (s u : Store T) (root : Option Link) (less more : ℕ) (o q : Option Link) (l : Link) → o ≡ Some l → IsSoundBut s root o
+    → AreOff (shapes_of s) less more o → q ≡ (shape_at (shapes_of s) l.number).parent → made_count u ≡ made_count s → IsKept s u
     → shapes_of u ≡ slice_set (shapes_of s) l.number (reweighed_node less more (shape_at (shapes_of s) l.number)) → IsShiftedOnce s u root less more o q
 shifted-step s u root less more o q l is_l b off up count kept is =
     let h = shape_at (shapes_of s) l.number in

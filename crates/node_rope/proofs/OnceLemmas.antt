@@ -39,17 +39,20 @@ module _ {T : Type 0} (s : Store T) (root : Option Link) (sound : HasRightLinks 
 
   smaller : (k y z : ℕ) → t.count y ≤ k → Among z (all_nodes t (Some y)) → t.count z ≤ t.count y
   smaller zero y z h a = absurd (omega (arith, h, sound.counted y))
-  smaller (suc k) y z h a = elim (among-parts z (all_nodes t (t.left y)) (y ∷ all_nodes t (t.right y)) (subst (Among z) (whole-node t sound.counted y) a)) as (λ _. t.count z ≤ t.count y) [
-    | inl b ↦ elim (number-or-none (t.left y)) as (λ _. t.count z ≤ t.count y) [
-      | inl e ↦ absurd (none-below (t.left y) z e b)
-      | inr e ↦ (let lt = below-left t sound.counted y e.0 e.1 in let q = smaller k e.0 z (omega (arith, h, lt)) (subst (λ (p : Option ℕ). Among z (all_nodes t p)) e.1 b) in omega (arith, lt, q))
-    ]
-    | inr (inl e) ↦ omega (arith, ap t.count e)
-    | inr (inr b) ↦ elim (number-or-none (t.right y)) as (λ _. t.count z ≤ t.count y) [
-      | inl e ↦ absurd (none-below (t.right y) z e b)
-      | inr e ↦ (let lt = below-right t sound.counted y e.0 e.1 in let q = smaller k e.0 z (omega (arith, h, lt)) (subst (λ (p : Option ℕ). Among z (all_nodes t p)) e.1 b) in omega (arith, lt, q))
-    ]
-  ]
+  smaller (suc k) y z h a =
+      elim (among-parts z (all_nodes t (t.left y)) (y ∷ all_nodes t (t.right y)) (subst (Among z) (whole-node t sound.counted y) a)) as (λ _. t.count z ≤ t.count y) [
+        | inl b ↦ elim (number-or-none (t.left y)) as (λ _. t.count z ≤ t.count y) [
+          | inl e ↦ absurd (none-below (t.left y) z e b)
+          | inr e ↦ (let lt = below-left t sound.counted y e.0 e.1 in let q = smaller k e.0 z (omega (arith, h, lt)) (subst (λ (p : Option ℕ). Among z (all_nodes t p)) e.1 b) in
+              omega (arith, lt, q))
+        ]
+        | inr (inl e) ↦ omega (arith, ap t.count e)
+        | inr (inr b) ↦ elim (number-or-none (t.right y)) as (λ _. t.count z ≤ t.count y) [
+          | inl e ↦ absurd (none-below (t.right y) z e b)
+          | inr e ↦ (let lt = below-right t sound.counted y e.0 e.1 in let q = smaller k e.0 z (omega (arith, h, lt)) (subst (λ (p : Option ℕ). Among z (all_nodes t p)) e.1 b) in
+              omega (arith, lt, q))
+        ]
+      ]
 
   self-in : (y : ℕ) → Among y (all_nodes t (Some y))
   self-in y = subst (Among y) (sym (whole-node t sound.counted y)) (among-right y (all_nodes t (t.left y)) (y ∷ all_nodes t (t.right y)) (inl refl))
@@ -115,7 +118,8 @@ module _ {T : Type 0} (s : Store T) (root : Option Link) (sound : HasRightLinks 
       let r = once-below k (t.right x) (omega (arith, h, sound.counted x)) in
       let x-right : Among x R → ⊥ = λ a. elim (number-or-none (t.right x)) as (λ _. ⊥) [
         | inl e ↦ none-below (t.right x) x e a
-        | inr e ↦ (let p = smaller (t.count e.0) e.0 x (omega arith) (subst (λ (q : Option ℕ). Among x (all_nodes t q)) e.1 a) in let lt = below-right t sound.counted x e.0 e.1 in omega (arith, p, lt))
+        | inr e ↦ (let p = smaller (t.count e.0) e.0 x (omega arith) (subst (λ (q : Option ℕ). Among x (all_nodes t q)) e.1 a) in let lt = below-right t sound.counted x e.0 e.1 in
+            omega (arith, p, lt))
       ] in
       let both : (z : ℕ) → Among z L → Among z (x ∷ R) → ⊥ = λ z a b. elim (number-or-none (t.left x)) as (λ _. ⊥) [
         | inl e ↦ none-below (t.left x) z e a
@@ -147,7 +151,8 @@ once-index (x ∷ xs) n (suc i) zero h k e = absurd (n.0 (subst (λ (y : ℕ). A
 once-index (x ∷ xs) n (suc i) (suc j) h k e = ap suc (once-index xs n.1 i j (omega (arith, h)) (omega (arith, k)) e)
 
 -- a key stands at one place
-pub keys-once : {T : Type 0} (wt : T → Own) (s : Store T) (root : Option Link) (m : BlockMap Link) → IsRope wt s root m → (i j : ℕ) (k : Identifier) → StandsAt (rope_items_of s root) i k → StandsAt (rope_items_of s root) j k → i ≡ j
+pub keys-once : {T : Type 0} (wt : T → Own) (s : Store T) (root : Option Link) (m : BlockMap Link) → IsRope wt s root m → (i j : ℕ) (k : Identifier)
+    → StandsAt (rope_items_of s root) i k → StandsAt (rope_items_of s root) j k → i ≡ j
 keys-once {T} wt s root m r i j k a b =
     let xs = nodes_in_order s root in
     let nodes = all-made s root r.sound in

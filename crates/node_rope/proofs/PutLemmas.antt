@@ -1,5 +1,6 @@
 -- Another value in a node.
-use Rattle.std.proofs.Common.{◌≡◌, ◌≢◌, ◌⊎◌, inl, inr, ℕ, zero, suc, ◌<◌, ◌≤◌, Bool, cond, List, [], ◌∷◌, length, flat_map, slice_get, slice_set, Option, Some, refl, sym, ap, ◌∙◌, subst, arith}
+use Rattle.std.proofs.Common.{◌≡◌, ◌≢◌, ◌⊎◌, inl, inr, ℕ, zero, suc, ◌<◌, ◌≤◌, Bool, cond, List, [], ◌∷◌, length, flat_map, slice_get, slice_set, Option, Some, refl, sym, ap, ◌∙◌}
+use Rattle.std.proofs.Common.{subst, arith}
 use Rattle.std.specs.Prelude.{eqb}
 use Rattle.std.proofs.lemmas.Bool.Decides.{eqb_tells}
 use lib.ListN.{length-set}
@@ -44,7 +45,8 @@ set-there (z ∷ xs) zero y (suc i) ne = refl
 set-there (z ∷ xs) (suc n) y zero ne = refl
 set-there (z ∷ xs) (suc n) y (suc i) ne = set-there xs n y i (λ e. ne (ap suc e))
 
-module _ {T : Type 0} (s u : Store T) (root : Option Link) (l : Link) (value : T) (sound : HasRightLinks s root) (shapes : shapes_of u ≡ shapes_of s) (values : values_of u ≡ slice_set (values_of s) l.number value) (kept : IsKept s u) where
+module _ {T : Type 0} (s u : Store T) (root : Option Link) (l : Link) (value : T) (sound : HasRightLinks s root) (shapes : shapes_of u ≡ shapes_of s)
+    (values : values_of u ≡ slice_set (values_of s) l.number value) (kept : IsKept s u) where
   pub valued-count : made_count u ≡ made_count s
   valued-count = sym (length-values u) ∙ ap length values ∙ length-set (values_of s) l.number value ∙ length-values s
 
@@ -58,8 +60,10 @@ module _ {T : Type 0} (s u : Store T) (root : Option Link) (l : Link) (value : T
       (subst (λ (xs : List Shape). IsRanked xs) (sym shapes) sound.ranked)
 
 -- s with another value in the node l, and its weight
-module _ {T : Type 0} (wt : T → Own) (s v : Store T) (root : Option Link) (m : BlockMap Link) (key : Identifier) (l : Link) (w : Own) (value : T) (r : IsRope wt s root m) (at : value_of m key ≡ Some l)
-    (sound : HasRightLinks v root) (same : AreStill (shapes_of s) (shapes_of v)) (here : (shape_at (shapes_of v) l.number).own ≡ w) (others : (i : ℕ) → i ≢ l.number → (shape_at (shapes_of v) i).own ≡ (shape_at (shapes_of s) i).own)
+module _ {T : Type 0} (wt : T → Own) (s v : Store T) (root : Option Link) (m : BlockMap Link) (key : Identifier) (l : Link) (w : Own) (value : T) (r : IsRope wt s root m)
+    (at : value_of m key ≡ Some l)
+    (sound : HasRightLinks v root) (same : AreStill (shapes_of s) (shapes_of v)) (here : (shape_at (shapes_of v) l.number).own ≡ w)
+    (others : (i : ℕ) → i ≢ l.number → (shape_at (shapes_of v) i).own ≡ (shape_at (shapes_of s) i).own)
     (values : values_of v ≡ slice_set (values_of s) l.number value) (kept : IsKept s v) (small : w.weight < 4194305) (fits : w.rank ≤ no_rank) (is : w ≡ wt value) where
   put-count : made_count v ≡ made_count s
   put-count = sym (length-values v) ∙ ap length values ∙ length-set (values_of s) l.number value ∙ length-values s
@@ -85,15 +89,19 @@ module _ {T : Type 0} (wt : T → Own) (s v : Store T) (root : Option Link) (m :
     listed = λ i b. (let q = r.listed i (omega (arith, b, put-count)) in (q.0, q.1, ap (value_of m) (same i).key ∙ q.2));
   }
 
-  put-item : (x : ℕ) → x < made_count s → (a : T) → slice_get (values_of s) x ≡ Some a → item_at v x ≡ ((shape_at (shapes_of s) x).key, cond (id_eq (shape_at (shapes_of s) x).key key) value a) ∷ []
+  put-item : (x : ℕ) → x < made_count s → (a : T) → slice_get (values_of s) x ≡ Some a
+      → item_at v x ≡ ((shape_at (shapes_of s) x).key, cond (id_eq (shape_at (shapes_of s) x).key key) value a) ∷ []
   put-item x h a e =
       let there = made-below s l (r.mapped key l at) in
-      let read : slice_get (values_of v) x ≡ Some (cond (eqb x l.number) value a) = elim (eqb_tells x l.number) as (λ _. slice_get (values_of v) x ≡ Some (cond (eqb x l.number) value a)) [
-        | inl f ↦ ap (λ xs. slice_get xs x) values ∙ ap (slice_get (slice_set (values_of s) l.number value)) f.1 ∙ set-here (values_of s) l.number value (omega (arith, there, length-values s)) ∙ ap (λ b. Some (cond b value a)) (sym f.0)
+      let read : slice_get (values_of v) x ≡ Some (cond (eqb x l.number) value a) =
+      elim (eqb_tells x l.number) as (λ _. slice_get (values_of v) x ≡ Some (cond (eqb x l.number) value a)) [
+        | inl f ↦ ap (λ xs. slice_get xs x) values ∙ ap (slice_get (slice_set (values_of s) l.number value)) f.1
+            ∙ set-here (values_of s) l.number value (omega (arith, there, length-values s)) ∙ ap (λ b. Some (cond b value a)) (sym f.0)
         | inr f ↦ ap (λ xs. slice_get xs x) values ∙ set-there (values_of s) l.number value x f.1 ∙ e ∙ ap (λ b. Some (cond b value a)) (sym f.0)
       ] in
       item-is v x (cond (eqb x l.number) value a) (omega (arith, h, put-count)) read ∙ ap (λ (k : Identifier). (k, cond (eqb x l.number) value a) ∷ []) (same x).key
       ∙ ap (λ (b : Bool). ((shape_at (shapes_of s) x).key, cond b value a) ∷ []) (sym (alone wt s root m r key l at x h))
 
   pub put-list : rope_items_of v root ≡ put_under key value (rope_items_of s root)
-  put-list = ap (flat_map (item_at v)) (order-still s v root (placed (shapes_of s) (shapes_of v) same)) ∙ mapped-items s v (λ x. (x.0, cond (id_eq x.0 key) value x.1)) put-item (nodes_in_order s root) (all-made s root r.sound)
+  put-list = ap (flat_map (item_at v)) (order-still s v root (placed (shapes_of s) (shapes_of v) same))
+      ∙ mapped-items s v (λ x. (x.0, cond (id_eq x.0 key) value x.1)) put-item (nodes_in_order s root) (all-made s root r.sound)

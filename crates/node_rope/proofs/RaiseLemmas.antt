@@ -34,7 +34,8 @@ likewise : (h : Shape) → IsLikewise h h
 likewise h = record { left = refl; right = refl; parent = refl; key = refl; own = refl }
 
 pub links-trans : (ss us ws : List Shape) → SameLinks ss us → SameLinks us ws → SameLinks ss ws
-links-trans ss us ws f g i = let a = f i in let b = g i in record { left = b.left ∙ a.left; right = b.right ∙ a.right; parent = b.parent ∙ a.parent; key = b.key ∙ a.key; own = b.own ∙ a.own }
+links-trans ss us ws f g i = let a = f i in let b =
+    g i in record { left = b.left ∙ a.left; right = b.right ∙ a.right; parent = b.parent ∙ a.parent; key = b.key ∙ a.key; own = b.own ∙ a.own }
 
 pub linked-along : (ss us : List Shape) → SameLinks ss us → IsLinked (tree_of ss) → IsLinked (tree_of us)
 linked-along ss us same linked = record {
@@ -44,12 +45,14 @@ linked-along ss us same linked = record {
 }
 
 pub below-along : (ss us : List Shape) → SameLinks ss us → IsBelow (tree_of ss) → IsBelow (tree_of us)
-below-along ss us same below i p e = elim (below i p (sym (ap link_number (same i).parent) ∙ e)) as (λ _. (link_number (shape_at us p).left ≡ Some i) ⊎ (link_number (shape_at us p).right ≡ Some i)) [
-  | inl f ↦ inl (ap link_number (same p).left ∙ f)
-  | inr f ↦ inr (ap link_number (same p).right ∙ f)
-]
+below-along ss us same below i p e =
+    elim (below i p (sym (ap link_number (same i).parent) ∙ e)) as (λ _. (link_number (shape_at us p).left ≡ Some i) ⊎ (link_number (shape_at us p).right ≡ Some i)) [
+      | inl f ↦ inl (ap link_number (same p).left ∙ f)
+      | inr f ↦ inr (ap link_number (same p).right ∙ f)
+    ]
 
-module _ {T : Type 0} (s u : Store T) (w : Own) (l : Link) (rising : IsRising s w (Some l)) (kept : IsKept s u) (is : shapes_of u ≡ slice_set (shapes_of s) l.number (more w (shape_at (shapes_of s) l.number))) where
+module _ {T : Type 0} (s u : Store T) (w : Own) (l : Link) (rising : IsRising s w (Some l)) (kept : IsKept s u)
+    (is : shapes_of u ≡ slice_set (shapes_of s) l.number (more w (shape_at (shapes_of s) l.number))) where
   abbrev ss : List Shape
   ss = shapes_of s
 
@@ -67,7 +70,8 @@ module _ {T : Type 0} (s u : Store T) (w : Own) (l : Link) (rising : IsRising s 
 
   step-links : SameLinks ss us
   step-links i = elim (cases_number i x) as (λ _. IsLikewise (shape_at ss i) (shape_at us i)) [
-    | inl e ↦ subst (λ (j : ℕ). IsLikewise (shape_at ss j) (shape_at us j)) (sym e) (subst (λ h. IsLikewise (shape_at ss x) h) (sym here) (record { left = refl; right = refl; parent = refl; key = refl; own = refl }))
+    | inl e ↦ subst (λ (j : ℕ). IsLikewise (shape_at ss j) (shape_at us j)) (sym e)
+        (subst (λ h. IsLikewise (shape_at ss x) h) (sym here) (record { left = refl; right = refl; parent = refl; key = refl; own = refl }))
     | inr e ↦ subst (λ h. IsLikewise (shape_at ss i) h) (sym (elsewhere i e)) (likewise (shape_at ss i))
   ]
 
@@ -81,7 +85,8 @@ module _ {T : Type 0} (s u : Store T) (w : Own) (l : Link) (rising : IsRising s 
   ]
 
   -- the same with single values that are equal
-  with-owns : {M : Type 0} (m : Measure M) (own own' s' : ℕ → M) (t : Tree) (d : M) (o : Option ℕ) → ((i : ℕ) → own' i ≡ own i) → IsSummedBut m t own s' d o → IsSummedBut m t own' s' d o
+  with-owns : {M : Type 0} (m : Measure M) (own own' s' : ℕ → M) (t : Tree) (d : M) (o : Option ℕ) → ((i : ℕ) → own' i ≡ own i) → IsSummedBut m t own s' d o
+      → IsSummedBut m t own' s' d o
   with-owns m own own' s' t d o e b = record {
     low = λ z f. b.low z f ∙ ap (λ a. m.both (sum_of m s' (t.left z)) (m.both a (sum_of m s' (t.right z)))) (sym (e z));
     rest = λ z f. b.rest z f ∙ ap (λ a. m.both (sum_of m s' (t.left z)) (m.both a (sum_of m s' (t.right z)))) (sym (e z));
@@ -89,13 +94,16 @@ module _ {T : Type 0} (s u : Store T) (w : Own) (l : Link) (rising : IsRising s 
 
   step-rising : IsRising u w (shape_at ss x).parent
   step-rising = record {
-    counts = raised-once sum_measure adding-commutes (tree_of ss) (tree_of us) rising.linked rising.below (λ _. 1) (tree_of ss).count (tree_of us).count 1 x (λ i. ap link_number (step-links i).left) (λ i. ap link_number (step-links i).right)
+    counts = raised-once sum_measure adding-commutes (tree_of ss) (tree_of us) rising.linked rising.below (λ _. 1) (tree_of ss).count (tree_of us).count 1 x
+        (λ i. ap link_number (step-links i).left) (λ i. ap link_number (step-links i).right)
         (ap (λ h. h.count) here) (λ i e. ap (λ h. h.count) (elsewhere i e)) (rising.proper x) rising.counts;
     weighs = with-owns sum_measure (owns ss) (owns us) (weights us) (tree_of us) w.weight (link_number (shape_at ss x).parent) (λ i. ap (λ o. o.weight) (step-links i).own)
-        (raised-once sum_measure adding-commutes (tree_of ss) (tree_of us) rising.linked rising.below (owns ss) (weights ss) (weights us) w.weight x (λ i. ap link_number (step-links i).left) (λ i. ap link_number (step-links i).right)
+        (raised-once sum_measure adding-commutes (tree_of ss) (tree_of us) rising.linked rising.below (owns ss) (weights ss) (weights us) w.weight x
+        (λ i. ap link_number (step-links i).left) (λ i. ap link_number (step-links i).right)
         (ap (λ h. h.weight) here) (λ i e. ap (λ h. h.weight) (elsewhere i e)) (rising.proper x) rising.weighs);
     lowest = with-owns lesser (ranks ss) (ranks us) (leasts us) (tree_of us) w.rank (link_number (shape_at ss x).parent) (λ i. ap (λ o. o.rank) (step-links i).own)
-        (raised-once lesser lesser-commutes (tree_of ss) (tree_of us) rising.linked rising.below (ranks ss) (leasts ss) (leasts us) w.rank x (λ i. ap link_number (step-links i).left) (λ i. ap link_number (step-links i).right)
+        (raised-once lesser lesser-commutes (tree_of ss) (tree_of us) rising.linked rising.below (ranks ss) (leasts ss) (leasts us) w.rank x
+        (λ i. ap link_number (step-links i).left) (λ i. ap link_number (step-links i).right)
         (ap (λ h. h.least) here) (λ i e. ap (λ h. h.least) (elsewhere i e)) (rising.proper x) rising.lowest);
     linked = linked-along ss us step-links rising.linked;
     below = below-along ss us step-links rising.below;
@@ -110,16 +118,18 @@ module _ {T : Type 0} (s u : Store T) (w : Own) (l : Link) (rising : IsRising s 
 
     step-raised : IsRaised ss₀ us w (shape_at ss x).parent
     step-raised = record {
-      each = λ i. elim (cases_number i x) as (λ _. (shape_at us i ≡ shape_at ss₀ i) ⊎ ((shape_at us i ≡ more w (shape_at ss₀ i)) × ((z : ℕ) → link_number (shape_at ss x).parent ≡ Some z → (shape_at us i).count ≤ (shape_at us z).count))) [
-        | inl e ↦ inr (
-          ap (shape_at us) e ∙ here ∙ ap (more w) (raised.at x refl ∙ ap (shape_at ss₀) (sym e)),
-          λ z f. omega (arith, ap (λ h. h.count) here, higher z f, ap (λ h. h.count) (up_kept z f), ap (λ (j : ℕ). (shape_at us j).count) e),
-        )
-        | inr e ↦ elim (raised.each i) as (λ _. (shape_at us i ≡ shape_at ss₀ i) ⊎ ((shape_at us i ≡ more w (shape_at ss₀ i)) × ((z : ℕ) → link_number (shape_at ss x).parent ≡ Some z → (shape_at us i).count ≤ (shape_at us z).count))) [
-          | inl f ↦ inl (elsewhere i e ∙ f)
-          | inr f ↦ inr (elsewhere i e ∙ f.0, λ z g. omega (arith, ap (λ h. h.count) (elsewhere i e), f.1 x refl, higher z g, ap (λ h. h.count) (up_kept z g)))
-        ]
-      ];
+      each = λ i. elim (cases_number i x) as (λ _. (shape_at us i ≡ shape_at ss₀ i)
+          ⊎ ((shape_at us i ≡ more w (shape_at ss₀ i)) × ((z : ℕ) → link_number (shape_at ss x).parent ≡ Some z → (shape_at us i).count ≤ (shape_at us z).count))) [
+            | inl e ↦ inr (
+              ap (shape_at us) e ∙ here ∙ ap (more w) (raised.at x refl ∙ ap (shape_at ss₀) (sym e)),
+              λ z f. omega (arith, ap (λ h. h.count) here, higher z f, ap (λ h. h.count) (up_kept z f), ap (λ (j : ℕ). (shape_at us j).count) e),
+            )
+            | inr e ↦ elim (raised.each i) as (λ _. (shape_at us i ≡ shape_at ss₀ i)
+                ⊎ ((shape_at us i ≡ more w (shape_at ss₀ i)) × ((z : ℕ) → link_number (shape_at ss x).parent ≡ Some z → (shape_at us i).count ≤ (shape_at us z).count))) [
+                  | inl f ↦ inl (elsewhere i e ∙ f)
+                  | inr f ↦ inr (elsewhere i e ∙ f.0, λ z g. omega (arith, ap (λ h. h.count) (elsewhere i e), f.1 x refl, higher z g, ap (λ h. h.count) (up_kept z g)))
+                ]
+          ];
       at = λ z e. elim (raised.each z) as (λ _. shape_at us z ≡ shape_at ss₀ z) [
         | inl f ↦ up_kept z e ∙ f
         | inr f ↦ absurd (omega (arith, f.1 x refl, higher z e))
@@ -139,10 +149,16 @@ pub record IsRaisedOnce {T : Type 0} (s u : Store T) (w : Own) (o q : Option Lin
   pub raised : (ss₀ : List Shape) → IsRaised ss₀ (shapes_of s) w o → IsRaised ss₀ (shapes_of u) w q
   pub smaller : (ss₀ : List Shape) → IsRaised ss₀ (shapes_of s) w o → AreSmall ss₀ w.weight → left_to_rise (shapes_of u) q < left_to_rise (shapes_of s) o
 
-pub raised-step : {T : Type 0} (s u : Store T) (w : Own) (o q : Option Link) (l : Link) → o ≡ Some l → IsRising s w o → q ≡ (shape_at (shapes_of s) l.number).parent → IsKept s u → shapes_of u ≡ slice_set (shapes_of s) l.number (more w (shape_at (shapes_of s) l.number)) → IsRaisedOnce s u w o q
+pub raised-step : {T : Type 0} (s u : Store T) (w : Own) (o q : Option Link) (l : Link) → o ≡ Some l → IsRising s w o → q ≡ (shape_at (shapes_of s) l.number).parent → IsKept s u
+    → shapes_of u ≡ slice_set (shapes_of s) l.number (more w (shape_at (shapes_of s) l.number)) → IsRaisedOnce s u w o q
 raised-step s u w o q l is_l rising up kept writes = subst (λ o. IsRaisedOnce s u w o q) (sym is_l) (subst (λ o. IsRaisedOnce s u w (Some l) o) (sym up) once) where
   at : IsRising s w (Some l)
   at = subst (IsRising s w) is_l rising
 
   once : IsRaisedOnce s u w (Some l) (shape_at (shapes_of s) l.number).parent
-  once = record { rising = step-rising s u w l at kept writes; links = step-links s u w l at kept writes; raised = step-raised s u w l at kept writes; smaller = step-smaller s u w l at kept writes }
+  once = record {
+    rising = step-rising s u w l at kept writes;
+    links = step-links s u w l at kept writes;
+    raised = step-raised s u w l at kept writes;
+    smaller = step-smaller s u w l at kept writes;
+  }

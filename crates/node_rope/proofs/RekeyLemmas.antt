@@ -1,5 +1,6 @@
 -- Another key in a node, and a new item in the place of another.
-use Rattle.std.proofs.Common.{◌≡◌, ◌≢◌, ◌⊎◌, inl, inr, ℕ, ◌<◌, Bool, true, false, cond, List, [], ◌∷◌, length, flat_map, slice_get, slice_set, Option, None, Some, refl, sym, ap, ◌∙◌, subst, arith}
+use Rattle.std.proofs.Common.{◌≡◌, ◌≢◌, ◌⊎◌, inl, inr, ℕ, ◌<◌, Bool, true, false, cond, List, [], ◌∷◌, length, flat_map, slice_get, slice_set, Option, None, Some, refl, sym, ap}
+use Rattle.std.proofs.Common.{◌∙◌, subst, arith}
 use Rattle.std.specs.Prelude.{is_some}
 use Rattle.std.proofs.lemmas.Bool.{cases_Bool, false_from_ne_true}
 use Rattle.std.proofs.lemmas.Bool.Decides.{eqb_tells}
@@ -27,7 +28,8 @@ use Rattle.node_rope.proofs.ReweighLemmas.{tree-along, order-still}
 use Rattle.fugue_ids.proofs.OptionLemmas.{cases_number}
 
 -- s with another key in the node l
-module _ {T : Type 0} (s v : Store T) (root : Option Link) (l : Link) (other : Identifier) (sound : HasRightLinks s root) (made : IsMade s l) (is : shapes_of v ≡ slice_set (shapes_of s) l.number (record (shape_at (shapes_of s) l.number) { key = other }))
+module _ {T : Type 0} (s v : Store T) (root : Option Link) (l : Link) (other : Identifier) (sound : HasRightLinks s root) (made : IsMade s l)
+    (is : shapes_of v ≡ slice_set (shapes_of s) l.number (record (shape_at (shapes_of s) l.number) { key = other }))
     (count : made_count v ≡ made_count s) (kept : IsKept s v) where
   abbrev ss : List Shape
   ss = shapes_of s
@@ -58,7 +60,12 @@ module _ {T : Type 0} (s v : Store T) (root : Option Link) (l : Link) (other : I
   key-elsewhere i h = ap (λ (h : Shape). h.key) (elsewhere i h)
 
   pub renamed-placed : AreReweighed ss us
-  renamed-placed i = record { left = field (λ h. h.left) (λ h k. refl) i; right = field (λ h. h.right) (λ h k. refl) i; parent = field (λ h. h.parent) (λ h k. refl) i; count = field (λ h. h.count) (λ h k. refl) i }
+  renamed-placed i = record {
+    left = field (λ h. h.left) (λ h k. refl) i;
+    right = field (λ h. h.right) (λ h k. refl) i;
+    parent = field (λ h. h.parent) (λ h k. refl) i;
+    count = field (λ h. h.count) (λ h k. refl) i;
+  }
 
   pub renamed-sound : HasRightLinks v root
   renamed-sound =
@@ -66,12 +73,16 @@ module _ {T : Type 0} (s v : Store T) (root : Option Link) (l : Link) (other : I
       let lefts = λ (i : ℕ). ap link_number (p i).left in
       let rights = λ (i : ℕ). ap link_number (p i).right in
       tree-along s v root p count kept sound
-      (summed-along sum_measure (tree_of ss) (tree_of us) (owns ss) (owns us) (weights ss) (weights us) lefts rights (field (λ h. h.own.weight) (λ h k. refl)) (field (λ h. h.weight) (λ h k. refl)) sound.weighed)
-      (summed-along lesser (tree_of ss) (tree_of us) (ranks ss) (ranks us) (leasts ss) (leasts us) lefts rights (field (λ h. h.own.rank) (λ h k. refl)) (field (λ h. h.least) (λ h k. refl)) sound.ranked)
+      (summed-along sum_measure (tree_of ss) (tree_of us) (owns ss) (owns us) (weights ss) (weights us) lefts rights (field (λ h. h.own.weight) (λ h k. refl))
+      (field (λ h. h.weight) (λ h k. refl)) sound.weighed)
+      (summed-along lesser (tree_of ss) (tree_of us) (ranks ss) (ranks us) (leasts ss) (leasts us) lefts rights (field (λ h. h.own.rank) (λ h k. refl))
+      (field (λ h. h.least) (λ h k. refl)) sound.ranked)
 
 -- and in the map
-module _ {T : Type 0} (wt : T → Own) (s v : Store T) (root : Option Link) (m p : BlockMap Link) (key other : Identifier) (l : Link) (r : IsRope wt s root m) (at : value_of m key ≡ Some l) (none : value_of m other ≡ None)
-    (is : shapes_of v ≡ slice_set (shapes_of s) l.number (record (shape_at (shapes_of s) l.number) { key = other })) (values : values_of v ≡ values_of s) (count : made_count v ≡ made_count s) (kept : IsKept s v)
+module _ {T : Type 0} (wt : T → Own) (s v : Store T) (root : Option Link) (m p : BlockMap Link) (key other : Identifier) (l : Link) (r : IsRope wt s root m)
+    (at : value_of m key ≡ Some l) (none : value_of m other ≡ None)
+    (is : shapes_of v ≡ slice_set (shapes_of s) l.number (record (shape_at (shapes_of s) l.number) { key = other })) (values : values_of v ≡ values_of s)
+    (count : made_count v ≡ made_count s) (kept : IsKept s v)
     (renaming : IsRenamed (value_of m) (value_of p) key other) where
   abbrev there : IsMade s l
   there = r.mapped key l at
@@ -105,14 +116,16 @@ module _ {T : Type 0} (wt : T → Own) (s v : Store T) (root : Option Link) (m p
     ];
     keyed = λ k x e. elim (was k x e) as (λ _. (shape_at (shapes_of v) x.number).key ≡ k) [
       | inl f ↦ ap (λ (y : Link). (shape_at (shapes_of v) y.number).key) (sym f.1) ∙ key-here s v root l other r.sound there is count kept ∙ sym f.0
-      | inr f ↦ key-elsewhere s v root l other r.sound there is count kept x.number (λ g. f.0 (sym (r.keyed k x f.1) ∙ ap (λ (j : ℕ). (shape_at (shapes_of s) j).key) g ∙ r.keyed key l at)) ∙ r.keyed k x f.1
+      | inr f ↦ key-elsewhere s v root l other r.sound there is count kept x.number
+          (λ g. f.0 (sym (r.keyed k x f.1) ∙ ap (λ (j : ℕ). (shape_at (shapes_of s) j).key) g ∙ r.keyed key l at)) ∙ r.keyed k x f.1
     ];
     listed = λ i b. elim (cases_number i l.number) as (λ _. (y : Link) × (y.number ≡ i) × (value_of p (shape_at (shapes_of v) i).key ≡ Some y)) [
       | inl e ↦ (l, sym e, ap (λ (j : ℕ). value_of p (shape_at (shapes_of v) j).key) e ∙ ap (value_of p) (key-here s v root l other r.sound there is count kept) ∙ new-key)
       | inr e ↦ (
           let q = r.listed i (omega (arith, b, count)) in
           let k = (shape_at (shapes_of s) i).key in
-          let old = other-keys k (λ f. differs q.0 (sym q.2 ∙ ap (value_of m) f ∙ none)) (λ f. e (sym q.1 ∙ ap (λ (y : Link). y.number) (same-link q.0 (sym q.2 ∙ ap (value_of m) f ∙ at)))) in
+          let old = other-keys k (λ f. differs q.0 (sym q.2 ∙ ap (value_of m) f ∙ none))
+          (λ f. e (sym q.1 ∙ ap (λ (y : Link). y.number) (same-link q.0 (sym q.2 ∙ ap (value_of m) f ∙ at)))) in
           (q.0, q.1, ap (value_of p) (key-elsewhere s v root l other r.sound there is count kept i e) ∙ old ∙ q.2))
     ];
   } where
@@ -124,14 +137,18 @@ module _ {T : Type 0} (wt : T → Own) (s v : Store T) (root : Option Link) (m p
 
   key-is : (x : ℕ) → x < made_count s → (shape_at (shapes_of v) x).key ≡ cond (id_eq (shape_at (shapes_of s) x).key key) other (shape_at (shapes_of s) x).key
   key-is x h = elim (eqb_tells x l.number) as (λ _. (shape_at (shapes_of v) x).key ≡ cond (id_eq (shape_at (shapes_of s) x).key key) other (shape_at (shapes_of s) x).key) [
-    | inl f ↦ ap (λ (j : ℕ). (shape_at (shapes_of v) j).key) f.1 ∙ key-here s v root l other r.sound there is count kept ∙ ap (λ (b : Bool). cond b other (shape_at (shapes_of s) x).key) (sym (alone wt s root m r key l at x h ∙ f.0))
-    | inr f ↦ key-elsewhere s v root l other r.sound there is count kept x f.1 ∙ ap (λ (b : Bool). cond b other (shape_at (shapes_of s) x).key) (sym (alone wt s root m r key l at x h ∙ f.0))
+    | inl f ↦ ap (λ (j : ℕ). (shape_at (shapes_of v) j).key) f.1 ∙ key-here s v root l other r.sound there is count kept
+        ∙ ap (λ (b : Bool). cond b other (shape_at (shapes_of s) x).key) (sym (alone wt s root m r key l at x h ∙ f.0))
+    | inr f ↦ key-elsewhere s v root l other r.sound there is count kept x f.1
+        ∙ ap (λ (b : Bool). cond b other (shape_at (shapes_of s) x).key) (sym (alone wt s root m r key l at x h ∙ f.0))
   ]
 
   pub renamed-list : rope_items_of v root ≡ items_renamed key other (rope_items_of s root)
   renamed-list =
       ap (flat_map (item_at v)) (order-still s v root (renamed-placed s v root l other r.sound there is count kept))
-      ∙ mapped-items s v (λ x. (cond (id_eq x.0 key) other x.0, x.1)) (λ x h a e. item-is v x a (omega (arith, h, count)) (ap (λ xs. slice_get xs x) values ∙ e) ∙ ap (λ (k : Identifier). (k, a) ∷ []) (key-is x h)) (nodes_in_order s root) (all-made s root r.sound)
+      ∙ mapped-items s v (λ x. (cond (id_eq x.0 key) other x.0, x.1))
+      (λ x h a e. item-is v x a (omega (arith, h, count)) (ap (λ xs. slice_get xs x) values ∙ e) ∙ ap (λ (k : Identifier). (k, a) ∷ []) (key-is x h)) (nodes_in_order s root)
+      (all-made s root r.sound)
 
 -- ---- the list
 module _ {T : Type 0} (key other : Identifier) where
@@ -153,12 +170,16 @@ module _ {T : Type 0} (key other : Identifier) where
   ]
 
   -- a new item is the old one renamed, with another value
-  put-item : (value : T) (x : Identifier × T) → id_eq x.0 other ≡ false → (cond (id_eq x.0 key) other x.0, cond (id_eq (cond (id_eq x.0 key) other x.0) other) value x.1) ≡ cond (id_eq x.0 key) (other, value) x
-  put-item value x e = elim (cases_Bool (id_eq x.0 key)) as (λ _. (cond (id_eq x.0 key) other x.0, cond (id_eq (cond (id_eq x.0 key) other x.0) other) value x.1) ≡ cond (id_eq x.0 key) (other, value) x) [
-    | inl f ↦ rw (f, id_eq-refl other) refl
-    | inr f ↦ rw (f, e) refl
-  ]
+  put-item : (value : T) (x : Identifier × T) → id_eq x.0 other ≡ false
+      → (cond (id_eq x.0 key) other x.0, cond (id_eq (cond (id_eq x.0 key) other x.0) other) value x.1) ≡ cond (id_eq x.0 key) (other, value) x
+  put-item value x e = elim (cases_Bool (id_eq x.0 key)) as
+      (λ _. (cond (id_eq x.0 key) other x.0, cond (id_eq (cond (id_eq x.0 key) other x.0) other) value x.1) ≡ cond (id_eq x.0 key) (other, value) x) [
+        | inl f ↦ rw (f, id_eq-refl other) refl
+        | inr f ↦ rw (f, e) refl
+      ]
 
   pub put-renamed : (value : T) (xs : List (Identifier × T)) → IsFree xs → put_under other value (items_renamed key other xs) ≡ items_rekeyed key (other, value) xs
   put-renamed value [] h = refl
-  put-renamed value (x ∷ xs) h = ap (λ y. y ∷ put_under other value (items_renamed key other xs)) (put-item value x (not-first x xs h)) ∙ ap (λ ys. cond (id_eq x.0 key) (other, value) x ∷ ys) (put-renamed value xs (not-later x xs h))
+  put-renamed value (x ∷ xs) h =
+      ap (λ y. y ∷ put_under other value (items_renamed key other xs)) (put-item value x (not-first x xs h))
+      ∙ ap (λ ys. cond (id_eq x.0 key) (other, value) x ∷ ys) (put-renamed value xs (not-later x xs h))

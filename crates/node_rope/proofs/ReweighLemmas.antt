@@ -1,5 +1,6 @@
 -- One step of the climb that sums weights anew.
-use Rattle.std.proofs.Common.{◌≡◌, ◌≢◌, ◌⊎◌, inl, inr, ℕ, zero, suc, ◌+◌, ◌*◌, ◌-◌, min, ◌<◌, ◌≤◌, List, ◌∷◌, ◌++◌, length, slice_set, Option, None, Some, refl, sym, ap, ◌∙◌, subst, arith}
+use Rattle.std.proofs.Common.{◌≡◌, ◌≢◌, ◌⊎◌, inl, inr, ℕ, zero, suc, ◌+◌, ◌*◌, ◌-◌, min, ◌<◌, ◌≤◌, List, ◌∷◌, ◌++◌, length, slice_set, Option, None, Some, refl, sym, ap, ◌∙◌}
+use Rattle.std.proofs.Common.{subst, arith}
 use Rattle.node_rope.specs.declared.store.Store.{Store}
 use Rattle.node_rope.specs.declared.cells.Shape.{Shape}
 use Rattle.node_rope.specs.declared.cells.Link.{Link}
@@ -21,13 +22,15 @@ pub still : (h : Shape) → IsStill h h
 still h = record { left = refl; right = refl; parent = refl; key = refl; count = refl }
 
 pub still-trans : (ss us ws : List Shape) → AreStill ss us → AreStill us ws → AreStill ss ws
-still-trans ss us ws f g i = let a = f i in let b = g i in record { left = b.left ∙ a.left; right = b.right ∙ a.right; parent = b.parent ∙ a.parent; key = b.key ∙ a.key; count = b.count ∙ a.count }
+still-trans ss us ws f g i = let a = f i in let b =
+    g i in record { left = b.left ∙ a.left; right = b.right ∙ a.right; parent = b.parent ∙ a.parent; key = b.key ∙ a.key; count = b.count ∙ a.count }
 
 pub placed : (ss us : List Shape) → AreStill ss us → AreReweighed ss us
 placed ss us f i = let a = f i in record { left = a.left; right = a.right; parent = a.parent; count = a.count }
 
 -- the same tree, with other weights and ranks
-pub tree-along : {T : Type 0} {W R W' R' : Type 0} (s u : Store T) (root : Option Link) → AreReweighed (shapes_of s) (shapes_of u) → made_count u ≡ made_count s → IsKept s u → IsTree s root W R → W' → R' → IsTree u root W' R'
+pub tree-along : {T : Type 0} {W R W' R' : Type 0} (s u : Store T) (root : Option Link) → AreReweighed (shapes_of s) (shapes_of u) → made_count u ≡ made_count s → IsKept s u
+    → IsTree s root W R → W' → R' → IsTree u root W' R'
 tree-along s u root same count kept r weighed ranked = record {
   counted = λ x. omega (arith, r.counted x, (same x).count, lefts x, rights x);
   weighed = weighed;
@@ -39,10 +42,11 @@ tree-along s u root same count kept r weighed ranked = record {
   };
   top = λ i h e. r.top i (omega (arith, h, count)) (sym (same i).parent ∙ e);
   crown = λ i e. (same i).parent ∙ r.crown i e;
-  below = λ i p e. elim (r.below i p (sym (ap link_number (same i).parent) ∙ e)) as (λ _. (link_number (shape_at (shapes_of u) p).left ≡ Some i) ⊎ (link_number (shape_at (shapes_of u) p).right ≡ Some i)) [
-    | inl f ↦ inl (ap link_number (same p).left ∙ f)
-    | inr f ↦ inr (ap link_number (same p).right ∙ f)
-  ];
+  below = λ i p e. elim (r.below i p (sym (ap link_number (same i).parent) ∙ e)) as
+      (λ _. (link_number (shape_at (shapes_of u) p).left ≡ Some i) ⊎ (link_number (shape_at (shapes_of u) p).right ≡ Some i)) [
+        | inl f ↦ inl (ap link_number (same p).left ∙ f)
+        | inr f ↦ inr (ap link_number (same p).right ∙ f)
+      ];
   made_left = λ i m e. kept m (r.made_left i m (sym (same i).left ∙ e));
   made_right = λ i m e. kept m (r.made_right i m (sym (same i).right ∙ e));
   made_parent = λ i m e. kept m (r.made_parent i m (sym (same i).parent ∙ e));
@@ -56,22 +60,27 @@ tree-along s u root same count kept r weighed ranked = record {
   lefts : (x : ℕ) → count_of (tree_of (shapes_of u)) (link_number (shape_at (shapes_of u) x).left) ≡ count_of (tree_of (shapes_of s)) (link_number (shape_at (shapes_of s) x).left)
   lefts x = counts (link_number (shape_at (shapes_of u) x).left) ∙ ap (λ o. count_of (tree_of (shapes_of s)) (link_number o)) (same x).left
 
-  rights : (x : ℕ) → count_of (tree_of (shapes_of u)) (link_number (shape_at (shapes_of u) x).right) ≡ count_of (tree_of (shapes_of s)) (link_number (shape_at (shapes_of s) x).right)
+  rights : (x : ℕ) → count_of (tree_of (shapes_of u)) (link_number (shape_at (shapes_of u) x).right) ≡ count_of (tree_of (shapes_of s))
+      (link_number (shape_at (shapes_of s) x).right)
   rights x = counts (link_number (shape_at (shapes_of u) x).right) ∙ ap (λ o. count_of (tree_of (shapes_of s)) (link_number o)) (same x).right
 
 pub but-none : {T : Type 0} (s : Store T) (root : Option Link) → IsSoundBut s root None → HasRightLinks s root
 but-none s root b = tree-along s s root (λ i. record { left = refl; right = refl; parent = refl; count = refl }) refl (λ l m. m) b.tree
     (λ x. omega (arith, b.tree.weighed x (λ e. no x e), weight-sum (shapes_of s) (shape_at (shapes_of s) x).left, weight-sum (shapes_of s) (shape_at (shapes_of s) x).right))
-    (λ x. b.tree.ranked x (λ e. no x e) ∙ (λ j. min (least-sum (shapes_of s) (shape_at (shapes_of s) x).left j) (min (shape_at (shapes_of s) x).own.rank (least-sum (shapes_of s) (shape_at (shapes_of s) x).right j))))
+    (λ x. b.tree.ranked x (λ e. no x e)
+    ∙ (λ j. min (least-sum (shapes_of s) (shape_at (shapes_of s) x).left j)
+    (min (shape_at (shapes_of s) x).own.rank (least-sum (shapes_of s) (shape_at (shapes_of s) x).right j))))
   where
     no : (x : ℕ) → None ≡ Some x → ⊥
     no x e = cc
 
-pub heavy : (ss : List Shape) → ((i : ℕ) → (shape_at ss i).weight ≤ 4194304 * (shape_at ss i).count) → (o : Option Link) → weight_at ss o ≤ 4194304 * count_of (tree_of ss) (link_number o)
+pub heavy : (ss : List Shape) → ((i : ℕ) → (shape_at ss i).weight ≤ 4194304 * (shape_at ss i).count) → (o : Option Link)
+    → weight_at ss o ≤ 4194304 * count_of (tree_of ss) (link_number o)
 heavy ss b None = omega arith
 heavy ss b (Some l) = b l.number
 
-pub sound-bound : {T : Type 0} (s : Store T) (root : Option Link) → HasRightLinks s root → ((i : ℕ) → (shape_at (shapes_of s) i).own.weight < 4194305) → (i : ℕ) → (shape_at (shapes_of s) i).weight ≤ 4194304 * (shape_at (shapes_of s) i).count
+pub sound-bound : {T : Type 0} (s : Store T) (root : Option Link) → HasRightLinks s root → ((i : ℕ) → (shape_at (shapes_of s) i).own.weight < 4194305) → (i : ℕ)
+    → (shape_at (shapes_of s) i).weight ≤ 4194304 * (shape_at (shapes_of s) i).count
 sound-bound s root r light i =
     let b = bounded (shapes_of s) light (all_nodes (tree_of (shapes_of s)) (Some i)) in
     let l : length (all_nodes (tree_of (shapes_of s)) (Some i)) ≡ (shape_at (shapes_of s) i).count = length-whole (tree_of (shapes_of s)) r.counted (Some i) in
@@ -79,7 +88,8 @@ sound-bound s root r light i =
     omega (arith, b, l, w)
 
 -- the weights at other nodes, where one is written
-weight-other : (ss us : List Shape) (x : ℕ) → ((i : ℕ) → i ≢ x → (shape_at us i).weight ≡ (shape_at ss i).weight) → (o : Option Link) → (link_number o ≡ Some x → ⊥) → weight_at us o ≡ weight_at ss o
+weight-other : (ss us : List Shape) (x : ℕ) → ((i : ℕ) → i ≢ x → (shape_at us i).weight ≡ (shape_at ss i).weight) → (o : Option Link) → (link_number o ≡ Some x → ⊥)
+    → weight_at us o ≡ weight_at ss o
 weight-other ss us x h None ne = refl
 weight-other ss us x h (Some l) ne = h l.number (λ e. ne (ap Some e))
 
@@ -105,7 +115,8 @@ module _ {T : Type 0} (s u : Store T) (root : Option Link) (l : Link) (b : IsSou
 
   step-still : AreStill ss us
   step-still i = elim (cases_number i x) as (λ _. IsStill (shape_at ss i) (shape_at us i)) [
-    | inl e ↦ subst (λ (j : ℕ). IsStill (shape_at ss j) (shape_at us j)) (sym e) (subst (λ h. IsStill (shape_at ss x) h) (sym here) (record { left = refl; right = refl; parent = refl; key = refl; count = refl }))
+    | inl e ↦ subst (λ (j : ℕ). IsStill (shape_at ss j) (shape_at us j)) (sym e)
+        (subst (λ h. IsStill (shape_at ss x) h) (sym here) (record { left = refl; right = refl; parent = refl; key = refl; count = refl }))
     | inr e ↦ subst (λ h. IsStill (shape_at ss i) h) (sym (elsewhere i e)) (still (shape_at ss i))
   ]
 
@@ -128,10 +139,19 @@ module _ {T : Type 0} (s u : Store T) (root : Option Link) (l : Link) (b : IsSou
   not-own-right : link_number (shape_at ss x).right ≡ Some x → ⊥
   not-own-right e = let h = below-right (tree_of ss) b.tree.counted x x e in omega (arith, h)
 
-  step-rest : (i : ℕ) → (link_number (shape_at ss x).parent ≡ Some i → ⊥) → (shape_at us i).weight ≡ weight_at us (shape_at us i).left + ((shape_at us i).own.weight + weight_at us (shape_at us i).right)
+  step-rest : (i : ℕ) → (link_number (shape_at ss x).parent ≡ Some i → ⊥)
+      → (shape_at us i).weight ≡ weight_at us (shape_at us i).left + ((shape_at us i).own.weight + weight_at us (shape_at us i).right)
   step-rest i ne = elim (cases_number i x) as (λ _. (shape_at us i).weight ≡ weight_at us (shape_at us i).left + ((shape_at us i).own.weight + weight_at us (shape_at us i).right)) [
     | inl e ↦ subst (λ (j : ℕ). (shape_at us j).weight ≡ weight_at us (shape_at us j).left + ((shape_at us j).own.weight + weight_at us (shape_at us j).right)) (sym e)
-        (omega (arith, ap (λ (h : Shape). h.weight) here, ap (λ (h : Shape). h.own.weight) here, ap (λ (h : Shape). weight_at us h.left) here, ap (λ (h : Shape). weight_at us h.right) here, other (shape_at ss x).left not-own-left, other (shape_at ss x).right not-own-right))
+        (omega (
+          arith,
+          ap (λ (h : Shape). h.weight) here,
+          ap (λ (h : Shape). h.own.weight) here,
+          ap (λ (h : Shape). weight_at us h.left) here,
+          ap (λ (h : Shape). weight_at us h.right) here,
+          other (shape_at ss x).left not-own-left,
+          other (shape_at ss x).right not-own-right,
+        ))
     | inr e ↦ (
         let w = ap (λ (h : Shape). h.weight) (elsewhere i e) in
         let o = ap (λ (h : Shape). h.own.weight) (elsewhere i e) in
@@ -148,15 +168,20 @@ module _ {T : Type 0} (s u : Store T) (root : Option Link) (l : Link) (b : IsSou
 
   low-here : IsLow x
   low-here =
-      let left : least_at ss (shape_at ss x).left ≡ least_at us (shape_at us x).left = sym (ap (λ (h : Shape). least_at us h.left) here ∙ other-least (shape_at ss x).left not-own-left) in
-      let right : least_at ss (shape_at ss x).right ≡ least_at us (shape_at us x).right = sym (ap (λ (h : Shape). least_at us h.right) here ∙ other-least (shape_at ss x).right not-own-right) in
+      let left : least_at ss (shape_at ss x).left ≡ least_at us (shape_at us x).left =
+      sym (ap (λ (h : Shape). least_at us h.left) here ∙ other-least (shape_at ss x).left not-own-left) in
+      let right : least_at ss (shape_at ss x).right ≡ least_at us (shape_at us x).right =
+      sym (ap (λ (h : Shape). least_at us h.right) here ∙ other-least (shape_at ss x).right not-own-right) in
       ap (λ (h : Shape). h.least) here ∙ (λ j. min (left j) (min (sym (ap (λ (h : Shape). h.own.rank) here) j) (right j)))
 
   low-other : (i : ℕ) → i ≢ x → (link_number (shape_at ss x).parent ≡ Some i → ⊥) → IsLow i
   low-other i e ne =
-      let left : least_at ss (shape_at ss i).left ≡ least_at us (shape_at us i).left = sym (ap (λ (h : Shape). least_at us h.left) (elsewhere i e) ∙ other-least (shape_at ss i).left (λ f. ne (b.tree.linked.from_left i x f))) in
-      let right : least_at ss (shape_at ss i).right ≡ least_at us (shape_at us i).right = sym (ap (λ (h : Shape). least_at us h.right) (elsewhere i e) ∙ other-least (shape_at ss i).right (λ f. ne (b.tree.linked.from_right i x f))) in
-      ap (λ (h : Shape). h.least) (elsewhere i e) ∙ b.tree.ranked i (λ f. e (sym (some-same x i f))) ∙ (λ j. min (left j) (min (sym (ap (λ (h : Shape). h.own.rank) (elsewhere i e)) j) (right j)))
+      let left : least_at ss (shape_at ss i).left ≡ least_at us (shape_at us i).left =
+      sym (ap (λ (h : Shape). least_at us h.left) (elsewhere i e) ∙ other-least (shape_at ss i).left (λ f. ne (b.tree.linked.from_left i x f))) in
+      let right : least_at ss (shape_at ss i).right ≡ least_at us (shape_at us i).right =
+      sym (ap (λ (h : Shape). least_at us h.right) (elsewhere i e) ∙ other-least (shape_at ss i).right (λ f. ne (b.tree.linked.from_right i x f))) in
+      ap (λ (h : Shape). h.least) (elsewhere i e) ∙ b.tree.ranked i (λ f. e (sym (some-same x i f)))
+      ∙ (λ j. min (left j) (min (sym (ap (λ (h : Shape). h.own.rank) (elsewhere i e)) j) (right j)))
 
   step-low : (i : ℕ) → (link_number (shape_at ss x).parent ≡ Some i → ⊥) → IsLow i
   step-low i ne = elim (cases_number i x) as (λ _. IsLow i) [ inl e ↦ subst IsLow (sym e) low-here | inr e ↦ low-other i e ne ]
@@ -169,7 +194,8 @@ module _ {T : Type 0} (s u : Store T) (root : Option Link) (l : Link) (b : IsSou
     tree = tree-along s u root (placed ss us step-still) count kept b.tree step-rest step-low;
     light = λ i. omega (arith, b.light i, ap (λ o. o.weight) (step-owns i));
     bound = λ i. elim (cases_number i x) as (λ _. (shape_at us i).weight ≤ 4194304 * (shape_at us i).count) [
-      | inl e ↦ subst (λ (j : ℕ). (shape_at us j).weight ≤ 4194304 * (shape_at us j).count) (sym e) (omega (arith, fits, ap (λ (h : Shape). h.weight) here, ap (λ (h : Shape). h.count) here))
+      | inl e ↦ subst (λ (j : ℕ). (shape_at us j).weight ≤ 4194304 * (shape_at us j).count) (sym e)
+          (omega (arith, fits, ap (λ (h : Shape). h.weight) here, ap (λ (h : Shape). h.count) here))
       | inr e ↦ omega (arith, b.bound i, ap (λ (h : Shape). h.weight) (elsewhere i e), ap (λ (h : Shape). h.count) (elsewhere i e))
     ];
     few = omega (arith, b.few, count);
@@ -177,20 +203,32 @@ module _ {T : Type 0} (s u : Store T) (root : Option Link) (l : Link) (b : IsSou
   }
 
 -- the sum fits
-pub but-fits : {T : Type 0} (s : Store T) (root : Option Link) (l : Link) → IsSoundBut s root (Some l) → weight_at (shapes_of s) (shape_at (shapes_of s) l.number).left + ((shape_at (shapes_of s) l.number).own.weight + weight_at (shapes_of s) (shape_at (shapes_of s) l.number).right) < 18446744073709551616
+pub but-fits : {T : Type 0} (s : Store T) (root : Option Link) (l : Link) → IsSoundBut s root (Some l)
+    → weight_at (shapes_of s) (shape_at (shapes_of s) l.number).left
+    + ((shape_at (shapes_of s) l.number).own.weight + weight_at (shapes_of s) (shape_at (shapes_of s) l.number).right) < 18446744073709551616
 but-fits s root l b =
     let ss = shapes_of s in
-    omega (arith, heavy ss b.bound (shape_at ss l.number).left, heavy ss b.bound (shape_at ss l.number).right, b.light l.number, b.tree.counted l.number, b.tree.small l.number, b.few)
+    omega (
+      arith,
+      heavy ss b.bound (shape_at ss l.number).left,
+      heavy ss b.bound (shape_at ss l.number).right,
+      b.light l.number,
+      b.tree.counted l.number,
+      b.tree.small l.number,
+      b.few,
+    )
 
 -- the measure of the climb
 abbrev pub left_to_sum : ℕ → List Shape → Option Link → ℕ
 left_to_sum n hs None = 0
 left_to_sum n hs (Some l) = suc (suc n - (shape_at hs l.number).count)
 
-sums-nearer : {T : Type 0} (s u : Store T) (root : Option Link) (l : Link) (n : ℕ) → IsSoundBut s root (Some l) → AreStill (shapes_of s) (shapes_of u) → n ≡ made_count s → (o : Option Link) → (shape_at (shapes_of s) l.number).parent ≡ o → left_to_sum n (shapes_of u) o < left_to_sum n (shapes_of s) (Some l)
+sums-nearer : {T : Type 0} (s u : Store T) (root : Option Link) (l : Link) (n : ℕ) → IsSoundBut s root (Some l) → AreStill (shapes_of s) (shapes_of u) → n ≡ made_count s
+    → (o : Option Link) → (shape_at (shapes_of s) l.number).parent ≡ o → left_to_sum n (shapes_of u) o < left_to_sum n (shapes_of s) (Some l)
 sums-nearer s u root l n b same e None f = omega arith
 sums-nearer s u root l n b same e (Some p) f =
-    let up : (shape_at (shapes_of s) l.number).count < (shape_at (shapes_of s) p.number).count = elim (b.tree.below l.number p.number (ap link_number f)) as (λ _. (shape_at (shapes_of s) l.number).count < (shape_at (shapes_of s) p.number).count) [
+    let up : (shape_at (shapes_of s) l.number).count < (shape_at (shapes_of s) p.number).count =
+    elim (b.tree.below l.number p.number (ap link_number f)) as (λ _. (shape_at (shapes_of s) l.number).count < (shape_at (shapes_of s) p.number).count) [
       | inl h ↦ below-left (tree_of (shapes_of s)) b.tree.counted p.number l.number h
       | inr h ↦ below-right (tree_of (shapes_of s)) b.tree.counted p.number l.number h
     ] in
@@ -203,43 +241,49 @@ pub record IsSummedOnce {T : Type 0} (s u : Store T) (root o q : Option Link) : 
   pub owns : SameOwns (shapes_of s) (shapes_of u)
   pub smaller : left_to_sum (made_count u) (shapes_of u) q < left_to_sum (made_count s) (shapes_of s) o
 
-pub summed-step : {T : Type 0} (s u : Store T) (root o : Option Link) (l : Link) → o ≡ Some l → IsSoundBut s root o → (h g : Shape) → h ≡ shape_at (shapes_of s) l.number → g ≡ summed_node (shapes_of s) h → made_count u ≡ made_count s → IsKept s u
+pub summed-step : {T : Type 0} (s u : Store T) (root o : Option Link) (l : Link) → o ≡ Some l → IsSoundBut s root o → (h g : Shape) → h ≡ shape_at (shapes_of s) l.number
+    → g ≡ summed_node (shapes_of s) h → made_count u ≡ made_count s → IsKept s u
     → shapes_of u ≡ slice_set (shapes_of s) l.number g → IsSummedOnce s u root o h.parent
-summed-step s u root o l is_l but h g read sums count kept is = subst (λ o. IsSummedOnce s u root o h.parent) (sym is_l) (subst (λ (k : Shape). IsSummedOnce s u root (Some l) k.parent) (sym read) once) where
-  b : IsSoundBut s root (Some l)
-  b = subst (IsSoundBut s root) is_l but
+summed-step s u root o l is_l but h g read sums count kept is =
+    subst (λ o. IsSummedOnce s u root o h.parent) (sym is_l) (subst (λ (k : Shape). IsSummedOnce s u root (Some l) k.parent) (sym read) once) where
+      b : IsSoundBut s root (Some l)
+      b = subst (IsSoundBut s root) is_l but
 
-  writes : shapes_of u ≡ slice_set (shapes_of s) l.number (summed_node (shapes_of s) (shape_at (shapes_of s) l.number))
-  writes = is ∙ ap (slice_set (shapes_of s) l.number) (sums ∙ ap (summed_node (shapes_of s)) read)
+      writes : shapes_of u ≡ slice_set (shapes_of s) l.number (summed_node (shapes_of s) (shape_at (shapes_of s) l.number))
+      writes = is ∙ ap (slice_set (shapes_of s) l.number) (sums ∙ ap (summed_node (shapes_of s)) read)
 
-  same : AreStill (shapes_of s) (shapes_of u)
-  same = step-still s u root l b count kept writes
+      same : AreStill (shapes_of s) (shapes_of u)
+      same = step-still s u root l b count kept writes
 
-  once : IsSummedOnce s u root (Some l) (shape_at (shapes_of s) l.number).parent
-  once = record {
-    but = step-but s u root l b count kept writes;
-    still = same;
-    owns = step-owns s u root l b count kept writes;
-    smaller = subst (λ (n : ℕ). left_to_sum (made_count u) (shapes_of u) (shape_at (shapes_of s) l.number).parent < left_to_sum n (shapes_of s) (Some l)) count (sums-nearer s u root l (made_count u) b same count (shape_at (shapes_of s) l.number).parent refl);
-  }
+      once : IsSummedOnce s u root (Some l) (shape_at (shapes_of s) l.number).parent
+      once = record {
+        but = step-but s u root l b count kept writes;
+        still = same;
+        owns = step-owns s u root l b count kept writes;
+        smaller = subst (λ (n : ℕ). left_to_sum (made_count u) (shapes_of u) (shape_at (shapes_of s) l.number).parent < left_to_sum n (shapes_of s) (Some l)) count
+            (sums-nearer s u root l (made_count u) b same count (shape_at (shapes_of s) l.number).parent refl);
+      }
 
 walk-same : (t u : Tree) → ((x : ℕ) → u.left x ≡ t.left x) → ((x : ℕ) → u.right x ≡ t.right x) → (f : ℕ) (o : Option ℕ) → tree_walk u f o ≡ tree_walk t f o
 walk-same t u l r f None = refl
 walk-same t u l r zero (Some x) = refl
 walk-same t u l r (suc f) (Some x) =
-    ap (λ xs. xs ++ x ∷ tree_walk u f (u.right x)) (ap (tree_walk u f) (l x) ∙ walk-same t u l r f (t.left x)) ∙ ap (λ xs. tree_walk t f (t.left x) ++ x ∷ xs) (ap (tree_walk u f) (r x) ∙ walk-same t u l r f (t.right x))
+    ap (λ xs. xs ++ x ∷ tree_walk u f (u.right x)) (ap (tree_walk u f) (l x) ∙ walk-same t u l r f (t.left x))
+    ∙ ap (λ xs. tree_walk t f (t.left x) ++ x ∷ xs) (ap (tree_walk u f) (r x) ∙ walk-same t u l r f (t.right x))
 
 pub order-still : {T : Type 0} (s u : Store T) (root : Option Link) → AreReweighed (shapes_of s) (shapes_of u) → nodes_in_order u root ≡ nodes_in_order s root
 order-still s u root same = by (link_number root) where
   by : (o : Option ℕ) → all_nodes (tree_of (shapes_of u)) o ≡ all_nodes (tree_of (shapes_of s)) o
   by None = refl
-  by (Some x) = ap (λ f. tree_walk (tree_of (shapes_of u)) f (Some x)) (same x).count ∙ walk-same (tree_of (shapes_of s)) (tree_of (shapes_of u)) (λ i. ap link_number (same i).left) (λ i. ap link_number (same i).right) (shape_at (shapes_of s) x).count (Some x)
+  by (Some x) = ap (λ f. tree_walk (tree_of (shapes_of u)) f (Some x)) (same x).count
+      ∙ walk-same (tree_of (shapes_of s)) (tree_of (shapes_of u)) (λ i. ap link_number (same i).left) (λ i. ap link_number (same i).right) (shape_at (shapes_of s) x).count (Some x)
 
 link-same : (l m : Link) → Some l ≡ Some m → l ≡ m
 link-same l m e = cc
 
 -- ---- a new weight of one node's own value
-module _ {T : Type 0} (s u : Store T) (root : Option Link) (at : Link) (w : Own) (sound : HasRightLinks s root) (made : IsMade s at) (count : made_count u ≡ made_count s) (kept : IsKept s u)
+module _ {T : Type 0} (s u : Store T) (root : Option Link) (at : Link) (w : Own) (sound : HasRightLinks s root) (made : IsMade s at) (count : made_count u ≡ made_count s)
+    (kept : IsKept s u)
     (h : Shape) (read : h ≡ shape_at (shapes_of s) at.number) (is : shapes_of u ≡ slice_set (shapes_of s) at.number (record h { own = w })) where
   writes : shapes_of u ≡ slice_set (shapes_of s) at.number (record (shape_at (shapes_of s) at.number) { own = w })
   writes = is ∙ ap (λ (g : Shape). slice_set (shapes_of s) at.number (record g { own = w })) read
@@ -252,7 +296,8 @@ module _ {T : Type 0} (s u : Store T) (root : Option Link) (at : Link) (w : Own)
 
   pub own-still : AreStill (shapes_of s) (shapes_of u)
   own-still i = elim (cases_number i at.number) as (λ _. IsStill (shape_at (shapes_of s) i) (shape_at (shapes_of u) i)) [
-    | inl e ↦ subst (λ (j : ℕ). IsStill (shape_at (shapes_of s) j) (shape_at (shapes_of u) j)) (sym e) (subst (λ h. IsStill (shape_at (shapes_of s) at.number) h) (sym own-there) (record { left = refl; right = refl; parent = refl; key = refl; count = refl }))
+    | inl e ↦ subst (λ (j : ℕ). IsStill (shape_at (shapes_of s) j) (shape_at (shapes_of u) j)) (sym e)
+        (subst (λ h. IsStill (shape_at (shapes_of s) at.number) h) (sym own-there) (record { left = refl; right = refl; parent = refl; key = refl; count = refl }))
     | inr e ↦ subst (λ h. IsStill (shape_at (shapes_of s) i) h) (sym (own-elsewhere i e)) (still (shape_at (shapes_of s) i))
   ]
 
@@ -276,7 +321,8 @@ module _ {T : Type 0} (s u : Store T) (root : Option Link) (at : Link) (w : Own)
   own-least-at None = refl
   own-least-at (Some l) = own-least l.number
 
-  own-low : (i : ℕ) → i ≢ at.number → (shape_at (shapes_of u) i).least ≡ min (least_at (shapes_of u) (shape_at (shapes_of u) i).left) (min (shape_at (shapes_of u) i).own.rank (least_at (shapes_of u) (shape_at (shapes_of u) i).right))
+  own-low : (i : ℕ) → i ≢ at.number → (shape_at (shapes_of u) i).least ≡ min (least_at (shapes_of u) (shape_at (shapes_of u) i).left)
+      (min (shape_at (shapes_of u) i).own.rank (least_at (shapes_of u) (shape_at (shapes_of u) i).right))
   own-low i ne =
       let e = own-elsewhere i ne in
       let left : sum_of lesser (leasts (shapes_of s)) (link_number (shape_at (shapes_of s) i).left) ≡ least_at (shapes_of u) (shape_at (shapes_of u) i).left =
@@ -302,7 +348,8 @@ module _ {T : Type 0} (s u : Store T) (root : Option Link) (at : Link) (w : Own)
         sym (ap (λ (h : Shape). least_at (shapes_of u) h.left) e ∙ own-least-at (shape_at (shapes_of s) x).left ∙ least-sum (shapes_of s) (shape_at (shapes_of s) x).left) in
         let right : sum_of lesser (leasts (shapes_of s)) (link_number (shape_at (shapes_of s) x).right) ≡ least_at (shapes_of u) (shape_at (shapes_of u) x).right =
         sym (ap (λ (h : Shape). least_at (shapes_of u) h.right) e ∙ own-least-at (shape_at (shapes_of s) x).right ∙ least-sum (shapes_of s) (shape_at (shapes_of s) x).right) in
-        let rank : (shape_at (shapes_of s) x).own.rank ≡ (shape_at (shapes_of u) x).own.rank = ap (λ (g : Shape). g.own.rank) (sym read) ∙ same ∙ sym (ap (λ (o : Own). o.rank) own-here) in
+        let rank : (shape_at (shapes_of s) x).own.rank ≡ (shape_at (shapes_of u) x).own.rank =
+        ap (λ (g : Shape). g.own.rank) (sym read) ∙ same ∙ sym (ap (λ (o : Own). o.rank) own-here) in
         record {
           weight = omega (
             arith,

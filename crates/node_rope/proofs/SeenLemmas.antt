@@ -1,5 +1,6 @@
 -- What the tree tells of the list of items: keys, places and weights.
-use Rattle.std.proofs.Common.{◌≡◌, inl, inr, ℕ, zero, suc, ◌+◌, ◌<◌, ◌≤◌, List, [], ◌∷◌, ◌++◌, length, take, flat_map, slice_get, get_or, Option, None, Some, refl, sym, ap, ◌∙◌, subst, arith}
+use Rattle.std.proofs.Common.{◌≡◌, inl, inr, ℕ, zero, suc, ◌+◌, ◌<◌, ◌≤◌, List, [], ◌∷◌, ◌++◌, length, take, flat_map, slice_get, get_or, Option, None, Some, refl, sym, ap, ◌∙◌}
+use Rattle.std.proofs.Common.{subst, arith}
 use Rattle.std.specs.Prelude.{is_some, IsSome, option_map, true, false}
 use Rattle.std.specs.Map.{keys_of}
 use Rattle.std.proofs.lemmas.List.Concat.{flat_map-append}
@@ -54,7 +55,8 @@ module _ {T : Type 0} (s : Store T) where
       let it = one-item x (made x (inl refl)) in
       ap (λ (ys : List (Identifier × T)). slice_get (keys_of (ys ++ flat_map (item_at s) xs)) (suc i)) it.2 ∙ items-key xs (λ y a. made y (inr a)) i (omega (arith, h))
 
-  pub items-item : (xs : List ℕ) → AreNodes xs → (i : ℕ) (v : T) → i < length xs → slice_get (values_of s) (get_or xs i 0) ≡ Some v → slice_get (flat_map (item_at s) xs) i ≡ Some ((shape_at (shapes_of s) (get_or xs i 0)).key, v)
+  pub items-item : (xs : List ℕ) → AreNodes xs → (i : ℕ) (v : T) → i < length xs → slice_get (values_of s) (get_or xs i 0) ≡ Some v
+      → slice_get (flat_map (item_at s) xs) i ≡ Some ((shape_at (shapes_of s) (get_or xs i 0)).key, v)
   items-item [] made i v h is = absurd (omega (arith, h))
   items-item (x ∷ xs) made zero v h is = ap (λ (ys : List (Identifier × T)). slice_get (ys ++ flat_map (item_at s) xs) 0) (item-is s x v (made x (inl refl)) is)
   items-item (x ∷ xs) made (suc i) v h is =
@@ -67,7 +69,8 @@ module _ {T : Type 0} (s : Store T) where
       let it = one-item x (made x (inl refl)) in
       ap (λ (ys : List (Identifier × T)). length (ys ++ flat_map (item_at s) xs)) it.2 ∙ ap suc (items-length xs (λ y a. made y (inr a)))
 
-  items-weigh : (wt : T → Own) → ((i : ℕ) (v : T) → slice_get (values_of s) i ≡ Some v → (shape_at (shapes_of s) i).own ≡ wt v) → (xs : List ℕ) → AreNodes xs → weight_sum (λ x. (wt x).weight) (flat_map (item_at s) xs) ≡ weigh (shapes_of s) xs
+  items-weigh : (wt : T → Own) → ((i : ℕ) (v : T) → slice_get (values_of s) i ≡ Some v → (shape_at (shapes_of s) i).own ≡ wt v) → (xs : List ℕ) → AreNodes xs
+      → weight_sum (λ x. (wt x).weight) (flat_map (item_at s) xs) ≡ weigh (shapes_of s) xs
   items-weigh wt w [] made = refl
   items-weigh wt w (x ∷ xs) made =
       let it = one-item x (made x (inl refl)) in
@@ -90,16 +93,19 @@ module _ {T : Type 0} (wt : T → Own) (s : Store T) (root : Option Link) (m : B
   pub order-length : length (rope_items_of s root) ≡ length (nodes_in_order s root)
   order-length = items-length s (nodes_in_order s root) nodes
 
-  pub stands : (k : Identifier) (l : Link) → value_of m k ≡ Some l → (i : ℕ) → i < length (nodes_in_order s root) → get_or (nodes_in_order s root) i 0 ≡ l.number → StandsAt (rope_items_of s root) i k
+  pub stands : (k : Identifier) (l : Link) → value_of m k ≡ Some l → (i : ℕ) → i < length (nodes_in_order s root) → get_or (nodes_in_order s root) i 0 ≡ l.number
+      → StandsAt (rope_items_of s root) i k
   stands k l e i h at = items-key s (nodes_in_order s root) nodes i h ∙ ap (λ (x : ℕ). Some (shape_at (shapes_of s) x).key) at ∙ ap Some (r.keyed k l e)
 
   pub weighs-to : (i w : ℕ) → w ≡ weigh (shapes_of s) (take i (nodes_in_order s root)) → w ≡ weight_sum (λ x. (wt x).weight) (take i (rope_items_of s root))
-  weighs-to i w e = e ∙ sym (items-weigh s wt r.weighs (take i (nodes_in_order s root)) (λ x a. nodes x (among-take x i (nodes_in_order s root) a))) ∙ ap (weight_sum (λ x. (wt x).weight)) (sym (items-take s (nodes_in_order s root) nodes i))
+  weighs-to i w e = e ∙ sym (items-weigh s wt r.weighs (take i (nodes_in_order s root)) (λ x a. nodes x (among-take x i (nodes_in_order s root) a)))
+      ∙ ap (weight_sum (λ x. (wt x).weight)) (sym (items-take s (nodes_in_order s root) nodes i))
 
   pub weighs-all : weight_sum (λ x. (wt x).weight) (rope_items_of s root) ≡ weigh (shapes_of s) (nodes_in_order s root)
   weighs-all = items-weigh s wt r.weighs (nodes_in_order s root) nodes
 
-  pub unit : (w : ℕ) (l : Link) (u : ℕ) → IsFound (shapes_of s) (nodes_in_order s root) w l u → IsUnit (λ x. (wt x).weight) (rope_items_of s root) w (shape_at (shapes_of s) l.number).key u
+  pub unit : (w : ℕ) (l : Link) (u : ℕ) → IsFound (shapes_of s) (nodes_in_order s root) w l u
+      → IsUnit (λ x. (wt x).weight) (rope_items_of s root) w (shape_at (shapes_of s) l.number).key u
   unit w l u f =
       let front-nodes : AreNodes s f.front = λ x a. nodes x (subst (Among x) (sym f.split) (among-left x f.front (l.number ∷ f.back) a)) in
       let here : l.number < made_count s = nodes l.number (subst (Among l.number) (sym f.split) (among-right l.number f.front (l.number ∷ f.back) (inl refl))) in
@@ -108,7 +114,8 @@ module _ {T : Type 0} (wt : T → Own) (s : Store T) (root : Option Link) (m : B
         front = flat_map (item_at s) f.front;
         value = it.0;
         back = flat_map (item_at s) f.back;
-        split = ap (flat_map (item_at s)) f.split ∙ flat_map-append (item_at s) f.front (l.number ∷ f.back) ∙ ap (λ (ys : List (Identifier × T)). flat_map (item_at s) f.front ++ (ys ++ flat_map (item_at s) f.back)) it.2;
+        split = ap (flat_map (item_at s)) f.split ∙ flat_map-append (item_at s) f.front (l.number ∷ f.back)
+            ∙ ap (λ (ys : List (Identifier × T)). flat_map (item_at s) f.front ++ (ys ++ flat_map (item_at s) f.back)) it.2;
         before = f.before ∙ ap (λ n. n + u) (sym (items-weigh s wt r.weighs f.front front-nodes));
         inside = subst (λ n. u < n) (ap (λ o. o.weight) (r.weighs l.number it.0 it.1)) f.inside;
       }
@@ -132,7 +139,8 @@ module _ {T : Type 0} (wt : T → Own) (s : Store T) (root : Option Link) (m : B
   floor-seen key None f = λ q le. not-held wt s root m r q (f q le)
   floor-seen key (Some k) f = (some-held k f.0, f.1, λ q le h. f.2 q le (held-some q h))
 
-  pub key-seen : (i : ℕ) (l : Link) → i < length (nodes_in_order s root) → get_or (nodes_in_order s root) i 0 ≡ l.number → slice_get (keys_of (rope_items_of s root)) i ≡ Some (shape_at (shapes_of s) l.number).key
+  pub key-seen : (i : ℕ) (l : Link) → i < length (nodes_in_order s root) → get_or (nodes_in_order s root) i 0 ≡ l.number
+      → slice_get (keys_of (rope_items_of s root)) i ≡ Some (shape_at (shapes_of s) l.number).key
   key-seen i l h at = items-key s (nodes_in_order s root) nodes i h ∙ ap (λ (x : ℕ). Some (shape_at (shapes_of s) x).key) at
 
   pub key-past : (i : ℕ) → length (nodes_in_order s root) ≤ i → slice_get (keys_of (rope_items_of s root)) i ≡ None
@@ -142,7 +150,8 @@ module _ {T : Type 0} (wt : T → Own) (s : Store T) (root : Option Link) (m : B
     past (x ∷ xs) zero h = absurd (omega (arith, h))
     past (x ∷ xs) (suc i) h = past xs i (omega (arith, h))
 
-  pub value-seen : (i : ℕ) (l : Link) (v : T) → i < length (nodes_in_order s root) → get_or (nodes_in_order s root) i 0 ≡ l.number → slice_get (values_of s) l.number ≡ Some v → option_map (λ x. x.1) (slice_get (rope_items_of s root) i) ≡ Some v
+  pub value-seen : (i : ℕ) (l : Link) (v : T) → i < length (nodes_in_order s root) → get_or (nodes_in_order s root) i 0 ≡ l.number → slice_get (values_of s) l.number ≡ Some v
+      → option_map (λ x. x.1) (slice_get (rope_items_of s root) i) ≡ Some v
   value-seen i l v h at is = ap (option_map (λ (x : Identifier × T). x.1)) (items-item s (nodes_in_order s root) nodes i v h (ap (slice_get (values_of s)) at ∙ is))
 
   pub value-past : (i : ℕ) → length (nodes_in_order s root) ≤ i → option_map (λ x. x.1) (slice_get (rope_items_of s root) i) ≡ None

@@ -26,14 +26,16 @@ module _ {M : Type 0} (m : Measure M) (L : IsLawful m) where
     sum-is o = sums (count_of t o) o (omega arith)
 
 -- equal numbers over equal links
-pub summed-along : {M : Type 0} (m : Measure M) (t u : Tree) (own own' s s' : ℕ → M) → ((x : ℕ) → u.left x ≡ t.left x) → ((x : ℕ) → u.right x ≡ t.right x) → ((x : ℕ) → own' x ≡ own x) → ((x : ℕ) → s' x ≡ s x) → IsSummed m t own s → IsSummed m u own' s'
-summed-along {M} m t u own own' s s' lefts rights owns sums h x = sums x ∙ h x ∙ (λ j. m.both (side (t.left x) (u.left x) (lefts x) j) (m.both (sym (owns x) j) (side (t.right x) (u.right x) (rights x) j))) where
-  same : (o : Option ℕ) → sum_of m s o ≡ sum_of m s' o
-  same None = refl
-  same (Some y) = sym (sums y)
+pub summed-along : {M : Type 0} (m : Measure M) (t u : Tree) (own own' s s' : ℕ → M) → ((x : ℕ) → u.left x ≡ t.left x) → ((x : ℕ) → u.right x ≡ t.right x)
+    → ((x : ℕ) → own' x ≡ own x) → ((x : ℕ) → s' x ≡ s x) → IsSummed m t own s → IsSummed m u own' s'
+summed-along {M} m t u own own' s s' lefts rights owns sums h x =
+    sums x ∙ h x ∙ (λ j. m.both (side (t.left x) (u.left x) (lefts x) j) (m.both (sym (owns x) j) (side (t.right x) (u.right x) (rights x) j))) where
+      same : (o : Option ℕ) → sum_of m s o ≡ sum_of m s' o
+      same None = refl
+      same (Some y) = sym (sums y)
 
-  side : (o q : Option ℕ) → q ≡ o → sum_of m s o ≡ sum_of m s' q
-  side o q e = same o ∙ ap (sum_of m s') (sym e)
+      side : (o q : Option ℕ) → q ≡ o → sum_of m s o ≡ sum_of m s' q
+      side o q e = same o ∙ ap (sum_of m s') (sym e)
 
 pub take-seam : (xs : List ℕ) (x : ℕ) (ys : List ℕ) (i j : ℕ) → j ≡ length xs + suc i → take j (xs ++ x ∷ ys) ≡ xs ++ x ∷ take i ys
 take-seam [] x ys i zero e = absurd (omega (arith, e))
@@ -69,12 +71,16 @@ take-all (x ∷ xs) (suc i) e = ap (λ zs. x ∷ zs) (take-all xs i (omega arith
 module _ (t : Tree) (ct : HasCounts t) where
   pub first-self : (x i : ℕ) → i ≡ count_of t (t.left x) → take i (all_nodes t (Some x)) ≡ all_nodes t (t.left x)
   first-self x i e = let l = length-whole t ct (t.left x) in
-      ap (take i) (whole-node t ct x) ∙ take-first (all_nodes t (t.left x)) (x ∷ all_nodes t (t.right x)) i (omega (arith, l, e)) ∙ take-all (all_nodes t (t.left x)) i (omega (arith, l, e))
+      ap (take i) (whole-node t ct x) ∙ take-first (all_nodes t (t.left x)) (x ∷ all_nodes t (t.right x)) i (omega (arith, l, e))
+      ∙ take-all (all_nodes t (t.left x)) i (omega (arith, l, e))
 
   pub first-left : (p c i : ℕ) → t.left p ≡ Some c → i ≤ t.count c → take i (all_nodes t (Some p)) ≡ take i (all_nodes t (Some c))
   first-left p c i e h = let l = length-whole t ct (t.left p) in
-      ap (take i) (whole-node t ct p) ∙ take-first (all_nodes t (t.left p)) (p ∷ all_nodes t (t.right p)) i (omega (arith, l, ap (count_of t) e)) ∙ ap (λ o. take i (all_nodes t o)) e
+      ap (take i) (whole-node t ct p) ∙ take-first (all_nodes t (t.left p)) (p ∷ all_nodes t (t.right p)) i (omega (arith, l, ap (count_of t) e))
+      ∙ ap (λ o. take i (all_nodes t o)) e
 
-  pub first-right : (p c i j : ℕ) → t.right p ≡ Some c → j ≡ count_of t (t.left p) + suc i → take j (all_nodes t (Some p)) ≡ all_nodes t (t.left p) ++ p ∷ take i (all_nodes t (Some c))
+  pub first-right : (p c i j : ℕ) → t.right p ≡ Some c → j ≡ count_of t (t.left p) + suc i
+      → take j (all_nodes t (Some p)) ≡ all_nodes t (t.left p) ++ p ∷ take i (all_nodes t (Some c))
   first-right p c i j e f = let l = length-whole t ct (t.left p) in
-      ap (take j) (whole-node t ct p) ∙ take-seam (all_nodes t (t.left p)) p (all_nodes t (t.right p)) i j (omega (arith, l, f)) ∙ ap (λ o. all_nodes t (t.left p) ++ p ∷ take i (all_nodes t o)) e
+      ap (take j) (whole-node t ct p) ∙ take-seam (all_nodes t (t.left p)) p (all_nodes t (t.right p)) i j (omega (arith, l, f))
+      ∙ ap (λ o. all_nodes t (t.left p) ++ p ∷ take i (all_nodes t o)) e

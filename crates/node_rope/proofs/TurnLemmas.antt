@@ -40,17 +40,36 @@ module _ (t u : Tree) (ct : HasCounts t) (linked : IsLinked t) (p c : ℕ) (n : 
   others x differs None back = refl
   others x differs (Some m) back = elim (cases_number m p) as (λ _. count_of u (replaced_child p c (Some m)) ≡ count_of t (Some m)) [
     | inl e ↦ ap (λ y. count_of u (replaced_child p c (Some y))) e ∙ ap (count_of u) (moved-here p c) ∙ n.count_c ∙ ap t.count (sym e)
-    | inr e ↦ ap (count_of u) (moved-other p c (Some m) (λ f. e (some-same m p f))) ∙ n.count_others m e (λ f. differs (some-same x p (sym (back m refl) ∙ ap t.parent f ∙ linked.from_left p c rotated.was)))
+    | inr e ↦ ap (count_of u) (moved-other p c (Some m) (λ f. e (some-same m p f)))
+        ∙ n.count_others m e (λ f. differs (some-same x p (sym (back m refl) ∙ ap t.parent f ∙ linked.from_left p c rotated.was)))
   ]
 
   pub turned-counted : HasCounts u
   turned-counted i = elim (cases_number i c) as (λ _. u.count i ≡ count_of u (u.left i) + (count_of u (u.right i) + 1)) [
     | inl e ↦ subst (λ (j : ℕ). u.count j ≡ count_of u (u.left j) + (count_of u (u.right j) + 1)) (sym e)
-        (omega (arith, n.count_c, n.count_p, ct p, ct c, ap (count_of t) rotated.was, ap (count_of u) rotated.c_left, ap (count_of u) rotated.c_right, under-c (t.left c) (below-left t ct c)))
+        (omega (
+          arith,
+          n.count_c,
+          n.count_p,
+          ct p,
+          ct c,
+          ap (count_of t) rotated.was,
+          ap (count_of u) rotated.c_left,
+          ap (count_of u) rotated.c_right,
+          under-c (t.left c) (below-left t ct c),
+        ))
     | inr e ↦ elim (cases_number i p) as (λ _. u.count i ≡ count_of u (u.left i) + (count_of u (u.right i) + 1)) [
       | inl f ↦ subst (λ (j : ℕ). u.count j ≡ count_of u (u.left j) + (count_of u (u.right j) + 1)) (sym f)
           (omega (arith, n.count_p, ap (count_of u) rotated.p_left, ap (count_of u) rotated.p_right, under-c (t.right c) (below-right t ct c), right-p))
-      | inr f ↦ omega (arith, ct i, n.count_others i f e, ap (count_of u) (rotated.others_left i f e), ap (count_of u) (rotated.others_right i f e), others i f (t.left i) (linked.from_left i), others i f (t.right i) (linked.from_right i))
+      | inr f ↦ omega (
+        arith,
+        ct i,
+        n.count_others i f e,
+        ap (count_of u) (rotated.others_left i f e),
+        ap (count_of u) (rotated.others_right i f e),
+        others i f (t.left i) (linked.from_left i),
+        others i f (t.right i) (linked.from_right i),
+      )
     ]
   ]
 
@@ -71,7 +90,8 @@ module _ (t u : Tree) (ct : HasCounts t) (linked : IsLinked t) (p c : ℕ) (n : 
     sum-others x differs None back = refl
     sum-others x differs (Some k) back = elim (cases_number k p) as (λ _. sum_of m s' (replaced_child p c (Some k)) ≡ sum_of m s (Some k)) [
       | inl e ↦ ap (λ y. sum_of m s' (replaced_child p c (Some y))) e ∙ ap (sum_of m s') (moved-here p c) ∙ at_c ∙ ap s (sym e)
-      | inr e ↦ ap (sum_of m s') (moved-other p c (Some k) (λ f. e (some-same k p f))) ∙ rest k e (λ f. differs (some-same x p (sym (back k refl) ∙ ap t.parent f ∙ linked.from_left p c rotated.was)))
+      | inr e ↦ ap (sum_of m s') (moved-other p c (Some k) (λ f. e (some-same k p f)))
+          ∙ rest k e (λ f. differs (some-same x p (sym (back k refl) ∙ ap t.parent f ∙ linked.from_left p c rotated.was)))
     ]
 
     abbrev Right : ℕ → Type 0
@@ -84,14 +104,17 @@ module _ (t u : Tree) (ct : HasCounts t) (linked : IsLinked t) (p c : ℕ) (n : 
         let rp = m.both (own p) (sum_of m s (t.right p)) in
         let left : lc ≡ sum_of m s' (u.left c) = sym (ap (sum_of m s') rotated.c_left ∙ sum-under-c (t.left c) (below-left t ct c)) in
         let right : m.both rc rp ≡ sum_of m s' (u.right c) = sym (ap (sum_of m s') rotated.c_right ∙ at_p) in
-        at_c ∙ summed p ∙ ap (λ a. m.both a rp) (ap (sum_of m s) rotated.was ∙ summed c) ∙ assoc lc (m.both (own c) rc) rp ∙ ap (m.both lc) (assoc (own c) rc rp) ∙ (λ i. m.both (left i) (m.both (own c) (right i)))
+        at_c ∙ summed p ∙ ap (λ a. m.both a rp) (ap (sum_of m s) rotated.was ∙ summed c) ∙ assoc lc (m.both (own c) rc) rp ∙ ap (m.both lc) (assoc (own c) rc rp)
+        ∙ (λ i. m.both (left i) (m.both (own c) (right i)))
 
     right-p-now : Right p
-    right-p-now = at_p ∙ (λ i. m.both (sym (ap (sum_of m s') rotated.p_left ∙ sum-under-c (t.right c) (below-right t ct c)) i) (m.both (own p) (sym (ap (sum_of m s') rotated.p_right ∙ sum-right-p) i)))
+    right-p-now = at_p ∙ (λ i. m.both (sym (ap (sum_of m s') rotated.p_left ∙ sum-under-c (t.right c) (below-right t ct c)) i)
+        (m.both (own p) (sym (ap (sum_of m s') rotated.p_right ∙ sum-right-p) i)))
 
     right-other : (x : ℕ) → x ≢ p → x ≢ c → Right x
     right-other x xp xc = rest x xp xc ∙ summed x
-        ∙ (λ i. m.both (sym (ap (sum_of m s') (rotated.others_left x xp xc) ∙ sum-others x xp (t.left x) (linked.from_left x)) i) (m.both (own x) (sym (ap (sum_of m s') (rotated.others_right x xp xc) ∙ sum-others x xp (t.right x) (linked.from_right x)) i)))
+        ∙ (λ i. m.both (sym (ap (sum_of m s') (rotated.others_left x xp xc) ∙ sum-others x xp (t.left x) (linked.from_left x)) i)
+        (m.both (own x) (sym (ap (sum_of m s') (rotated.others_right x xp xc) ∙ sum-others x xp (t.right x) (linked.from_right x)) i)))
 
     pub turned-sums : IsSummed m u own s'
     turned-sums i = elim (cases_number i c) as (λ _. Right i) [
@@ -121,7 +144,8 @@ module _ (t u : Tree) (ct : HasCounts t) (linked : IsLinked t) (p c : ℕ) (n : 
     | inl f ↦ (
         let l : t.left c ≡ Some m = sym rotated.c_left ∙ ap u.left (sym f) ∙ e in
         let small = below-left t ct c m l in
-        n.parent_others m (λ g. omega (arith, small, low, ap t.count g)) (λ g. omega (arith, small, ap t.count g)) (λ g. linked.apart c m l g) ∙ linked.from_left c m l ∙ ap Some (sym f))
+        n.parent_others m (λ g. omega (arith, small, low, ap t.count g)) (λ g. omega (arith, small, ap t.count g)) (λ g. linked.apart c m l g) ∙ linked.from_left c m l
+        ∙ ap Some (sym f))
     | inr f ↦ elim (cases_number x p) as (λ _. u.parent m ≡ Some x) [
       | inl g ↦ n.parent_middle m (sym rotated.p_left ∙ ap u.left (sym g) ∙ e) ∙ ap Some (sym g)
       | inr g ↦ from_other x m g f (t.left x) (sym (rotated.others_left x g f) ∙ e) (linked.from_left x)
@@ -168,7 +192,8 @@ module _ (t u : Tree) (ct : HasCounts t) (linked : IsLinked t) (p c : ℕ) (n : 
           let l = linked.from_right c m (sym rotated.p_left ∙ ap u.left (sym h) ∙ e) in
           let r = linked.from_right p m (sym rotated.p_right ∙ ap u.right (sym h) ∙ f) in
           apart (some-same c p (sym l ∙ r)))
-      | inr h ↦ apart_other x m h (t.left x) (t.right x) (sym (rotated.others_left x h g) ∙ e) (sym (rotated.others_right x h g) ∙ f) (linked.from_left x) (linked.from_right x) (linked.apart x)
+      | inr h ↦ apart_other x m h (t.left x) (t.right x) (sym (rotated.others_left x h g) ∙ e) (sym (rotated.others_right x h g) ∙ f) (linked.from_left x) (linked.from_right x)
+          (linked.apart x)
     ]
   ]
 
@@ -182,8 +207,10 @@ module _ (t u : Tree) (ct : HasCounts t) (linked : IsLinked t) (p c : ℕ) (n : 
   module _ (below : (i q : ℕ) → t.parent i ≡ Some q → (t.left q ≡ Some i) ⊎ (t.right q ≡ Some i)) where
     over-p : (q : ℕ) → t.parent p ≡ Some q → (u.left q ≡ Some c) ⊎ (u.right q ≡ Some c)
     over-p q e = elim (below p q e) as (λ _. (u.left q ≡ Some c) ⊎ (u.right q ≡ Some c)) [
-      | inl f ↦ (let h = below-left t ct q p f in inl (rotated.others_left q (λ g. omega (arith, h, ap t.count g)) (λ g. omega (arith, h, low, ap t.count g)) ∙ ap (replaced_child p c) f ∙ moved-here p c))
-      | inr f ↦ (let h = below-right t ct q p f in inr (rotated.others_right q (λ g. omega (arith, h, ap t.count g)) (λ g. omega (arith, h, low, ap t.count g)) ∙ ap (replaced_child p c) f ∙ moved-here p c))
+      | inl f ↦ (let h = below-left t ct q p f in
+          inl (rotated.others_left q (λ g. omega (arith, h, ap t.count g)) (λ g. omega (arith, h, low, ap t.count g)) ∙ ap (replaced_child p c) f ∙ moved-here p c))
+      | inr f ↦ (let h = below-right t ct q p f in
+          inr (rotated.others_right q (λ g. omega (arith, h, ap t.count g)) (λ g. omega (arith, h, low, ap t.count g)) ∙ ap (replaced_child p c) f ∙ moved-here p c))
     ]
 
     elsewhere-below : (i q : ℕ) → i ≢ p → i ≢ c → (t.right c ≡ Some i → ⊥) → t.parent i ≡ Some q → (u.left q ≡ Some i) ⊎ (u.right q ≡ Some i)
@@ -219,7 +246,8 @@ module _ (t u : Tree) (ct : HasCounts t) (linked : IsLinked t) (p c : ℕ) (n : 
     ]
 
   -- the top of a rotated tree
-  pub turned-top : (P : ℕ → Type 0) → P p → (root : Option ℕ) → ((i : ℕ) → P i → t.parent i ≡ None → root ≡ Some i) → (i : ℕ) → P i → u.parent i ≡ None → replaced_child p c root ≡ Some i
+  pub turned-top : (P : ℕ → Type 0) → P p → (root : Option ℕ) → ((i : ℕ) → P i → t.parent i ≡ None → root ≡ Some i) → (i : ℕ) → P i → u.parent i ≡ None
+      → replaced_child p c root ≡ Some i
   turned-top P pp root top i pi e = elim (cases_number i c) as (λ _. replaced_child p c root ≡ Some i) [
     | inl f ↦ ap (replaced_child p c) (top p pp (sym n.parent_c ∙ ap u.parent (sym f) ∙ e)) ∙ moved-here p c ∙ ap Some (sym f)
     | inr f ↦ elim (cases_number i p) as (λ _. replaced_child p c root ≡ Some i) [

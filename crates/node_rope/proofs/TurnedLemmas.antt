@@ -27,8 +27,10 @@ pub record IsLifted {T : Type 0} (s v : Store T) (root root' : Option Link) (p c
   pub lower : (shape_at (shapes_of v) p.number).count < (shape_at (shapes_of s) p.number).count
   pub above : (shape_at (shapes_of v) c.number).parent ≡ (shape_at (shapes_of s) p.number).parent
 
-module _ {T : Type 0} (s v : Store T) (root root' : Option Link) (p c : Link) (sound : HasRightLinks s root) (made_p : IsMade s p) (made_c : IsMade s c) (was : link_number (shape_at (shapes_of s) p.number).left ≡ Some c.number)
-    (is : shapes_of v ≡ with_child (lifted_shapes Left (shapes_of s) p c (shape_at (shapes_of s) p.number) (shape_at (shapes_of s) c.number)) (shape_at (shapes_of s) p.number).parent p.number c)
+module _ {T : Type 0} (s v : Store T) (root root' : Option Link) (p c : Link) (sound : HasRightLinks s root) (made_p : IsMade s p) (made_c : IsMade s c)
+    (was : link_number (shape_at (shapes_of s) p.number).left ≡ Some c.number)
+    (is : shapes_of v ≡ with_child (lifted_shapes Left (shapes_of s) p c (shape_at (shapes_of s) p.number) (shape_at (shapes_of s) c.number))
+    (shape_at (shapes_of s) p.number).parent p.number c)
     (kept : IsKept s v) (count : made_count v ≡ made_count s) (moves : link_number root' ≡ replaced_child p.number c.number (link_number root)) (made_root' : AreMade v root') where
   abbrev ss : List Shape
   ss = shapes_of s
@@ -60,17 +62,28 @@ module _ {T : Type 0} (s v : Store T) (root root' : Option Link) (p c : Link) (s
   n : IsTurned t u p.number c.number
   n = lifts.turned ss p c sound.counted sound.linked was in_p in_c in_middle in_top over
 
-  pub turned_p : shape_at vs p.number ≡ record (shape_at ss p.number) { left = (shape_at ss c.number).right; parent = Some c; count = ((shape_at ss p.number).count - (shape_at ss c.number).count) + count_of t (link_number (shape_at ss c.number).right); weight = ((shape_at ss p.number).weight - (shape_at ss c.number).weight) + weight_at ss (shape_at ss c.number).right; least = min (least_at ss (shape_at ss c.number).right) (min (shape_at ss p.number).own.rank (least_at ss (shape_at ss p.number).right)) }
+  pub turned_p : shape_at vs p.number ≡ record (shape_at ss p.number) {
+    left = (shape_at ss c.number).right;
+    parent = Some c;
+    count = ((shape_at ss p.number).count - (shape_at ss c.number).count) + count_of t (link_number (shape_at ss c.number).right);
+    weight =
+        ((shape_at ss p.number).weight - (shape_at ss c.number).weight) + weight_at ss (shape_at ss c.number).right;
+    least =
+        min (least_at ss (shape_at ss c.number).right) (min (shape_at ss p.number).own.rank (least_at ss (shape_at ss p.number).right));
+  }
   turned_p = lifts.all_p ss p c sound.counted sound.linked was in_p in_c in_middle in_top over
 
-  pub turned_c : shape_at vs c.number ≡ record (shape_at ss c.number) { right = Some p; parent = (shape_at ss p.number).parent; count = (shape_at ss p.number).count; weight = (shape_at ss p.number).weight; least = (shape_at ss p.number).least }
+  pub turned_c : shape_at vs c.number ≡ record (shape_at ss c.number)
+      { right = Some p; parent = (shape_at ss p.number).parent; count = (shape_at ss p.number).count; weight = (shape_at ss p.number).weight; least = (shape_at ss p.number).least }
   turned_c = lifts.all_c ss p c sound.counted sound.linked was in_p in_c in_middle in_top over
 
-  rest : {X : Type 0} (f : Shape → X) → ((h : Shape) (q : Option Link) → f (record h { left = q }) ≡ f h) → ((h : Shape) (q : Option Link) → f (record h { right = q }) ≡ f h) → ((h : Shape) (q : Option Link) → f (record h { parent = q }) ≡ f h)
+  rest : {X : Type 0} (f : Shape → X) → ((h : Shape) (q : Option Link) → f (record h { left = q }) ≡ f h) → ((h : Shape) (q : Option Link) → f (record h { right = q }) ≡ f h)
+      → ((h : Shape) (q : Option Link) → f (record h { parent = q }) ≡ f h)
       → (i : ℕ) → i ≢ p.number → i ≢ c.number → f (shape_at vs i) ≡ f (shape_at ss i)
   rest = lifts.untouched ss p c sound.counted sound.linked was in_p in_c in_middle in_top over
 
-  every : {X : Type 0} (f : Shape → X) → f (shape_at vs p.number) ≡ f (shape_at ss p.number) → f (shape_at vs c.number) ≡ f (shape_at ss c.number) → ((i : ℕ) → i ≢ p.number → i ≢ c.number → f (shape_at vs i) ≡ f (shape_at ss i)) → (i : ℕ) → f (shape_at vs i) ≡ f (shape_at ss i)
+  every : {X : Type 0} (f : Shape → X) → f (shape_at vs p.number) ≡ f (shape_at ss p.number) → f (shape_at vs c.number) ≡ f (shape_at ss c.number)
+      → ((i : ℕ) → i ≢ p.number → i ≢ c.number → f (shape_at vs i) ≡ f (shape_at ss i)) → (i : ℕ) → f (shape_at vs i) ≡ f (shape_at ss i)
   every f at_p at_c others i = elim (cases_number i p.number) as (λ _. f (shape_at vs i) ≡ f (shape_at ss i)) [
     | inl e ↦ ap (λ (k : ℕ). f (shape_at vs k)) e ∙ at_p ∙ ap (λ (k : ℕ). f (shape_at ss k)) (sym e)
     | inr e ↦ elim (cases_number i c.number) as (λ _. f (shape_at vs i) ≡ f (shape_at ss i)) [
@@ -94,7 +107,8 @@ module _ {T : Type 0} (s v : Store T) (root root' : Option Link) (p c : Link) (s
   weighed-now : IsWeighed vs
   weighed-now i =
       let below_right = weight-sum ss (shape_at ss c.number).right in
-      let at_p : (shape_at vs p.number).weight ≡ sum_of sum_measure (weights ss) (t.right c.number) + ((shape_at ss p.number).own.weight + sum_of sum_measure (weights ss) (t.right p.number)) =
+      let at_p : (shape_at vs p.number).weight ≡ sum_of sum_measure (weights ss)
+      (t.right c.number) + ((shape_at ss p.number).own.weight + sum_of sum_measure (weights ss) (t.right p.number)) =
       omega (arith, ap (λ h. h.weight) turned_p, sound.weighed p.number, ap (sum_of sum_measure (weights ss)) was, below_right) in
       let all = (turned-sums t u sound.counted sound.linked p.number c.number n sum_measure adding-commutes.assoc (owns ss) (weights ss) (weights vs) sound.weighed
       (ap (λ h. h.weight) turned_c) at_p (rest (λ h. h.weight) (λ h q. refl) (λ h q. refl) (λ h q. refl))) in
@@ -102,7 +116,8 @@ module _ {T : Type 0} (s v : Store T) (root root' : Option Link) (p c : Link) (s
 
   ranked-now : IsRanked vs
   ranked-now i =
-      let at_p : (shape_at vs p.number).least ≡ min (sum_of lesser (leasts ss) (t.right c.number)) (min (shape_at ss p.number).own.rank (sum_of lesser (leasts ss) (t.right p.number))) =
+      let at_p : (shape_at vs p.number).least ≡ min (sum_of lesser (leasts ss) (t.right c.number))
+      (min (shape_at ss p.number).own.rank (sum_of lesser (leasts ss) (t.right p.number))) =
       ap (λ h. h.least) turned_p ∙ (λ j. min (least-sum ss (shape_at ss c.number).right j) (min (shape_at ss p.number).own.rank (least-sum ss (shape_at ss p.number).right j))) in
       let all = turned-sums t u sound.counted sound.linked p.number c.number n lesser lesser-commutes.assoc (ranks ss) (leasts ss) (leasts vs) sound.ranked
       (ap (λ h. h.least) turned_c) at_p (rest (λ h. h.least) (λ h q. refl) (λ h q. refl) (λ h q. refl)) in
@@ -118,7 +133,8 @@ module _ {T : Type 0} (s v : Store T) (root root' : Option Link) (p c : Link) (s
   link-back : (a m : Link) → Some a ≡ Some m → m ≡ a
   link-back a m e = cc
 
-  elsewhere-made : (f : Shape → Option Link) → ((h : Shape) (m : Link) → f (with_swapped_child h p.number c) ≡ Some m → (m ≡ c) ⊎ (f h ≡ Some m)) → ((h : Shape) (m : Link) → f (record h { parent = Some p }) ≡ Some m → (m ≡ p) ⊎ (f h ≡ Some m))
+  elsewhere-made : (f : Shape → Option Link) → ((h : Shape) (m : Link) → f (with_swapped_child h p.number c) ≡ Some m → (m ≡ c) ⊎ (f h ≡ Some m))
+      → ((h : Shape) (m : Link) → f (record h { parent = Some p }) ≡ Some m → (m ≡ p) ⊎ (f h ≡ Some m))
       → ((i : ℕ) → AreMade s (f (shape_at ss i))) → (i : ℕ) → i ≢ p.number → i ≢ c.number → AreMade v (f (shape_at vs i))
   elsewhere-made f w q old i ip ic m e =
       let was_made : (k : Link) → f (shape_at ss i) ≡ Some k → IsMade v k = λ k x. kept k (old i k x) in
@@ -136,7 +152,8 @@ module _ {T : Type 0} (s v : Store T) (root root' : Option Link) (p c : Link) (s
         ]
       ]
 
-  made-all : (f : Shape → Option Link) → AreMade v (f (shape_at vs p.number)) → AreMade v (f (shape_at vs c.number)) → ((i : ℕ) → i ≢ p.number → i ≢ c.number → AreMade v (f (shape_at vs i))) → (i : ℕ) → AreMade v (f (shape_at vs i))
+  made-all : (f : Shape → Option Link) → AreMade v (f (shape_at vs p.number)) → AreMade v (f (shape_at vs c.number))
+      → ((i : ℕ) → i ≢ p.number → i ≢ c.number → AreMade v (f (shape_at vs i))) → (i : ℕ) → AreMade v (f (shape_at vs i))
   made-all f at_p at_c others i = elim (cases_number i p.number) as (λ _. AreMade v (f (shape_at vs i))) [
     | inl e ↦ subst (λ (k : ℕ). AreMade v (f (shape_at vs k))) (sym e) at_p
     | inr e ↦ elim (cases_number i c.number) as (λ _. AreMade v (f (shape_at vs i))) [
@@ -146,20 +163,32 @@ module _ {T : Type 0} (s v : Store T) (root root' : Option Link) (p c : Link) (s
   ]
 
   lefts-now : (i : ℕ) → AreMade v (shape_at vs i).left
-  lefts-now = made-all (λ h. h.left) (λ m e. kept m (sound.made_right c.number m (sym (ap (λ h. h.left) turned_p) ∙ e))) (λ m e. kept m (sound.made_left c.number m (sym (ap (λ h. h.left) turned_c) ∙ e)))
+  lefts-now = made-all (λ h. h.left) (λ m e. kept m (sound.made_right c.number m (sym (ap (λ h. h.left) turned_p) ∙ e)))
+      (λ m e. kept m (sound.made_left c.number m (sym (ap (λ h. h.left) turned_c) ∙ e)))
       (elsewhere-made (λ h. h.left) (λ h m e. relinked-from h.left p.number c m e) (λ h m e. inr e) sound.made_left)
 
   rights-now : (i : ℕ) → AreMade v (shape_at vs i).right
-  rights-now = made-all (λ h. h.right) (λ m e. kept m (sound.made_right p.number m (sym (ap (λ h. h.right) turned_p) ∙ e))) (λ m e. link-is None p m (sym (ap (λ h. h.right) turned_c) ∙ e) (kept p made_p))
+  rights-now = made-all (λ h. h.right) (λ m e. kept m (sound.made_right p.number m (sym (ap (λ h. h.right) turned_p) ∙ e)))
+      (λ m e. link-is None p m (sym (ap (λ h. h.right) turned_c) ∙ e) (kept p made_p))
       (elsewhere-made (λ h. h.right) (λ h m e. relinked-from h.right p.number c m e) (λ h m e. inr e) sound.made_right)
 
   parents-now : (i : ℕ) → AreMade v (shape_at vs i).parent
-  parents-now = made-all (λ h. h.parent) (λ m e. link-is None c m (sym (ap (λ h. h.parent) turned_p) ∙ e) (kept c made_c)) (λ m e. kept m (sound.made_parent p.number m (sym (ap (λ h. h.parent) turned_c) ∙ e)))
+  parents-now = made-all (λ h. h.parent) (λ m e. link-is None c m (sym (ap (λ h. h.parent) turned_p) ∙ e) (kept c made_c))
+      (λ m e. kept m (sound.made_parent p.number m (sym (ap (λ h. h.parent) turned_c) ∙ e)))
       (elsewhere-made (λ h. h.parent) (λ h m e. inr e) (λ h m e. inl (link-back p m e)) sound.made_parent)
 
   small-now : (i : ℕ) → (shape_at vs i).count ≤ suc (made_count v)
   small-now i = elim (cases_number i p.number) as (λ _. (shape_at vs i).count ≤ suc (made_count v)) [
-    | inl e ↦ omega (arith, ap (λ (k : ℕ). (shape_at vs k).count) e, ap (λ h. h.count) turned_p, sound.small p.number, count, sound.counted p.number, ap (count_of t) was, sound.counted c.number)
+    | inl e ↦ omega (
+      arith,
+      ap (λ (k : ℕ). (shape_at vs k).count) e,
+      ap (λ h. h.count) turned_p,
+      sound.small p.number,
+      count,
+      sound.counted p.number,
+      ap (count_of t) was,
+      sound.counted c.number,
+    )
     | inr e ↦ elim (cases_number i c.number) as (λ _. (shape_at vs i).count ≤ suc (made_count v)) [
       | inl g ↦ omega (arith, ap (λ (k : ℕ). (shape_at vs k).count) g, ap (λ h. h.count) turned_c, sound.small p.number, count)
       | inr g ↦ omega (arith, rest (λ h. h.count) (λ h q. refl) (λ h q. refl) (λ h q. refl) i e g, sound.small i, count)
@@ -172,8 +201,12 @@ module _ {T : Type 0} (s v : Store T) (root root' : Option Link) (p c : Link) (s
     weighed = subst (λ (xs : List Shape). IsWeighed xs) (sym is) weighed-now;
     ranked = subst (λ (xs : List Shape). IsRanked xs) (sym is) ranked-now;
     linked = subst (λ (xs : List Shape). IsLinked (tree_of xs)) (sym is) linked-now;
-    top = λ i h f. moves ∙ turned-top t u sound.counted sound.linked p.number c.number n (λ (k : ℕ). k < made_count s) (made-below s p made_p) (link_number root) (λ k hk e. sound.top k hk (unnumbered (shape_at ss k).parent e)) i (omega (arith, h, count)) (ap link_number (sym (ap (λ (xs : List Shape). (shape_at xs i).parent) is) ∙ f));
-    crown = λ i f. ap (λ (xs : List Shape). (shape_at xs i).parent) is ∙ unnumbered (shape_at vs i).parent (turned-crown t u sound.counted sound.linked p.number c.number n (link_number root) (λ k e. ap link_number (sound.crown k e)) i (sym moves ∙ f));
+    top = λ i h f. moves ∙ turned-top t u sound.counted sound.linked p.number c.number n (λ (k : ℕ). k < made_count s) (made-below s p made_p) (link_number root)
+        (λ k hk e. sound.top k hk (unnumbered (shape_at ss k).parent e)) i (omega (arith, h, count))
+        (ap link_number (sym (ap (λ (xs : List Shape). (shape_at xs i).parent) is) ∙ f));
+    crown = λ i f. ap (λ (xs : List Shape). (shape_at xs i).parent) is
+        ∙ unnumbered (shape_at vs i).parent
+        (turned-crown t u sound.counted sound.linked p.number c.number n (link_number root) (λ k e. ap link_number (sound.crown k e)) i (sym moves ∙ f));
     below = subst (λ (xs : List Shape). (i q : ℕ) → (tree_of xs).parent i ≡ Some q → ((tree_of xs).left q ≡ Some i) ⊎ ((tree_of xs).right q ≡ Some i)) (sym is) below-now;
     made_left = λ i m f. lefts-now i m (sym (ap (λ (xs : List Shape). (shape_at xs i).left) is) ∙ f);
     made_right = λ i m f. rights-now i m (sym (ap (λ (xs : List Shape). (shape_at xs i).right) is) ∙ f);
@@ -186,7 +219,8 @@ module _ {T : Type 0} (s v : Store T) (root root' : Option Link) (p c : Link) (s
   root-not-c e = none-some p.number (sym (ap link_number (sound.crown c.number e)) ∙ sound.linked.from_left p.number c.number was)
 
   pub order-turned : nodes_in_order v root' ≡ nodes_in_order s root
-  order-turned = ap (λ xs. all_nodes (tree_of xs) (link_number root')) is ∙ ap (all_nodes u) moves ∙ rotated-walk t u sound.counted counted-now sound.linked p.number c.number n.rotated (count_of t (link_number root)) (link_number root) (omega arith) root-not-c
+  order-turned = ap (λ xs. all_nodes (tree_of xs) (link_number root')) is ∙ ap (all_nodes u) moves
+      ∙ rotated-walk t u sound.counted counted-now sound.linked p.number c.number n.rotated (count_of t (link_number root)) (link_number root) (omega arith) root-not-c
 
   pub risen-left : IsLifted s v root root' p c
   risen-left = record {
@@ -194,6 +228,13 @@ module _ {T : Type 0} (s v : Store T) (root root' : Option Link) (p c : Link) (s
     same_order = order-turned;
     items = λ i. (ap (λ (xs : List Shape). (shape_at xs i).key) is ∙ key-kept i, ap (λ (xs : List Shape). (shape_at xs i).own) is ∙ own-kept i);
     taller = ap (λ (xs : List Shape). (shape_at xs c.number).count) is ∙ ap (λ h. h.count) turned_c;
-    lower = omega (arith, ap (λ (xs : List Shape). (shape_at xs p.number).count) is, ap (λ h. h.count) turned_p, sound.counted p.number, sound.counted c.number, ap (count_of t) was);
+    lower = omega (
+      arith,
+      ap (λ (xs : List Shape). (shape_at xs p.number).count) is,
+      ap (λ h. h.count) turned_p,
+      sound.counted p.number,
+      sound.counted c.number,
+      ap (count_of t) was,
+    );
     above = ap (λ (xs : List Shape). (shape_at xs c.number).parent) is ∙ ap (λ h. h.parent) turned_c;
   }

@@ -41,7 +41,8 @@ drop-next xs i = let one : i + 1 ≡ suc i = omega arith in ap (λ n. drop n xs)
 
 module _ {T : Type 0} (s : Store T) (root : Option Link) where
   -- the first node
-  pub next-first : HasRightLinks s root → made_count s < 4194305 → (l : Link) → AreMade s (Some l) → 0 < length (nodes_in_order s root) → get_or (nodes_in_order s root) 0 0 ≡ l.number → IsNext s root 0 (Some l)
+  pub next-first : HasRightLinks s root → made_count s < 4194305 → (l : Link) → AreMade s (Some l) → 0 < length (nodes_in_order s root)
+      → get_or (nodes_in_order s root) 0 0 ≡ l.number → IsNext s root 0 (Some l)
   next-first sound few l made h at = record { sound = sound; few = few; made = made; is = ap Some (sym at) ∙ sym (slice_get-get_or (nodes_in_order s root) 0 0 h) }
 
   pub next-none : HasRightLinks s root → made_count s < 4194305 → length (nodes_in_order s root) ≤ 0 → IsNext s root 0 None
@@ -68,12 +69,14 @@ module _ {T : Type 0} (s : Store T) (root : Option Link) where
           sound = n.sound;
           few = n.few;
           made = made;
-          is = f.next ∙ sym (behind-front f.front l.number f.back) ∙ sym (ap (λ xs. slice_get xs (suc (length f.front))) f.split) ∙ sym (ap (slice_get (nodes_in_order s root)) one);
+          is = f.next ∙ sym (behind-front f.front l.number f.back) ∙ sym (ap (λ xs. slice_get xs (suc (length f.front))) f.split)
+              ∙ sym (ap (slice_get (nodes_in_order s root)) one);
         }
 
     pub next-value : (v : T) → slice_get (values_of s) l.number ≡ Some v → option_map (λ x. x.1) (slice_get (drop passed (rope_items_of s root)) 0) ≡ Some v
     next-value v is =
-        ap (option_map (λ (x : Identifier × T). x.1)) (first-left (rope_items_of s root) passed ∙ items-item s (nodes_in_order s root) (all-made s root n.sound) passed v inside (ap (slice_get (values_of s)) at ∙ is))
+        ap (option_map (λ (x : Identifier × T). x.1))
+        (first-left (rope_items_of s root) passed ∙ items-item s (nodes_in_order s root) (all-made s root n.sound) passed v inside (ap (slice_get (values_of s)) at ∙ is))
 
   -- nothing is left
   pub none-left : (passed : ℕ) → IsNext s root passed None → drop passed (rope_items_of s root) ≡ []

@@ -11,18 +11,31 @@ use Rattle.node_rope.specs.Shapes.{HasRightLinks, shape_at, link_number, tree_of
 use Rattle.node_rope.specs.Walk.{count_of}
 use Rattle.node_rope.specs.Sides.{facing_shape}
 
--- the node of the link, if there is one, has another parent
+-- the shapes, where the node of the link, if there is one, has another parent
 abbrev pub with_parent : List Shape → Option Link → Option Link → List Shape
 with_parent ss None q = ss
 with_parent ss (Some l) q = slice_set ss l.number (record (shape_at ss l.number) { parent = q })
 
 -- the new node, which takes what was below at's side
 abbrev pub new_beside : Side → List Shape → Link → Identifier → Own → Shape
-new_beside d ss at key w = let o = (facing_shape d (shape_at ss at.number)).left in facing_shape d (record { key = key; left = o; right = None; parent = Some at; count = count_of (tree_of ss) (link_number o) + 1; weight = weight_at ss o + w.weight; least = min (least_at ss o) w.rank; own = w })
+new_beside d ss at key w = let o =
+    (facing_shape d (shape_at ss at.number)).left in
+    facing_shape d (record {
+      key = key;
+      left = o;
+      right = None;
+      parent = Some at;
+      count = count_of (tree_of ss) (link_number o) + 1;
+      weight = weight_at ss o + w.weight;
+      least = min (least_at ss o) w.rank;
+      own = w;
+    })
 
 -- the shapes after a new one came beside a node
 unfoldable pub joined_beside : Side → List Shape → Link → Link → Shape → List Shape
-joined_beside d ss at l h = slice_set (with_parent (ss ++ h ∷ []) (facing_shape d (shape_at ss at.number)).left (Some l)) at.number (facing_shape d (record (facing_shape d (shape_at ss at.number)) { left = Some l }))
+joined_beside d ss at l h =
+    slice_set (with_parent (ss ++ h ∷ []) (facing_shape d (shape_at ss at.number)).left (Some l)) at.number
+    (facing_shape d (record (facing_shape d (shape_at ss at.number)) { left = Some l }))
 
 -- the store u has one more node than s
 pub record IsGrown {T : Type 0} (s u : Store T) (root : Option Link) (key : Identifier) (w : Own) (value : T) (l : Link) : Type 0 where

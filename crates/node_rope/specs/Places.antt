@@ -39,4 +39,6 @@ module _ {T : Type 0} where
   -- the greatest key of the list that is not above this one
   abbrev pub IsFloor : List (Identifier × T) → Identifier → Option Identifier → Type 0
   IsFloor xs key None = (q : Identifier) → IsLeBy id_cmp q key → value_under q xs ≡ None
-  IsFloor xs key (Some k) = IsSome (value_under k xs) × IsLeBy id_cmp k key × ((q : Identifier) → IsLeBy id_cmp q key → IsSome (value_under q xs) → is_lt (id_cmp k q) ≡ false)
+  IsFloor xs key (Some k) =
+      IsSome (value_under k xs) × IsLeBy id_cmp k key
+      × ((q : Identifier) → IsLeBy id_cmp q key → IsSome (value_under q xs) → is_lt (id_cmp k q) ≡ false)

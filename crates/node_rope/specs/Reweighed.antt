@@ -13,7 +13,7 @@ pub record IsPlaced (g h : Shape) : Type 0 where
   pub parent : h.parent ≡ g.parent
   pub count : h.count ≡ g.count
 
--- each node is where it was, with sums of its own
+-- each node has the links and the count that it had; weights and ranks may differ
 abbrev pub AreReweighed : List Shape → List Shape → Type 0
 AreReweighed ss us = (i : ℕ) → IsPlaced (shape_at ss i) (shape_at us i)
 
@@ -35,11 +35,13 @@ SameOwns ss us = (i : ℕ) → (shape_at us i).own ≡ (shape_at ss i).own
 
 -- the weights, and the least ranks, are right but at o
 abbrev pub IsWeighedBut : List Shape → Option Link → Type 0
-IsWeighedBut ss o = (i : ℕ) → (link_number o ≡ Some i → ⊥) → (shape_at ss i).weight ≡ weight_at ss (shape_at ss i).left + ((shape_at ss i).own.weight + weight_at ss (shape_at ss i).right)
+IsWeighedBut ss o = (i : ℕ) → (link_number o ≡ Some i → ⊥)
+    → (shape_at ss i).weight ≡ weight_at ss (shape_at ss i).left + ((shape_at ss i).own.weight + weight_at ss (shape_at ss i).right)
 
 -- each node but one knows the least rank of its subtree
 abbrev pub IsRankedBut : List Shape → Option Link → Type 0
-IsRankedBut ss o = (i : ℕ) → (link_number o ≡ Some i → ⊥) → (shape_at ss i).least ≡ min (least_at ss (shape_at ss i).left) (min (shape_at ss i).own.rank (least_at ss (shape_at ss i).right))
+IsRankedBut ss o = (i : ℕ) → (link_number o ≡ Some i → ⊥)
+    → (shape_at ss i).least ≡ min (least_at ss (shape_at ss i).left) (min (shape_at ss i).own.rank (least_at ss (shape_at ss i).right))
 
 -- the nodes make one tree below root, and its weights and least ranks are right but at o
 pub record IsSoundBut {T : Type 0} (s : Store T) (root o : Option Link) : Type 0 where
@@ -60,8 +62,11 @@ pub record IsMended {T : Type 0} (old new : Store T) (root : Option Link) : Type
 
 -- the node l's weight lacks `more`, and has `less` too much. Its least rank is right
 pub record IsOff (ss : List Shape) (less more : ℕ) (l : Link) : Type 0 where
-  pub weight : (shape_at ss l.number).weight + more ≡ (weight_at ss (shape_at ss l.number).left + ((shape_at ss l.number).own.weight + weight_at ss (shape_at ss l.number).right)) + less
-  pub least : (shape_at ss l.number).least ≡ min (least_at ss (shape_at ss l.number).left) (min (shape_at ss l.number).own.rank (least_at ss (shape_at ss l.number).right))
+  pub weight : (shape_at ss l.number).weight
+      + more ≡ (weight_at ss (shape_at ss l.number).left + ((shape_at ss l.number).own.weight + weight_at ss (shape_at ss l.number).right))
+      + less
+  pub least : (shape_at ss l.number).least ≡ min (least_at ss (shape_at ss l.number).left)
+      (min (shape_at ss l.number).own.rank (least_at ss (shape_at ss l.number).right))
 
 -- the same of o, if it is a node
 abbrev pub AreOff : List Shape → ℕ → ℕ → Option Link → Type 0
@@ -69,7 +74,10 @@ AreOff ss less more o = (l : Link) → o ≡ Some l → IsOff ss less more l
 
 -- a node whose weight and least rank are those of what is below it
 abbrev pub summed_node : List Shape → Shape → Shape
-summed_node ss h = record h { weight = weight_at ss h.left + (h.own.weight + weight_at ss h.right); least = min (least_at ss h.left) (min h.own.rank (least_at ss h.right)) }
+summed_node ss h = record h {
+  weight = weight_at ss h.left + (h.own.weight + weight_at ss h.right);
+  least = min (least_at ss h.left) (min h.own.rank (least_at ss h.right));
+}
 
 -- a node whose weight gains `more` and loses `less`
 abbrev pub reweighed_node : ℕ → ℕ → Shape → Shape

@@ -18,7 +18,7 @@ pub record IsLikewise (g h : Shape) : Type 0 where
   pub key : h.key ≡ g.key
   pub own : h.own ≡ g.own
 
--- each node has the links that it had
+-- each node has the links, the key, the weight and the rank that it had
 abbrev pub SameLinks : List Shape → List Shape → Type 0
 SameLinks ss us = (i : ℕ) → IsLikewise (shape_at ss i) (shape_at us i)
 
@@ -39,7 +39,8 @@ more w h = record h { count = h.count + 1; weight = h.weight + w.weight; least =
 
 -- each shape is as before, or raised and then no greater than that at o, which is as before
 pub record IsRaised (ss us : List Shape) (w : Own) (o : Option Link) : Type 0 where
-  pub each : (i : ℕ) → (shape_at us i ≡ shape_at ss i) ⊎ ((shape_at us i ≡ more w (shape_at ss i)) × ((x : ℕ) → link_number o ≡ Some x → (shape_at us i).count ≤ (shape_at us x).count))
+  pub each : (i : ℕ) → (shape_at us i ≡ shape_at ss i)
+      ⊎ ((shape_at us i ≡ more w (shape_at ss i)) × ((x : ℕ) → link_number o ≡ Some x → (shape_at us i).count ≤ (shape_at us x).count))
   pub at : (x : ℕ) → link_number o ≡ Some x → shape_at us x ≡ shape_at ss x
 
 -- how far it is to the top

@@ -9,7 +9,16 @@ use Rattle.node_rope.specs.Sums.{sum_measure, lesser, no_rank, IsSummed, fold}
 
 -- what stands for a number past the last: a node alone
 abbrev pub lone_shape : Shape
-lone_shape = record { key = record { replica = 0; counter = 0 }; left = None; right = None; parent = None; count = 1; weight = 0; least = no_rank; own = record { weight = 0; rank = no_rank } }
+lone_shape = record {
+  key = record { replica = 0; counter = 0 };
+  left = None;
+  right = None;
+  parent = None;
+  count = 1;
+  weight = 0;
+  least = no_rank;
+  own = record { weight = 0; rank = no_rank };
+}
 
 -- the shape with this number
 abbrev pub shape_at : List Shape → ℕ → Shape
@@ -21,7 +30,12 @@ link_number = option_map (λ l. l.number)
 
 -- the tree of the shapes' links
 abbrev pub tree_of : List Shape → Tree
-tree_of ss = record { left = λ i. link_number (shape_at ss i).left; right = λ i. link_number (shape_at ss i).right; parent = λ i. link_number (shape_at ss i).parent; count = λ i. (shape_at ss i).count }
+tree_of ss = record {
+  left = λ i. link_number (shape_at ss i).left;
+  right = λ i. link_number (shape_at ss i).right;
+  parent = λ i. link_number (shape_at ss i).parent;
+  count = λ i. (shape_at ss i).count;
+}
 
 -- the weights of subtrees, and of single values
 abbrev pub weights : List Shape → ℕ → ℕ
@@ -77,7 +91,8 @@ pub record IsTree {T : Type 0} (s : Store T) (root : Option Link) (OfWeights OfR
   pub linked : IsLinked (tree_of (shapes_of s))
   pub top : (i : ℕ) → i < made_count s → (shape_at (shapes_of s) i).parent ≡ None → link_number root ≡ Some i
   pub crown : (i : ℕ) → link_number root ≡ Some i → (shape_at (shapes_of s) i).parent ≡ None
-  pub below : (i p : ℕ) → link_number (shape_at (shapes_of s) i).parent ≡ Some p → (link_number (shape_at (shapes_of s) p).left ≡ Some i) ⊎ (link_number (shape_at (shapes_of s) p).right ≡ Some i)
+  pub below : (i p : ℕ) → link_number (shape_at (shapes_of s) i).parent ≡ Some p
+      → (link_number (shape_at (shapes_of s) p).left ≡ Some i) ⊎ (link_number (shape_at (shapes_of s) p).right ≡ Some i)
   pub made_left : (i : ℕ) → AreMade s (shape_at (shapes_of s) i).left
   pub made_right : (i : ℕ) → AreMade s (shape_at (shapes_of s) i).right
   pub made_parent : (i : ℕ) → AreMade s (shape_at (shapes_of s) i).parent

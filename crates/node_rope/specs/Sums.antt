@@ -2,12 +2,12 @@
 use Rattle.std.specs.Prelude.{◌≡◌, ℕ, ◌+◌, min, List, [], ◌∷◌, Option, None, Some}
 use Rattle.node_rope.specs.Walk.{Tree}
 
--- what sums over subtrees are made of
+-- how values are summed over subtrees: the sum of none, and of two
 pub record Measure (M : Type 0) : Type 0 where
   pub none : M
   pub both : M → M → M
 
--- the sums are those of a monoid
+-- the sum of none is neutral on the left, and sums are associative
 pub record IsLawful {M : Type 0} (m : Measure M) : Type 0 where
   pub before : (a : M) → m.both m.none a ≡ a
   pub assoc : (a b c : M) → m.both (m.both a b) c ≡ m.both a (m.both b c)

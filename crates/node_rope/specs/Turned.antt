@@ -40,8 +40,18 @@ with_child ss (Some g) p c = slice_set ss g.number (with_swapped_child (shape_at
 -- the shapes with c, the child of p at the side, above it, and the node over p left as it was. Both are given as seen from there
 unfoldable pub lifted_shapes : Side → List Shape → Link → Link → Shape → Shape → List Shape
 lifted_shapes d ss p c above below =
-    slice_set (slice_set (with_parent ss below.right (Some p)) p.number (facing_shape d (record above { left = below.right; parent = Some c; count = (above.count - below.count) + tree_count_at ss below.right; weight = (above.weight - below.weight) + weight_at ss below.right; least = min (least_at ss below.right) (min above.own.rank (least_at ss above.right)) })))
-    c.number (facing_shape d (record below { right = Some p; parent = above.parent; count = above.count; weight = above.weight; least = above.least }))
+    slice_set (slice_set (with_parent ss below.right (Some p)) p.number
+    (facing_shape d (record above {
+      left = below.right;
+      parent = Some c;
+      count = (above.count - below.count) + tree_count_at ss below.right;
+      weight =
+          (above.weight - below.weight) + weight_at ss below.right;
+      least =
+          min (least_at ss below.right) (min above.own.rank (least_at ss above.right));
+    })))
+    c.number (facing_shape d
+    (record below { right = Some p; parent = above.parent; count = above.count; weight = above.weight; least = above.least }))
 
 -- each node keeps its key and what its value counts for
 abbrev pub SameItems : List Shape → List Shape → Type 0

@@ -26,7 +26,8 @@ LiftsAlike part whole = (x : Identifier) → IsHeld part x → holder (lift part
 section_alike : (part whole : List Op) (s : Identifier) → Within part whole → IsHeld part s → is_section part s ≡ is_section whole s
 section_alike part whole s f o = ap section_by (o.1 ∙ sym (f s o.0 o.1))
 
-stands_alike : (part whole : List Op) (o : Option Identifier) → LiftsAlike part whole → ((x : Identifier) → o ≡ Some x → IsHeld part x) → stands (lift part) o ≡ stands (lift whole) o
+stands_alike : (part whole : List Op) (o : Option Identifier) → LiftsAlike part whole → ((x : Identifier) → o ≡ Some x → IsHeld part x)
+    → stands (lift part) o ≡ stands (lift whole) o
 stands_alike part whole None l k = refl
 stands_alike part whole (Some x) l k = ap is_some (l x (k x refl))
 
@@ -38,7 +39,8 @@ valid_alike part whole m f l r =
     let b = stands_alike part whole m.value.right l r.right in
     λ i. s i && (a i && b i)
 
-lifted_alike : (part whole : List Op) (op : Op) → Within part whole → LiftsAlike part whole → All (Fits part) (names op) → lifted_of part (lift part) op ≡ lifted_of whole (lift whole) op
+lifted_alike : (part whole : List Op) (op : Op) → Within part whole → LiftsAlike part whole → All (Fits part) (names op)
+    → lifted_of part (lift part) op ≡ lifted_of whole (lift whole) op
 lifted_alike part whole (Section i l r t) f k all = refl
 lifted_alike part whole (Text i s l r c) f k all = refl
 lifted_alike part whole (Delete i) f k all = refl

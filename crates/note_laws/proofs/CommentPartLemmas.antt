@@ -47,7 +47,8 @@ pub shown_in_part : ShownInPart
 shown_in_part p part whole a b v w f m n =
     let xs : List Identifier = passage p part a b in
     filter-both (is_visible part) (is_visible whole) xs
-    ∙ filter-agree (λ x. is_visible part x && is_visible whole x) (is_visible whole) xs (all_from_contains (λ x. (is_visible part x && is_visible whole x) ≡ is_visible whole x) xs (λ x k. visible_in_part part whole x f))
+    ∙ filter-agree (λ x. is_visible part x && is_visible whole x) (is_visible whole) xs
+    (all_from_contains (λ x. (is_visible part x && is_visible whole x) ≡ is_visible whole x) xs (λ x k. visible_in_part part whole x f))
     ∙ ap (filter (is_visible whole)) (passage_in_part p part whole a b v w f m n)
     ∙ filter-swap (is_visible whole) (holds part) (passage p whole a b)
 

@@ -22,7 +22,7 @@ use Rattle.margin_notes.specs.Commenting.{clusters_of}
 use Rattle.margin_notes.specs.Comments.{Comment, by_id, comments_in, is_in_section, is_text_of}
 use Rattle.margin_notes.specs.Listing.{number_from}
 use Rattle.margin_notes.specs.Margins.{Span, comment_line, comment_lines, margin_span}
-use Rattle.margin_notes.specs.Placing.{PlacedComment, placed_from}
+use Rattle.margin_notes.specs.Placing.{PlacedComment, placed_comment}
 use Rattle.margin_notes.proofs.FilterLemmas.{filter-agree}
 use Rattle.margin_notes.proofs.MemberLemmas.{from_comments, listed_apart, to_comments}
 use Rattle.margin_notes.proofs.PassageLemmas.{both_parts, text_in}
@@ -80,18 +80,21 @@ module _ (a b : List Op) (v : Lawful a) (w : Lawful b) (same : SameOps a b) wher
       let A : Identifier → Identifier → Bool = before (within s) a in
       let B : Identifier → Identifier → Bool = before (within s) b in
       let xs : List Identifier = shown (within s) a in
-      let from = count_alike (λ x. A x c.first) (λ x. B x c.first) xs (All-weaker (IsIn (within s) a) (λ x. A x c.first ≡ B x c.first) (λ x m. r x c.first m k.first) xs (elements s)) in
+      let from = count_alike (λ x. A x c.first) (λ x. B x c.first) xs
+      (All-weaker (IsIn (within s) a) (λ x. A x c.first ≡ B x c.first) (λ x m. r x c.first m k.first) xs (elements s)) in
       let to =
       count_alike (λ x. id_eq x c.last || A x c.last) (λ x. id_eq x c.last || B x c.last) xs
-      (All-weaker (IsIn (within s) a) (λ x. (id_eq x c.last || A x c.last) ≡ (id_eq x c.last || B x c.last)) (λ x m. ap (λ t. id_eq x c.last || t) (r x c.last m k.last)) xs (elements s)) in
-      (λ i. record { from = from i; to = to i }) ∙ (λ i. record { from = count_by (λ x. B x c.first) (visible (within s) i); to = count_by (λ x. id_eq x c.last || B x c.last) (visible (within s) i) })
+      (All-weaker (IsIn (within s) a) (λ x. (id_eq x c.last || A x c.last) ≡ (id_eq x c.last || B x c.last)) (λ x m. ap (λ t. id_eq x c.last || t) (r x c.last m k.last)) xs
+      (elements s)) in
+      (λ i. record { from = from i; to = to i })
+      ∙ (λ i. record { from = count_by (λ x. B x c.first) (visible (within s) i); to = count_by (λ x. id_eq x c.last || B x c.last) (visible (within s) i) })
 
   -- a remark of the one is one of the other
   pub remark_over : (r : Remark) → IsRemark a r → IsRemark b r
   remark_over r i =
       let s : Identifier = r.section in
       let e : is_in_section a s i.comment ≡ true = (from_comments a s i.comment i.listed).in_section in
-      let here : placed_from a i.comment s ≡ placed_from b i.comment s =
+      let here : placed_comment a i.comment s ≡ placed_comment b i.comment s =
       ap (λ (q : Span). record { section = s; id = i.comment.id; from = q.from; to = q.to; text = i.comment.text }) (spans s i.comment e) in
       record {
         comment = i.comment;

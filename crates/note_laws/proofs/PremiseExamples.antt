@@ -95,4 +95,5 @@ no_letter law =
     let empty : List Op = Section a None None (codes "A") ∷ [] in
     let written : List Op = Text letter a None None 65 ∷ empty in
     let comment : Comment = record { id = id 1 2; first = letter; last = letter; text = codes "x" } in
-    true≢false (sym (law a comment (Note (id 1 2) (letter ∷ letter ∷ []) 3 (codes "x")) empty written (refl, tt) (refl, (refl, tt)) (part_at_end (Text letter a None None 65 ∷ []) empty) refl))
+    true≢false (sym (law a comment (Note (id 1 2) (letter ∷ letter ∷ []) 3 (codes "x")) empty written (refl, tt) (refl, (refl, tt))
+    (part_at_end (Text letter a None None 65 ∷ []) empty) refl))

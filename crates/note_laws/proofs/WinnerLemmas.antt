@@ -128,7 +128,8 @@ one_retitle h = one_claim retitle_in is_valid_title (λ e r k. (title_shape e r 
 
 pub heading_stays : HeadingStays
 heading_stays part whole s v w f is leaves =
-    let kept : (r : Retitle) → Contains (retitles part) r → Contains (retitles whole) r = λ r c. let i = retitle_said part r v c in (retitle_in_part part whole i.op r v w f i.there i.claims).0 c in
+    let kept : (r : Retitle) → Contains (retitles part) r
+    → Contains (retitles whole) r = λ r c. let i = retitle_said part r v c in (retitle_in_part part whole i.op r v w f i.there i.claims).0 c in
     let one : (c d : Retitle) → Contains (retitles whole) c → Contains (retitles whole) d → c.id ≡ d.id → c ≡ d = λ c d. one_retitle whole c d w in
     let a = (winners part s v).1 in
     let b = (winners whole s w).1 in
@@ -164,11 +165,13 @@ later_position new h s w passes =
     let v : Lawful h = Lawful-append new h w in
     let f : IsPartOf h (new ++ h) = part_at_end new h in
     position_stays h (new ++ h) s v w f
-    (leaves_winner move_in new h s (moves h) (moves (new ++ h)) (winners h s v).0 (λ m c. move_said (new ++ h) m w c) (λ op m k e. (move_in_part h (new ++ h) op m v w f k e).1) passes)
+    (leaves_winner move_in new h s (moves h) (moves (new ++ h)) (winners h s v).0 (λ m c. move_said (new ++ h) m w c)
+    (λ op m k e. (move_in_part h (new ++ h) op m v w f k e).1) passes)
 
 pub later_heading : LaterOpsLeaveHeading
 later_heading new h s w is passes =
     let v : Lawful h = Lawful-append new h w in
     let f : IsPartOf h (new ++ h) = part_at_end new h in
     heading_stays h (new ++ h) s v w f is
-    (leaves_winner retitle_in new h s (retitles h) (retitles (new ++ h)) (winners h s v).1 (λ r c. retitle_said (new ++ h) r w c) (λ op r k e. (retitle_in_part h (new ++ h) op r v w f k e).1) passes)
+    (leaves_winner retitle_in new h s (retitles h) (retitles (new ++ h)) (winners h s v).1 (λ r c. retitle_said (new ++ h) r w c)
+    (λ op r k e. (retitle_in_part h (new ++ h) op r v w f k e).1) passes)

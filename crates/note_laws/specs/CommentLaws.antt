@@ -1,4 +1,5 @@
--- Laws of comments: by the set of the operations; in a lawful part of a history, as an older state of a file is, or another author's file that was merged; and by sections.
+-- Laws of comments: by the set of the operations; in a lawful part of a history, as an older state of a file is, or
+-- another author's file that was merged; and by sections.
 use Rattle.std.specs.Prelude.{◌≡◌, ◌↔◌, Some, Bool, true, false, not, List, filter}
 use Rattle.std.specs.List.{Contains}
 use Rattle.fugue_ids.specs.Identifiers.{Identifier}
@@ -17,7 +18,8 @@ use Rattle.passage_remarks.specs.Remarks.{remarks, remarks_text}
 pub record HasSameComments (a b : List Op) : Type 0 where
   pub same_sections : (s : Identifier) (c : Comment) → is_in_section a s c ≡ is_in_section b s c
   pub same_comments : (s : Identifier) → by_id (comments_in a s) ≡ by_id (comments_in b s)
-  pub same_spans : (s : Identifier) (c : Comment) → is_in_section a s c ≡ true → margin_span a s c.first c.last ≡ margin_span b s c.first c.last
+  pub same_spans : (s : Identifier) (c : Comment) → is_in_section a s c ≡ true
+      → margin_span a s c.first c.last ≡ margin_span b s c.first c.last
   pub same_margins : margins a ≡ margins b
   pub same_remarks : remarks a ≡ remarks b
   pub same_text : remarks_text a ≡ remarks_text b
@@ -40,7 +42,8 @@ is_visible h x = not (is_hidden h x)
 abbrev pub ShownInPart : Type 0
 ShownInPart =
     (p : Place) (part whole : List Op) (a b : Identifier) → Lawful part → Lawful whole → IsPartOf part whole → IsIn p part a → IsIn p part b
-    → filter (is_visible whole) (filter (is_visible part) (passage p part a b)) ≡ filter (holds part) (filter (is_visible whole) (passage p whole a b))
+    → filter (is_visible whole) (filter (is_visible part) (passage p part a b)) ≡ filter (holds part)
+    (filter (is_visible whole) (passage p whole a b))
 
 -- a comment of a part is one of a section there exactly where it is one in the whole
 abbrev pub CommentInPart : Type 0

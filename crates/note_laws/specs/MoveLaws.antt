@@ -17,13 +17,15 @@ use Rattle.catalogue_notes.specs.Lift.{is_section, moves, retitles}
 -- an operation of a part makes a valid move there exactly where it makes one in the whole
 abbrev pub MoveInPart : Type 0
 MoveInPart =
-    (part whole : List Op) (op : Op) (m : Move) → Lawful part → Lawful whole → IsPartOf part whole → has_op part op ≡ true → move_in op ≡ Some m
+    (part whole : List Op) (op : Op) (m : Move) → Lawful part → Lawful whole → IsPartOf part whole → has_op part op ≡ true
+    → move_in op ≡ Some m
     → Contains (moves part) m ↔ Contains (moves whole) m
 
 -- and a valid retitle
 abbrev pub RetitleInPart : Type 0
 RetitleInPart =
-    (part whole : List Op) (op : Op) (r : Retitle) → Lawful part → Lawful whole → IsPartOf part whole → has_op part op ≡ true → retitle_in op ≡ Some r
+    (part whole : List Op) (op : Op) (r : Retitle) → Lawful part → Lawful whole → IsPartOf part whole → has_op part op ≡ true
+    → retitle_in op ≡ Some r
     → Contains (retitles part) r ↔ Contains (retitles whole) r
 
 -- of the valid claims on the section the whole has none that the part lacks, and the one that wins in the part is not withdrawn
@@ -68,7 +70,8 @@ LaterOpsLeavePosition =
 -- and the heading
 abbrev pub LaterOpsLeaveHeading : Type 0
 LaterOpsLeaveHeading =
-    (new h : List Op) (s : Identifier) → Lawful (new ++ h) → is_section h s ≡ true → PassesBy retitle_in new h s (retitles h) (retitles (new ++ h))
+    (new h : List Op) (s : Identifier) → Lawful (new ++ h) → is_section h s ≡ true
+    → PassesBy retitle_in new h s (retitles h) (retitles (new ++ h))
     → heading (new ++ h) s ≡ heading h s
 
 -- s stands before t in the arrangement
@@ -78,7 +81,8 @@ stands_before h s t = nat_lt (index_of (arranged h) s) (index_of (arranged h) t)
 -- sections of this kind stand in the part in the order in which they stand in the whole: any two of them, and any set of them as a list
 pub record StandInOneOrder (part whole : List Op) (IsOfKind : Identifier → Type 0) : Type 0 where
   pub two : (s t : Identifier) → IsOfKind s → IsOfKind t → stands_before part s t ≡ stands_before whole s t
-  pub listed : (chosen : Identifier → Bool) → ((s : Identifier) → chosen s ≡ true → IsOfKind s) → filter chosen (arranged part) ≡ filter chosen (arranged whole)
+  pub listed : (chosen : Identifier → Bool) → ((s : Identifier) → chosen s ≡ true → IsOfKind s)
+      → filter chosen (arranged part) ≡ filter chosen (arranged whole)
 
 -- the section is shown in both, at one position
 pub record HasOnePosition (part whole : List Op) (s : Identifier) : Type 0 where
@@ -86,9 +90,10 @@ pub record HasOnePosition (part whole : List Op) (s : Identifier) : Type 0 where
   pub in_whole : Contains (shown catalogue whole) s
   pub same_position : position whole s ≡ position part s
 
--- sections that no move concerns keep their order in what came later
+-- sections that are shown at one position in a part and in the whole keep their order
 abbrev pub PositionsKeepOrder : Type 0
-PositionsKeepOrder = (part whole : List Op) → Lawful part → Lawful whole → IsPartOf part whole → StandInOneOrder part whole (HasOnePosition part whole)
+PositionsKeepOrder = (part whole : List Op) → Lawful part → Lawful whole → IsPartOf part whole
+    → StandInOneOrder part whole (HasOnePosition part whole)
 
 -- the section is shown in both, and nobody moved it
 pub record IsUnmoved (part whole : List Op) (s : Identifier) : Type 0 where

@@ -1,4 +1,5 @@
--- Why each of the four sentences is there: without it, a second order meets the others in a history of two or four letters, which honest editors make.
+-- Why each of the four sentences is there: without it, a second order meets the others in a history of two or four
+-- letters, which honest editors make.
 use Rattle.std.proofs.Common.{List, [], ap, arith, false, inl, inr, not, refl, subst, sym, true, ◌∙◌, ◌∷◌, ◌≡◌, ◌≢◌, ◌⊎◌}
 use Rattle.std.specs.Prelude.{None, Option, Some, codes}
 use Rattle.std.specs.List.{Contains}
@@ -188,7 +189,8 @@ some_same : (a b : Identifier) → Some a ≡ Some b → a ≡ b
 some_same a b e = cc e
 
 -- what holds of four holds of each element
-each_of_four : (h : List Op) (x y z v : Identifier) (P : Identifier → Type 0) → Lawful h → order p h ≡ x ∷ y ∷ z ∷ v ∷ [] → P x → P y → P z → P v → (e : Identifier) → IsIn p h e → P e
+each_of_four : (h : List Op) (x y z v : Identifier) (P : Identifier → Type 0) → Lawful h → order p h ≡ x ∷ y ∷ z ∷ v ∷ [] → P x → P y → P z → P v → (e : Identifier) → IsIn p h e
+    → P e
 each_of_four h x y z v P w o k j i l e m =
     elim (contains_cases x (y ∷ z ∷ v ∷ []) e (subst (λ l. Contains l e) o (((order_total p h w).lists e).0 m))) [
       | inl d ↦ subst P d k
@@ -201,7 +203,8 @@ each_of_four h x y z v P w o k j i l e m =
 abbrev d : Identifier
 d = id_at 4 0
 
--- a and d know nothing of each other; b was put between them, and c behind a where d was not yet: without the fourth sentence b may stand before c
+-- a and d know nothing of each other; b was put between them, and c behind a where d was not yet: without the fourth
+-- sentence b may stand before c
 needs_later_right_first : ((h : List Op) (R : Relation) → Lawful h → Strict h R → Together h R → BeforeRight h R → ByIdentifier h R → Agrees h R) → ⊥
 unfolding before order chain verdict
 needs_later_right_first law =

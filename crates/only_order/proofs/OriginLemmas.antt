@@ -15,7 +15,8 @@ use Rattle.only_order.specs.Chains.{ByChains, IsOrderByChains}
 use Rattle.only_order.proofs.HeldLemmas.{is_sibling, left_held, right_held, right_sibling, rights_above, sibling_is}
 
 -- how a list with the last member e is split behind c
-split_end : (xs c : List Identifier) (e u : Identifier) (more : List Identifier) → xs ++ e ∷ [] ≡ c ++ u ∷ more → (rest : List Identifier) × (xs ≡ c ++ rest) × (u ∷ more ≡ rest ++ e ∷ [])
+split_end : (xs c : List Identifier) (e u : Identifier) (more : List Identifier) → xs ++ e ∷ [] ≡ c ++ u ∷ more
+    → (rest : List Identifier) × (xs ≡ c ++ rest) × (u ∷ more ≡ rest ++ e ∷ [])
 split_end xs [] e u more h = (xs, refl, sym h)
 split_end [] (y ∷ c) e u more h = absurd (not_nil c u more (cc h))
 split_end (x ∷ xs) (y ∷ c) e u more h =
@@ -85,21 +86,25 @@ module _ (p : Place) (h : List Op) (w : Lawful h) where
   -- the chain of left origins is passed by what hangs on its element
   lefts_passed : (x e : Identifier) → IsIn p h e → HangsOn h x e → Passes (lefts h x) (lefts h e)
   lefts_passed x e n g =
-      passed (IsHeld h) (IsLeft h) (lefts h) (λ y e k q. left_held h w e y k q) (left_longer h w) (left_decided h w) (chain-ends next_left h) (same_chain next_left h) x e g.0 (IsIn-held p h e n) g.1
+      passed (IsHeld h) (IsLeft h) (lefts h) (λ y e k q. left_held h w e y k q) (left_longer h w) (left_decided h w) (chain-ends next_left h) (same_chain next_left h) x e g.0
+      (IsIn-held p h e n) g.1
 
   -- and by nothing else
   hangs_on : (x e : Identifier) → IsIn p h x → IsIn p h e → Passes (lefts h x) (lefts h e) → HangsOn h x e
   hangs_on x e m n =
-      goes_up (IsHeld h) (IsLeft h) (lefts h) (λ y e k q. left_held h w e y k q) (left_longer h w) (left_decided h w) (chain-ends next_left h) (same_chain next_left h) x e (IsIn-held p h x m) (IsIn-held p h e n)
+      goes_up (IsHeld h) (IsLeft h) (lefts h) (λ y e k q. left_held h w e y k q) (left_longer h w) (left_decided h w) (chain-ends next_left h) (same_chain next_left h) x e
+      (IsIn-held p h x m) (IsIn-held p h e n)
 
   -- the chain of right origins is passed by what was put before its element
   rights_passed : (r u : Identifier) → IsIn p h u → WasPutBefore h r u → Passes (rights h r) (rights h u)
   rights_passed r u n g =
-      passed (IsHeld h) (IsRightSibling h) (rights h) (λ y e k q. right_held h w e y k q.0) (right_longer h w) (right_decided h w) (chain-ends next_right h) (same_chain next_right h) r u g.0 (IsIn-held p h u n) g.1
+      passed (IsHeld h) (IsRightSibling h) (rights h) (λ y e k q. right_held h w e y k q.0) (right_longer h w) (right_decided h w) (chain-ends next_right h)
+      (same_chain next_right h) r u g.0 (IsIn-held p h u n) g.1
 
   put_before : (r u : Identifier) → IsIn p h r → IsIn p h u → Passes (rights h r) (rights h u) → WasPutBefore h r u
   put_before r u m n =
-      goes_up (IsHeld h) (IsRightSibling h) (rights h) (λ y e k q. right_held h w e y k q.0) (right_longer h w) (right_decided h w) (chain-ends next_right h) (same_chain next_right h) r u (IsIn-held p h r m) (IsIn-held p h u n)
+      goes_up (IsHeld h) (IsRightSibling h) (rights h) (λ y e k q. right_held h w e y k q.0) (right_longer h w) (right_decided h w) (chain-ends next_right h)
+      (same_chain next_right h) r u (IsIn-held p h r m) (IsIn-held p h u n)
 
   -- what was put before r has its left origin
   put_left : (r u : Identifier) (way : List Identifier) → LeadsUp (IsRightSibling h) r u way → left_at h u ≡ left_at h r

@@ -13,7 +13,8 @@ use Rattle.origin_model.specs.operations.Verdict.{Lawful}
 use Rattle.origin_model.specs.order.Laws.{IsIn}
 use Rattle.origin_model.specs.edits.Passages.{Relation}
 use Rattle.origin_model.specs.order.Order.{left_at, lefts, next_left, next_right, older_of, right_at, rights}
-use Rattle.origin_model.proofs.SharedLemmas.{beside_is, chain_above, further, IsHeld, IsIn-held, IsIn-within, lefts-above, lefts-in, lefts-prefix, lefts-within, never_none, right_at_in, right_by, rights-in, rights-prefix, rights-within, same_chain, Within}
+use Rattle.origin_model.proofs.SharedLemmas.{beside_is, chain_above, further, IsHeld, IsIn-held, IsIn-within, lefts-above, lefts-in, lefts-prefix, lefts-within, never_none}
+use Rattle.origin_model.proofs.SharedLemmas.{right_at_in, right_by, rights-in, rights-prefix, rights-within, same_chain, Within}
 use Rattle.only_order.proofs.HeldLemmas.{right_sibling, left_held, alone_from, rights_above, sibling_held}
 use Rattle.only_order.specs.TextOrder.{OriginIsLater}
 use Rattle.only_order.specs.Chains.{IsOrderByChains}
@@ -31,7 +32,8 @@ moved p h older a b e x f (always v g) = always v (λ R t. f R t ∙ g R t)
 moved p h older a b e x f (rests q r m n g) = rests q r m n (λ R t. f R t ∙ g R t)
 
 -- the chain above tells what it belongs to
-above_once : (next : List Op → Op → Option Identifier) (h : List Op) (o q : Option Identifier) → ((y : Identifier) → o ≡ Some y → IsHeld h y) → ((y : Identifier) → q ≡ Some y → IsHeld h y)
+above_once : (next : List Op → Op → Option Identifier) (h : List Op) (o q : Option Identifier) → ((y : Identifier) → o ≡ Some y → IsHeld h y)
+    → ((y : Identifier) → q ≡ Some y → IsHeld h y)
     → chain_above next h o ≡ chain_above next h q → o ≡ q
 above_once next h None None a b e = refl
 above_once next h None (Some y) a b e = absurd (never_none next h y (b y refl) (sym e))
@@ -47,11 +49,13 @@ module _ (p : Place) (h : List Op) (w : Lawful h) where
       above_once next_left h (left_at h a) (left_at h b) (λ y. left_held h w a y (IsIn-held p h a m)) (λ y. left_held h w b y (IsIn-held p h b n)) (above a m q ∙ sym (above b n r))
 
   -- elements behind one front of their chains of right origins have the same one
-  same_beside : (c d : Identifier) (front : List Identifier) → IsIn p h c → IsIn p h d → rights h c ≡ front ++ c ∷ [] → rights h d ≡ front ++ d ∷ [] → right_sibling h c ≡ right_sibling h d
+  same_beside : (c d : Identifier) (front : List Identifier) → IsIn p h c → IsIn p h d → rights h c ≡ front ++ c ∷ [] → rights h d ≡ front ++ d ∷ []
+      → right_sibling h c ≡ right_sibling h d
   same_beside c d front m n q r =
       let above : (x : Identifier) → IsIn p h x → rights h x ≡ front ++ x ∷ [] → chain_above next_right h (right_sibling h x) ≡ front = λ x k e.
       (same_from_push (chain_above next_right h (right_sibling h x)) front x x (sym (rights_above h w x (IsIn-held p h x k)) ∙ e)).0 in
-      above_once next_right h (right_sibling h c) (right_sibling h d) (λ y. sibling_held h w c y (IsIn-held p h c m)) (λ y. sibling_held h w d y (IsIn-held p h d n)) (above c m q ∙ sym (above d n r))
+      above_once next_right h (right_sibling h c) (right_sibling h d) (λ y. sibling_held h w c y (IsIn-held p h c m)) (λ y. sibling_held h w d y (IsIn-held p h d n))
+      (above c m q ∙ sym (above d n r))
 
   -- the right origin that stands later, by the right origins
   later_by : (R : Relation) (c d : Identifier) (o q : Option Identifier) → right_at h c ≡ o → right_at h d ≡ q → OriginIsLater R o q → OriginIsLater R (right_at h c) (right_at h d)
@@ -95,10 +99,19 @@ module _ (p : Place) (h : List Op) (w : Lawful h) where
       module _ (nc : right_sibling h c ≡ None) (nd : right_sibling h d ≡ None) where
         -- the one whose right origin stands later goes first
         first_later : (R : Relation) → IsOrderByChains p h R → OriginIsLater R (right_at h c) (right_at h d) → R c d ≡ true
-        first_later R t k = t.later_right_first c d (record { first = whole c mc; second = whole d md; same_left = left; alone_x = alone_from h w c (held c mc) nc; alone_y = alone_from h w d (held d md) nd; later = k })
+        first_later R t k = t.later_right_first c d
+            (record { first = whole c mc; second = whole d md; same_left = left; alone_x = alone_from h w c (held c mc) nc; alone_y = alone_from h w d (held d md) nd; later = k })
 
         second_later : (R : Relation) → IsOrderByChains p h R → OriginIsLater R (right_at h d) (right_at h c) → R d c ≡ true
-        second_later R t k = t.later_right_first d c (record { first = whole d md; second = whole c mc; same_left = sym left; alone_x = alone_from h w d (held d md) nd; alone_y = alone_from h w c (held c mc) nc; later = k })
+        second_later R t k = t.later_right_first d c
+            (record {
+              first = whole d md;
+              second = whole c mc;
+              same_left = sym left;
+              alone_x = alone_from h w d (held d md) nd;
+              alone_y = alone_from h w c (held c mc) nc;
+              later = k;
+            })
 
         -- so the right origins decide
         outside : Outcome p h (older_of g) c d

@@ -13,7 +13,8 @@ use Rattle.origin_model.specs.edits.Passages.{Relation}
 use Rattle.origin_model.specs.order.Order.{chain_before, fork_before, left_at, lefts, next_left, next_right, older_of, order, right_at, rights, sibling}
 unfoldable use Rattle.origin_model.specs.order.Order.{before}
 unfoldable use Rattle.origin_model.specs.order.Printed.{manuscript}
-use Rattle.origin_model.proofs.SharedLemmas.{IsIn-held, Ordered-agree, Within, Within-append, before_at, before_at-older, chain_above, chain_before-fork, common, fork-by, lefts-above, member_lt, order_total, origin_before, right_at_held, same_ordered}
+use Rattle.origin_model.proofs.SharedLemmas.{IsIn-held, Ordered-agree, Within, Within-append, before_at, before_at-older, chain_above, chain_before-fork, common, fork-by}
+use Rattle.origin_model.proofs.SharedLemmas.{lefts-above, member_lt, order_total, origin_before, right_at_held, same_ordered}
 use Rattle.origin_model.proofs.edits.PassageLemmas.{before_right, by_identifier, together}
 use Rattle.only_order.specs.TextOrder.{HasLaterRight, OriginIsLater, IsText, OneOrder, OnlyList, OnlyOrder, stands_earlier}
 use Rattle.fugue_ids.proofs.ListLemmas.{all_from_contains}
@@ -42,7 +43,8 @@ module _ (p : Place) (h : List Op) (w : Lawful h) where
       true≢false (sym k ∙ ap (before p h b) c ∙ (order_total p h w).irreflexive b)
 
   -- the right origin that stands later does so in the older order
-  later_older : (x y : Identifier) (o q : Option Identifier) → right_at h x ≡ o → right_at h y ≡ q → OriginIsLater (before p h) o q → origin_before (before_at p (older_of h)) q o ≡ true
+  later_older : (x y : Identifier) (o q : Option Identifier) → right_at h x ≡ o → right_at h y ≡ q → OriginIsLater (before p h) o q
+      → origin_before (before_at p (older_of h)) q o ≡ true
   later_older x y o None e f k = absurd k
   later_older x y None (Some b) e f k = refl
   later_older x y (Some a) (Some b) e f k =

@@ -1,4 +1,5 @@
--- The order of a place told by four sentences, which speak of origins and identifiers alone: a relation that meets them is a text order, and there is exactly one.
+-- The order of a place told by four sentences, which speak of origins and identifiers alone: a relation that meets them
+-- is a text order, and there is exactly one.
 use Rattle.std.specs.Prelude.{◌≡◌, ◌≢◌, ◌↔◌, Option, Some, None, true, false, not, List, [], ◌∷◌, nat_lt}
 use Rattle.std.specs.List.{AllPairs, Contains}
 use Rattle.fugue_ids.specs.Identifiers.{Identifier, id_lt}
@@ -84,7 +85,8 @@ OneOrder = (p : Place) (h : List Op) → Lawful h → IsTextOrder p h (before p 
 
 -- and there is no other: every text order agrees with it on all elements
 abbrev pub OnlyOrder : Type 0
-OnlyOrder = (p : Place) (h : List Op) (R : Relation) → Lawful h → IsTextOrder p h R → (x y : Identifier) → IsIn p h x → IsIn p h y → R x y ≡ before p h x y
+OnlyOrder = (p : Place) (h : List Op) (R : Relation) → Lawful h → IsTextOrder p h R → (x y : Identifier) → IsIn p h x → IsIn p h y
+    → R x y ≡ before p h x y
 
 -- x stands earlier in the list than y
 abbrev pub stands_earlier : List Identifier → Relation

@@ -1,5 +1,6 @@
 -- Bytes that begin a character, and how many it has.
-use Rattle.std.proofs.Common.{◌≡◌, ◌≢◌, ℕ, ◌+◌, ◌-◌, ◌*◌, ◌/◌, ◌<◌, ◌≤◌, Bool, true, false, cond, List, [], ◌∷◌, ◌++◌, length, get_or, refl, ap, sym, subst, ◌∙◌, ◌⊎◌, inl, inr, arith, length-append}
+use Rattle.std.proofs.Common.{◌≡◌, ◌≢◌, ℕ, ◌+◌, ◌-◌, ◌*◌, ◌/◌, ◌<◌, ◌≤◌, Bool, true, false, cond, List, [], ◌∷◌, ◌++◌, length, get_or, refl, ap, sym, subst, ◌∙◌, ◌⊎◌, inl, inr}
+use Rattle.std.proofs.Common.{arith, length-append}
 use Rattle.std.specs.Prelude.{Option, Some, None, MatchBool}
 use Rattle.std.specs.Char.{IsScalar, encode_utf8}
 use Rattle.std.specs.Int.{IsInRange, IsOutOfRange, is_in_range}
@@ -126,12 +127,40 @@ goes_on_one : (a : ℕ) → 194 ≤ a → a ≤ 244 → GoesOn (a ∷ [])
 goes_on_one a l h = by_length (order a 224) (order a 240)
   where
     by_three : a ≡ 224 ⊎ a ≢ 224 → 224 ≤ a → a < 240 → GoesOn (a ∷ [])
-    by_three (inl is) p q = record { more = 160 ∷ 128 ∷ []; whole = spells3 a 160 128 p q (omega arith) (omega arith) (omega arith) (omega arith) (λ e. omega arith) (λ e. omega arith); lacks = omega arith; no_line_end = refl; long = sym (width_three a p q) }
-    by_three (inr not) p q = record { more = 128 ∷ 128 ∷ []; whole = spells3 a 128 128 p q (omega arith) (omega arith) (omega arith) (omega arith) (λ e. absurd (not e)) (λ e. omega arith); lacks = omega arith; no_line_end = refl; long = sym (width_three a p q) }
+    by_three (inl is) p q =
+        record {
+          more = 160 ∷ 128 ∷ [];
+          whole = spells3 a 160 128 p q (omega arith) (omega arith) (omega arith) (omega arith) (λ e. omega arith) (λ e. omega arith);
+          lacks = omega arith;
+          no_line_end = refl;
+          long = sym (width_three a p q);
+        }
+    by_three (inr not) p q =
+        record {
+          more = 128 ∷ 128 ∷ [];
+          whole = spells3 a 128 128 p q (omega arith) (omega arith) (omega arith) (omega arith) (λ e. absurd (not e)) (λ e. omega arith);
+          lacks = omega arith;
+          no_line_end = refl;
+          long = sym (width_three a p q);
+        }
 
     by_four : a ≡ 240 ⊎ a ≢ 240 → 240 ≤ a → GoesOn (a ∷ [])
-    by_four (inl is) p = record { more = 144 ∷ 128 ∷ 128 ∷ []; whole = spells4 a 144 128 128 p h (omega arith) (omega arith) (omega arith) (omega arith) (omega arith) (omega arith) (λ e. omega arith) (λ e. omega arith); lacks = omega arith; no_line_end = refl; long = sym (width_four a p) }
-    by_four (inr not) p = record { more = 128 ∷ 128 ∷ 128 ∷ []; whole = spells4 a 128 128 128 p h (omega arith) (omega arith) (omega arith) (omega arith) (omega arith) (omega arith) (λ e. absurd (not e)) (λ e. omega arith); lacks = omega arith; no_line_end = refl; long = sym (width_four a p) }
+    by_four (inl is) p = record {
+      more = 144 ∷ 128 ∷ 128 ∷ [];
+      whole = spells4 a 144 128 128 p h (omega arith) (omega arith) (omega arith) (omega arith) (omega arith) (omega arith) (λ e. omega arith) (λ e. omega arith);
+      lacks =
+          omega arith;
+      no_line_end = refl;
+      long = sym (width_four a p);
+    }
+    by_four (inr not) p = record {
+      more = 128 ∷ 128 ∷ 128 ∷ [];
+      whole = spells4 a 128 128 128 p h (omega arith) (omega arith) (omega arith) (omega arith) (omega arith) (omega arith) (λ e. absurd (not e)) (λ e. omega arith);
+      lacks =
+          omega arith;
+      no_line_end = refl;
+      long = sym (width_four a p);
+    }
 
     by_length : (a < 224) ⊎ (224 ≤ a) → (a < 240) ⊎ (240 ≤ a) → GoesOn (a ∷ [])
     by_length (inl p) _ = record { more = 128 ∷ []; whole = spells2 a 128 l p (omega arith) (omega arith); lacks = omega arith; no_line_end = refl; long = sym (width_two a p) }
@@ -162,8 +191,23 @@ goes_on_two a b l h second none = by_length (order a 224) (order a 240)
   where
     by_length : (a < 224) ⊎ (224 ≤ a) → (a < 240) ⊎ (240 ≤ a) → GoesOn (a ∷ b ∷ [])
     by_length (inl p) _ = absurd (none [] (a ∷ b ∷ []) (spells2 a b l p second.low second.high) refl)
-    by_length (inr p) (inl q) = record { more = 128 ∷ []; whole = spells3 a b 128 p q second.low second.high (omega arith) (omega arith) second.after_224 second.after_237; lacks = omega arith; no_line_end = refl; long = sym (width_three a p q) }
-    by_length (inr p) (inr q) = record { more = 128 ∷ 128 ∷ []; whole = spells4 a b 128 128 q h second.low second.high (omega arith) (omega arith) (omega arith) (omega arith) second.after_240 second.after_244; lacks = omega arith; no_line_end = refl; long = sym (width_four a q) }
+    by_length (inr p) (inl q) =
+        record {
+          more = 128 ∷ [];
+          whole = spells3 a b 128 p q second.low second.high (omega arith) (omega arith) second.after_224 second.after_237;
+          lacks = omega arith;
+          no_line_end = refl;
+          long = sym (width_three a p q);
+        }
+    by_length (inr p) (inr q) =
+        record {
+          more = 128 ∷ 128 ∷ [];
+          whole = spells4 a b 128 128 q h second.low second.high (omega arith) (omega arith) (omega arith)
+              (omega arith) second.after_240 second.after_244;
+          lacks = omega arith;
+          no_line_end = refl;
+          long = sym (width_four a q);
+        }
 
 goes_on_three : (a b d : ℕ) → 194 ≤ a → a ≤ 244 → IsSecond a b → 128 ≤ d → d ≤ 191 → NoCharacter (a ∷ b ∷ d ∷ []) → GoesOn (a ∷ b ∷ d ∷ [])
 goes_on_three a b d l h second r s none = by_length (order a 224) (order a 240)
@@ -171,7 +215,14 @@ goes_on_three a b d l h second r s none = by_length (order a 224) (order a 240)
     by_length : (a < 224) ⊎ (224 ≤ a) → (a < 240) ⊎ (240 ≤ a) → GoesOn (a ∷ b ∷ d ∷ [])
     by_length (inl p) _ = absurd (none (d ∷ []) (a ∷ b ∷ []) (spells2 a b l p second.low second.high) refl)
     by_length (inr p) (inl q) = absurd (none [] (a ∷ b ∷ d ∷ []) (spells3 a b d p q second.low second.high r s second.after_224 second.after_237) refl)
-    by_length (inr p) (inr q) = record { more = 128 ∷ []; whole = spells4 a b d 128 q h second.low second.high r s (omega arith) (omega arith) second.after_240 second.after_244; lacks = omega arith; no_line_end = refl; long = sym (width_four a q) }
+    by_length (inr p) (inr q) =
+        record {
+          more = 128 ∷ [];
+          whole = spells4 a b d 128 q h second.low second.high r s (omega arith) (omega arith) second.after_240 second.after_244;
+          lacks = omega arith;
+          no_line_end = refl;
+          long = sym (width_four a q);
+        }
 
 -- bytes that are cut within a character begin one
 pub goes_on : (bytes : List ℕ) → 0 < length bytes → length bytes < 4 → utf8_error_len bytes ≡ None → NoCharacter bytes → GoesOn bytes
@@ -226,13 +277,17 @@ cut_two c (x ∷ []) more l h some lacks is =
 cut_two c (x ∷ y ∷ bytes) more l h some lacks is = absurd (omega (arith, lacks, ap length (sym (two c l h) ∙ is), length-append bytes more))
 
 second_of_three : (c x y : ℕ) → (c < 55296) ⊎ ((57344 ≤ c) × (c < 1114112)) → 2048 ≤ c → c < 65536 → 224 + c / 4096 ≡ x → next (c / 64) ≡ y → IsSecond x y
-second_of_three c x y (inl s) l h e f = record { low = omega arith; high = omega arith; after_224 = λ is. omega arith; after_240 = λ is. omega arith; after_237 = λ is. omega arith; after_244 = λ is. omega arith }
-second_of_three c x y (inr s) l h e f = record { low = omega arith; high = omega arith; after_224 = λ is. omega arith; after_240 = λ is. omega arith; after_237 = λ is. omega arith; after_244 = λ is. omega arith }
+second_of_three c x y (inl s) l h e f =
+    record { low = omega arith; high = omega arith; after_224 = λ is. omega arith; after_240 = λ is. omega arith; after_237 = λ is. omega arith; after_244 = λ is. omega arith }
+second_of_three c x y (inr s) l h e f =
+    record { low = omega arith; high = omega arith; after_224 = λ is. omega arith; after_240 = λ is. omega arith; after_237 = λ is. omega arith; after_244 = λ is. omega arith }
 
 second_of_four : (c x y : ℕ) → c < 1114112 → 65536 ≤ c → 240 + c / 262144 ≡ x → next (c / 4096) ≡ y → IsSecond x y
-second_of_four c x y h l e f = record { low = omega arith; high = omega arith; after_224 = λ is. omega arith; after_240 = λ is. omega arith; after_237 = λ is. omega arith; after_244 = λ is. omega arith }
+second_of_four c x y h l e f =
+    record { low = omega arith; high = omega arith; after_224 = λ is. omega arith; after_240 = λ is. omega arith; after_237 = λ is. omega arith; after_244 = λ is. omega arith }
 
-cut_three : (c : ℕ) (bytes more : List ℕ) → (c < 55296) ⊎ ((57344 ≤ c) × (c < 1114112)) → 2048 ≤ c → c < 65536 → 0 < length bytes → 0 < length more → encode_utf8 c ≡ bytes ++ more → IsCut bytes c
+cut_three : (c : ℕ) (bytes more : List ℕ) → (c < 55296) ⊎ ((57344 ≤ c) × (c < 1114112)) → 2048 ≤ c → c < 65536 → 0 < length bytes → 0 < length more → encode_utf8 c ≡ bytes ++ more
+    → IsCut bytes c
 cut_three c [] more s l h some lacks is = absurd (omega (arith, some))
 cut_three c (x ∷ []) more s l h some lacks is =
     let all : (224 + c / 4096) ∷ next (c / 64) ∷ next c ∷ [] ≡ x ∷ more = sym (three c l h) ∙ is in
@@ -242,7 +297,10 @@ cut_three c (x ∷ y ∷ []) more s l h some lacks is =
     let all : (224 + c / 4096) ∷ next (c / 64) ∷ next c ∷ [] ≡ x ∷ y ∷ more = sym (three c l h) ∙ is in
     let e : 224 + c / 4096 ≡ x = cc all in
     let f : next (c / 64) ≡ y = cc all in
-    record { no_fault = second_ok x y (omega (arith, e)) (omega (arith, e)) (second_of_three c x y s l h e f); long = width_three x (omega (arith, e)) (omega (arith, e)) ∙ sym (ap length (three c l h)) }
+    record {
+      no_fault = second_ok x y (omega (arith, e)) (omega (arith, e)) (second_of_three c x y s l h e f);
+      long = width_three x (omega (arith, e)) (omega (arith, e)) ∙ sym (ap length (three c l h));
+    }
 cut_three c (x ∷ y ∷ z ∷ bytes) more s l h some lacks is = absurd (omega (arith, lacks, ap length (sym (three c l h) ∙ is), length-append bytes more))
 
 cut_four : (c : ℕ) (bytes more : List ℕ) → c < 1114112 → 65536 ≤ c → 0 < length bytes → 0 < length more → encode_utf8 c ≡ bytes ++ more → IsCut bytes c
@@ -261,7 +319,10 @@ cut_four c (x ∷ y ∷ z ∷ []) more h l some lacks is =
     let e : 240 + c / 262144 ≡ x = cc all in
     let f : next (c / 4096) ≡ y = cc all in
     let g : next (c / 64) ≡ z = cc all in
-    record { no_fault = third_ok x y z (omega (arith, e)) (omega (arith, e)) (second_of_four c x y h l e f) (omega (arith, g)) (omega (arith, g)); long = width_four x (omega (arith, e)) ∙ sym (ap length (four c l)) }
+    record {
+      no_fault = third_ok x y z (omega (arith, e)) (omega (arith, e)) (second_of_four c x y h l e f) (omega (arith, g)) (omega (arith, g));
+      long = width_four x (omega (arith, e)) ∙ sym (ap length (four c l));
+    }
 cut_four c (x ∷ y ∷ z ∷ w ∷ bytes) more h l some lacks is = absurd (omega (arith, lacks, ap length (sym (four c l) ∙ is), length-append bytes more))
 
 pub cut_is : (c : ℕ) (bytes more : List ℕ) → IsScalar c → 0 < length bytes → 0 < length more → encode_utf8 c ≡ bytes ++ more → IsCut bytes c

@@ -77,14 +77,17 @@ length_once v w r s p q same =
 pub title_code : IsCode title
 title_code = record {
   once = λ v w r s p q same.
-      let flat = sym (append_assoc (to_be_bytes w16 (length (encode_utf8_all v))) (encode_utf8_all v) r) ∙ same ∙ append_assoc (to_be_bytes w16 (length (encode_utf8_all w))) (encode_utf8_all w) s in
-      let heads = length_once (length (encode_utf8_all v)) (length (encode_utf8_all w)) (encode_utf8_all v ++ r) (encode_utf8_all w ++ s) (omega (arith, p.text.short)) (omega (arith, q.text.short)) flat in
+      let flat = sym (append_assoc (to_be_bytes w16 (length (encode_utf8_all v))) (encode_utf8_all v) r) ∙ same
+      ∙ append_assoc (to_be_bytes w16 (length (encode_utf8_all w))) (encode_utf8_all w) s in
+      let heads = length_once (length (encode_utf8_all v)) (length (encode_utf8_all w)) (encode_utf8_all v ++ r) (encode_utf8_all w ++ s) (omega (arith, p.text.short))
+      (omega (arith, q.text.short)) flat in
       let texts = same_fronts (encode_utf8_all v) (encode_utf8_all w) r s heads.0 heads.1 in
       (encodes_same v w texts.0, texts.1);
 }
 
 -- as many values of one format
-several_once : {T : Type 0} (F : Format T) → IsCode F → (v w : List T) (r s : List ℕ) → length v ≡ length w → All F.valid v → All F.valid w → flat_map F.spelling v ++ r ≡ flat_map F.spelling w ++ s → (v ≡ w) × (r ≡ s)
+several_once : {T : Type 0} (F : Format T) → IsCode F → (v w : List T) (r s : List ℕ) → length v ≡ length w → All F.valid v → All F.valid w
+    → flat_map F.spelling v ++ r ≡ flat_map F.spelling w ++ s → (v ≡ w) × (r ≡ s)
 several_once F code [] [] r s long p q same = (refl, same)
 several_once F code [] (d ∷ w) r s long p q same = absurd (omega (arith, long))
 several_once F code (c ∷ v) [] r s long p q same = absurd (omega (arith, long))

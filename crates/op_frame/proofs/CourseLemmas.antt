@@ -76,7 +76,8 @@ module _ (g : Grammar) (hold most : ℕ) where
     | inr r ↦ inr (
       r.front,
       r.has_place,
-      subst (λ (b : List ℕ). MeetsTooMany g hold most start b r.front) (sym (append_assoc f.bytes (bytes_of found) rest)) (meets_here start f (bytes_of found ++ rest) (All-head (IsFrame g) f found are) r),
+      subst (λ (b : List ℕ). MeetsTooMany g hold most start b r.front) (sym (append_assoc f.bytes (bytes_of found) rest))
+          (meets_here start f (bytes_of found ++ rest) (All-head (IsFrame g) f found are) r),
     )
     | inl places ↦ elim (met_or_not (held_from hold most start f.ops) found rest (All-tail (IsFrame g) f found are)) [
       | inl others ↦ inl (places-append hold most start f.ops (ops_of found) places others)
@@ -119,10 +120,12 @@ module _ (g : Grammar) (hold most : ℕ) (start : Held) (limit : ℕ) (bytes : L
   abbrev IsRefused : (all : List Op) → List Op → IntakeOutcome → Type 0
   IsRefused all ops course = (r : Refused hold most start all) × (r.front ≡ ops) × (course ≡ TooMany)
 
-  refused_of : (all : List Op) (end : End) (ops : List Op) → MeetsNoLimit hold most start ops → Reads g (take limit bytes) all end → MeetsTooMany g hold most start (take limit bytes) ops
+  refused_of : (all : List Op) (end : End) (ops : List Op) → MeetsNoLimit hold most start ops → Reads g (take limit bytes) all end
+      → MeetsTooMany g hold most start (take limit bytes) ops
       → IsRefused all ops TooMany
   refused_of all end ops places reads m =
-      let first = starts_first g (take limit bytes) (m.earlier ++ m.framed.ops) m.behind all end (starts_more g (take limit bytes) m.earlier m.rest m.framed m.behind m.starts m.begins) reads in (
+      let first = starts_first g (take limit bytes) (m.earlier ++ m.framed.ops) m.behind all end
+      (starts_more g (take limit bytes) m.earlier m.rest m.framed m.behind m.starts m.begins) reads in (
         record {
           front = ops;
           op = m.op;
@@ -139,7 +142,8 @@ module _ (g : Grammar) (hold most : ℕ) (start : Held) (limit : ℕ) (bytes : L
       regroup : (a b : List Op) (x : Op) (c d : List Op) → (a ++ (b ++ x ∷ c)) ++ d ≡ (a ++ b) ++ x ∷ (c ++ d)
       regroup a b x c d = simp append_assoc
 
-  short_course : (end : End) (course : IntakeOutcome) (d : (length bytes ≤ limit) ⊎ (limit < length bytes)) → ((fits : length bytes ≤ limit) → course ≡ course_by end (inl fits)) → length bytes ≤ limit
+  short_course : (end : End) (course : IntakeOutcome) (d : (length bytes ≤ limit) ⊎ (limit < length bytes)) → ((fits : length bytes ≤ limit) → course ≡ course_by end (inl fits))
+      → length bytes ≤ limit
       → course ≡ course_by end d
   short_course end course (inl fits) is short = is fits
   short_course end course (inr longer) is short = absurd (omega (arith, longer, short))
@@ -159,11 +163,14 @@ module _ (g : Grammar) (hold most : ℕ) (start : Held) (limit : ℕ) (bytes : L
   plain_or_refused : (all : List Op) (end : End) (ops : List Op) (course : IntakeOutcome) → Reads g (take limit bytes) all end → Comes g hold most start limit bytes ops course
       → IsPlain all end ops course ⊎ IsRefused all ops course
   plain_or_refused all end ops Whole reads c =
-      plain all end ops Whole EndsWhole c.has_place reads (subst (λ (b : List ℕ). Reads g b ops EndsWhole) (sym (take_all limit bytes c.ends.0)) c.ends.1) (short_course EndsWhole Whole (fits_or_not (length bytes)) (λ d. refl) c.ends.0)
+      plain all end ops Whole EndsWhole c.has_place reads (subst (λ (b : List ℕ). Reads g b ops EndsWhole) (sym (take_all limit bytes c.ends.0)) c.ends.1)
+      (short_course EndsWhole Whole (fits_or_not (length bytes)) (λ d. refl) c.ends.0)
   plain_or_refused all end ops (CutShort k) reads c =
-      plain all end ops (CutShort k) (EndsCutShort k) c.has_place reads (subst (λ (b : List ℕ). Reads g b ops (EndsCutShort k)) (sym (take_all limit bytes c.ends.0)) c.ends.1) (short_course (EndsCutShort k) (CutShort k) (fits_or_not (length bytes)) (λ d. refl) c.ends.0)
+      plain all end ops (CutShort k) (EndsCutShort k) c.has_place reads (subst (λ (b : List ℕ). Reads g b ops (EndsCutShort k)) (sym (take_all limit bytes c.ends.0)) c.ends.1)
+      (short_course (EndsCutShort k) (CutShort k) (fits_or_not (length bytes)) (λ d. refl) c.ends.0)
   plain_or_refused all end ops (BadFrame k) reads c = plain all end ops (BadFrame k) (EndsInBadFrame k) c.has_place reads c.ends refl
-  plain_or_refused all end ops TooLong reads c = plain all end ops TooLong c.ends.1.0 c.has_place reads c.ends.1.1 (long_course c.ends.1.0 (fits_or_not (length bytes)) c.ends.1.2 c.ends.0)
+  plain_or_refused all end ops TooLong reads c =
+      plain all end ops TooLong c.ends.1.0 c.has_place reads c.ends.1.1 (long_course c.ends.1.0 (fits_or_not (length bytes)) c.ends.1.2 c.ends.0)
   plain_or_refused all end ops TooMany reads c = inr (refused_of all end ops c.has_place reads c.ends)
 
   -- a stream comes to one end
@@ -211,7 +218,8 @@ parted op (x ∷ xs) ys (z ∷ zs) ws same =
 
 within : (g : Grammar) (found : List Framed) → All (IsFrame g) found → (xs : List Op) (op : Op) (ys : List Op) → xs ++ op ∷ ys ≡ ops_of found → Within g found xs op
 within g [] are xs op ys same = absurd (omega (arith, ap length same, length-append xs (op ∷ ys)))
-within g (f ∷ found) are xs op ys same = by_part (parted op xs ys f.ops (ops_of found) same) (λ between later. within g found (All-tail (IsFrame g) f found are) between op ys later)
+within g (f ∷ found) are xs op ys same =
+    by_part (parted op xs ys f.ops (ops_of found) same) (λ between later. within g found (All-tail (IsFrame g) f found are) between op ys later)
   where
     by_part : ((more : List Op) × (f.ops ≡ xs ++ op ∷ more)) ⊎ ((between : List Op) × (xs ≡ f.ops ++ between) × (between ++ op ∷ ys ≡ ops_of found))
         → ((between : List Op) → between ++ op ∷ ys ≡ ops_of found → Within g found between op) → Within g (f ∷ found) xs op
@@ -243,7 +251,8 @@ within g (f ∷ found) are xs op ys same = by_part (parted op xs ys f.ops (ops_o
         }
 
 -- it finds no place
-meets_within : (g : Grammar) (hold most : ℕ) (start : Held) (found : List Framed) (xs : List Op) (op : Op) (w : Within g found xs op) (bytes left : List ℕ) → bytes ≡ bytes_of found ++ left
+meets_within : (g : Grammar) (hold most : ℕ) (start : Held) (found : List Framed) (xs : List Op) (op : Op) (w : Within g found xs op) (bytes left : List ℕ)
+    → bytes ≡ bytes_of found ++ left
     → answer hold most (held_from hold most start xs) op ≡ AnswersTooMany → MeetsTooMany g hold most start bytes xs
 meets_within g hold most start found xs op w bytes left is many = record {
   earlier = ops_of w.before;
@@ -278,7 +287,8 @@ pub record Fed (hold most : ℕ) (start : Held) (told : Option (List ℕ)) (read
   pub counts_are : counts ≡ tally_from hold most start ops no_counts
 
 module _ (hold most : ℕ) (start : Held) where
-  module _ (told : Option (List ℕ)) (old new : FrameReading) (before after : SourceView) (state : Held) (counts : Tally) (fed : Fed hold most start told old before.left state counts) where
+  module _ (told : Option (List ℕ)) (old new : FrameReading) (before after : SourceView) (state : Held) (counts : Tally)
+      (fed : Fed hold most start told old before.left state counts) where
     after_it : (result : Result (Option Op) FrameFault) → Nexts old new before after result → Follows told fed.ops old new after result
     after_it result nexts = follows told fed.ops old new before after fed.gave result nexts
 
@@ -291,11 +301,13 @@ module _ (hold most : ℕ) (start : Held) where
     fed_whole nexts = came Whole _ (λ bytes is. is) (after_it (Ok None) nexts).ends
 
     -- the stream ends inside of a frame
-    pub fed_cut : (k : ℕ) → Nexts old new before after (Err (frame_fault.CutShort k)) → IfSome told (λ bytes. Comes old.grammar hold most start old.limit bytes fed.ops (CutShort k))
+    pub fed_cut : (k : ℕ) → Nexts old new before after (Err (frame_fault.CutShort k))
+        → IfSome told (λ bytes. Comes old.grammar hold most start old.limit bytes fed.ops (CutShort k))
     fed_cut k nexts = came (CutShort k) _ (λ bytes is. is) (after_it (Err (frame_fault.CutShort k)) nexts).ends
 
     -- no frame stands in the stream, up to its limit
-    pub fed_bad : (k : ℕ) → Nexts old new before after (Err (frame_fault.BadFrame k)) → IfSome told (λ bytes. Comes old.grammar hold most start old.limit bytes fed.ops (BadFrame k))
+    pub fed_bad : (k : ℕ) → Nexts old new before after (Err (frame_fault.BadFrame k))
+        → IfSome told (λ bytes. Comes old.grammar hold most start old.limit bytes fed.ops (BadFrame k))
     fed_bad k nexts = came (BadFrame k) _ (λ bytes is. is.0) (after_it (Err (frame_fault.BadFrame k)) nexts).ends
 
     -- the stream goes on behind its limit, up to which it has no fault

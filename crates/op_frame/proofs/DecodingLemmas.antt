@@ -11,9 +11,11 @@ use Rattle.fugue_ids.specs.declared.op.Op.{Op}
 use Rattle.fugue_ids.specs.declared.op.Op.TheVariants.{Delete, Note, Section, Text as TextOp}
 use Rattle.origin_model.specs.declared.grammar.Grammar.{Grammar}
 use Rattle.origin_model.specs.declared.grammar.Grammar.TheVariants.{Version2}
-use Rattle.origin_model.specs.frames.Frames.{AreNames, IsByte, IsFrame, IsIdentifier, IsItem, IsFrameOrigin, IsTitle, Item, Single, Typed, frame, id_bytes, item_bytes, item_ops, names_bytes, origin_bytes, title_bytes}
+use Rattle.origin_model.specs.frames.Frames.{AreNames, IsByte, IsFrame, IsIdentifier, IsItem, IsFrameOrigin, IsTitle, Item, Single, Typed, frame, id_bytes, item_bytes, item_ops}
+use Rattle.origin_model.specs.frames.Frames.{names_bytes, origin_bytes, title_bytes}
 use Rattle.op_frame.specs.Firsts.{StartsWith}
-use Rattle.op_frame.specs.FrameFronts.{AreNamesBytes, Completes, IsBodyBytes, IsCodeBytes, IsFrameOf, IsIdentifierBytes, IsLast, IsOriginBytes, IsOwnFrame, LeavesDue, Several, Then, scalar_of_bytes}
+use Rattle.op_frame.specs.FrameFronts.{AreNamesBytes, Completes, IsBodyBytes, IsCodeBytes, IsFrameOf, IsIdentifierBytes, IsLast, IsOriginBytes, IsOwnFrame, LeavesDue, Several}
+use Rattle.op_frame.specs.FrameFronts.{Then, scalar_of_bytes}
 use Rattle.op_frame.specs.declared.due.Due.{Due}
 use Rattle.op_frame.specs.declared.due.Due.TheVariants.{Kind}
 use Rattle.op_frame.specs.declared.due.Last.TheVariants.{Title}
@@ -63,9 +65,11 @@ wider g (Single op) has = has_frame g op has
 wider g (Typed run) has = has_run_frame g run has
 
 -- a frame has one meaning, by both grammars
-pub same_meaning : (g : Grammar) (bytes : List ℕ) (ops : List Op) → IsFrameOf g bytes → IsFrame Version2 (record { bytes = bytes; ops = ops }) → IsFrame g (record { bytes = bytes; ops = ops })
+pub same_meaning : (g : Grammar) (bytes : List ℕ) (ops : List Op) → IsFrameOf g bytes → IsFrame Version2 (record { bytes = bytes; ops = ops })
+    → IsFrame g (record { bytes = bytes; ops = ops })
 same_meaning g bytes ops f is =
-    let same : f.1.item ≡ is.item = ((item_code Version2).once f.1.item is.item [] [] (wider g f.1.item f.1.is_item) is.is_item (ap (λ (b : List ℕ). b ++ []) (sym f.1.bytes_are ∙ is.bytes_are))).0 in
+    let same : f.1.item ≡ is.item =
+    ((item_code Version2).once f.1.item is.item [] [] (wider g f.1.item f.1.is_item) is.is_item (ap (λ (b : List ℕ). b ++ []) (sym f.1.bytes_are ∙ is.bytes_are))).0 in
     record { item = f.1.item; is_item = f.1.is_item; bytes_are = f.1.bytes_are; ops_are = is.ops_are ∙ ap item_ops (sym same) }
 
 pub frame_wider : (g : Grammar) (bytes : List ℕ) → IsFrameOf g bytes → IsFrameOf Version2 bytes
@@ -95,7 +99,8 @@ tagged bytes t other = elim (origin_there bytes t).tag [
 pub text_there : (bytes : List ℕ) (t : IsLast Title bytes) → take (length bytes - 2) (drop 2 bytes) ≡ encode_utf8_all t.0
 text_there bytes t = ap (λ (x : List ℕ). take (length x - 2) (drop 2 x)) t.2 ∙ take_all (length (title_bytes t.0) - 2) (encode_utf8_all t.0) (omega arith)
 
-pub title_there : (bytes title text : List ℕ) → IsLast Title bytes → encode_utf8_all title ≡ text → text ≡ take (length bytes - 2) (drop 2 bytes) → IsTitle title × (bytes ≡ title_bytes title)
+pub title_there : (bytes title text : List ℕ) → IsLast Title bytes → encode_utf8_all title ≡ text → text ≡ take (length bytes - 2) (drop 2 bytes)
+    → IsTitle title × (bytes ≡ title_bytes title)
 title_there bytes title text t is there =
     let same : t.0 ≡ title = encodes_same t.0 title (sym (is ∙ there ∙ text_there bytes t)) in subst (λ (x : List ℕ). IsTitle x × (bytes ≡ title_bytes x)) same (t.1, t.2)
 
@@ -110,8 +115,12 @@ names_there bytes t =
     let is : bytes ≡ names_bytes t.2.0 ++ t.1 = t.4 ∙ ap (λ (f : List ℕ). f ++ t.1) t.2.2 in
     let all : take (length (names_bytes t.2.0 ++ t.1) - 1) (flat_map id_bytes t.2.0 ++ t.1) ≡ flat_map id_bytes t.2.0 ++ t.1
     = take_all (length (names_bytes t.2.0 ++ t.1) - 1) (flat_map id_bytes t.2.0 ++ t.1) (omega arith) in
-    subst (λ (b : List ℕ). (1 ≤ length b) × (get_or b 0 0 ≤ 3) × Several (get_or b 0 0) IsIdentifierBytes (λ rest. Unit {0}) (take (length b - 1) (drop 1 b))) (sym is)
-    (omega arith, t.2.1.few, subst (Several (length t.2.0) IsIdentifierBytes (λ rest. Unit {0})) (sym all) (several_of identifier (λ rest. Unit {0}) t.2.0 t.1 t.2.1.identifiers tt))
+    subst (λ (b : List ℕ). (1 ≤ length b) × (get_or b 0 0 ≤ 3) × Several (get_or b 0 0) IsIdentifierBytes (λ rest. Unit {0}) (take (length b - 1) (drop 1 b))) (sym is) (
+      omega arith,
+      t.2.1.few,
+      subst (Several (length t.2.0) IsIdentifierBytes (λ rest. Unit {0})) (sym all)
+          (several_of identifier (λ rest. Unit {0}) t.2.0 t.1 t.2.1.identifiers tt),
+    )
 
 -- a note's code, and its body
 pub record CodeThere (bytes : List ℕ) : Type 0 where
@@ -136,7 +145,9 @@ pub first_name : (n : ℕ) (bytes : List ℕ) → 0 < n → Several n IsIdentifi
 first_name zero bytes some t = absurd (omega (arith, some))
 first_name (suc n) bytes some t = (t.0, t.1, t.2, tt, t.4)
 
-pub later_names : (n m : ℕ) (bytes rest : List ℕ) (id : Identifier) → n ≡ suc m → Several n IsIdentifierBytes (λ rest. Unit {0}) bytes → IsIdentifier id → bytes ≡ id_bytes id ++ rest
+pub later_names : (n m : ℕ) (bytes rest : List ℕ) (id : Identifier) → n ≡ suc m → Several n IsIdentifierBytes (λ rest. Unit {0}) bytes → IsIdentifier id
+    → bytes ≡ id_bytes id ++ rest
     → Several m IsIdentifierBytes (λ rest. Unit {0}) rest
 later_names n m bytes rest id more t is split =
-    behind_field identifier identifier_code (Several m IsIdentifierBytes (λ rest. Unit {0})) bytes (subst (λ (k : ℕ). Several k IsIdentifierBytes (λ rest. Unit {0}) bytes) more t) id rest is split
+    behind_field identifier identifier_code (Several m IsIdentifierBytes (λ rest. Unit {0})) bytes
+    (subst (λ (k : ℕ). Several k IsIdentifierBytes (λ rest. Unit {0}) bytes) more t) id rest is split

@@ -1,5 +1,6 @@
 -- What is due behind some bytes of a frame, field by field.
-use Rattle.std.proofs.Common.{◌≡◌, ℕ, zero, suc, ◌+◌, ◌-◌, ◌*◌, ◌<◌, ◌≤◌, false, List, [], ◌∷◌, ◌++◌, length, drop, get_or, refl, ap, sym, subst, ◌∙◌, ◌⊎◌, append_assoc, arith, inl, inr, length-append, length-drop}
+use Rattle.std.proofs.Common.{◌≡◌, ℕ, zero, suc, ◌+◌, ◌-◌, ◌*◌, ◌<◌, ◌≤◌, false, List, [], ◌∷◌, ◌++◌, length, drop, get_or, refl, ap, sym, subst, ◌∙◌, ◌⊎◌, append_assoc, arith}
+use Rattle.std.proofs.Common.{inl, inr, length-append, length-drop}
 use Rattle.std.specs.Prelude.{◌↔◌, ◌^◌, All, Option, Some, None, SomeIff, is_some, flat_map}
 use Rattle.std.specs.Char.{IsScalar}
 use Rattle.std.specs.Int.{byte_at, to_be_bytes, w16, w32}
@@ -16,8 +17,10 @@ use Rattle.fugue_ids.specs.declared.limits.TheConstants.{LONGEST_TITLE}
 use Rattle.fugue_ids.specs.declared.op.Op.TheVariants.{Delete, Note, Section, Text as TextOp}
 use Rattle.origin_model.specs.declared.grammar.Grammar.{Grammar}
 use Rattle.origin_model.specs.declared.grammar.Grammar.TheVariants.{Version2}
-use Rattle.origin_model.specs.frames.Frames.{HasRunFrame, IsIdentifier, IsItem, Item, Run as RunOf, Single, Typed, body_bytes, frame, id_bytes, item_bytes, names_bytes, origin_bytes, run_frame, scalar_bytes, text_bytes, title_bytes}
-use Rattle.op_frame.specs.FrameFronts.{AreFields, Completes, IsCounted, IsDueFront, IsIdentifierBytes, IsJudged, IsLast, IsNothing, IsOriginBytes, IsRunBehind, IsScalarBytes, IsSoundDue, IsSoundLast, IsTitleEnd, LeavesDue, NeverCompletes, Several, Then, scalar_of_bytes, grown_by, most_from, scalars_due, text_due}
+use Rattle.origin_model.specs.frames.Frames.{HasRunFrame, IsIdentifier, IsItem, Item, Run as RunOf, Single, Typed, body_bytes, frame, id_bytes, item_bytes, names_bytes}
+use Rattle.origin_model.specs.frames.Frames.{origin_bytes, run_frame, scalar_bytes, text_bytes, title_bytes}
+use Rattle.op_frame.specs.FrameFronts.{AreFields, Completes, IsCounted, IsDueFront, IsIdentifierBytes, IsJudged, IsLast, IsNothing, IsOriginBytes, IsRunBehind, IsScalarBytes}
+use Rattle.op_frame.specs.FrameFronts.{IsSoundDue, IsSoundLast, IsTitleEnd, LeavesDue, NeverCompletes, Several, Then, scalar_of_bytes, grown_by, most_from, scalars_due, text_due}
 use Rattle.op_frame.specs.declared.due.Due.{Due}
 use Rattle.op_frame.specs.declared.due.Due.TheVariants.{Fields, Kind, Run}
 use Rattle.op_frame.specs.declared.due.Judged.TheVariants.{Front}
@@ -92,23 +95,30 @@ run_with id is early =
     (p.bytes, record { id = id; is_identifier = is; rest = p.bytes; fields = p.completes; split = refl })
 
 pub sample : (due : Due) → IsSoundDue due → Sample due
-sample (Kind g) s = record { bytes = frame (Delete first_id); completes = (Single (Delete first_id), of_each_version g (Delete first_id) first_is_one tt, refl); ends = inr (refl, omega arith) }
+sample (Kind g) s = record {
+  bytes = frame (Delete first_id);
+  completes = (Single (Delete first_id), of_each_version g (Delete first_id) first_is_one tt, refl);
+  ends = inr (refl, omega arith);
+}
 sample Run s =
     let p = run_with first_id first_is_one (omega arith) in
     record { bytes = id_bytes first_id ++ p.0; completes = p.1; ends = inr (refl, omega arith) }
 sample (Fields i o last) s = fields_sample i o last s
 
 -- an identifier
-pub identifier_done : (i o : ℕ) (last : Last) (bytes : List ℕ) → 0 < i → IsSoundDue (Fields i o last) → IdentifierWith bytes [] → LeavesDue bytes (Fields i o last) (Fields (i - 1) o last)
+pub identifier_done : (i o : ℕ) (last : Last) (bytes : List ℕ) → 0 < i → IsSoundDue (Fields i o last) → IdentifierWith bytes []
+    → LeavesDue bytes (Fields i o last) (Fields (i - 1) o last)
 identifier_done zero o last bytes some s p = absurd (omega (arith, some))
 identifier_done (suc i) o last bytes some s p =
     let one : suc i - 1 ≡ i = omega arith in
     rw one (record {
-      rest = field_done identifier identifier_code (Several i IsIdentifierBytes (Several o IsOriginBytes (IsLast last))) bytes (p.id, p.is_identifier, sym (append-nil bytes) ∙ p.is);
+      rest = field_done identifier identifier_code (Several i IsIdentifierBytes (Several o IsOriginBytes (IsLast last))) bytes
+          (p.id, p.is_identifier, sym (append-nil bytes) ∙ p.is);
       sound = s;
     })
 
-pub identifier_front : (i o : ℕ) (last : Last) (bytes : List ℕ) → 0 < i → IsSoundDue (Fields i o last) → length bytes < 8 → IdentifierFront bytes → IsJudged Front (Fields i o last) bytes
+pub identifier_front : (i o : ℕ) (last : Last) (bytes : List ℕ) → 0 < i → IsSoundDue (Fields i o last) → length bytes < 8 → IdentifierFront bytes
+    → IsJudged Front (Fields i o last) bytes
 identifier_front zero o last bytes some s short p = absurd (omega (arith, some))
 identifier_front (suc i) o last bytes some s short p =
     let behind = fields_sample i o last s in (
@@ -188,7 +198,8 @@ pub scalar_done : (n : ℕ) (bytes : List ℕ) → 0 < n → length bytes ≡ 3 
 scalar_done zero bytes left long fits is = absurd (omega (arith, left))
 scalar_done (suc n) (h ∷ m ∷ l ∷ []) left long fits is =
     let one : suc n - 1 ≡ n = omega arith in
-    let own = field_done scalar scalar_code (Several n IsScalarBytes IsNothing) (h ∷ m ∷ l ∷ []) (scalar_of_bytes h m l, is, sym (bytes_of_code h m l (fits 0) (fits 1) (fits 2))) in
+    let own = field_done scalar scalar_code (Several n IsScalarBytes IsNothing) (h ∷ m ∷ l ∷ [])
+    (scalar_of_bytes h m l, is, sym (bytes_of_code h m l (fits 0) (fits 1) (fits 2))) in
     rw one (record {
       rest = λ more. (λ t. (scalars_are n more).0 ((own more).0 t), λ t. (own more).1 ((scalars_are n more).1 t));
       sound = scalars_sound n;
@@ -213,7 +224,8 @@ pub none_holds : {T : Type 0} (o : Option T) (P : Type 0) (v : T) → SomeIff o 
 none_holds None P v is none p = is p
 none_holds (Some x) P v is none p = cc none
 
-pub scalar_never : (n : ℕ) (bytes : List ℕ) → 0 < n → 0 < length bytes → length bytes ≤ 3 → (IsScalar (scalar_of_bytes (get_or bytes 0 0) (get_or bytes 1 0) (get_or bytes 2 0)) → ⊥)
+pub scalar_never : (n : ℕ) (bytes : List ℕ) → 0 < n → 0 < length bytes → length bytes ≤ 3
+    → (IsScalar (scalar_of_bytes (get_or bytes 0 0) (get_or bytes 1 0) (get_or bytes 2 0)) → ⊥)
     → NeverCompletes (Fields 0 0 (Scalars n)) bytes
 scalar_never zero bytes left some short none more t = omega (arith, left)
 scalar_never (suc n) bytes left some short none more t = by_bytes bytes some short none (t.4 ∙ ap (λ (f : List ℕ). f ++ t.1) t.2.2)
@@ -242,7 +254,8 @@ high_count most (high ∷ []) long some small few =
     record {
       more = p.low ∷ zero_scalars (high * 256 + p.low);
       lacks = omega arith;
-      completes = counted most (high * 256 + p.low) (high ∷ p.low ∷ zero_scalars (high * 256 + p.low)) p.some p.few (ap (λ (l : List ℕ). l ++ zero_scalars (high * 256 + p.low)) (sym p.is));
+      completes = counted most (high * 256 + p.low) (high ∷ p.low ∷ zero_scalars (high * 256 + p.low)) p.some p.few
+          (ap (λ (l : List ℕ). l ++ zero_scalars (high * 256 + p.low)) (sym p.is));
     }
 
 -- the first identifier of a run
@@ -260,12 +273,14 @@ run_front bytes short p =
 run_id : (bytes more : List ℕ) (p : IdentifierWith bytes []) (r : IsRunBehind (bytes ++ more)) → (p.id ≡ r.id) × (more ≡ r.rest)
 run_id bytes more p r = identifier_code.once p.id r.id more r.rest p.is_identifier r.is_identifier (ap (λ (b : List ℕ). b ++ more) (sym p.is ∙ append-nil bytes) ∙ r.split)
 
-pub run_done : (counter : ℕ) (bytes : List ℕ) (p : IdentifierWith bytes []) → p.id.counter ≡ counter → counter + 2 ≤ 2 ^ 32 → LeavesDue bytes Run (Fields 1 2 (Count (most_from counter)))
+pub run_done : (counter : ℕ) (bytes : List ℕ) (p : IdentifierWith bytes []) → p.id.counter ≡ counter → counter + 2 ≤ 2 ^ 32
+    → LeavesDue bytes Run (Fields 1 2 (Count (most_from counter)))
 run_done counter bytes p at early = record {
   rest = λ more. (
     λ r.
         let both = run_id bytes more p r in
-        subst (λ (n : ℕ). AreFields 1 2 (Count (most_from n)) more) (ap (λ (id : Identifier). id.counter) (sym both.0) ∙ at) (subst (AreFields 1 2 (Count (most_from r.id.counter))) (sym both.1) r.fields),
+        subst (λ (n : ℕ). AreFields 1 2 (Count (most_from n)) more) (ap (λ (id : Identifier). id.counter) (sym both.0) ∙ at)
+        (subst (AreFields 1 2 (Count (most_from r.id.counter))) (sym both.1) r.fields),
     λ t. record {
       id = p.id;
       is_identifier = p.is_identifier;
@@ -285,7 +300,8 @@ numbers_there b r n m some n_fits m_fits long first is second =
       record {
         id = record { replica = n; counter = m };
         is_identifier = record { some_replica = some; replica_fits = n_fits; counter_fits = m_fits };
-        is = append-nil b ∙ first ∙ ap (λ (l : List ℕ). to_be_bytes w32 n ++ l) (sym is ∙ second ∙ ap (λ (l : List ℕ). to_be_bytes w32 m ++ l) none ∙ append-nil (to_be_bytes w32 m));
+        is = append-nil b ∙ first ∙ ap (λ (l : List ℕ). to_be_bytes w32 n ++ l)
+            (sym is ∙ second ∙ ap (λ (l : List ℕ). to_be_bytes w32 m ++ l) none ∙ append-nil (to_be_bytes w32 m));
       },
       refl,
     )
@@ -296,7 +312,8 @@ pub length_done : (bytes : List ℕ) (len : ℕ) → length bytes ≡ 2 → to_b
 length_done (h ∷ l ∷ []) len long is some short = record {
   rest = λ more. (
     λ t.
-        let both = length_once len (length (encode_utf8_all t.0)) more (encode_utf8_all t.0) (omega (arith, short)) (omega (arith, t.1.text.short)) (ap (λ (b : List ℕ). b ++ more) is ∙ t.2) in
+        let both = length_once len (length (encode_utf8_all t.0)) more (encode_utf8_all t.0) (omega (arith, short)) (omega (arith, t.1.text.short))
+        (ap (λ (b : List ℕ). b ++ more) is ∙ t.2) in
         subst (IsTitleEnd len) (sym both.1) (subst (λ n. IsTitleEnd n (encode_utf8_all t.0)) (sym both.0) (title_end t.0 t.1)),
     λ e. (chars more, title_in len more some short e, ap (λ b. b ++ more) (sym is) ∙ title_spelled len more e),
   );
@@ -321,7 +338,8 @@ text_behind len bytes more utf8 e =
       omega (arith, e.2, length-append bytes more),
     )
 
-text_before : (len : ℕ) (bytes more : List ℕ) → IsUtf8 bytes → has_line_end bytes ≡ false → length bytes ≤ len → IsTitleEnd (len - length bytes) more → IsTitleEnd len (bytes ++ more)
+text_before : (len : ℕ) (bytes more : List ℕ) → IsUtf8 bytes → has_line_end bytes ≡ false → length bytes ≤ len → IsTitleEnd (len - length bytes) more
+    → IsTitleEnd len (bytes ++ more)
 text_before len bytes more utf8 one_line short e = (
   IsUtf8-append bytes more utf8 e.0,
   list_any-append ends_line bytes more ∙ or_from (has_line_end bytes) (has_line_end more) one_line e.1,
@@ -412,7 +430,13 @@ character_due g = record {
         id_bytes s,
         origin_bytes l ++ (origin_bytes r ++ scalar_bytes ch),
         (s, has.1, refl),
-        (origin_bytes l, origin_bytes r ++ scalar_bytes ch, (l, has.2, refl), (origin_bytes r, scalar_bytes ch, (r, has.3, refl), (scalar_bytes ch, [], (ch, has.4, refl), refl, sym (append-nil (scalar_bytes ch))), refl), refl),
+        (
+          origin_bytes l,
+          origin_bytes r ++ scalar_bytes ch,
+          (l, has.2, refl),
+          (origin_bytes r, scalar_bytes ch, (r, has.3, refl), (scalar_bytes ch, [], (ch, has.4, refl), refl, sym (append-nil (scalar_bytes ch))), refl),
+          refl,
+        ),
         refl,
       ),
       cc e ∙ sym (five (id_bytes id) (id_bytes s) (origin_bytes l) (origin_bytes r) (scalar_bytes ch)),
@@ -528,7 +552,8 @@ run_there bytes r =
         text = record { some = omega (arith, p.long, c.some); short = omega (arith, p.long, c.few); scalars = p.valid };
         counters_fit = omega (arith, p.long, c.few, c.some);
       };
-      is = r.split ∙ ap (λ (l : List ℕ). id_bytes r.id ++ l) (f.4 ∙ (λ i. f.2.2 i ++ (f.3.4 ∙ (λ j. f.3.2.2 j ++ (f.3.3.4 ∙ (λ k. f.3.3.2.2 k ++ text k)) j)) i)) ∙ sym (run_is run);
+      is = r.split ∙ ap (λ (l : List ℕ). id_bytes r.id ++ l) (f.4 ∙ (λ i. f.2.2 i ++ (f.3.4 ∙ (λ j. f.3.2.2 j ++ (f.3.3.4 ∙ (λ k. f.3.3.2.2 k ++ text k)) j)) i))
+          ∙ sym (run_is run);
     }
 
 pub run_due : LeavesDue (4 ∷ []) (Kind Version2) Run

@@ -16,7 +16,8 @@ same_frame ops others n m bytes p q =
     let same = same_front Version2 _ _ (drop n bytes) (drop m bytes) p.1.is_frame q.1.is_frame (take-append-drop n bytes ∙ sym (take-append-drop m bytes)) in
     (same.ops, sym (length-take-le n bytes p.0) ∙ ap length same.bytes ∙ length-take-le m bytes q.0)
 
-pub first_whole : (ops : Vec Op Global) (n : ℕ) (bytes : List ℕ) → n ≤ length bytes → IsFrame Version2 (record { bytes = take n bytes; ops = ops.items }) → FirstIs (Whole ops n) bytes
+pub first_whole : (ops : Vec Op Global) (n : ℕ) (bytes : List ℕ) → n ≤ length bytes → IsFrame Version2 (record { bytes = take n bytes; ops = ops.items })
+    → FirstIs (Whole ops n) bytes
 first_whole ops n bytes within is =
     let found : FrameOf ops.items n bytes = (within, record { is_frame = is; split = sym (take-append-drop n bytes) }) in
     record {

@@ -7,7 +7,8 @@ use Rattle.std.specs.Int.{to_be_bytes, w32}
 use Rattle.fugue_ids.specs.Identifiers.{Identifier}
 use Rattle.fugue_ids.specs.declared.op.Op.{Op}
 use Rattle.origin_model.specs.declared.grammar.Grammar.{Grammar}
-use Rattle.origin_model.specs.frames.Frames.{id_bytes, origin_bytes, title_bytes, scalar_bytes, text_bytes, names_bytes, body_bytes, frame, item_bytes, AreNames, HasFrame, IsBody, IsByte, IsIdentifier, IsItem, IsFrameOrigin, IsRunText, IsTitle, Item}
+use Rattle.origin_model.specs.frames.Frames.{id_bytes, origin_bytes, title_bytes, scalar_bytes, text_bytes, names_bytes, body_bytes, frame, item_bytes, AreNames, HasFrame, IsBody}
+use Rattle.origin_model.specs.frames.Frames.{IsByte, IsIdentifier, IsItem, IsFrameOrigin, IsRunText, IsTitle, Item}
 use Rattle.op_frame.specs.FrameFronts.{Several, Then}
 
 pub record Format (T : Type 0) : Type 1 where

@@ -1,5 +1,6 @@
 -- What stands behind the fields of a frame that came, and in the one that is due.
-use Rattle.std.proofs.Common.{◌≡◌, ℕ, zero, suc, ◌+◌, ◌-◌, ◌<◌, ◌≤◌, List, [], ◌∷◌, ◌++◌, length, take, drop, set, refl, ap, sym, subst, ◌∙◌, append_assoc, arith, inl, inr, length-append}
+use Rattle.std.proofs.Common.{◌≡◌, ℕ, zero, suc, ◌+◌, ◌-◌, ◌<◌, ◌≤◌, List, [], ◌∷◌, ◌++◌, length, take, drop, set, refl, ap, sym, subst, ◌∙◌, append_assoc, arith, inl, inr}
+use Rattle.std.proofs.Common.{length-append}
 use Rattle.std.specs.Prelude.{◌↔◌, Option, Some, None, flat_map}
 use Rattle.std.specs.Int.{to_be_bytes, w16}
 use Rattle.std.specs.Str.{encode_utf8_all}
@@ -9,9 +10,10 @@ use Rattle.fugue_ids.specs.Identifiers.{Identifier}
 use Rattle.fugue_ids.specs.declared.op.Op.{Op}
 use Rattle.fugue_ids.specs.declared.op.Op.TheVariants.{Delete, Note, Section, Text as TextOp}
 use Rattle.origin_model.specs.declared.grammar.Grammar.{Grammar}
-use Rattle.origin_model.specs.frames.Frames.{Begins, Framed, HasFrame, IsBad, IsFrame, IsItem, IsPartial, Item, Single, Typed, body_bytes, frame, id_bytes, item_bytes, item_ops, names_bytes, origin_bytes, scalar_bytes, text_bytes, title_bytes}
+use Rattle.origin_model.specs.frames.Frames.{Begins, Framed, HasFrame, IsBad, IsFrame, IsItem, IsPartial, Item, Single, Typed, body_bytes, frame, id_bytes, item_bytes, item_ops}
+use Rattle.origin_model.specs.frames.Frames.{names_bytes, origin_bytes, scalar_bytes, text_bytes, title_bytes}
 use Rattle.origin_model.proofs.SharedLemmas.{length-scalars, origin_short}
-use Rattle.op_frame.specs.FrameFronts.{Awaits, Completes, IsDueFront, IsFrameOf, IsFrameFront, IsSoundDue, LeavesDue, NeverCompletes, field_size, grown_by}
+use Rattle.op_frame.specs.FrameFronts.{Awaits, Completes, IsDueFront, IsFrameOf, IsFrameStage, IsSoundDue, LeavesDue, NeverCompletes, field_size, grown_by}
 use Rattle.op_frame.specs.declared.due.Due.{Due}
 use Rattle.op_frame.specs.declared.due.Due.TheVariants.{Fields, Kind, Run}
 use Rattle.op_frame.specs.declared.due.Last.TheVariants.{Body, Code, Count, Length, Names, Nothing, Scalars, Text, Title}
@@ -32,18 +34,20 @@ module _ (g : Grammar) (due : Due) (before : List ℕ) (rest : (more : List ℕ)
       let f = (rest (bytes ++ p.more)).1 p.completes in
       record { framed = record { bytes = before ++ (bytes ++ p.more); ops = f.0 }; is_frame = f.1; more = p.more; lacks = p.lacks; front = sym (append_assoc before bytes p.more) }
 
-  pub is_neither : (bytes : List ℕ) → ((more : List ℕ) → Completes due (bytes ++ more) → ⊥) → IsFrameFront IsNeither g (before ++ bytes)
+  pub is_neither : (bytes : List ℕ) → ((more : List ℕ) → Completes due (bytes ++ more) → ⊥) → IsFrameStage IsNeither g (before ++ bytes)
   is_neither bytes none = (
     λ f. none [] ((rest (bytes ++ [])).0 (subst (IsFrameOf g) (sym (ap (λ b. before ++ b) (append-nil bytes))) f)),
-    λ p. none p.more ((rest (bytes ++ p.more)).0 (p.framed.ops, subst (λ b. IsFrame g (record { bytes = b; ops = p.framed.ops })) (p.front ∙ append_assoc before bytes p.more) p.is_frame)),
+    λ p. none p.more ((rest (bytes ++ p.more)).0
+        (p.framed.ops, subst (λ b. IsFrame g (record { bytes = b; ops = p.framed.ops })) (p.front ∙ append_assoc before bytes p.more) p.is_frame)),
   )
 
-  pub is_grown : (grown : Grown) → grown ≡ grown_by due → IsSoundDue due → IsFrameFront grown g before
+  pub is_grown : (grown : Grown) → grown ≡ grown_by due → IsSoundDue due → IsFrameStage grown g before
   is_grown grown e s =
       let p = sample due s in
       elim p.ends [
-        | inl whole ↦ subst (λ k. IsFrameFront k g before) (sym (e ∙ whole.0)) (subst (IsFrameOf g) (append-nil before) ((rest []).1 (subst (Completes due) whole.1 p.completes)))
-        | inr more ↦ subst (λ k. IsFrameFront k g before) (sym (e ∙ more.0)) (subst (IsPartial g) (append-nil before) (is_front [] (record { more = p.bytes; lacks = more.1; completes = p.completes })))
+        | inl whole ↦ subst (λ k. IsFrameStage k g before) (sym (e ∙ whole.0)) (subst (IsFrameOf g) (append-nil before) ((rest []).1 (subst (Completes due) whole.1 p.completes)))
+        | inr more ↦ subst (λ k. IsFrameStage k g before) (sym (e ∙ more.0))
+            (subst (IsPartial g) (append-nil before) (is_front [] (record { more = p.bytes; lacks = more.1; completes = p.completes })))
       ]
 
 -- a field that was looked at is not shorter than what is due
@@ -68,7 +72,8 @@ long_enough (Fields zero zero Length) bytes s e t = omega (arith, ap length t.2,
 long_enough (Fields zero zero (Body len)) bytes s e t = omega (arith, t.1)
 
 -- no frame begins with bytes of which a field is none
-pub none_begins : (g : Grammar) (due : Due) (before field behind : List ℕ) → Awaits g due before 0 → grown_by due ≡ IsFrontGrown → length field ≤ field_size due → NeverCompletes due field → IsBad g ((before ++ field) ++ behind)
+pub none_begins : (g : Grammar) (due : Due) (before field behind : List ℕ) → Awaits g due before 0 → grown_by due ≡ IsFrontGrown → length field ≤ field_size due
+    → NeverCompletes due field → IsBad g ((before ++ field) ++ behind)
 none_begins g due before field behind a e short never = bad_goes_on g (before ++ field) behind (record {
   no_frame = λ framed rest b. elim (two_fronts before field framed.bytes rest b.split) [
     | inl r ↦ elsewhere framed r.between rest b r.is
@@ -136,7 +141,7 @@ item_short g (Typed run) is =
 pub frame_short : (g : Grammar) (framed : Framed) → IsFrame g framed → length framed.bytes ≤ LONGEST_FRAME
 frame_short g framed is = omega (arith, item_short g is.item is.is_item, ap length is.bytes_are)
 
-pub too_long : (g : Grammar) (bytes : List ℕ) → LONGEST_FRAME < length bytes → IsFrameFront IsNeither g bytes
+pub too_long : (g : Grammar) (bytes : List ℕ) → LONGEST_FRAME < length bytes → IsFrameStage IsNeither g bytes
 too_long g bytes long = (
   λ f. omega (arith, long, frame_short g _ f.1),
   λ p. omega (arith, long, frame_short g p.framed p.is_frame, ap length p.front, length-append bytes p.more),
@@ -166,7 +171,8 @@ size_some (Fields zero zero Length) s = omega arith
 size_some (Fields zero zero (Body len)) s = s.0
 
 -- behind a whole field the next is due
-pub awaits_next : (g : Grammar) (due next : Due) (before bytes all : List ℕ) (came none : ℕ) → Awaits g due before came → LeavesDue bytes due next → before ++ bytes ≡ all → none ≡ 0 → Awaits g next all none
+pub awaits_next : (g : Grammar) (due next : Due) (before bytes all : List ℕ) (came none : ℕ) → Awaits g due before came → LeavesDue bytes due next → before ++ bytes ≡ all
+    → none ≡ 0 → Awaits g next all none
 awaits_next g due next before bytes all came none a p is at =
     let regroup : (more : List ℕ) → before ++ (bytes ++ more) ≡ all ++ more = λ more. sym (append_assoc before bytes more) ∙ ap (λ b. b ++ more) is in
     record {
@@ -179,7 +185,8 @@ awaits_next g due next before bytes all came none a p is at =
     }
 
 -- the bytes of the field, with the one that came, stand behind those before it
-pub with_field : (bytes : List ℕ) (len field byte : ℕ) → field ≤ len → len < length bytes → take field bytes ++ take (len + 1 - field) (drop field (set bytes len byte)) ≡ take len bytes ++ byte ∷ []
+pub with_field : (bytes : List ℕ) (len field byte : ℕ) → field ≤ len → len < length bytes
+    → take field bytes ++ take (len + 1 - field) (drop field (set bytes len byte)) ≡ take len bytes ++ byte ∷ []
 with_field bytes len field byte p q =
     let all : field + (len + 1 - field) ≡ len + 1 = omega (arith, p) in
     ap (λ t. t ++ take (len + 1 - field) (drop field (set bytes len byte))) (sym (take-set-le field bytes len byte p)) ∙ sym (take-add field (len + 1 - field) (set bytes len byte))

@@ -13,7 +13,13 @@ module _ (g : Grammar) where
       | inr r ↦ bad.no_frame framed r.between (record { is_frame = q.is_frame; split = r.is })
     ];
     no_front = λ p.
-        bad.no_front (record { framed = p.framed; is_frame = p.is_frame; more = c ++ p.more; lacks = omega (arith, p.lacks, length-append c p.more); front = p.front ∙ append_assoc b c p.more });
+        bad.no_front (record {
+          framed = p.framed;
+          is_frame = p.is_frame;
+          more = c ++ p.more;
+          lacks = omega (arith, p.lacks, length-append c p.more);
+          front = p.front ∙ append_assoc b c p.more;
+        });
   }
     where
       by_length : (framed : Framed) (between : List ℕ) → IsFrame g framed → framed.bytes ≡ b ++ between → ⊥

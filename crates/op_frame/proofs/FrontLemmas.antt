@@ -11,7 +11,8 @@ use Rattle.fugue_ids.specs.declared.op.Op.{Op}
 use Rattle.fugue_ids.specs.declared.op.Op.TheVariants.{Section, Text, Delete, Note}
 use Rattle.origin_model.specs.declared.grammar.Grammar.{Grammar}
 use Rattle.origin_model.specs.declared.grammar.Grammar.TheVariants.{Version1, Version2}
-use Rattle.origin_model.specs.frames.Frames.{AreNames, Begins, Framed, HasFrame, HasRunFrame, IsBad, IsBody, IsByte, IsIdentifier, IsItem, IsOfVersion1, IsFrameOrigin, IsPartial, IsRunText, IsTitle, Item, Single, Typed, item_bytes}
+use Rattle.origin_model.specs.frames.Frames.{AreNames, Begins, Framed, HasFrame, HasRunFrame, IsBad, IsBody, IsByte, IsIdentifier, IsItem, IsOfVersion1, IsFrameOrigin, IsPartial}
+use Rattle.origin_model.specs.frames.Frames.{IsRunText, IsTitle, Item, Single, Typed, item_bytes}
 use Rattle.op_frame.proofs.CodeLemmas.{scalar_below}
 use Rattle.op_frame.proofs.OperationLemmas.{section_fields, text_fields, note_fields, section_of, text_of, note_of}
 use Rattle.op_frame.proofs.ItemLemmas.{fields_of, fields_valid, item_framed, item_is_framed, run_fields, run_of}
@@ -43,7 +44,8 @@ scalars =
 titles : IsSearched IsTitle
 titles =
     mapped _ (narrowed _ (listed _ scalars 480) (λ t. IsTitleText (encode_utf8_all t)) (λ t. title_decided (encode_utf8_all t))) (λ t. t) (λ t. t) IsTitle
-    (λ t is. record { scalars = All-from_recursion IsScalar t is.0.1; text = is.1 }) (λ t is. (((omega (arith, length-le-encodes t, is.text.short), recursion_from_All IsScalar t is.scalars), is.text), refl))
+    (λ t is. record { scalars = All-from_recursion IsScalar t is.0.1; text = is.1 })
+    (λ t is. (((omega (arith, length-le-encodes t, is.text.short), recursion_from_All IsScalar t is.scalars), is.text), refl))
 
 sections : IsSearched section_fields.valid
 sections = paired _ identifiers _ (paired _ origins _ (paired _ origins _ titles))
@@ -72,7 +74,8 @@ operations property test =
     by_kind (sections (λ f. property (section_of f)) (λ f. test (section_of f))) (texts (λ f. property (text_of f)) (λ f. test (text_of f)))
     (identifiers (λ i. property (Delete i)) (λ i. test (Delete i))) (notes (λ f. property (note_of f)) (λ f. test (note_of f)))
   where
-    none_there : (Found section_fields.valid (λ f. property (section_of f)) → ⊥) → (Found text_fields.valid (λ f. property (text_of f)) → ⊥) → (Found IsIdentifier (λ i. property (Delete i)) → ⊥)
+    none_there : (Found section_fields.valid (λ f. property (section_of f)) → ⊥) → (Found text_fields.valid (λ f. property (text_of f)) → ⊥)
+        → (Found IsIdentifier (λ i. property (Delete i)) → ⊥)
         → (Found note_fields.valid (λ f. property (note_of f)) → ⊥) → (op : Op) → HasFrame op → property op → ⊥
     none_there a b c d (Section i l r t) has p = a (record { value = (i, (l, (r, t))); member = (has.0, (has.1, (has.2, has.3))); holds = p })
     none_there a b c d (Text i s l r ch) has p = b (record { value = (i, (s, (l, (r, ch)))); member = (has.0, (has.1, (has.2, (has.3, has.4)))); holds = p })
@@ -156,12 +159,14 @@ front_of g b =
     by_search (items g (λ i. Continues (λ rest. Unit {0}) (item_bytes i) b) (λ i. continues_decided (λ rest. Unit {0}) (λ rest. inl tt) (item_bytes i) b))
     (items g (λ i. Continues (λ rest. 0 < length rest) b (item_bytes i)) (λ i. continues_decided (λ rest. 0 < length rest) (λ rest. less_decided 0 (length rest)) b (item_bytes i)))
   where
-    by_search : Decided (Found (IsItem g) (λ i. Continues (λ rest. Unit {0}) (item_bytes i) b)) → Decided (Found (IsItem g) (λ i. Continues (λ rest. 0 < length rest) b (item_bytes i)))
+    by_search : Decided (Found (IsItem g) (λ i. Continues (λ rest. Unit {0}) (item_bytes i) b))
+        → Decided (Found (IsItem g) (λ i. Continues (λ rest. 0 < length rest) b (item_bytes i)))
         → Front g b
     by_search (inl f) other = frame_there (item_framed f.value) f.holds.0 (record { is_frame = item_is_framed g f.value f.member; split = f.holds.2 })
     by_search (inr none) (inl f) =
         front_there (record { framed = item_framed f.value; is_frame = item_is_framed g f.value f.member; more = f.holds.0; lacks = f.holds.1; front = f.holds.2 })
     by_search (inr none) (inr neither) = bad_there (record {
-      no_frame = λ framed rest p. none (record { value = p.is_frame.item; member = p.is_frame.is_item; holds = (rest, tt, p.split ∙ ap (λ (l : List ℕ). l ++ rest) p.is_frame.bytes_are) });
+      no_frame = λ framed rest p. none
+          (record { value = p.is_frame.item; member = p.is_frame.is_item; holds = (rest, tt, p.split ∙ ap (λ (l : List ℕ). l ++ rest) p.is_frame.bytes_are) });
       no_front = λ p. neither (record { value = p.is_frame.item; member = p.is_frame.is_item; holds = (p.more, p.lacks, sym p.is_frame.bytes_are ∙ p.front) });
     })

@@ -1,5 +1,6 @@
 -- Operations that are given at once, as calls of the reader give them.
-use Rattle.std.proofs.Common.{◌≡◌, ℕ, zero, suc, ◌+◌, ◌-◌, ◌*◌, ◌<◌, ◌≤◌, List, [], ◌∷◌, ◌++◌, length, take, drop, true, refl, ap, sym, subst, ◌∙◌, arith, append_assoc, false, length-append, length-drop}
+use Rattle.std.proofs.Common.{◌≡◌, ℕ, zero, suc, ◌+◌, ◌-◌, ◌*◌, ◌<◌, ◌≤◌, List, [], ◌∷◌, ◌++◌, length, take, drop, true, refl, ap, sym, subst, ◌∙◌, arith, append_assoc, false}
+use Rattle.std.proofs.Common.{length-append, length-drop}
 use Rattle.std.specs.Prelude.{IfSome, ◌^◌, Option, Some, None, Ok, flat_map, All}
 use Rattle.std.specs.Char.{IsScalar}
 use Rattle.std.specs.Io.KnownBytes.{prepend_known}
@@ -20,7 +21,8 @@ use Rattle.origin_model.proofs.SharedLemmas.{frame_wide, length-scalars}
 use Rattle.op_frame.specs.Firsts.{StartsWith}
 use Rattle.op_frame.specs.FrameFronts.{IsScalarBytes}
 use Rattle.op_frame.specs.Heads.{IsHeld, behind_held, held_ops, run_at, text_scalars}
-use Rattle.op_frame.specs.NextRuns.{Gathers, GathersDeletes, GathersOne, GathersTexts, GaveMore, GivesAll, GivesMany, GivesOn, IsOpFront, IsReachedRun, IsRunFront, IsTextBehind, RisesBy, TakesHeld, TakesTexts, start_in}
+use Rattle.op_frame.specs.NextRuns.{Gathers, GathersDeletes, GathersOne, GathersTexts, GaveMore, GivesAll, GivesMany, GivesOn, IsOpFront, IsReachedOp, IsRunFront, IsTextBehind}
+use Rattle.op_frame.specs.NextRuns.{RisesBy, TakesHeld, TakesTexts, start_in}
 use Rattle.op_frame.specs.declared.next_ops.NextOps.TheVariants.{Deletes, Run}
 use Rattle.op_frame.specs.Readers.{AnswersBy, FrameReading, Gave, Nexts, RisesByThree, held as held_back, read}
 use Rattle.op_frame.specs.declared.fault.FrameFault.{FrameFault}
@@ -97,7 +99,8 @@ module _ (g : Grammar) (limit offset last len : ℕ) (window : List ℕ) (source
   gives_texts start (ch ∷ text) some is = gives_frame (text_by start ch) (in_a_row (next_id start.id) start.section (Some start.id) start.right text) is
 
 -- some operations and then others
-pub gives_then : (old mid new : FrameReading) (source : SourceView) (ops more : List Op) → GivesOn old mid source ops → GivesOn mid new source more → GivesOn old new source (ops ++ more)
+pub gives_then : (old mid new : FrameReading) (source : SourceView) (ops more : List Op) → GivesOn old mid source ops → GivesOn mid new source more
+    → GivesOn old new source (ops ++ more)
 gives_then old mid new source [] more same on = subst (λ (r : FrameReading). GivesOn r new source more) same on
 gives_then old mid new source (op ∷ ops) more p on = (p.0, p.1, gives_then p.0 mid new source ops more p.2 on)
 
@@ -124,11 +127,13 @@ pub run_behind_first : (start : RunStart) (ch : ℕ) (more : List ℕ) → run_f
 run_behind_first start ch more = λ i. text_by start ch ∷ in_a_row (next_id start.id) start.section (Some (sym (none_behind start.id) i)) start.right more
 
 -- Texts were gathered, and then more
-pub gathers_then : (start : RunStart) (a b c : List ℕ) (old mid new : FrameReading) → GathersTexts start a b old mid → GathersTexts start b c mid new → GathersTexts start a c old new
+pub gathers_then : (start : RunStart) (a b c : List ℕ) (old mid new : FrameReading) → GathersTexts start a b old mid → GathersTexts start b c mid new
+    → GathersTexts start a c old new
 gathers_then start a b c old mid new p q = record {
   more = p.more ++ q.more;
   text_is = q.text_is ∙ ap (λ (l : List ℕ). l ++ q.more) p.text_is ∙ append_assoc a p.more q.more;
-  gives = λ source. subst (GivesOn old new source) (sym parts) (gives_then old mid new source (run_from (start_behind start (length a)) p.more) (run_from (start_behind start (length b)) q.more) (p.gives source) (q.gives source));
+  gives = λ source. subst (GivesOn old new source) (sym parts)
+      (gives_then old mid new source (run_from (start_behind start (length a)) p.more) (run_from (start_behind start (length b)) q.more) (p.gives source) (q.gives source));
   counters = q.counters;
   no_fault = q.no_fault;
   limit = q.limit ∙ p.limit;
@@ -143,12 +148,14 @@ gathers_then start a b c old mid new p q = record {
         ∙ ap (λ (s : RunStart). run_from (start_behind start (length a)) p.more ++ run_from s q.more) (further start (length a) (length p.more) ∙ ap (start_behind start) long)
 
 -- none yet
-pub gathers_none : (start : RunStart) (text : List ℕ) (reader : FrameReading) → start.id.counter + length text ≤ 2 ^ 32 → reader.fault ≡ None → GathersTexts start text text reader reader
+pub gathers_none : (start : RunStart) (text : List ℕ) (reader : FrameReading) → start.id.counter + length text ≤ 2 ^ 32 → reader.fault ≡ None
+    → GathersTexts start text text reader reader
 gathers_none start text reader counters fault =
     record { more = []; text_is = sym (append-nil text); gives = λ source. refl; counters = counters; no_fault = fault; limit = refl; short = omega arith }
 
 -- Deletes were gathered, and then one more
-pub one_delete_more : (x : Identifier) (count : ℕ) (old mid new : FrameReading) → count < 1024 → GathersDeletes x count old mid → GathersOne x count mid new → GathersDeletes x (count + 1) old new
+pub one_delete_more : (x : Identifier) (count : ℕ) (old mid new : FrameReading) → count < 1024 → GathersDeletes x count old mid → GathersOne x count mid new
+    → GathersDeletes x (count + 1) old new
 one_delete_more x count old mid new few p q = record {
   some = omega arith;
   gives = λ source. subst (GivesOn old new source) (sym parts)
@@ -174,7 +181,8 @@ pub no_delete_more : (x : Identifier) (reader : FrameReading) → x.counter < 2 
 no_delete_more x reader fits fault = record { some = omega arith; gives = λ source. refl; counters = omega (arith, fits); few = omega arith; no_fault = fault; short = omega arith }
 
 -- a Delete, and those that go on with it
-pub gathers_row : (x : Identifier) (count : ℕ) (text : List ℕ) (old new : FrameReading) → text ≡ [] → GathersDeletes x count old new → Gathers (Delete x) (Deletes x count) text old new
+pub gathers_row : (x : Identifier) (count : ℕ) (text : List ℕ) (old new : FrameReading) → text ≡ [] → GathersDeletes x count old new
+    → Gathers (Delete x) (Deletes x count) text old new
 gathers_row x count text old new empty p = record {
   others = deletes_up (id_behind x 1) (count - 1);
   ops_are = let e : count ≡ suc (count - 1) = omega (arith, p.some) in ap (deletes_up x) e;
@@ -203,7 +211,8 @@ module _ (g : Grammar) (limit offset last : ℕ) (start : RunStart) (old_text te
         record {
           more = scalars;
           text_is = text_is;
-          gives = λ source. subst (λ (l : List ℕ). GivesOn (standing g limit (held_ops (Some head) window) (drop (3 * head.count) window) offset last) (standing g limit [] l offset last) source
+          gives = λ source. subst
+              (λ (l : List ℕ). GivesOn (standing g limit (held_ops (Some head) window) (drop (3 * head.count) window) offset last) (standing g limit [] l offset last) source
               (run_from (start_behind start (length old_text)) scalars)) (sym rest)
               (subst (λ (s : RunStart). GivesOn (standing g limit (held_ops (Some head) window) (drop (3 * head.count) window) offset last)
               (standing g limit [] (drop (3 * head.count) window) offset last) source (run_from s scalars)) goes
@@ -227,7 +236,8 @@ module _ (g : Grammar) (limit offset last : ℕ) (start : RunStart) (old_text te
         record {
           more = t.more;
           text_is = t.text_is;
-          gives = λ source. subst (λ (l : List ℕ). GivesOn (standing g limit [] window offset last) (standing g limit [] l (offset + len) offset) source (run_from next t.more)) (sym t.rest)
+          gives = λ source. subst (λ (l : List ℕ). GivesOn (standing g limit [] window offset last) (standing g limit [] l (offset + len) offset) source (run_from next t.more))
+              (sym t.rest)
               (gives_texts g limit offset last len window source inside t.within next t.more t.some t.is_frame);
           counters = t.counters;
           no_fault = refl;
@@ -294,7 +304,8 @@ module _ (head : Head) (bytes : List ℕ) (h : IsHeld bytes head) (k : ℕ) wher
       let p = scalar_at head bytes h k more in
       (scalar_bytes p.ch, p.others, (p.ch, p.is, refl), tt, all_from_place ∙ p.split)
 
-  pub put_more : k < head.count → (old text new : List ℕ) (ch : ℕ) → text ≡ old ++ take k (text_scalars head.count bytes) → new ≡ text ++ ch ∷ [] → from_place ≡ scalar_bytes ch ++ drop 3 from_place → IsScalar ch
+  pub put_more : k < head.count → (old text new : List ℕ) (ch : ℕ) → text ≡ old ++ take k (text_scalars head.count bytes) → new ≡ text ++ ch ∷ []
+      → from_place ≡ scalar_bytes ch ++ drop 3 from_place → IsScalar ch
       → new ≡ old ++ take (k + 1) (text_scalars head.count bytes)
   put_more more old text new ch before put split is =
       let p = scalar_at head bytes h k more in
@@ -312,7 +323,8 @@ front_is f rest bytes len split is =
     (ap (take len) split ∙ take_at f rest len long, omega (arith, is))
 
 -- the frame of one Text goes on with the run
-pub takes_text : (g : Grammar) (start : RunStart) (count ch len : ℕ) (bytes old_text text new : List ℕ) → count ≡ length old_text → IsTextBehind start count ch len bytes → text ≡ old_text ++ ch ∷ [] → new ≡ drop len bytes
+pub takes_text : (g : Grammar) (start : RunStart) (count ch len : ℕ) (bytes old_text text new : List ℕ) → count ≡ length old_text → IsTextBehind start count ch len bytes
+    → text ≡ old_text ++ ch ∷ [] → new ≡ drop len bytes
     → TakesTexts g start old_text text bytes new len
 takes_text g start count ch len bytes old_text text new counted (fits, there) put rest =
     let at : RunStart → Op = λ s. text_by s ch in
@@ -322,7 +334,12 @@ takes_text g start count ch len bytes old_text text new counted (fits, there) pu
       some = omega arith;
       within = front.1;
       is_frame = subst (λ (n : ℕ). IsFrame g (record { bytes = take len bytes; ops = run_from (start_behind start n) (ch ∷ []) })) counted
-          (record { item = Single (at (start_behind start count)); is_item = of_each_version g (at (start_behind start count)) there.has_frame tt; bytes_are = front.0; ops_are = refl });
+          (record {
+            item = Single (at (start_behind start count));
+            is_item = of_each_version g (at (start_behind start count)) there.has_frame tt;
+            bytes_are = front.0;
+            ops_are = refl;
+          });
       text_is = put;
       rest = rest;
       counters = omega (arith, fits, counted, ap length put, length-append old_text (ch ∷ []));
@@ -338,11 +355,13 @@ module _ (g : Grammar) (head : Head) (len : ℕ) (bytes : List ℕ) (f : IsRunFr
 
   pub run_held : (s : List ℕ) → s ≡ bytes → IsHeld (scalars_at s) head
   run_held s same =
-      subst (λ (b : List ℕ). IsHeld b head) (sym (take_all (length s - (len - 3 * head.count)) (drop (len - 3 * head.count) s) (omega (arith, length-drop (len - 3 * head.count) s))))
+      subst (λ (b : List ℕ). IsHeld b head)
+      (sym (take_all (length s - (len - 3 * head.count)) (drop (len - 3 * head.count) s) (omega (arith, length-drop (len - 3 * head.count) s))))
       (subst (λ (b : List ℕ). IsHeld (drop (len - 3 * head.count) b) head) (sym same) (text_there head bytes len f.within f.head_is).held)
 
   -- it goes on with the run
-  pub takes_run_texts : (start : RunStart) (s old_text text new : List ℕ) → s ≡ bytes → start_in head ≡ start_behind start (length old_text) → text ≡ old_text ++ text_scalars head.count (scalars_at s) → new ≡ drop len bytes
+  pub takes_run_texts : (start : RunStart) (s old_text text new : List ℕ) → s ≡ bytes → start_in head ≡ start_behind start (length old_text)
+      → text ≡ old_text ++ text_scalars head.count (scalars_at s) → new ≡ drop len bytes
       → TakesTexts g start old_text text bytes new len
   takes_run_texts start s old_text text new same goes put rest =
       let t = text_there head bytes len f.within f.head_is in
@@ -350,7 +369,8 @@ module _ (g : Grammar) (head : Head) (len : ℕ) (bytes : List ℕ) (f : IsRunFr
       let long : length scalars ≡ head.count = scalars_long head (scalars_at s) (run_held s same) in
       let at : head.id.counter ≡ start.id.counter + length old_text = ap (λ (r : RunStart). r.id.counter) goes in
       let place : scalars_at s ≡ drop (len - 3 * head.count) bytes
-      = take_all (length s - (len - 3 * head.count)) (drop (len - 3 * head.count) s) (omega (arith, length-drop (len - 3 * head.count) s)) ∙ ap (drop (len - 3 * head.count)) same in
+      = take_all (length s - (len - 3 * head.count)) (drop (len - 3 * head.count) s) (omega (arith, length-drop (len - 3 * head.count) s))
+      ∙ ap (drop (len - 3 * head.count)) same in
       let ops : run_from (start_behind start (length old_text)) scalars ≡ run_ops (run_at head f.head_is.text)
       = ap (λ (r : RunStart). run_from r scalars) (sym goes) ∙ ap (λ (b : List ℕ). run_from (start_in head) (text_scalars head.count b)) place ∙ t.ops in
       record {
@@ -377,7 +397,8 @@ module _ (g : Grammar) (limit offset last : ℕ) (start : RunStart) (old_text te
   pub gathers_frame_at : (len : ℕ) → held ≡ None → TakesTexts g start old_text text window new len
       → GathersSome start old_text text (reading_at g limit held window offset last fault) (reading_at g limit held new (offset + len) offset fault)
   gathers_frame_at len is took =
-      subst (λ (f : Option FrameFault). GathersSome start old_text text (reading_at g limit held window offset last f) (reading_at g limit held new (offset + len) offset f)) (sym none)
+      subst (λ (f : Option FrameFault). GathersSome start old_text text (reading_at g limit held window offset last f) (reading_at g limit held new (offset + len) offset f))
+      (sym none)
       (subst (λ (o : Option Head). GathersSome start old_text text (reading_at g limit o window offset last None) (reading_at g limit o new (offset + len) offset None)) (sym is)
       (gathers_frame g limit offset last start old_text text window new len (subst (λ (o : Option Head). offset + length (behind_held o window) ≤ limit) is inside) took))
 
@@ -392,7 +413,9 @@ gathers_delete_at g limit offset last x count len window new None fault none ins
     let whole : IsFrame g (record { bytes = take len window; ops = Delete y ∷ [] }) =
     record { item = Single (Delete y); is_item = of_each_version g (Delete y) there.has_frame tt; bytes_are = front.0; ops_are = refl } in
     record {
-      gives = λ source. subst (λ (f : Option FrameFault). GivesOn (reading_at g limit None window offset last f) (reading_at g limit None new (offset + len) offset f) source (Delete y ∷ [])) (sym none)
+      gives = λ source. subst
+          (λ (f : Option FrameFault). GivesOn (reading_at g limit None window offset last f) (reading_at g limit None new (offset + len) offset f) source (Delete y ∷ []))
+          (sym none)
           (subst (λ (l : List ℕ). GivesOn (standing g limit [] window offset last) (standing g limit [] l (offset + len) offset) source (Delete y ∷ [])) (sym rest)
           (gives_delete g limit offset last len window source inside front.1 y whole));
       counters = fits;
@@ -411,7 +434,8 @@ text_is_by (Delete target) start ch is = absurd (cc is)
 text_is_by (Note id n c b) start ch is = absurd (cc is)
 
 -- a Text, and those that go on with it
-pub gathers_run : (op : Op) (start : RunStart) (ch : ℕ) (one text : List ℕ) (old new : FrameReading) → text_in op ≡ Some (start, ch) → one ≡ ch ∷ [] → GathersTexts start one text old new
+pub gathers_run : (op : Op) (start : RunStart) (ch : ℕ) (one text : List ℕ) (old new : FrameReading) → text_in op ≡ Some (start, ch) → one ≡ ch ∷ []
+    → GathersTexts start one text old new
     → Gathers op (Run start) text old new
 gathers_run op start ch one text old new is first p = record {
   others = run_from (start_behind start 1) p.more;
@@ -482,7 +506,8 @@ gives_many old new before after (op ∷ ops) p =
     }
 
 -- an operation that is given, behind those before it
-reached_on : (old new : FrameReading) (source : SourceView) (front : List Op) (op : Op) (more : List Op) → GivesOn old new source (front ++ op ∷ more) → IsReachedRun old source source front op
+reached_on : (old new : FrameReading) (source : SourceView) (front : List Op) (op : Op) (more : List Op) → GivesOn old new source (front ++ op ∷ more)
+    → IsReachedOp old source source front op
 reached_on old new source [] op more p = record { at = old; next = p.0; seen = source; gave = nothing_more old source; nexts = p.1; grammar = refl; limit = refl }
 reached_on old new source (first ∷ front) op more p =
     let on = reached_on p.0 new source front op more p.2 in
@@ -496,7 +521,8 @@ reached_on old new source (first ∷ front) op more p =
       limit = on.limit ∙ p.1.advances.limit;
     }
 
-pub reached : (old new : FrameReading) (before after : SourceView) (front : List Op) (op : Op) (more : List Op) → GivesAll old new before after (front ++ op ∷ more) → IsReachedRun old before after front op
+pub reached : (old new : FrameReading) (before after : SourceView) (front : List Op) (op : Op) (more : List Op) → GivesAll old new before after (front ++ op ∷ more)
+    → IsReachedOp old before after front op
 reached old new before after [] op more p = record { at = old; next = p.0; seen = before; gave = nothing_more old before; nexts = p.1; grammar = refl; limit = refl }
 reached old new before after (first ∷ front) op more p =
     let on = reached_on p.0 new after front op more p.2 in
@@ -511,7 +537,8 @@ reached old new before after (first ∷ front) op more p =
     }
 
 -- an operation was given, and others with it
-pub gives_with : (old mid new : FrameReading) (before after : SourceView) (op : Op) (ops others : List Op) → ops ≡ op ∷ others → Nexts old mid before after (Ok (Some op)) → GivesOn mid new after others
+pub gives_with : (old mid new : FrameReading) (before after : SourceView) (op : Op) (ops others : List Op) → ops ≡ op ∷ others → Nexts old mid before after (Ok (Some op))
+    → GivesOn mid new after others
     → GivesAll old new before after ops
 gives_with old mid new before after op ops others is nexts on = subst (GivesAll old new before after) (sym is) (mid, nexts, on)
 

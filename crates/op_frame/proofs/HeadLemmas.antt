@@ -1,5 +1,6 @@
 -- Runs whose scalars stay in bytes.
-use Rattle.std.proofs.Common.{◌≡◌, ℕ, suc, ◌+◌, ◌-◌, ◌*◌, ◌<◌, ◌≤◌, List, [], ◌∷◌, ◌++◌, length, take, drop, get_or, refl, ap, sym, subst, ◌∙◌, arith, append_assoc, length-append, length-drop}
+use Rattle.std.proofs.Common.{◌≡◌, ℕ, suc, ◌+◌, ◌-◌, ◌*◌, ◌<◌, ◌≤◌, List, [], ◌∷◌, ◌++◌, length, take, drop, get_or, refl, ap, sym, subst, ◌∙◌, arith, append_assoc, length-append}
+use Rattle.std.proofs.Common.{length-drop}
 use Rattle.std.specs.Prelude.{All, Option, Some, None, flat_map}
 use Rattle.std.specs.Char.{IsScalar}
 use Rattle.std.specs.Int.{from_be_bytes, to_be_bytes, w16}
@@ -30,8 +31,14 @@ scalar_first head bytes h = by_text h.text h.scalars h.count h.split
   where
     by_text : (text : List ℕ) → All IsScalar text → length text ≡ head.count → bytes ≡ flat_map scalar_bytes text ++ h.rest → StartsWith IsScalarBytes bytes
     by_text [] all long split = absurd (omega (arith, long, h.some))
-    by_text (c ∷ text) all long split =
-        (scalar_bytes c, flat_map scalar_bytes text ++ h.rest, (c, All-head IsScalar c text all, refl), tt, split ∙ append_assoc (scalar_bytes c) (flat_map scalar_bytes text) h.rest)
+    by_text (c ∷ text) all long split = (
+      scalar_bytes c,
+      flat_map scalar_bytes text ++ h.rest,
+      (c, All-head IsScalar c text all, refl),
+      tt,
+      split
+          ∙ append_assoc (scalar_bytes c) (flat_map scalar_bytes text) h.rest,
+    )
 
 -- the first Text that is held back, and those behind it
 module _ (head : Head) (bytes : List ℕ) (c : ℕ) (h : IsHeld bytes head) (split : bytes ≡ scalar_bytes c ++ drop 3 bytes) (is : IsScalar c) where
@@ -94,7 +101,8 @@ pub record TextThere (head : Head) (bytes rest : List ℕ) (n : ℕ) (text : Lis
   pub behind : behind_held (Some head) bytes ≡ rest
   pub within : 3 * head.count ≤ n
 
-pub text_there : (head : Head) (bytes : List ℕ) (n : ℕ) → n ≤ length bytes → (is : HeadIs head (take n bytes)) → TextThere head (drop (n - 3 * head.count) bytes) (drop n bytes) n is.text
+pub text_there : (head : Head) (bytes : List ℕ) (n : ℕ) → n ≤ length bytes → (is : HeadIs head (take n bytes))
+    → TextThere head (drop (n - 3 * head.count) bytes) (drop n bytes) n is.text
 text_there head bytes n within is = record {
   held = record {
     text = text;
@@ -119,7 +127,9 @@ text_there head bytes n within is = record {
     run = run_at head text
 
     whole : take n bytes ≡ before_text run ++ flat_map scalar_bytes text
-    whole = is.bytes_are ∙ sym (append_assoc (4 ∷ [] ++ id_bytes run.id ++ id_bytes run.section ++ origin_bytes run.left ++ origin_bytes run.right) (to_be_bytes w16 (length text)) (flat_map scalar_bytes text))
+    whole = is.bytes_are ∙ sym
+        (append_assoc (4 ∷ [] ++ id_bytes run.id ++ id_bytes run.section ++ origin_bytes run.left ++ origin_bytes run.right) (to_be_bytes w16 (length text))
+        (flat_map scalar_bytes text))
 
     sizes : n ≡ length (before_text run) + 3 * head.count
     sizes = sym (length-take-le n bytes within) ∙ ap length whole ∙ length-append (before_text run) (flat_map scalar_bytes text)
@@ -133,14 +143,16 @@ text_there head bytes n within is = record {
         ∙ drop-append_seam (before_text run) (flat_map scalar_bytes text ++ drop n bytes)
 
 -- the fields before the scalars, one after the other
-pub head_read : (rest r1 r2 r3 r4 : List ℕ) (id s : Identifier) (l r : Option Identifier) (n : ℕ) → IsRunBehind rest → IsIdentifier id → IsIdentifier s → IsFrameOrigin l → IsFrameOrigin r
+pub head_read : (rest r1 r2 r3 r4 : List ℕ) (id s : Identifier) (l r : Option Identifier) (n : ℕ) → IsRunBehind rest → IsIdentifier id → IsIdentifier s → IsFrameOrigin l
+    → IsFrameOrigin r
     → rest ≡ id_bytes id ++ r1 → r1 ≡ id_bytes s ++ r2 → r2 ≡ origin_bytes l ++ r3 → r3 ≡ origin_bytes r ++ r4 → n < 65536 → to_be_bytes w16 n ≡ get_or r4 0 0 ∷ get_or r4 1 0 ∷ []
     → HeadIs (record { id = id; section = s; left = l; right = r; count = n }) (4 ∷ rest)
 head_read rest r1 r2 r3 r4 id s l r n b id_is s_is l_is r_is e1 e2 e3 e4 small bytes =
     let t = run_there rest b in
     let run : Run = t.run in
     let texts : List ℕ = text_bytes run.text in
-    let a = identifier_code.once run.id id (id_bytes run.section ++ (origin_bytes run.left ++ (origin_bytes run.right ++ texts))) r1 t.has_frame.id id_is (sym (run_is run) ∙ sym t.is ∙ e1) in
+    let a = identifier_code.once run.id id (id_bytes run.section ++ (origin_bytes run.left ++ (origin_bytes run.right ++ texts))) r1 t.has_frame.id id_is
+    (sym (run_is run) ∙ sym t.is ∙ e1) in
     let f = identifier_code.once run.section s (origin_bytes run.left ++ (origin_bytes run.right ++ texts)) r2 t.has_frame.section s_is (a.1 ∙ e2) in
     let g = origin_code.once run.left l (origin_bytes run.right ++ texts) r3 t.has_frame.left l_is (f.1 ∙ e3) in
     let k = origin_code.once run.right r texts r4 t.has_frame.right r_is (g.1 ∙ e4) in
@@ -157,7 +169,8 @@ head_read rest r1 r2 r3 r4 id s l r n b id_is s_is l_is r_is e1 e2 e3 e4 small b
     }
 
 -- the first Text of a run at the front of bytes is given
-pub takes_run : (head : Head) (held : Option Head) (op : Op) (old at new : List ℕ) (n : ℕ) → n ≤ length old → HeadIs head (take n old) → at ≡ drop (n - 3 * head.count) old → GivesHeld head op held at new
+pub takes_run : (head : Head) (held : Option Head) (op : Op) (old at new : List ℕ) (n : ℕ) → n ≤ length old → HeadIs head (take n old) → at ≡ drop (n - 3 * head.count) old
+    → GivesHeld head op held at new
     → TakesOff (record { op = op; held = held; len = n }) old new n
 takes_run head held op old at new n within is there gives =
     let t = text_there head old n within is in
@@ -181,13 +194,15 @@ pub record RunWhole (head : Head) (bytes scalars : List ℕ) : Type 0 where
 pub run_within : (head : Head) (bytes : List ℕ) → HeadIs head bytes → 3 * head.count ≤ length bytes
 run_within head bytes is = (text_there head bytes (length bytes) (omega arith) (subst (HeadIs head) (sym (take_all (length bytes) bytes (omega arith))) is)).within
 
-pub run_whole : (head : Head) (bytes : List ℕ) → HeadIs head bytes → RunWhole head bytes (take (length bytes - (length bytes - 3 * head.count)) (drop (length bytes - 3 * head.count) bytes))
+pub run_whole : (head : Head) (bytes : List ℕ) → HeadIs head bytes
+    → RunWhole head bytes (take (length bytes - (length bytes - 3 * head.count)) (drop (length bytes - 3 * head.count) bytes))
 run_whole head bytes is =
     let all : take (length bytes) bytes ≡ bytes = take_all (length bytes) bytes (omega arith) in
     let here : HeadIs head (take (length bytes) bytes) = subst (HeadIs head) (sym all) is in
     let t = text_there head bytes (length bytes) (omega arith) here in
     subst (RunWhole head bytes)
-    (sym (take_all (length bytes - (length bytes - 3 * head.count)) (drop (length bytes - 3 * head.count) bytes) (omega (arith, length-drop (length bytes - 3 * head.count) bytes))))
+    (sym (take_all (length bytes - (length bytes - 3 * head.count)) (drop (length bytes - 3 * head.count) bytes)
+    (omega (arith, length-drop (length bytes - 3 * head.count) bytes))))
     (record {
       held = t.held;
       is_frame = record {

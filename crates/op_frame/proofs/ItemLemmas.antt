@@ -6,7 +6,8 @@ use Rattle.fugue_ids.specs.declared.op.Op.{Op}
 use Rattle.fugue_ids.specs.declared.op.Op.TheVariants.{Section, Text, Delete, Note}
 use Rattle.origin_model.specs.declared.grammar.Grammar.{Grammar}
 use Rattle.origin_model.specs.declared.grammar.Grammar.TheVariants.{Version1, Version2}
-use Rattle.origin_model.specs.frames.Frames.{HasFrame, HasRunFrame, IsItem, IsOfVersion1, Item, Run, Single, Typed, frame, id_bytes, item_bytes, origin_bytes, run_frame, text_bytes}
+use Rattle.origin_model.specs.frames.Frames.{HasFrame, HasRunFrame, IsItem, IsOfVersion1, Item, Run, Single, Typed, frame, id_bytes, item_bytes, origin_bytes, run_frame}
+use Rattle.origin_model.specs.frames.Frames.{text_bytes}
 pub use Rattle.origin_model.proofs.SharedLemmas.{item_framed, item_is_framed}
 use Rattle.op_frame.proofs.FormatLemmas.{Format, IsCode, code_join, identifier, item, join, origin, run_text}
 use Rattle.op_frame.proofs.CodeLemmas.{identifier_code, origin_code, run_text_code}
@@ -26,7 +27,8 @@ fields_of run = (run.id, (run.section, (run.left, (run.right, run.text))))
 
 run_code : IsCode run_fields
 run_code = code_join identifier (join identifier (join origin (join origin run_text))) identifier_code
-    (code_join identifier (join origin (join origin run_text)) identifier_code (code_join origin (join origin run_text) origin_code (code_join origin run_text origin_code run_text_code)))
+    (code_join identifier (join origin (join origin run_text)) identifier_code
+    (code_join origin (join origin run_text) origin_code (code_join origin run_text origin_code run_text_code)))
 
 -- behind the first byte
 pub run_is : (run : Run) → drop 1 (run_frame run) ≡ run_fields.spelling (fields_of run)

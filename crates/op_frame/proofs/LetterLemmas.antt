@@ -1,5 +1,6 @@
 -- A letter's frame, field by field.
-use Rattle.std.proofs.Common.{◌≡◌, ◌⊎◌, ℕ, suc, ◌+◌, ◌-◌, ◌<◌, ◌≤◌, List, [], ◌∷◌, ◌++◌, length, take, drop, get_or, refl, ap, inl, inr, subst, sym, ◌∙◌, append_assoc, arith, length-append, length-drop}
+use Rattle.std.proofs.Common.{◌≡◌, ◌⊎◌, ℕ, suc, ◌+◌, ◌-◌, ◌<◌, ◌≤◌, List, [], ◌∷◌, ◌++◌, length, take, drop, get_or, refl, ap, inl, inr, subst, sym, ◌∙◌, append_assoc, arith}
+use Rattle.std.proofs.Common.{length-append, length-drop}
 use Rattle.std.specs.Prelude.{IfNone, None, Option, Some, ◌^◌}
 use Rattle.std.specs.Int.{to_be_bytes, w32}
 use Rattle.std.proofs.lemmas.List.{append-nil, drop-drop, drop_more, get_or-drop, get_or-take, take-append-drop, take_at}
@@ -71,7 +72,8 @@ module _ (bytes : List ℕ) (at : ℕ) where
         | inr one ↦ subst (StartsWith IsIdentifierBytes) (drop-drop 1 at bytes) one.1
       ]
 
-pub origin_between : (bytes : List ℕ) (at end : ℕ) → at < length bytes → get_or bytes at 0 ≡ 1 → IsFieldBetween IsIdentifierBytes bytes (at + 1) end → IsFieldBetween IsOriginBytes bytes at end
+pub origin_between : (bytes : List ℕ) (at end : ℕ) → at < length bytes → get_or bytes at 0 ≡ 1 → IsFieldBetween IsIdentifierBytes bytes (at + 1) end
+    → IsFieldBetween IsOriginBytes bytes at end
 origin_between bytes at end inside tag p =
     let more : end - at ≡ suc (end - (at + 1)) = omega (arith, p.ordered) in
     record {
@@ -89,7 +91,8 @@ kind_is (x ∷ bytes) kind some is = λ i. is i ∷ []
 grows : (bytes : List ℕ) (at end : ℕ) (front field : List ℕ) → at ≤ end → take at bytes ≡ front → take (end - at) (drop at bytes) ≡ field → take end bytes ≡ front ++ field
 grows bytes at end front field le before is = sym (next_field bytes at end le) ∙ (λ i. before i ++ is i)
 
-pub text_whole : (bytes : List ℕ) (a b c d e : ℕ) → take 1 bytes ≡ 2 ∷ [] → IsFieldBetween IsIdentifierBytes bytes 1 a → IsFieldBetween IsIdentifierBytes bytes a b → IsFieldBetween IsOriginBytes bytes b c
+pub text_whole : (bytes : List ℕ) (a b c d e : ℕ) → take 1 bytes ≡ 2 ∷ [] → IsFieldBetween IsIdentifierBytes bytes 1 a → IsFieldBetween IsIdentifierBytes bytes a b
+    → IsFieldBetween IsOriginBytes bytes b c
     → IsFieldBetween IsOriginBytes bytes c d → IsFieldBetween IsScalarBytes bytes d e → IsLetterFront e bytes
 text_whole bytes a b c d e kind id section left right ch =
     let to_section = grows bytes a b _ _ section.ordered (grows bytes 1 a _ _ id.ordered kind id.is.2) section.is.2 in
@@ -149,7 +152,13 @@ letter_fields b t = by_op t.2.0 t.2.1 t.2.2 (t.4 ∙ ap (λ (f : List ℕ). f ++
           id_bytes s,
           origin_bytes l ++ (origin_bytes r ++ (scalar_bytes ch ++ t.1)),
           (s, has.1, refl),
-          (origin_bytes l, origin_bytes r ++ (scalar_bytes ch ++ t.1), (l, has.2, refl), (origin_bytes r, scalar_bytes ch ++ t.1, (r, has.3, refl), (scalar_bytes ch, t.1, (ch, has.4, refl), tt, refl), refl), refl),
+          (
+            origin_bytes l,
+            origin_bytes r ++ (scalar_bytes ch ++ t.1),
+            (l, has.2, refl),
+            (origin_bytes r, scalar_bytes ch ++ t.1, (r, has.3, refl), (scalar_bytes ch, t.1, (ch, has.4, refl), tt, refl), refl),
+            refl,
+          ),
           refl,
         ),
         ap (drop 1) is ∙ append_assoc (id_bytes id ++ id_bytes s ++ origin_bytes l ++ origin_bytes r) (scalar_bytes ch) t.1
@@ -164,7 +173,8 @@ pub delete_fields : (b : List ℕ) → get_or b 0 0 ≡ 3 → StartsWith IsLette
 delete_fields b kind t = elim (letter_fields b t) [ inl p ↦ absurd (omega (arith, kind, p.0)) | inr p ↦ p.1 ]
 
 -- what follows a field that stands between two places
-behind : {T : Type 0} (F : Format T) → IsCode F → (Rest : List ℕ → Type 0) (bytes : List ℕ) (at mid : ℕ) → IsFieldBetween (Spelled F) bytes at mid → Then (Spelled F) Rest (drop at bytes)
+behind : {T : Type 0} (F : Format T) → IsCode F → (Rest : List ℕ → Type 0) (bytes : List ℕ) (at mid : ℕ) → IsFieldBetween (Spelled F) bytes at mid
+    → Then (Spelled F) Rest (drop at bytes)
     → Rest (drop mid bytes)
 behind F code Rest bytes at mid p t =
     let whole : at + (mid - at) ≡ mid = omega (arith, p.ordered) in

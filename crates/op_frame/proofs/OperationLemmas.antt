@@ -42,7 +42,8 @@ abbrev pub note_of : NoteFields → Op
 note_of v = Note v.0 v.1.0 v.1.1.0 v.1.1.1
 
 section_code : IsCode section_fields
-section_code = code_join identifier (join origin (join origin title)) identifier_code (code_join origin (join origin title) origin_code (code_join origin title origin_code title_code))
+section_code = code_join identifier (join origin (join origin title)) identifier_code
+    (code_join origin (join origin title) origin_code (code_join origin title origin_code title_code))
 
 text_code : IsCode text_fields
 text_code = code_join identifier (join identifier (join origin (join origin scalar))) identifier_code

@@ -53,7 +53,8 @@ advances_by old new result grammar limit inside within full stays fault =
 
 module _ (g : Grammar) (limit offset last : ℕ) (fault : Option FrameFault) (window new : List ℕ) (before after : SourceView) where
   -- no operation is given
-  pub nexts_none : (held : Option Head) → held ≡ None → offset + length (behind_held held window) ≤ limit → fault ≡ None → TakesFrontFrame g window new before after offset (limit - offset) (Ok None)
+  pub nexts_none : (held : Option Head) → held ≡ None → offset + length (behind_held held window) ≤ limit → fault ≡ None
+      → TakesFrontFrame g window new before after offset (limit - offset) (Ok None)
       → Nexts (reading_at g limit held window offset last fault) (reading_at g limit held new offset last fault) before after (Ok None)
   nexts_none (Some head) none inside no_fault t = absurd (cc none)
   nexts_none None none inside no_fault t = record {
@@ -87,14 +88,16 @@ module _ (g : Grammar) (limit offset last : ℕ) (fault : Option FrameFault) (wi
     at = t.at;
     gives = tt;
     moves = t.moves;
-    advances = advances_by _ _ (Err e) refl refl inside (omega (arith, inside, t.within)) (λ long. omega (arith, inside, t.full (fault_is e long))) (stays_put _ _ refl refl refl refl) is;
+    advances = advances_by _ _ (Err e) refl refl inside (omega (arith, inside, t.within)) (λ long. omega (arith, inside, t.full (fault_is e long)))
+        (stays_put _ _ refl refl refl refl) is;
   }
     where
       fault_is : (e : FrameFault) → ◌≡◌ {A = Result (Option Op) FrameFault} (Err e) (Err TooLong) → ◌≡◌ {A = Result (Option Taken) FrameFault} (Err e) (Err TooLong)
       fault_is e long = let same : e ≡ TooLong = cc long in ap Err same
 
 -- the first of the operations that are held back is given
-pub nexts_held : (g : Grammar) (limit offset last : ℕ) (fault : Option FrameFault) (window new : List ℕ) (source : SourceView) (held : Option Head) (head : Head) (op : Op) (next : Option Head) → held ≡ Some head
+pub nexts_held : (g : Grammar) (limit offset last : ℕ) (fault : Option FrameFault) (window new : List ℕ) (source : SourceView) (held : Option Head) (head : Head) (op : Op)
+    (next : Option Head) → held ≡ Some head
     → offset + length (behind_held held window) ≤ limit → fault ≡ None → GivesHeld head op next window new
     → Nexts (reading_at g limit held window offset last fault) (reading_at g limit next new offset last fault) source source (Ok (Some op))
 nexts_held g limit offset last fault window new source held head op next is inside no_fault gives = record {

@@ -9,7 +9,8 @@ use Rattle.fugue_ids.specs.declared.op.Op.TheVariants.{Delete, Note, Section, Te
 use Rattle.origin_model.specs.declared.grammar.Grammar.{Grammar}
 use Rattle.origin_model.specs.declared.grammar.Grammar.TheVariants.{Version2}
 use Rattle.origin_model.proofs.SharedLemmas.{FramesOnce}
-use Rattle.origin_model.specs.frames.Frames.{Begins, End, Whole, CutShort as EndsCut, BadFrame as EndsBad, EndsSo, Framed, IsFrame, IsIdentifier, IsPartial, Item, Reads, Single, Starts, Typed, frame, item_bytes, item_ops}
+use Rattle.origin_model.specs.frames.Frames.{Begins, End, Whole, CutShort as EndsCut, BadFrame as EndsBad, EndsSo, Framed, IsFrame, IsIdentifier, IsPartial, Item, Reads, Single}
+use Rattle.origin_model.specs.frames.Frames.{Starts, Typed, frame, item_bytes, item_ops}
 pub use Rattle.origin_model.proofs.SharedLemmas.{bytes_of, ops_of}
 use Rattle.op_frame.proofs.FrontLemmas.{Front, bad_there, frame_there, front_of, front_there}
 use Rattle.op_frame.proofs.ItemLemmas.{item_code, item_framed, item_is_framed, of_each_version}
@@ -96,7 +97,8 @@ module _ (g : Grammar) where
   goes_on (f ∷ fs) r [] s p q same k end ends =
       absurd (not_ended s f (bytes_of fs ++ r) k end (record { is_frame = All-head (IsFrame g) f fs p; split = sym same ∙ append_assoc f.bytes (bytes_of fs) r }) ends)
   goes_on (f ∷ fs) r (h ∷ hs) s p q same k end ends =
-      let first = same_front f h (bytes_of fs ++ r) (bytes_of hs ++ s) (All-head (IsFrame g) f fs p) (All-head (IsFrame g) h hs q) (sym (append_assoc f.bytes (bytes_of fs) r) ∙ same ∙ append_assoc h.bytes (bytes_of hs) s) in
+      let first = same_front f h (bytes_of fs ++ r) (bytes_of hs ++ s) (All-head (IsFrame g) f fs p) (All-head (IsFrame g) h hs q)
+      (sym (append_assoc f.bytes (bytes_of fs) r) ∙ same ∙ append_assoc h.bytes (bytes_of hs) s) in
       let behind = goes_on fs r hs s (All-tail (IsFrame g) f fs p) (All-tail (IsFrame g) h hs q) first.rest k end ends in
       record {
         more = behind.more;
@@ -120,7 +122,8 @@ module _ (g : Grammar) where
       let here : p.rest ≡ q.rest = both.rest ∙ ap (λ (fs : List Framed). bytes_of fs ++ q.rest) none in
       let at : bytes_of q.found ≡ bytes_of p.found = both.bytes ∙ ap (λ (fs : List Framed). bytes_of p.found ++ bytes_of fs) none ∙ append-nil (bytes_of p.found) in (
         p.ops_are ∙ sym (both.ops ∙ ap (λ (fs : List Framed). ops_of p.found ++ ops_of fs) none ∙ append-nil (ops_of p.found)) ∙ sym q.ops_are,
-        same_end q.rest (length (bytes_of q.found)) e f (subst (λ (n : ℕ). EndsSo g q.rest n e) (ap length (sym at)) (subst (λ (l : List ℕ). EndsSo g l (length (bytes_of p.found)) e) here p.ends)) q.ends,
+        same_end q.rest (length (bytes_of q.found)) e f
+            (subst (λ (n : ℕ). EndsSo g q.rest n e) (ap length (sym at)) (subst (λ (l : List ℕ). EndsSo g l (length (bytes_of p.found)) e) here p.ends)) q.ends,
       )
 
   -- frames at the front of a stream stand for its first operations
@@ -130,7 +133,8 @@ module _ (g : Grammar) where
       (ops_of both.more, q.ops_are ∙ both.ops ∙ ap (λ (l : List Op). l ++ ops_of both.more) (sym p.ops_are))
 
   -- one frame more at the front of a stream
-  pub starts_more : (b : List ℕ) (ops : List Op) (rest : List ℕ) (framed : Framed) (behind : List ℕ) → Starts g b ops rest → Begins g rest framed behind → Starts g b (ops ++ framed.ops) behind
+  pub starts_more : (b : List ℕ) (ops : List Op) (rest : List ℕ) (framed : Framed) (behind : List ℕ) → Starts g b ops rest → Begins g rest framed behind
+      → Starts g b (ops ++ framed.ops) behind
   starts_more b ops rest framed behind p q = record {
     found = p.found ++ framed ∷ [];
     are_frames = All-push (IsFrame g) p.found framed p.are_frames q.is_frame;

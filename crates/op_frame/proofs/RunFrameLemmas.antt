@@ -1,5 +1,6 @@
 -- The frame of a run, and what is written of operations behind others.
-use Rattle.std.proofs.Common.{take, get_or, add-one, ◌≡◌, ℕ, zero, suc, ◌+◌, ◌<◌, ◌≤◌, Bool, true, false, List, [], ◌∷◌, ◌++◌, length, refl, ap, sym, ◌∙◌, arith, inl, inr, append_assoc, append-nil, length-append}
+use Rattle.std.proofs.Common.{take, get_or, add-one, ◌≡◌, ℕ, zero, suc, ◌+◌, ◌<◌, ◌≤◌, Bool, true, false, List, [], ◌∷◌, ◌++◌, length, refl, ap, sym, ◌∙◌, arith, inl, inr}
+use Rattle.std.proofs.Common.{append_assoc, append-nil, length-append}
 use Rattle.std.specs.Prelude.{All, Option, Some, None, ◌&&◌, ◌^◌, nat_lt, if◌then◌else◌, flat_map}
 use Rattle.std.specs.Char.{IsScalar}
 use Rattle.std.proofs.lemmas.Bool.{and_from, and_left, and_right, cases_Bool, lt-ltb, le-ltb, cases_lt}
@@ -71,15 +72,18 @@ takes_run start ch text (c ∷ more) rest short =
     let next : RunStart = start_behind start (length (ch ∷ text)) in
     let long : length (ch ∷ text) + 1 ≡ length (ch ∷ text ++ c ∷ []) = omega (arith, length-append text (c ∷ [])) in
     let room : length (ch ∷ text) < 1024 = omega (arith, short, length-append text (c ∷ more)) in
-    let short' : length (ch ∷ (text ++ c ∷ []) ++ more) ≤ 1024 = omega (arith, short, length-append text (c ∷ more), length-append (text ++ c ∷ []) more, length-append text (c ∷ [])) in
-    ap (λ (ops : List Op). items_from item (ops ++ rest)) (run_behind_first next c more ∙ ap (λ (s : RunStart). text_by next c ∷ run_from s more) (further start (length (ch ∷ text)) 1))
+    let short' : length (ch ∷ (text ++ c ∷ []) ++ more) ≤ 1024 =
+    omega (arith, short, length-append text (c ∷ more), length-append (text ++ c ∷ []) more, length-append text (c ∷ [])) in
+    ap (λ (ops : List Op). items_from item (ops ++ rest))
+    (run_behind_first next c more ∙ ap (λ (s : RunStart). text_by next c ∷ run_from s more) (further start (length (ch ∷ text)) 1))
     ∙ ap (λ (n : ℕ). items_from item (text_by next c ∷ run_from (start_behind start n) more ++ rest)) long
     ∙ ap (begun item (text_by next c) (run_from (start_behind start (length (ch ∷ text ++ c ∷ []))) more ++ rest)) (takes_next start ch text c room)
     ∙ takes_run start ch (text ++ c ∷ []) more rest short'
     ∙ ap (λ (t : List ℕ). items_from (run_item start ch t) rest) (append_assoc text (c ∷ []) more)
 
 -- no more operations are of the item
-takes_no_more : (start : RunStart) (ch : ℕ) (text : List ℕ) (rest : List Op) → IsCompleteRun (Some start) (ch ∷ text) rest → items_from (run_item start ch text) rest ≡ run_item start ch text ∷ items rest
+takes_no_more : (start : RunStart) (ch : ℕ) (text : List ℕ) (rest : List Op) → IsCompleteRun (Some start) (ch ∷ text) rest
+    → items_from (run_item start ch text) rest ≡ run_item start ch text ∷ items rest
 takes_no_more start ch text [] done = refl
 takes_no_more start ch text (op ∷ rest) done =
     ap (begun (run_item start ch text) op rest)
@@ -97,7 +101,8 @@ run_alone start ch text short =
     ap frames (sym (append-nil (run_from start (ch ∷ text)))) ∙ run_then start ch text [] short (λ next c more is goes. cc is) ∙ append-nil (item_bytes (run_item start ch text))
 
 -- a run that is done, and what is behind it
-pub done_then : (opened : Option RunStart) (text : List ℕ) (rest : List Op) → length text ≤ 1024 → IsCompleteRun opened text rest → frames (open_ops opened text ++ rest) ≡ frames (open_ops opened text) ++ frames rest
+pub done_then : (opened : Option RunStart) (text : List ℕ) (rest : List Op) → length text ≤ 1024 → IsCompleteRun opened text rest
+    → frames (open_ops opened text ++ rest) ≡ frames (open_ops opened text) ++ frames rest
 done_then None text rest short done = refl
 done_then (Some start) [] rest short done = refl
 done_then (Some start) (ch ∷ text) rest short done = run_then start ch text rest short done ∙ ap (λ (bytes : List ℕ). bytes ++ frames rest) (sym (run_alone start ch text short))
@@ -113,7 +118,8 @@ other_then (Note id names code body) [] is = refl
 other_then (Note id names code body) (op ∷ rest) is = refl
 
 -- the operations of a run have frames
-pub run_frames : (id section : Identifier) (left right : Option Identifier) (text : List ℕ) → IsIdentifier id → id.counter + length text ≤ 2 ^ 32 → IsIdentifier section → IsFrameOrigin left → IsFrameOrigin right
+pub run_frames : (id section : Identifier) (left right : Option Identifier) (text : List ℕ) → IsIdentifier id → id.counter + length text ≤ 2 ^ 32 → IsIdentifier section
+    → IsFrameOrigin left → IsFrameOrigin right
     → All IsScalar text → All HasFrame (in_a_row id section left right text)
 run_frames id section left right [] own few s l r scalars = All-nil HasFrame
 run_frames id section left right (ch ∷ []) own few s l r scalars =
@@ -136,7 +142,8 @@ deletes_then false target (suc n) rest =
     ∙ sym (append_assoc (frame (Delete target)) (frames (deletes_up (next_id target) n)) (frames rest))
     ∙ ap (λ (l : List ℕ). l ++ frames rest) (sym (other_then (Delete target) (deletes_up (next_id target) n) refl))
 
-pub frames_more : (down : Bool) (target : Identifier) (n : ℕ) → frames (deletes_by down target (n + 1)) ≡ frames (deletes_by down target n) ++ frame (Delete (target_by down target n))
+pub frames_more : (down : Bool) (target : Identifier) (n : ℕ)
+    → frames (deletes_by down target (n + 1)) ≡ frames (deletes_by down target n) ++ frame (Delete (target_by down target n))
 frames_more down target n =
     ap frames (deletes_more down target n) ∙ deletes_then down target n (Delete (target_by down target n) ∷ [])
     ∙ ap (λ (l : List ℕ). frames (deletes_by down target n) ++ l) (append-nil (frame (Delete (target_by down target n))))
@@ -148,13 +155,15 @@ deletes_first true target (suc n) some rest = (deletes_down (id_before target 1)
 deletes_first false target (suc n) some rest = (deletes_up (next_id target) n ++ rest, refl)
 
 -- the frame of a run that is longer than one Text
-pub many_written : (start : RunStart) (text : List ℕ) (old new : List ℕ) → 1 < length text → length text ≤ 1024 → new ≡ old ++ run_frame (run_of start text) → new ≡ old ++ frames (run_from start text)
+pub many_written : (start : RunStart) (text : List ℕ) (old new : List ℕ) → 1 < length text → length text ≤ 1024 → new ≡ old ++ run_frame (run_of start text)
+    → new ≡ old ++ frames (run_from start text)
 many_written start [] old new more short is = absurd (omega (arith, more))
 many_written start (ch ∷ []) old new more short is = absurd (omega (arith, more))
 many_written start (ch ∷ next ∷ text) old new more short is = is ∙ ap (λ (l : List ℕ). old ++ l) (sym (run_alone start ch (next ∷ text) short))
 
 -- the scalars of one Text more
-pub scalars_more : (text : List ℕ) (i : ℕ) (ch : ℕ) → i < length text → ch ≡ get_or text i ch → flat_map scalar_bytes (take i text) ++ scalar_bytes ch ≡ flat_map scalar_bytes (take (i + 1) text)
+pub scalars_more : (text : List ℕ) (i : ℕ) (ch : ℕ) → i < length text → ch ≡ get_or text i ch
+    → flat_map scalar_bytes (take i text) ++ scalar_bytes ch ≡ flat_map scalar_bytes (take (i + 1) text)
 scalars_more text i ch below is =
     flat_map_more scalar_bytes [] (take i text) ch
     ∙ ap (flat_map scalar_bytes) (ap (λ (x : ℕ). take i text ++ x ∷ []) is ∙ sym (take-suc text i ch below) ∙ ap (λ (n : ℕ). take n text) (sym (add-one i)))

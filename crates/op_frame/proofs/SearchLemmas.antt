@@ -64,7 +64,8 @@ module _ {T : Type 0} (set : T → Type 0) (searched : IsSearched set) where
       by_empty : Decided (property []) → Decided (Found (Shorter 0) property)
       by_empty (inl p) = inl (record { value = []; member = (omega arith, tt); holds = p })
       by_empty (inr none) = inr (λ f. none_longer none f.value f.member.0 f.holds)
-  listed (suc n) property test = by_empty (test []) (searched (λ x. Found (Shorter n) (λ list. property (x ∷ list))) (λ x. listed n (λ list. property (x ∷ list)) (λ list. test (x ∷ list))))
+  listed (suc n) property test =
+      by_empty (test []) (searched (λ x. Found (Shorter n) (λ list. property (x ∷ list))) (λ x. listed n (λ list. property (x ∷ list)) (λ list. test (x ∷ list))))
     where
       none_there : (property [] → ⊥) → (Found set (λ x. Found (Shorter n) (λ list. property (x ∷ list))) → ⊥) → (list : List T) → Shorter (suc n) list → property list → ⊥
       none_there none more [] member p = none p

@@ -1,5 +1,6 @@
 -- One step of the reader: what the unread bytes show of those that are to be read.
-use Rattle.std.proofs.Common.{◌≡◌, ◌≢◌, ℕ, ◌+◌, ◌-◌, ◌<◌, ◌≤◌, Bool, false, List, [], ◌∷◌, ◌++◌, length, take, drop, refl, ap, sym, subst, ◌∙◌, ◌⊎◌, inl, inr, arith, append_assoc, length-append, length-drop}
+use Rattle.std.proofs.Common.{◌≡◌, ◌≢◌, ℕ, ◌+◌, ◌-◌, ◌<◌, ◌≤◌, Bool, false, List, [], ◌∷◌, ◌++◌, length, take, drop, refl, ap, sym, subst, ◌∙◌, ◌⊎◌, inl, inr, arith, append_assoc}
+use Rattle.std.proofs.Common.{length-append, length-drop}
 use Rattle.std.specs.Prelude.{Option, Some, None, Result, Ok, Err, IfSome, IfOk, IfErr, IsErrOf, slice_get}
 use Rattle.std.specs.Io.KnownBytes.{prepend_known}
 use Rattle.std.proofs.lemmas.List.{take_at, take-append-drop, length-take-le, append-nil}
@@ -40,12 +41,15 @@ asks_too b rest (inr body) = inr (first_stays b rest 5 body)
 module _ (g : Grammar) (old unread : List ℕ) (before now : SourceView) (offset room : ℕ) (s : Stands old unread before now room) where
   answer : (result : Result (Option Op) FrameFault) → ((rest : List ℕ) → now.left ≡ Some rest → ReadingAnswerIs g result offset room (unread ++ rest))
       → IfSome (prepend_known old before.left) (AnswersBy g result offset room)
-  answer result is = shows (AnswersBy g result offset room) unread now.left (prepend_known old before.left) s.told (λ rest left. answers_by g result offset room (unread ++ rest) (is rest left))
+  answer result is = shows (AnswersBy g result offset room) unread now.left (prepend_known old before.left) s.told
+      (λ rest left. answers_by g result offset room (unread ++ rest) (is rest left))
 
   -- an answer that is no fault of the source, by the bytes told so far
   ends_so : (new : List ℕ) (result : Result (Option Taken) FrameFault) → ((rest : List ℕ) → now.left ≡ Some rest → ReadingAnswerIs g (only_op result) offset room (unread ++ rest))
-      → CarriesOffset (only_op result) offset → IfOk result (λ given. IfSome given (λ taken. TakesFirst g taken old new before.left now.left)) → Moves (only_op result) old new before.left now.left
-      → length (behind_held (taken_held result) new) + taken_length result ≤ room → (IsErrOf result TooLong → ⊥) → (IsErrOf result ReadFault → ⊥) → TakesFrontFrame g old new before now offset room result
+      → CarriesOffset (only_op result) offset → IfOk result (λ given. IfSome given (λ taken. TakesFirst g taken old new before.left now.left))
+      → Moves (only_op result) old new before.left now.left
+      → length (behind_held (taken_held result) new) + taken_length result ≤ room → (IsErrOf result TooLong → ⊥) → (IsErrOf result ReadFault → ⊥)
+      → TakesFrontFrame g old new before now offset room result
   ends_so new result is at first moves within short no_fault = record {
     answer = answer (only_op result) is;
     at = at;
@@ -57,7 +61,8 @@ module _ (g : Grammar) (old unread : List ℕ) (before now : SourceView) (offset
   }
 
   -- a frame stands at the front of the unread bytes
-  gives : (new : List ℕ) (taken : Taken) (n : ℕ) → n ≤ length unread → IsFrameOf g (take n unread) → TakesOff taken unread new n → TakesFrontFrame g old new before now offset room (Ok (Some taken))
+  gives : (new : List ℕ) (taken : Taken) (n : ℕ) → n ≤ length unread → IsFrameOf g (take n unread) → TakesOff taken unread new n
+      → TakesFrontFrame g old new before now offset room (Ok (Some taken))
   gives new taken n whole f p =
       let framed : Framed = record { bytes = take n unread; ops = taken.op ∷ held_ops taken.held new } in
       let is = same_meaning g (take n unread) framed.ops f p.is_frame in
@@ -91,7 +96,8 @@ module _ (g : Grammar) (old unread : List ℕ) (before now : SourceView) (offset
   -- a title or a body found no memory
   wants : (new : List ℕ) → new ≡ unread → AsksMemory unread → TakesFrontFrame g old new before now offset room (Err NoMemory)
   wants new same first =
-      ends_so new (Err NoMemory) (λ rest is. asks_too unread rest first) tt tt (s.told ∙ ap (λ (l : List ℕ). prepend_known l now.left) (sym same)) (omega (arith, s.inside, ap length same))
+      ends_so new (Err NoMemory) (λ rest is. asks_too unread rest first) tt tt (s.told ∙ ap (λ (l : List ℕ). prepend_known l now.left) (sym same))
+      (omega (arith, s.inside, ap length same))
       (λ is. cc is) (λ is. cc is)
 
   -- the frame at the front was taken off, or found no memory
@@ -109,11 +115,14 @@ module _ (g : Grammar) (old unread : List ℕ) (before now : SourceView) (offset
   pub over : (result : Result (Option Taken) FrameFault) → IsPartial g unread → IfSome now.left (λ left. left ≡ []) → IfOk result (λ given. (given ≡ None) × (unread ≡ []))
       → IfErr result (λ e. (e ≡ CutShort offset) × (unread ≢ [])) → TakesFrontFrame g old unread before now offset room result
   over (Ok None) front none is cut =
-      ends_so unread (Ok None) (λ rest left. (λ i. is.1 i ++ some_is (λ (l : List ℕ). l ≡ []) now.left rest none left i)) tt tt (is.1, none, s.told) (omega (arith, s.inside)) (λ is. cc is) (λ is. cc is)
+      ends_so unread (Ok None) (λ rest left. (λ i. is.1 i ++ some_is (λ (l : List ℕ). l ≡ []) now.left rest none left i)) tt tt (is.1, none, s.told) (omega (arith, s.inside))
+      (λ is. cc is) (λ is. cc is)
   over (Ok (Some taken)) front none is cut = absurd (cc is.0)
-  over (Err e) front none is cut = subst (λ (fault : FrameFault). TakesFrontFrame g old unread before now offset room (Err fault)) (sym cut.0) (ends_so unread (Err (CutShort offset)) (λ rest left.
+  over (Err e) front none is cut =
+      subst (λ (fault : FrameFault). TakesFrontFrame g old unread before now offset room (Err fault)) (sym cut.0) (ends_so unread (Err (CutShort offset)) (λ rest left.
       let all : unread ≡ unread ++ rest = sym (append-nil unread) ∙ ap (λ (l : List ℕ). unread ++ l) (sym (some_is (λ (l : List ℕ). l ≡ []) now.left rest none left)) in
-      subst (ReadingAnswerIs g (Err (CutShort offset)) offset room) all (refl, cut.1, s.inside, front)) refl tt (s.told, none) (omega (arith, s.inside)) (λ is. cc is) (λ is. cc is))
+      subst (ReadingAnswerIs g (Err (CutShort offset)) offset room) all (refl, cut.1, s.inside, front)) refl tt (s.told, none) (omega (arith, s.inside)) (λ is. cc is)
+      (λ is. cc is))
 
   more_there : (left : Option (List ℕ)) (rest : List ℕ) (byte : ℕ) → Some rest ≡ prepend_known (byte ∷ []) left → 0 < length rest
   more_there None rest byte is = absurd (cc is)
@@ -127,7 +136,8 @@ module _ (g : Grammar) (old unread : List ℕ) (before now : SourceView) (offset
       → TakesFrontFrame g old new before after offset room (Err e)
   stops new after e front r = by_fault r.faults
     where
-      by_fault : (e ≡ ReadFault) × (after.left ≡ now.left) ⊎ (e ≡ TooLong) × (room - length unread ≡ 0) × Drops now.left after.left → TakesFrontFrame g old new before after offset room (Err e)
+      by_fault : (e ≡ ReadFault) × (after.left ≡ now.left) ⊎ (e ≡ TooLong) × (room - length unread ≡ 0) × Drops now.left after.left
+          → TakesFrontFrame g old new before after offset room (Err e)
       by_fault (inl f) = subst (λ (fault : FrameFault). TakesFrontFrame g old new before after offset room (Err fault)) (sym f.0) (record {
         answer = answer (Err ReadFault) (λ rest is. tt);
         at = tt;
@@ -148,7 +158,8 @@ module _ (g : Grammar) (old unread : List ℕ) (before now : SourceView) (offset
             first = tt;
             moves = (
               f.2.byte,
-              s.told ∙ ap (prepend_known unread) f.2.dropped ∙ prepend_twice unread (f.2.byte ∷ []) after.left ∙ ap (λ (l : List ℕ). prepend_known (l ++ f.2.byte ∷ []) after.left) (sym r.kept),
+              s.told ∙ ap (prepend_known unread) f.2.dropped ∙ prepend_twice unread (f.2.byte ∷ []) after.left
+                  ∙ ap (λ (l : List ℕ). prepend_known (l ++ f.2.byte ∷ []) after.left) (sym r.kept),
             );
             within = omega (arith, s.inside, ap length r.kept);
             full = λ is. omega (arith, here, ap length r.kept);

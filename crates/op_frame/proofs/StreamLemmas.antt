@@ -12,7 +12,8 @@ use Rattle.origin_model.specs.frames.Frames.{Framed, IsFrame, IsBad, End, Whole,
 use Rattle.origin_model.proofs.SharedLemmas.{frame_wide}
 use Rattle.op_frame.specs.declared.fault.FrameFault.TheVariants.{BadFrame, CutShort, ReadFault, TooLong, NoMemory}
 use Rattle.op_frame.specs.declared.fault.FrameFault.{FrameFault}
-use Rattle.op_frame.specs.Readers.{FrameReading, to_give, ReadingAnswerIs, AreFirst, Chains, EndsBy, Follows, Gave, GaveFirst, GivesOperation, GivesInOrder, HasTodo, IsByReading, IsReadByBytes, Nexts, RisesByThree, answer_of_rest, given_with, held, raised_end, read}
+use Rattle.op_frame.specs.Readers.{FrameReading, to_give, ReadingAnswerIs, AreFirst, Chains, EndsBy, Follows, Gave, GaveFirst, GivesOperation, GivesInOrder, HasTodo, IsByReading}
+use Rattle.op_frame.specs.Readers.{IsReadByBytes, Nexts, RisesByThree, answer_of_rest, given_with, held, raised_end, read}
 use Rattle.op_frame.proofs.FrameLemmas.{bad_goes_on}
 use Rattle.op_frame.proofs.ReadingLemmas.{bytes_of, ops_of, partial_end, reads_once, reads_some, starts_first}
 use Rattle.op_frame.proofs.ToldLemmas.{prepend_none, shows, some_is, take_past}
@@ -33,7 +34,8 @@ anything None = tt
 anything (Some bytes) = tt
 
 -- one operation more was given
-pub gave_more : (told : Option (List ℕ)) (ops : List Op) (op : Op) (old new : FrameReading) (before after : Option (List ℕ)) → new.grammar ≡ old.grammar → Gave told ops old before → GivesOperation op old new before after
+pub gave_more : (told : Option (List ℕ)) (ops : List Op) (op : Op) (old new : FrameReading) (before after : Option (List ℕ)) → new.grammar ≡ old.grammar → Gave told ops old before
+    → GivesOperation op old new before after
     → Gave told (ops ++ op ∷ []) new after
 gave_more told ops op old new before after same so (held todo unread offset last left) = record {
   found = so.found;
@@ -70,23 +72,27 @@ frames_before : (g : Grammar) (found : List Framed) (rest : List ℕ) (ops : Lis
     → Reads g (bytes_of found ++ rest) (ops_of found ++ ops) (raised_end (length (bytes_of found)) end)
 frames_before g found rest ops end are r =
     let bytes : bytes_of (found ++ r.found) ≡ bytes_of found ++ bytes_of r.found = flat_map-append (λ (f : Framed). f.bytes) found r.found in
-    let long : length (bytes_of found) + length (bytes_of r.found) ≡ length (bytes_of (found ++ r.found)) = sym (length-append (bytes_of found) (bytes_of r.found)) ∙ ap length (sym bytes) in
+    let long : length (bytes_of found) + length (bytes_of r.found) ≡ length (bytes_of (found ++ r.found)) =
+    sym (length-append (bytes_of found) (bytes_of r.found)) ∙ ap length (sym bytes) in
     record {
       found = found ++ r.found;
       are_frames = All-append (IsFrame g) found r.found are r.are_frames;
       ops_are = ap (λ (l : List Op). ops_of found ++ l) r.ops_are ∙ sym (flat_map-append (λ (f : Framed). f.ops) found r.found);
       rest = r.rest;
       split = ap (λ (l : List ℕ). bytes_of found ++ l) r.split ∙ sym (append_assoc (bytes_of found) (bytes_of r.found) r.rest) ∙ ap (λ (l : List ℕ). l ++ r.rest) (sym bytes);
-      ends = subst (λ (n : ℕ). EndsSo g r.rest n (raised_end (length (bytes_of found)) end)) long (ends_raised g r.rest (length (bytes_of r.found)) (length (bytes_of found)) end r.ends);
+      ends = subst (λ (n : ℕ). EndsSo g r.rest n (raised_end (length (bytes_of found)) end)) long
+          (ends_raised g r.rest (length (bytes_of r.found)) (length (bytes_of found)) end r.ends);
     }
 
 -- one frame before bytes that are read
-read_before : (g : Grammar) (framed : Framed) (rest : List ℕ) (ops : List Op) (end : End) → IsFrame g framed → Reads g rest ops end → Reads g (framed.bytes ++ rest) (framed.ops ++ ops) (raised_end (length framed.bytes) end)
+read_before : (g : Grammar) (framed : Framed) (rest : List ℕ) (ops : List Op) (end : End) → IsFrame g framed → Reads g rest ops end
+    → Reads g (framed.bytes ++ rest) (framed.ops ++ ops) (raised_end (length framed.bytes) end)
 read_before g framed rest ops end is r =
     let bytes : bytes_of (framed ∷ []) ≡ framed.bytes = append-nil framed.bytes in
     let ops_are : ops_of (framed ∷ []) ≡ framed.ops = append-nil framed.ops in
     subst (λ (l : List Op). Reads g (framed.bytes ++ rest) (l ++ ops) (raised_end (length framed.bytes) end)) ops_are
-    (subst (λ (l : List ℕ). Reads g (l ++ rest) (ops_of (framed ∷ []) ++ ops) (raised_end (length l) end)) bytes (frames_before g (framed ∷ []) rest ops end (All-push (IsFrame g) [] framed (All-nil (IsFrame g)) is) r))
+    (subst (λ (l : List ℕ). Reads g (l ++ rest) (ops_of (framed ∷ []) ++ ops) (raised_end (length l) end)) bytes
+    (frames_before g (framed ∷ []) rest ops end (All-push (IsFrame g) [] framed (All-nil (IsFrame g)) is) r))
 
 -- what stands before bytes that are told
 told_behind : (front : List ℕ) (told : Option (List ℕ)) (bytes : List ℕ) → Some bytes ≡ prepend_known front told → (rest : List ℕ) × (told ≡ Some rest) × (bytes ≡ front ++ rest)
@@ -94,7 +100,8 @@ told_behind front None bytes is = absurd (cc is)
 told_behind front (Some rest) bytes is = (rest, refl, cc is)
 
 -- the operation that was given was the first still to be given
-gave_first : (op : Op) (old new : FrameReading) (before after : Option (List ℕ)) (bytes : List ℕ) → new.grammar ≡ old.grammar → GivesOperation op old new before after → to_give old before ≡ Some bytes
+gave_first : (op : Op) (old new : FrameReading) (before after : Option (List ℕ)) (bytes : List ℕ) → new.grammar ≡ old.grammar → GivesOperation op old new before after
+    → to_give old before ≡ Some bytes
     → GaveFirst op old new after bytes
 gave_first op old new before after bytes same (held todo unread offset last left) told = record {
   front = [];
@@ -127,7 +134,8 @@ rises op old new before after (held todo unread offset last left) = omega (arith
 rises op old new before after (read none framed is ops moved offset last) = omega (arith, frame_wide old.grammar framed is, ap length ops, ap length none, offset)
 
 -- the operations given, the rest behind them, and how it ends
-gave_reads : (told : Option (List ℕ)) (ops : List Op) (reader : FrameReading) (left : Option (List ℕ)) (so : Gave told ops reader left) → reader.todo ≡ [] → (rest : List ℕ) (end : End)
+gave_reads : (told : Option (List ℕ)) (ops : List Op) (reader : FrameReading) (left : Option (List ℕ)) (so : Gave told ops reader left) → reader.todo ≡ []
+    → (rest : List ℕ) (end : End)
     → EndsSo reader.grammar rest reader.offset end → Reads reader.grammar (bytes_of so.found ++ rest) ops end
 gave_reads told ops reader left so none rest end ends = record {
   found = so.found;
@@ -141,7 +149,8 @@ gave_reads told ops reader left so none rest end ends = record {
 -- what was given are the first operations of the whole
 gave_are_first : (told : Option (List ℕ)) (ops : List Op) (reader : FrameReading) (left : Option (List ℕ)) → Gave told ops reader left → IfSome told (AreFirst reader.grammar ops)
 gave_are_first told ops reader left so = shows (AreFirst reader.grammar ops) (bytes_of so.found) (to_give reader left) told so.split (λ rest is all end reads.
-    let first = starts_first reader.grammar (bytes_of so.found ++ rest) (ops_of so.found) rest all end (record { found = so.found; are_frames = so.are_frames; ops_are = refl; split = refl }) reads in
+    let first = starts_first reader.grammar (bytes_of so.found ++ rest) (ops_of so.found) rest all end
+    (record { found = so.found; are_frames = so.are_frames; ops_are = refl; split = refl }) reads in
     (reader.todo ++ first.0, first.1 ∙ ap (λ (l : List Op). l ++ first.0) (sym so.ops_are) ∙ append_assoc ops reader.todo first.0))
 
 module _ (told : Option (List ℕ)) (ops : List Op) (old new : FrameReading) (before after : SourceView) (so : Gave told ops old before.left) where
@@ -163,7 +172,8 @@ module _ (told : Option (List ℕ)) (ops : List Op) (old new : FrameReading) (be
       (λ rest is. ends rest (((some_is _ (to_give old before.left) rest (step.answer none) is).exactly by result by).0 refl))
 
   -- the frames given, with the rest up to the limit
-  up_to : (rest : List ℕ) (end : End) → old.offset ≤ old.limit → Reads old.grammar (bytes_of so.found ++ take (old.limit - old.offset) rest) ops end → Reads old.grammar (take old.limit (bytes_of so.found ++ rest)) ops end
+  up_to : (rest : List ℕ) (end : End) → old.offset ≤ old.limit → Reads old.grammar (bytes_of so.found ++ take (old.limit - old.offset) rest) ops end
+      → Reads old.grammar (take old.limit (bytes_of so.found ++ rest)) ops end
   up_to rest end inside reads = subst (λ (l : List ℕ). Reads old.grammar l ops end) (sym (take_past (bytes_of so.found) rest old.limit old.offset so.offset inside)) reads
 
   reads_here : old.todo ≡ [] → (rest : List ℕ) (end : End) → EndsSo old.grammar rest old.offset end → Reads old.grammar (bytes_of so.found ++ rest) ops end
@@ -230,10 +240,12 @@ module _ (old new : FrameReading) (before after : SourceView) where
       let both = reads_once old.grammar bytes h.behind [] end own h.reads here in
       (h.todo_is ∙ (λ i. none i ++ both.0 i), both.1)
 
-  answer_is : (todo : List Op) (end own : End) (result : Result (Option Op) FrameFault) → result ≡ answer_of_rest old.offset [] own → (todo ≡ []) × (end ≡ own) → result ≡ answer_of_rest old.offset todo end
+  answer_is : (todo : List Op) (end own : End) (result : Result (Option Op) FrameFault) → result ≡ answer_of_rest old.offset [] own → (todo ≡ []) × (end ≡ own)
+      → result ≡ answer_of_rest old.offset todo end
   answer_is todo end own result is both = is ∙ λ i. answer_of_rest old.offset (sym both.0 i) (sym both.1 i)
 
-  by_reading : (result : Result (Option Op) FrameFault) → Nexts old new before after result → IsByReading result → (bytes : List ℕ) → to_give old before.left ≡ Some bytes → (todo : List Op) (end : End)
+  by_reading : (result : Result (Option Op) FrameFault) → Nexts old new before after result → IsByReading result → (bytes : List ℕ) → to_give old before.left ≡ Some bytes
+      → (todo : List Op) (end : End)
       → HasTodo old bytes todo end → result ≡ answer_of_rest old.offset todo end
   by_reading (Ok (Some op)) step by bytes told todo end h =
       let p = gave_first op old new before.left after.left bytes step.advances.grammar step.gives told in
@@ -260,7 +272,8 @@ module _ (old new : FrameReading) (before after : SourceView) where
   by_reading (Err ReadFault) step by bytes told todo end h = absurd by
   by_reading (Err NoMemory) step by bytes told todo end h = absurd by
 
-  first_of : (result : Result (Option Op) FrameFault) → Nexts old new before after result → IfOk result (λ given. IfSome given (λ op. IfSome (to_give old before.left) (GaveFirst op old new after.left)))
+  first_of : (result : Result (Option Op) FrameFault) → Nexts old new before after result
+      → IfOk result (λ given. IfSome given (λ op. IfSome (to_give old before.left) (GaveFirst op old new after.left)))
   first_of (Ok (Some op)) step =
       if_told (to_give old before.left) (GaveFirst op old new after.left) (λ bytes told. gave_first op old new before.left after.left bytes step.advances.grammar step.gives told)
   first_of (Ok None) step = tt

@@ -1,5 +1,6 @@
 -- The text of a title: what some of its bytes say of the rest.
-use Rattle.std.proofs.Common.{◌≡◌, ℕ, zero, suc, ◌+◌, ◌-◌, ◌<◌, ◌≤◌, true, false, List, [], ◌∷◌, ◌++◌, length, take, drop, get_or, refl, ap, sym, subst, ◌∙◌, inl, inr, append_assoc, arith, length-append, length-drop}
+use Rattle.std.proofs.Common.{◌≡◌, ℕ, zero, suc, ◌+◌, ◌-◌, ◌<◌, ◌≤◌, true, false, List, [], ◌∷◌, ◌++◌, length, take, drop, get_or, refl, ap, sym, subst, ◌∙◌, inl, inr}
+use Rattle.std.proofs.Common.{append_assoc, arith, length-append, length-drop}
 use Rattle.std.specs.Prelude.{◌&&◌, All, is_some, Option, Some, None}
 use Rattle.std.specs.Char.{IsScalar, encode_utf8}
 use Rattle.std.specs.Str.{chars, IsUtf8, IsValidUpTo, encode_utf8_all, all_scalars, IsErrorLen}
@@ -61,7 +62,8 @@ letters_long (suc n) = ap suc (letters_long n)
 
 letters_utf8 : (n : ℕ) → IsUtf8 (letters n)
 letters_utf8 zero = ([], (refl, refl))
-letters_utf8 (suc n) = subst IsUtf8 (ap (λ (l : List ℕ). l ++ letters n) (encode_ascii 97 (omega arith))) (IsUtf8-append (encode_utf8 97) (letters n) (IsUtf8-encode 97 refl) (letters_utf8 n))
+letters_utf8 (suc n) = subst IsUtf8 (ap (λ (l : List ℕ). l ++ letters n) (encode_ascii 97 (omega arith)))
+    (IsUtf8-append (encode_utf8 97) (letters n) (IsUtf8-encode 97 refl) (letters_utf8 n))
 
 pub letters_end : (n : ℕ) → IsTitleEnd n (letters n)
 letters_end n = (letters_utf8 n, letters_plain n, letters_long n)
@@ -89,12 +91,21 @@ cut_within front more at valid (c ∷ cs) all is = elim (two_fronts (encode_utf8
     rest = p.between;
     lacks = p.some;
     is = p.is;
-    fits = omega (arith, valid.short, ap length is, length-append (drop at front) more, length-append front more, length-append (encode_utf8 c) (encode_utf8_all cs), length-drop at front);
+    fits = omega (
+      arith,
+      valid.short,
+      ap length is,
+      length-append (drop at front) more,
+      length-append front more,
+      length-append (encode_utf8 c) (encode_utf8_all cs),
+      length-drop at front,
+    );
   }
 ]
   where
     longer : (between : List ℕ) → drop at front ≡ encode_utf8 c ++ between → IsUtf8 (take (at + length (encode_utf8 c)) front)
-    longer between same = subst IsUtf8 (sym (front_and at front (encode_utf8 c) between same)) (IsUtf8-append (take at front) (encode_utf8 c) valid.front (IsUtf8-encode c (All-head IsScalar c cs all)))
+    longer between same = subst IsUtf8 (sym (front_and at front (encode_utf8 c) between same))
+        (IsUtf8-append (take at front) (encode_utf8 c) valid.front (IsUtf8-encode c (All-head IsScalar c cs all)))
 
 straddles : (front more : List ℕ) (at : ℕ) → IsValidUpTo front at → IsUtf8 (front ++ more) → Straddles front more at
 straddles front more at valid all =
@@ -103,7 +114,8 @@ straddles front more at valid all =
     let behind : IsUtf8 (drop at front ++ more) = subst IsUtf8 (drop-append-le at front more (omega (arith, valid.short))) (IsUtf8-drop (front ++ more) at all boundary) in
     cut_within front more at valid behind.0 (all_are_scalars behind.0 behind.1.0) behind.1.1
 
-cut_here : (front more : List ℕ) (at : ℕ) → IsValidUpTo front at → IsUtf8 (front ++ more) → (utf8_error_len (drop at front) ≡ None) × (at + width_of (get_or (drop at front) 0 0) ≤ length (front ++ more))
+cut_here : (front more : List ℕ) (at : ℕ) → IsValidUpTo front at → IsUtf8 (front ++ more)
+    → (utf8_error_len (drop at front) ≡ None) × (at + width_of (get_or (drop at front) 0 0) ≤ length (front ++ more))
 cut_here front more at valid all =
     let s = straddles front more at valid all in
     let cut = cut_is s.ch (drop at front) s.rest s.scalar (omega (arith, valid.short, length-drop at front)) s.lacks s.is in
@@ -136,7 +148,8 @@ module _ (len : ℕ) (front : List ℕ) where
   fault_none at fault valid is some more e = let clash : true ≡ false = sym some ∙ ap is_some (is ∙ (cut_here front more at valid e.0).0) in cc clash
 
   -- a character that doesn't fit the bytes that are left
-  pub wide_none : (at place width : ℕ) → IsValidUpTo front at → place ≡ at → width ≡ width_of (get_or front place 0) → len - place < width → NeverCompletes (Fields 0 0 (Text len)) front
+  pub wide_none : (at place width : ℕ) → IsValidUpTo front at → place ≡ at → width ≡ width_of (get_or front place 0) → len - place < width
+      → NeverCompletes (Fields 0 0 (Text len)) front
   wide_none at place width valid here is wide more e =
       omega (arith, valid.short, wide, (cut_here front more at valid e.0).1, here, is, width_here front at place here, e.2)
 
@@ -152,9 +165,21 @@ module _ (len : ℕ) (front : List ℕ) where
         more = g.more ++ letters n;
         lacks = omega (arith, g.lacks, length-append g.more (letters n));
         completes = (
-          begun_utf8 (take at front) (drop at front) front g.more (letters n) parts valid.front (subst IsUtf8 g.whole.is (IsUtf8-encode g.whole.ch g.whole.scalar)) (letters_utf8 n),
+          begun_utf8 (take at front) (drop at front) front g.more (letters n) parts valid.front (subst IsUtf8 g.whole.is (IsUtf8-encode g.whole.ch g.whole.scalar))
+              (letters_utf8 n),
           no_line_ends front (g.more ++ letters n) one_line (no_line_ends g.more (letters n) g.no_line_end (letters_plain n)),
-          omega (arith, g.long, fits, valid.short, length-append front (g.more ++ letters n), length-append g.more (letters n), letters_long n, length-append (drop at front) g.more, length-drop at front, g.lacks),
+          omega (
+            arith,
+            g.long,
+            fits,
+            valid.short,
+            length-append front (g.more ++ letters n),
+            length-append g.more (letters n),
+            letters_long n,
+            length-append (drop at front) g.more,
+            length-drop at front,
+            g.lacks,
+          ),
         );
       }
   cut_front at place width (Some k) one_line valid near is none here wide small = absurd (cc none)

@@ -9,7 +9,8 @@ prepend_none None = refl
 prepend_none (Some l) = refl
 
 -- what holds of the first bytes with anything behind them holds of what is told
-pub shows : (P : List ℕ → Type 0) (front : List ℕ) (left told : Option (List ℕ)) → told ≡ prepend_known front left → ((rest : List ℕ) → left ≡ Some rest → P (front ++ rest)) → IfSome told P
+pub shows : (P : List ℕ → Type 0) (front : List ℕ) (left told : Option (List ℕ)) → told ≡ prepend_known front left → ((rest : List ℕ) → left ≡ Some rest → P (front ++ rest))
+    → IfSome told P
 shows P front None told is holds = subst (λ t. IfSome t P) (sym is) tt
 shows P front (Some rest) told is holds = subst (λ t. IfSome t P) (sym is) (holds rest refl)
 

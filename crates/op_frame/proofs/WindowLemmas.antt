@@ -5,7 +5,7 @@ use Rattle.std.specs.Io.KnownBytes.{prepend_known}
 use Rattle.std.proofs.lemmas.List.{drop-take, drop-append-le, take-append-le, length-take-le, append-nil, take_at}
 use Rattle.std.proofs.Math.Seq.{take-append-add}
 use Rattle.outer_ports.specs.Sources.{SourceView}
-use Rattle.op_frame.specs.Windows.{Filled, PlacedPart}
+use Rattle.op_frame.specs.Windows.{Filled, ReadsIntoPart}
 use Rattle.outer_ports.proofs.CountLemmas.{count_so}
 use Rattle.fugue_ids.proofs.JoinLemmas.{prepend_twice}
 
@@ -27,7 +27,7 @@ placed_behind old part rest s e n le within enough =
     ∙ ap (λ (l : List ℕ). take (e - s) (drop s old) ++ l) (take-append-le n part rest enough)
 
 -- a part written back
-written : {E : Type 0} (e to len : ℕ) (items old new : List ℕ) (before after : SourceView) (result : Result ℕ E) → PlacedPart {E = E} old new e to before after result
+written : {E : Type 0} (e to len : ℕ) (items old new : List ℕ) (before after : SourceView) (result : Result ℕ E) → ReadsIntoPart {E = E} old new e to before after result
     → e ≤ to → to ≤ length old → length old ≡ len → take len (new ++ drop (length new) items) ≡ new
 written e to len items old new before after result p ordered within all =
     take_at new (drop (length new) items) len
@@ -35,7 +35,8 @@ written e to len items old new before after result p ordered within all =
     ∙ omega (arith, p.long, ordered, within, all, length-take-le e old (omega (arith, ordered, within)), length-append p.part (drop to old), length-drop to old))
 
 -- a window with what a read gave behind it
-pub filled_in : {E T : Type 0} (e : ℕ) (s : ℕ) (to most len n : ℕ) (items old new bytes : List ℕ) (before after : SourceView) → PlacedPart {E = E} old new e to before after (Ok n)
+pub filled_in : {E T : Type 0} (e : ℕ) (s : ℕ) (to most len n : ℕ) (items old new bytes : List ℕ) (before after : SourceView)
+    → ReadsIntoPart {E = E} old new e to before after (Ok n)
     → s ≤ e → e < to → to ≤ length old → length old ≡ len → to - e ≤ most → old ≡ items → bytes ≡ take (e - s) (drop s items)
     → Filled {E = T} bytes (take (e + n - s) (drop s (take len (new ++ drop (length new) items)))) before after most (Ok n)
 filled_in {E} {T} e s to most len n items old new bytes before after p le some within all fits same is =
@@ -45,7 +46,11 @@ filled_in {E} {T} e s to most len n items old new bytes before after p le some w
     ∙ ap (λ (l : List ℕ). l ++ take n p.part) (ap (λ (l : List ℕ). take (e - s) (drop s l)) same ∙ sym is) in
     record {
       told = ap (prepend_known bytes) p.read.gave ∙ prepend_twice bytes (take n p.part) after.left ∙ ap (λ (l : List ℕ). prepend_known l after.left) (sym moved);
-      grew = (ap length moved ∙ length-append bytes (take n p.part) ∙ ap (λ (k : ℕ). length bytes + k) (length-take-le n p.part p.read.bound), omega (arith, p.read.bound, p.long, fits));
+      grew = (
+        ap length moved ∙ length-append bytes (take n p.part)
+            ∙ ap (λ (k : ℕ). length bytes + k) (length-take-le n p.part p.read.bound),
+        omega (arith, p.read.bound, p.long, fits),
+      );
       ends = λ none. p.read.ends none (omega (arith, p.long, some));
       stays = λ none. moved ∙ ap (λ (k : ℕ). bytes ++ take k p.part) none ∙ append-nil bytes;
       kept = tt;
@@ -54,7 +59,7 @@ filled_in {E} {T} e s to most len n items old new bytes before after p le some w
 
 -- a window behind which nothing came
 pub not_filled_in : {E T : Type 0} (x : E) (y : T) (e : ℕ) (s : ℕ) (to most len : ℕ) (items old new bytes : List ℕ) (before after : SourceView)
-    → PlacedPart {E = E} old new e to before after (Err x)
+    → ReadsIntoPart {E = E} old new e to before after (Err x)
     → s ≤ e → e ≤ to → to ≤ length old → length old ≡ len → old ≡ items → bytes ≡ take (e - s) (drop s items)
     → Filled {E = T} bytes (take (e - s) (drop s (take len (new ++ drop (length new) items)))) before after most (Err y)
 not_filled_in {E} {T} x y e s to most len items old new bytes before after p le ordered within all same is =

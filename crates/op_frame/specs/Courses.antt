@@ -2,7 +2,8 @@
 use Rattle.std.specs.Prelude.{◌≡◌, ◌⊎◌, ℕ, ◌<◌, ◌≤◌, List, ◌∷◌, ◌++◌, length, take}
 use Rattle.fugue_ids.specs.declared.op.Op.{Op}
 use Rattle.origin_model.specs.declared.grammar.Grammar.{Grammar}
-use Rattle.origin_model.specs.frames.Frames.{End, Whole as EndsWhole, CutShort as EndsCutShort, BadFrame as EndsInBadFrame, Framed, Begins, Starts, Reads}
+use Rattle.origin_model.specs.frames.Frames.{End, Whole as EndsWhole, CutShort as EndsCutShort, BadFrame as EndsInBadFrame, Framed, Begins}
+use Rattle.origin_model.specs.frames.Frames.{Starts, Reads}
 use Rattle.origin_model.specs.taking.Taking.{Held, MeetsNoLimit, TooMany as AnswersTooMany, held_from, answer}
 
 -- how taking in a stream ends
@@ -16,8 +17,9 @@ pub data IntakeOutcome : Type 0 where
   TooMany : IntakeOutcome
 
 -- the stream's frames end where it ends, or inside of one more
-abbrev pub EndsInFrame : Grammar → List ℕ → List Op → Type 0
-EndsInFrame grammar bytes ops = (end : End) × Reads grammar bytes ops end × ((end ≡ EndsWhole) ⊎ ((offset : ℕ) × (end ≡ EndsCutShort offset)))
+abbrev pub EndsWholeOrCutShort : Grammar → List ℕ → List Op → Type 0
+EndsWholeOrCutShort grammar bytes ops =
+    (end : End) × Reads grammar bytes ops end × ((end ≡ EndsWhole) ⊎ ((offset : ℕ) × (end ≡ EndsCutShort offset)))
 
 -- the next frame brings operations of which one finds no place; those before it in this frame are taken in
 pub record MeetsTooMany (grammar : Grammar) (hold most : ℕ) (start : Held) (bytes : List ℕ) (ops : List Op) : Type 0 where
@@ -42,10 +44,11 @@ abbrev pub Ends : Grammar → (hold most : ℕ) (start : Held) (limit : ℕ) →
 Ends grammar hold most start limit bytes ops Whole = (length bytes ≤ limit) × Reads grammar bytes ops EndsWhole
 Ends grammar hold most start limit bytes ops (CutShort offset) = (length bytes ≤ limit) × Reads grammar bytes ops (EndsCutShort offset)
 Ends grammar hold most start limit bytes ops (BadFrame offset) = Reads grammar (take limit bytes) ops (EndsInBadFrame offset)
-Ends grammar hold most start limit bytes ops TooLong = (limit < length bytes) × EndsInFrame grammar (take limit bytes) ops
+Ends grammar hold most start limit bytes ops TooLong = (limit < length bytes) × EndsWholeOrCutShort grammar (take limit bytes) ops
 Ends grammar hold most start limit bytes ops TooMany = MeetsTooMany grammar hold most start (take limit bytes) ops
 
--- the bytes come to this end, and each operation found its place
-pub record Comes (grammar : Grammar) (hold most : ℕ) (start : Held) (limit : ℕ) (bytes : List ℕ) (ops : List Op) (course : IntakeOutcome) : Type 0 where
+-- the bytes come to this end, and no operation met a limit
+pub record Comes (grammar : Grammar) (hold most : ℕ) (start : Held) (limit : ℕ) (bytes : List ℕ) (ops : List Op)
+    (course : IntakeOutcome) : Type 0 where
   pub has_place : MeetsNoLimit hold most start ops
   pub ends : Ends grammar hold most start limit bytes ops course

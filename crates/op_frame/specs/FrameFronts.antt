@@ -1,5 +1,6 @@
 -- What a frame still lacks behind some of its bytes.
-use Rattle.std.specs.Prelude.{◌≡◌, ◌↔◌, ◌⊎◌, ℕ, zero, suc, ◌+◌, ◌-◌, ◌*◌, ◌^◌, ◌<◌, ◌≤◌, min, nat_lt, if◌then◌else◌, All, List, [], ◌∷◌, ◌++◌, length, slice_get, false, Option, Some}
+use Rattle.std.specs.Prelude.{◌≡◌, ◌↔◌, ◌⊎◌, ℕ, zero, suc, ◌+◌, ◌-◌, ◌*◌, ◌^◌, ◌<◌, ◌≤◌, min, nat_lt, if◌then◌else◌, All, List, [], ◌∷◌}
+use Rattle.std.specs.Prelude.{◌++◌, length, slice_get, false, Option, Some}
 use Rattle.std.specs.Char.{IsScalar}
 use Rattle.std.specs.Int.{to_be_bytes, w16}
 use Rattle.std.specs.Str.{IsUtf8}
@@ -8,7 +9,9 @@ use Rattle.fugue_ids.specs.Titles.{has_line_end}
 use Rattle.fugue_ids.specs.declared.limits.TheConstants.{LONGEST_BODY, LONGEST_TITLE}
 use Rattle.fugue_ids.specs.declared.op.Op.{Op}
 use Rattle.origin_model.specs.declared.grammar.Grammar.{Grammar}
-use Rattle.origin_model.specs.frames.Frames.{body_bytes, frame, id_bytes, item_bytes, names_bytes, origin_bytes, scalar_bytes, title_bytes, AreNames, HasFrame, IsBody, IsByte, IsFrame, IsIdentifier, IsItem, IsFrameOrigin, IsPartial, IsTitle, Item}
+use Rattle.origin_model.specs.frames.Frames.{body_bytes, frame, id_bytes, item_bytes, names_bytes, origin_bytes, scalar_bytes, title_bytes}
+use Rattle.origin_model.specs.frames.Frames.{AreNames, HasFrame, IsBody, IsByte, IsFrame, IsIdentifier, IsItem, IsFrameOrigin, IsPartial}
+use Rattle.origin_model.specs.frames.Frames.{IsTitle, Item}
 use Rattle.op_frame.specs.declared.due.Due.{Due}
 use Rattle.op_frame.specs.declared.due.Due.TheVariants.{Kind, Run, Fields}
 use Rattle.op_frame.specs.declared.due.Judged.{Judged}
@@ -32,10 +35,10 @@ abbrev pub AsksMemory : List ℕ → Type 0
 AsksMemory bytes = (slice_get bytes 0 ≡ Some 1) ⊎ (slice_get bytes 0 ≡ Some 5)
 
 -- what the bytes are: a frame, a proper front of one, or neither
-abbrev pub IsFrameFront : Grown → Grammar → List ℕ → Type 0
-IsFrameFront IsWhole grammar bytes = IsFrameOf grammar bytes
-IsFrameFront IsFront grammar bytes = IsPartial grammar bytes
-IsFrameFront IsNeither grammar bytes = (IsFrameOf grammar bytes → ⊥) × (IsPartial grammar bytes → ⊥)
+abbrev pub IsFrameStage : Grown → Grammar → List ℕ → Type 0
+IsFrameStage IsWhole grammar bytes = IsFrameOf grammar bytes
+IsFrameStage IsFront grammar bytes = IsPartial grammar bytes
+IsFrameStage IsNeither grammar bytes = (IsFrameOf grammar bytes → ⊥) × (IsPartial grammar bytes → ⊥)
 
 -- the first bytes of a frame of a grammar
 pub record FrontBytes : Type 0 where
@@ -130,7 +133,8 @@ Completes (Kind grammar) bytes = (item : Item) × IsItem grammar item × (bytes 
 Completes Run bytes = IsRunBehind bytes
 Completes (Fields identifiers origins last) bytes = AreFields identifiers origins last bytes
 
--- there is something that the last field can be: a text or body that is due is not empty and not too long, and there are some scalars and not too many
+-- there is something that the last field can be: a text or body that is due is not empty and not too long, and there
+-- are some scalars and not too many
 abbrev pub IsSoundLast : Last → Type 0
 IsSoundLast (Text len) = (0 < len) × (len ≤ LONGEST_TITLE)
 IsSoundLast (Scalars n) = 0 < n

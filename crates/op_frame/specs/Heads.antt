@@ -1,5 +1,6 @@
 -- Frames of runs whose scalars stay in bytes: what stands before the scalars, and the Texts that are held back.
-use Rattle.std.specs.Prelude.{◌≡◌, ℕ, suc, ◌+◌, ◌*◌, ◌<◌, ◌≤◌, ◌^◌, Option, Some, None, IfSome, All, List, [], ◌∷◌, ◌++◌, length, drop, flat_map}
+use Rattle.std.specs.Prelude.{◌≡◌, ℕ, suc, ◌+◌, ◌*◌, ◌<◌, ◌≤◌, ◌^◌, Option, Some, None, IfSome, All, List, [], ◌∷◌, ◌++◌, length, drop}
+use Rattle.std.specs.Prelude.{flat_map}
 use Rattle.std.specs.Char.{IsScalar}
 use Rattle.fugue_ids.specs.declared.op.Op.{Op}
 use Rattle.fugue_ids.specs.Runs.{in_a_row, next_id}
@@ -46,7 +47,9 @@ behind_held (Some head) bytes = drop (3 * head.count) bytes
 -- what is held back behind the first Text
 abbrev pub IsNextHead : Head → Option Head → Type 0
 IsNextHead head None = head.count ≡ 1
-IsNextHead head (Some next) = (head.count ≡ next.count + 1) × (0 < next.count) × (next.id ≡ next_id head.id) × (next.section ≡ head.section) × (next.left ≡ Some head.id) × (next.right ≡ head.right)
+IsNextHead head (Some next) =
+    (head.count ≡ next.count + 1) × (0 < next.count) × (next.id ≡ next_id head.id) × (next.section ≡ head.section)
+    × (next.left ≡ Some head.id) × (next.right ≡ head.right)
 
 -- the first of the operations held back is given, and the others are held back
 pub record GivesHeld (head : Head) (op : Op) (next : Option Head) (bytes rest : List ℕ) : Type 0 where

@@ -16,7 +16,8 @@ pub record OneFrame (grammar : Grammar) : Type 0 where
 
 -- all bytes are read, in one way
 pub record ReadsOnce (grammar : Grammar) : Type 0 where
-  pub one : (bytes : List ℕ) (ops others : List Op) (end other : End) → Reads grammar bytes ops end → Reads grammar bytes others other → (ops ≡ others) × (end ≡ other)
+  pub one : (bytes : List ℕ) (ops others : List Op) (end other : End) → Reads grammar bytes ops end → Reads grammar bytes others other
+      → (ops ≡ others) × (end ≡ other)
   pub some : (bytes : List ℕ) → (ops : List Op) × (end : End) × Reads grammar bytes ops end
   -- the own frames of operations that the grammar has are read as these operations, whole
   pub singles : (ops : List Op) → All (λ op. IsItem grammar (Single op)) ops → Reads grammar (single_frames ops) ops Whole
@@ -31,10 +32,13 @@ pub record FramesAre : Type 0 where
   pub read : (ops : List Op) (bytes : List ℕ) → IsFraming ops bytes → Reads Version2 bytes ops Whole
   pub short : (ops : List Op) (bytes : List ℕ) → IsFraming ops bytes → length bytes ≤ length (single_frames ops)
   -- what version 1 reads with another end than BadFrame version 2 reads the same
-  pub version_1 : (bytes : List ℕ) (ops : List Op) (end : End) → ((offset : ℕ) → end ≢ BadFrame offset) → Reads Version1 bytes ops end → Reads Version2 bytes ops end
+  pub version_1 : (bytes : List ℕ) (ops : List Op) (end : End) → ((offset : ℕ) → end ≢ BadFrame offset) → Reads Version1 bytes ops end
+      → Reads Version2 bytes ops end
 
 -- each stream comes to exactly one end
 pub record ComesOnce (grammar : Grammar) : Type 0 where
   pub one : (hold most : ℕ) (start : Held) (limit : ℕ) (bytes : List ℕ) (ops others : List Op) (course other : IntakeOutcome)
-      → Comes grammar hold most start limit bytes ops course → Comes grammar hold most start limit bytes others other → (ops ≡ others) × (course ≡ other)
-  pub some : (hold most : ℕ) (start : Held) (limit : ℕ) (bytes : List ℕ) → (ops : List Op) × (course : IntakeOutcome) × Comes grammar hold most start limit bytes ops course
+      → Comes grammar hold most start limit bytes ops course → Comes grammar hold most start limit bytes others other
+      → (ops ≡ others) × (course ≡ other)
+  pub some : (hold most : ℕ) (start : Held) (limit : ℕ) (bytes : List ℕ)
+      → (ops : List Op) × (course : IntakeOutcome) × Comes grammar hold most start limit bytes ops course

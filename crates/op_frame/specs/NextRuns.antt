@@ -1,12 +1,14 @@
 -- What `next_run` gives: operations that `next` gives too, one call after another.
-use Rattle.std.specs.Prelude.{◌≡◌, ◌⊎◌, ℕ, ◌+◌, ◌-◌, ◌<◌, ◌≤◌, ◌^◌, ◌*◌, Bool, true, false, List, [], ◌∷◌, ◌++◌, length, take, drop, Option, Some, None, Result, Ok, Err}
+use Rattle.std.specs.Prelude.{◌≡◌, ◌⊎◌, ℕ, ◌+◌, ◌-◌, ◌<◌, ◌≤◌, ◌^◌, ◌*◌, Bool, true, false, List, [], ◌∷◌, ◌++◌, length, take, drop, Option}
+use Rattle.std.specs.Prelude.{Some, None, Result, Ok, Err}
 use Rattle.fugue_ids.specs.Identifiers.{Identifier}
-use Rattle.fugue_ids.specs.Runs.{id_behind, run_from, start_behind, text_by, text_in}
+use Rattle.fugue_ids.specs.Runs.{id_behind, run_from, start_behind, text_by}
 use Rattle.fugue_ids.specs.declared.limits.TheConstants.{BUFFER}
 use Rattle.fugue_ids.specs.declared.op.Op.{Op}
 use Rattle.fugue_ids.specs.declared.op.Op.TheVariants.{Delete}
 use Rattle.fugue_ids.specs.declared.run.RunStart.{RunStart}
 use Rattle.op_runs.specs.Deletions.{deletes_up}
+use Rattle.op_runs.specs.Parts.{IsOther}
 use Rattle.outer_ports.specs.Sources.{SourceView}
 use Rattle.origin_model.specs.declared.grammar.Grammar.{Grammar}
 use Rattle.origin_model.specs.frames.Frames.{HasFrame, IsFrame, frame}
@@ -25,11 +27,11 @@ ops_given (Run start) text = run_from start text
 ops_given (Deletes target count) text = deletes_up target count
 ops_given (Single op) text = op ∷ []
 
--- the last identifier of a run or of a row of Deletes has 32 bits too, and what is given alone is no Text
-abbrev pub AreSoundRuns : NextOps → List ℕ → Type 0
-AreSoundRuns (Run start) text = start.id.counter + length text ≤ 2 ^ 32
-AreSoundRuns (Deletes target count) text = (target.counter + count ≤ 2 ^ 32) × (count ≤ BUFFER)
-AreSoundRuns (Single op) text = text_in op ≡ None
+-- the last identifier of a run or of a row of Deletes has 32 bits too, and what is given alone is neither a Text nor a Delete
+abbrev pub AreSoundNextOps : NextOps → List ℕ → Type 0
+AreSoundNextOps (Run start) text = start.id.counter + length text ≤ 2 ^ 32
+AreSoundNextOps (Deletes target count) text = (target.counter + count ≤ 2 ^ 32) × (count ≤ BUFFER)
+AreSoundNextOps (Single op) text = IsOther op
 
 -- as many calls of `next` give these operations, one after another, of what the reader has: the source is left alone
 abbrev pub GivesOn : (old new : FrameReading) → SourceView → List Op → Type 0
@@ -44,7 +46,7 @@ GivesAll old new before after (op ∷ ops) = (mid : FrameReading) × Nexts old m
 -- One call of `next_run`, where no fault was kept. Where nothing is given, it is a call of `next`, or there was no room
 -- for a scalar, and then nothing was done.
 abbrev pub NextsRun : (old new : FrameReading) → (before after : SourceView) → Result (Option NextOps) FrameFault → List ℕ → Type 0
-NextsRun old new before after (Ok (Some given)) text = GivesAll old new before after (ops_given given text) × AreSoundRuns given text
+NextsRun old new before after (Ok (Some given)) text = GivesAll old new before after (ops_given given text) × AreSoundNextOps given text
 NextsRun old new before after (Ok None) text = Nexts old new before after (Ok None)
 NextsRun old new before after (Err e) text = Nexts old new before after (Err e) ⊎ (e ≡ NoMemory) × (new ≡ old) × (after ≡ before)
 
@@ -73,7 +75,7 @@ GivesManyBy old new before after result text = Unit {0}
 
 -- Of the operations that are given, one is reached behind those before it: by a call of `next`, from a reader that gave
 -- these.
-pub record IsReachedRun (old : FrameReading) (before after : SourceView) (front : List Op) (op : Op) : Type 0 where
+pub record IsReachedOp (old : FrameReading) (before after : SourceView) (front : List Op) (op : Op) : Type 0 where
   pub at : FrameReading
   pub next : FrameReading
   pub seen : SourceView
@@ -91,7 +93,7 @@ pub record Gathers (first : Op) (given : NextOps) (text : List ℕ) (old new : F
   pub others : List Op
   pub ops_are : ops_given given text ≡ first ∷ others
   pub gives : (source : SourceView) → GivesOn old new source others
-  pub sound : AreSoundRuns given text
+  pub sound : AreSoundNextOps given text
   -- a scalar takes three bytes, and that of the operation itself was taken before
   pub short : 3 * length text + bytes_had new ≤ bytes_had old + 3
 
@@ -143,7 +145,8 @@ PutsScalars false head bytes old_text text = text ≡ old_text
 -- the scalars of the Texts that are held back went behind the text, since these go on with the run, or nothing was done
 abbrev pub TakesHeld : Bool → RunStart → Head → (old_text text old new : List ℕ) → Type 0
 TakesHeld true start head old_text text old new =
-    (start_in head ≡ start_behind start (length old_text)) × (text ≡ old_text ++ text_scalars head.count old) × (new ≡ drop (3 * head.count) old)
+    (start_in head ≡ start_behind start (length old_text)) × (text ≡ old_text ++ text_scalars head.count old)
+    × (new ≡ drop (3 * head.count) old)
 TakesHeld false start head old_text text old new = (text ≡ old_text) × (new ≡ old)
 
 -- the frame at the front is that of the operation

@@ -1,13 +1,15 @@
 -- What a reader of frames holds, and what its answers mean.
-use Rattle.std.specs.Prelude.{◌≡◌, ◌≢◌, ◌↔◌, ℕ, ◌+◌, ◌-◌, ◌*◌, ◌<◌, ◌≤◌, All, List, [], ◌∷◌, ◌++◌, length, take, flat_map, Option, Some, None, Result, Ok, Err, IfSome, IfOk, IsErrOf}
+use Rattle.std.specs.Prelude.{◌≡◌, ◌≢◌, ◌↔◌, ℕ, ◌+◌, ◌-◌, ◌*◌, ◌<◌, ◌≤◌, All, List, [], ◌∷◌, ◌++◌, length, take, flat_map, Option, Some}
+use Rattle.std.specs.Prelude.{None, Result, Ok, Err, IfSome, IfOk, IsErrOf}
 use Rattle.std.specs.Io.KnownBytes.{prepend_known}
 use Rattle.fugue_ids.specs.declared.op.Op.{Op}
 use Rattle.outer_ports.specs.Sources.{SourceView}
 use Rattle.origin_model.specs.declared.grammar.Grammar.{Grammar}
-use Rattle.origin_model.specs.frames.Frames.{Framed, IsFrame, IsPartial, IsBad, End, Whole, CutShort as EndsCutShort, BadFrame as EndsInBadFrame, Reads}
+use Rattle.origin_model.specs.frames.Frames.{Framed, IsFrame, IsPartial, IsBad, End, Whole, CutShort as EndsCutShort}
+use Rattle.origin_model.specs.frames.Frames.{BadFrame as EndsInBadFrame, Reads}
 use Rattle.op_frame.specs.declared.fault.FrameFault.{FrameFault}
 use Rattle.op_frame.specs.declared.fault.FrameFault.TheVariants.{BadFrame, CutShort, ReadFault, TooLong, NoMemory}
-use Rattle.op_frame.specs.Courses.{EndsInFrame}
+use Rattle.op_frame.specs.Courses.{EndsWholeOrCutShort}
 use Rattle.op_frame.specs.FrameFronts.{AsksMemory}
 
 -- a reader of frames over its source
@@ -45,7 +47,8 @@ pub record StartsWithin (grammar : Grammar) (op : Op) (room : ℕ) (bytes : List
   pub rest : List ℕ
   pub split : bytes ≡ framed.bytes ++ rest
 
--- where which answer comes with no operation held back, by the offset of the first unread byte, what the limit leaves from there on, and the bytes to read
+-- where which answer comes with no operation held back, by the offset of the first unread byte, what the limit leaves
+-- from there on, and the bytes to read
 abbrev pub ReadingAnswerIs : Grammar → Result (Option Op) FrameFault → (offset room : ℕ) → List ℕ → Type 0
 ReadingAnswerIs grammar (Ok (Some op)) offset room bytes = StartsWithin grammar op room bytes
 ReadingAnswerIs grammar (Ok None) offset room bytes = bytes ≡ []
@@ -63,7 +66,8 @@ IsReadByBytes result = Unit {0}
 
 -- each answer comes exactly where the bytes to read say so, but for a fault of the source and want of memory
 pub record AnswersBy (grammar : Grammar) (result : Result (Option Op) FrameFault) (offset room : ℕ) (bytes : List ℕ) : Type 0 where
-  pub exactly : IsReadByBytes result → (answer : Result (Option Op) FrameFault) → IsReadByBytes answer → (result ≡ answer) ↔ ReadingAnswerIs grammar answer offset room bytes
+  pub exactly : IsReadByBytes result → (answer : Result (Option Op) FrameFault) → IsReadByBytes answer
+      → (result ≡ answer) ↔ ReadingAnswerIs grammar answer offset room bytes
   pub memory : IsErrOf result NoMemory → AsksMemory bytes
 
 -- the offset that a fault carries
@@ -91,8 +95,10 @@ Moves (Err e) old new before after = prepend_known old before ≡ prepend_known 
 -- An operation is given: the first of those held back, or the first of the frame that is read, whose others are held
 -- back from then on.
 pub data GivesOperation (op : Op) (old new : FrameReading) (before after : Option (List ℕ)) : Type 0 where
-  held : old.todo ≡ op ∷ new.todo → new.unread ≡ old.unread → new.offset ≡ old.offset → new.last ≡ old.last → after ≡ before → GivesOperation op old new before after
-  read : old.todo ≡ [] → (framed : Framed) → IsFrame old.grammar framed → framed.ops ≡ op ∷ new.todo → to_give old before ≡ prepend_known framed.bytes (to_give new after)
+  held : old.todo ≡ op ∷ new.todo → new.unread ≡ old.unread → new.offset ≡ old.offset → new.last ≡ old.last → after ≡ before
+      → GivesOperation op old new before after
+  read : old.todo ≡ [] → (framed : Framed) → IsFrame old.grammar framed → framed.ops ≡ op ∷ new.todo
+      → to_give old before ≡ prepend_known framed.bytes (to_give new after)
       → new.offset ≡ old.offset + length framed.bytes → new.last ≡ old.offset → GivesOperation op old new before after
 
 -- no operation is held back, and the reader stands where it stood
@@ -155,7 +161,8 @@ pub record GaveFirst (op : Op) (old new : FrameReading) (left : Option (List ℕ
   pub rest : List ℕ
   pub split : bytes ≡ front ++ rest
   pub to_give_is : to_give new left ≡ Some rest
-  pub first : (todo : List Op) (end : End) → HasTodo old bytes todo end → (later : List Op) (ends : End) → HasTodo new rest later ends → (todo ≡ op ∷ later) × (end ≡ raised_end (length front) ends)
+  pub first : (todo : List Op) (end : End) → HasTodo old bytes todo end → (later : List Op) (ends : End) → HasTodo new rest later ends
+      → (todo ≡ op ∷ later) × (end ≡ raised_end (length front) ends)
 
 -- the answer by the operations still to be given and the end of the bytes, at a place
 abbrev pub answer_of_rest : ℕ → List Op → End → Result (Option Op) FrameFault
@@ -175,7 +182,8 @@ IsByReading result = Unit {0}
 pub record GivesInOrder (old new : FrameReading) (before after : SourceView) (result : Result (Option Op) FrameFault) : Type 0 where
   pub first : IfOk result (λ given. IfSome given (λ op. IfSome (to_give old before.left) (GaveFirst op old new after.left)))
   pub rises : IfOk result (λ given. IfSome given (λ op. RisesByThree old new))
-  pub exactly : IsByReading result → IfSome (to_give old before.left) (λ bytes. (todo : List Op) (end : End) → HasTodo old bytes todo end → result ≡ answer_of_rest old.offset todo end)
+  pub exactly : IsByReading result → IfSome (to_give old before.left)
+      (λ bytes. (todo : List Op) (end : End) → HasTodo old bytes todo end → result ≡ answer_of_rest old.offset todo end)
   pub over : result ≡ Ok None → IfSome after.left (λ left. left ≡ [])
   pub memory : IsErrOf result NoMemory → (old.todo ≡ []) × IfSome (to_give old before.left) AsksMemory
 
@@ -201,16 +209,19 @@ AreFirst grammar ops bytes = (all : List Op) (end : End) → Reads grammar bytes
 abbrev pub EndsBy : Grammar → (limit : ℕ) (ops : List Op) → Result (Option Op) FrameFault → List ℕ → Type 0
 EndsBy grammar limit ops (Ok None) bytes = (length bytes ≤ limit) × Reads grammar bytes ops Whole
 EndsBy grammar limit ops (Err (CutShort k)) bytes = (length bytes ≤ limit) × Reads grammar bytes ops (EndsCutShort k)
-EndsBy grammar limit ops (Err (BadFrame k)) bytes = Reads grammar (take limit bytes) ops (EndsInBadFrame k) × Reads grammar bytes ops (EndsInBadFrame k)
-EndsBy grammar limit ops (Err TooLong) bytes = (limit < length bytes) × EndsInFrame grammar (take limit bytes) ops
+EndsBy grammar limit ops (Err (BadFrame k)) bytes =
+    Reads grammar (take limit bytes) ops (EndsInBadFrame k) × Reads grammar bytes ops (EndsInBadFrame k)
+EndsBy grammar limit ops (Err TooLong) bytes = (limit < length bytes) × EndsWholeOrCutShort grammar (take limit bytes) ops
 EndsBy grammar limit ops result bytes = Unit {0}
 
 -- what an answer adds, behind operations that were given of the bytes that were told
-pub record Follows (told : Option (List ℕ)) (ops : List Op) (old new : FrameReading) (after : SourceView) (result : Result (Option Op) FrameFault) : Type 0 where
+pub record Follows (told : Option (List ℕ)) (ops : List Op) (old new : FrameReading) (after : SourceView)
+    (result : Result (Option Op) FrameFault) : Type 0 where
   pub gave : (IsErrOf result TooLong → ⊥) → Gave told (given_with ops result) new after.left
   pub first : IfSome told (AreFirst old.grammar (given_with ops result))
   pub ends : IfSome told (EndsBy old.grammar old.limit ops result)
 
 -- the chain of a reader's answers
 abbrev pub Chains : (old new : FrameReading) (before after : SourceView) → Result (Option Op) FrameFault → Type 0
-Chains old new before after result = (told : Option (List ℕ)) (ops : List Op) → Gave told ops old before.left → Follows told ops old new after result
+Chains old new before after result = (told : Option (List ℕ)) (ops : List Op) → Gave told ops old before.left
+    → Follows told ops old new after result

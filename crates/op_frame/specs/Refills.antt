@@ -1,5 +1,6 @@
 -- What taking more bytes of a source does.
-use Rattle.std.specs.Prelude.{◌≡◌, ℕ, ◌+◌, ◌<◌, ◌≤◌, List, [], ◌∷◌, length, Option, Bool, true, false, Result, IfSome, IfOk, IfErr, OnOk, OnErr, IsErrOf, ◌⊎◌}
+use Rattle.std.specs.Prelude.{◌≡◌, ℕ, ◌+◌, ◌<◌, ◌≤◌, List, [], ◌∷◌, length, Option, Bool, true, false, Result, IfSome, IfOk, IfErr, OnOk}
+use Rattle.std.specs.Prelude.{OnErr, IsErrOf, ◌⊎◌}
 use Rattle.std.specs.Io.KnownBytes.{prepend_known}
 use Rattle.outer_ports.specs.Sources.{SourceView, KeepsCount}
 use Rattle.op_frame.specs.declared.fault.FrameFault.{FrameFault}

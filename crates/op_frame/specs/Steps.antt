@@ -53,7 +53,8 @@ pub record TakesFirst (grammar : Grammar) (taken : Taken) (old new : List ℕ) (
   pub held : IfSome taken.held (IsHeld new)
 
 -- how a call ends that takes the first frame off the bytes to read
-pub record TakesFrontFrame (grammar : Grammar) (old new : List ℕ) (before after : SourceView) (offset room : ℕ) (result : Result (Option Taken) FrameFault) : Type 0 where
+pub record TakesFrontFrame (grammar : Grammar) (old new : List ℕ) (before after : SourceView) (offset room : ℕ)
+    (result : Result (Option Taken) FrameFault) : Type 0 where
   pub answer : IfSome (prepend_known old before.left) (AnswersBy grammar (only_op result) offset room)
   pub at : CarriesOffset (only_op result) offset
   pub first : IfOk result (λ given. IfSome given (λ taken. TakesFirst grammar taken old new before.left after.left))

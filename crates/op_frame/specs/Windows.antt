@@ -20,7 +20,7 @@ pub record Filled {E : Type 0} (old new : List ℕ) (before after : SourceView) 
   pub count : KeepsCount before after (IsErr result)
 
 -- a read whose buffer is a part of this one
-pub record PlacedPart {E : Type 0} (old new : List ℕ) (from to : ℕ) (before after : SourceView) (result : Result ℕ E) : Type 0 where
+pub record ReadsIntoPart {E : Type 0} (old new : List ℕ) (from to : ℕ) (before after : SourceView) (result : Result ℕ E) : Type 0 where
   pub part : List ℕ
   pub long : length part ≡ to - from
   pub items : new ≡ take from old ++ (part ++ drop to old)

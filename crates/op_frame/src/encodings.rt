@@ -3,7 +3,7 @@ ghost use Rattle.origin_model.specs.frames.Frames.{HasFrame};
 ghost use Rattle.origin_model.specs.frames.Framings.{frames};
 ghost use Rattle.op_runs.specs.Deletions.{CountersFit, deletes_by};
 ghost use Rattle.op_runs.specs.Slices.{HasCounters, stretch_ops};
-ghost use Rattle.op_frame.specs.OpenRuns.{Extends, HasOpenRun, TakesInText, open_ops};
+ghost use Rattle.op_frame.specs.OpenRuns.{Extends, OpenRunFits, TakesInOps, open_ops};
 
 use crate::encoding::encode;
 use crate::open_run::OpenRun;
@@ -42,10 +42,10 @@ fn encode_stretches(ops: OpSlice<'_>, out: &mut Vec<u8>) -> Result<(), NoMemory>
 
 /// Takes operations that stand next to each other in, and writes those frames that can have no more of them.
 fn take_stretch(run: &mut OpenRun, stretch: &Stretch<'_>, out: &mut Vec<u8>) -> Result<(), NoMemory>
-    requires is_open { HasOpenRun run.old.start run.old.text.items }
+    requires is_open { OpenRunFits run.old.start run.old.text.items }
     requires counters { HasCounters stretch.now }
-    ensures is_open { OnOk result (HasOpenRun run.new.start run.new.text.items) }
-    ensures takes { OnOk result (TakesInText (open_ops run.old.start run.old.text.items) (open_ops run.new.start run.new.text.items) out.old.items out.new.items (stretch_ops stretch.now)) }
+    ensures is_open { OnOk result (OpenRunFits run.new.start run.new.text.items) }
+    ensures takes { OnOk result (TakesInOps (open_ops run.old.start run.old.text.items) (open_ops run.new.start run.new.text.items) out.old.items out.new.items (stretch_ops stretch.now)) }
     ensures err { OnErr result (Extends out.old.items out.new.items) }
 {
     match stretch {
@@ -56,11 +56,11 @@ fn take_stretch(run: &mut OpenRun, stretch: &Stretch<'_>, out: &mut Vec<u8>) -> 
 }
 
 fn take_deletes(run: &mut OpenRun, deletes: &Deletes, out: &mut Vec<u8>) -> Result<(), NoMemory>
-    requires is_open { HasOpenRun run.old.start run.old.text.items }
+    requires is_open { OpenRunFits run.old.start run.old.text.items }
     requires some { 0 < deletes.now.count }
     requires counters { CountersFit deletes.now.down deletes.now.target deletes.now.count }
-    ensures is_open { OnOk result (HasOpenRun run.new.start run.new.text.items) }
-    ensures takes { OnOk result (TakesInText (open_ops run.old.start run.old.text.items) (open_ops run.new.start run.new.text.items) out.old.items out.new.items
+    ensures is_open { OnOk result (OpenRunFits run.new.start run.new.text.items) }
+    ensures takes { OnOk result (TakesInOps (open_ops run.old.start run.old.text.items) (open_ops run.new.start run.new.text.items) out.old.items out.new.items
         (deletes_by deletes.now.down deletes.now.target deletes.now.count)) }
     ensures err { OnErr result (Extends out.old.items out.new.items) }
 {

@@ -1,5 +1,5 @@
 ghost use Rattle.std.specs.Prelude.{◌≡◌, ◌∷◌, ◌++◌, []};
-ghost use Rattle.op_frame.specs.FrameFronts.{IsFrameFront, grown_to};
+ghost use Rattle.op_frame.specs.FrameFronts.{IsFrameStage, grown_to};
 
 use crate::due::{Due, Judged};
 use crate::encoding::LONGEST_FRAME;
@@ -79,7 +79,7 @@ impl FrameFront {
 
     /// One byte more, unless no frame begins with the bytes then.
     pub fn push(&mut self, byte: u8) -> Grown
-        ensures is { IsFrameFront result self.old.grammar (self.old.bytes ++ byte ∷ []) }
+        ensures is { IsFrameStage result self.old.grammar (self.old.bytes ++ byte ∷ []) }
         ensures bytes { self.new.bytes ≡ grown_to result self.old.bytes byte }
         ensures grammar { self.new.grammar ≡ self.old.grammar }
     {

@@ -2,7 +2,7 @@ ghost use Rattle.std.specs.Prelude.{◌≡◌, ◌↔◌, ◌<◌, ◌≤◌, �
 ghost use Rattle.origin_model.specs.frames.Frames.{HasFrame};
 ghost use Rattle.origin_model.specs.frames.Framings.{frames};
 ghost use Rattle.fugue_ids.specs.Runs.{run_from, text_in};
-ghost use Rattle.op_frame.specs.OpenRuns.{Extends, ContinuesRun, HasOpenRun, MakesRoom, TakesInText, open_ops};
+ghost use Rattle.op_frame.specs.OpenRuns.{Extends, ContinuesRun, OpenRunFits, MakesRoom, TakesInOps, open_ops};
 
 use crate::encoding::{LONGEST_RUN, encode, encode_texts};
 use fugue_ids::{NoMemory, Op, RunStart, read_text};
@@ -42,7 +42,7 @@ impl OpenRun {
 
     /// Appends the frame of the run, if there is one.
     fn write(&self, out: &mut Vec<u8>) -> Result<(), NoMemory>
-        requires { HasOpenRun self.now.start self.now.text.items }
+        requires { OpenRunFits self.now.start self.now.text.items }
         ensures have_frames { OnOk result (All HasFrame (open_ops self.now.start self.now.text.items)) }
         ensures ok { OnOk result (out.new.items ≡ out.old.items ++ frames (open_ops self.now.start self.now.text.items)) }
         ensures err { OnErr result (out.new.items ≡ out.old.items) }
@@ -61,7 +61,7 @@ impl OpenRun {
 
     /// The same, and there is no run then.
     pub(crate) fn close(&mut self, out: &mut Vec<u8>) -> Result<(), NoMemory>
-        requires { HasOpenRun self.old.start self.old.text.items }
+        requires { OpenRunFits self.old.start self.old.text.items }
         ensures start { OnOk result (self.new.start ≡ None) }
         ensures text { OnOk result (self.new.text.items ≡ []) }
         ensures have_frames { OnOk result (All HasFrame (open_ops self.old.start self.old.text.items)) }
@@ -76,7 +76,7 @@ impl OpenRun {
 
     /// Begins another run, if the Text that says `next` is not one of this run's frame.
     fn make_room(&mut self, next: &RunStart, out: &mut Vec<u8>) -> Result<(), NoMemory>
-        requires is_open { HasOpenRun self.old.start self.old.text.items }
+        requires is_open { OpenRunFits self.old.start self.old.text.items }
         requires counter { next.now.id.counter < 2 ^ 32 }
         ensures ok { OnOk result (MakesRoom self.old.start self.old.text.items self.new.start self.new.text.items next.now out.old.items out.new.items) }
         ensures err { OnErr result (out.new.items ≡ out.old.items) }
@@ -96,14 +96,14 @@ impl OpenRun {
         text: &[char],
         out: &mut Vec<u8>,
     ) -> Result<usize, NoMemory>
-        requires is_open { HasOpenRun self.old.start self.old.text.items }
+        requires is_open { OpenRunFits self.old.start self.old.text.items }
         requires some { 0 < length text.now }
         requires counters { start.now.id.counter + length text.now ≤ 2 ^ 32 }
         ensures some { IfOk result (λ count. 0 < count) }
         ensures within { IfOk result (λ count. count ≤ length text.now) }
-        ensures is_open { IfOk result (λ count. HasOpenRun self.new.start self.new.text.items) }
+        ensures is_open { IfOk result (λ count. OpenRunFits self.new.start self.new.text.items) }
         ensures takes { IfOk result (λ count.
-            TakesInText (open_ops self.old.start self.old.text.items) (open_ops self.new.start self.new.text.items) out.old.items out.new.items
+            TakesInOps (open_ops self.old.start self.old.text.items) (open_ops self.new.start self.new.text.items) out.old.items out.new.items
             (run_from start.now (take count text.now))) }
         ensures err { OnErr result (Extends out.old.items out.new.items) }
     {
@@ -121,10 +121,10 @@ impl OpenRun {
         text: &[char],
         out: &mut Vec<u8>,
     ) -> Result<(), NoMemory>
-        requires is_open { HasOpenRun self.old.start self.old.text.items }
+        requires is_open { OpenRunFits self.old.start self.old.text.items }
         requires counters { start.id.counter + length text.now ≤ 2 ^ 32 }
-        ensures is_open { OnOk result (HasOpenRun self.new.start self.new.text.items) }
-        ensures takes { OnOk result (TakesInText (open_ops self.old.start self.old.text.items) (open_ops self.new.start self.new.text.items) out.old.items out.new.items (run_from start text.now)) }
+        ensures is_open { OnOk result (OpenRunFits self.new.start self.new.text.items) }
+        ensures takes { OnOk result (TakesInOps (open_ops self.old.start self.old.text.items) (open_ops self.new.start self.new.text.items) out.old.items out.new.items (run_from start text.now)) }
         ensures err { OnErr result (Extends out.old.items out.new.items) }
     {
         let mut next = start;
@@ -140,9 +140,9 @@ impl OpenRun {
 
     /// Takes one operation in.
     pub(crate) fn take_one(&mut self, op: &Op, out: &mut Vec<u8>) -> Result<(), NoMemory>
-        requires { HasOpenRun self.old.start self.old.text.items }
-        ensures is_open { OnOk result (HasOpenRun self.new.start self.new.text.items) }
-        ensures takes { OnOk result (TakesInText (open_ops self.old.start self.old.text.items) (open_ops self.new.start self.new.text.items) out.old.items out.new.items (op.now ∷ [])) }
+        requires { OpenRunFits self.old.start self.old.text.items }
+        ensures is_open { OnOk result (OpenRunFits self.new.start self.new.text.items) }
+        ensures takes { OnOk result (TakesInOps (open_ops self.old.start self.old.text.items) (open_ops self.new.start self.new.text.items) out.old.items out.new.items (op.now ∷ [])) }
         ensures err { OnErr result (Extends out.old.items out.new.items) }
     {
         match read_text(op) {
@@ -153,10 +153,10 @@ impl OpenRun {
 
     /// Takes an operation in that is no Text.
     fn take_other(&mut self, op: &Op, out: &mut Vec<u8>) -> Result<(), NoMemory>
-        requires is_open { HasOpenRun self.old.start self.old.text.items }
+        requires is_open { OpenRunFits self.old.start self.old.text.items }
         requires other { text_in op.now ≡ None }
-        ensures is_open { OnOk result (HasOpenRun self.new.start self.new.text.items) }
-        ensures takes { OnOk result (TakesInText (open_ops self.old.start self.old.text.items) (open_ops self.new.start self.new.text.items) out.old.items out.new.items (op.now ∷ [])) }
+        ensures is_open { OnOk result (OpenRunFits self.new.start self.new.text.items) }
+        ensures takes { OnOk result (TakesInOps (open_ops self.old.start self.old.text.items) (open_ops self.new.start self.new.text.items) out.old.items out.new.items (op.now ∷ [])) }
         ensures err { OnErr result (Extends out.old.items out.new.items) }
     {
         self.close(out)?;

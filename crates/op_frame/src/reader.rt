@@ -127,9 +127,9 @@ impl FrameReader {
     /// give.
     ///
     /// Texts or Deletes are given at once as long as each goes on with the one before it, and stands whole in the bytes
-    /// that were taken of the source already. So the source is asked for bytes only where nothing could be given otherwise, and
-    /// what it answers then is never held back. `text` keeps its room. Where it has none, and
-    /// none is to be had for one scalar, nothing is done; a call that runs out of memory later gives what it has.
+    /// that were taken of the source already. So the source is asked for bytes only where nothing could be given
+    /// otherwise, and what it answers then is never held back. `text` keeps its room. Where it has none, and none is to be
+    /// had for one scalar, nothing is done; a call that runs out of memory later gives what it has.
     pub fn next_run<S: Source>(
         &mut self,
         source: &mut S,

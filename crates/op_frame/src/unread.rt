@@ -1,5 +1,5 @@
 ghost use Rattle.std.specs.Prelude.{◌≡◌, ◌≤◌, ◌<◌, ◌-◌, length, drop, [], IfOk};
-ghost use Rattle.op_frame.specs.Windows.{Filled, PlacedPart};
+ghost use Rattle.op_frame.specs.Windows.{Filled, ReadsIntoPart};
 
 use fugue_ids::{BUFFER, Failed, NoMemory};
 use outer_ports::Source;
@@ -106,7 +106,7 @@ fn read_into<S: Source>(
 ) -> Result<usize, Failed>
     requires ordered { from ≤ to }
     requires within { to ≤ length buffer.old }
-    ensures { PlacedPart buffer.old buffer.new from to (S.seen source.old) (S.seen source.new) result }
+    ensures { ReadsIntoPart buffer.old buffer.new from to (S.seen source.old) (S.seen source.new) result }
 {
     source.read(&mut buffer[from..to])
 }

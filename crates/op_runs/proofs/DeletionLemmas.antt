@@ -1,5 +1,6 @@
 -- Deletes of neighbours.
-use Rattle.std.proofs.Common.{◌≡◌, ℕ, zero, suc, ◌+◌, ◌-◌, ◌<◌, ◌≤◌, ◌^◌, ◌⊎◌, Bool, true, false, List, [], append_assoc, length-append, take, ◌∷◌, ◌++◌, length, refl, ap, sym, ◌∙◌, arith, inl, inr}
+use Rattle.std.proofs.Common.{◌≡◌, ℕ, zero, suc, ◌+◌, ◌-◌, ◌<◌, ◌≤◌, ◌^◌, ◌⊎◌, Bool, true, false, List, [], append_assoc, length-append, take, ◌∷◌, ◌++◌, length, refl, ap, sym}
+use Rattle.std.proofs.Common.{◌∙◌, arith, inl, inr}
 use Rattle.std.proofs.Math.Seq.{take-append_seam}
 use Rattle.fugue_ids.specs.Identifiers.{Identifier}
 use Rattle.fugue_ids.specs.Runs.{id_behind, next_id}
@@ -88,7 +89,8 @@ longer_is d target most false some fits (way, is) =
     }
 
 -- Deletes that came behind others, and those that came behind them
-pub deletes_behind : (old : List Op) (target : Identifier) (n m : ℕ) → (old ++ deletes_by false target n) ++ deletes_by false (id_behind target n) m ≡ old ++ deletes_by false target (n + m)
+pub deletes_behind : (old : List Op) (target : Identifier) (n m : ℕ)
+    → (old ++ deletes_by false target n) ++ deletes_by false (id_behind target n) m ≡ old ++ deletes_by false target (n + m)
 deletes_behind old target n m = append_assoc old (deletes_up target n) (deletes_up (id_behind target n) m) ∙ ap (λ z. old ++ z) (sym (up-append target n m))
 
 -- so many are taken back

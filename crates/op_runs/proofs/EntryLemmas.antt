@@ -1,5 +1,6 @@
 -- The parts of a list of operations are its entries.
-use Rattle.std.proofs.Common.{◌≡◌, ℕ, zero, suc, ◌+◌, ◌<◌, ◌⊎◌, Bool, true, false, List, [], ◌∷◌, ◌++◌, length, take, drop, get_or, refl, ap, sym, subst, ◌∙◌, arith, inl, inr, length-append, length-drop}
+use Rattle.std.proofs.Common.{◌≡◌, ℕ, zero, suc, ◌+◌, ◌<◌, ◌⊎◌, Bool, true, false, List, [], ◌∷◌, ◌++◌, length, take, drop, get_or, refl, ap, sym, subst, ◌∙◌, arith, inl, inr}
+use Rattle.std.proofs.Common.{length-append, length-drop}
 use Rattle.std.specs.Prelude.{Option, Some, None, All, flat_map, map, slice_get, option_map}
 use Rattle.std.proofs.lemmas.Bool.{cases_lt}
 use Rattle.std.proofs.lemmas.List.{get_or_default, length-take-le}
@@ -13,8 +14,8 @@ use Rattle.fugue_ids.specs.declared.op.Op.TheVariants.{Delete}
 use Rattle.fugue_ids.specs.declared.run.RunStart.{RunStart}
 use Rattle.fugue_ids.proofs.RunLemmas.{length-typed, none_behind}
 use Rattle.op_runs.specs.Deletions.{CountersFit, deletes_by, target_by}
-use Rattle.op_runs.specs.Entries.{Alone, AreMaximal, Entry, IsRunEntry, IsPartedIn, Neighbours, Run, entry_ops}
-use Rattle.op_runs.specs.Parts.{AreApart, AreParts, ContinuesPart, IsOther, AreSoundParts, ops_of, other_ops, part_len, part_ops}
+use Rattle.op_runs.specs.Entries.{Alone, AreMaximal, Entry, IsSoundEntry, IsPartedIn, Neighbours, Run, entry_ops}
+use Rattle.op_runs.specs.Parts.{AreApart, AreParts, ContinuesPart, IsOther, IsSoundPart, ops_of, other_ops, part_len, part_ops}
 use Rattle.op_runs.specs.declared.part.Deletes.{Deletes}
 use Rattle.op_runs.specs.declared.part.Part.{Part}
 use Rattle.op_runs.specs.declared.part.Part.TheVariants.{Deleted, Other, Typed}
@@ -55,7 +56,7 @@ same_target : (t u : Identifier) → Some (Delete t) ≡ Some (Delete u) → t �
 same_target t u e = cc e
 
 -- a Delete stands in Deletes of neighbours alone
-deletes_alone : (letters : List ℕ) (others : List Op) (p : Part) (j : ℕ) (t : Identifier) → AreSoundParts (length letters) (length others) p → j < part_len p → All IsOther others
+deletes_alone : (letters : List ℕ) (others : List Op) (p : Part) (j : ℕ) (t : Identifier) → IsSoundPart (length letters) (length others) p → j < part_len p → All IsOther others
     → slice_get (part_ops letters others p) j ≡ Some (Delete t) → (d : Deletes) × (p ≡ Deleted d) × (target_by d.down d.target j ≡ t)
 deletes_alone letters others (Typed r) j t s inside other e =
     let c : ℕ = get_or letters (r.at + j) 0 in
@@ -100,7 +101,8 @@ one_way false true t e = absurd (omega (arith, ap (λ (i : Identifier). i.counte
 one_way false false t e = refl
 
 -- No entry has a part's operations and the first of the next
-module _ (letters : List ℕ) (others : List Op) (p q : Part) (sp : AreSoundParts (length letters) (length others) p) (sq : AreSoundParts (length letters) (length others) q) (other : All IsOther others) (apart : ContinuesPart p q → ⊥)
+module _ (letters : List ℕ) (others : List Op) (p q : Part) (sp : IsSoundPart (length letters) (length others) p) (sq : IsSoundPart (length letters) (length others) q)
+    (other : All IsOther others) (apart : ContinuesPart p q → ⊥)
     (op : Op) (rest : List Op) (first : part_ops letters others q ≡ op ∷ rest) where
   n_is : length (part_ops letters others p) ≡ part_len p
   n_is = part_has letters others p sp
@@ -146,17 +148,21 @@ module _ (letters : List ℕ) (others : List Op) (p q : Part) (sp : AreSoundPart
   no_neighbours b t m fits is =
       let len : m ≡ part_len p + 1 = sym (length-deletes b t m) ∙ xs_len (deletes_by b t m) is in
       let d = deletes_alone letters others p 0 (target_by b t 0) sp some_p other (sym (xs_old (deletes_by b t m) is 0 some_p) ∙ sym (delete_at b t m 0 (omega (arith, len)))) in
-      let e = deletes_alone letters others q 0 (target_by b t (part_len p)) sq some_q other (sym (xs_new (deletes_by b t m) is) ∙ sym (delete_at b t m (part_len p) (omega (arith, len)))) in
+      let e = deletes_alone letters others q 0 (target_by b t (part_len p)) sq some_q other
+      (sym (xs_new (deletes_by b t m) is) ∙ sym (delete_at b t m (part_len p) (omega (arith, len)))) in
       let begins : d.0.target ≡ t = sym (target_same d.0.down d.0.target) ∙ d.2 ∙ target_same b t in
       let count : part_len p ≡ d.0.count = ap part_len d.1 in
       let next : e.0.target ≡ target_by b d.0.target d.0.count = sym (target_same e.0.down e.0.target) ∙ e.2 ∙ (λ i. target_by b (sym begins i) (count i)) in
-      apart (subst (λ z. ContinuesPart z q) (sym d.1) (subst (ContinuesPart (Deleted d.0)) (sym e.1) (goes d.0 e.0 (way d.0 d.1 begins len) next (subst (λ z. CountersFit b z m) (sym begins) fits) (omega (arith, len, count)))))
+      apart (subst (λ z. ContinuesPart z q) (sym d.1)
+      (subst (ContinuesPart (Deleted d.0)) (sym e.1)
+      (goes d.0 e.0 (way d.0 d.1 begins len) next (subst (λ z. CountersFit b z m) (sym begins) fits) (omega (arith, len, count)))))
     where
       way : (d : Deletes) → p ≡ Deleted d → d.target ≡ t → m ≡ part_len p + 1 → (d.count ≡ 1) ⊎ (d.down ≡ b)
       way d e begins len = elim (cases_lt 1 (part_len p)) [
         | inr one ↦ inl (omega (arith, one, some_p, ap part_len e))
         | inl more ↦ (
-            let second = deletes_alone letters others p 1 (target_by b t 1) sp more other (sym (xs_old (deletes_by b t m) is 1 more) ∙ sym (delete_at b t m 1 (omega (arith, len)))) in
+            let second = deletes_alone letters others p 1 (target_by b t 1) sp more other
+            (sym (xs_old (deletes_by b t m) is 1 more) ∙ sym (delete_at b t m 1 (omega (arith, len)))) in
             let same : second.0 ≡ d = same_deletes (sym second.1 ∙ e) in
             inr (one_way d.down b t ((λ i. target_by d.down (sym begins i) 1) ∙ ap (λ (z : Deletes). target_by z.down z.target 1) (sym same) ∙ second.2))
             )
@@ -165,51 +171,56 @@ module _ (letters : List ℕ) (others : List Op) (p q : Part) (sp : AreSoundPart
           same_deletes : {x y : Deletes} → Deleted x ≡ Deleted y → x ≡ y
           same_deletes z = cc z
 
-      goes : (d e : Deletes) → (d.count ≡ 1) ⊎ (d.down ≡ b) → e.target ≡ target_by b d.target d.count → CountersFit b d.target m → m ≡ d.count + 1 → ContinuesPart (Deleted d) (Deleted e)
+      goes : (d e : Deletes) → (d.count ≡ 1) ⊎ (d.down ≡ b) → e.target ≡ target_by b d.target d.count → CountersFit b d.target m → m ≡ d.count + 1
+          → ContinuesPart (Deleted d) (Deleted e)
       goes = by_way b
         where
-          by_way : (b : Bool) (d e : Deletes) → (d.count ≡ 1) ⊎ (d.down ≡ b) → e.target ≡ target_by b d.target d.count → CountersFit b d.target m → m ≡ d.count + 1 → ContinuesPart (Deleted d) (Deleted e)
+          by_way : (b : Bool) (d e : Deletes) → (d.count ≡ 1) ⊎ (d.down ≡ b) → e.target ≡ target_by b d.target d.count → CountersFit b d.target m → m ≡ d.count + 1
+              → ContinuesPart (Deleted d) (Deleted e)
           by_way false d e w next fits len = inl (w, next)
           by_way true d e w next fits len =
               let back : d.target.counter ≡ e.target.counter + d.count = omega (arith, fits, len, ap (λ (i : Identifier). i.counter) next) in
               inr (w, λ i. record { replica = sym (ap (λ (z : Identifier). z.replica) next) i; counter = back i })
 
-  pub none_longer : (more : Entry) → IsRunEntry more → entry_ops more ≡ part_ops letters others p ++ op ∷ [] → ⊥
+  pub none_longer : (more : Entry) → IsSoundEntry more → entry_ops more ≡ part_ops letters others p ++ op ∷ [] → ⊥
   none_longer (Run s u) entry is = no_run s u is
   none_longer (Neighbours b t m) entry is = no_neighbours b t m entry.1 is
   none_longer (Alone x) entry is = omega (arith, xs_len (x ∷ []) is, some_p)
 
 -- The parts are entries, each as long as can be
 
-other_is_entry : (letters : List ℕ) (others : List Op) (k : ℕ) → k < length others → IsRunEntry (other_entry (slice_get others k))
+other_is_entry : (letters : List ℕ) (others : List Op) (k : ℕ) → k < length others → IsSoundEntry (other_entry (slice_get others k))
 unfolding other_entry
 other_is_entry letters [] k h = absurd (omega (arith, h))
 other_is_entry letters (op ∷ others) zero h = tt
 other_is_entry letters (op ∷ others) (suc k) h = other_is_entry letters others k (omega (arith, h))
 
-part_is_entry : (letters : List ℕ) (others : List Op) (p : Part) → AreSoundParts (length letters) (length others) p → IsRunEntry (entry_of letters others p)
+part_is_entry : (letters : List ℕ) (others : List Op) (p : Part) → IsSoundPart (length letters) (length others) p → IsSoundEntry (entry_of letters others p)
 unfolding entry_of
 part_is_entry letters others (Typed r) s = omega (arith, s.0.0, length-take-le r.count (drop r.at letters) (omega (arith, length-drop r.at letters, s.1)))
 part_is_entry letters others (Deleted d) s = s.0
 part_is_entry letters others (Other k) s = other_is_entry letters others k s.1
 
-all_entries : (letters : List ℕ) (others : List Op) (ps : List Part) → All (AreSoundParts (length letters) (length others)) ps → All IsRunEntry (map (entry_of letters others) ps)
-all_entries letters others [] s = All-nil IsRunEntry
+all_entries : (letters : List ℕ) (others : List Op) (ps : List Part) → All (IsSoundPart (length letters) (length others)) ps → All IsSoundEntry (map (entry_of letters others) ps)
+all_entries letters others [] s = All-nil IsSoundEntry
 all_entries letters others (p ∷ ps) s =
-    let P = AreSoundParts (length letters) (length others) in
-    All-cons IsRunEntry (entry_of letters others p) (map (entry_of letters others) ps) (part_is_entry letters others p (All-head P p ps s)) (all_entries letters others ps (All-tail P p ps s))
+    let P = IsSoundPart (length letters) (length others) in
+    All-cons IsSoundEntry (entry_of letters others p) (map (entry_of letters others) ps) (part_is_entry letters others p (All-head P p ps s))
+    (all_entries letters others ps (All-tail P p ps s))
 
 all_ops : (letters : List ℕ) (others : List Op) (ps : List Part) → ops_of letters others ps ≡ flat_map entry_ops (map (entry_of letters others) ps)
 all_ops letters others [] = refl
 all_ops letters others (p ∷ ps) = λ i. sym (entry_is letters others p) i ++ all_ops letters others ps i
 
-all_longest : (letters : List ℕ) (others : List Op) (ps : List Part) → All (AreSoundParts (length letters) (length others)) ps → All IsOther others → AreApart ps → AreMaximal (map (entry_of letters others) ps)
+all_longest : (letters : List ℕ) (others : List Op) (ps : List Part) → All (IsSoundPart (length letters) (length others)) ps → All IsOther others → AreApart ps
+    → AreMaximal (map (entry_of letters others) ps)
 all_longest letters others [] s other a = tt
 all_longest letters others (p ∷ []) s other a = (tt, tt)
 all_longest letters others (p ∷ q ∷ qs) s other a =
-    let P = AreSoundParts (length letters) (length others) in
+    let P = IsSoundPart (length letters) (length others) in
     let rest = All-tail P p (q ∷ qs) s in (
-      λ more op behind entry next is. none_longer letters others p q (All-head P p (q ∷ qs) s) (All-head P q qs rest) other a.0 op behind (sym (entry_is letters others q) ∙ next) more entry
+      λ more op behind entry next is. none_longer letters others p q (All-head P p (q ∷ qs) s) (All-head P q qs rest) other a.0 op behind
+          (sym (entry_is letters others q) ∙ next) more entry
           (is ∙ ap (λ z. z ++ op ∷ []) (entry_is letters others p)),
       all_longest letters others (q ∷ qs) rest other a.1,
     )

@@ -1,5 +1,6 @@
 -- The operation at a position: the part that has it, and which of its operations it is.
-use Rattle.std.proofs.Common.{◌≡◌, ℕ, zero, suc, ◌+◌, ◌-◌, ◌<◌, ◌≤◌, Bool, true, false, List, [], ◌∷◌, ◌++◌, length, take, drop, get_or, refl, ap, sym, subst, ◌∙◌, arith, length-append, length-drop, inl, inr}
+use Rattle.std.proofs.Common.{◌≡◌, ℕ, zero, suc, ◌+◌, ◌-◌, ◌<◌, ◌≤◌, Bool, true, false, List, [], ◌∷◌, ◌++◌, length, take, drop, get_or, refl, ap, sym, subst, ◌∙◌, arith}
+use Rattle.std.proofs.Common.{length-append, length-drop, inl, inr}
 use Rattle.std.specs.Prelude.{None, Option, Some, All, slice_get, option_map}
 use Rattle.std.proofs.lemmas.Bool.{cases_lt}
 use Rattle.std.proofs.lemmas.Grind.{flat_map-append}
@@ -17,7 +18,7 @@ use Rattle.fugue_ids.proofs.RunLemmas.{left_one, none_behind, one_behind}
 use Rattle.op_runs.specs.Deletions.{deletes_by, id_before, target_by}
 use Rattle.op_runs.specs.Finding.{IsFloorPart, IsPartSpot, all_len}
 use Rattle.op_runs.specs.Growing.{IsLastPart}
-use Rattle.op_runs.specs.Parts.{IsOther, AreSoundParts, firsts_of, ops_of, other_ops, part_len, part_ops}
+use Rattle.op_runs.specs.Parts.{IsOther, IsSoundPart, firsts_of, ops_of, other_ops, part_len, part_ops}
 use Rattle.op_runs.specs.declared.part.Part.{Part}
 use Rattle.op_runs.specs.declared.part.Part.TheVariants.{Deleted, Other, Typed}
 use Rattle.op_runs.specs.declared.part.TypedPart.{TypedPart}
@@ -40,7 +41,8 @@ rises n (p ∷ ps) s zero (suc j) h k =
     omega (arith, r, some)
 rises n (p ∷ ps) s (suc i) (suc j) h k = rises (n + part_len p) ps (All-tail (λ q. 0 < part_len q) p ps s) i j (omega (arith, h)) (omega (arith, k))
 
-pub firsts_rise : (firsts : List ℕ) (ps : List Part) → firsts ≡ firsts_of 0 ps → All (λ p. 0 < part_len p) ps → (i j : ℕ) → i < j → j < length firsts → get_or firsts i 0 < get_or firsts j 0
+pub firsts_rise : (firsts : List ℕ) (ps : List Part) → firsts ≡ firsts_of 0 ps → All (λ p. 0 < part_len p) ps → (i j : ℕ) → i < j → j < length firsts
+    → get_or firsts i 0 < get_or firsts j 0
 firsts_rise firsts ps e s = subst (λ (xs : List ℕ). (i j : ℕ) → i < j → j < length xs → get_or xs i 0 < get_or xs j 0) (sym e) (rises 0 ps s)
 
 -- strictly rising numbers rise
@@ -55,7 +57,8 @@ firsts_len n [] = refl
 firsts_len n (p ∷ ps) = ap suc (firsts_len (n + part_len p) ps)
 
 -- the last part that begins no later than a position has it
-spot_in : (n : ℕ) (ps : List Part) (k position : ℕ) → k < length (firsts_of n ps) → get_or (firsts_of n ps) k 0 ≤ position → ((j : ℕ) → k < j → j < length (firsts_of n ps) → position < get_or (firsts_of n ps) j 0)
+spot_in : (n : ℕ) (ps : List Part) (k position : ℕ) → k < length (firsts_of n ps) → get_or (firsts_of n ps) k 0 ≤ position
+    → ((j : ℕ) → k < j → j < length (firsts_of n ps) → position < get_or (firsts_of n ps) j 0)
     → position < n + all_len ps → IsPartSpot ps (position - n) k (position - get_or (firsts_of n ps) k 0)
 spot_in n [] k position i h b l = absurd (omega (arith, i))
 spot_in n (q ∷ []) zero position i h b l = record { before = []; part = q; after = []; whole = refl; index = refl; behind = omega arith; inside = omega (arith, l, h) }
@@ -65,9 +68,18 @@ spot_in n (q ∷ r ∷ rs) zero position i h b l =
 spot_in n (q ∷ qs) (suc k) position i h b l =
     let s = spot_in (n + part_len q) qs k position (omega (arith, i)) h (λ j g z. b (suc j) (omega (arith, g)) (omega (arith, z))) (omega (arith, l)) in
     let from = begins (n + part_len q) qs k (omega (arith, i)) in
-    record { before = q ∷ s.before; part = s.part; after = s.after; whole = ap (λ z. q ∷ z) s.whole; index = ap suc s.index; behind = omega (arith, s.behind, from, h); inside = s.inside }
+    record {
+      before = q ∷ s.before;
+      part = s.part;
+      after = s.after;
+      whole = ap (λ z. q ∷ z) s.whole;
+      index = ap suc s.index;
+      behind = omega (arith, s.behind, from, h);
+      inside = s.inside;
+    }
 
-pub spot_floor : (ps : List Part) (firsts : List ℕ) (k position : ℕ) → firsts ≡ firsts_of 0 ps → IsFloorPart firsts position k → position < all_len ps → IsPartSpot ps position k (position - get_or firsts k 0)
+pub spot_floor : (ps : List Part) (firsts : List ℕ) (k position : ℕ) → firsts ≡ firsts_of 0 ps → IsFloorPart firsts position k → position < all_len ps
+    → IsPartSpot ps position k (position - get_or firsts k 0)
 spot_floor ps firsts k position e f l =
     let g : IsFloorPart (firsts_of 0 ps) position k = subst (λ (xs : List ℕ). IsFloorPart xs position k) e f in
     let all : position - 0 ≡ position = omega arith in
@@ -86,14 +98,14 @@ none_floor (p ∷ ps) firsts position e h =
 
 -- What stands there
 
-pub all_some : (l o : ℕ) (ps : List Part) → All (AreSoundParts l o) ps → All (λ p. 0 < part_len p) ps
+pub all_some : (l o : ℕ) (ps : List Part) → All (IsSoundPart l o) ps → All (λ p. 0 < part_len p) ps
 all_some l o [] s = All-nil (λ p. 0 < part_len p)
-all_some l o (p ∷ ps) s = All-cons (λ q. 0 < part_len q) p ps (has_some l o p (All-head (AreSoundParts l o) p ps s)) (all_some l o ps (All-tail (AreSoundParts l o) p ps s))
+all_some l o (p ∷ ps) s = All-cons (λ q. 0 < part_len q) p ps (has_some l o p (All-head (IsSoundPart l o) p ps s)) (all_some l o ps (All-tail (IsSoundPart l o) p ps s))
 
-pub ops_len : (letters : List ℕ) (others : List Op) (ps : List Part) → All (AreSoundParts (length letters) (length others)) ps → length (ops_of letters others ps) ≡ all_len ps
+pub ops_len : (letters : List ℕ) (others : List Op) (ps : List Part) → All (IsSoundPart (length letters) (length others)) ps → length (ops_of letters others ps) ≡ all_len ps
 ops_len letters others [] s = refl
 ops_len letters others (p ∷ ps) s =
-    let P = AreSoundParts (length letters) (length others) in
+    let P = IsSoundPart (length letters) (length others) in
     let r = ops_len letters others ps (All-tail P p ps s) in
     omega (arith, length-append (part_ops letters others p) (ops_of letters others ps), part_has letters others p (All-head P p ps s), r)
 
@@ -102,10 +114,11 @@ pub spot_parts : (letters : List ℕ) (others : List Op) (ps : List Part) (posit
     → ops_of letters others ps ≡ ops_of letters others s.before ++ (part_ops letters others s.part ++ ops_of letters others s.after)
 spot_parts letters others ps position k offset s = ap (ops_of letters others) s.whole ∙ flat_map-append (part_ops letters others) s.before (s.part ∷ s.after)
 
-pub spot_get : (letters : List ℕ) (others : List Op) (ps : List Part) (position k offset : ℕ) (s : IsPartSpot ps position k offset) → All (AreSoundParts (length letters) (length others)) ps
+pub spot_get : (letters : List ℕ) (others : List Op) (ps : List Part) (position k offset : ℕ) (s : IsPartSpot ps position k offset)
+    → All (IsSoundPart (length letters) (length others)) ps
     → slice_get (ops_of letters others ps) position ≡ slice_get (part_ops letters others s.part) offset
 spot_get letters others ps position k offset s sound =
-    let P = AreSoundParts (length letters) (length others) in
+    let P = IsSoundPart (length letters) (length others) in
     let all = subst (All P) s.whole sound in
     let len : length (ops_of letters others s.before) ≡ all_len s.before = ops_len letters others s.before (all_before P s.before (s.part ∷ s.after) all) in
     let here = All-head P s.part s.after (all_behind P s.before (s.part ∷ s.after) all) in
@@ -161,10 +174,10 @@ other_at others k j op h g e =
     (λ i. slice_get (other_ops (sym there i)) (sym first i))
 
 -- the last operation is that of the last part
-pub last_read : (letters : List ℕ) (others : List Op) (ps : List Part) (last : Part) → IsLastPart ps last → All (AreSoundParts (length letters) (length others)) ps
+pub last_read : (letters : List ℕ) (others : List Op) (ps : List Part) (last : Part) → IsLastPart ps last → All (IsSoundPart (length letters) (length others)) ps
     → slice_get (ops_of letters others ps) (length (ops_of letters others ps) - 1) ≡ slice_get (part_ops letters others last) (part_len last - 1)
 last_read letters others ps last is sound =
-    let P = AreSoundParts (length letters) (length others) in
+    let P = IsSoundPart (length letters) (length others) in
     let at : P last = All-head P last [] (all_behind P is.front (last ∷ []) (subst (All P) is.whole sound)) in
     let front : List Op = ops_of letters others is.front in
     let here : List Op = part_ops letters others last in
@@ -193,10 +206,12 @@ no_other_deleted down t n j op h e none =
     some_none x d = cc
 
 -- where the last operation is neither a Text nor a Delete, the last part has it
-pub last_other : (letters : List ℕ) (others : List Op) (ps : List Part) (last : Part) (op : Op) → IsLastPart ps last → All (AreSoundParts (length letters) (length others)) ps
+pub last_other : (letters : List ℕ) (others : List Op) (ps : List Part) (last : Part) (op : Op) → IsLastPart ps last → All (IsSoundPart (length letters) (length others)) ps
     → Some op ≡ slice_get (ops_of letters others ps) (length (ops_of letters others ps) - 1) → IsOther op → (k : ℕ) × (last ≡ Other k)
 last_other letters others ps last op is sound e other =
-    by_part last (has_some (length letters) (length others) last (All-head (AreSoundParts (length letters) (length others)) last [] (all_behind (AreSoundParts (length letters) (length others)) is.front (last ∷ []) (subst (All (AreSoundParts (length letters) (length others))) is.whole sound))))
+    by_part last (has_some (length letters) (length others) last
+    (All-head (IsSoundPart (length letters) (length others)) last []
+    (all_behind (IsSoundPart (length letters) (length others)) is.front (last ∷ []) (subst (All (IsSoundPart (length letters) (length others))) is.whole sound))))
     (e ∙ last_read letters others ps last is sound)
   where
     by_part : (p : Part) → 0 < part_len p → Some op ≡ slice_get (part_ops letters others p) (part_len p - 1) → (k : ℕ) × (p ≡ Other k)

@@ -1,5 +1,6 @@
 -- What is left of a list of operations where some go at its end.
-use Rattle.std.proofs.Common.{◌≡◌, ℕ, ◌+◌, ◌-◌, ◌<◌, ◌≤◌, Bool, true, false, List, [], ◌∷◌, ◌++◌, length, take, drop, get_or, suc, refl, ap, sym, subst, ◌∙◌, arith, inl, inr, append_assoc, length-append, length-drop}
+use Rattle.std.proofs.Common.{◌≡◌, ℕ, ◌+◌, ◌-◌, ◌<◌, ◌≤◌, Bool, true, false, List, [], ◌∷◌, ◌++◌, length, take, drop, get_or, suc, refl, ap, sym, subst, ◌∙◌, arith, inl, inr}
+use Rattle.std.proofs.Common.{append_assoc, length-append, length-drop}
 use Rattle.std.specs.Prelude.{All, Option, Some, slice_get}
 use Rattle.std.proofs.lemmas.List.{drop_all, drop-take, length-take-le, take-append-drop, take-take, take_all}
 use Rattle.std.proofs.lemmas.List.Elements.{All-append, All-cons, All-head, All-nil, All-tail, All-take}
@@ -11,13 +12,15 @@ use Rattle.fugue_ids.proofs.ListLemmas.{all_before, all_behind}
 use Rattle.fugue_ids.proofs.RunLemmas.{length-typed, run_parted}
 use Rattle.op_runs.specs.Deletions.{CountersFit, deletes_by, target_by}
 use Rattle.op_runs.specs.Growing.{IsLastPart, TakesOffLast, letters_of_part, part_front}
-use Rattle.op_runs.specs.Parts.{AreLaid, AreParts, ContinuesPart, IsOther, AreSoundParts, IsWholePart, StandsInPart, firsts_of, letters_in, ops_of, other_ops, others_in, part_len, part_ops}
+use Rattle.op_runs.specs.Parts.{AreLaid, AreParts, ContinuesPart, IsOther, IsSoundPart, IsWholePart, PartStandsBehind, firsts_of, letters_in, ops_of, other_ops, others_in}
+use Rattle.op_runs.specs.Parts.{part_len, part_ops}
 use Rattle.op_runs.specs.declared.part.Deletes.{Deletes}
 use Rattle.op_runs.specs.declared.part.Part.{Part}
 use Rattle.op_runs.specs.declared.part.Part.TheVariants.{Deleted, Other, Typed}
 use Rattle.op_runs.specs.declared.part.TypedPart.{TypedPart}
 use Rattle.op_runs.proofs.DeletionLemmas.{deletes-append, length-deletes}
-use Rattle.op_runs.proofs.PartLemmas.{IsLaidLast, apart-front, apart-other, firsts_last, firsts_push, has_some, laid-last, laid-push, laid_sound, one_more, ops_stay, part_has, sound_of}
+use Rattle.op_runs.proofs.PartLemmas.{IsLaidLast, apart-front, apart-other, firsts_last, firsts_push, has_some, laid-last, laid-push, laid_sound, one_more, ops_stay, part_has}
+use Rattle.op_runs.proofs.PartLemmas.{sound_of}
 
 -- the front of a list of operations stays
 pub record IsPopped (l : List ℕ) (o : List Op) (ps : List Part) (fs : List ℕ) (n : ℕ) (old : List Op) (count : ℕ) : Type 0 where
@@ -35,7 +38,7 @@ module _ (l : List ℕ) (o : List Op) (front : List Part) (last : Part) (fs : Li
   at = laid-last 0 0 front last (length l) (length o) a.laid
 
   abbrev P : Part → Type 0
-  P = AreSoundParts (length l) (length o)
+  P = IsSoundPart (length l) (length o)
 
   whole_front : All IsWholePart front
   whole_front = all_before IsWholePart front (last ∷ []) a.whole
@@ -73,14 +76,15 @@ module _ (l : List ℕ) (o : List Op) (front : List Part) (last : Part) (fs : Li
     front_ops = sym ((λ i. ops_of (sym (take-append-drop m l) i) (sym (take-append-drop k o) i) front)
         ∙ ops_stay l' (drop m l) o' (drop k o) front (inside front (laid_sound 0 0 front at.letters at.others whole_front at.laid)))
       where
-        one : (p : Part) → AreSoundParts at.letters at.others p → AreSoundParts (length l') (length o') p
+        one : (p : Part) → IsSoundPart at.letters at.others p → IsSoundPart (length l') (length o') p
         one (Typed r) s = (s.0, omega (arith, s.1, letters, len_l))
         one (Deleted d) s = s
         one (Other j) s = (s.0, omega (arith, s.1, others, len_o))
 
-        inside : (ps : List Part) → All (AreSoundParts at.letters at.others) ps → All (AreSoundParts (length l') (length o')) ps
-        inside [] s = All-nil (AreSoundParts (length l') (length o'))
-        inside (p ∷ ps) s = All-cons (AreSoundParts (length l') (length o')) p ps (one p (All-head (AreSoundParts at.letters at.others) p ps s)) (inside ps (All-tail (AreSoundParts at.letters at.others) p ps s))
+        inside : (ps : List Part) → All (IsSoundPart at.letters at.others) ps → All (IsSoundPart (length l') (length o')) ps
+        inside [] s = All-nil (IsSoundPart (length l') (length o'))
+        inside (p ∷ ps) s = All-cons (IsSoundPart (length l') (length o')) p ps (one p (All-head (IsSoundPart at.letters at.others) p ps s))
+            (inside ps (All-tail (IsSoundPart at.letters at.others) p ps s))
 
   -- the last part goes whole
   pub dropped : (fs' : List ℕ) → fs' ≡ take (length fs - 1) fs
@@ -98,7 +102,8 @@ module _ (l : List ℕ) (o : List Op) (front : List Part) (last : Part) (fs : Li
           let le : length (take at.letters l) ≡ at.letters = length-take-le at.letters l ml in
           let oe : length (take at.others o) ≡ at.others = length-take-le at.others o ko in
           let same = front_ops at.letters at.others (omega arith) (omega arith) ml ko in
-          let pushed : fs ≡ firsts_of 0 front ++ (0 + length (ops_of l o front)) ∷ [] = a.firsts_are ∙ firsts_push l o 0 front last (all_before P front (last ∷ []) (sound_of l o (front ++ last ∷ []) fs n a)) in
+          let pushed : fs ≡ firsts_of 0 front ++ (0 + length (ops_of l o front)) ∷ [] =
+          a.firsts_are ∙ firsts_push l o 0 front last (all_before P front (last ∷ []) (sound_of l o (front ++ last ∷ []) fs n a)) in
           let firsts : fs' ≡ firsts_of 0 front = e ∙ (λ i. take (length (pushed i) - 1) (pushed i)) ∙ front_taken_of (firsts_of 0 front) (0 + length (ops_of l o front)) in
           record {
             are = record {
@@ -114,13 +119,14 @@ module _ (l : List ℕ) (o : List Op) (front : List Part) (last : Part) (fs : Li
           }
         where
           front_taken_of : (xs : List ℕ) (x : ℕ) → take (length (xs ++ x ∷ []) - 1) (xs ++ x ∷ []) ≡ xs
-          front_taken_of xs x = let len : length (xs ++ x ∷ []) - 1 ≡ length xs = omega (arith, length-append xs (x ∷ [])) in ap (λ k. take k (xs ++ x ∷ [])) len ∙ take-append_seam xs (x ∷ [])
+          front_taken_of xs x = let len : length (xs ++ x ∷ []) - 1 ≡ length xs =
+              omega (arith, length-append xs (x ∷ [])) in ap (λ k. take k (xs ++ x ∷ [])) len ∙ take-append_seam xs (x ∷ [])
 
 -- A part that has fewer operations
 
 pub record IsShortened (l : List ℕ) (o : List Op) (m : ℕ) (last p : Part) (count : ℕ) : Type 0 where
   pub whole : IsWholePart p
-  pub stands : (a b : ℕ) → StandsInPart a b last → StandsInPart a b p
+  pub stands : (a b : ℕ) → PartStandsBehind a b last → PartStandsBehind a b p
   pub goes : (before : Part) → ContinuesPart before p → ContinuesPart before last
   pub letters : m + letters_in last ≡ length l + letters_in p
   pub others : others_in p ≡ others_in last
@@ -138,7 +144,8 @@ run_shortened l o r count w ends some less =
     let len : length text ≡ r.count = length-take-le r.count (drop r.at l) (omega (arith, ends, length-drop r.at l)) in
     let m : length l - count ≡ r.at + k = omega (arith, ends, less) in
     let front : take k (drop r.at (take (length l - count) l)) ≡ take k text =
-    ap (λ z. take k (drop r.at (take z l))) m ∙ ap (take k) (drop-take r.at k l) ∙ take-take k k (drop r.at l) (omega arith) ∙ sym (take-take k r.count (drop r.at l) (omega arith)) in
+    ap (λ z. take k (drop r.at (take z l))) m ∙ ap (take k) (drop-take r.at k l) ∙ take-take k k (drop r.at l) (omega arith)
+    ∙ sym (take-take k r.count (drop r.at l) (omega arith)) in
     record {
       whole = (omega (arith, less), omega (arith, w.1));
       stands = λ a b z. z;
@@ -183,7 +190,8 @@ deletes_shortened l o d count w some less =
     goes_same (Other j) z = z
 
 -- the last part becomes a shorter one
-cut : (l : List ℕ) (o : List Op) (m : ℕ) (front : List Part) (last p : Part) (fs : List ℕ) (n count : ℕ) → AreParts l o (front ++ last ∷ []) fs n → IsShortened l o m last p count → m ≤ length l
+cut : (l : List ℕ) (o : List Op) (m : ℕ) (front : List Part) (last p : Part) (fs : List ℕ) (n count : ℕ) → AreParts l o (front ++ last ∷ []) fs n → IsShortened l o m last p count
+    → m ≤ length l
     → IsPopped (take m l) o (front ++ p ∷ []) fs n (ops_of l o (front ++ last ∷ [])) count
 cut l o m front last p fs n count a s within =
     let at = laid-last 0 0 front last (length l) (length o) a.laid in
@@ -212,19 +220,22 @@ cut l o m front last p fs n count a s within =
 
 -- the same of the parts that a call left
 shortened_part : (l : List ℕ) (o : List Op) (front : List Part) (last : Part) (fs : List ℕ) (n most : ℕ) → AreParts l o (front ++ last ∷ []) fs n → 0 < most → most < part_len last
-    → IsPopped (take (length l - letters_of_part last most) l) (take (length o - others_in last) o) (front ++ part_front last (part_len last - most) ∷ []) fs n (ops_of l o (front ++ last ∷ [])) most
+    → IsPopped (take (length l - letters_of_part last most) l) (take (length o - others_in last) o) (front ++ part_front last (part_len last - most) ∷ []) fs n
+    (ops_of l o (front ++ last ∷ [])) most
 shortened_part l o front (Typed r) fs n most a some less =
     let at = laid-last 0 0 front (Typed r) (length l) (length o) a.laid in
     let ends : r.at + r.count ≡ length l = ap (λ k. k + r.count) at.behind ∙ at.letters_end in
     let all : take (length o - 0) o ≡ o = take_all (length o - 0) o (omega arith) in
     subst (λ z. IsPopped (take (length l - most) l) z (front ++ part_front (Typed r) (r.count - most) ∷ []) fs n (ops_of l o (front ++ Typed r ∷ [])) most) (sym all)
-    (cut l o (length l - most) front (Typed r) (part_front (Typed r) (r.count - most)) fs n most a (run_shortened l o r most (last_whole l o front (Typed r) fs n a) ends some less) (omega arith))
+    (cut l o (length l - most) front (Typed r) (part_front (Typed r) (r.count - most)) fs n most a
+    (run_shortened l o r most (last_whole l o front (Typed r) fs n a) ends some less) (omega arith))
 shortened_part l o front (Deleted d) fs n most a some less =
     let all : take (length o - 0) o ≡ o = take_all (length o - 0) o (omega arith) in
     let same : length l - 0 ≡ length l = omega arith in
     subst (λ z. IsPopped (take (length l - 0) l) z (front ++ part_front (Deleted d) (d.count - most) ∷ []) fs n (ops_of l o (front ++ Deleted d ∷ [])) most) (sym all)
     (subst (λ z. IsPopped (take z l) o (front ++ part_front (Deleted d) (d.count - most) ∷ []) fs n (ops_of l o (front ++ Deleted d ∷ [])) most) (sym same)
-    (cut l o (length l) front (Deleted d) (part_front (Deleted d) (d.count - most)) fs n most a (deletes_shortened l o d most (last_whole l o front (Deleted d) fs n a) some less) (omega arith)))
+    (cut l o (length l) front (Deleted d) (part_front (Deleted d) (d.count - most)) fs n most a (deletes_shortened l o d most (last_whole l o front (Deleted d) fs n a) some less)
+    (omega arith)))
 shortened_part l o front (Other k) fs n most a some less = absurd (omega (arith, some, less))
 
 letters_all : (p : Part) → letters_of_part p (part_len p) ≡ letters_in p
@@ -233,7 +244,8 @@ letters_all (Deleted d) = refl
 letters_all (Other k) = refl
 
 -- some operations of the last part went
-pub taken_off : (l : List ℕ) (o : List Op) (ps ps' : List Part) (fs fs' : List ℕ) (n most count : ℕ) (last : Part) → AreParts l o ps fs n → 0 < most → TakesOffLast ps ps' fs fs' last most count
+pub taken_off : (l : List ℕ) (o : List Op) (ps ps' : List Part) (fs fs' : List ℕ) (n most count : ℕ) (last : Part) → AreParts l o ps fs n → 0 < most
+    → TakesOffLast ps ps' fs fs' last most count
     → IsPopped (take (length l - letters_of_part last count) l) (take (length o - others_in last) o) ps' fs' n (ops_of l o ps) count
 taken_off l o ps ps' fs fs' n most count last a some (inl (all, within, was, firsts)) =
     let r = dropped l o ps' last fs n (subst (λ (z : List Part). AreParts l o z fs n) was a) fs' firsts in
@@ -257,8 +269,8 @@ module _ (l : List ℕ) (o : List Op) (ps : List Part) (fs : List ℕ) (n : ℕ)
   at_end : IsLaidLast 0 0 is.front last (length l) (length o)
   at_end = laid-last 0 0 is.front last (length l) (length o) b.laid
 
-  sound : AreSoundParts (length l) (length o) last
-  sound = All-head (AreSoundParts (length l) (length o)) last [] (all_behind (AreSoundParts (length l) (length o)) is.front (last ∷ []) (sound_of l o (is.front ++ last ∷ []) fs n b))
+  sound : IsSoundPart (length l) (length o) last
+  sound = All-head (IsSoundPart (length l) (length o)) last [] (all_behind (IsSoundPart (length l) (length o)) is.front (last ∷ []) (sound_of l o (is.front ++ last ∷ []) fs n b))
 
   pub others_there : others_in last ≤ length o
   others_there = omega (arith, at_end.others_end)
@@ -305,7 +317,8 @@ module _ (l : List ℕ) (o o' : List Op) (front : List Part) (k : ℕ) (fs : Lis
 
   pub other_taken : (fs' : List ℕ) → fs' ≡ take (length fs - 1) fs → AreParts l o' front fs' (n - 1) × (ops_of l o (front ++ Other k ∷ []) ≡ ops_of l o' front ++ op ∷ [])
   other_taken fs' e =
-      let r = subst (λ z. IsPopped z (take (length o - 1) o) front fs' n (ops_of l o (front ++ Other k ∷ [])) 1) (take_all (length l - 0) l (omega arith)) (dropped l o front (Other k) fs n a fs' e) in
+      let r = subst (λ z. IsPopped z (take (length o - 1) o) front fs' n (ops_of l o (front ++ Other k ∷ [])) 1) (take_all (length l - 0) l (omega arith))
+      (dropped l o front (Other k) fs n a fs' e) in
       let p : IsPopped l o' front fs' n (ops_of l o (front ++ Other k ∷ [])) 1 = subst (λ z. IsPopped l z front fs' n (ops_of l o (front ++ Other k ∷ [])) 1) shorter r in
       let same : ops_of l o' front ≡ ops_of l o front =
       p.ops ∙ (λ i. take (length (whole_ops i) - 1) (whole_ops i)) ∙ front_taken (ops_of l o front) (op ∷ []) 1 refl in

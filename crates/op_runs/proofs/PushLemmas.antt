@@ -1,12 +1,13 @@
 -- What comes of a list of operations where a run, a Delete or another operation comes behind it.
-use Rattle.std.proofs.Common.{◌≡◌, ℕ, ◌+◌, ◌-◌, ◌<◌, ◌≤◌, ◌^◌, false, List, [], ◌∷◌, ◌++◌, length, take, drop, refl, ap, sym, subst, ◌∙◌, arith, inl, inr, append-nil, length-append, length-drop}
+use Rattle.std.proofs.Common.{◌≡◌, ℕ, ◌+◌, ◌-◌, ◌<◌, ◌≤◌, ◌^◌, false, List, [], ◌∷◌, ◌++◌, length, take, drop, refl, ap, sym, subst, ◌∙◌, arith, inl, inr, append-nil}
+use Rattle.std.proofs.Common.{length-append, length-drop}
 use Rattle.std.specs.Prelude.{slice_get}
 use Rattle.std.proofs.lemmas.List.{drop-append-le, length-take-le, take_all}
 use Rattle.std.proofs.lemmas.List.Elements.{All-cons, All-head, All-nil}
 use Rattle.std.proofs.Math.Seq.{drop-append_seam}
 use Rattle.fugue_ids.specs.Identifiers.{Identifier}
 use Rattle.fugue_ids.specs.Runs.{run_from, start_behind}
-use Rattle.fugue_ids.specs.declared.limits.TheConstants.{MOST_OPERATIONS}
+use Rattle.op_runs.specs.declared.part.TheConstants.{MOST_LISTED}
 use Rattle.fugue_ids.specs.declared.op.Op.{Op}
 use Rattle.fugue_ids.specs.declared.run.RunStart.{RunStart}
 use Rattle.fugue_ids.proofs.ListLemmas.{all_behind, slice_get-seam}
@@ -24,7 +25,8 @@ use Rattle.op_runs.proofs.PartLemmas.{BeginsAs, IsPushed, added_part, laid-last,
 -- A run
 
 -- the last part is sound, and its letters end with all
-typed_last : (l : List ℕ) (o : List Op) (ps : List Part) (fs : List ℕ) (n : ℕ) (front : List Part) (r : TypedPart) → AreParts l o ps fs n → ps ≡ front ++ Typed r ∷ [] → IsWholePart (Typed r) × (r.at + r.count ≡ length l)
+typed_last : (l : List ℕ) (o : List Op) (ps : List Part) (fs : List ℕ) (n : ℕ) (front : List Part) (r : TypedPart) → AreParts l o ps fs n → ps ≡ front ++ Typed r ∷ []
+    → IsWholePart (Typed r) × (r.at + r.count ≡ length l)
 typed_last l o ps fs n front r a e =
     let b = subst (λ (z : List Part). AreParts l o z fs n) e a in
     let at = laid-last 0 0 front (Typed r) (length l) (length o) b.laid in
@@ -38,7 +40,8 @@ letters_behind l text at count e =
     let inside : at ≤ length l = omega (arith, e) in
     take_all (count + length text) (drop at (l ++ text)) all ∙ drop-append-le at l text inside ∙ ap (λ z. z ++ text) (sym (take_all count (drop at l) some))
 
-longer_run : (l text : List ℕ) (o : List Op) (r : TypedPart) (start : RunStart) → IsWholePart (Typed r) → r.at + r.count ≡ length l → start ≡ start_behind r.start r.count → start.id.counter + length text ≤ 2 ^ 32
+longer_run : (l text : List ℕ) (o : List Op) (r : TypedPart) (start : RunStart) → IsWholePart (Typed r) → r.at + r.count ≡ length l → start ≡ start_behind r.start r.count
+    → start.id.counter + length text ≤ 2 ^ 32
     → BeginsAs l text o (Typed r) (Typed (with_more r (length text))) (run_from start text)
 longer_run l text o r start w ends is fits =
     let s = r.start in
@@ -63,11 +66,13 @@ longer_run l text o r start w ends is fits =
     goes_same (Deleted d) k = k
     goes_same (Other j) k = k
 
-pub run_pushed : (l l' text : List ℕ) (o : List Op) (ps ps' : List Part) (fs fs' : List ℕ) (n : ℕ) (run : TypedPart) → l' ≡ l ++ text → AreParts l o ps fs n → AddsRun ps ps' fs fs' n run
-    → run.at ≡ length l → run.count ≡ length text → 0 < length text → run.start.id.counter + length text ≤ 2 ^ 32 → n + length text ≤ MOST_OPERATIONS
+pub run_pushed : (l l' text : List ℕ) (o : List Op) (ps ps' : List Part) (fs fs' : List ℕ) (n : ℕ) (run : TypedPart) → l' ≡ l ++ text → AreParts l o ps fs n
+    → AddsRun ps ps' fs fs' n run
+    → run.at ≡ length l → run.count ≡ length text → 0 < length text → run.start.id.counter + length text ≤ 2 ^ 32 → n + length text ≤ MOST_LISTED
     → IsPushed l' o ps' fs' (n + length text) (ops_of l o ps) (run_from run.start text)
 run_pushed l l' text o ps ps' fs fs' n run e a (inl added) at count some fits room =
-    let r = added_part l l' text o o [] ps ps' fs fs' n (Typed run) e (sym (append-nil o)) a added (omega (arith, count, some), omega (arith, count, fits)) at (sym count) refl (All-nil IsOther) (omega (arith, count, room)) in
+    let r = added_part l l' text o o [] ps ps' fs fs' n (Typed run) e (sym (append-nil o)) a added (omega (arith, count, some), omega (arith, count, fits)) at (sym count) refl
+    (All-nil IsOther) (omega (arith, count, room)) in
     let here : take run.count (drop run.at l') ≡ text =
     (λ i. take (count i) (drop (at i) (e i))) ∙ ap (take (length text)) (drop-append_seam l text) ∙ take_all (length text) text (omega arith) in
     record { are = subst (λ k. AreParts l' o ps' fs' (n + k)) count r.are; ops = r.ops ∙ ap (λ z. ops_of l o ps ++ run_from run.start z) here }
@@ -81,7 +86,8 @@ run_pushed l l' text o ps ps' fs fs' n run e a (inr (last, is, put)) at count so
 
 -- Deletes
 
-longer_deletes : (l : List ℕ) (o : List Op) (d e : Deletes) (target : Identifier) (most : ℕ) → HasMoreDeletes d target most e → BeginsAs l [] o (Deleted d) (Deleted e) (deletes_by false target (e.count - d.count))
+longer_deletes : (l : List ℕ) (o : List Op) (d e : Deletes) (target : Identifier) (most : ℕ) → HasMoreDeletes d target most e
+    → BeginsAs l [] o (Deleted d) (Deleted e) (deletes_by false target (e.count - d.count))
 longer_deletes l o d e target most m =
     let some : d.count < e.count = m.some in
     record {
@@ -99,8 +105,9 @@ longer_deletes l o d e target most m =
     goes_same (Deleted q) k = subst (λ t. ContinuesPart (Deleted q) (Deleted (record { target = t; count = d.count; down = d.down }))) m.target_is k
     goes_same (Other j) k = k
 
-pub deletes_pushed : (l : List ℕ) (o : List Op) (ps ps' : List Part) (fs fs' : List ℕ) (n most k : ℕ) (target : Identifier) → AreParts l o ps fs n → AddsDeletes ps ps' fs fs' n target most k → 0 < most → target.counter + most ≤ 2 ^ 32
-    → n + most ≤ MOST_OPERATIONS → IsPushed l o ps' fs' (n + k) (ops_of l o ps) (deletes_by false target k)
+pub deletes_pushed : (l : List ℕ) (o : List Op) (ps ps' : List Part) (fs fs' : List ℕ) (n most k : ℕ) (target : Identifier) → AreParts l o ps fs n
+    → AddsDeletes ps ps' fs fs' n target most k → 0 < most → target.counter + most ≤ 2 ^ 32
+    → n + most ≤ MOST_LISTED → IsPushed l o ps' fs' (n + k) (ops_of l o ps) (deletes_by false target k)
 deletes_pushed l o ps ps' fs fs' n most k target a (inl (is, added)) some fits room =
     subst (λ j. IsPushed l o ps' fs' (n + j) (ops_of l o ps) (deletes_by false target j)) (sym is)
     (added_part l l [] o o [] ps ps' fs fs' n (Deleted (forwards target most)) (sym (append-nil l)) (sym (append-nil o)) a added (some, fits) tt refl refl (All-nil IsOther) room)
@@ -108,7 +115,8 @@ deletes_pushed l o ps ps' fs fs' n most k target a (inr (last, more, longer, is,
     let added = deletes_by false target (more.count - last.count) in
     let len : length added ≡ more.count - last.count = length-deletes false target (more.count - last.count) in
     let within : more.count ≤ last.count + most = longer.within in
-    let r = replaced_part l l [] o ps ps' fs fs' n (Deleted last) (Deleted more) added (sym (append-nil l)) a put (longer_deletes l o last more target most longer) (omega (arith, len, within, room)) in
+    let r = replaced_part l l [] o ps ps' fs fs' n (Deleted last) (Deleted more) added (sym (append-nil l)) a put (longer_deletes l o last more target most longer)
+    (omega (arith, len, within, room)) in
     subst (λ j. IsPushed l o ps' fs' (n + j) (ops_of l o ps) (deletes_by false target j)) (sym is)
     (record { are = subst (λ j. AreParts l o ps' fs' (n + j)) len r.are; ops = r.ops })
 
@@ -128,7 +136,8 @@ none_goes (Typed r) k g = g
 none_goes (Deleted d) k g = g
 none_goes (Other j) k g = g
 
-pub other_pushed : (l : List ℕ) (o o' : List Op) (ps ps' : List Part) (fs fs' : List ℕ) (n k : ℕ) (op : Op) → o' ≡ o ++ op ∷ [] → AreParts l o ps fs n → ps' ≡ ps ++ Other k ∷ [] → fs' ≡ fs ++ n ∷ [] → k ≡ length o → IsOther op → n + 1 ≤ MOST_OPERATIONS
+pub other_pushed : (l : List ℕ) (o o' : List Op) (ps ps' : List Part) (fs fs' : List ℕ) (n k : ℕ) (op : Op) → o' ≡ o ++ op ∷ [] → AreParts l o ps fs n → ps' ≡ ps ++ Other k ∷ []
+    → fs' ≡ fs ++ n ∷ [] → k ≡ length o → IsOther op → n + 1 ≤ MOST_LISTED
     → IsPushed l o' ps' fs' (n + 1) (ops_of l o ps) (op ∷ [])
 other_pushed l o o' ps ps' fs fs' n k op e a p f at other room =
     let added : IsAppendedPart ps ps' fs fs' n (Other k) = record { parts_are = p; firsts_are = f; apart = λ last is. none_goes last k } in

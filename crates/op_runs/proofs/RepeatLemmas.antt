@@ -1,5 +1,6 @@
 -- How far a run is the same as what stands in a list.
-use Rattle.std.proofs.Common.{◌≡◌, ◌≢◌, ℕ, zero, suc, ◌+◌, ◌-◌, ◌<◌, ◌≤◌, true, false, nat_eq, List, [], ◌∷◌, ◌++◌, length, take, drop, get_or, refl, ap, sym, subst, ◌∙◌, arith, inl, inr, length-drop}
+use Rattle.std.proofs.Common.{◌≡◌, ◌≢◌, ℕ, zero, suc, ◌+◌, ◌-◌, ◌<◌, ◌≤◌, true, false, nat_eq, List, [], ◌∷◌, ◌++◌, length, take, drop, get_or, refl, ap, sym, subst, ◌∙◌, arith}
+use Rattle.std.proofs.Common.{inl, inr, length-drop}
 use Rattle.std.specs.Prelude.{Option, Some, None, All, slice_get, if◌then◌else◌}
 use Rattle.std.proofs.lemmas.Bool.{cases_Bool, eq-eqb, eqb-true, false_from_ne_true, ne_eqb}
 use Rattle.std.proofs.lemmas.List.{drop-append-le, get_or_default, length-take-le}
@@ -16,7 +17,7 @@ use Rattle.fugue_ids.proofs.ListLemmas.{all_before, all_behind, slice_get-append
 use Rattle.fugue_ids.proofs.OpLemmas.{op_eq-refl, op_eq-true}
 use Rattle.fugue_ids.proofs.RunLemmas.{left_one, none_behind, one_behind}
 use Rattle.op_runs.specs.Finding.{IsPartSpot}
-use Rattle.op_runs.specs.Parts.{AreApart, ContinuesPart, IsOther, AreSoundParts, StandsApart, ops_of, other_ops, part_len, part_ops}
+use Rattle.op_runs.specs.Parts.{AreApart, ContinuesPart, IsOther, IsSoundPart, StandsApart, ops_of, other_ops, part_len, part_ops}
 use Rattle.op_runs.specs.Repeats.{same_front, same_letters}
 use Rattle.op_runs.specs.declared.part.Part.{Part}
 use Rattle.op_runs.specs.declared.part.Part.TheVariants.{Deleted, Other, Typed}
@@ -31,7 +32,8 @@ same_c : (c d : ℕ) (a b : List ℕ) → c ≡ d → same_letters (c ∷ a) (d 
 same_c c d a b e = ap (λ z. if z then suc (same_letters a b) else 0) (eq-eqb c d e)
 
 -- the two are the same so far and differ there, or one ends
-pub same_is : (k : ℕ) (a b : List ℕ) (d : ℕ) → k ≤ length a → k ≤ length b → take k a ≡ take k b → (k < length a → k < length b → get_or a k d ≢ get_or b k d) → same_letters a b ≡ k
+pub same_is : (k : ℕ) (a b : List ℕ) (d : ℕ) → k ≤ length a → k ≤ length b → take k a ≡ take k b → (k < length a → k < length b → get_or a k d ≢ get_or b k d)
+    → same_letters a b ≡ k
 same_is zero [] b d la lb e n = refl
 same_is zero (x ∷ a) [] d la lb e n = refl
 same_is zero (x ∷ a) (y ∷ b) d la lb e n = ap (λ z. if z then suc (same_letters a b) else 0) (ne_eqb x y (n (omega arith) (omega arith)))
@@ -85,11 +87,13 @@ same_start s q c d e =
     λ i. record { id = id i; section = section i; left = left i; right = right i }
 
 -- an operation of a part is a Text that says so only where the part is a run in which one does
-pub part_never : (letters : List ℕ) (others : List Op) (p : Part) (offset : ℕ) (s : RunStart) → AreSoundParts (length letters) (length others) p → offset < part_len p → All IsOther others
+pub part_never : (letters : List ℕ) (others : List Op) (p : Part) (offset : ℕ) (s : RunStart) → IsSoundPart (length letters) (length others) p → offset < part_len p
+    → All IsOther others
     → ((r : TypedPart) → p ≡ Typed r → s ≡ start_behind r.start offset → ⊥) → (ch : ℕ) → slice_get (part_ops letters others p) offset ≡ Some (text_by s ch) → ⊥
 part_never letters others (Typed r) offset s sound inside other n ch e =
     let c : ℕ = get_or letters (r.at + offset) 0 in
-    n r refl (same_start s (start_behind r.start offset) ch c (sym e ∙ sym (letter_at letters r offset c sound.1 inside (get_or_default letters (r.at + offset) 0 c (omega (arith, sound.1, inside))))))
+    n r refl (same_start s (start_behind r.start offset) ch c
+    (sym e ∙ sym (letter_at letters r offset c sound.1 inside (get_or_default letters (r.at + offset) 0 c (omega (arith, sound.1, inside))))))
 part_never letters others (Deleted d) offset s sound inside other n ch e = never (delete_at d.down d.target d.count offset inside ∙ e)
   where
     never : {t : Identifier} → Some (Delete t) ≡ Some (text_by s ch) → ⊥
@@ -116,11 +120,12 @@ part_never letters others (Other k) offset s sound inside other n ch e =
     never z = cc z
 
 -- what stands behind a part does not go on with it
-pub next_zero : (letters : List ℕ) (others : List Op) (r : TypedPart) (qs : List Part) (more : List ℕ) → All (AreSoundParts (length letters) (length others)) qs → All IsOther others → StandsApart (Typed r) qs
+pub next_zero : (letters : List ℕ) (others : List Op) (r : TypedPart) (qs : List Part) (more : List ℕ) → All (IsSoundPart (length letters) (length others)) qs → All IsOther others
+    → StandsApart (Typed r) qs
     → same_front (ops_of letters others qs) (run_from (start_behind r.start r.count) more) ≡ 0
 next_zero letters others r [] more sound other apart = refl
 next_zero letters others r (q ∷ qs) more sound other apart =
-    let P = AreSoundParts (length letters) (length others) in
+    let P = IsSoundPart (length letters) (length others) in
     let here = All-head P q qs sound in
     let some : 0 < part_len q = has_some (length letters) (length others) q here in
     zero_by_first (ops_of letters others (q ∷ qs)) (start_behind r.start r.count) more
@@ -152,10 +157,11 @@ start_further s j (suc k) n some e =
     ∙ (λ i. record { id = id_behind s.id (e i); section = s.section; left = left_behind s.left s.id (suc (j + k)); right = s.right })
     ∙ (λ i. record { id = id_behind s.id n; section = s.section; left = left_behind s.left s.id (step i); right = s.right })
 
-module _ (letters : List ℕ) (others : List Op) (ps : List Part) (position k offset : ℕ) (s : IsPartSpot ps position k offset) (all : All (AreSoundParts (length letters) (length others)) ps) (apart : AreApart ps) (other : All IsOther others)
+module _ (letters : List ℕ) (others : List Op) (ps : List Part) (position k offset : ℕ) (s : IsPartSpot ps position k offset)
+    (all : All (IsSoundPart (length letters) (length others)) ps) (apart : AreApart ps) (other : All IsOther others)
     (start : RunStart) (text : List ℕ) where
   abbrev Q : Part → Type 0
-  Q = AreSoundParts (length letters) (length others)
+  Q = IsSoundPart (length letters) (length others)
 
   split : All Q (s.before ++ s.part ∷ s.after)
   split = subst (All Q) s.whole all
@@ -169,7 +175,8 @@ module _ (letters : List ℕ) (others : List Op) (ps : List Part) (position k of
   -- the operations from the position on
   from_spot : drop position (ops_of letters others ps) ≡ drop offset (part_ops letters others s.part) ++ ops_of letters others s.after
   from_spot =
-      let at : position ≡ length (ops_of letters others s.before) + offset = omega (arith, s.behind, ops_len letters others s.before (all_before Q s.before (s.part ∷ s.after) split)) in
+      let at : position ≡ length (ops_of letters others s.before) + offset =
+      omega (arith, s.behind, ops_len letters others s.before (all_before Q s.before (s.part ∷ s.after) split)) in
       (λ i. drop (at i) (spot_parts letters others ps position k offset s i))
       ∙ drop-append-add (ops_of letters others s.before) (part_ops letters others s.part ++ ops_of letters others s.after) offset
       ∙ drop-append-le offset (part_ops letters others s.part) (ops_of letters others s.after) (omega (arith, s.inside, part_has letters others s.part here))
@@ -193,7 +200,8 @@ module _ (letters : List ℕ) (others : List Op) (ps : List Part) (position k of
       let sound : Q (Typed r) = subst Q is here in
       let inside : offset < r.count = subst (λ (p : Part). offset < part_len p) is s.inside in
       let left : List ℕ = take (r.at + r.count - (r.at + offset)) (drop (r.at + offset) letters) in
-      let len : length left ≡ r.count - offset = length-take-le (r.at + r.count - (r.at + offset)) (drop (r.at + offset) letters) (omega (arith, length-drop (r.at + offset) letters, sound.1)) ∙ omega arith in
+      let len : length left ≡ r.count - offset =
+      length-take-le (r.at + r.count - (r.at + offset)) (drop (r.at + offset) letters) (omega (arith, length-drop (r.at + offset) letters, sound.1)) ∙ omega arith in
       let there : drop offset (part_ops letters others s.part) ≡ run_from start left =
       ap (λ (p : Part). drop offset (part_ops letters others p)) is ∙ sym (typed_behind letters r offset sound.1 inside) ∙ ap (λ z. run_from z left) (sym e) in
       let apart_here : StandsApart (Typed r) s.after = subst (λ (p : Part). StandsApart p s.after) is (apart_behind s.before s.part s.after (subst AreApart s.whole apart)) in

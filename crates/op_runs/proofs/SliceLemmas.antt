@@ -1,5 +1,6 @@
 -- The operations of parts and of slices, but for the first ones.
-use Rattle.std.proofs.Common.{◌≡◌, ℕ, suc, ◌+◌, ◌-◌, ◌<◌, ◌≤◌, ◌^◌, true, false, Bool, List, [], ◌∷◌, ◌++◌, length, take, drop, get_or, refl, ap, sym, subst, ◌∙◌, arith, append_assoc, length-append, length-drop}
+use Rattle.std.proofs.Common.{◌≡◌, ℕ, suc, ◌+◌, ◌-◌, ◌<◌, ◌≤◌, ◌^◌, true, false, Bool, List, [], ◌∷◌, ◌++◌, length, take, drop, get_or, refl, ap, sym, subst, ◌∙◌, arith}
+use Rattle.std.proofs.Common.{append_assoc, length-append, length-drop}
 use Rattle.std.specs.Prelude.{Some, All, slice_get}
 use Rattle.std.proofs.lemmas.List.{drop-append-le, drop_all, drop-take, length-take, length-take-le, take_all}
 use Rattle.std.proofs.lemmas.List.Elements.{All-head, All-tail}
@@ -14,7 +15,7 @@ use Rattle.op_runs.specs.Finding.{IsPartSpot, all_len}
 use Rattle.op_runs.proofs.FindLemmas.{ops_len, spot_parts}
 use Rattle.fugue_ids.proofs.RunLemmas.{length-typed, run_parted}
 use Rattle.op_runs.specs.Deletions.{CountersFit, deletes_by, target_by}
-use Rattle.op_runs.specs.Parts.{AreSoundParts, ops_of, other_ops, part_len, part_ops}
+use Rattle.op_runs.specs.Parts.{IsSoundPart, ops_of, other_ops, part_len, part_ops}
 use Rattle.op_runs.specs.Slices.{AreSliced, IsInFirst}
 use Rattle.op_runs.specs.declared.part.Part.{Part}
 use Rattle.op_runs.specs.declared.part.TypedPart.{TypedPart}
@@ -28,7 +29,8 @@ behind_front front xs ys k e f = (λ i. drop (sym e i) (f i)) ∙ drop-append_se
 pub run_behind : (start : RunStart) (text : List ℕ) (k : ℕ) → k ≤ length text → drop k (run_from start text) ≡ run_from (start_behind start k) (drop k text)
 run_behind start text k h =
     let len : length (run_from start (take k text)) ≡ k = length-typed start.id start.section start.left start.right (take k text) ∙ length-take-le k text h in
-    behind_front (run_from start (take k text)) (run_from start text) (run_from (start_behind start k) (drop k text)) k len (run_parted start (start_behind start k) text k h (λ less. refl))
+    behind_front (run_from start (take k text)) (run_from start text) (run_from (start_behind start k) (drop k text)) k len
+    (run_parted start (start_behind start k) text k h (λ less. refl))
 
 pub typed_behind : (letters : List ℕ) (r : TypedPart) (skip : ℕ) → r.at + r.count ≤ length letters → skip < r.count
     → run_from (start_behind r.start skip) (take (r.at + r.count - (r.at + skip)) (drop (r.at + skip) letters)) ≡ drop skip (run_from r.start (take r.count (drop r.at letters)))
@@ -42,10 +44,12 @@ typed_behind letters r skip h g =
     ∙ ap (take (r.count - skip)) (drop-drop skip r.at letters) ∙ ap (λ k. take k (drop (r.at + skip) letters)) left in
     ap (run_from (start_behind r.start skip)) (sym cut) ∙ sym (run_behind r.start text skip (omega (arith, len, g)))
 
-pub deletes_behind : (down : Bool) (target : Identifier) (count skip : ℕ) → skip < count → deletes_by down (target_by down target skip) (count - skip) ≡ drop skip (deletes_by down target count)
+pub deletes_behind : (down : Bool) (target : Identifier) (count skip : ℕ) → skip < count
+    → deletes_by down (target_by down target skip) (count - skip) ≡ drop skip (deletes_by down target count)
 deletes_behind down target count skip h =
     let split : count ≡ skip + (count - skip) = omega (arith, h) in
-    sym (behind_front (deletes_by down target skip) (deletes_by down target count) (deletes_by down (target_by down target skip) (count - skip)) skip (length-deletes down target skip)
+    sym (behind_front (deletes_by down target skip) (deletes_by down target count) (deletes_by down (target_by down target skip) (count - skip)) skip
+    (length-deletes down target skip)
     (ap (deletes_by down target) split ∙ deletes-append down target skip (count - skip)))
 
 pub other_behind : (others : List Op) (k skip : ℕ) (op : Op) → k < length others → skip < 1 → op ≡ get_or others k op → op ∷ [] ≡ drop skip (other_ops (slice_get others k))
@@ -55,9 +59,10 @@ other_behind others k skip op h g e =
     (λ i. drop (sym first i) (other_ops (sym there i)))
 
 -- The first part of a slice, and the slice behind it
-module _ (letters : List ℕ) (others : List Op) (parts : List Part) (skip : ℕ) (plain : List Op) (count : ℕ) (a : AreSliced letters others parts skip plain count) (first : Part) (rest : List Part) (is : parts ≡ first ∷ rest) where
+module _ (letters : List ℕ) (others : List Op) (parts : List Part) (skip : ℕ) (plain : List Op) (count : ℕ) (a : AreSliced letters others parts skip plain count) (first : Part)
+    (rest : List Part) (is : parts ≡ first ∷ rest) where
   abbrev P : Part → Type 0
-  P = AreSoundParts (length letters) (length others)
+  P = IsSoundPart (length letters) (length others)
 
   sound : All P (first ∷ rest)
   sound = subst (All P) is a.sound
@@ -71,7 +76,7 @@ module _ (letters : List ℕ) (others : List Op) (parts : List Part) (skip : ℕ
   pub skip_inside : skip < part_len first
   skip_inside = subst (λ (ps : List Part). IsInFirst skip ps) is a.in_first
 
-  pub first_sound : AreSoundParts (length letters) (length others) first
+  pub first_sound : IsSoundPart (length letters) (length others) first
   first_sound = here
 
   abbrev front : List Op
@@ -136,9 +141,10 @@ module _ (letters : List ℕ) (others : List Op) (parts : List Part) (skip : ℕ
         op_first ∙ ap (λ z. op ∷ z) (behind_op ∙ ap (λ z. z ++ (drop 0 (ops_of letters others rest) ++ plain)) (drop_all (skip + 1) here_ops (omega (arith, e, len))))
 
 -- The operations from a position on
-module _ (letters : List ℕ) (others : List Op) (ps : List Part) (position k offset : ℕ) (s : IsPartSpot ps position k offset) (all : All (AreSoundParts (length letters) (length others)) ps) where
+module _ (letters : List ℕ) (others : List Op) (ps : List Part) (position k offset : ℕ) (s : IsPartSpot ps position k offset)
+    (all : All (IsSoundPart (length letters) (length others)) ps) where
   abbrev Q : Part → Type 0
-  Q = AreSoundParts (length letters) (length others)
+  Q = IsSoundPart (length letters) (length others)
 
   split : All Q (s.before ++ s.part ∷ s.after)
   split = subst (All Q) s.whole all
@@ -184,6 +190,7 @@ pub run_counters : (start : RunStart) (at count skip : ℕ) (letters : List ℕ)
     → (start_behind start skip).id.counter + length (take (at + count - (at + skip)) (drop (at + skip) letters)) ≤ 2 ^ 32
 run_counters start at count skip letters fits less = omega (arith, fits, less, length-take (at + count - (at + skip)) (drop (at + skip) letters))
 
-pub deletes_counters : (down : Bool) (target : Identifier) (count skip : ℕ) → CountersFit down target count → skip < count → CountersFit down (target_by down target skip) (count - skip)
+pub deletes_counters : (down : Bool) (target : Identifier) (count skip : ℕ) → CountersFit down target count → skip < count
+    → CountersFit down (target_by down target skip) (count - skip)
 deletes_counters true target count skip fits less = omega (arith, fits, less)
 deletes_counters false target count skip fits less = omega (arith, fits, less)

@@ -19,16 +19,17 @@ entry_ops (Neighbours down target n) = deletes_by down target n
 entry_ops (Alone op) = op ∷ []
 
 -- it is not empty, and its targets are there
-abbrev pub IsRunEntry : Entry → Type 0
-IsRunEntry (Run start text) = 0 < length text
-IsRunEntry (Neighbours down target n) = (0 < n) × CountersFit down target n
-IsRunEntry (Alone op) = Unit {0}
+abbrev pub IsSoundEntry : Entry → Type 0
+IsSoundEntry (Run start text) = 0 < length text
+IsSoundEntry (Neighbours down target n) = (0 < n) × CountersFit down target n
+IsSoundEntry (Alone op) = Unit {0}
 
 -- no entry has the operations of this one and the first of the next
 abbrev pub IsMaximal : Entry → List Entry → Type 0
 IsMaximal entry [] = Unit {0}
 IsMaximal entry (next ∷ others) =
-    (more : Entry) (op : Op) (rest : List Op) → IsRunEntry more → entry_ops next ≡ op ∷ rest → entry_ops more ≡ entry_ops entry ++ op ∷ [] → ⊥
+    (more : Entry) (op : Op) (rest : List Op) → IsSoundEntry more → entry_ops next ≡ op ∷ rest
+    → entry_ops more ≡ entry_ops entry ++ op ∷ [] → ⊥
 
 -- each is as long as can be
 abbrev pub AreMaximal : List Entry → Type 0
@@ -38,7 +39,7 @@ AreMaximal (entry ∷ others) = IsMaximal entry others × AreMaximal others
 -- the operations part into so many entries, each as long as can be
 pub record IsPartedIn (ops : List Op) (count : ℕ) : Type 0 where
   pub found : List Entry
-  pub are_entries : All IsRunEntry found
+  pub are_entries : All IsSoundEntry found
   pub ops_are : ops ≡ flat_map entry_ops found
   pub longest : AreMaximal found
   pub counted : count ≡ length found

@@ -20,7 +20,8 @@ pub record HasMoreDeletes (part : Deletes) (target : Identifier) (most : ℕ) (m
   pub some : part.count < more.count
   pub within : more.count ≤ part.count + most
   pub counters : CountersFit more.down more.target more.count
-  pub ops : deletes_by more.down more.target more.count ≡ deletes_by part.down part.target part.count ++ deletes_by false target (more.count - part.count)
+  pub ops : deletes_by more.down more.target more.count ≡ deletes_by part.down part.target part.count
+      ++ deletes_by false target (more.count - part.count)
 
 -- a new part stands behind the others, and goes on with none
 pub record IsAppendedPart (old new : List Part) (old_firsts new_firsts : List ℕ) (first : ℕ) (part : Part) : Type 0 where
@@ -35,7 +36,7 @@ pub record IsReplacedPart (old new : List Part) (old_firsts new_firsts : List �
   pub is : new ≡ front ++ part ∷ []
   pub firsts_stay : new_firsts ≡ old_firsts
 
--- a run of which n letters more are given
+-- a run with n letters more
 abbrev pub with_more : TypedPart → ℕ → TypedPart
 with_more r n = record { start = r.start; at = r.at; count = r.count + n }
 
@@ -43,7 +44,8 @@ with_more r n = record { start = r.start; at = r.at; count = r.count + n }
 abbrev pub AddsRun : (old new : List Part) (old_firsts new_firsts : List ℕ) (first : ℕ) → TypedPart → Type 0
 AddsRun old new old_firsts new_firsts first run =
     IsAppendedPart old new old_firsts new_firsts first (Typed run)
-    ⊎ ((last : TypedPart) × (run.start ≡ start_behind last.start last.count) × IsReplacedPart old new old_firsts new_firsts (Typed last) (Typed (with_more last run.count)))
+    ⊎ ((last : TypedPart) × (run.start ≡ start_behind last.start last.count)
+    × IsReplacedPart old new old_firsts new_firsts (Typed last) (Typed (with_more last run.count)))
 
 -- Deletes of so many neighbours, forwards
 abbrev pub forwards : Identifier → ℕ → Deletes
@@ -53,7 +55,8 @@ forwards target n = record { target = target; count = n; down = false }
 abbrev pub AddsDeletes : (old new : List Part) (old_firsts new_firsts : List ℕ) (first : ℕ) → Identifier → (most n : ℕ) → Type 0
 AddsDeletes old new old_firsts new_firsts first target most n =
     ((n ≡ most) × IsAppendedPart old new old_firsts new_firsts first (Deleted (forwards target most)))
-    ⊎ ((last : Deletes) × (more : Deletes) × HasMoreDeletes last target most more × (n ≡ more.count - last.count) × IsReplacedPart old new old_firsts new_firsts (Deleted last) (Deleted more))
+    ⊎ ((last : Deletes) × (more : Deletes) × HasMoreDeletes last target most more × (n ≡ more.count - last.count)
+    × IsReplacedPart old new old_firsts new_firsts (Deleted last) (Deleted more))
 
 -- the first so many operations of a part
 abbrev pub part_front : Part → ℕ → Part

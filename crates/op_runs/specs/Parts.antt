@@ -1,9 +1,10 @@
 -- What the parts of a list of operations stand for, and what is so of them.
-use Rattle.std.specs.Prelude.{◌≡◌, ℕ, ◌+◌, ◌<◌, ◌≤◌, ◌^◌, ◌⊎◌, Bool, true, false, Option, Some, None, All, List, [], ◌∷◌, length, take, drop, flat_map, slice_get}
+use Rattle.std.specs.Prelude.{◌≡◌, ℕ, ◌+◌, ◌<◌, ◌≤◌, ◌^◌, ◌⊎◌, Bool, true, false, Option, Some, None, All, List, [], ◌∷◌, length, take}
+use Rattle.std.specs.Prelude.{drop, flat_map, slice_get}
 use Rattle.fugue_ids.specs.Identifiers.{Identifier}
 use Rattle.fugue_ids.specs.Ops.{target_of}
 use Rattle.fugue_ids.specs.Runs.{id_behind, run_from, start_behind, text_in}
-use Rattle.fugue_ids.specs.declared.limits.TheConstants.{MOST_OPERATIONS}
+use Rattle.op_runs.specs.declared.part.TheConstants.{MOST_LISTED}
 use Rattle.fugue_ids.specs.declared.op.Op.{Op}
 use Rattle.op_runs.specs.Deletions.{CountersFit, deletes_by}
 use Rattle.op_runs.specs.declared.part.Deletes.{Deletes}
@@ -38,8 +39,8 @@ IsInside letters others (Deleted d) = Unit {0}
 IsInside letters others (Other k) = k < others
 
 -- both
-abbrev pub AreSoundParts : (letters others : ℕ) → Part → Type 0
-AreSoundParts letters others part = IsWholePart part × IsInside letters others part
+abbrev pub IsSoundPart : (letters others : ℕ) → Part → Type 0
+IsSoundPart letters others part = IsWholePart part × IsInside letters others part
 
 -- how many operations a part has
 abbrev pub part_len : Part → ℕ
@@ -60,15 +61,15 @@ others_in (Deleted d) = 0
 others_in (Other k) = 1
 
 -- its letters, or its other operation, stand behind so many
-abbrev pub StandsInPart : (letters others : ℕ) → Part → Type 0
-StandsInPart letters others (Typed r) = r.at ≡ letters
-StandsInPart letters others (Deleted d) = Unit {0}
-StandsInPart letters others (Other k) = k ≡ others
+abbrev pub PartStandsBehind : (letters others : ℕ) → Part → Type 0
+PartStandsBehind letters others (Typed r) = r.at ≡ letters
+PartStandsBehind letters others (Deleted d) = Unit {0}
+PartStandsBehind letters others (Other k) = k ≡ others
 
 -- the parts use letters and others in turn, from l and o on, and end where there are L and O
 abbrev pub AreLaid : (l o : ℕ) → List Part → (L O : ℕ) → Type 0
 AreLaid l o [] L O = (l ≡ L) × (o ≡ O)
-AreLaid l o (p ∷ ps) L O = StandsInPart l o p × AreLaid (l + letters_in p) (o + others_in p) ps L O
+AreLaid l o (p ∷ ps) L O = PartStandsBehind l o p × AreLaid (l + letters_in p) (o + others_in p) ps L O
 
 -- a target goes on with Deletes of neighbours in a direction; one Delete has none yet
 abbrev pub GoesOnBy : Deletes → Identifier → (down : Bool) → Type 0
@@ -112,4 +113,4 @@ pub record AreParts (letters : List ℕ) (others : List Op) (parts : List Part) 
   pub are_others : All IsOther others
   pub firsts_are : firsts ≡ firsts_of 0 parts
   pub counted : count ≡ length (ops_of letters others parts)
-  pub small : count ≤ MOST_OPERATIONS
+  pub small : count ≤ MOST_LISTED

@@ -3,7 +3,7 @@ use Rattle.std.specs.Prelude.{◌≡◌, ℕ, ◌+◌, ◌<◌, ◌≤◌, ◌^�
 use Rattle.fugue_ids.specs.Runs.{run_from}
 use Rattle.fugue_ids.specs.declared.op.Op.{Op}
 use Rattle.op_runs.specs.Deletions.{CountersFit, deletes_by}
-use Rattle.op_runs.specs.Parts.{AreSoundParts, ops_of, part_len}
+use Rattle.op_runs.specs.Parts.{IsSoundPart, ops_of, part_len}
 use Rattle.op_runs.specs.declared.part.Part.{Part}
 use Rattle.op_runs.specs.declared.slice.Stretch.{Stretch}
 use Rattle.op_runs.specs.declared.slice.Stretch.TheVariants.{Deleted, Single, Typed}
@@ -27,6 +27,6 @@ IsInFirst skip (p ∷ ps) = skip < part_len p
 
 -- what is so of every slice
 pub record AreSliced (letters : List ℕ) (others : List Op) (parts : List Part) (skip : ℕ) (plain : List Op) (count : ℕ) : Type 0 where
-  pub sound : All (AreSoundParts (length letters) (length others)) parts
+  pub sound : All (IsSoundPart (length letters) (length others)) parts
   pub in_first : IsInFirst skip parts
   pub counted : count ≡ length (drop skip (ops_of letters others parts) ++ plain)

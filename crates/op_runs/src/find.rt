@@ -1,7 +1,7 @@
 ghost use Rattle.std.specs.Prelude.{◌≡◌, ◌<◌, ◌≤◌, ◌+◌, ◌-◌, ◌^◌, All, IfNone, IfOk, IfSome, ℕ, Some, length, option_map, slice_get, slice_index};
 ghost use Rattle.fugue_ids.specs.Ops.{id_of, op_eq};
 ghost use Rattle.op_runs.specs.Finding.{IsFloorPart, IsPartSpot, all_len, op_of};
-ghost use Rattle.op_runs.specs.Parts.{AreSoundParts, firsts_of, ops_of, part_len, part_ops};
+ghost use Rattle.op_runs.specs.Parts.{IsSoundPart, firsts_of, ops_of, part_len, part_ops};
 
 use crate::part::{Part, last_of};
 use fugue_ids::{ElementId, NoMemory, Op, RunStart, read_text};
@@ -107,7 +107,7 @@ pub(crate) fn spot_of(parts: &[Part], firsts: &[u32], count: u32, position: usiz
 
 /// The operation at an offset of a part.
 pub(crate) fn op_in<'a>(part: &Part, letters: &[char], others: &'a [Op], offset: usize) -> OpRef<'a>
-    requires sound { AreSoundParts (length letters.now) (length others.now) part.now }
+    requires sound { IsSoundPart (length letters.now) (length others.now) part.now }
     requires inside { offset < part_len part.now }
     ensures { Some (op_of result) ≡ slice_get (part_ops letters.now others.now part.now) offset }
 {
@@ -127,7 +127,7 @@ pub(crate) fn op_at<'a>(
     count: u32,
     position: usize,
 ) -> Option<OpRef<'a>>
-    requires sound { All (AreSoundParts (length letters.now) (length others.now)) parts.now }
+    requires sound { All (IsSoundPart (length letters.now) (length others.now)) parts.now }
     requires firsts { firsts.now ≡ firsts_of 0 parts.now }
     requires counted { count ≡ length (ops_of letters.now others.now parts.now) }
     ensures { option_map op_of result ≡ slice_get (ops_of letters.now others.now parts.now) position }
@@ -140,7 +140,7 @@ pub(crate) fn op_at<'a>(
 
 /// The last operation, if there is one.
 pub(crate) fn last_op<'a>(parts: &[Part], letters: &[char], others: &'a [Op]) -> Option<OpRef<'a>>
-    requires { All (AreSoundParts (length letters.now) (length others.now)) parts.now }
+    requires { All (IsSoundPart (length letters.now) (length others.now)) parts.now }
     ensures { option_map op_of result ≡ slice_get (ops_of letters.now others.now parts.now)
         (length (ops_of letters.now others.now parts.now) - 1) }
 {

@@ -10,5 +10,5 @@ mod slice;
 
 pub use find::OpRef;
 pub use list::{NoMemoryFor, OpRuns};
-pub use part::Deletes;
+pub use part::{Deletes, MOST_LISTED};
 pub use slice::{OpSlice, Stretch};

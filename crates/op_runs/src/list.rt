@@ -11,10 +11,12 @@ ghost use Rattle.op_runs.specs.Repeats.{same_front};
 ghost use Rattle.op_runs.specs.declared.part.Part.{Part};
 
 use crate::find::{OpRef, last_op, op_at};
-use crate::part::{Deletes, Part, TypedPart, add_part, last_of, longer, set_last, take_off};
+use crate::part::{
+    Deletes, MOST_LISTED, Part, TypedPart, add_part, last_of, longer, set_last, take_off,
+};
 use crate::repeat::repeats_at;
 use crate::slice::{OpSlice, slice_at};
-use fugue_ids::{ElementId, MOST_OPERATIONS, NoMemory, Op, RunStart, read_text};
+use fugue_ids::{ElementId, NoMemory, Op, RunStart, read_text};
 use std::alloc::Global;
 use std::marker::Model;
 
@@ -89,7 +91,7 @@ fn add_deletes(
     requires whole { All IsWholePart parts.old.items }
     requires some { 0 < most }
     requires counters { target.counter + most ≤ 2 ^ 32 }
-    requires room { (last : Part) → IsLastPart parts.old.items last → part_len last + most ≤ MOST_OPERATIONS }
+    requires room { (last : Part) → IsLastPart parts.old.items last → part_len last + most ≤ MOST_LISTED }
     ensures ok { IfOk result
         (λ n. AddsDeletes parts.old.items parts.new.items firsts.old.items firsts.new.items first target most n) }
     ensures err { OnErr result (parts.new.items ≡ parts.old.items) }
@@ -164,7 +166,7 @@ impl OpRuns {
     pub fn push_run(&mut self, start: RunStart, text: &[char]) -> Result<(), NoMemory>
         requires some { 0 < length text.now }
         requires counters { start.id.counter + length text.now ≤ 2 ^ 32 }
-        requires room { length self.old + length text.now ≤ MOST_OPERATIONS }
+        requires room { length self.old + length text.now ≤ MOST_LISTED }
         ensures ok { OnOk result (self.new ≡ self.old ++ run_from start text.now) }
         ensures err { OnErr result (self.new ≡ self.old) }
     {
@@ -191,7 +193,7 @@ impl OpRuns {
     fn push_some_deletes(&mut self, first: ElementId, most: u32) -> Result<u32, NoMemory>
         requires some { 0 < most }
         requires counters { first.counter + most ≤ 2 ^ 32 }
-        requires room { length self.old + most ≤ MOST_OPERATIONS }
+        requires room { length self.old + most ≤ MOST_LISTED }
         ensures some { IfOk result (λ n. 0 < n) }
         ensures within { IfOk result (λ n. n ≤ most) }
         ensures ok { IfOk result (λ n. self.new ≡ self.old ++ deletes_by false first n) }
@@ -206,7 +208,7 @@ impl OpRuns {
     /// before.
     pub fn push_deletes(&mut self, first: ElementId, count: u32) -> Result<(), NoMemory>
         requires counters { first.counter + count ≤ 2 ^ 32 }
-        requires room { length self.old + count ≤ MOST_OPERATIONS }
+        requires room { length self.old + count ≤ MOST_LISTED }
         ensures ok { OnOk result (self.new ≡ self.old ++ deletes_by false first count) }
         ensures err { OnErr result (self.new ≡ self.old) }
     {
@@ -229,7 +231,7 @@ impl OpRuns {
 
     /// A Delete more.
     fn push_delete(&mut self, target: ElementId) -> Result<(), NoMemory>
-        requires room { length self.old < MOST_OPERATIONS }
+        requires room { length self.old < MOST_LISTED }
         ensures ok { OnOk result (self.new ≡ self.old ++ DeleteOp target ∷ []) }
         ensures err { OnErr result (self.new ≡ self.old) }
     {
@@ -241,7 +243,7 @@ impl OpRuns {
     /// A Section or a Note more.
     fn push_other(&mut self, op: Op) -> Result<(), NoMemoryFor>
         requires other { IsOther op }
-        requires room { length self.old < MOST_OPERATIONS }
+        requires room { length self.old < MOST_LISTED }
         ensures ok { OnOk result (self.new ≡ self.old ++ op ∷ []) }
         ensures err { OnErr result (self.new ≡ self.old) }
         ensures op_back { IfErr result (λ e. e.op ≡ op) }
@@ -269,7 +271,7 @@ impl OpRuns {
 
     /// One operation more, behind all others. After want of memory all is as before.
     pub fn push(&mut self, op: Op) -> Result<(), NoMemoryFor>
-        requires room { length self.old < MOST_OPERATIONS }
+        requires room { length self.old < MOST_LISTED }
         ensures ok { OnOk result (self.new ≡ self.old ++ op ∷ []) }
         ensures err { OnErr result (self.new ≡ self.old) }
         ensures op_back { IfErr result (λ e. e.op ≡ op) }

@@ -6,7 +6,10 @@ ghost use Rattle.op_runs.specs.Parts.{GoesOnBy, IsNextTarget, IsWholePart, other
 ghost use Rattle.op_runs.specs.declared.part.Part.{Part};
 ghost use Rattle.op_runs.specs.declared.part.Part.TheVariants.{Deleted as DeletedVariant};
 
-use fugue_ids::{ElementId, MOST_OPERATIONS, NoMemory, RunStart};
+use fugue_ids::{ElementId, NoMemory, RunStart};
+
+/// The most operations that a list has: more than a history may have, since what was kept of a stream can be more.
+pub const MOST_LISTED: u32 = 2_147_483_648;
 
 /// Texts that were typed in a row: their scalars are `count` of the letters, from `at` on.
 #[derive(Clone, Copy)]
@@ -144,7 +147,7 @@ pub(crate) fn longer(part: &Deletes, target: ElementId, most: u32) -> Option<Del
     requires whole { IsWholePart (DeletedVariant part.now) }
     requires some { 0 < most }
     requires counters { target.counter + most ≤ 2 ^ 32 }
-    requires room { part.now.count + most ≤ MOST_OPERATIONS }
+    requires room { part.now.count + most ≤ MOST_LISTED }
     ensures some { IfSome result (λ more. HasMoreDeletes part.now target most more) }
     ensures none { IfNone result (IsNextTarget part.now target → ⊥) }
 {

@@ -1,6 +1,6 @@
 ghost use Rattle.std.specs.Prelude.{◌≡◌, All, drop, length};
 ghost use Rattle.fugue_ids.specs.Runs.{run_from};
-ghost use Rattle.op_runs.specs.Parts.{AreApart, IsOther, AreSoundParts, firsts_of, ops_of};
+ghost use Rattle.op_runs.specs.Parts.{AreApart, IsOther, IsSoundPart, firsts_of, ops_of};
 ghost use Rattle.op_runs.specs.Repeats.{same_front, same_letters};
 
 use crate::find::spot_of;
@@ -31,7 +31,7 @@ pub(crate) fn repeats_at(
     start: &RunStart,
     text: &[char],
 ) -> usize
-    requires sound { All (AreSoundParts (length letters.now) (length others.now)) parts.now }
+    requires sound { All (IsSoundPart (length letters.now) (length others.now)) parts.now }
     requires apart { AreApart parts.now }
     requires others { All IsOther others.now }
     requires firsts { firsts.now ≡ firsts_of 0 parts.now }

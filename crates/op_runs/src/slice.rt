@@ -1,6 +1,6 @@
 ghost use Rattle.std.specs.Prelude.{◌≡◌, ◌<◌, ◌++◌, ◌∷◌, [], All, IfNone, IfSome, drop, length};
 ghost use Rattle.op_runs.specs.Finding.{op_of};
-ghost use Rattle.op_runs.specs.Parts.{AreSoundParts, firsts_of, ops_of, part_len, part_ops};
+ghost use Rattle.op_runs.specs.Parts.{IsSoundPart, firsts_of, ops_of, part_len, part_ops};
 ghost use Rattle.op_runs.specs.Slices.{HasCounters, IsInFirst, stretch_ops};
 
 use crate::find::{OpRef, op_in, spot_of};
@@ -45,7 +45,7 @@ impl<'a> Model for OpSlice<'a> {
 
 /// The operations of a part, but for the first ones.
 fn stretch_of<'a>(part: &Part, letters: &'a [char], others: &'a [Op], skip: usize) -> Stretch<'a>
-    requires sound { AreSoundParts (length letters.now) (length others.now) part.now }
+    requires sound { IsSoundPart (length letters.now) (length others.now) part.now }
     requires inside { skip < part_len part.now }
     ensures ops { stretch_ops result ≡ drop skip (part_ops letters.now others.now part.now) }
     ensures counters { HasCounters result }
@@ -74,7 +74,7 @@ pub(crate) fn slice_at<'a>(
     count: u32,
     position: usize,
 ) -> OpSlice<'a>
-    requires sound { All (AreSoundParts (length letters.now) (length others.now)) parts.now }
+    requires sound { All (IsSoundPart (length letters.now) (length others.now)) parts.now }
     requires firsts { firsts.now ≡ firsts_of 0 parts.now }
     requires counted { count ≡ length (ops_of letters.now others.now parts.now) }
     ensures { result ≡ drop position (ops_of letters.now others.now parts.now) }
@@ -114,7 +114,7 @@ impl<'a> OpSlice<'a> {
         skip: usize,
         count: usize,
     ) -> OpSlice<'a>
-        requires sound { All (AreSoundParts (length letters.now) (length others.now)) parts.now }
+        requires sound { All (IsSoundPart (length letters.now) (length others.now)) parts.now }
         requires in_first { IsInFirst skip parts.now }
         requires counted { count ≡ length (drop skip (ops_of letters.now others.now parts.now)) }
         ensures { result ≡ drop skip (ops_of letters.now others.now parts.now) }

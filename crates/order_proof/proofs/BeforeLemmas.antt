@@ -9,7 +9,8 @@ use Rattle.origin_model.specs.declared.operations.Place.{Place}
 use Rattle.origin_model.specs.operations.Verdict.{Lawful}
 use Rattle.origin_model.specs.order.Laws.{IsIn}
 use Rattle.origin_model.specs.order.Order.{before, fork_before, lefts, older_of, order, right_at, rights, sibling}
-use Rattle.origin_model.proofs.SharedLemmas.{IsHeld, IsIn-held, before_at, before_at-older, fork-by, fork_by, further, lefts-in, lefts-prefix, origin_before, right_at_held, right_at_in, rights-in}
+use Rattle.origin_model.proofs.SharedLemmas.{IsHeld, IsIn-held, before_at, before_at-older, fork-by, fork_by, further, lefts-in, lefts-prefix, origin_before, right_at_held}
+use Rattle.origin_model.proofs.SharedLemmas.{right_at_in, rights-in}
 use Rattle.order_proof.specs.declared.step.Reason.{Reason}
 use Rattle.order_proof.specs.declared.step.Reason.TheVariants.{End, Inner, Later, Prefix, Tie}
 use Rattle.order_proof.specs.declared.step.Step.{Step}
@@ -73,7 +74,8 @@ module _ (p : Place) (h : List Op) (w : Lawful h) where
       ∙ origins_before t.c t.d ins.0 ins.1 r t.decides k
 
   -- siblings that decide stand in their order
-  siblings_before : (a b : Identifier) → IsIn p h a → IsIn p h b → (r : Reason) → ByRightChains h (rights h a) (rights h b) r → Due p h r → sibling (order p (older_of h)) h a b ≡ true
+  siblings_before : (a b : Identifier) → IsIn p h a → IsIn p h b → (r : Reason) → ByRightChains h (rights h a) (rights h b) r → Due p h r
+      → sibling (order p (older_of h)) h a b ≡ true
   siblings_before a b m n Inner t k = before-longer false (fork_before (order p (older_of h)) h) (rights h a) (rights h b) t
   siblings_before a b m n r t k = fork_holds a b m n r t k
 

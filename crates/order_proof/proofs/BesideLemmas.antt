@@ -1,5 +1,6 @@
 -- The chain of right origins, walked from its element up.
-use Rattle.std.proofs.Common.{arith, get_or, length, nat_eq, suc, take, zero, ℕ, ◌-◌, ◌<◌, ◌≤◌, Bool, List, [], ap, false, inl, not, inr, refl, reverse, sym, true, ◌++◌, ◌∙◌, ◌∷◌, ◌≡◌}
+use Rattle.std.proofs.Common.{arith, get_or, length, nat_eq, suc, take, zero, ℕ, ◌-◌, ◌<◌, ◌≤◌, Bool, List, [], ap, false, inl, not, inr, refl, reverse, sym, true, ◌++◌, ◌∙◌, ◌∷◌}
+use Rattle.std.proofs.Common.{◌≡◌}
 use Rattle.std.specs.Prelude.{None, Option, Some, if◌then◌else◌}
 use Rattle.std.specs.Option.{option_eq}
 use Rattle.std.proofs.lemmas.Bool.{cases_Bool, false≢true, ne_eqb}
@@ -22,11 +23,13 @@ use Rattle.order_proof.proofs.WalkLemmas.{none, reverse-cons, reversed-take}
 abbrev above_it : List Op → Option Identifier → Option Identifier → Chain
 above_it older left o = elim o [ None ↦ [] | Some r ↦ beside_up older left r ]
 
-pub beside-own : (op : Op) (older : List Op) (left : Option Identifier) (x : Identifier) → is_own x op ≡ true → origin_eq (left_of op) left ≡ true → beside_up (op ∷ older) left x ≡ x ∷ above_it older left (right_of op)
+pub beside-own : (op : Op) (older : List Op) (left : Option Identifier) (x : Identifier) → is_own x op ≡ true → origin_eq (left_of op) left ≡ true
+    → beside_up (op ∷ older) left x ≡ x ∷ above_it older left (right_of op)
 unfolding beside_up
 beside-own op older left x e f = rw (e, beside_up) (rw f refl)
 
-pub beside-parted : (op : Op) (older : List Op) (left : Option Identifier) (x : Identifier) → is_own x op ≡ true → origin_eq (left_of op) left ≡ false → beside_up (op ∷ older) left x ≡ []
+pub beside-parted : (op : Op) (older : List Op) (left : Option Identifier) (x : Identifier) → is_own x op ≡ true → origin_eq (left_of op) left ≡ false
+    → beside_up (op ∷ older) left x ≡ []
 unfolding beside_up
 beside-parted op older left x e f = rw (e, beside_up) (rw f refl)
 
@@ -76,7 +79,8 @@ with_left (op ∷ older) left x e =
           ∙ ap (λ z. z ++ x ∷ []) (above_is older left (λ r j. with_left older left r j) (right_of op))
           ∙ sym (reverse-cons x (above_it older left (right_of op)))
           ∙ ap reverse (sym (beside-own op older left x k f))
-      | inr k ↦ chain-other next_right op older x k ∙ with_left older left x (sym (ap (has_by left) (holder-other op older x k)) ∙ e) ∙ ap reverse (sym (beside-other op older left x k))
+      | inr k ↦ chain-other next_right op older x k ∙ with_left older left x (sym (ap (has_by left) (holder-other op older x k)) ∙ e)
+          ∙ ap reverse (sym (beside-other op older left x k))
     ]
 
 -- the chain of right origins, by the left origin of its element
@@ -86,10 +90,12 @@ rights_beside (op ∷ older) x =
     elim (cases_Bool (is_own x op)) [
       | inl k ↦
           let own : left_at (op ∷ older) x ≡ left_of op = ap left_by (holder-own op older x k) in
-          with_left (op ∷ older) (left_at (op ∷ older) x) x (ap (has_by (left_at (op ∷ older) x)) (holder-own op older x k) ∙ ap (origin_eq (left_of op)) own ∙ origin_eq-refl (left_of op))
+          with_left (op ∷ older) (left_at (op ∷ older) x) x
+          (ap (has_by (left_at (op ∷ older) x)) (holder-own op older x k) ∙ ap (origin_eq (left_of op)) own ∙ origin_eq-refl (left_of op))
       | inr k ↦
           let other : left_at (op ∷ older) x ≡ left_at older x = ap left_by (holder-other op older x k) in
-          chain-other next_right op older x k ∙ rights_beside older x ∙ ap reverse (sym (beside-other op older (left_at older x) x k) ∙ ap (λ l. beside_up (op ∷ older) l x) (sym other))
+          chain-other next_right op older x k ∙ rights_beside older x
+          ∙ ap reverse (sym (beside-other op older (left_at older x) x k) ∙ ap (λ l. beside_up (op ∷ older) l x) (sym other))
     ]
 
 -- the same chain, by the test

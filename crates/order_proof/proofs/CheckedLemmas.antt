@@ -15,12 +15,14 @@ use Rattle.origin_model.specs.operations.Verdict.{Lawful}
 use Rattle.origin_model.specs.order.Laws.{IsIn}
 use Rattle.origin_model.specs.order.Order.{left_at, lefts, next_left, right_at}
 unfoldable use Rattle.origin_model.specs.order.Order.{chain}
-use Rattle.origin_model.proofs.SharedLemmas.{IsHeld, IsIn-held, cases_held, chain-held, chain_above, element_stands, found, holder_owns, left_at-is, left_origin_held, lefts-above, lefts-prefix, never_none, own_id, place_eq-true, place_stands, same_chain, stands_element}
+use Rattle.origin_model.proofs.SharedLemmas.{IsHeld, IsIn-held, cases_held, chain-held, chain_above, element_stands, found, holder_owns, left_at-is, left_origin_held, lefts-above}
+use Rattle.origin_model.proofs.SharedLemmas.{lefts-prefix, never_none, own_id, place_eq-true, place_stands, same_chain, stands_element}
 use Rattle.order_proof.specs.declared.step.Reason.{Reason}
 use Rattle.order_proof.specs.declared.step.Reason.TheVariants.{End, Inner, Later, Prefix, Tie}
 use Rattle.order_proof.specs.declared.step.Step.{Step}
 use Rattle.order_proof.specs.Certificates.{ByRightChains, ByRightOrigins, Certificate, Chain, HoldsBy, IsFork, IsPrefixStep, IsSiblingStep, IsStep, IsValid, OfOnePlace, is_later}
-use Rattle.order_proof.specs.Checks.{chains_decide, rests_on_none, continues_chain, in_one_place, is_inner, origins_decide, place_holding, prefix_test, reason_test, rests_test, same_place, sibling_test, siblings_at, step_test, test}
+use Rattle.order_proof.specs.Checks.{chains_decide, rests_on_none, continues_chain, in_one_place, is_inner, origins_decide, place_holding, prefix_test, reason_test, rests_test}
+use Rattle.order_proof.specs.Checks.{same_place, sibling_test, siblings_at, step_test, test}
 use Rattle.order_proof.specs.Chains.{is_down, is_empty, is_rights}
 use Rattle.order_proof.proofs.BesideLemmas.{rights_from, rights_to}
 use Rattle.order_proof.proofs.WalkLemmas.{if_parts, walked}
@@ -42,7 +44,8 @@ abbrev HeldOrigin : List Op → Option Identifier → Type 0
 HeldOrigin h o = (y : Identifier) → o ≡ Some y → IsHeld h y
 
 -- the chain above tells what it belongs to
-above_once : (next : List Op → Op → Option Identifier) (h : List Op) (o q : Option Identifier) → HeldOrigin h o → HeldOrigin h q → chain_above next h o ≡ chain_above next h q → o ≡ q
+above_once : (next : List Op → Op → Option Identifier) (h : List Op) (o q : Option Identifier) → HeldOrigin h o → HeldOrigin h q → chain_above next h o ≡ chain_above next h q
+    → o ≡ q
 above_once next h None None a b e = refl
 above_once next h None (Some y) a b e = absurd (never_none next h y (b y refl) (sym e))
 above_once next h (Some x) None a b e = absurd (never_none next h x (a x refl) e)
@@ -142,8 +145,10 @@ module _ (h : List Op) (w : Lawful h) where
   chains_from r (c ∷ xs) [] e = inner_from c xs r e
   chains_from r (c ∷ xs) (d ∷ ys) e =
       elim (cases_Bool (id_eq c d)) [
-        | inl k ↦ chains-cons c d xs ys r (id_eq-true c d k) (chains_from r xs ys (sym (ap (λ b. if b then chains_decide h r xs ys else origins_decide (right_at h c) (right_at h d) c d r) k) ∙ e))
-        | inr k ↦ fork_here c d xs ys r (id_eq-false c d k) (origins_from c d r (sym (ap (λ b. if b then chains_decide h r xs ys else origins_decide (right_at h c) (right_at h d) c d r) k) ∙ e))
+        | inl k ↦ chains-cons c d xs ys r (id_eq-true c d k)
+            (chains_from r xs ys (sym (ap (λ b. if b then chains_decide h r xs ys else origins_decide (right_at h c) (right_at h d) c d r) k) ∙ e))
+        | inr k ↦ fork_here c d xs ys r (id_eq-false c d k)
+            (origins_from c d r (sym (ap (λ b. if b then chains_decide h r xs ys else origins_decide (right_at h c) (right_at h d) c d r) k) ∙ e))
       ]
 
   -- a common front does not count

@@ -9,11 +9,13 @@ use Rattle.origin_model.specs.declared.operations.Place.{Place}
 use Rattle.origin_model.specs.operations.Verdict.{Lawful}
 use Rattle.origin_model.specs.order.Laws.{IsIn}
 use Rattle.origin_model.specs.order.Order.{chain_before, fork_before, lefts, next_left, older_of, order, right_at, rights, sibling}
-use Rattle.origin_model.proofs.SharedLemmas.{IsIn-held, Within-append, before_at, before_in-irrefl, chain-ends, chain_before-irrefl, fork-by, fork_by, lefts-in, right_at_in, rights-in}
+use Rattle.origin_model.proofs.SharedLemmas.{IsIn-held, Within-append, before_at, before_in-irrefl, chain-ends, chain_before-irrefl, fork-by, fork_by, lefts-in, right_at_in}
+use Rattle.origin_model.proofs.SharedLemmas.{rights-in}
 use Rattle.order_proof.specs.declared.step.Reason.{Reason}
 use Rattle.order_proof.specs.declared.step.Reason.TheVariants.{End, Inner, Later, Prefix, Tie}
 use Rattle.order_proof.specs.declared.step.Step.{Step}
-use Rattle.order_proof.specs.Certificates.{ByRightOrigins, ByRightChains, Certificate, Chain, Claims, HoldsBy, IsFork, IsProperPrefix, IsSiblingStep, IsStep, IsValid, PartsAt, is_later}
+use Rattle.order_proof.specs.Certificates.{ByRightOrigins, ByRightChains, Certificate, Chain, Claims, HoldsBy, IsFork, IsProperPrefix, IsSiblingStep, IsStep, IsValid, PartsAt}
+use Rattle.order_proof.specs.Certificates.{is_later}
 use Rattle.order_proof.proofs.PartedLemmas.{before-longer, before-parted, before-prefix, longer, parted, parted-in, related, same, shorter}
 use Rattle.order_proof.proofs.StayLemmas.{valid_stays}
 

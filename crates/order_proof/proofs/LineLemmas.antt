@@ -9,7 +9,8 @@ use Rattle.order_proof.specs.declared.step.Reason.{Reason}
 use Rattle.order_proof.specs.declared.step.Reason.TheVariants.{End, Inner, Later, Prefix, Tie}
 use Rattle.order_proof.specs.declared.step.Step.{Step}
 use Rattle.order_proof.specs.Readings.{MemoryWasWanting, IsPossible, IsReadAs, sibling_lines}
-use Rattle.order_proof.specs.Texts.{IsNarrow, ProofLine, chain_lines, claim, down, ids_text, proof_line, proof_line_text, reason_line, right, step_lines, step_text, told_by, told_step, word_with_ids}
+use Rattle.order_proof.specs.Texts.{IsNarrow, ProofLine, chain_lines, claim, down, ids_text, proof_line, proof_line_text, reason_line, right, step_lines, step_text, told_by}
+use Rattle.order_proof.specs.Texts.{told_step, word_with_ids}
 
 -- a fault is passed on
 pub passed_on : {U : Type 0} (r : Result U TextFault) (f : TextFault) (Q : U → Type 0) → ((x : TextFault) × (r ≡ Err x) × (x ≡ f)) → MemoryWasWanting f → IsReadAs r Q
@@ -45,14 +46,18 @@ assoc_four : (a b c r more : List ℕ) → (a ++ (b ++ (c ++ (r ++ [])))) ++ mor
 assoc_four a b c r more = simp (append_assoc, append-nil {A = ℕ})
 
 pub siblings_split : (s : Step) (more : List ℕ) → flat_map proof_line_text (sibling_lines s) ++ more
-    ≡ word_with_ids (codes "down") s.down_y ++ (word_with_ids (codes "right") s.right_x ++ (word_with_ids (codes "right") s.right_y ++ (proof_line_text (reason_line s.reason) ++ more)))
-siblings_split s more = assoc_four (word_with_ids (codes "down") s.down_y) (word_with_ids (codes "right") s.right_x) (word_with_ids (codes "right") s.right_y) (proof_line_text (reason_line s.reason)) more
+    ≡ word_with_ids (codes "down") s.down_y
+    ++ (word_with_ids (codes "right") s.right_x ++ (word_with_ids (codes "right") s.right_y ++ (proof_line_text (reason_line s.reason) ++ more)))
+siblings_split s more =
+    assoc_four (word_with_ids (codes "down") s.down_y) (word_with_ids (codes "right") s.right_x) (word_with_ids (codes "right") s.right_y)
+    (proof_line_text (reason_line s.reason)) more
 
 assoc_six : (a b c d e r more : List ℕ) → ((a ++ (b ++ (c ++ (d ++ (e ++ []))))) ++ r) ++ more ≡ a ++ (b ++ ((c ++ (d ++ (e ++ (r ++ [])))) ++ more))
 assoc_six a b c d e r more = simp (append_assoc, append-nil {A = ℕ})
 
 -- the lines of a step that is not by Prefix
-five_lines : (s : Step) (r : Reason) → r ≢ Prefix → chain_lines s r ≡ proof_line claim (s.x ∷ s.y ∷ []) ∷ proof_line down s.down_x ∷ proof_line down s.down_y ∷ proof_line right s.right_x ∷ proof_line right s.right_y ∷ []
+five_lines : (s : Step) (r : Reason) → r ≢ Prefix
+    → chain_lines s r ≡ proof_line claim (s.x ∷ s.y ∷ []) ∷ proof_line down s.down_x ∷ proof_line down s.down_y ∷ proof_line right s.right_x ∷ proof_line right s.right_y ∷ []
 five_lines s Prefix n = absurd (n refl)
 five_lines s Inner n = refl
 five_lines s End n = refl
@@ -63,7 +68,8 @@ pub sibling_split : (s : Step) (more : List ℕ) → s.reason ≢ Prefix
     → step_text s ++ more ≡ word_with_ids (codes "claim") (s.x ∷ s.y ∷ []) ++ (word_with_ids (codes "down") s.down_x ++ (flat_map proof_line_text (sibling_lines s) ++ more))
 sibling_split s more n =
     ap (λ ls. (flat_map proof_line_text ls ++ proof_line_text (reason_line s.reason)) ++ more) (five_lines s s.reason n)
-    ∙ assoc_six (word_with_ids (codes "claim") (s.x ∷ s.y ∷ [])) (word_with_ids (codes "down") s.down_x) (word_with_ids (codes "down") s.down_y) (word_with_ids (codes "right") s.right_x) (word_with_ids (codes "right") s.right_y) (proof_line_text (reason_line s.reason)) more
+    ∙ assoc_six (word_with_ids (codes "claim") (s.x ∷ s.y ∷ [])) (word_with_ids (codes "down") s.down_x) (word_with_ids (codes "down") s.down_y)
+    (word_with_ids (codes "right") s.right_x) (word_with_ids (codes "right") s.right_y) (proof_line_text (reason_line s.reason)) more
 
 assoc_three : (a b r more : List ℕ) → ((a ++ (b ++ [])) ++ r) ++ more ≡ a ++ (b ++ (r ++ more))
 assoc_three a b r more = simp (append_assoc, append-nil {A = ℕ})
@@ -84,9 +90,13 @@ prefix_or_not Tie = inr (λ e. cc)
 -- what the lines of a step name
 pub sibling_fine : (s : Step) → s.reason ≢ Prefix → All IsFine (step_lines s) → All IsPossible (s.x ∷ s.y ∷ []) × All IsPossible s.down_x × All IsFine (sibling_lines s)
 sibling_fine s n p =
-    let q : All IsFine (proof_line claim (s.x ∷ s.y ∷ []) ∷ proof_line down s.down_x ∷ sibling_lines s) = subst (λ ls. All IsFine (ls ++ reason_line s.reason ∷ [])) (five_lines s s.reason n) p in
-    let t = All-tail IsFine (proof_line claim (s.x ∷ s.y ∷ [])) (proof_line down s.down_x ∷ sibling_lines s) q in
-    (All-head IsFine (proof_line claim (s.x ∷ s.y ∷ [])) (proof_line down s.down_x ∷ sibling_lines s) q, All-head IsFine (proof_line down s.down_x) (sibling_lines s) t, All-tail IsFine (proof_line down s.down_x) (sibling_lines s) t)
+    let q : All IsFine (proof_line claim (s.x ∷ s.y ∷ []) ∷ proof_line down s.down_x ∷ sibling_lines s) =
+    subst (λ ls. All IsFine (ls ++ reason_line s.reason ∷ [])) (five_lines s s.reason n) p in
+    let t = All-tail IsFine (proof_line claim (s.x ∷ s.y ∷ [])) (proof_line down s.down_x ∷ sibling_lines s) q in (
+      All-head IsFine (proof_line claim (s.x ∷ s.y ∷ [])) (proof_line down s.down_x ∷ sibling_lines s) q,
+      All-head IsFine (proof_line down s.down_x) (sibling_lines s) t,
+      All-tail IsFine (proof_line down s.down_x) (sibling_lines s) t,
+    )
 
 pub fine_sibling : (s : Step) → s.reason ≢ Prefix → All IsPossible (s.x ∷ s.y ∷ []) → All IsPossible s.down_x → All IsFine (sibling_lines s) → All IsFine (step_lines s)
 fine_sibling s n a b c =
@@ -101,13 +111,15 @@ prefix_fine s e p =
     (All-head IsFine (proof_line claim (s.x ∷ s.y ∷ [])) (proof_line down s.down_y ∷ rest) q, All-head IsFine (proof_line down s.down_y) rest t)
 
 -- four lines of identifiers that there are
-pub fine_four : (s : Step) → All IsPossible s.down_y → All IsPossible s.right_x → All IsPossible s.right_y → All IsPossible ((reason_line s.reason).ids) → All IsFine (sibling_lines s)
+pub fine_four : (s : Step) → All IsPossible s.down_y → All IsPossible s.right_x → All IsPossible s.right_y → All IsPossible ((reason_line s.reason).ids)
+    → All IsFine (sibling_lines s)
 fine_four s a b c d =
     All-cons IsFine (proof_line down s.down_y) (proof_line right s.right_x ∷ proof_line right s.right_y ∷ reason_line s.reason ∷ []) a
     (All-cons IsFine (proof_line right s.right_x) (proof_line right s.right_y ∷ reason_line s.reason ∷ []) b
     (All-cons IsFine (proof_line right s.right_y) (reason_line s.reason ∷ []) c (All-cons IsFine (reason_line s.reason) [] d (All-nil IsFine))))
 
-pub four_fine : (s : Step) → All IsFine (sibling_lines s) → All IsPossible s.down_y × All IsPossible s.right_x × All IsPossible s.right_y × All IsPossible ((reason_line s.reason).ids)
+pub four_fine : (s : Step) → All IsFine (sibling_lines s)
+    → All IsPossible s.down_y × All IsPossible s.right_x × All IsPossible s.right_y × All IsPossible ((reason_line s.reason).ids)
 four_fine s p =
     let q = All-tail IsFine (proof_line down s.down_y) (proof_line right s.right_x ∷ proof_line right s.right_y ∷ reason_line s.reason ∷ []) p in
     let r = All-tail IsFine (proof_line right s.right_x) (proof_line right s.right_y ∷ reason_line s.reason ∷ []) q in

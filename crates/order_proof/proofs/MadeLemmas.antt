@@ -1,5 +1,6 @@
 -- The certificate that is made is valid.
-use Rattle.std.proofs.Common.{arith, get_or, ◌-◌, ◌+◌, List, [], ap, append_assoc, drop, inl, inr, refl, reverse, subst, suc, sym, take, true, ℕ, ◌++◌, ◌∙◌, ◌∷◌, ◌≡◌, ◌<◌, ◌≤◌, length}
+use Rattle.std.proofs.Common.{arith, get_or, ◌-◌, ◌+◌, List, [], ap, append_assoc, drop, inl, inr, refl, reverse, subst, suc, sym, take, true, ℕ, ◌++◌, ◌∙◌, ◌∷◌, ◌≡◌, ◌<◌, ◌≤◌}
+use Rattle.std.proofs.Common.{length}
 use Rattle.std.specs.Prelude.{None, Option, Some, if◌then◌else◌}
 use Rattle.std.proofs.lemmas.List.{append-nil, reverse-append, take_more}
 use Rattle.fugue_ids.specs.Identifiers.{Identifier}
@@ -14,7 +15,8 @@ use Rattle.origin_model.proofs.SharedLemmas.{IsHeld, IsIn-held, before_at}
 use Rattle.order_proof.specs.declared.step.Reason.{Reason}
 use Rattle.order_proof.specs.declared.step.Reason.TheVariants.{End, Inner, Later, Prefix, Tie}
 use Rattle.order_proof.specs.declared.step.Step.{Step}
-use Rattle.order_proof.specs.Certificates.{ByRightChains, ByRightOrigins, Certificate, Chain, Claims, HoldsBy, IsFork, IsProperPrefix, IsSiblingStep, IsStep, IsValid, PartsAt, IsOrderedBefore, is_later}
+use Rattle.order_proof.specs.Certificates.{ByRightChains, ByRightOrigins, Certificate, Chain, Claims, HoldsBy, IsFork, IsProperPrefix, IsSiblingStep, IsStep, IsValid, PartsAt}
+use Rattle.order_proof.specs.Certificates.{IsOrderedBefore, is_later}
 use Rattle.order_proof.specs.Making.{common_count, certificate_made, certificate_made_at, reason_at, reason_between, reason_of, rests_on}
 unfoldable use Rattle.order_proof.specs.Making.{certificate}
 use Rattle.order_proof.proofs.BeforeLemmas.{prefix_of}
@@ -25,7 +27,8 @@ abbrev pub below : List Op → Option (Identifier × Identifier) → Certificate
 below older o = elim o [ None ↦ [] | Some claim ↦ certificate older claim.0 claim.1 ]
 
 -- the first step, and what it rests on
-pub certificate-cons : (op : Op) (older : List Op) (x y : Identifier) → certificate (op ∷ older) x y ≡ certificate_made (op ∷ older) x y ∷ below older (rests_on ((certificate_made (op ∷ older) x y).reason))
+pub certificate-cons : (op : Op) (older : List Op) (x y : Identifier)
+    → certificate (op ∷ older) x y ≡ certificate_made (op ∷ older) x y ∷ below older (rests_on ((certificate_made (op ∷ older) x y).reason))
 unfolding certificate
 certificate-cons op older x y = refl
 
@@ -43,7 +46,8 @@ reversed-take ops n l k =
     ap (λ m. reverse (take m ops)) on ∙ ap reverse (take_more ops (n - 1) none (omega (arith, l, k))) ∙ reverse-append (take (n - 1) ops) (get_or ops (n - 1) none ∷ [])
 
 turn : (ops : List Op) (n : ℕ) (x y : Identifier) → 0 < n → n ≤ length ops
-    → certificate (reverse (take n ops)) x y ≡ certificate_made (reverse (take n ops)) x y ∷ below (reverse (take (n - 1) ops)) (rests_on ((certificate_made (reverse (take n ops)) x y).reason))
+    → certificate (reverse (take n ops)) x y ≡ certificate_made (reverse (take n ops)) x y ∷ below (reverse (take (n - 1) ops))
+    (rests_on ((certificate_made (reverse (take n ops)) x y).reason))
 turn ops n x y l k =
     let older : List Op = reverse (take (n - 1) ops) in
     let e : reverse (take n ops) ≡ get_or ops (n - 1) none ∷ older = reversed-take ops n l k in
@@ -78,11 +82,13 @@ spent ops n x y items all l rest =
     ∙ rest
 
 -- behind a common front
-count-common : (c xs ys : Chain) → (drop (common_count (c ++ xs) (c ++ ys)) (c ++ xs) ≡ drop (common_count xs ys) xs) × (drop (common_count (c ++ xs) (c ++ ys)) (c ++ ys) ≡ drop (common_count xs ys) ys)
+count-common : (c xs ys : Chain) → (drop (common_count (c ++ xs) (c ++ ys)) (c ++ xs) ≡ drop (common_count xs ys) xs)
+    × (drop (common_count (c ++ xs) (c ++ ys)) (c ++ ys) ≡ drop (common_count xs ys) ys)
 count-common [] xs ys = (refl, refl)
 count-common (a ∷ c) xs ys =
     let k = count-common c xs ys in
-    let e : common_count (a ∷ (c ++ xs)) (a ∷ (c ++ ys)) ≡ suc (common_count (c ++ xs) (c ++ ys)) = ap (λ b. if b then suc (common_count (c ++ xs) (c ++ ys)) else 0) (id_eq-refl a) in
+    let e : common_count (a ∷ (c ++ xs)) (a ∷ (c ++ ys)) ≡ suc (common_count (c ++ xs) (c ++ ys)) =
+    ap (λ b. if b then suc (common_count (c ++ xs) (c ++ ys)) else 0) (id_eq-refl a) in
     (ap (λ n. drop n (a ∷ (c ++ xs))) e ∙ k.0, ap (λ n. drop n (a ∷ (c ++ ys))) e ∙ k.1)
 
 -- what two chains have behind their common front
@@ -141,7 +147,8 @@ chains_give h xs ys r t = fork_gives h xs ys r t
 made_sibling : (h : List Op) (s : Step) (r : Reason) → s.reason ≡ r → IsSiblingStep h s r → certificate_made h s.x s.y ≡ s
 made_sibling h s r e t =
     let m = rests-parted (lefts h s.x) (lefts h s.y) s.down_x s.down_y t.a t.b t.parts in
-    let reason : reason_between h (rights h t.a) (rights h t.b) ≡ s.reason = (λ i. reason_between h (sym t.right_x i) (sym t.right_y i)) ∙ chains_give h s.right_x s.right_y r t.decides ∙ sym e in
+    let reason : reason_between h (rights h t.a) (rights h t.b) ≡ s.reason =
+    (λ i. reason_between h (sym t.right_x i) (sym t.right_y i)) ∙ chains_give h s.right_x s.right_y r t.decides ∙ sym e in
     (λ i. certificate_made_at h s.x s.y (m.0 i) (m.1 i))
     ∙ (λ i. record { x = s.x; y = s.y; down_x = sym t.parts.first i; down_y = sym t.parts.second i; right_x = sym t.right_x i; right_y = sym t.right_y i; reason = reason i })
 

@@ -11,7 +11,8 @@ use Rattle.origin_model.proofs.SharedLemmas.{IsHeld, IsIn-held, Within-part, par
 use Rattle.order_proof.specs.declared.step.Reason.{Reason}
 use Rattle.order_proof.specs.declared.step.Reason.TheVariants.{End, Inner, Later, Prefix, Tie}
 use Rattle.order_proof.specs.declared.step.Step.{Step}
-use Rattle.order_proof.specs.Certificates.{ByRightOrigins, ByRightChains, Certificate, Chain, Claims, HoldsBy, IsFork, IsPrefixStep, IsProperPrefix, IsSiblingStep, IsStep, IsValid, PartsAt, is_later}
+use Rattle.order_proof.specs.Certificates.{ByRightOrigins, ByRightChains, Certificate, Chain, Claims, HoldsBy, IsFork, IsPrefixStep, IsProperPrefix, IsSiblingStep, IsStep, IsValid}
+use Rattle.order_proof.specs.Certificates.{PartsAt, is_later}
 use Rattle.order_proof.specs.Laws.{CertificatesInParts, HasOneCertificate}
 use Rattle.order_proof.proofs.PartedLemmas.{parted-longer, parted-shorter, parted_once}
 use Rattle.order_proof.proofs.BeforeLemmas.{prefix_front, prefix_of, valid_means_before}
@@ -64,7 +65,8 @@ module _ (h : List Op) (w : Lawful h) (s t : Step) (e : s.x ≡ t.x) (f : s.y �
 
   -- chains that part are no prefixes of each other
   no_prefix : (a b : Identifier) → PartsAt (lefts h s.x) (lefts h s.y) s.down_x s.down_y a b → IsPrefixStep h t → ⊥
-  no_prefix a b j k = parted-shorter (lefts h s.x) (lefts h s.y) s.down_x s.down_y a b j (subst (λ z. IsProperPrefix (lefts h z) (lefts h s.y)) (sym e) (subst (λ z. IsProperPrefix (lefts h t.x) (lefts h z)) (sym f) (prefix_of h t w n k)))
+  no_prefix a b j k = parted-shorter (lefts h s.x) (lefts h s.y) s.down_x s.down_y a b j
+      (subst (λ z. IsProperPrefix (lefts h z) (lefts h s.y)) (sym e) (subst (λ z. IsProperPrefix (lefts h t.x) (lefts h z)) (sym f) (prefix_of h t w n k)))
 
   prefix_no : (a b : Identifier) → PartsAt (lefts h t.x) (lefts h t.y) t.down_x t.down_y a b → IsPrefixStep h s → ⊥
   prefix_no a b j k = parted-shorter (lefts h s.x) (lefts h s.y) t.down_x t.down_y a b (parts_moved a b j) (prefix_of h s w m k)
@@ -92,7 +94,8 @@ module _ (h : List Op) (w : Lawful h) (s t : Step) (e : s.x ≡ t.x) (f : s.y �
         down_y = c.1;
         right_x = right_x;
         right_y = right_y;
-        reason = chains_once h s.right_x s.right_y r q j.decides (subst (λ l. ByRightChains h l s.right_y q) (sym right_x) (subst (λ l. ByRightChains h t.right_x l q) (sym right_y) k.decides));
+        reason = chains_once h s.right_x s.right_y r q j.decides
+            (subst (λ l. ByRightChains h l s.right_y q) (sym right_x) (subst (λ l. ByRightChains h t.right_x l q) (sym right_y) k.decides));
       }
 
   same_rest : (r q : Reason) → HoldsBy h s r → HoldsBy h t q → SameRest s t r q

@@ -92,14 +92,16 @@ module _ (op : Op) (older : List Op) (w : Lawful (op ∷ older)) (x : Identifier
   -- what is made now is in no older chain
   fresh_in : (o : Option Identifier) (front back : Chain) → above older o ≡ front ++ back → All (λ m. m ≢ x) back
   fresh_in o front back is = all_from_contains (λ m. m ≢ x) back (λ m member same.
-      let held : IsHeld older m = All-contains (IsHeld older) (above older o) m (above-held older o) (subst (λ l. Contains l m) (sym is) (Contains-append_right front back m member)) in
+      let held : IsHeld older m =
+      All-contains (IsHeld older) (above older o) m (above-held older o) (subst (λ l. Contains l m) (sym is) (Contains-append_right front back m member)) in
       true≢false (sym held ∙ ap (λ z. holds older z) same ∙ new_id older op x w own))
 
   grown : (front rest : Chain) → above older (left_of op) ≡ front ++ reverse rest → above (op ∷ older) (Some x) ≡ front ++ reverse (x ∷ rest)
   grown front rest is =
       chain-own next_left op older x own ∙ ap (λ l. l ++ x ∷ []) is ∙ append_assoc front (reverse rest) (x ∷ []) ∙ ap (λ l. front ++ l) (sym (reverse-cons x rest))
 
-  split_one : (other : Option Identifier) (passed : PassedChains) → makes other op ≡ false → IsSplit older (left_of op) other passed → IsSplit (op ∷ older) (Some x) other (with_one (Some x) passed)
+  split_one : (other : Option Identifier) (passed : PassedChains) → makes other op ≡ false → IsSplit older (left_of op) other passed
+      → IsSplit (op ∷ older) (Some x) other (with_one (Some x) passed)
   split_one other passed f s = record {
     front = s.front;
     one_is = grown s.front passed.one s.one_is;
@@ -108,7 +110,8 @@ module _ (op : Op) (older : List Op) (w : Lawful (op ∷ older)) (x : Identifier
         ∙ pushed-one (reverse passed.one) (reverse passed.other) x s.apart (fresh_in other s.front (reverse passed.other) s.other_is);
   }
 
-  split_other : (one : Option Identifier) (passed : PassedChains) → makes one op ≡ false → IsSplit older one (left_of op) passed → IsSplit (op ∷ older) one (Some x) (with_other (Some x) passed)
+  split_other : (one : Option Identifier) (passed : PassedChains) → makes one op ≡ false → IsSplit older one (left_of op) passed
+      → IsSplit (op ∷ older) one (Some x) (with_other (Some x) passed)
   split_other one passed f s = record {
     front = s.front;
     one_is = above-other op older one f ∙ s.one_is;
@@ -140,7 +143,12 @@ split (op ∷ older) w one other =
                 let y = own_some other op f in
                 let same : other ≡ one = y.1 ∙ ap Some (same_own y.0 x.0 op y.2 x.2) ∙ sym x.1 in
                 subst (IsSplit (op ∷ older) one other) (sym (passed-both op older one other e f))
-                (record { front = above (op ∷ older) one; one_is = sym (append-nil (above (op ∷ older) one)); other_is = ap (above (op ∷ older)) same ∙ sym (append-nil (above (op ∷ older) one)); apart = refl })
+                (record {
+                  front = above (op ∷ older) one;
+                  one_is = sym (append-nil (above (op ∷ older) one));
+                  other_is = ap (above (op ∷ older)) same ∙ sym (append-nil (above (op ∷ older) one));
+                  apart = refl;
+                })
             | inr f ↦
                 subst (IsSplit (op ∷ older) one other) (sym (passed-one op older one other e f))
                 (subst (λ o. IsSplit (op ∷ older) o other (with_one o (passed_up older (left_of op) other))) (sym x.1)
@@ -191,7 +199,8 @@ age-older op older (Some x) few = elim (cases_Bool (is_own x op)) [
 ]
 
 -- the newer member is passed, and operations that are newer than both are passed over
-pub passed_turn-one : (h : List Op) (x : Identifier) (other : Option Identifier) (op : Op) (later : List Op) → as_of h x ≡ op ∷ later → is_own x op ≡ true → Some x ≢ other → age h other ≤ suc (length later)
+pub passed_turn-one : (h : List Op) (x : Identifier) (other : Option Identifier) (op : Op) (later : List Op) → as_of h x ≡ op ∷ later → is_own x op ≡ true → Some x ≢ other
+    → age h other ≤ suc (length later)
     → passed_up h (Some x) other ≡ with_one (Some x) (passed_up later (left_of op) other)
 passed_turn-one [] x other op later is own apart few = cc is
 passed_turn-one (e ∷ h) x other op later is own apart few =
@@ -209,7 +218,8 @@ passed_turn-one (e ∷ h) x other op later is own apart few =
     not_made None op own apart = refl
     not_made (Some y) op own apart = false_from_ne_true (is_own y op) (λ k. apart (ap Some (same_own x y op own k)))
 
-pub passed_turn-other : (h : List Op) (y : Identifier) (one : Option Identifier) (op : Op) (later : List Op) → as_of h y ≡ op ∷ later → is_own y op ≡ true → Some y ≢ one → age h one ≤ suc (length later)
+pub passed_turn-other : (h : List Op) (y : Identifier) (one : Option Identifier) (op : Op) (later : List Op) → as_of h y ≡ op ∷ later → is_own y op ≡ true → Some y ≢ one
+    → age h one ≤ suc (length later)
     → passed_up h one (Some y) ≡ with_other (Some y) (passed_up later one (left_of op))
 passed_turn-other [] y one op later is own apart few = cc is
 passed_turn-other (e ∷ h) y one op later is own apart few =

@@ -113,7 +113,8 @@ module _ (ops : List Op) (x : Identifier) where
       ]
 
   -- in a lawful history, what comes at n or later is not among the first n
-  as_of_later : (m : ℕ) (e : Op) → m ≤ length ops → Lawful (history_at ops m) → (n at : ℕ) → n ≤ m → n ≤ at → position_of x (history_at ops m) ≡ Some at → as_of (history_at ops n) x ≡ []
+  as_of_later : (m : ℕ) (e : Op) → m ≤ length ops → Lawful (history_at ops m) → (n at : ℕ) → n ≤ m → n ≤ at → position_of x (history_at ops m) ≡ Some at
+      → as_of (history_at ops n) x ≡ []
   as_of_later zero e l w n at k j f = absurd (none-some at f)
   as_of_later (suc m) e l w n at k j f =
       let short : m < length ops = omega (arith, l) in

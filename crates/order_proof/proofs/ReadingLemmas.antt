@@ -1,5 +1,6 @@
 -- Where a byte stands first in a text, and what stands before and behind it.
-use Rattle.std.proofs.Common.{List, [], ap, append_assoc, arith, cond, drop, false, get_or, length, length-append, length-drop, nat_eq, nat_lt, refl, suc, sym, take, ℕ, ◌+◌, ◌++◌, ◌-◌, ◌<◌, ◌≤◌, ◌∙◌, ◌∷◌, ◌≡◌, ◌≢◌, ◌↔◌}
+use Rattle.std.proofs.Common.{List, [], ap, append_assoc, arith, cond, drop, false, get_or, length, length-append, length-drop, nat_eq, nat_lt, refl, suc, sym, take, ℕ, ◌+◌, ◌++◌}
+use Rattle.std.proofs.Common.{◌-◌, ◌<◌, ◌≤◌, ◌∙◌, ◌∷◌, ◌≡◌, ◌≢◌, ◌↔◌}
 use Rattle.std.specs.Prelude.{All, IfSome, IsSomeAnd, MatchOption, IsNone, None, Option, Some, position, ◌==◌}
 use Rattle.std.specs.Borrow.{Bor}
 use Rattle.std.specs.List.{position_or_len}
@@ -81,7 +82,8 @@ word_found text word (m ∷ more) i f e p =
       take_all (length text - i) (drop i text) (omega (arith, length-drop i text)) ∙ behind,
     )
 
-pub word_alone : (text word : List ℕ) (more : List Identifier) → HasNoByte 32 word → text ≡ word ++ ids_text more → position (λ b. b == 32) text ≡ None → (text ≡ word) × ([] ≡ ids_text more)
+pub word_alone : (text word : List ℕ) (more : List Identifier) → HasNoByte 32 word → text ≡ word ++ ids_text more → position (λ b. b == 32) text ≡ None
+    → (text ≡ word) × ([] ≡ ids_text more)
 word_alone text word [] f e p = (e ∙ append-nil word, refl)
 word_alone text word (m ∷ more) f e p = absurd (none-some (length word) (sym p ∙ found_after 32 text word (id_text m ++ ids_text more) f e))
 
@@ -112,7 +114,8 @@ more_of ids id rest behind xs (y ∷ more) b f p e k =
     let found = f y more (All-head IsPossible y more p) e in
     (more, All-tail IsPossible y more p, found.1, k ∙ (λ j. ids ++ sym found.0 j ∷ more) ∙ sym (append_assoc ids (id ∷ []) more))
 
-pub read_more : (text : List ℕ) (ids : List Identifier) (rest : List ℕ) (id : Identifier) (behind : List ℕ) → IsReadTo text ids rest → rest ≡ (32 ∷ id_text id) ++ behind → IsPossible id
+pub read_more : (text : List ℕ) (ids : List Identifier) (rest : List ℕ) (id : Identifier) (behind : List ℕ) → IsReadTo text ids rest → rest ≡ (32 ∷ id_text id) ++ behind
+    → IsPossible id
     → Begins rest id behind → IsReadTo text (ids ++ id ∷ []) behind
 read_more text ids rest id behind r b p f = record {
   told =
@@ -126,11 +129,13 @@ read_more text ids rest id behind r b p f = record {
 }
 
 -- where no identifier comes next
-stops : (rest : List ℕ) (ys : List Identifier) → 0 < length rest → ((y : Identifier) (more : List Identifier) → IsPossible y → rest ≡ ids_text (y ∷ more) → ⊥) → All IsPossible ys → rest ≡ ids_text ys → ⊥
+stops : (rest : List ℕ) (ys : List Identifier) → 0 < length rest → ((y : Identifier) (more : List Identifier) → IsPossible y → rest ≡ ids_text (y ∷ more) → ⊥) → All IsPossible ys
+    → rest ≡ ids_text ys → ⊥
 stops rest [] l f p e = omega (arith, ap length e, l)
 stops rest (y ∷ more) l f p e = f y more (All-head IsPossible y more p) e
 
-pub read_stops : (text : List ℕ) (ids : List Identifier) (rest : List ℕ) → IsReadTo text ids rest → 0 < length rest → ((y : Identifier) (more : List Identifier) → IsPossible y → rest ≡ ids_text (y ∷ more) → ⊥)
+pub read_stops : (text : List ℕ) (ids : List Identifier) (rest : List ℕ) → IsReadTo text ids rest → 0 < length rest
+    → ((y : Identifier) (more : List Identifier) → IsPossible y → rest ≡ ids_text (y ∷ more) → ⊥)
     → (xs : List Identifier) → All IsPossible xs → text ≡ ids_text xs → ⊥
 read_stops text ids rest r l f xs p e = let k = r.every xs p e in stops rest k.0 l f k.1 k.2
 
@@ -139,7 +144,8 @@ ends : (rest : List ℕ) (ys : List Identifier) → length rest ≤ 0 → rest �
 ends rest [] l e = refl
 ends rest (y ∷ more) l e = absurd (omega (arith, ap length e, l))
 
-pub read_ends : (text : List ℕ) (ids : List Identifier) (rest : List ℕ) → IsReadTo text ids rest → length rest ≤ 0 → (xs : List Identifier) → All IsPossible xs → text ≡ ids_text xs → ids ≡ xs
+pub read_ends : (text : List ℕ) (ids : List Identifier) (rest : List ℕ) → IsReadTo text ids rest → length rest ≤ 0 → (xs : List Identifier) → All IsPossible xs
+    → text ≡ ids_text xs → ids ≡ xs
 read_ends text ids rest r l xs p e =
     let k = r.every xs p e in
     sym (append-nil ids) ∙ ap (λ z. ids ++ z) (sym (ends rest k.0 l k.2)) ∙ sym k.3

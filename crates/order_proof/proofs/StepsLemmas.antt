@@ -52,7 +52,8 @@ pub record IsReadSo (text rest : List ℕ) (c : Certificate) : Type 0 where
   pub told : text ≡ proof_text c ++ rest
   pub fine : All IsFine (proof_lines c)
   pub whole : map told_step c ≡ c
-  pub every : (d : Certificate) → All IsFine (proof_lines d) → text ≡ proof_text d → (e : Certificate) × All IsFine (proof_lines e) × (rest ≡ proof_text e) × (map told_step d ≡ c ++ map told_step e)
+  pub every : (d : Certificate) → All IsFine (proof_lines d) → text ≡ proof_text d
+      → (e : Certificate) × All IsFine (proof_lines e) × (rest ≡ proof_text e) × (map told_step d ≡ c ++ map told_step e)
 
 pub read_no_step : (text : List ℕ) → IsReadSo text text []
 read_no_step text = record { told = refl; fine = All-nil IsFine; whole = refl; every = λ d p e. (d, p, e, refl) }
@@ -61,7 +62,8 @@ read_no_step text = record { told = refl; fine = All-nil IsFine; whole = refl; e
 abbrev pub BeginsStep : (rest behind : List ℕ) → Step → Type 0
 BeginsStep rest behind s = (t : Step) (more : List ℕ) → All IsFine (step_lines t) → rest ≡ step_text t ++ more → (s ≡ told_step t) × (behind ≡ more)
 
-next_of : (c : Certificate) (rest behind : List ℕ) (s : Step) → Tells rest behind s → BeginsStep rest behind s → (d e : Certificate) → All IsFine (proof_lines e) → rest ≡ proof_text e
+next_of : (c : Certificate) (rest behind : List ℕ) (s : Step) → Tells rest behind s → BeginsStep rest behind s → (d e : Certificate) → All IsFine (proof_lines e)
+    → rest ≡ proof_text e
     → map told_step d ≡ c ++ map told_step e → (f : Certificate) × All IsFine (proof_lines f) × (behind ≡ proof_text f) × (map told_step d ≡ (c ++ s ∷ []) ++ map told_step f)
 next_of c rest behind s t b d [] p e k = absurd (omega (arith, ap length (sym t.0 ∙ e), some_text s behind))
 next_of c rest behind s t b d (u ∷ f) p e k =
@@ -69,7 +71,8 @@ next_of c rest behind s t b d (u ∷ f) p e k =
     let found = b u (proof_text f) parts.0 (e ∙ text-cons u f) in
     (f, parts.1, found.1, k ∙ (λ i. c ++ sym found.0 i ∷ map told_step f) ∙ sym (append_assoc c (s ∷ []) (map told_step f)))
 
-pub read_step_more : (text rest behind : List ℕ) (c : Certificate) (s : Step) → IsReadSo text rest c → Tells rest behind s → BeginsStep rest behind s → IsReadSo text behind (c ++ s ∷ [])
+pub read_step_more : (text rest behind : List ℕ) (c : Certificate) (s : Step) → IsReadSo text rest c → Tells rest behind s → BeginsStep rest behind s
+    → IsReadSo text behind (c ++ s ∷ [])
 read_step_more text rest behind c s r t b = record {
   told = r.told ∙ ap (λ z. proof_text c ++ z) t.0 ∙ sym (text-push c s behind);
   fine = subst (All IsFine) (sym (lines-push c s)) (All-append IsFine (proof_lines c) (step_lines s) r.fine t.1);
@@ -78,11 +81,13 @@ read_step_more text rest behind c s r t b = record {
 }
 
 -- where no step comes next, and something is left
-no_next : (rest : List ℕ) (e : Certificate) → 0 < length rest → All IsFine (proof_lines e) → rest ≡ proof_text e → (t : Step) × (more : List ℕ) × All IsFine (step_lines t) × (rest ≡ step_text t ++ more)
+no_next : (rest : List ℕ) (e : Certificate) → 0 < length rest → All IsFine (proof_lines e) → rest ≡ proof_text e
+    → (t : Step) × (more : List ℕ) × All IsFine (step_lines t) × (rest ≡ step_text t ++ more)
 no_next rest [] l p e = absurd (omega (arith, ap length e, l))
 no_next rest (u ∷ f) l p e = (u, proof_text f, (front_fine (step_lines u) (proof_lines f) p).0, e ∙ text-cons u f)
 
-pub next_step : (text rest : List ℕ) (c : Certificate) → IsReadSo text rest c → 0 < length rest → (d : Certificate) → IsProofText text d → (t : Step) × (more : List ℕ) × All IsFine (step_lines t) × (rest ≡ step_text t ++ more)
+pub next_step : (text rest : List ℕ) (c : Certificate) → IsReadSo text rest c → 0 < length rest → (d : Certificate) → IsProofText text d
+    → (t : Step) × (more : List ℕ) × All IsFine (step_lines t) × (rest ≡ step_text t ++ more)
 next_step text rest c r l d p = let k = r.every d p.possible p.text_is in no_next rest k.0 l k.1 k.2
 
 -- where nothing is left

@@ -15,7 +15,8 @@ use Rattle.order_proof.specs.declared.step.Step.{Step}
 use Rattle.order_proof.specs.Certificates.{Certificate, HoldsBy, IsValid}
 use Rattle.order_proof.specs.Laws.{ReadsUniquely, ValidReadsUniquely}
 use Rattle.order_proof.specs.Readings.{HasNoByte}
-use Rattle.order_proof.specs.Texts.{IsNarrow, ProofLine, Word, chain_lines, reason_line, claim, down, end, id_text, ids_text, inner, later, proof_line_text, proof_lines, prefix, right, tie, told_step, told_by, word_text}
+use Rattle.order_proof.specs.Texts.{IsNarrow, ProofLine, Word, chain_lines, reason_line, claim, down, end, id_text, ids_text, inner, later, proof_line_text, proof_lines, prefix}
+use Rattle.order_proof.specs.Texts.{right, tie, told_step, told_by, word_text}
 
 pub free-append : (k : ℕ) (a b : List ℕ) → HasNoByte k a → HasNoByte k b → HasNoByte k (a ++ b)
 free-append k [] b f g = g
@@ -71,7 +72,8 @@ id_free k id l n =
 
 id_once : (a b : Identifier) → IsNarrow a → IsNarrow b → id_text a ≡ id_text b → a ≡ b
 id_once a b m n e =
-    let p = split_at 46 (decimal a.replica) (decimal b.replica) (decimal a.counter) (decimal b.counter) (decimal_free 46 a.replica (omega arith) m.0) (decimal_free 46 b.replica (omega arith) n.0) e in
+    let p = split_at 46 (decimal a.replica) (decimal b.replica) (decimal a.counter) (decimal b.counter) (decimal_free 46 a.replica (omega arith) m.0)
+    (decimal_free 46 b.replica (omega arith) n.0) e in
     let r : a.replica ≡ b.replica = decimal_injective a.replica b.replica (omega (arith, m.0)) (omega (arith, n.0)) p.0 in
     let c : a.counter ≡ b.counter = decimal_injective a.counter b.counter (omega (arith, m.1)) (omega (arith, n.1)) p.1 in
     λ i. record { replica = r i; counter = c i }
@@ -140,7 +142,8 @@ body l = word_text l.word ++ flat_map (λ id. 32 ∷ id_text id) l.ids
 pub ids_free : (ids : List Identifier) → All IsNarrow ids → HasNoByte 10 (ids_text ids)
 ids_free [] n = tt
 ids_free (i ∷ ids) n =
-    free-append 10 (32 ∷ id_text i) (flat_map (λ id. 32 ∷ id_text id) ids) ((λ e. omega (arith, e)), id_free 10 i (omega arith) (All-head IsNarrow i ids n)) (ids_free ids (All-tail IsNarrow i ids n))
+    free-append 10 (32 ∷ id_text i) (flat_map (λ id. 32 ∷ id_text id) ids) ((λ e. omega (arith, e)), id_free 10 i (omega arith) (All-head IsNarrow i ids n))
+    (ids_free ids (All-tail IsNarrow i ids n))
 
 body_free : (l : ProofLine) → All IsNarrow l.ids → HasNoByte 10 (body l)
 body_free l n = free-append 10 (word_text l.word) (flat_map (λ id. 32 ∷ id_text id) l.ids) (free_from 10 (word_text l.word) (word_test l.word).0) (ids_free l.ids n)
@@ -161,7 +164,8 @@ pieces_free (i ∷ ids) n = (id_free 32 i (omega arith) (All-head IsNarrow i ids
 -- a line is told by its text
 body_once : (l m : ProofLine) → All IsNarrow l.ids → All IsNarrow m.ids → body l ≡ body m → l ≡ m
 body_once l m f g e =
-    let p : word_text l.word ∷ map id_text l.ids ≡ word_text m.word ∷ map id_text m.ids = pieces_once 32 (word_text l.word ∷ map id_text l.ids) (word_text m.word ∷ map id_text m.ids)
+    let p : word_text l.word ∷ map id_text l.ids ≡ word_text m.word ∷ map id_text m.ids =
+    pieces_once 32 (word_text l.word ∷ map id_text l.ids) (word_text m.word ∷ map id_text m.ids)
     (free_from 32 (word_text l.word) (word_test l.word).1, pieces_free l.ids f) (free_from 32 (word_text m.word) (word_test m.word).1, pieces_free m.ids g)
     (sym (ids_marked (word_text l.word) l.ids) ∙ ap (λ z. z ++ 32 ∷ []) e ∙ ids_marked (word_text m.word) m.ids) in
     let v : word_text l.word ≡ word_text m.word = cc in
@@ -191,7 +195,8 @@ bodies_once (l ∷ ls) (m ∷ ms) f g e =
     let s = bodies_once ls ms (All-tail N l ls f) (All-tail N m ms g) q in
     λ i. r i ∷ s i
 
-lines_once : (ls ms : List ProofLine) → All (λ (l : ProofLine). All IsNarrow l.ids) ls → All (λ (l : ProofLine). All IsNarrow l.ids) ms → flat_map proof_line_text ls ≡ flat_map proof_line_text ms → ls ≡ ms
+lines_once : (ls ms : List ProofLine) → All (λ (l : ProofLine). All IsNarrow l.ids) ls → All (λ (l : ProofLine). All IsNarrow l.ids) ms
+    → flat_map proof_line_text ls ≡ flat_map proof_line_text ms → ls ≡ ms
 lines_once ls ms f g e =
     bodies_once ls ms f g (pieces_once 10 (map body ls) (map body ms) (bodies_free ls f) (bodies_free ms g) (sym (lines_marked ls) ∙ e ∙ lines_marked ms))
 
@@ -257,7 +262,8 @@ reads_uniquely c d m n e = lines_tell c d (lines_once (proof_lines c) (proof_lin
 
 -- a step that holds has no chain that its text leaves out
 told-holds : (h : List Op) (s : Step) (r : Reason) → r ≡ s.reason → HoldsBy h s r → told_by s r ≡ s
-told-holds h s Prefix e t = λ i. record { x = s.x; y = s.y; down_x = sym t.no_down_x i; down_y = s.down_y; right_x = sym t.no_right_x i; right_y = sym t.no_right_y i; reason = e i }
+told-holds h s Prefix e t =
+    λ i. record { x = s.x; y = s.y; down_x = sym t.no_down_x i; down_y = s.down_y; right_x = sym t.no_right_x i; right_y = sym t.no_right_y i; reason = e i }
 told-holds h s r e t = refl
 
 pub told-valid : (h : List Op) (c : Certificate) → IsValid h c → map told_step c ≡ c

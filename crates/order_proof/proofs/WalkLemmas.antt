@@ -1,5 +1,6 @@
 -- What the walk over the operations tells of a chain of left origins.
-use Rattle.std.proofs.Common.{arith, get_or, length, take, nat_eq, ℕ, ◌<◌, ◌≤◌, ◌+◌, ◌-◌, zero, suc, Bool, List, [], ap, append_assoc, false, inl, inr, refl, reverse, sym, true, ◌++◌, ◌∙◌, ◌∷◌, ◌≡◌, ◌↔◌}
+use Rattle.std.proofs.Common.{arith, get_or, length, take, nat_eq, ℕ, ◌<◌, ◌≤◌, ◌+◌, ◌-◌, zero, suc, Bool, List, [], ap, append_assoc, false, inl, inr, refl, reverse, sym, true}
+use Rattle.std.proofs.Common.{◌++◌, ◌∙◌, ◌∷◌, ◌≡◌, ◌↔◌}
 use Rattle.std.specs.Prelude.{None, Option, Some, if◌then◌else◌}
 use Rattle.std.proofs.lemmas.Bool.{cases_Bool, false≢true, ne_eqb}
 use Rattle.std.proofs.lemmas.List.{append-nil, reverse-append, reverse-reverse, take_more, same_from_push}
@@ -61,7 +62,8 @@ walk_from (op ∷ older) x (m ∷ ms) e =
           let r = walk_from older x (m ∷ ms) (sym (ap (λ b. if b then (if id_eq m x then above_test older (left_of op) ms else false) else ends_with older x (m ∷ ms)) k) ∙ e) in
           (r.0, chain-other next_left op older x k ∙ r.1)
       | inl k ↦
-          let p = if_parts (id_eq m x) (above_test older (left_of op) ms) (sym (ap (λ b. if b then (if id_eq m x then above_test older (left_of op) ms else false) else ends_with older x (m ∷ ms)) k) ∙ e) in
+          let p = if_parts (id_eq m x) (above_test older (left_of op) ms)
+          (sym (ap (λ b. if b then (if id_eq m x then above_test older (left_of op) ms else false) else ends_with older x (m ∷ ms)) k) ∙ e) in
           let d : m ≡ x = id_eq-true m x p.0 in
           let joined : (c : Chain) → chain_above next_left older (left_of op) ≡ c ++ reverse ms → lefts (op ∷ older) x ≡ c ++ reverse (m ∷ ms) = λ c q.
           chain-own next_left op older x k ∙ (λ i. q i ++ sym d i ∷ []) ∙ append_assoc c (reverse ms) (m ∷ []) ∙ ap (λ l. c ++ l) (sym (reverse-cons m ms)) in

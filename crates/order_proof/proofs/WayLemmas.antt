@@ -1,5 +1,6 @@
 -- The turns of the way up two chains of left origins.
-use Rattle.std.proofs.Common.{drop, take-append-drop, ◌≡◌, ◌≢◌, ◌⊎◌, inl, inr, ℕ, suc, ◌<◌, List, [], ◌∷◌, ◌++◌, length, take, min, reverse, ap, sym, subst, ◌∙◌, arith, append_assoc}
+use Rattle.std.proofs.Common.{drop, take-append-drop, ◌≡◌, ◌≢◌, ◌⊎◌, inl, inr, ℕ, suc, ◌<◌, List, [], ◌∷◌, ◌++◌, length, take, min, reverse, ap, sym, subst, ◌∙◌, arith}
+use Rattle.std.proofs.Common.{append_assoc}
 use Rattle.std.specs.Prelude.{Some}
 use Rattle.std.proofs.lemmas.List.{append-nil, length-reverse, length-take, reverse-append}
 use Rattle.fugue_ids.specs.Identifiers.{Identifier}
@@ -18,7 +19,8 @@ long : (ops : List Op) (n : ℕ) → length (history_at ops n) ≡ min n (length
 long ops n = length-reverse (take n ops) ∙ length-take n ops
 
 -- an operation at a later position has more operations up to it
-pub newer_age : (ops : List Op) (below at place : ℕ) (y : Identifier) (op : Op) → IsAtPosition ops below y place op → at < place → suc (length (history_at ops at)) < age (history_at ops below) (Some y)
+pub newer_age : (ops : List Op) (below at place : ℕ) (y : Identifier) (op : Op) → IsAtPosition ops below y place op → at < place
+    → suc (length (history_at ops at)) < age (history_at ops below) (Some y)
 newer_age ops below at place y op there later =
     omega (arith, later, ap length there.newest, as_of-short (history_at ops below) y, long ops at, long ops place, long ops below)
 
@@ -48,7 +50,8 @@ module _ (ops : List Op) (below : ℕ) (one other : Ascent) (apart : one.next �
       }
 
   -- neither is there
-  pub way_of_none : (same_one same_other : Ascent) → IsUnpassed (history_at ops below) one same_one other.next → IsUnpassed (history_at ops below) other same_other same_one.next → IsOneWay ops below 0 one other same_one same_other
+  pub way_of_none : (same_one same_other : Ascent) → IsUnpassed (history_at ops below) one same_one other.next → IsUnpassed (history_at ops below) other same_other same_one.next
+      → IsOneWay ops below 0 one other same_one same_other
   way_of_none same_one same_other p q =
       let h : List Op = history_at ops below in
       let rival : (age h other.next ≡ 0) ⊎ (age h other.next < age h one.next) = subst (λ (a : Ascent). (age h other.next ≡ 0) ⊎ (age h other.next < age h a.next)) p.same q.why in
@@ -80,10 +83,12 @@ module _ (ops : List Op) (end : ℕ) (x y : Identifier) where
     other_is = (λ i. p i ++ (passed_up (history_at ops end) (f i) (q i)).other);
   }
 
-  pub way_goes_on : (below at : ℕ) (one other new_one new_other : Ascent) → IsOnWay ops end x y below one other → IsOneWay ops below at one other new_one new_other → IsOnWay ops end x y at new_one new_other
+  pub way_goes_on : (below at : ℕ) (one other new_one new_other : Ascent) → IsOnWay ops end x y below one other → IsOneWay ops below at one other new_one new_other
+      → IsOnWay ops end x y at new_one new_other
   way_goes_on below at one other new_one new_other w s = record { one_is = s.one_is ∙ w.one_is; other_is = s.other_is ∙ w.other_is }
 
-  pub way_ends : (below : ℕ) (one other : Ascent) → Lawful (reverse ops) → IsOnWay ops end x y below one other → passed_up (history_at ops below) one.next other.next ≡ nothing_passed → (down_x down_y : Chain) → down_x ≡ reverse one.passed.items → down_y ≡ reverse other.passed.items
+  pub way_ends : (below : ℕ) (one other : Ascent) → Lawful (reverse ops) → IsOnWay ops end x y below one other
+      → passed_up (history_at ops below) one.next other.next ≡ nothing_passed → (down_x down_y : Chain) → down_x ≡ reverse one.passed.items → down_y ≡ reverse other.passed.items
       → AreDowns (history_at ops end) x y down_x down_y
   way_ends below one other w way none down_x down_y e f =
       let h : List Op = history_at ops end in

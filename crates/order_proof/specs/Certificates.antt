@@ -29,7 +29,8 @@ IsOrderedBefore h x y = (p : Place) × IsIn p h x × IsIn p h y × (before p h x
 abbrev pub IsProperPrefix : Chain → Chain → Type 0
 IsProperPrefix xs ys = (next : Identifier) × (more : Chain) × (ys ≡ xs ++ next ∷ more)
 
--- neither of two chains is a prefix of the other: a and b are their members at the first place where they differ, and from_x and from_y are their suffixes from there
+-- neither of two chains is a prefix of the other: a and b are their members at the first place where they differ, and
+-- from_x and from_y are their suffixes from there
 pub record PartsAt (xs ys from_x from_y : Chain) (a b : Identifier) : Type 0 where
   pub common : Chain
   pub more_x : Chain
@@ -51,7 +52,8 @@ pub record IsPrefixStep (h : List Op) (s : Step) : Type 0 where
   pub no_right_x : s.right_x ≡ []
   pub no_right_y : s.right_y ≡ []
 
--- the right origins of c and d decide. End: c's is the end, and d's is not; Later: they are p and q, which differ; Tie: they are the same, and c's identifier is smaller
+-- the right origins of c and d decide. End: c's is the end, and d's is not; Later: they are p and q, which differ; Tie:
+-- they are the same, and c's identifier is smaller
 abbrev pub ByRightOrigins : List Op → Identifier → Identifier → Reason → Type 0
 ByRightOrigins h c d End = (right_at h c ≡ None) × (right_at h d ≢ None)
 ByRightOrigins h c d (Later p q) = (right_at h c ≡ Some p) × (right_at h d ≡ Some q) × (p ≢ q)
@@ -91,7 +93,7 @@ pub record IsStep (h : List Op) (s : Step) : Type 0 where
   pub one_place : OfOnePlace h s.x s.y
   pub holds : HoldsBy h s s.reason
 
--- the reason is that of two siblings by age
+-- the reason is Later: two right origins decide, and the next step compares these
 abbrev pub is_later : Reason → Bool
 is_later (Later p q) = true
 is_later _ = false

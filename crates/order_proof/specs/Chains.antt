@@ -16,7 +16,8 @@ abbrev pub ends_with : List Op → Identifier → Chain → Bool
 ends_with h x [] = true
 ends_with [] x (m ∷ ms) = false
 ends_with (op ∷ older) x (m ∷ ms) =
-    if is_own x op then (if id_eq m x then elim (left_of op) [ None ↦ is_empty ms | Some y ↦ ends_with older y ms ] else false) else ends_with older x (m ∷ ms)
+    if is_own x op then (if id_eq m x then elim (left_of op) [ None ↦ is_empty ms | Some y ↦ ends_with older y ms ] else false) else
+    ends_with older x (m ∷ ms)
 
 -- the chain of left origins of x ends with this one, which has a member
 abbrev pub is_down : List Op → Identifier → Chain → Bool
@@ -28,7 +29,8 @@ unfoldable pub beside_up : List Op → (left : Option Identifier) → Identifier
 beside_up [] left x = []
 beside_up (op ∷ older) left x =
     elim (is_own x op) [
-      | true ↦ elim (origin_eq (left_of op) left) [ true ↦ x ∷ elim (right_of op) [ None ↦ [] | Some r ↦ beside_up older left r ] | false ↦ [] ]
+      | true ↦ elim (origin_eq (left_of op) left)
+          [ true ↦ x ∷ elim (right_of op) [ None ↦ [] | Some r ↦ beside_up older left r ] | false ↦ [] ]
       | false ↦ beside_up older left x
     ]
 

@@ -31,7 +31,7 @@ origins_decide o q c d (Later u v) = origin_eq o (Some u) && (origin_eq q (Some 
 origins_decide o q c d Tie = origin_eq o q && id_lt c d
 origins_decide o q c d _ = false
 
--- the reason is that of an ancestor
+-- the reason is Inner: one chain of right origins is a prefix of the other
 abbrev pub is_inner : Reason → Bool
 is_inner Inner = true
 is_inner _ = false
@@ -51,7 +51,8 @@ siblings_at h _ _ right_x right_y = false
 -- a step at siblings
 abbrev pub sibling_test : List Op → Step → Reason → Bool
 sibling_test h s r =
-    siblings_at h s.down_x s.down_y s.right_x s.right_y && (is_down h s.x s.down_x && (is_down h s.y s.down_y && chains_decide h r s.right_x s.right_y))
+    siblings_at h s.down_x s.down_y s.right_x s.right_y
+    && (is_down h s.x s.down_x && (is_down h s.y s.down_y && chains_decide h r s.right_x s.right_y))
 
 -- the chain begins with x and goes on
 abbrev pub continues_chain : Identifier → Chain → Bool
@@ -60,7 +61,8 @@ continues_chain x _ = false
 
 -- a step by Prefix
 abbrev pub prefix_test : List Op → Step → Bool
-prefix_test h s = continues_chain s.x s.down_y && (is_down h s.y s.down_y && (is_empty s.down_x && (is_empty s.right_x && is_empty s.right_y)))
+prefix_test h s = continues_chain s.x s.down_y
+    && (is_down h s.y s.down_y && (is_empty s.down_x && (is_empty s.right_x && is_empty s.right_y)))
 
 -- a step, by its reason
 abbrev pub reason_test : List Op → Step → Reason → Bool

@@ -29,7 +29,8 @@ HasOneCertificate =
 
 -- a valid certificate stays valid as operations come later
 abbrev pub CertificatesStay : Type 0
-CertificatesStay = (new h : List Op) → Lawful (new ++ h) → (certificate : Certificate) → IsValid h certificate → IsValid (new ++ h) certificate
+CertificatesStay = (new h : List Op) → Lawful (new ++ h) → (certificate : Certificate) → IsValid h certificate
+    → IsValid (new ++ h) certificate
 
 -- and so it does from a lawful part of a lawful history to the whole
 abbrev pub CertificatesOfParts : Type 0
@@ -40,7 +41,8 @@ CertificatesOfParts =
 -- and back to a lawful part that has the two elements that it speaks of, whichever other operations it lacks
 abbrev pub CertificatesInParts : Type 0
 CertificatesInParts =
-    (p : Place) (part whole : List Op) → Lawful part → Lawful whole → IsPartOf part whole → (x y : Identifier) → IsIn p part x → IsIn p part y
+    (p : Place) (part whole : List Op) → Lawful part → Lawful whole → IsPartOf part whole → (x y : Identifier) → IsIn p part x
+    → IsIn p part y
     → (certificate : Certificate) → IsValid whole certificate → Claims x y certificate → IsValid part certificate
 
 -- a text tells the certificate, but for the chains that steps by Prefix leave out

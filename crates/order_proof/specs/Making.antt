@@ -33,12 +33,22 @@ reason_between h xs ys = reason_at h (drop (common_count xs ys) xs) (drop (commo
 -- the step of two elements, by their chains of left origins from where these part
 abbrev pub certificate_made_at : List Op → (x y : Identifier) → Chain → Chain → Step
 certificate_made_at h x y (a ∷ as') (b ∷ bs) =
-    record { x = x; y = y; down_x = a ∷ as'; down_y = b ∷ bs; right_x = rights h a; right_y = rights h b; reason = reason_between h (rights h a) (rights h b) }
+    record {
+      x = x;
+      y = y;
+      down_x = a ∷ as';
+      down_y = b ∷ bs;
+      right_x = rights h a;
+      right_y = rights h b;
+      reason = reason_between h (rights h a) (rights h b);
+    }
 certificate_made_at h x y _ bs = record { x = x; y = y; down_x = []; down_y = x ∷ bs; right_x = []; right_y = []; reason = Prefix }
 
 -- the step of two elements
 abbrev pub certificate_made : List Op → (x y : Identifier) → Step
-certificate_made h x y = certificate_made_at h x y (drop (common_count (lefts h x) (lefts h y)) (lefts h x)) (drop (common_count (lefts h x) (lefts h y)) (lefts h y))
+certificate_made h x y =
+    certificate_made_at h x y (drop (common_count (lefts h x) (lefts h y)) (lefts h x))
+    (drop (common_count (lefts h x) (lefts h y)) (lefts h y))
 
 -- the claim on which a step rests: q before p
 abbrev pub rests_on : Reason → Option (Identifier × Identifier)
@@ -49,4 +59,5 @@ rests_on _ = None
 unfoldable pub certificate : List Op → (x y : Identifier) → Certificate
 certificate [] x y = []
 certificate (op ∷ older) x y =
-    certificate_made (op ∷ older) x y ∷ elim (rests_on ((certificate_made (op ∷ older) x y).reason)) [ None ↦ [] | Some claim ↦ certificate older claim.0 claim.1 ]
+    certificate_made (op ∷ older) x y ∷ elim (rests_on ((certificate_made (op ∷ older) x y).reason))
+    [ None ↦ [] | Some claim ↦ certificate older claim.0 claim.1 ]

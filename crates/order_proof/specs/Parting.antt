@@ -62,8 +62,10 @@ pub record IsUnpassed (h : List Op) (old new : Ascent) (rival : Option Identifie
 
 -- what was passed and what is to be passed are together what they were
 pub record IsOneWay (ops : List Op) (below at : ℕ) (one other new_one new_other : Ascent) : Type 0 where
-  pub one_is : new_one.passed.items ++ (passed_up (history_at ops at) new_one.next new_other.next).one ≡ one.passed.items ++ (passed_up (history_at ops below) one.next other.next).one
-  pub other_is : new_other.passed.items ++ (passed_up (history_at ops at) new_one.next new_other.next).other ≡ other.passed.items ++ (passed_up (history_at ops below) one.next other.next).other
+  pub one_is : new_one.passed.items ++ (passed_up (history_at ops at) new_one.next new_other.next).one ≡ one.passed.items
+      ++ (passed_up (history_at ops below) one.next other.next).one
+  pub other_is : new_other.passed.items ++ (passed_up (history_at ops at) new_one.next new_other.next).other ≡ other.passed.items
+      ++ (passed_up (history_at ops below) one.next other.next).other
 
 -- what two chains of left origins have behind their common front
 pub record AreDowns (h : List Op) (x y : Identifier) (down_x down_y : Chain) : Type 0 where

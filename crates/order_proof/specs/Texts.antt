@@ -65,7 +65,8 @@ reason_line Tie = proof_line tie []
 abbrev pub chain_lines : Step → Reason → List ProofLine
 chain_lines s Prefix = proof_line claim (s.x ∷ s.y ∷ []) ∷ proof_line down s.down_y ∷ []
 chain_lines s reason =
-    proof_line claim (s.x ∷ s.y ∷ []) ∷ proof_line down s.down_x ∷ proof_line down s.down_y ∷ proof_line right s.right_x ∷ proof_line right s.right_y ∷ []
+    proof_line claim (s.x ∷ s.y ∷ []) ∷ proof_line down s.down_x ∷ proof_line down s.down_y ∷ proof_line right s.right_x
+    ∷ proof_line right s.right_y ∷ []
 
 -- the lines of a step: its chains, and its reason
 abbrev pub step_lines : Step → List ProofLine

@@ -1,5 +1,6 @@
 -- Small manuscripts and streams, computed from the definitions. Each is written in order of arrival.
-use Rattle.origin_model.proofs.Words.{Delete, Identifier, Lawful, List, None, Op, Option, Section, Some, Text, [], chain, codes, manuscript, order, refl, reverse, text, verdict, ℕ, ◌++◌, ◌∷◌, ◌≡◌}
+use Rattle.origin_model.proofs.Words.{Delete, Identifier, Lawful, List, None, Op, Option, Section, Some, Text, [], chain, codes, manuscript, order, refl, reverse, text, verdict, ℕ}
+use Rattle.origin_model.proofs.Words.{◌++◌, ◌∷◌, ◌≡◌}
 use lib.Utf8.{encode}
 use Rattle.origin_model.specs.taking.Closure.{answers}
 use Rattle.origin_model.specs.taking.Taking.{Again, Stray, TooMany, Accepted, Full, Waits, closure, held, settle, tally}

@@ -1,5 +1,6 @@
 -- The front of some bytes, and what a call does that gives it.
-use Rattle.std.proofs.Common.{◌≡◌, ℕ, ◌+◌, ◌-◌, ◌<◌, ◌≤◌, List, ◌++◌, length, take, drop, Some, Ok, true, refl, ap, sym, ◌∙◌, arith, length-append, length-drop, length-take-le, drop-drop}
+use Rattle.std.proofs.Common.{◌≡◌, ℕ, ◌+◌, ◌-◌, ◌<◌, ◌≤◌, List, ◌++◌, length, take, drop, Some, Ok, true, refl, ap, sym, ◌∙◌, arith, length-append, length-drop, length-take-le}
+use Rattle.std.proofs.Common.{drop-drop}
 use Rattle.std.proofs.lemmas.Bool.{false≢true}
 use Rattle.std.proofs.Math.Seq.{take-append_seam}
 use Rattle.std.proofs.lemmas.List.{take-append-drop, drop_all, drop-take}
@@ -28,5 +29,13 @@ reads_front bytes left front buf at n faults is copied inside within stops =
       gave = rw (given, rest) (ap Some (sym (take-append-drop n left)));
       ends = λ none room. sym is ∙ drop_all at bytes (stops none (omega arith));
       kept = tt;
-      count = record { later = omega arith; rose = λ failed. absurd (false≢true failed); sure = refl; succeeds = λ _ failed. false≢true failed; calm = λ _. refl; tells = λ _. refl; calm_told = λ _ _. refl };
+      count = record {
+        later = omega arith;
+        rose = λ failed. absurd (false≢true failed);
+        sure = refl;
+        succeeds = λ _ failed. false≢true failed;
+        calm = λ _. refl;
+        tells = λ _. refl;
+        calm_told = λ _ _. refl;
+      };
     }

@@ -4,7 +4,7 @@ use Rattle.std.specs.Prelude.{Option, Some, None, IsSome, Result, Ok, Err, optio
 use Rattle.std.specs.Io.KnownBytes.{append_known}
 use Rattle.outer_ports.specs.Sources.{SourceView, SourceTells, ReadsSome}
 use Rattle.outer_ports.specs.disk.States.{DiskState}
-use Rattle.outer_ports.specs.disk.Moments.{History, after_moment, MayHaveWritten}
+use Rattle.outer_ports.specs.disk.Moments.{History, past_after_step, MayHaveWritten}
 use Rattle.outer_ports.specs.disk.Disks.{DiskView, DiskTells, Looks, WritesAt, Syncs}
 use Rattle.outer_ports.specs.wire.Wires.{WireView, WireTells, out_of, Dials, WireReads, WireWrites}
 use Rattle.outer_ports.specs.dock.Steps.{GivesSome}
@@ -30,7 +30,7 @@ read_tells result old new buf r = r.count.tells
 pub look_tells : {E T : Type 0} (result : Result T E) (old new : DiskView) → Looks {E = E} {T = T} old new result → DiskTells old → DiskTells new
 look_tells result old new l = same_tells l.past
 
-after_tells : (f : DiskState → DiskState) (old new : Option History) → new ≡ after_moment f old → IsSome old → IsSome new
+after_tells : (f : DiskState → DiskState) (old new : Option History) → new ≡ past_after_step f old → IsSome old → IsSome new
 after_tells f None new is tells = absurd (cc tells)
 after_tells f (Some h) new is tells = same_tells is refl
 
@@ -38,7 +38,8 @@ torn_tells : (at n : ℕ) (old new : Option History) → MayHaveWritten at n old
 torn_tells at n old new (inl same) = same_tells same
 torn_tells at n old new (inr torn) = after_tells _ old new torn.1
 
-pub write_at_tells : {E T : Type 0} (result : Result T E) (old new : DiskView) (at : ℕ) (bytes : List ℕ) → WritesAt {E = E} {T = T} old new result at bytes → DiskTells old → DiskTells new
+pub write_at_tells : {E T : Type 0} (result : Result T E) (old new : DiskView) (at : ℕ) (bytes : List ℕ) → WritesAt {E = E} {T = T} old new result at bytes → DiskTells old
+    → DiskTells new
 write_at_tells (Ok x) old new at bytes w = after_tells _ old.past new.past w.wrote
 write_at_tells (Err e) old new at bytes w = torn_tells _ _ old.past new.past w.torn
 

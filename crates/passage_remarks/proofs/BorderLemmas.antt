@@ -1,5 +1,6 @@
 -- The borders of clusters, as they are kept and as they are counted.
-use Rattle.std.proofs.Common.{List, [], ap, arith, cond, drop, false, get_or, length, map, refl, suc, sym, take, true, zero, ℕ, ◌+◌, ◌++◌, ◌<◌, ◌∙◌, ◌∷◌, ◌≡◌, ◌≤◌, append_assoc, length-append, take-add, subst, ◌-◌}
+use Rattle.std.proofs.Common.{List, [], ap, arith, cond, drop, false, get_or, length, map, refl, suc, sym, take, true, zero, ℕ, ◌+◌, ◌++◌, ◌<◌, ◌∙◌, ◌∷◌, ◌≡◌, ◌≤◌, append_assoc}
+use Rattle.std.proofs.Common.{length-append, take-add, subst, ◌-◌}
 use Rattle.std.specs.Prelude.{Bool, count_by, if◌then◌else◌, nat_le, nat_lt}
 use Rattle.std.specs.List.{concat}
 use Rattle.std.specs.List.Sorted.{IsNonDecreasingBy, IsPartitionPoint}
@@ -65,7 +66,8 @@ point-counts p (x ∷ xs) zero l pt =
     let first : p x ≡ false = pt.1 0 x (omega arith) (omega arith) in
     omega (arith, rest, count-more p x xs, ap one_if first)
 point-counts p (x ∷ xs) (suc k) l pt =
-    let rest : k ≡ count_by p xs = point-counts p xs k (omega (arith, l)) (λ i d m j. pt.0 (suc i) d (omega arith) (omega (arith, j)), λ i d m j. pt.1 (suc i) d (omega (arith, m)) (omega (arith, j))) in
+    let rest : k ≡ count_by p xs =
+    point-counts p xs k (omega (arith, l)) (λ i d m j. pt.0 (suc i) d (omega arith) (omega (arith, j)), λ i d m j. pt.1 (suc i) d (omega (arith, m)) (omega (arith, j))) in
     let first : p x ≡ true = pt.0 0 x (omega arith) (omega arith) in
     omega (arith, rest, count-more p x xs, ap one_if first)
 

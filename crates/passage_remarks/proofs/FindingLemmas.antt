@@ -25,4 +25,5 @@ module _ (h : List Op) (passage : List ℕ) where
       ∙ (let e : told_count (told_count (length (p ∷ o ∷ more)) + 1) ≡ told_count (length (p ∷ o ∷ (more ++ q ∷ []))) = omega (arith, length-append more (q ∷ [])) in ap Often e)
   found_both (p ∷ o ∷ more) (q ∷ r ∷ others) f g a b =
       (λ i. found_together (a i) (b i))
-      ∙ (let e : told_count (told_count (length (p ∷ o ∷ more)) + told_count (length (q ∷ r ∷ others))) ≡ told_count (length (p ∷ o ∷ (more ++ q ∷ r ∷ others))) = omega (arith, length-append more (q ∷ r ∷ others)) in ap Often e)
+      ∙ (let e : told_count (told_count (length (p ∷ o ∷ more)) + told_count (length (q ∷ r ∷ others))) ≡ told_count (length (p ∷ o ∷ (more ++ q ∷ r ∷ others))) = omega
+      (arith, length-append more (q ∷ r ∷ others)) in ap Often e)

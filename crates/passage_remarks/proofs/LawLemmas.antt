@@ -11,7 +11,7 @@ use Rattle.fugue_ids.proofs.IdentifierLemmas.{id_eq-refl}
 use Rattle.origin_model.specs.order.Printed.{is_hidden, is_withdrawn}
 use Rattle.margin_notes.specs.Comments.{Comment, comment_in, comments_in}
 use Rattle.margin_notes.specs.Listing.{commented_section}
-use Rattle.margin_notes.specs.Placing.{PlacedComment, placed_in_section, placed_from, placed_comments, placed_in}
+use Rattle.margin_notes.specs.Placing.{PlacedComment, placed_in_section, placed_comment, placed_comments, placed_in}
 use Rattle.margin_notes.proofs.KeptLemmas.{said_from, said_in}
 use Rattle.margin_notes.proofs.MemberLemmas.{from_comments, has_section, section_is, to_comments}
 use Rattle.passage_remarks.specs.Laws.{IsRemark, RemarksAreComments, WithdrawnIsGone}
@@ -25,15 +25,16 @@ record IsPlacedBy (h : List Op) (op : Op) (p : PlacedComment) : Type 0 where
   says : comment_in op ≡ Some comment
   stands : is_withdrawn h comment.id ≡ false
   in_section : commented_section h comment ≡ Some p.section
-  is : p ≡ placed_from h comment p.section
+  is : p ≡ placed_comment h comment p.section
 
 placed_by : (h : List Op) (op : Op) (p : PlacedComment) → placed_in h op ≡ Some p → IsPlacedBy h op p
 placed_by h op p e = by (comment_in op) refl e
   where
-    at : (c : Comment) (o : Option Identifier) → comment_in op ≡ Some c → is_withdrawn h c.id ≡ false → commented_section h c ≡ o → option_map (placed_from h c) o ≡ Some p → IsPlacedBy h op p
+    at : (c : Comment) (o : Option Identifier) → comment_in op ≡ Some c → is_withdrawn h c.id ≡ false → commented_section h c ≡ o → option_map (placed_comment h c) o ≡ Some p
+        → IsPlacedBy h op p
     at c None says stands k e = cc
     at c (Some s) says stands k e =
-        let d : placed_from h c s ≡ p = cc in
+        let d : placed_comment h c s ≡ p = cc in
         subst (IsPlacedBy h op) d (record { comment = c; says = says; stands = stands; in_section = k; is = refl })
 
     by : (o : Option Comment) → comment_in op ≡ o → (elim o [ None ↦ None | Some c ↦ if is_withdrawn h c.id then None else placed_in_section h c ]) ≡ Some p → IsPlacedBy h op p
@@ -45,11 +46,12 @@ placed_by h op p e = by (comment_in op) refl e
         ]
 
 -- and the comments that are placed
-places : (h : List Op) (op : Op) (c : Comment) (s : Identifier) → comment_in op ≡ Some c → is_withdrawn h c.id ≡ false → commented_section h c ≡ Some s → placed_in h op ≡ Some (placed_from h c s)
+places : (h : List Op) (op : Op) (c : Comment) (s : Identifier) → comment_in op ≡ Some c → is_withdrawn h c.id ≡ false → commented_section h c ≡ Some s
+    → placed_in h op ≡ Some (placed_comment h c s)
 places h op c s says stands k =
     ap (λ o. elim o [ None ↦ None | Some c ↦ if is_withdrawn h c.id then None else placed_in_section h c ]) says
     ∙ ap (λ b. if b then None else placed_in_section h c) stands
-    ∙ ap (option_map (placed_from h c)) k
+    ∙ ap (option_map (placed_comment h c)) k
 
 -- the remark of a comment
 of_comment : (h : List Op) (p : PlacedComment) (r : Remark) → remark_of h p ≡ Some r → (section_place h p.section ≡ Some r.place) × (r ≡ remark_at p r.place)
@@ -76,14 +78,15 @@ remark_is h r m =
           subst (λ x. Contains (comments_in h x) b.comment) (sym s)
           (to_comments h p.section b.comment (record { op = o.0; member = held; says = b.says; in_section = section_is h b.comment p.section b.in_section; stands = b.stands }));
       placed = ap (section_place h) s ∙ e.0;
-      says = e.1 ∙ ap (λ (x : PlacedComment). remark_at x r.place) b.is ∙ ap (λ x. remark_at (placed_from h b.comment x) r.place) (sym s);
+      says = e.1 ∙ ap (λ (x : PlacedComment). remark_at x r.place) b.is ∙ ap (λ x. remark_at (placed_comment h b.comment x) r.place) (sym s);
     }
 
 is_remark : (h : List Op) (r : Remark) → IsRemark h r → Contains (remarks h) r
 is_remark h r i =
     let c = from_comments h r.section i.comment i.listed in
-    let here : placed_in h c.op ≡ Some (placed_from h i.comment r.section) = places h c.op i.comment r.section c.says c.stands (has_section h i.comment r.section c.in_section) in
-    let p : PlacedComment = placed_from h i.comment r.section in
+    let here : placed_in h c.op ≡ Some (placed_comment h i.comment r.section) =
+    places h c.op i.comment r.section c.says c.stands (has_section h i.comment r.section c.in_section) in
+    let p : PlacedComment = placed_comment h i.comment r.section in
     let held : Contains (reverse h) c.op = Contains-permutation h (reverse h) c.op (IsPermutation-reverse h) c.member in
     in_order_in (found h) r
     (said_in (remark_of h) (placed_comments h) p r (said_in (placed_in h) (reverse h) c.op p held here) (ap (option_map (remark_at p)) i.placed ∙ ap Some (sym i.says)))

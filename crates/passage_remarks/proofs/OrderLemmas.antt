@@ -47,7 +47,8 @@ before_irrefl a e =
 pub before_trans : (a b c : Remark) → Before a b → Before b c → Before a c
 before_trans a b c e f = decides a.place c.place a.from c.from (id_lt a.id c.id) (both (stands a b e) (stands b c f))
   where
-    both : Decides a.place b.place a.from b.from (id_lt a.id b.id) → Decides b.place c.place b.from c.from (id_lt b.id c.id) → Decides a.place c.place a.from c.from (id_lt a.id c.id)
+    both : Decides a.place b.place a.from b.from (id_lt a.id b.id) → Decides b.place c.place b.from c.from (id_lt b.id c.id)
+        → Decides a.place c.place a.from c.from (id_lt a.id c.id)
     both (inl l) (inl m) = inl (omega (arith, l, m))
     both (inl l) (inr m) = inl (omega (arith, l, m.0))
     both (inr l) (inl m) = inl (omega (arith, l.0, m))

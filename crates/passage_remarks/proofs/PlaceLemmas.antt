@@ -67,4 +67,6 @@ section_new xs i x apart more below m =
     none n = omega arith
 
     get_or_append_at : (ys : List Identifier) (z : Identifier) (n : ℕ) → length ys ≡ n → get_or (ys ++ z ∷ []) n z ≡ z
-    get_or_append_at ys z n e = ap (λ k. get_or (ys ++ z ∷ []) k z) (sym e) ∙ get_or-append_right ys (z ∷ []) (length ys) (length ys) z refl (omega arith) ∙ ap (λ k. get_or (z ∷ []) k z) (none (length ys))
+    get_or_append_at ys z n e =
+        ap (λ k. get_or (ys ++ z ∷ []) k z) (sym e) ∙ get_or-append_right ys (z ∷ []) (length ys) (length ys) z refl (omega arith)
+        ∙ ap (λ k. get_or (z ∷ []) k z) (none (length ys))

@@ -34,7 +34,8 @@ is_of h p r e = by (section_place h p.section) refl e
 
 pub found_apart : (h : List Op) → Lawful h → AllPairs Others (found h)
 found_apart h w =
-    said_pairs (remark_of h) (λ (a b : PlacedComment). a.id ≢ b.id) Others (λ a b u v other e f d. other (sym (is_of h a u e).own ∙ d ∙ (is_of h b v f).own)) (placed_comments h) (placed_apart h w)
+    said_pairs (remark_of h) (λ (a b : PlacedComment). a.id ≢ b.id) Others (λ a b u v other e f d. other (sym (is_of h a u e).own ∙ d ∙ (is_of h b v f).own)) (placed_comments h)
+    (placed_apart h w)
 
 pub remark_placed : (h : List Op) (r : Remark) → Contains (remarks h) r → IsRemarkPlaced h r
 remark_placed h r m =

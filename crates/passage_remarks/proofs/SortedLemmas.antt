@@ -43,7 +43,8 @@ not_greater ops a b n d =
       | inr k ↦ absurd (true≢false (sym (lower ops b a (before_other (entry_remark ops a) (entry_remark ops b) d k)) ∙ n))
     ]
 
-module _ (ops : List Op) (rs : List Remark) (others : AllPairs Others rs) (es fs : List Entry) (are : map (entry_remark ops) es ≡ rs) (p : IsPermutation es fs) (sorted : IsSorted entry_cmp fs) where
+module _ (ops : List Op) (rs : List Remark) (others : AllPairs Others rs) (es fs : List Entry) (are : map (entry_remark ops) es ≡ rs) (p : IsPermutation es fs)
+    (sorted : IsSorted entry_cmp fs) where
   abbrev remark : Entry → Remark
   remark = entry_remark ops
 
@@ -54,7 +55,8 @@ module _ (ops : List Op) (rs : List Remark) (others : AllPairs Others rs) (es fs
   ordered =
       all_pairs_map remark Before fs
       (λ i j d l m.
-      not_greater ops (get_or fs i d) (get_or fs j d) (sorted_far (λ a b. is_lt (entry_cmp a b)) (ranks_by entries_total (λ e. e)) fs sorted i j d (omega (arith, l)) m) (apart i j d l m))
+      not_greater ops (get_or fs i d) (get_or fs j d) (sorted_far (λ a b. is_lt (entry_cmp a b)) (ranks_by entries_total (λ e. e)) fs sorted i j d (omega (arith, l)) m)
+      (apart i j d l m))
 
   shuffled : IsPermutation rs (map remark fs)
   shuffled = subst (λ l. IsPermutation l (map remark fs)) are (IsPermutation-map remark es fs p)

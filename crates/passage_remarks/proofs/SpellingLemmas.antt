@@ -91,7 +91,8 @@ one_more word done rest behind b is first =
     push (y ∷ xs) x = ap (λ l. escaped_byte y ++ l) (push xs x) ∙ sym (append_assoc (escaped_byte y) (word_of_passage xs) (escaped_byte x))
 
 -- where no byte is read of what is left, the word spells nothing
-pub stuck : (word done rest other : List ℕ) → word ≡ word_of_passage done ++ rest → 0 < length rest → ((b : ℕ) (y : List ℕ) → rest ≢ escaped_byte b ++ y) → word ≢ word_of_passage other
+pub stuck : (word done rest other : List ℕ) → word ≡ word_of_passage done ++ rest → 0 < length rest → ((b : ℕ) (y : List ℕ) → rest ≢ escaped_byte b ++ y)
+    → word ≢ word_of_passage other
 stuck word done rest other is some none whole =
     let behind = behind_front done other rest (sym is ∙ whole) in
     first behind.0 behind.2
@@ -137,7 +138,8 @@ some_unless [] b e t = let f : false ≡ true = sym (ap not e) ∙ t in cc
 some_unless (c ∷ word) b e t = omega arith
 
 pub unless_some : (word : List ℕ) (b : Bool) → b ≡ nat_eq (length word) 0 → 0 < length word → not b ≡ true
-unless_some word b e some = elim (cases_Bool (nat_eq (length word) 0)) [ inl z ↦ absurd (let none = eqb-true (length word) 0 z in omega (arith, some, none)) | inr n ↦ ap not (e ∙ n) ]
+unless_some word b e some =
+    elim (cases_Bool (nat_eq (length word) 0)) [ inl z ↦ absurd (let none = eqb-true (length word) 0 z in omega (arith, some, none)) | inr n ↦ ap not (e ∙ n) ]
 
 pub spells : (word done rest : List ℕ) → word ≡ word_of_passage done ++ rest → length rest ≡ 0 → 0 < length word → IsSpelled word
 spells word done rest is none some =

@@ -88,8 +88,10 @@ pub record IsAccepted (old new : State) (x : Identifier) : Type 0 where
   pub gained : Gains old new (Delete x ∷ [])
   pub settled : IsSettled new.held
 
-pub is_accepted : (old new : State) (x : Identifier) (t : Taken) → length old.held.history + length old.held.waiting ≤ old.most → IsSettled old.held → verdict old.held.history (Delete x) ≡ Ready
-    → Answers old.hold old.most (Delete x) (answer old.hold old.most old.held (Delete x)) (Ok t) → new ≡ record old { held = held_after (answer old.hold old.most old.held (Delete x)) old.held (Delete x) }
+pub is_accepted : (old new : State) (x : Identifier) (t : Taken) → length old.held.history + length old.held.waiting ≤ old.most → IsSettled old.held
+    → verdict old.held.history (Delete x) ≡ Ready
+    → Answers old.hold old.most (Delete x) (answer old.hold old.most old.held (Delete x)) (Ok t)
+    → new ≡ record old { held = held_after (answer old.hold old.most old.held (Delete x)) old.held (Delete x) }
     → IsAccepted old new x
 is_accepted old new x t few settled ready told is =
     let h : List Op = old.held.history in
@@ -132,5 +134,7 @@ not_refused s n r told room =
     ap (λ o. elim o [ None ↦ Some NoComment | Some q ↦ option_map as_withdraw_fault (refused_ops s 1) ]) told ∙ ap (option_map as_withdraw_fault) room in
     record {
       only = λ fault some e. cc;
-      always = subst (λ o. IfSome o (λ (fault : WithdrawFault). ◌⊎◌ (◌≡◌ {A = Result (Unit {0}) WithdrawFault} (Ok tt) (Err fault)) (◌≡◌ {A = Result (Unit {0}) WithdrawFault} (Ok tt) (Err NoMemory)))) (sym none) tt;
+      always = subst (λ o. IfSome o
+          (λ (fault : WithdrawFault). ◌⊎◌ (◌≡◌ {A = Result (Unit {0}) WithdrawFault} (Ok tt) (Err fault)) (◌≡◌ {A = Result (Unit {0}) WithdrawFault} (Ok tt) (Err NoMemory))))
+          (sym none) tt;
     }

@@ -9,7 +9,7 @@ use Rattle.fugue_ids.specs.declared.op.Op.{Op}
 use Rattle.origin_model.specs.order.Printed.{text}
 use Rattle.catalogue_notes.specs.Arranged.{arranged}
 use Rattle.margin_notes.specs.Commenting.{clusters_of}
-use Rattle.passage_remarks.specs.Clusters.{borders_from, passage_clusters, cluster_ends, first_cluster, in_line, line_with_spaces, cluster_starts}
+use Rattle.passage_remarks.specs.Clusters.{borders_from, passage_cluster_count, cluster_ends, first_cluster, in_line, byte_in_line, cluster_starts}
 use Rattle.passage_remarks.specs.Listing.{IsRemarkPlaced, section_texts}
 use Rattle.passage_remarks.specs.Remarks.{Remark, remark_told, remarks_from}
 
@@ -27,7 +27,8 @@ module _ {X : Type 0} (h : List Op) (f : X → Remark) (xs : List X) where
   remarks_none i past = ap (remarks_from h (suc i)) (drop_all i (map f xs) (omega (arith, length-map xs f)))
 
 -- the text of the section at a place
-text_there : (g : Identifier → List ℕ) (ss : List Identifier) (k : ℕ) (s : Identifier) (d : List ℕ) → slice_get ss k ≡ Some s → (k < length (map g ss)) × (get_or (map g ss) k d ≡ g s)
+text_there : (g : Identifier → List ℕ) (ss : List Identifier) (k : ℕ) (s : Identifier) (d : List ℕ) → slice_get ss k ≡ Some s
+    → (k < length (map g ss)) × (get_or (map g ss) k d ≡ g s)
 text_there g [] k s d e = cc
 text_there g (x ∷ ss) zero s d e = let is : x ≡ s = cc in (omega arith, ap g is)
 text_there g (x ∷ ss) (suc k) s d e = let r = text_there g ss k s d e in (omega (arith, r.0), r.1)
@@ -41,9 +42,9 @@ page_there h r pages d are placed =
     )
 
 -- the bytes of a line, one after another
-pub in_line_each : (bytes : List ℕ) → flat_map (λ b. line_with_spaces b ∷ []) bytes ≡ in_line bytes
+pub in_line_each : (bytes : List ℕ) → flat_map (λ b. byte_in_line b ∷ []) bytes ≡ in_line bytes
 in_line_each [] = refl
-in_line_each (b ∷ bs) = ap (λ l. line_with_spaces b ∷ l) (in_line_each bs)
+in_line_each (b ∷ bs) = ap (λ l. byte_in_line b ∷ l) (in_line_each bs)
 
 -- there is one border more than there are clusters
 borders_count : (n : ℕ) (cs : List (List ℕ)) → length (borders_from n cs) ≡ suc (length cs)
@@ -51,7 +52,7 @@ borders_count n [] = refl
 borders_count n (c ∷ cs) = ap suc (borders_count (n + length (chars c)) cs)
 
 -- the clusters of a passage are some of the text
-pub clusters_within : (cs : List (List ℕ)) (from to : ℕ) → first_cluster cs from + passage_clusters cs from to ≤ length cs
+pub clusters_within : (cs : List (List ℕ)) (from to : ℕ) → first_cluster cs from + passage_cluster_count cs from to ≤ length cs
 clusters_within cs from to =
     let borders : List ℕ = borders_from 0 cs in
     let p = count_by-le-length (λ end. nat_le end from) (cluster_ends cs) in

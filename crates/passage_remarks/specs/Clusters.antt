@@ -8,7 +8,7 @@ abbrev pub borders_from : ℕ → List (List ℕ) → List ℕ
 borders_from n [] = n ∷ []
 borders_from n (c ∷ cs) = n ∷ borders_from (n + length (chars c)) cs
 
--- where each cluster begins, and where it ends
+-- where each cluster begins
 abbrev pub cluster_starts : List (List ℕ) → List ℕ
 cluster_starts cs = take (length cs) (borders_from 0 cs)
 
@@ -21,17 +21,18 @@ abbrev pub first_cluster : List (List ℕ) → (from : ℕ) → ℕ
 first_cluster cs from = count_by (λ end. nat_le end from) (cluster_ends cs)
 
 -- how many clusters have scalars of the passage from `from` to `to`
-abbrev pub passage_clusters : List (List ℕ) → (from to : ℕ) → ℕ
-passage_clusters cs from to = if nat_lt from to then count_by (λ start. nat_lt start to) (cluster_starts cs) - first_cluster cs from else 0
+abbrev pub passage_cluster_count : List (List ℕ) → (from to : ℕ) → ℕ
+passage_cluster_count cs from to =
+    if nat_lt from to then count_by (λ start. nat_lt start to) (cluster_starts cs) - first_cluster cs from else 0
 
 -- the text of so many clusters, from the cluster `first` on
 abbrev pub cluster_text : List (List ℕ) → (first count : ℕ) → List ℕ
 cluster_text cs first count = concat (take count (drop first cs))
 
 -- the bytes of a text in one line: each LF is a space
-abbrev pub line_with_spaces : ℕ → ℕ
-line_with_spaces byte = if nat_eq byte 10 then 32 else byte
+abbrev pub byte_in_line : ℕ → ℕ
+byte_in_line byte = if nat_eq byte 10 then 32 else byte
 
 -- the bytes of a text in one line
 abbrev pub in_line : List ℕ → List ℕ
-in_line text = map line_with_spaces text
+in_line text = map byte_in_line text

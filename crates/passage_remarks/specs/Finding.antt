@@ -32,27 +32,28 @@ abbrev pub told_count : ℕ → ℕ
 told_count n = min n (2 ^ 32 - 1)
 
 -- the place by the number of its section, and in clusters
-pub record IsRemarkSpot (h : List Op) (passage : List ℕ) (place : Identifier × ℕ) (spot : Spot) : Type 0 where
+pub record IsPassageSpot (h : List Op) (passage : List ℕ) (place : Identifier × ℕ) (spot : Spot) : Type 0 where
   pub numbered : slice_get (shown catalogue h) spot.section ≡ Some place.0
   pub spanned : spot.span ≡ passage_span h passage place
 
 -- what is found, where those are the places
 abbrev pub AreFoundAt : List Op → (passage : List ℕ) → List (Identifier × ℕ) → Found → Type 0
 AreFoundAt h passage [] found = found ≡ Nowhere
-AreFoundAt h passage (place ∷ []) found = (spot : Spot) × (found ≡ Once spot) × IsRemarkSpot h passage place spot
+AreFoundAt h passage (place ∷ []) found = (spot : Spot) × (found ≡ Once spot) × IsPassageSpot h passage place spot
 AreFoundAt h passage (place ∷ next ∷ more) found = found ≡ Often (told_count (length (place ∷ next ∷ more)))
 
 -- what is found in the text of the section with this number, by the places in it
 abbrev pub found_in_section : (section : ℕ) → (text passage : List ℕ) → List ℕ → Found
 found_in_section section text passage [] = Nowhere
-found_in_section section text passage (at ∷ []) = Once (record { section = section; span = clusters_spanned (clusters text) at (at + length passage) })
+found_in_section section text passage (at ∷ []) =
+    Once (record { section = section; span = clusters_spanned (clusters text) at (at + length passage) })
 found_in_section section text passage (at ∷ next ∷ more) = Often (told_count (length (at ∷ next ∷ more)))
 
 -- how many times a passage was found
-abbrev pub remark_count : Found → ℕ
-remark_count Nowhere = 0
-remark_count (Once spot) = 1
-remark_count (Often count) = count
+abbrev pub found_count : Found → ℕ
+found_count Nowhere = 0
+found_count (Once spot) = 1
+found_count (Often count) = count
 
 -- what is found in two parts
 abbrev pub found_together : Found → Found → Found

@@ -10,7 +10,14 @@ use Rattle.passage_remarks.specs.declared.entry.Entry.{Entry}
 
 -- the remark that an entry stands for: the text stands in the operation at its position
 abbrev pub entry_remark : List Op → Entry → Remark
-entry_remark ops e = record { place = e.place; section = e.section; from = e.from; to = e.to; id = e.id; text = body_of (slice_get ops e.at) }
+entry_remark ops e = record {
+  place = e.place;
+  section = e.section;
+  from = e.from;
+  to = e.to;
+  id = e.id;
+  text = body_of (slice_get ops e.at);
+}
 
 -- the texts of the arranged sections
 abbrev pub section_texts : List Op → List (List ℕ)

@@ -10,7 +10,7 @@ use Rattle.origin_model.specs.edits.State.{State}
 use Rattle.margin_notes.specs.Commenting.{IsCommentMade, IsCommented}
 use Rattle.margin_notes.specs.declared.commenting.CommentFault.{CommentFault}
 use Rattle.margin_notes.specs.declared.commenting.CommentFault.TheVariants as comment
-use Rattle.passage_remarks.specs.Finding.{IsRemarkSpot, passage_places, passage_span, told_count}
+use Rattle.passage_remarks.specs.Finding.{IsPassageSpot, passage_places, passage_span, told_count}
 use Rattle.passage_remarks.specs.declared.finding.Spot.{Spot}
 use Rattle.passage_remarks.specs.declared.remarking.RemarkFault.{RemarkFault}
 use Rattle.passage_remarks.specs.declared.remarking.RemarkFault.TheVariants.{NotFound, FoundOften, IdsSpent, TooMany, NoMemory}
@@ -39,8 +39,10 @@ pub record IsRemarked (old new : State) (passage body : List ℕ) : Type 0 where
   pub once : passage_places old.held.history passage ≡ place ∷ []
   pub section : ℕ
   pub numbered : section_shown old section ≡ Some place.0
-  pub made : IsCommentMade old new section (passage_span old.held.history passage place).first (passage_span old.held.history passage place).count body 1
-  pub spanned : IsCommented old new section (passage_span old.held.history passage place).first (passage_span old.held.history passage place).count body
+  pub made : IsCommentMade old new section (passage_span old.held.history passage place).first
+      (passage_span old.held.history passage place).count body 1
+  pub spanned : IsCommented old new section (passage_span old.held.history passage place).first
+      (passage_span old.held.history passage place).count body
 
 -- a refusal comes with its cause alone, and where there is a cause, its refusal comes, or want of memory
 pub record Refuses (cause : Option RemarkFault) (result : Result (Unit {0}) RemarkFault) : Type 0 where
@@ -51,7 +53,7 @@ pub record Refuses (cause : Option RemarkFault) (result : Result (Unit {0}) Rema
 pub record IsOnly (h : List Op) (passage : List ℕ) (spot : Spot) : Type 0 where
   pub place : Identifier × ℕ
   pub once : passage_places h passage ≡ place ∷ []
-  pub there : IsRemarkSpot h passage place spot
+  pub there : IsPassageSpot h passage place spot
 
 -- a fault of a comment on clusters that are there, as a remark tells it
 abbrev pub of_comment_fault : CommentFault → RemarkFault

@@ -1,12 +1,14 @@
--- Remarks: the comments on a manuscript, in the order in which a reader of the arranged sections comes to them, with the passages that they are about.
-use Rattle.std.specs.Prelude.{ℕ, suc, nat_eq, nat_lt, Option, Bool, ◌&&◌, ◌||◌, if◌then◌else◌, List, [], ◌∷◌, ◌++◌, codes, decimal, flat_map, option_map, option_to_list}
+-- Remarks: the comments on a manuscript, in the order in which a reader of the arranged sections comes to them, with
+-- the passages that they are about.
+use Rattle.std.specs.Prelude.{ℕ, suc, nat_eq, nat_lt, Option, Bool, ◌&&◌, ◌||◌, if◌then◌else◌, List, [], ◌∷◌, ◌++◌, codes, decimal}
+use Rattle.std.specs.Prelude.{flat_map, option_map, option_to_list}
 use Rattle.fugue_ids.specs.Identifiers.{Identifier, id_lt}
 use Rattle.fugue_ids.specs.declared.op.Op.{Op}
 use Rattle.catalogue_notes.specs.Arranged.{arranged}
 use Rattle.margin_notes.specs.Commenting.{clusters_of}
 use Rattle.margin_notes.specs.Listing.{number_from}
 use Rattle.margin_notes.specs.Placing.{PlacedComment, placed_comments}
-use Rattle.passage_remarks.specs.Clusters.{passage_clusters, cluster_text, first_cluster, in_line}
+use Rattle.passage_remarks.specs.Clusters.{passage_cluster_count, cluster_text, first_cluster, in_line}
 
 -- a comment of an arranged section: the place of the section, from 1, the section, the passage in scalars, and what the comment says
 pub record Remark : Type 0 where
@@ -48,12 +50,13 @@ abbrev pub remarks : List Op → List Remark
 remarks h = in_order (flat_map (λ p. option_to_list (remark_of h p)) (placed_comments h))
 
 -- two spaces, the passage in one line, LF; an empty passage has no line
-abbrev pub remark_line : (count : ℕ) → List ℕ → List ℕ
-remark_line count passage = if nat_eq count 0 then [] else codes "  " ++ in_line passage ++ 10 ∷ []
+abbrev pub quotation_line : (count : ℕ) → List ℕ → List ℕ
+quotation_line count passage = if nat_eq count 0 then [] else codes "  " ++ in_line passage ++ 10 ∷ []
 
 -- the number of the remark, a colon, the place of the section, the first cluster, how many there are, and `by`
 abbrev pub place_told : (number place first count : ℕ) → List ℕ
-place_told number place first count = decimal number ++ codes ": " ++ decimal place ++ 32 ∷ decimal first ++ 32 ∷ decimal count ++ codes " by "
+place_told number place first count =
+    decimal number ++ codes ": " ++ decimal place ++ 32 ∷ decimal first ++ 32 ∷ decimal count ++ codes " by "
 
 -- the replica that made the comment, its text, LF
 abbrev pub text_told : (replica : ℕ) → List ℕ → List ℕ
@@ -63,12 +66,13 @@ text_told replica text = decimal replica ++ 32 ∷ text ++ 10 ∷ []
 abbrev pub head_line : (number : ℕ) → Remark → (first count : ℕ) → List ℕ
 head_line number r first count = place_told number r.place first count ++ text_told r.id.replica r.text
 
--- what is told of a remark with this number, by the clusters of its section: its passage goes from the border before it to the border behind it
+-- what is told of a remark with this number, by the clusters of its section: its passage goes from the border before it
+-- to the border behind it
 abbrev pub remark_told : List (List ℕ) → (number : ℕ) → Remark → List ℕ
 remark_told cs number r =
     let first = first_cluster cs r.from in
-    let count = passage_clusters cs r.from r.to in
-    head_line number r first count ++ remark_line count (cluster_text cs first count)
+    let count = passage_cluster_count cs r.from r.to in
+    head_line number r first count ++ quotation_line count (cluster_text cs first count)
 
 -- what is told of remarks, of which the first has the number
 abbrev pub remarks_from : List Op → (number : ℕ) → List Remark → List ℕ

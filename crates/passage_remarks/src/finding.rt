@@ -3,7 +3,7 @@ ghost use Rattle.std.specs.Prelude.{◌≡◌, ◌≢◌, [], IfOk};
 ghost use Rattle.origin_model.specs.edits.State.{IsSound};
 ghost use Rattle.catalogue_notes.specs.Outlining.{IsEntry, IsOutline};
 ghost use Rattle.passage_search.specs.Places.{places as places_in};
-ghost use Rattle.passage_remarks.specs.Finding.{AreFoundAt, remark_count, found_in_section, passage_places, section_places, found_together};
+ghost use Rattle.passage_remarks.specs.Finding.{AreFoundAt, found_count, found_in_section, passage_places, section_places, found_together};
 
 use catalogue_notes::{Entry as Section, outline};
 use fugue_ids::NoMemory;
@@ -28,7 +28,7 @@ pub(crate) enum Found {
 
 impl Found {
     fn count(self) -> u32
-        ensures { result ≡ remark_count self }
+        ensures { result ≡ found_count self }
     {
         match self {
             Found::Nowhere => 0,

@@ -7,7 +7,7 @@ ghost use Rattle.unicode_segmentation.specs.Iter.{graphemes_left};
 ghost use Rattle.cluster_text.specs.Clusters.{clusters};
 ghost use Rattle.passage_remarks.specs.Borders.{kept_borders};
 ghost use Rattle.passage_remarks.specs.declared.page.Border.{Border as AnyBorder};
-ghost use Rattle.passage_remarks.specs.Clusters.{passage_clusters as count_in, cluster_text, first_cluster as first_in};
+ghost use Rattle.passage_remarks.specs.Clusters.{passage_cluster_count as count_in, cluster_text, first_cluster as first_in};
 
 use fugue_ids::NoMemory;
 use std::alloc::Global;

@@ -6,9 +6,9 @@ ghost use Rattle.origin_model.specs.edits.State.{IsSound};
 ghost use Rattle.catalogue_notes.specs.Printing.{WritesText};
 ghost use Rattle.cluster_text.specs.Clusters.{clusters};
 ghost use Rattle.margin_notes.specs.Listing.{body_of};
-ghost use Rattle.passage_remarks.specs.Clusters.{in_line, line_with_spaces as spaced_byte};
+ghost use Rattle.passage_remarks.specs.Clusters.{in_line, byte_in_line as spaced_byte};
 ghost use Rattle.passage_remarks.specs.Listing.{IsRemarkPlaced, entry_remark, section_texts};
-ghost use Rattle.passage_remarks.specs.Remarks.{head_line, remark_line, place_told, remark_told, remarks};
+ghost use Rattle.passage_remarks.specs.Remarks.{head_line, quotation_line, place_told, remark_told, remarks};
 ghost use Rattle.passage_remarks.specs.Remarks.{remarks_from, remarks_text, text_told};
 
 use crate::entry::Entry;
@@ -48,7 +48,7 @@ fn put_passage<O: Out>(
     passage: &[u8],
 ) -> Result<(), Failed>
     ensures { GathersText (O.seen output.old) (O.seen output.new) gather.old gather.new result
-        (remark_line count passage.now) }
+        (quotation_line count passage.now) }
 {
     if count == 0 {
         return gather.put(output, b"");

@@ -1,5 +1,6 @@
 -- The places of a passage, searched for one after another.
-use Rattle.std.proofs.Common.{◌≡◌, inl, inr, ℕ, zero, suc, ◌+◌, ◌-◌, ◌<◌, ◌≤◌, List, [], ◌∷◌, ◌++◌, length, drop, get_or, refl, ap, sym, subst, ◌∙◌, arith, length-append, length-drop}
+use Rattle.std.proofs.Common.{◌≡◌, inl, inr, ℕ, zero, suc, ◌+◌, ◌-◌, ◌<◌, ◌≤◌, List, [], ◌∷◌, ◌++◌, length, drop, get_or, refl, ap, sym, subst, ◌∙◌, arith, length-append}
+use Rattle.std.proofs.Common.{length-drop}
 use Rattle.std.specs.Prelude.{◌⊎◌, Bool, MatchOption, None, Option, Some, false, filter}
 use Rattle.std.specs.List.{range_with_len}
 use Rattle.std.proofs.lemmas.Bool.{cases_Bool, cases_lt}
@@ -109,7 +110,8 @@ module _ (text passage : List ℕ) where
 
   pub search_finds : (found : Places) (passed : ℕ) → passed ≤ length text → IsSearched found passed → (next : Option ℕ) → FindsNeedle text passage passed next → Finds found next
   search_finds found passed within searched None nowhere =
-      let all : places text passage ≡ below passed = no_more passed (length text - passed) (length text) (omega (arith, within)) (λ k low high. nowhere k low (omega (arith, high))) in
+      let all : places text passage ≡ below passed =
+      no_more passed (length text - passed) (length text) (omega (arith, within)) (λ k low high. nowhere k low (omega (arith, high))) in
       record { count_is = searched.count_is ∙ ap length (sym all); first_is = λ some. searched.first_is some ∙ ap (λ l. get_or l 0 0) (sym all) }
   search_finds found passed within searched (Some at) is =
       let same : below at ≡ below passed = no_more passed (at - passed) at (omega (arith, is.0.low)) is.0.before in (
@@ -131,12 +133,14 @@ module _ (text passage : List ℕ) where
     first_of [] n none = refl
     first_of (x ∷ l) n none = absurd (omega (arith, none))
 
-    pub search_goes_on : (next : Places) → next.count ≡ found.count + 1 → (found.count ≡ 0 → next.first ≡ at) → (0 < found.count → next.first ≡ found.first) → IsSearched next (at + 1)
+    pub search_goes_on : (next : Places) → next.count ≡ found.count + 1 → (found.count ≡ 0 → next.first ≡ at) → (0 < found.count → next.first ≡ found.first)
+        → IsSearched next (at + 1)
     search_goes_on next counted fresh kept = record {
       count_is = omega (arith, counted, searched.count_is, ap length one_more, length-append (below at) (at ∷ []));
       first_is = λ any. elim (cases_zero found.count) [
         | inl none ↦ fresh none ∙ sym (first_of (below at) at (sym searched.count_is ∙ none)) ∙ sym (ap (λ l. get_or l 0 0) one_more)
-        | inr more ↦ kept more ∙ searched.first_is more ∙ sym (get_or_append_left (below at) (at ∷ []) 0 0 (omega (arith, more, searched.count_is))) ∙ sym (ap (λ l. get_or l 0 0) one_more)
+        | inr more ↦ kept more ∙ searched.first_is more ∙ sym (get_or_append_left (below at) (at ∷ []) 0 0 (omega (arith, more, searched.count_is)))
+            ∙ sym (ap (λ l. get_or l 0 0) one_more)
       ];
       few = omega (arith, counted, searched.few);
     }

@@ -16,7 +16,8 @@ pub rest_of : (n : ℕ) (l : List ℕ) → take (length l - n) (drop n l) ≡ dr
 rest_of n l = take_all (length l - n) (drop n l) (omega (arith, length-drop n l))
 
 -- what a list that begins with another one is
-pub begins_with : (l front same_l same_front : List ℕ) → l ≡ same_l → front ≡ same_front → (begins : Bool) → begins ≡ starts_with nat_eq l front → begins ≡ true → same_l ≡ same_front ++ drop (length same_front) same_l
+pub begins_with : (l front same_l same_front : List ℕ) → l ≡ same_l → front ≡ same_front → (begins : Bool) → begins ≡ starts_with nat_eq l front → begins ≡ true
+    → same_l ≡ same_front ++ drop (length same_front) same_l
 begins_with l front same_l same_front e f begins is so =
     (starts_is Decides-eqb same_l same_front begins (is ∙ ap (λ m. starts_with nat_eq m front) e ∙ ap (starts_with nat_eq same_l) f)).0 so
 
@@ -38,9 +39,18 @@ module _ (text passage : List ℕ) where
         is.least (k - at) (omega (arith, low)) (omega (arith, low, high)) (period_between at (k - at) here (subst (OccursAt text passage) e there))
 
     -- the text goes on with the last step of the passage
-    pub place_repeats : step.repeats ≡ true → (rest : List ℕ) → drop (at + length passage) text ≡ drop (length passage - step.bytes) passage ++ rest → OccursAt text passage (at + step.bytes)
+    pub place_repeats : step.repeats ≡ true → (rest : List ℕ) → drop (at + length passage) text ≡ drop (length passage - step.bytes) passage ++ rest
+        → OccursAt text passage (at + step.bytes)
     place_repeats repeats rest behind = record {
-      fits = omega (arith, is.within, here.fits, ap length behind, length-drop (at + length passage) text, length-append (drop (length passage - step.bytes) passage) rest, length-drop (length passage - step.bytes) passage);
+      fits = omega (
+        arith,
+        is.within,
+        here.fits,
+        ap length behind,
+        length-drop (at + length passage) text,
+        length-append (drop (length passage - step.bytes) passage) rest,
+        length-drop (length passage - step.bytes) passage,
+      );
       reads = λ j inside. elim (cases_lt (j + step.bytes) (length passage)) [
         | inl within ↦
             let e : at + step.bytes + j ≡ at + (j + step.bytes) = omega arith in
@@ -60,7 +70,8 @@ module _ (passage : List ℕ) where
   pub period_of_rest : (d : ℕ) (rest : List ℕ) → passage ≡ drop d passage ++ rest → IsPeriod (slice_index passage) (length passage) d
   period_of_rest d rest e k short =
       let f : d + k ≡ k + d = omega arith in
-      ap (λ l. get_or l k 0) e ∙ get_or_append_left (drop d passage) rest 0 k (omega (arith, short, length-drop d passage)) ∙ get_or-drop d passage k 0 ∙ ap (λ n. get_or passage n 0) f
+      ap (λ l. get_or l k 0) e ∙ get_or_append_left (drop d passage) rest 0 k (omega (arith, short, length-drop d passage)) ∙ get_or-drop d passage k 0
+      ∙ ap (λ n. get_or passage n 0) f
 
   -- with a period of d bytes, any front that fits comes up again d bytes later
   front_again : (front d : ℕ) → 0 < d → d + front ≤ length passage → IsPeriod (slice_index passage) (length passage) d → OccursAt (drop 1 passage) (take front passage) (d - 1)
@@ -73,6 +84,7 @@ module _ (passage : List ℕ) where
   }
 
   -- the first front of that length comes up again first after s bytes
-  pub no_period : (front s : ℕ) → s + front ≤ length passage + 1 → Nowhere (OccursAt (drop 1 passage) (take front passage)) 0 (s - 1) → NoPeriodBelow (slice_index passage) (length passage) s
+  pub no_period : (front s : ℕ) → s + front ≤ length passage + 1 → Nowhere (OccursAt (drop 1 passage) (take front passage)) 0 (s - 1)
+      → NoPeriodBelow (slice_index passage) (length passage) s
   no_period front s fits nowhere d some less is =
       nowhere (d - 1) (omega arith) (omega (arith, some, less)) (front_again front d some (omega (arith, less, fits)) is)

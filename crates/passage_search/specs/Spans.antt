@@ -12,7 +12,7 @@ abbrev pub ends : (at : ℕ) → List (List ℕ) → List ℕ
 ends at [] = []
 ends at (c ∷ cs) = (at + length c) ∷ ends (at + length c) cs
 
--- how many clusters end at a byte or before it, and how many begin before one
+-- how many clusters end at a byte or before it
 abbrev pub ended_before : List (List ℕ) → ℕ → ℕ
 ended_before cs from = count_by (λ end. nat_le end from) (ends 0 cs)
 

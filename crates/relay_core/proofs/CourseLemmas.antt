@@ -13,10 +13,12 @@ use Rattle.relay_core.specs.Texts.{Beyond, SessionText, Greets, IsCourse, IsGree
 use Rattle.relay_core.proofs.TextLemmas.{Reads, behind, none_starts, outcome, reads, rest_takes, starts_take}
 
 -- the first bytes of a greeting
-pub greeting_goes : (limit : ℕ) (log : List (List ℕ)) (text : List ℕ) → IsGreetingFront text → TakesAll limit text (record { log = log; next = Goes unread }) (record { log = log; next = Goes (record { cursor = None; rest = text }) })
+pub greeting_goes : (limit : ℕ) (log : List (List ℕ)) (text : List ℕ) → IsGreetingFront text
+    → TakesAll limit text (record { log = log; next = Goes unread }) (record { log = log; next = Goes (record { cursor = None; rest = text }) })
 greeting_goes limit log [] is = refl
 greeting_goes limit log (first ∷ number) is =
-    subst (λ (x : ℕ). TakesAll limit (x ∷ number) (record { log = log; next = Goes unread }) (record { log = log; next = Goes (record { cursor = None; rest = x ∷ number }) })) (sym is.0) (by number is.1)
+    subst (λ (x : ℕ). TakesAll limit (x ∷ number) (record { log = log; next = Goes unread }) (record { log = log; next = Goes (record { cursor = None; rest = x ∷ number }) }))
+    (sym is.0) (by number is.1)
   where
     goes : List ℕ → Taken
     goes bytes = record { log = log; next = Goes (record { cursor = None; rest = bytes }) }
@@ -30,14 +32,17 @@ greeting_goes limit log (first ∷ number) is =
     by (a ∷ b ∷ c ∷ d ∷ more) few = absurd (omega (arith, few))
 
 -- a whole one
-pub greeting_takes : (limit : ℕ) (log : List (List ℕ)) (number : List ℕ) → length number ≡ 4 → TakesAll limit (greeting ∷ number) (record { log = log; next = Goes unread }) (at_cursor log (from_be_bytes w32 number))
+pub greeting_takes : (limit : ℕ) (log : List (List ℕ)) (number : List ℕ) → length number ≡ 4
+    → TakesAll limit (greeting ∷ number) (record { log = log; next = Goes unread }) (at_cursor log (from_be_bytes w32 number))
 greeting_takes limit log [] four = absurd (omega (arith, four))
 greeting_takes limit log (a ∷ []) four = absurd (omega (arith, four))
 greeting_takes limit log (a ∷ b ∷ []) four = absurd (omega (arith, four))
 greeting_takes limit log (a ∷ b ∷ c ∷ []) four = absurd (omega (arith, four))
 greeting_takes limit log (a ∷ b ∷ c ∷ d ∷ []) four =
-    takes-append limit (greeting ∷ a ∷ b ∷ c ∷ []) (d ∷ []) (record { log = log; next = Goes unread }) (record { log = log; next = Goes (record { cursor = None; rest = greeting ∷ a ∷ b ∷ c ∷ [] }) })
-    (at_cursor log (from_be_bytes w32 (a ∷ b ∷ c ∷ d ∷ []))) (greeting_goes limit log (greeting ∷ a ∷ b ∷ c ∷ []) (refl, omega arith)) (at_cursor log (from_be_bytes w32 (a ∷ b ∷ c ∷ d ∷ [])), refl, refl)
+    takes-append limit (greeting ∷ a ∷ b ∷ c ∷ []) (d ∷ []) (record { log = log; next = Goes unread })
+    (record { log = log; next = Goes (record { cursor = None; rest = greeting ∷ a ∷ b ∷ c ∷ [] }) })
+    (at_cursor log (from_be_bytes w32 (a ∷ b ∷ c ∷ d ∷ []))) (greeting_goes limit log (greeting ∷ a ∷ b ∷ c ∷ []) (refl, omega arith))
+    (at_cursor log (from_be_bytes w32 (a ∷ b ∷ c ∷ d ∷ [])), refl, refl)
 greeting_takes limit log (a ∷ b ∷ c ∷ d ∷ e ∷ more) four = absurd (omega (arith, four))
 
 -- by whether its cursor is beyond the log
@@ -65,15 +70,18 @@ says_takes : (limit : ℕ) (log : List (List ℕ)) (text : List ℕ) (cursor : �
 says_takes limit log text cursor new rest after says h =
     subst (λ (bytes : List ℕ). TakesAll limit bytes (record { log = log; next = Goes unread }) after) (sym says.text_is)
     (takes-append limit (greeting ∷ says.number) says.messages (record { log = log; next = Goes unread }) (at_cursor log cursor) after
-    (subst (λ (c : ℕ). TakesAll limit (greeting ∷ says.number) (record { log = log; next = Goes unread }) (at_cursor log c)) (sym says.cursor_is) (greeting_takes limit log says.number says.four_bytes)) h)
+    (subst (λ (c : ℕ). TakesAll limit (greeting ∷ says.number) (record { log = log; next = Goes unread }) (at_cursor log c)) (sym says.cursor_is)
+    (greeting_takes limit log says.number says.four_bytes)) h)
 
 -- the session of a whole text comes to what its course says
-pub course_takes : (course : SessionText) (limit : ℕ) (log : List (List ℕ)) (text : List ℕ) → IsCourse course limit log [] text → TakesAll limit text (record { log = log; next = Goes unread }) (taken_by course log text)
+pub course_takes : (course : SessionText) (limit : ℕ) (log : List (List ℕ)) (text : List ℕ) → IsCourse course limit log [] text
+    → TakesAll limit text (record { log = log; next = Goes unread }) (taken_by course log text)
 course_takes Greets limit log text is = greeting_goes limit log text is
 course_takes NoGreeting limit log text is =
     let other : nat_eq is.0 greeting ≡ false = none (nat_eq is.0 greeting) refl in
     let wrong : (b : Bool) → Taken = λ b. if b then record { log = log; next = Goes (record { cursor = None; rest = is.0 ∷ [] }) } else session_refused log 1 in
-    subst (λ (bytes : List ℕ). TakesAll limit bytes (record { log = log; next = Goes unread }) (session_refused log 1)) (sym is.3) (session_refused log 1, sym (ap wrong other), closed_takes limit is.1 log (refusal_message 1))
+    subst (λ (bytes : List ℕ). TakesAll limit bytes (record { log = log; next = Goes unread }) (session_refused log 1)) (sym is.3)
+    (session_refused log 1, sym (ap wrong other), closed_takes limit is.1 log (refusal_message 1))
   where
     none : (b : Bool) → nat_eq is.0 greeting ≡ b → nat_eq is.0 greeting ≡ false
     none true e = absurd (is.2 (eqb-true is.0 greeting e))
@@ -89,21 +97,38 @@ course_takes (Speaks cursor new rest follows) limit log text is =
     (starts_take limit cursor new log is.0.messages rest after is.0.starts is.2 (rest_takes follows limit cursor (log_with_ops log new) rest is.3)))
 
 -- a text is of some course
-pub course_found : (limit : ℕ) (log : List (List ℕ)) (text : List ℕ) (after : Taken) → length log ≤ limit → TakesAll limit text (record { log = log; next = Goes unread }) after → (course : SessionText) × IsCourse course limit log [] text
+pub course_found : (limit : ℕ) (log : List (List ℕ)) (text : List ℕ) (after : Taken) → length log ≤ limit → TakesAll limit text (record { log = log; next = Goes unread }) after
+    → (course : SessionText) × IsCourse course limit log [] text
 course_found limit log [] after room h = (Greets, tt)
 course_found limit log (first ∷ number) after room h = by_first (nat_eq first greeting) refl
   where
-    by_cursor : (number more : List ℕ) → length number ≡ 4 → first ≡ greeting → TakesAll limit (first ∷ number ++ more) (record { log = log; next = Goes unread }) after → (b : Bool)
+    by_cursor : (number more : List ℕ) → length number ≡ 4 → first ≡ greeting → TakesAll limit (first ∷ number ++ more) (record { log = log; next = Goes unread }) after
+        → (b : Bool)
         → nat_lt (length log) (from_be_bytes w32 number) ≡ b → (course : SessionText) × IsCourse course limit log [] (first ∷ number ++ more)
-    by_cursor number more four is h true beyond =
-        (Beyond, (from_be_bytes w32 number, more, record { number = number; four_bytes = four; cursor_is = refl; messages = more; starts = none_starts more; text_is = ap (λ x. x ∷ number ++ more) is }, ltb-true (length log) (from_be_bytes w32 number) beyond))
+    by_cursor number more four is h true beyond = (
+      Beyond,
+      (
+        from_be_bytes w32 number,
+        more,
+        record {
+          number = number;
+          four_bytes = four;
+          cursor_is = refl;
+          messages = more;
+          starts = none_starts more;
+          text_is = ap (λ x. x ∷ number ++ more) is;
+        },
+        ltb-true (length log) (from_be_bytes w32 number) beyond,
+      ),
+    )
     by_cursor number more four is h false beyond =
         let cursor : ℕ = from_be_bytes w32 number in
         let within : cursor ≤ length log = ltb-false (length log) cursor beyond in
         let start : Taken = record { log = log; next = Goes unread } in
         let whole : TakesAll limit (greeting ∷ number ++ more) start after = subst (λ (x : ℕ). TakesAll limit (x ∷ number ++ more) start after) is h in
         let rest : TakesAll limit more (session_goes_on log cursor) after
-        = subst (λ (t : Taken). TakesAll limit more t after) (within_log log cursor within) (behind limit (greeting ∷ number) more start (at_cursor log cursor) after whole (greeting_takes limit log number four)) in
+        = subst (λ (t : Taken). TakesAll limit more t after) (within_log log cursor within)
+        (behind limit (greeting ∷ number) more start (at_cursor log cursor) after whole (greeting_takes limit log number four)) in
         let r : Reads limit cursor log more after = reads limit cursor after more log [] room (no_bytes_are_partial Version2) rest in (
           Speaks cursor r.new r.rest r.follows,
           (
@@ -121,7 +146,8 @@ course_found limit log (first ∷ number) after room h = by_first (nat_eq first 
           ),
         )
 
-    by_number : (number : List ℕ) → first ≡ greeting → TakesAll limit (first ∷ number) (record { log = log; next = Goes unread }) after → (course : SessionText) × IsCourse course limit log [] (first ∷ number)
+    by_number : (number : List ℕ) → first ≡ greeting → TakesAll limit (first ∷ number) (record { log = log; next = Goes unread }) after
+        → (course : SessionText) × IsCourse course limit log [] (first ∷ number)
     by_number [] is h = (Greets, (is, omega arith))
     by_number (a ∷ []) is h = (Greets, (is, omega arith))
     by_number (a ∷ b ∷ []) is h = (Greets, (is, omega arith))

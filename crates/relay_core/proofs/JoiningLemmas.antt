@@ -41,19 +41,23 @@ room_for limit cursor log own ops false true is room = absurd (omega (arith, roo
 room_for limit cursor log own ops false false is room = refl
 
 -- operations for which there is room, and then others
-pub joined_past : (limit cursor : ℕ) (xs ys : List Op) (log : List (List ℕ)) → length (log_with_ops log xs) ≤ limit → log_joined limit log cursor (xs ++ ys) ≡ log_joined limit (log_with_ops log xs) cursor ys
+pub joined_past : (limit cursor : ℕ) (xs ys : List Op) (log : List (List ℕ)) → length (log_with_ops log xs) ≤ limit
+    → log_joined limit log cursor (xs ++ ys) ≡ log_joined limit (log_with_ops log xs) cursor ys
 joined_past limit cursor [] ys log room = refl
 joined_past limit cursor (op ∷ xs) ys log room =
     room_for limit cursor log (frame op) (xs ++ ys) (is_logged log (frame op)) (nat_eq (length log) limit) refl (omega (arith, room, grown (with_op log op) xs))
     ∙ joined_past limit cursor xs ys (with_op log op) room
 
 -- operations of a frame all join, also where others follow in later frames
-pub all_join : (limit cursor : ℕ) (xs ys : List Op) (log : List (List ℕ)) → length (log_with_ops log (xs ++ ys)) ≤ limit → log_joined limit log cursor xs ≡ session_goes_on (log_with_ops log xs) cursor
+pub all_join : (limit cursor : ℕ) (xs ys : List Op) (log : List (List ℕ)) → length (log_with_ops log (xs ++ ys)) ≤ limit
+    → log_joined limit log cursor xs ≡ session_goes_on (log_with_ops log xs) cursor
 all_join limit cursor xs ys log room =
-    ap (log_joined limit log cursor) (sym (append-nil xs)) ∙ joined_past limit cursor xs [] log (omega (arith, room, ap length (with_ops-append xs ys log), grown (log_with_ops log xs) ys))
+    ap (log_joined limit log cursor) (sym (append-nil xs))
+    ∙ joined_past limit cursor xs [] log (omega (arith, room, ap length (with_ops-append xs ys log), grown (log_with_ops log xs) ys))
 
 -- an operation that a full log lacks is refused, and with it those behind it
-pub one_too_many : (limit cursor : ℕ) (before : List Op) (op : Op) (later : List Op) (log : List (List ℕ)) → is_logged (log_with_ops log before) (frame op) ≡ false → length (log_with_ops log before) ≡ limit
+pub one_too_many : (limit cursor : ℕ) (before : List Op) (op : Op) (later : List Op) (log : List (List ℕ)) → is_logged (log_with_ops log before) (frame op) ≡ false
+    → length (log_with_ops log before) ≡ limit
     → log_joined limit log cursor (before ++ op ∷ later) ≡ session_refused (log_with_ops log before) 2
 one_too_many limit cursor before op later log lacks full =
     joined_past limit cursor before (op ∷ later) log (omega (arith, full))
@@ -76,11 +80,13 @@ all_or_refused limit (op ∷ ops) log room = by (is_logged log (frame op)) (nat_
     own : List ℕ
     own = frame op
 
-    next : (length (log_with_ops (with_op log op) ops) ≤ limit) ⊎ IsRefused limit (with_op log op) ops → (length (log_with_ops log (op ∷ ops)) ≤ limit) ⊎ IsRefused limit log (op ∷ ops)
+    next : (length (log_with_ops (with_op log op) ops) ≤ limit) ⊎ IsRefused limit (with_op log op) ops
+        → (length (log_with_ops log (op ∷ ops)) ≤ limit) ⊎ IsRefused limit log (op ∷ ops)
     next (inl fits) = inl fits
     next (inr f) = inr (record { before = op ∷ f.before; op = f.op; later = f.later; split = ap (λ (l : List Op). op ∷ l) f.split; lacks = f.lacks; full = f.full })
 
-    by : (p q : Bool) → is_logged log own ≡ p → nat_eq (length log) limit ≡ q → (length (with_op log op) ≤ limit → (length (log_with_ops log (op ∷ ops)) ≤ limit) ⊎ IsRefused limit log (op ∷ ops))
+    by : (p q : Bool) → is_logged log own ≡ p → nat_eq (length log) limit ≡ q
+        → (length (with_op log op) ≤ limit → (length (log_with_ops log (op ∷ ops)) ≤ limit) ⊎ IsRefused limit log (op ∷ ops))
         → (length (log_with_ops log (op ∷ ops)) ≤ limit) ⊎ IsRefused limit log (op ∷ ops)
     by true q is full more = more (subst (λ (b : Bool). length (with_own log own b) ≤ limit) (sym is) room)
     by false true is full more = inr (record { before = []; op = op; later = ops; split = refl; lacks = is; full = eqb-true (length log) limit full })
@@ -108,7 +114,8 @@ joins_new limit log own lacks other op cursor left same =
     apart false is = is
 
 -- a frame that is no run's is its operation's own
-pub joins_single : {E : Type 0} (limit : ℕ) (old : List (List ℕ)) (bytes : List ℕ) (new : List (List ℕ)) (result : Result (Option (List ℕ)) E) → IsFrameOf Version2 bytes → (get_or bytes 0 0 ≡ 4 → ⊥)
+pub joins_single : {E : Type 0} (limit : ℕ) (old : List (List ℕ)) (bytes : List ℕ) (new : List (List ℕ)) (result : Result (Option (List ℕ)) E) → IsFrameOf Version2 bytes
+    → (get_or bytes 0 0 ≡ 4 → ⊥)
     → IfOk result (λ reply. JoinsOne limit old bytes new reply) → IfOk result (λ reply. JoinsFrame limit old bytes new [] reply)
 joins_single limit old bytes new (Ok reply) f other one =
     let own : IsOwnFrame bytes = no_run bytes f other in
@@ -116,7 +123,8 @@ joins_single limit old bytes new (Ok reply) f other one =
 joins_single limit old bytes new (Err e) f other one = one
 
 -- one operation more of those that are left
-pub joins_more : (limit : ℕ) (old : List (List ℕ)) (ops : List Op) (now new : List (List ℕ)) (before left : List Op) (op : Op) (own : List ℕ) (reply : Option (List ℕ)) → JoinsAll limit old ops now before None
+pub joins_more : (limit : ℕ) (old : List (List ℕ)) (ops : List Op) (now new : List (List ℕ)) (before left : List Op) (op : Op) (own : List ℕ) (reply : Option (List ℕ))
+    → JoinsAll limit old ops now before None
     → before ≡ op ∷ left → own ≡ frame op → is_some reply ≡ false → JoinsOne limit now own new reply → JoinsAll limit old ops new left None
 joins_more limit old ops now new before left op own None h given is goes one cursor = h cursor ∙ ap (log_joined limit now cursor) given ∙ one op cursor left is
 joins_more limit old ops now new before left op own (Some r) h given is goes one cursor = absurd (true≢false goes)

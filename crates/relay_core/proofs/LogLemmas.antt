@@ -25,7 +25,8 @@ keys-more ks f new =
 
 -- the frames from the cursor on, joined
 pub from-cursor : (ks : List (Vec ℕ Global)) (cursor : ℕ) → flat_map (λ k. k.items) (drop cursor ks) ≡ flat_map (λ f. f) (drop cursor (map (λ k. k.items) ks))
-from-cursor ks cursor = sym (ap (flat_map (λ f. f)) (drop-map (λ (k : Vec ℕ Global). k.items) cursor ks) ∙ flat_map-map (λ (f : List ℕ). f) (λ (k : Vec ℕ Global). k.items) (drop cursor ks))
+from-cursor ks cursor =
+    sym (ap (flat_map (λ f. f)) (drop-map (λ (k : Vec ℕ Global). k.items) cursor ks) ∙ flat_map-map (λ (f : List ℕ). f) (λ (k : Vec ℕ Global). k.items) (drop cursor ks))
 
 -- the parts of an answer
 pub joined : (ks : List (Vec ℕ Global)) (cursor n : ℕ) (a b c number : List ℕ) → a ≡ flat_map (λ k. k.items) (drop cursor ks) → b ≡ a ++ 0x55 ∷ [] → c ≡ b ++ number
@@ -42,4 +43,5 @@ cut_back old new cut count g e c =
     let items : List (Vec ℕ Global) → List (List ℕ) = map (λ (k : Vec ℕ Global). k.items) in
     let long : length (items old) ≡ length old = length-map old (λ (k : Vec ℕ Global). k.items) in
     let within : count ≤ length (items old) = omega arith in
-    ap items e ∙ sym (take-map (λ (k : Vec ℕ Global). k.items) count new) ∙ ap (take count) g.1 ∙ take-append-le count (items old) g.0 within ∙ take_all count (items old) (omega arith)
+    ap items e ∙ sym (take-map (λ (k : Vec ℕ Global). k.items) count new) ∙ ap (take count) g.1 ∙ take-append-le count (items old) g.0 within
+    ∙ take_all count (items old) (omega arith)

@@ -1,5 +1,6 @@
 -- The log of a relay is one of operations, it only grows, and replies join.
-use Rattle.std.proofs.Common.{List, [], ap, append-nil, append_assoc, arith, drop, false, inl, inr, length, nat_eq, nat_lt, refl, subst, suc, sym, true, zero, ℕ, ◌++◌, ◌∙◌, ◌∷◌, ◌≡◌, ◌≢◌, ◌≤◌}
+use Rattle.std.proofs.Common.{List, [], ap, append-nil, append_assoc, arith, drop, false, inl, inr, length, nat_eq, nat_lt, refl, subst, suc, sym, true, zero, ℕ, ◌++◌, ◌∙◌, ◌∷◌}
+use Rattle.std.proofs.Common.{◌≡◌, ◌≢◌, ◌≤◌}
 use Rattle.std.specs.Prelude.{All, AllPairs, None, Option, Some, flat_map, if◌then◌else◌}
 use Rattle.std.specs.Cmp.Lexicographic.{pointwise}
 use Rattle.std.specs.FinMap as finite
@@ -17,7 +18,8 @@ use Rattle.origin_model.specs.declared.relay.Event.TheVariants.{Gone, Opened, Pi
 use Rattle.origin_model.specs.declared.relay.Reply.{Reply}
 use Rattle.origin_model.specs.frames.Frames.{HasFrame, IsFrame, IsItem, Item, Single, Typed, frame, item_ops}
 use Rattle.origin_model.specs.relay.Relay.{Relay, RelayRuns, RelaySteps, Sessions, StepsPiece, new_relay, session_opened}
-use Rattle.origin_model.specs.relay.Session.{Closes, Closing, Frame, Front, Goes, IsKind, Kind, Neither, Next, SessionReading, Taken, TakesAll, TakesByte, TakesOne, at_cursor, greeting_read, greeting, is_logged, log_joined, session_goes_on, session_refused, told}
+use Rattle.origin_model.specs.relay.Session.{Closes, Closing, Frame, Front, Goes, IsKind, Kind, Neither, Next, SessionReading, Taken, TakesAll, TakesByte, TakesOne, at_cursor}
+use Rattle.origin_model.specs.relay.Session.{greeting_read, greeting, is_logged, log_joined, session_goes_on, session_refused, told}
 use Rattle.op_frame.proofs.RunFrameLemmas.{run_frames}
 use Rattle.relay_core.specs.OpLogs.{IsLogOf, LogsAreOfOperations, LogsGrow, RepliesJoin}
 use Rattle.relay_core.specs.Texts.{with_op, log_with_ops}
@@ -88,15 +90,23 @@ joined_joins limit cursor log ops room =
           all_join limit cursor ops [] log (subst (λ l. length (log_with_ops log l) ≤ limit) (sym (append-nil ops)) fits) in
           record { front = ops; behind = []; split = sym (append-nil ops); log_is = ap (λ (t : Taken). t.log) is; few = omega (arith, fits, ap (λ (t : Taken). length t.log) is) }
       | inr f ↦
-          let is : log_joined limit log cursor ops ≡ session_refused (log_with_ops log f.before) 2 = ap (log_joined limit log cursor) f.split ∙ one_too_many limit cursor f.before f.op f.later log f.lacks f.full in
-          record { front = f.before; behind = f.op ∷ f.later; split = f.split; log_is = ap (λ (t : Taken). t.log) is; few = omega (arith, f.full, ap (λ (t : Taken). length t.log) is) }
+          let is : log_joined limit log cursor ops ≡ session_refused (log_with_ops log f.before) 2 =
+          ap (log_joined limit log cursor) f.split ∙ one_too_many limit cursor f.before f.op f.later log f.lacks f.full in
+          record {
+            front = f.before;
+            behind = f.op ∷ f.later;
+            split = f.split;
+            log_is = ap (λ (t : Taken). t.log) is;
+            few = omega (arith, f.full, ap (λ (t : Taken). length t.log) is);
+          }
     ]
 
 -- a log with operations has more frames behind its own
 with_more : (log : List (List ℕ)) (ops : List Op) → (more : List (List ℕ)) × (log_with_ops log ops ≡ log ++ more)
 with_more log [] = ([], sym (append-nil log))
 with_more log (op ∷ ops) =
-    let one : (more : List (List ℕ)) × (with_op log op ≡ log ++ more) = elim (is_logged log (frame op)) as (λ b. (more : List (List ℕ)) × ((if b then log else log ++ frame op ∷ []) ≡ log ++ more)) [
+    let one : (more : List (List ℕ)) × (with_op log op ≡ log ++ more) =
+    elim (is_logged log (frame op)) as (λ b. (more : List (List ℕ)) × ((if b then log else log ++ frame op ∷ []) ≡ log ++ more)) [
       | true ↦ ([], sym (append-nil log))
       | false ↦ (frame op ∷ [], refl)
     ] in
@@ -147,16 +157,19 @@ greeted_log log (first ∷ number) =
     let partly : Taken = record { log = log; next = Goes (record { cursor = None; rest = first ∷ number }) } in
     let read : (if nat_lt (length number) 4 then partly else at_cursor log cursor).log ≡ log =
     elim (nat_lt (length number) 4) as (λ b. (if b then partly else at_cursor log cursor).log ≡ log) [ true ↦ refl | false ↦ compared ] in
-    elim (nat_eq first greeting) as (λ b. (if b then (if nat_lt (length number) 4 then partly else at_cursor log cursor) else session_refused log 1).log ≡ log) [ true ↦ read | false ↦ refl ]
+    elim (nat_eq first greeting) as (λ b. (if b then (if nat_lt (length number) 4 then partly else at_cursor log cursor) else session_refused log 1).log ≡ log)
+    [ true ↦ read | false ↦ refl ]
 
 -- so does a kind of message, but for a frame
-told_grows : (limit cursor : ℕ) (log : List (List ℕ)) (bytes : List ℕ) (kind : Kind) → length log ≤ limit → IsKind kind bytes → Grows limit log (told kind limit log cursor bytes).log
+told_grows : (limit cursor : ℕ) (log : List (List ℕ)) (bytes : List ℕ) (kind : Kind) → length log ≤ limit → IsKind kind bytes
+    → Grows limit log (told kind limit log cursor bytes).log
 told_grows limit cursor log bytes (Frame ops) room is = joined_grows limit cursor log ops room (frame_ops bytes ops is)
 told_grows limit cursor log bytes Closing room is = unchanged limit log log room refl
 told_grows limit cursor log bytes Front room is = unchanged limit log log room refl
 told_grows limit cursor log bytes Neither room is = unchanged limit log log room refl
 
-byte_grows : (limit : ℕ) (log : List (List ℕ)) (cursor : Option ℕ) (bytes : List ℕ) (after : Taken) → length log ≤ limit → TakesByte limit log cursor bytes after → Grows limit log after.log
+byte_grows : (limit : ℕ) (log : List (List ℕ)) (cursor : Option ℕ) (bytes : List ℕ) (after : Taken) → length log ≤ limit → TakesByte limit log cursor bytes after
+    → Grows limit log after.log
 byte_grows limit log None bytes after room t = unchanged limit log after.log room (ap (λ (r : Taken). r.log) t ∙ greeted_log log bytes)
 byte_grows limit log (Some cursor) bytes after room t =
     subst (λ l. Grows limit log l) (sym (ap (λ (r : Taken). r.log) t.2)) (told_grows limit cursor log bytes t.0 room t.1)
@@ -179,12 +192,14 @@ record Follows (old new : Relay) : Type 0 where
 same_log : (old new : Relay) (sessions : Sessions) → length old.log ≤ old.limit → new ≡ record { limit = old.limit; log = old.log; sessions = sessions } → Follows old new
 same_log old new sessions room e = record { limit = ap (λ (r : Relay). r.limit) e; grows = unchanged old.limit old.log new.log room (ap (λ (r : Relay). r.log) e) }
 
-piece_follows : (old new : Relay) (n : ℕ) (o : Option SessionReading) (bytes : List ℕ) (reply : Option Reply) → length old.log ≤ old.limit → StepsPiece old n o bytes new reply → Follows old new
+piece_follows : (old new : Relay) (n : ℕ) (o : Option SessionReading) (bytes : List ℕ) (reply : Option Reply) → length old.log ≤ old.limit → StepsPiece old n o bytes new reply
+    → Follows old new
 piece_follows old new n None bytes reply room t = same_log old new old.sessions room t.0
 piece_follows old new n (Some reading) bytes reply room t =
     record {
       limit = ap (λ (r : Relay). r.limit) t.new_is;
-      grows = subst (λ l. Grows old.limit old.log l) (sym (ap (λ (r : Relay). r.log) t.new_is)) (takes_grow old.limit bytes (record { log = old.log; next = Goes reading }) t.taken room t.takes);
+      grows = subst (λ l. Grows old.limit old.log l) (sym (ap (λ (r : Relay). r.log) t.new_is))
+          (takes_grow old.limit bytes (record { log = old.log; next = Goes reading }) t.taken room t.takes);
     }
 
 step_follows : (old new : Relay) (event : Event) (reply : Option Reply) → length old.log ≤ old.limit → RelaySteps old event new reply → Follows old new

@@ -15,7 +15,8 @@ is_settled n (Goes reading) (Some session) sessions h = let same : reading_of se
 is_settled n (Closes bytes) kept sessions h = ap (session_kept n sessions) h
 
 -- a piece of an open session
-pub piece_steps : (limit n : ℕ) (log : List (List ℕ)) (sessions : Sessions) (session : Session) (piece : List ℕ) (new_log : List (List ℕ)) (new_sessions : Sessions) (kept : Option Session) (replies : List Reply)
+pub piece_steps : (limit n : ℕ) (log : List (List ℕ)) (sessions : Sessions) (session : Session) (piece : List ℕ) (new_log : List (List ℕ)) (new_sessions : Sessions)
+    (kept : Option Session) (replies : List Reply)
     → Some (reading_of session) ≡ finite.get sessions n
     → ((after : Taken) × TakesAll limit piece (record { log = log; next = Goes (reading_of session) }) after × (new_log ≡ after.log) × SessionBecomes n after.next kept replies)
     → new_sessions ≡ session_kept n sessions kept

@@ -12,13 +12,15 @@ use Rattle.origin_model.specs.relay.Session.{Closes, Goes, Next, SessionReading,
 use Rattle.origin_model.proofs.SharedLemmas.{all_once, bytes_of, length-run, ops_of, partly, takes-append}
 use Rattle.op_frame.proofs.CodeLemmas.{same_fronts}
 use Rattle.op_frame.proofs.ReadingLemmas.{frames_once, same_front}
-use Rattle.relay_core.specs.Texts.{Beyond, Closed, SessionText, Foreign, Greets, HasCome, IsCourse, IsGreetingFront, NoGreeting, OneTooMany, SaysCursor, Speaks, Unfinished, reply_to_text, log_behind, log_with_ops}
+use Rattle.relay_core.specs.Texts.{Beyond, Closed, SessionText, Foreign, Greets, HasCome, IsCourse, IsGreetingFront, NoGreeting, OneTooMany, SaysCursor, Speaks, Unfinished}
+use Rattle.relay_core.specs.Texts.{reply_to_text, log_behind, log_with_ops}
 use Rattle.relay_core.proofs.CourseLemmas.{course_found, course_takes, greeting_goes, reading_by, taken_by}
 use Rattle.relay_core.proofs.JoiningLemmas.{grown}
 use Rattle.relay_core.proofs.TextLemmas.{Reads, behind, front_goes, outcome, reads, rest_takes, starts_take}
 
 -- a text goes on with frames
-says_more : (text bytes : List ℕ) (cursor : ℕ) (before new : List Op) (rest next : List ℕ) → SaysCursor text cursor before rest → Starts Version2 (rest ++ bytes) new next → SaysCursor (text ++ bytes) cursor (before ++ new) next
+says_more : (text bytes : List ℕ) (cursor : ℕ) (before new : List Op) (rest next : List ℕ) → SaysCursor text cursor before rest → Starts Version2 (rest ++ bytes) new next
+    → SaysCursor (text ++ bytes) cursor (before ++ new) next
 says_more text bytes cursor before new rest next says more =
     let first : List Framed = says.starts.found in
     record {
@@ -41,7 +43,8 @@ record SameGreeting (cursor other : ℕ) (behind next : List ℕ) : Type 0 where
   cursor_is : other ≡ cursor
   behind_is : behind ≡ next
 
-same_greeting : (text bytes : List ℕ) (cursor other : ℕ) (before all : List Op) (rest next : List ℕ) → (a : SaysCursor text cursor before rest) → (b : SaysCursor (text ++ bytes) other all next) → SameGreeting cursor other (a.messages ++ bytes) b.messages
+same_greeting : (text bytes : List ℕ) (cursor other : ℕ) (before all : List Op) (rest next : List ℕ) → (a : SaysCursor text cursor before rest)
+    → (b : SaysCursor (text ++ bytes) other all next) → SameGreeting cursor other (a.messages ++ bytes) b.messages
 same_greeting text bytes cursor other before all rest next a b =
     let whole : greeting ∷ (a.number ++ (a.messages ++ bytes)) ≡ greeting ∷ (b.number ++ b.messages)
     = ap (λ t. greeting ∷ t) (sym (append_assoc a.number a.messages bytes)) ∙ ap (λ (t : List ℕ). t ++ bytes) (sym a.text_is) ∙ b.text_is in
@@ -50,9 +53,11 @@ same_greeting text bytes cursor other before all rest next a b =
     record { cursor_is = b.cursor_is ∙ ap (from_be_bytes w32) (sym both.0) ∙ sym a.cursor_is; behind_is = both.1 }
 
 -- and that of the same text twice
-same_messages : (text : List ℕ) (cursor other : ℕ) (before all : List Op) (rest next : List ℕ) → (a : SaysCursor text cursor before rest) → (b : SaysCursor text other all next) → a.messages ≡ b.messages
+same_messages : (text : List ℕ) (cursor other : ℕ) (before all : List Op) (rest next : List ℕ) → (a : SaysCursor text cursor before rest) → (b : SaysCursor text other all next)
+    → a.messages ≡ b.messages
 same_messages text cursor other before all rest next a b =
-    let tails : a.number ++ a.messages ≡ b.number ++ b.messages = cc (sym a.text_is ∙ b.text_is) in (same_fronts a.number b.number a.messages b.messages (a.four_bytes ∙ sym b.four_bytes) tails).1
+    let tails : a.number ++ a.messages ≡ b.number ++ b.messages =
+    cc (sym a.text_is ∙ b.text_is) in (same_fronts a.number b.number a.messages b.messages (a.four_bytes ∙ sym b.four_bytes) tails).1
 
 -- each frame stands for some operation
 some_ops : (f : Framed) → IsFrame Version2 f → 0 < length f.ops
@@ -63,7 +68,8 @@ some_ops f is = omega (arith, by is.item is.is_item, ap length is.ops_are)
     by (Typed run) has = omega (arith, length-run run, has.text.some)
 
 -- what was not said before is new
-new_frames : (fs hs : List Framed) (rest next : List ℕ) (new : List Op) → All (IsFrame Version2) fs → All (IsFrame Version2) hs → bytes_of fs ++ rest ≡ bytes_of hs ++ next → ops_of fs ++ new ≡ ops_of hs → Starts Version2 rest new next
+new_frames : (fs hs : List Framed) (rest next : List ℕ) (new : List Op) → All (IsFrame Version2) fs → All (IsFrame Version2) hs → bytes_of fs ++ rest ≡ bytes_of hs ++ next
+    → ops_of fs ++ new ≡ ops_of hs → Starts Version2 rest new next
 new_frames [] hs rest next new p q same ops = record { found = hs; are_frames = q; ops_are = ops; split = same }
 new_frames (f ∷ fs) [] rest next new p q same ops =
     absurd (omega (arith, some_ops f (All-head (IsFrame Version2) f fs p), ap length ops, length-append (f.ops ++ ops_of fs) new, length-append f.ops (ops_of fs)))
@@ -73,7 +79,8 @@ new_frames (f ∷ fs) (h ∷ hs) rest next new p q same ops =
     new_frames fs hs rest next new (All-tail (IsFrame Version2) f fs p) (All-tail (IsFrame Version2) h hs q) first.rest
     (append_cancel_left f.ops (ops_of fs ++ new) (ops_of hs) (sym (append_assoc f.ops (ops_of fs) new) ∙ ops ∙ ap (λ (l : List Op). l ++ ops_of hs) (sym first.ops)))
 
-says_new : (text bytes : List ℕ) (cursor other : ℕ) (before new : List Op) (rest next : List ℕ) → SaysCursor text cursor before rest → SaysCursor (text ++ bytes) other (before ++ new) next → Starts Version2 (rest ++ bytes) new next
+says_new : (text bytes : List ℕ) (cursor other : ℕ) (before new : List Op) (rest next : List ℕ) → SaysCursor text cursor before rest
+    → SaysCursor (text ++ bytes) other (before ++ new) next → Starts Version2 (rest ++ bytes) new next
 says_new text bytes cursor other before new rest next a b =
     let same = same_greeting text bytes cursor other before (before ++ new) rest next a b in
     new_frames a.starts.found b.starts.found (rest ++ bytes) next new a.starts.are_frames b.starts.are_frames
@@ -116,7 +123,8 @@ not_both text bytes cursor ops rest says front =
 
 front_not_said : (text : List ℕ) (cursor : ℕ) (ops : List Op) (rest : List ℕ) → SaysCursor text cursor ops rest → IsGreetingFront text → ⊥
 front_not_said text cursor ops rest says front =
-    let few : length (says.number ++ says.messages) < 4 = (subst IsGreetingFront says.text_is front).1 in omega (arith, few, says.four_bytes, length-append says.number says.messages)
+    let few : length (says.number ++ says.messages) < 4 =
+    (subst IsGreetingFront says.text_is front).1 in omega (arith, few, says.four_bytes, length-append says.number says.messages)
 
 -- bytes that came to an open session, by the text before and with them
 pub record Read (limit : ℕ) (log : List (List ℕ)) (text bytes : List ℕ) (after : Taken) : Type 0 where
@@ -132,7 +140,8 @@ read_on limit log text bytes reading after room (inl front) h =
     let start : Taken = record { log = log; next = Goes unread } in
     let before : Taken = record { log = log; next = Goes (record { cursor = None; rest = text }) } in
     let whole : TakesAll limit (text ++ bytes) start after
-    = takes-append limit text bytes start before after (greeting_goes limit log text front.0) (subst (λ (r : SessionReading). TakesAll limit bytes (record { log = log; next = Goes r }) after) front.1 h) in
+    = takes-append limit text bytes start before after (greeting_goes limit log text front.0)
+    (subst (λ (r : SessionReading). TakesAll limit bytes (record { log = log; next = Goes r }) after) front.1 h) in
     let found = course_found limit log (text ++ bytes) after room whole in
     record {
       before = [];
@@ -143,7 +152,8 @@ read_on limit log text bytes reading after room (inl front) h =
     }
 read_on limit log text bytes reading after room (inr s) h =
     let r : Reads limit s.cursor log (s.rest ++ bytes) after
-    = reads limit s.cursor after bytes log s.rest room s.partial (subst (λ (r : SessionReading). TakesAll limit bytes (record { log = log; next = Goes r }) after) s.reading_is h) in
+    = reads limit s.cursor after bytes log s.rest room s.partial
+    (subst (λ (r : SessionReading). TakesAll limit bytes (record { log = log; next = Goes r }) after) s.reading_is h) in
     record {
       before = s.ops;
       has_come = inr (s.cursor, s.rest, s.says, s.partial);
@@ -153,7 +163,8 @@ read_on limit log text bytes reading after room (inr s) h =
     }
 
 -- the machine comes to what the course says
-spoken_takes : (course : SessionText) (limit : ℕ) (log : List (List ℕ)) (text bytes : List ℕ) (reading : SessionReading) (before : List Op) (rest : List ℕ) (cursor : ℕ) → Spoken log text reading → SaysCursor text cursor before rest → IsPartial Version2 rest
+spoken_takes : (course : SessionText) (limit : ℕ) (log : List (List ℕ)) (text bytes : List ℕ) (reading : SessionReading) (before : List Op) (rest : List ℕ) (cursor : ℕ)
+    → Spoken log text reading → SaysCursor text cursor before rest → IsPartial Version2 rest
     → IsCourse course limit log before (text ++ bytes) → TakesAll limit bytes (record { log = log; next = Goes reading }) (taken_by course log (text ++ bytes))
 spoken_takes Greets limit log text bytes reading before rest cursor s says partial is = absurd (not_both text bytes cursor before rest says is)
 spoken_takes NoGreeting limit log text bytes reading before rest cursor s says partial is =
@@ -165,15 +176,19 @@ spoken_takes Beyond limit log text bytes reading before rest cursor s says parti
 spoken_takes (Speaks other new next follows) limit log text bytes reading before rest cursor s says partial is =
     let same = same_greeting text bytes s.cursor other s.ops (before ++ new) s.rest next s.says is.0 in
     let one = same_messages text cursor s.cursor before s.ops rest s.rest says s.says in
-    let rests : rest ≡ s.rest = one_rest s.says.messages before s.ops rest s.rest (subst (λ (t : List ℕ). Starts Version2 t before rest) one says.starts) s.says.starts partial s.partial in
-    let starts : Starts Version2 (s.rest ++ bytes) new next = subst (λ (t : List ℕ). Starts Version2 (t ++ bytes) new next) rests (says_new text bytes cursor other before new rest next says is.0) in
+    let rests : rest ≡ s.rest =
+    one_rest s.says.messages before s.ops rest s.rest (subst (λ (t : List ℕ). Starts Version2 t before rest) one says.starts) s.says.starts partial s.partial in
+    let starts : Starts Version2 (s.rest ++ bytes) new next =
+    subst (λ (t : List ℕ). Starts Version2 (t ++ bytes) new next) rests (says_new text bytes cursor other before new rest next says is.0) in
     let after : Taken = outcome follows other (log_with_ops log new) next in
     let all : TakesAll limit (s.rest ++ bytes) (session_goes_on log other) after
     = starts_take limit other new log (s.rest ++ bytes) next after starts is.2 (rest_takes follows limit other (log_with_ops log new) next is.3) in
-    subst (λ (r : SessionReading). TakesAll limit bytes (record { log = log; next = Goes r }) after) (ap (λ c. record { cursor = Some c; rest = s.rest }) same.cursor_is ∙ sym s.reading_is)
+    subst (λ (r : SessionReading). TakesAll limit bytes (record { log = log; next = Goes r }) after)
+    (ap (λ c. record { cursor = Some c; rest = s.rest }) same.cursor_is ∙ sym s.reading_is)
     (behind limit s.rest bytes (session_goes_on log other) (partly log other s.rest) after all (front_goes limit other log s.rest s.partial))
 
-pub read_takes : (limit : ℕ) (log : List (List ℕ)) (text bytes : List ℕ) (reading : SessionReading) (before : List Op) (course : SessionText) → ReadSo log text reading → HasCome text before
+pub read_takes : (limit : ℕ) (log : List (List ℕ)) (text bytes : List ℕ) (reading : SessionReading) (before : List Op) (course : SessionText) → ReadSo log text reading
+    → HasCome text before
     → IsCourse course limit log before (text ++ bytes) → TakesAll limit bytes (record { log = log; next = Goes reading }) (taken_by course log (text ++ bytes))
 read_takes limit log text bytes reading before course (inl front) (inl come) is =
     let start : Taken = record { log = log; next = Goes unread } in
@@ -186,7 +201,8 @@ read_takes limit log text bytes reading before course (inr s) (inl come) is = ab
 read_takes limit log text bytes reading before course (inr s) (inr said) is = spoken_takes course limit log text bytes reading before said.1 said.0 s said.2 said.3 is
 
 -- a session that goes on was read so
-pub still_read : (course : SessionText) (limit : ℕ) (log : List (List ℕ)) (before : List Op) (text : List ℕ) → IsCourse course limit log before text → reply_to_text course log ≡ None → ReadSo (log_behind course log) text (reading_by course text)
+pub still_read : (course : SessionText) (limit : ℕ) (log : List (List ℕ)) (before : List Op) (text : List ℕ) → IsCourse course limit log before text
+    → reply_to_text course log ≡ None → ReadSo (log_behind course log) text (reading_by course text)
 still_read Greets limit log before text is none = inl (is, refl)
 still_read NoGreeting limit log before text is none = absurd (cc none)
 still_read Beyond limit log before text is none = absurd (cc none)

@@ -14,7 +14,8 @@ use Rattle.origin_model.specs.relay.Session.{SessionReading, Taken, unread}
 use Rattle.origin_model.proofs.SharedLemmas.{after_piece, piece_steps, unknown_steps}
 use Rattle.relay_core.specs.Laws.{SessionsByWholeTexts}
 use Rattle.relay_core.specs.Sessions.{becomes}
-use Rattle.relay_core.specs.Texts.{Beyond, Closed, FollowsFrames, Foreign, SessionText, Greets, HasCome, IsCourse, NoGreeting, OneTooMany, Speaks, StandsInText, Tells, TellsAll, TellsTo, OpenTexts, LogWithTexts, Unfinished, joined_behind, reply_to_text, log_behind, reply_with, texts_behind, text_opened, log_with_ops}
+use Rattle.relay_core.specs.Texts.{Beyond, Closed, FollowsFrames, Foreign, SessionText, Greets, HasCome, IsCourse, NoGreeting, OneTooMany, Speaks, StandsInText, Tells, TellsAll}
+use Rattle.relay_core.specs.Texts.{TellsTo, OpenTexts, LogWithTexts, Unfinished, joined_behind, reply_to_text, log_behind, reply_with, texts_behind, text_opened, log_with_ops}
 use Rattle.relay_core.proofs.CourseLemmas.{reading_by, taken_by}
 use Rattle.relay_core.proofs.StoryLemmas.{Read, ReadSo, read_on, read_takes, still_read}
 use Rattle.relay_core.proofs.JoiningLemmas.{grown}
@@ -42,19 +43,23 @@ alike_later log now (Some text) None more a = absurd a
 alike_later log now (Some text) (Some reading) more a = read_later log now text reading more a
 
 -- one session set or removed
-alike_by : (log : List (List ℕ)) (here : Bool) (x before : Option (List ℕ)) (y past : Option SessionReading) (text : Option (List ℕ)) (reading : Option SessionReading) → text ≡ cond here x before → reading ≡ cond here y past
+alike_by : (log : List (List ℕ)) (here : Bool) (x before : Option (List ℕ)) (y past : Option SessionReading) (text : Option (List ℕ)) (reading : Option SessionReading)
+    → text ≡ cond here x before → reading ≡ cond here y past
     → Alike log x y → Alike log before past → Alike log text reading
 alike_by log true x before y past text reading p q a b = subst (λ (o : Option SessionReading). Alike log text o) (sym q) (subst (λ (o : Option (List ℕ)). Alike log o y) (sym p) a)
-alike_by log false x before y past text reading p q a b = subst (λ (o : Option SessionReading). Alike log text o) (sym q) (subst (λ (o : Option (List ℕ)). Alike log o past) (sym p) b)
+alike_by log false x before y past text reading p q a b =
+    subst (λ (o : Option SessionReading). Alike log text o) (sym q) (subst (λ (o : Option (List ℕ)). Alike log o past) (sym p) b)
 
-module _ (limit : ℕ) (log now : List (List ℕ)) (sessions : Sessions) (texts : OpenTexts) (agrees : Agrees limit log sessions texts) (more : length log ≤ length now) (room : length now ≤ limit) (n : ℕ) where
+module _ (limit : ℕ) (log now : List (List ℕ)) (sessions : Sessions) (texts : OpenTexts) (agrees : Agrees limit log sessions texts) (more : length log ≤ length now)
+    (room : length now ≤ limit) (n : ℕ) where
   later : (q : ℕ) → Alike now (finite.get texts q) (finite.get sessions q)
   later q = alike_later log now (finite.get texts q) (finite.get sessions q) more (agrees.each q)
 
   set_agrees : (text : List ℕ) (reading : SessionReading) → ReadSo now text reading → Agrees limit now (finite.insert sessions n reading) (finite.insert texts n text)
   set_agrees text reading so = record {
     room = room;
-    each = λ q. alike_by now _ (Some text) (finite.get texts q) (Some reading) (finite.get sessions q) (finite.get (finite.insert texts n text) q) (finite.get (finite.insert sessions n reading) q)
+    each = λ q. alike_by now _ (Some text) (finite.get texts q) (Some reading) (finite.get sessions q) (finite.get (finite.insert texts n text) q)
+        (finite.get (finite.insert sessions n reading) q)
         (get-insert nat_cmp_total texts n text q) (get-insert nat_cmp_total sessions n reading q) so (later q);
   }
 
@@ -66,12 +71,14 @@ module _ (limit : ℕ) (log now : List (List ℕ)) (sessions : Sessions) (texts 
   }
 
   -- behind a piece
-  piece_agrees : (answer : Option (List ℕ)) (text : List ℕ) (reading : SessionReading) → (answer ≡ None → ReadSo now text reading) → Agrees limit now (sessions_after n sessions (becomes answer reading)) (texts_behind n texts text answer)
+  piece_agrees : (answer : Option (List ℕ)) (text : List ℕ) (reading : SessionReading) → (answer ≡ None → ReadSo now text reading)
+      → Agrees limit now (sessions_after n sessions (becomes answer reading)) (texts_behind n texts text answer)
   piece_agrees None text reading so = set_agrees text reading (so refl)
   piece_agrees (Some bytes) text reading so = removed_agrees
 
 -- one session opened
-opened_by : (limit : ℕ) (log : List (List ℕ)) (sessions : Sessions) (texts : OpenTexts) (n : ℕ) → Agrees limit log sessions texts → (text : Option (List ℕ)) (reading : Option SessionReading) → Alike log text reading
+opened_by : (limit : ℕ) (log : List (List ℕ)) (sessions : Sessions) (texts : OpenTexts) (n : ℕ) → Agrees limit log sessions texts
+    → (text : Option (List ℕ)) (reading : Option SessionReading) → Alike log text reading
     → Agrees limit log (if is_some reading then sessions else finite.insert sessions n unread) (if is_some text then texts else finite.insert texts n [])
 opened_by limit log sessions texts n agrees None None a = set_agrees limit log log sessions texts agrees (omega arith) agrees.room n [] unread (inl (tt, refl))
 opened_by limit log sessions texts n agrees None (Some reading) a = absurd a
@@ -86,13 +93,15 @@ course_grows Beyond log = omega arith
 course_grows (Speaks cursor new rest follows) log = omega (arith, grown log new, grown (log_with_ops log new) (joined_behind follows))
 
 -- what joined of a frame with an operation too many fits
-follows_room : (follows : FollowsFrames) (limit : ℕ) (log : List (List ℕ)) (rest : List ℕ) → length log ≤ limit → StandsInText follows limit log rest → length (log_with_ops log (joined_behind follows)) ≤ limit
+follows_room : (follows : FollowsFrames) (limit : ℕ) (log : List (List ℕ)) (rest : List ℕ) → length log ≤ limit → StandsInText follows limit log rest
+    → length (log_with_ops log (joined_behind follows)) ≤ limit
 follows_room Unfinished limit log rest room s = room
 follows_room Closed limit log rest room s = room
 follows_room Foreign limit log rest room s = room
 follows_room (OneTooMany before) limit log rest room s = omega (arith, s.7)
 
-course_room : (course : SessionText) (limit : ℕ) (log : List (List ℕ)) (before : List Op) (text : List ℕ) → length log ≤ limit → IsCourse course limit log before text → length (log_behind course log) ≤ limit
+course_room : (course : SessionText) (limit : ℕ) (log : List (List ℕ)) (before : List Op) (text : List ℕ) → length log ≤ limit → IsCourse course limit log before text
+    → length (log_behind course log) ≤ limit
 course_room Greets limit log before text room is = room
 course_room NoGreeting limit log before text room is = room
 course_room Beyond limit log before text room is = room
@@ -149,7 +158,8 @@ module _ (limit : ℕ) (log : List (List ℕ)) (sessions : Sessions) (texts : Op
     agree = agrees;
   }
 
-  abbrev piece_both : (n : ℕ) (bytes text : List ℕ) (reading : SessionReading) (before : List Op) (course : SessionText) → finite.get texts n ≡ Some text → finite.get sessions n ≡ Some reading → ReadSo log text reading
+  abbrev piece_both : (n : ℕ) (bytes text : List ℕ) (reading : SessionReading) (before : List Op) (course : SessionText) → finite.get texts n ≡ Some text
+      → finite.get sessions n ≡ Some reading → ReadSo log text reading
       → (come : HasCome text before) → IsCourse course limit log before (text ++ bytes) → Both limit log sessions texts (Piece n bytes) (reply_with n (reply_to_text course log))
   piece_both n bytes text reading before course some found so come is =
       let answer : Option (List ℕ) = reply_to_text course log in
@@ -160,15 +170,18 @@ module _ (limit : ℕ) (log : List (List ℕ)) (sessions : Sessions) (texts : Op
         log_now = now;
         sessions_now = sessions_after n sessions taken.next;
         texts_now = texts_behind n texts whole answer;
-        steps = subst (RelaySteps (relay_of limit log sessions) (Piece n bytes) (after_piece (relay_of limit log sessions) n taken)) (replies_same n answer (reading_by course whole))
+        steps = subst (RelaySteps (relay_of limit log sessions) (Piece n bytes) (after_piece (relay_of limit log sessions) n taken))
+            (replies_same n answer (reading_by course whole))
             (piece_steps (relay_of limit log sessions) n reading bytes taken found (read_takes limit log text bytes reading before course so come is));
-        tells = subst (λ (o : Option (List ℕ)). TellsTo limit (told_of log texts) n o bytes (told_of now (texts_behind n texts whole answer)) (reply_with n answer)) (sym some) (record {
-          answer = answer;
-          comes = record { before = before; has_come = come; course = course; is_course = is; log_is = refl; answer_is = refl };
-          texts_are = refl;
-          reply_is = refl;
-        });
-        agree = piece_agrees limit log now sessions texts agrees (course_grows course log) (course_room course limit log before whole agrees.room is) n answer whole (reading_by course whole)
+        tells = subst (λ (o : Option (List ℕ)). TellsTo limit (told_of log texts) n o bytes (told_of now (texts_behind n texts whole answer)) (reply_with n answer)) (sym some)
+            (record {
+              answer = answer;
+              comes = record { before = before; has_come = come; course = course; is_course = is; log_is = refl; answer_is = refl };
+              texts_are = refl;
+              reply_is = refl;
+            });
+        agree = piece_agrees limit log now sessions texts agrees (course_grows course log) (course_room course limit log before whole agrees.room is) n answer whole
+            (reading_by course whole)
             (λ none. still_read course limit log before whole is none);
       }
 
@@ -179,7 +192,8 @@ record StepTold (limit : ℕ) (log : List (List ℕ)) (sessions : Sessions) (tex
   reply_is : reply ≡ same_reply
   new_is : new ≡ relay_of limit both.log_now both.sessions_now
 
-step_told : (limit : ℕ) (log : List (List ℕ)) (sessions : Sessions) (texts : OpenTexts) → Agrees limit log sessions texts → (event : Event) (new : Relay) (reply : Option Reply) → RelaySteps (relay_of limit log sessions) event new reply
+step_told : (limit : ℕ) (log : List (List ℕ)) (sessions : Sessions) (texts : OpenTexts) → Agrees limit log sessions texts → (event : Event) (new : Relay) (reply : Option Reply)
+    → RelaySteps (relay_of limit log sessions) event new reply
     → StepTold limit log sessions texts event new reply
 step_told limit log sessions texts agrees (Opened n) new reply h = record { same_reply = None; both = open_both limit log sessions texts agrees n; reply_is = h.1; new_is = h.0 }
 step_told limit log sessions texts agrees (Gone n) new reply h = record { same_reply = None; both = gone_both limit log sessions texts agrees n; reply_is = h.1; new_is = h.0 }
@@ -207,7 +221,8 @@ record ToldStep (limit : ℕ) (log : List (List ℕ)) (sessions : Sessions) (tex
   reply_is : reply ≡ same_reply
   new_is : new ≡ told_of both.log_now both.texts_now
 
-told_step : (limit : ℕ) (log : List (List ℕ)) (sessions : Sessions) (texts : OpenTexts) → Agrees limit log sessions texts → (event : Event) (new : LogWithTexts) (reply : Option Reply) → Tells limit (told_of log texts) event new reply
+told_step : (limit : ℕ) (log : List (List ℕ)) (sessions : Sessions) (texts : OpenTexts) → Agrees limit log sessions texts
+    → (event : Event) (new : LogWithTexts) (reply : Option Reply) → Tells limit (told_of log texts) event new reply
     → ToldStep limit log sessions texts event new reply
 told_step limit log sessions texts agrees (Opened n) new reply h = record { same_reply = None; both = open_both limit log sessions texts agrees n; reply_is = h.1; new_is = h.0 }
 told_step limit log sessions texts agrees (Gone n) new reply h = record { same_reply = None; both = gone_both limit log sessions texts agrees n; reply_is = h.1; new_is = h.0 }
@@ -226,7 +241,8 @@ told_step limit log sessions texts agrees (Piece n bytes) new reply h = by (fini
     }
 
 -- a run of a relay is told
-told_run : (limit : ℕ) (log : List (List ℕ)) (sessions : Sessions) (texts : OpenTexts) → Agrees limit log sessions texts → (events : List Event) (new : Relay) (replies : List (Option Reply)) → RelayRuns (relay_of limit log sessions) events new replies
+told_run : (limit : ℕ) (log : List (List ℕ)) (sessions : Sessions) (texts : OpenTexts) → Agrees limit log sessions texts
+    → (events : List Event) (new : Relay) (replies : List (Option Reply)) → RelayRuns (relay_of limit log sessions) events new replies
     → (told : LogWithTexts) × TellsAll limit (told_of log texts) events told replies × (told.log ≡ new.log)
 told_run limit log sessions texts agrees [] new replies h = (told_of log texts, (refl, h.1), sym (ap (λ (r : Relay). r.log) h.0))
 told_run limit log sessions texts agrees (event ∷ events) new replies h =
@@ -236,14 +252,25 @@ told_run limit log sessions texts agrees (event ∷ events) new replies h =
     (rest.0, (told_of b.log_now b.texts_now, h.1, h.2, subst (Tells limit (told_of log texts) event (told_of b.log_now b.texts_now)) (sym s.reply_is) b.tells, rest.1, h.5), rest.2)
 
 -- and what is told is a run
-run_told : (limit : ℕ) (log : List (List ℕ)) (sessions : Sessions) (texts : OpenTexts) → Agrees limit log sessions texts → (events : List Event) (told : LogWithTexts) (replies : List (Option Reply))
+run_told : (limit : ℕ) (log : List (List ℕ)) (sessions : Sessions) (texts : OpenTexts) → Agrees limit log sessions texts
+    → (events : List Event) (told : LogWithTexts) (replies : List (Option Reply))
     → TellsAll limit (told_of log texts) events told replies → (new : Relay) × RelayRuns (relay_of limit log sessions) events new replies × (new.log ≡ told.log)
 run_told limit log sessions texts agrees [] told replies h = (relay_of limit log sessions, (refl, h.1), sym (ap (λ (t : LogWithTexts). t.log) h.0))
 run_told limit log sessions texts agrees (event ∷ events) told replies h =
     let s = told_step limit log sessions texts agrees event h.0 h.1 h.3 in
     let b = s.both in
-    let rest = run_told limit b.log_now b.sessions_now b.texts_now b.agree events told h.2 (subst (λ (t : LogWithTexts). TellsAll limit t events told h.2) s.new_is h.4) in
-    (rest.0, (relay_of limit b.log_now b.sessions_now, h.1, h.2, subst (RelaySteps (relay_of limit log sessions) event (relay_of limit b.log_now b.sessions_now)) (sym s.reply_is) b.steps, rest.1, h.5), rest.2)
+    let rest = run_told limit b.log_now b.sessions_now b.texts_now b.agree events told h.2 (subst (λ (t : LogWithTexts). TellsAll limit t events told h.2) s.new_is h.4) in (
+      rest.0,
+      (
+        relay_of limit b.log_now b.sessions_now,
+        h.1,
+        h.2,
+        subst (RelaySteps (relay_of limit log sessions) event (relay_of limit b.log_now b.sessions_now)) (sym s.reply_is) b.steps,
+        rest.1,
+        h.5,
+      ),
+      rest.2,
+    )
 
 -- before any event
 none_told : (limit : ℕ) → Agrees limit [] finite.empty finite.empty

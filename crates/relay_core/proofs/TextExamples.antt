@@ -1,4 +1,5 @@
--- Small texts of sessions, and what they say: each row has the limit, the log, the text that came, the bytes that come, the log behind them, and the answer.
+-- Small texts of sessions, and what they say: each row has the limit, the log, the text that came, the bytes that come,
+-- the log behind them, and the answer.
 use Rattle.std.proofs.Common.{[], List, ap, arith, drop, inl, inr, refl, sym, take, ℕ, ◌++◌, ◌-◌, ◌<◌, ◌∷◌, ◌≡◌}
 use Rattle.std.specs.Prelude.{None, Some}
 use Rattle.std.specs.Char.{IsScalar}
@@ -134,7 +135,8 @@ letters_are = record {
     text = record {
       some = omega arith;
       short = omega arith;
-      scalars = All-cons IsScalar 97 (98 ∷ 99 ∷ 100 ∷ 101 ∷ []) refl (All-cons IsScalar 98 (99 ∷ 100 ∷ 101 ∷ []) refl (All-cons IsScalar 99 (100 ∷ 101 ∷ []) refl (All-cons IsScalar 100 (101 ∷ []) refl
+      scalars = All-cons IsScalar 97 (98 ∷ 99 ∷ 100 ∷ 101 ∷ []) refl
+          (All-cons IsScalar 98 (99 ∷ 100 ∷ 101 ∷ []) refl (All-cons IsScalar 99 (100 ∷ 101 ∷ []) refl (All-cons IsScalar 100 (101 ∷ []) refl
           (All-cons IsScalar 101 [] refl (All-nil IsScalar)))));
     };
     counters_fit = omega arith;

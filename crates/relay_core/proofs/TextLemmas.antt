@@ -6,7 +6,8 @@ use Rattle.std.proofs.lemmas.List.Elements.{All-cons, All-head, All-nil, All-tai
 use Rattle.fugue_ids.specs.declared.op.Op.{Op}
 use Rattle.origin_model.specs.declared.grammar.Grammar.TheVariants.{Version2}
 use Rattle.origin_model.specs.frames.Frames.{Framed, IsFrame, IsPartial, Starts}
-use Rattle.origin_model.specs.relay.Session.{Closing, Frame, Front, IsKind, Kind, Neither, Taken, TakesAll, closing, session_goes_on, log_joined, refusal_message, session_refused, reply_from, told}
+use Rattle.origin_model.specs.relay.Session.{Closing, Frame, Front, IsKind, Kind, Neither, Taken, TakesAll, closing, session_goes_on, log_joined, refusal_message, session_refused}
+use Rattle.origin_model.specs.relay.Session.{reply_from, told}
 use Rattle.origin_model.proofs.SharedLemmas.{all_once, bytes_of, closed_takes, closing_takes, frame_takes, front_takes, ops_of, partly, takes-append}
 use Rattle.op_frame.proofs.ReadingLemmas.{frames_once, no_bytes_are_partial}
 use Rattle.relay_core.specs.Sessions.{becomes}
@@ -21,7 +22,8 @@ behind limit (x ∷ xs) ys start middle after h i =
     behind limit xs ys i.0 middle after (subst (λ (t : Taken). TakesAll limit (xs ++ ys) t after) same h.2) i.2
 
 -- frames that come behind a whole message
-frames_take : (limit cursor : ℕ) (found : List Framed) (log : List (List ℕ)) (rest : List ℕ) (after : Taken) → All (IsFrame Version2) found → length (log_with_ops log (ops_of found)) ≤ limit
+frames_take : (limit cursor : ℕ) (found : List Framed) (log : List (List ℕ)) (rest : List ℕ) (after : Taken) → All (IsFrame Version2) found
+    → length (log_with_ops log (ops_of found)) ≤ limit
     → TakesAll limit rest (session_goes_on (log_with_ops log (ops_of found)) cursor) after → TakesAll limit (bytes_of found ++ rest) (session_goes_on log cursor) after
 frames_take limit cursor [] log rest after are room h = h
 frames_take limit cursor (f ∷ found) log rest after are room h =
@@ -32,11 +34,13 @@ frames_take limit cursor (f ∷ found) log rest after are room h =
     (subst (λ (l : List (List ℕ)). TakesAll limit rest (session_goes_on l cursor) after) both h) in
     let is : log_joined limit log cursor f.ops ≡ session_goes_on now cursor = all_join limit cursor f.ops (ops_of found) log room in
     subst (λ (bytes : List ℕ). TakesAll limit bytes (session_goes_on log cursor) after) (sym (append_assoc f.bytes (bytes_of found) rest))
-    (takes-append limit f.bytes (bytes_of found ++ rest) (session_goes_on log cursor) (log_joined limit log cursor f.ops) after (frame_takes f (All-head (IsFrame Version2) f found are) limit cursor log)
+    (takes-append limit f.bytes (bytes_of found ++ rest) (session_goes_on log cursor) (log_joined limit log cursor f.ops) after
+    (frame_takes f (All-head (IsFrame Version2) f found are) limit cursor log)
     (subst (λ (t : Taken). TakesAll limit (bytes_of found ++ rest) t after) (sym is) more))
 
 -- operations that come behind a whole message
-pub starts_take : (limit cursor : ℕ) (ops : List Op) (log : List (List ℕ)) (messages rest : List ℕ) (after : Taken) → Starts Version2 messages ops rest → length (log_with_ops log ops) ≤ limit
+pub starts_take : (limit cursor : ℕ) (ops : List Op) (log : List (List ℕ)) (messages rest : List ℕ) (after : Taken) → Starts Version2 messages ops rest
+    → length (log_with_ops log ops) ≤ limit
     → TakesAll limit rest (session_goes_on (log_with_ops log ops) cursor) after → TakesAll limit messages (session_goes_on log cursor) after
 starts_take limit cursor ops log messages rest after starts room h =
     subst (λ (bytes : List ℕ). TakesAll limit bytes (session_goes_on log cursor) after) (sym starts.split)
@@ -57,10 +61,12 @@ front_goes limit cursor log rest p = by p.more p.lacks p.front
 
 -- what the log is, and what becomes of the session, behind the frames of a text
 abbrev pub outcome : FollowsFrames → (cursor : ℕ) → List (List ℕ) → (rest : List ℕ) → Taken
-outcome follows cursor log rest = record { log = log_with_ops log (joined_behind follows); next = becomes (closing_bytes follows log cursor) (record { cursor = Some cursor; rest = rest }) }
+outcome follows cursor log rest =
+    record { log = log_with_ops log (joined_behind follows); next = becomes (closing_bytes follows log cursor) (record { cursor = Some cursor; rest = rest }) }
 
 -- what follows the frames of a text
-pub rest_takes : (follows : FollowsFrames) (limit cursor : ℕ) (log : List (List ℕ)) (rest : List ℕ) → StandsInText follows limit log rest → TakesAll limit rest (session_goes_on log cursor) (outcome follows cursor log rest)
+pub rest_takes : (follows : FollowsFrames) (limit cursor : ℕ) (log : List (List ℕ)) (rest : List ℕ) → StandsInText follows limit log rest
+    → TakesAll limit rest (session_goes_on log cursor) (outcome follows cursor log rest)
 rest_takes Unfinished limit cursor log rest s = front_goes limit cursor log rest s
 rest_takes Closed limit cursor log rest s =
     let after : Taken = outcome Closed cursor log rest in
@@ -96,11 +102,13 @@ pub record Reads (limit cursor : ℕ) (log : List (List ℕ)) (bytes : List ℕ)
 
 module _ (limit cursor : ℕ) (after : Taken) where
   -- no frame more
-  reads_none : (log : List (List ℕ)) (bytes : List ℕ) (follows : FollowsFrames) → length log ≤ limit → StandsInText follows limit log bytes → after ≡ outcome follows cursor log bytes → Reads limit cursor log bytes after
+  reads_none : (log : List (List ℕ)) (bytes : List ℕ) (follows : FollowsFrames) → length log ≤ limit → StandsInText follows limit log bytes
+      → after ≡ outcome follows cursor log bytes → Reads limit cursor log bytes after
   reads_none log bytes follows room stands is = record { new = []; rest = bytes; follows = follows; starts = none_starts bytes; room = room; stands = stands; after_is = is }
 
   -- a frame more, all of whose operations join
-  reads_frame : (log : List (List ℕ)) (framed : Framed) (bytes : List ℕ) → IsFrame Version2 framed → Reads limit cursor (log_with_ops log framed.ops) bytes after → Reads limit cursor log (framed.bytes ++ bytes) after
+  reads_frame : (log : List (List ℕ)) (framed : Framed) (bytes : List ℕ) → IsFrame Version2 framed → Reads limit cursor (log_with_ops log framed.ops) bytes after
+      → Reads limit cursor log (framed.bytes ++ bytes) after
   reads_frame log framed bytes is r =
       let both : log_with_ops (log_with_ops log framed.ops) r.new ≡ log_with_ops log (framed.ops ++ r.new) = sym (with_ops-append framed.ops r.new log) in
       record {
@@ -120,10 +128,12 @@ module _ (limit cursor : ℕ) (after : Taken) where
 
   -- the log a byte further
   abbrev Further : List ℕ → Type 0
-  Further bytes = (log : List (List ℕ)) (rest : List ℕ) → length log ≤ limit → IsPartial Version2 rest → TakesAll limit bytes (partly log cursor rest) after → Reads limit cursor log (rest ++ bytes) after
+  Further bytes = (log : List (List ℕ)) (rest : List ℕ) → length log ≤ limit → IsPartial Version2 rest → TakesAll limit bytes (partly log cursor rest) after
+      → Reads limit cursor log (rest ++ bytes) after
 
   -- a frame is whole
-  frame_reads : (log : List (List ℕ)) (framed : Framed) (bytes : List ℕ) → IsFrame Version2 framed → length log ≤ limit → Further bytes → TakesAll limit bytes (log_joined limit log cursor framed.ops) after
+  frame_reads : (log : List (List ℕ)) (framed : Framed) (bytes : List ℕ) → IsFrame Version2 framed → length log ≤ limit → Further bytes
+      → TakesAll limit bytes (log_joined limit log cursor framed.ops) after
       → Reads limit cursor log (framed.bytes ++ bytes) after
   frame_reads log framed bytes is room further h = by (all_or_refused limit framed.ops log room)
     where
@@ -132,22 +142,28 @@ module _ (limit cursor : ℕ) (after : Taken) where
 
       by : (length now ≤ limit) ⊎ IsRefused limit log framed.ops → Reads limit cursor log (framed.bytes ++ bytes) after
       by (inl fits) =
-          reads_frame log framed bytes is (further now [] fits (no_bytes_are_partial Version2) (subst (λ (t : Taken). TakesAll limit bytes t after) (all_join limit cursor framed.ops [] log
+          reads_frame log framed bytes is
+          (further now [] fits (no_bytes_are_partial Version2) (subst (λ (t : Taken). TakesAll limit bytes t after) (all_join limit cursor framed.ops [] log
           (subst (λ (l : List Op). length (log_with_ops log l) ≤ limit) (sym (append-nil framed.ops)) fits)) h))
       by (inr f) =
           let refused : Taken = session_refused (log_with_ops log f.before) 2 in
-          let same : log_joined limit log cursor framed.ops ≡ refused = ap (log_joined limit log cursor) f.split ∙ one_too_many limit cursor f.before f.op f.later log f.lacks f.full in
-          let whole : IsFrame Version2 (record { bytes = framed.bytes; ops = f.before ++ f.op ∷ f.later }) = subst (λ (l : List Op). IsFrame Version2 (record { bytes = framed.bytes; ops = l })) f.split is in
+          let same : log_joined limit log cursor framed.ops ≡ refused =
+          ap (log_joined limit log cursor) f.split ∙ one_too_many limit cursor f.before f.op f.later log f.lacks f.full in
+          let whole : IsFrame Version2 (record { bytes = framed.bytes; ops = f.before ++ f.op ∷ f.later }) =
+          subst (λ (l : List Op). IsFrame Version2 (record { bytes = framed.bytes; ops = l })) f.split is in
           reads_none log (framed.bytes ++ bytes) (OneTooMany f.before) room (f.op, f.later, framed.bytes, bytes, whole, refl, f.lacks, f.full)
-          (all_once frames_once limit bytes refused after refused (subst (λ (t : Taken). TakesAll limit bytes t after) same h) (closed_takes limit bytes (log_with_ops log f.before) (refusal_message 2)))
+          (all_once frames_once limit bytes refused after refused (subst (λ (t : Taken). TakesAll limit bytes t after) same h)
+          (closed_takes limit bytes (log_with_ops log f.before) (refusal_message 2)))
 
   -- one byte more
-  kind_reads : (log : List (List ℕ)) (rest : List ℕ) (byte : ℕ) (bytes : List ℕ) → length log ≤ limit → IsPartial Version2 rest → Further bytes → (kind : Kind) → IsKind kind (rest ++ byte ∷ [])
+  kind_reads : (log : List (List ℕ)) (rest : List ℕ) (byte : ℕ) (bytes : List ℕ) → length log ≤ limit → IsPartial Version2 rest → Further bytes → (kind : Kind)
+      → IsKind kind (rest ++ byte ∷ [])
       → TakesAll limit bytes (told kind limit log cursor (rest ++ byte ∷ [])) after → Reads limit cursor log ((rest ++ byte ∷ []) ++ bytes) after
   kind_reads log rest byte bytes room partial further (Frame ops) f h = frame_reads log (record { bytes = rest ++ byte ∷ []; ops = ops }) bytes f room further h
   kind_reads log rest byte bytes room partial further Closing f h =
       reads_none log ((rest ++ byte ∷ []) ++ bytes) Closed room (bytes, ap (λ (b : List ℕ). b ++ bytes) f)
-      (all_once frames_once limit bytes (told Closing limit log cursor closing) after (told Closing limit log cursor closing) h (closed_takes limit bytes log (reply_from log cursor)))
+      (all_once frames_once limit bytes (told Closing limit log cursor closing) after (told Closing limit log cursor closing) h
+      (closed_takes limit bytes log (reply_from log cursor)))
   kind_reads log rest byte bytes room partial further Front f h = further log (rest ++ byte ∷ []) room f h
   kind_reads log rest byte bytes room partial further Neither f h =
       reads_none log ((rest ++ byte ∷ []) ++ bytes) Foreign room
@@ -155,7 +171,8 @@ module _ (limit cursor : ℕ) (after : Taken) where
       (all_once frames_once limit bytes (session_refused log 1) after (session_refused log 1) h (closed_takes limit bytes log (refusal_message 1)))
 
 -- bytes behind a whole message and a front of the next one
-pub reads : (limit cursor : ℕ) (after : Taken) (bytes : List ℕ) (log : List (List ℕ)) (rest : List ℕ) → length log ≤ limit → IsPartial Version2 rest → TakesAll limit bytes (partly log cursor rest) after
+pub reads : (limit cursor : ℕ) (after : Taken) (bytes : List ℕ) (log : List (List ℕ)) (rest : List ℕ) → length log ≤ limit → IsPartial Version2 rest
+    → TakesAll limit bytes (partly log cursor rest) after
     → Reads limit cursor log (rest ++ bytes) after
 reads limit cursor after [] log rest room partial h =
     subst (λ (b : List ℕ). Reads limit cursor log b after) (sym (append-nil rest)) (reads_none limit cursor after log rest Unfinished room partial h)

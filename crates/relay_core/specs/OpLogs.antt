@@ -16,15 +16,18 @@ pub record IsLogOf (log : List (List ℕ)) (ops : List Op) : Type 0 where
 -- the log of a relay that any events lead to is one of operations, no more than the limit
 abbrev pub LogsAreOfOperations : Type 0
 LogsAreOfOperations =
-    (limit : ℕ) (events : List Event) (relay : Relay) → IsRelayState limit events relay → ((ops : List Op) × IsLogOf relay.log ops) × (length relay.log ≤ limit)
+    (limit : ℕ) (events : List Event) (relay : Relay) → IsRelayState limit events relay
+    → ((ops : List Op) × IsLogOf relay.log ops) × (length relay.log ≤ limit)
 
 -- further events put frames behind those of the log, and take none away
 abbrev pub LogsGrow : Type 0
 LogsGrow =
-    (limit : ℕ) (before : List Event) (old new : Relay) (events : List Event) (replies : List (Option Reply)) → IsRelayState limit before old → RelayRuns old events new replies
+    (limit : ℕ) (before : List Event) (old new : Relay) (events : List Event) (replies : List (Option Reply))
+    → IsRelayState limit before old → RelayRuns old events new replies
     → (more : List (List ℕ)) × (new.log ≡ old.log ++ more)
 
--- A reply tells the log's length. Whoever begins there the next time gets what came since: the frames that he got and those of the next reply are those of a reply from his first cursor
+-- A reply tells the log's length. Whoever begins there the next time gets what came since: the frames that he got and
+-- those of the next reply are those of a reply from his first cursor
 abbrev pub RepliesJoin : Type 0
 RepliesJoin =
     (cursor : ℕ) (log more : List (List ℕ)) → cursor ≤ length log

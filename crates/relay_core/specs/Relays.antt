@@ -12,12 +12,15 @@ use Rattle.relay_core.specs.Sessions.{reply_list}
 -- a reading has a code, so that sessions may be kept in a map
 abbrev pub coded_reading : Coded SessionReading
 coded_reading =
-    code_by (Option ℕ × List ℕ) (coded× (coded_option coded_ℕ) (coded_list coded_ℕ)) (λ r. (r.cursor, r.rest)) (λ p. record { cursor = p.0; rest = p.1 }) (λ _. refl)
+    code_by (Option ℕ × List ℕ) (coded× (coded_option coded_ℕ) (coded_list coded_ℕ)) (λ r. (r.cursor, r.rest))
+    (λ p. record { cursor = p.0; rest = p.1 }) (λ _. refl)
 
 -- a relay has a code
 abbrev pub coded_relay : Coded Relay
 coded_relay =
-    code_by (ℕ × (List (List ℕ) × Sessions)) (coded× coded_ℕ (coded× (coded_list (coded_list coded_ℕ)) (finite.code coded_ℕ coded_reading))) (λ r. (r.limit, (r.log, r.sessions)))
+    code_by (ℕ × (List (List ℕ) × Sessions))
+    (coded× coded_ℕ (coded× (coded_list (coded_list coded_ℕ)) (finite.code coded_ℕ coded_reading)))
+    (λ r. (r.limit, (r.log, r.sessions)))
     (λ p. record { limit = p.0; log = p.1.0; sessions = p.1.1 }) (λ _. refl)
 
 -- the event took the relay from old to new, and these are the replies

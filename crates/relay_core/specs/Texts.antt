@@ -1,5 +1,7 @@
--- A relay by the whole texts of its sessions. The text of a session is the bytes of its pieces joined, from its opening until a reply closes it or it is gone.
-use Rattle.std.specs.Prelude.{◌≡◌, ◌≢◌, ◌⊎◌, ℕ, ◌<◌, ◌≤◌, false, true, List, [], ◌∷◌, ◌++◌, length, Option, Some, None, if◌then◌else◌, option_map}
+-- A relay by the whole texts of its sessions. The text of a session is the bytes of its pieces joined, from its opening
+-- until a reply closes it or it is gone.
+use Rattle.std.specs.Prelude.{◌≡◌, ◌≢◌, ◌⊎◌, ℕ, ◌<◌, ◌≤◌, false, true, List, [], ◌∷◌, ◌++◌, length, Option, Some, None, if◌then◌else◌}
+use Rattle.std.specs.Prelude.{option_map}
 use Rattle.std.specs.FinMap as finite
 use Rattle.std.specs.Int.{from_be_bytes, w32}
 use Rattle.std.specs.Ordering.{nat_cmp}
@@ -42,7 +44,8 @@ pub record IsForeign (bytes : List ℕ) : Type 0 where
   pub was_front : IsPartial Version2 before
   pub is_none : IsKind Neither bytes
 
--- what follows the frames of a text: nothing or a proper front of a frame, the closing byte, bytes that are no message and begin none, or a frame of which these operations joined, and the next one was one too many
+-- what follows the frames of a text: nothing or a proper front of a frame, the closing byte, bytes that are no message
+-- and begin none, or a frame of which these operations joined, and the next one was one too many
 pub data FollowsFrames : Type 0 where
   Unfinished : FollowsFrames
   Closed : FollowsFrames
@@ -55,23 +58,27 @@ StandsInText Unfinished limit log rest = IsPartial Version2 rest
 StandsInText Closed limit log rest = (behind : List ℕ) × (rest ≡ closing ++ behind)
 StandsInText Foreign limit log rest = (shown : List ℕ) × (behind : List ℕ) × IsForeign shown × (rest ≡ shown ++ behind)
 StandsInText (OneTooMany joined) limit log rest =
-    (op : Op) × (later : List Op) × (bytes : List ℕ) × (behind : List ℕ) × IsFrame Version2 (record { bytes = bytes; ops = joined ++ op ∷ later }) × (rest ≡ bytes ++ behind)
+    (op : Op) × (later : List Op) × (bytes : List ℕ) × (behind : List ℕ)
+    × IsFrame Version2 (record { bytes = bytes; ops = joined ++ op ∷ later }) × (rest ≡ bytes ++ behind)
     × (is_logged (log_with_ops log joined) (frame op) ≡ false) × (length (log_with_ops log joined) ≡ limit)
 
--- what the text of a session is: a front of its greeting, one that does not begin with 48, one whose cursor is beyond the log, or one that says operations
+-- what the text of a session is: a front of its greeting, one that does not begin with 48, one whose cursor is beyond
+-- the log, or one that says operations
 pub data SessionText : Type 0 where
   Greets : SessionText
   NoGreeting : SessionText
   Beyond : SessionText
   Speaks : (cursor : ℕ) → (new : List Op) → (rest : List ℕ) → FollowsFrames → SessionText
 
--- The text has frames of the operations before, and of new ones that came to this log. Its cursor was compared with the log as its fourth byte came.
+-- The text has frames of the operations before, and of new ones that came to this log. Its cursor was compared with the
+-- log as its fourth byte came.
 abbrev pub IsCourse : SessionText → (limit : ℕ) → (log : List (List ℕ)) → (before : List Op) → (text : List ℕ) → Type 0
 IsCourse Greets limit log before text = IsGreetingFront text
 IsCourse NoGreeting limit log before text = (first : ℕ) × (behind : List ℕ) × (first ≢ greeting) × (text ≡ first ∷ behind)
 IsCourse Beyond limit log before text = (cursor : ℕ) × (behind : List ℕ) × SaysCursor text cursor [] behind × (length log < cursor)
 IsCourse (Speaks cursor new rest follows) limit log before text =
-    SaysCursor text cursor (before ++ new) rest × (cursor ≤ length log) × (length (log_with_ops log new) ≤ limit) × StandsInText follows limit (log_with_ops log new) rest
+    SaysCursor text cursor (before ++ new) rest × (cursor ≤ length log) × (length (log_with_ops log new) ≤ limit)
+    × StandsInText follows limit (log_with_ops log new) rest
 
 -- what joined of the frame with an operation too many stays
 abbrev pub joined_behind : FollowsFrames → List Op
@@ -99,10 +106,12 @@ reply_to_text (Speaks cursor new rest follows) log = closing_bytes follows (log_
 
 -- the text of an open session, and the operations that its frames stand for
 abbrev pub HasCome : (text : List ℕ) → List Op → Type 0
-HasCome text before = (IsGreetingFront text × (before ≡ [])) ⊎ ((cursor : ℕ) × (rest : List ℕ) × SaysCursor text cursor before rest × IsPartial Version2 rest)
+HasCome text before = (IsGreetingFront text × (before ≡ []))
+    ⊎ ((cursor : ℕ) × (rest : List ℕ) × SaysCursor text cursor before rest × IsPartial Version2 rest)
 
 -- bytes come to the text of an open session: the log behind them, and the bytes with which the session is closed, where it is
-pub record ComesToText (limit : ℕ) (log : List (List ℕ)) (text bytes : List ℕ) (new_log : List (List ℕ)) (answer : Option (List ℕ)) : Type 0 where
+pub record ComesToText (limit : ℕ) (log : List (List ℕ)) (text bytes : List ℕ) (new_log : List (List ℕ))
+    (answer : Option (List ℕ)) : Type 0 where
   pub before : List Op
   pub has_come : HasCome text before
   pub course : SessionText
@@ -137,14 +146,16 @@ abbrev pub reply_with : ℕ → Option (List ℕ) → Option Reply
 reply_with n answer = option_map (λ bytes. record { session = n; bytes = bytes; closes = true }) answer
 
 -- a piece of an open session
-pub record TellsPiece (limit : ℕ) (old : LogWithTexts) (n : ℕ) (text bytes : List ℕ) (new : LogWithTexts) (reply : Option Reply) : Type 0 where
+pub record TellsPiece (limit : ℕ) (old : LogWithTexts) (n : ℕ) (text bytes : List ℕ) (new : LogWithTexts)
+    (reply : Option Reply) : Type 0 where
   pub answer : Option (List ℕ)
   pub comes : ComesToText limit old.log text bytes new.log answer
   pub texts_are : new.texts ≡ texts_behind n old.texts (text ++ bytes) answer
   pub reply_is : reply ≡ reply_with n answer
 
 -- a piece of a session that is unknown or closed changes nothing, and has no reply
-abbrev pub TellsTo : (limit : ℕ) → (old : LogWithTexts) → (n : ℕ) → Option (List ℕ) → (bytes : List ℕ) → (new : LogWithTexts) → Option Reply → Type 0
+abbrev pub TellsTo : (limit : ℕ) → (old : LogWithTexts) → (n : ℕ) → Option (List ℕ) → (bytes : List ℕ) → (new : LogWithTexts)
+    → Option Reply → Type 0
 TellsTo limit old n None bytes new reply = (new ≡ old) × (reply ≡ None)
 TellsTo limit old n (Some text) bytes new reply = TellsPiece limit old n text bytes new reply
 
@@ -158,4 +169,5 @@ Tells limit old (Gone n) new reply = (new ≡ record { log = old.log; texts = fi
 abbrev pub TellsAll : (limit : ℕ) → (old : LogWithTexts) → List Event → (new : LogWithTexts) → List (Option Reply) → Type 0
 TellsAll limit old [] new replies = (new ≡ old) × (replies ≡ [])
 TellsAll limit old (event ∷ events) new replies =
-    (middle : LogWithTexts) × (reply : Option Reply) × (rest : List (Option Reply)) × Tells limit old event middle reply × TellsAll limit middle events new rest × (replies ≡ reply ∷ rest)
+    (middle : LogWithTexts) × (reply : Option Reply) × (rest : List (Option Reply)) × Tells limit old event middle reply
+    × TellsAll limit middle events new rest × (replies ≡ reply ∷ rest)

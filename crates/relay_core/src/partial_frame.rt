@@ -1,6 +1,6 @@
 ghost use Rattle.std.specs.Prelude.{◌≡◌, ◌∷◌, ◌++◌, []};
 ghost use Rattle.origin_model.specs.declared.grammar.Grammar.TheVariants.{Version2 as WithRuns};
-ghost use Rattle.op_frame.specs.FrameFronts.{IsFrameFront, grown_to};
+ghost use Rattle.op_frame.specs.FrameFronts.{IsFrameStage, grown_to};
 
 use op_frame::{FrameFront, Grown};
 use origin_model::Grammar;
@@ -57,7 +57,7 @@ impl PartialFrame {
 
     /// One byte more, unless no frame begins with the bytes then.
     pub(crate) fn push(&mut self, byte: u8) -> Grown
-        ensures is { IsFrameFront result WithRuns (self.old ++ byte ∷ []) }
+        ensures is { IsFrameStage result WithRuns (self.old ++ byte ∷ []) }
         ensures bytes { self.new ≡ grown_to result self.old byte }
     {
         self.front.push(byte)

@@ -33,7 +33,8 @@ abbrev turns : List Event
 turns = Opened 1 ∷ Opened 2 ∷ Piece 2 first_bytes ∷ Piece 1 first_bytes ∷ Piece 2 last_bytes ∷ Piece 1 last_bytes ∷ []
 
 -- pieces of two sessions take turns
-taking_turns : IsRow 0 (sending 1 ∷ sending 2 ∷ []) turns × IsRow 1 (sending 1 ∷ sending 2 ∷ []) turns × IsRow 2 (sending 1 ∷ sending 2 ∷ []) turns × IsRow 3 (sending 1 ∷ sending 2 ∷ []) turns
+taking_turns : IsRow 0 (sending 1 ∷ sending 2 ∷ []) turns × IsRow 1 (sending 1 ∷ sending 2 ∷ []) turns × IsRow 2 (sending 1 ∷ sending 2 ∷ []) turns
+    × IsRow 3 (sending 1 ∷ sending 2 ∷ []) turns
 taking_turns = (refl, refl, refl, refl)
 
 -- a number is used again once its session is over

@@ -21,13 +21,16 @@ use Rattle.origin_model.specs.order.Laws.{IsPartOf, OrderBySet, SameOps}
 use Rattle.origin_model.specs.relay.Relay.{IsRelayState, Relay}
 use Rattle.origin_model.specs.relay.Session.{is_logged, reply_from}
 use Rattle.origin_model.specs.taking.Closure.{ClosureBySet, ClosureOfUnion, Consistent, Taker, WithinLimits, given_by, given_by_all, kept_by, kept_by_all, taker_state}
-use Rattle.origin_model.specs.taking.Taking.{Accepted, Again, Answer, Conflict, Full, Held, Stray, TooMany, Waits, answer, answer_counted, answers_from, closure, held, held_from, intake, intake_counted, no_counts, nothing_held, tally_from}
-use Rattle.origin_model.proofs.SharedLemmas.{consistent_part, Covers, fold_covers, has-append, kept_suffice, nothing_covers, nothing_settled, part_at_end, part_in_front, parts_join}
+use Rattle.origin_model.specs.taking.Taking.{Accepted, Again, Answer, Conflict, Full, Held, Stray, TooMany, Waits, answer, answer_counted, answers_from, closure, held, held_from}
+use Rattle.origin_model.specs.taking.Taking.{intake, intake_counted, no_counts, nothing_held, tally_from}
+use Rattle.origin_model.proofs.SharedLemmas.{consistent_part, Covers, fold_covers, has-append, kept_suffice, nothing_covers, nothing_settled, part_at_end, part_in_front}
+use Rattle.origin_model.proofs.SharedLemmas.{parts_join}
 use Rattle.op_frame.proofs.ReadingLemmas.{same_front}
 use Rattle.relay_core.specs.OpLogs.{IsLogOf}
 use Rattle.relay_core.proofs.OpLogLemmas.{logs_are_of_operations}
 use Rattle.replica_core.specs.Keeping.{TakesIn}
-use Rattle.relay_sync.specs.Exchanges.{AllAreSent, HearersConverge, HearersHaveTheClosure, HearsLog, IsHonestRequest, IsSentTo, LogsAreWhatWasSent, Sending, beginners, is_whole, senders}
+use Rattle.relay_sync.specs.Exchanges.{AllAreSent, HearersConverge, HearersHaveTheClosure, HearsLog, IsHonestRequest, IsSentTo, LogsAreWhatWasSent, Sending, beginners, is_whole}
+use Rattle.relay_sync.specs.Exchanges.{senders}
 use Rattle.relay_sync.specs.Outcomes.{Ended, ReadsReply}
 use Rattle.relay_sync.proofs.OutcomeLemmas.{reads_once}
 use Rattle.relay_sync.proofs.SentLemmas.{IsGathered, IsLogged, IsOfSent, IsTaken, gathered}
@@ -46,7 +49,8 @@ of_each P (op ∷ ops) x all m = elim (or_cases (op_eq op x) (has_op ops x) m) [
 same_op : (a b : Op) → HasFrame a → HasFrame b → frame a ≡ frame b → a ≡ b
 same_op a b p q e =
     let own : Op → Framed = λ op. record { bytes = frame op; ops = op ∷ [] } in
-    let one = same_front Version2 (own a) (own b) [] [] (record { item = Single a; is_item = p; bytes_are = refl; ops_are = refl }) (record { item = Single b; is_item = q; bytes_are = refl; ops_are = refl })
+    let one = same_front Version2 (own a) (own b) [] [] (record { item = Single a; is_item = p; bytes_are = refl; ops_are = refl })
+    (record { item = Single b; is_item = q; bytes_are = refl; ops_are = refl })
     (ap (λ (l : List ℕ). l ++ []) e) in
     let ops : a ∷ [] ≡ b ∷ [] = one.ops in
     cc ops
@@ -97,7 +101,8 @@ module _ (limit : ℕ) (sendings : List Sending) (relay : Relay) (sent : IsSentT
       let is : IsLogOf relay.log ops = log_ops.0.1 in
       let of_sent : All (λ o. IsOfSent begun (frame o)) ops = all_from_map frame (IsOfSent begun) ops (subst (All (IsOfSent begun)) is.frames_are in_log.within) in
       let one = of_each (λ o. IsOfSent begun (frame o)) ops x of_sent m in
-      let same : x ≡ one.op = same_op x one.op (of_each HasFrame ops x is.have_frames m) (of_each HasFrame begun one.op (all_given HasFrame sendings framed) one.is_sent) one.own_is in
+      let same : x ≡ one.op =
+      same_op x one.op (of_each HasFrame ops x is.have_frames m) (of_each HasFrame begun one.op (all_given HasFrame sendings framed) one.is_sent) one.own_is in
       subst (λ o. has_op begun o ≡ true) (sym same) one.is_sent
 
   -- and what was sent in a whole session, the log has
@@ -141,7 +146,8 @@ none_full hold most s [] t none = All-nil (λ a. a ≢ Full)
 none_full hold most s (op ∷ ops) t none =
     let next : Held = intake hold most s op in
     let now : Tally = intake_counted hold most s op t in
-    All-cons (λ a. a ≢ Full) (answer hold most s op) (answers_from hold most next ops) (not_full (answer hold most s op) t (omega (arith, none, tally_grows hold most next ops now))) (none_full hold most next ops now none)
+    All-cons (λ a. a ≢ Full) (answer hold most s op) (answers_from hold most next ops)
+    (not_full (answer hold most s op) t (omega (arith, none, tally_grows hold most next ops now))) (none_full hold most next ops now none)
 
 -- answers of neither kind
 neither : (answers : List Answer) → All (λ a. a ≢ Full) answers → All (λ a. a ≢ TooMany) answers → WithinLimits answers
@@ -240,7 +246,8 @@ module _ (limit : ℕ) (sendings : List Sending) (relay : Relay) (sent : IsSentT
     accepts_all : (after : Held) → HearsLog relay.log r after → SameOps after.history (closure all)
     accepts_all after h x =
         accepts union r after both_consistent h x
-        ∙ by_set (kept_by r ++ all) all both_consistent (λ y. both_ways (has_op (kept_by r ++ all) y) (has_op all y) (parts_join (kept_by r) all all part (λ z m. m) y) (part_at_end (kept_by r) all y)) x
+        ∙ by_set (kept_by r ++ all) all both_consistent
+        (λ y. both_ways (has_op (kept_by r ++ all) y) (has_op all y) (parts_join (kept_by r) all all part (λ z m. m) y) (part_at_end (kept_by r) all y)) x
 
 pub hearers_have_the_closure : ClosureOfUnion → HearersHaveTheClosure
 hearers_have_the_closure union limit sendings relay r after sent again k h = accepts limit sendings relay sent again union r after k h

@@ -14,7 +14,8 @@ use Rattle.outer_ports.specs.wire.Wires.{WireView}
 use Rattle.replica_core.specs.Keeping.{TakesIn, OpsTaking}
 use Rattle.origin_model.specs.edits.State.{State}
 use Rattle.replica_core.proofs.KeepingLemmas.{same_taking}
-use Rattle.relay_sync.specs.Outcomes.{AnswerIs, AnswersByReply, IsByReply, sync_answer, reply_end_of, BeginsBytes, EndsReply, HeardTo, HeardUpTo, HearsTo, IsNoMessage, ReplyEnd, Ended, Refused as EndsRefused, Bad, Cut, TooLong as EndsTooLong, TooMany as EndsTooMany}
+use Rattle.relay_sync.specs.Outcomes.{AnswerIs, AnswersByReply, IsByReply, sync_answer, reply_end_of, BeginsBytes, EndsReply, HeardTo, HeardUpTo, HearsTo, IsNoMessage, ReplyEnd}
+use Rattle.relay_sync.specs.Outcomes.{Ended, Refused as EndsRefused, Bad, Cut, TooLong as EndsTooLong, TooMany as EndsTooMany}
 use Rattle.relay_sync.specs.Replies.{End, IsBroken, IsMessage, IsMessageFront, Message, Refusal}
 use Rattle.relay_sync.specs.Syncing.{HearsPartly, HearsReply, ReplyStopsFor, TakesNotAll}
 use Rattle.relay_sync.specs.declared.syncing.Synced.{Synced}
@@ -186,11 +187,13 @@ reply_same bytes before after others end other p q =
     )
 
 -- the same behind what was said
-pub heard_behind : (said old new : WireView) (before after : OpsTaking) (count : ℕ) → old.left ≡ said.left → HearsReply old new before after count → HeardTo said.left before after (Ended count)
+pub heard_behind : (said old new : WireView) (before after : OpsTaking) (count : ℕ) → old.left ≡ said.left → HearsReply old new before after count
+    → HeardTo said.left before after (Ended count)
 heard_behind said old new before after count same h =
     subst (λ (told : Option (List ℕ)). HeardTo told before after (Ended count)) same (reply_heard old new before after count h)
 
-pub up_to_behind : (fault : SyncFault) (said old new : WireView) (before after : OpsTaking) → old.left ≡ said.left → HearsPartly fault old new before after → HeardUpTo fault said.left before after
+pub up_to_behind : (fault : SyncFault) (said old new : WireView) (before after : OpsTaking) → old.left ≡ said.left → HearsPartly fault old new before after
+    → HeardUpTo fault said.left before after
 up_to_behind fault said old new before after same h =
     subst (λ (told : Option (List ℕ)). HeardUpTo fault told before after) same (reply_up_to fault old new before after h)
 
@@ -212,7 +215,8 @@ same_end : {x y : ReplyEnd} → Some x ≡ Some y → x ≡ y
 same_end e = cc e
 
 -- the answer to what was heard up to a fault
-fault_is : (fault : SyncFault) (end : ReplyEnd) (old new : WireView) (middle after : OpsTaking) (place : ℕ) (bytes : List ℕ) → reply_end_of fault ≡ Some end → ReplyStopsFor fault old new middle after place bytes → Err fault ≡ sync_answer after end
+fault_is : (fault : SyncFault) (end : ReplyEnd) (old new : WireView) (middle after : OpsTaking) (place : ℕ) (bytes : List ℕ) → reply_end_of fault ≡ Some end
+    → ReplyStopsFor fault old new middle after place bytes → Err fault ≡ sync_answer after end
 fault_is WireFault end old new middle after place bytes is s = absurd (cc is)
 fault_is NoMemory end old new middle after place bytes is s = absurd (cc is)
 fault_is (RelayRefused code) end old new middle after place bytes is s = ap (sync_answer after) (same_end is)
@@ -221,12 +225,14 @@ fault_is (BadReply at) end old new middle after place bytes is s = ap (sync_answ
 fault_is (CutShort at) end old new middle after place bytes is s = ap (sync_answer after) (same_end is)
 fault_is TooLong end old new middle after place bytes is s = ap (sync_answer after) (same_end is)
 
-heard_exactly : (told : Option (List ℕ)) (before after : OpsTaking) (count : ℕ) → HeardTo told before after (Ended count) → IfSome told (AnswersByReply (Ok (record { tally = after.counts; cursor = count })) before)
+heard_exactly : (told : Option (List ℕ)) (before after : OpsTaking) (count : ℕ) → HeardTo told before after (Ended count)
+    → IfSome told (AnswersByReply (Ok (record { tally = after.counts; cursor = count })) before)
 heard_exactly None before after count h = tt
 heard_exactly (Some bytes) before after count h =
     told_exactly before bytes (Ok (record { tally = after.counts; cursor = count })) (record { after = after; end = Ended count; comes = h; answer_is = refl })
 
-up_to_exactly : (told : Option (List ℕ)) (fault : SyncFault) (before after : OpsTaking) → HeardUpTo fault told before after → ((end : ReplyEnd) → reply_end_of fault ≡ Some end → Err fault ≡ sync_answer after end)
+up_to_exactly : (told : Option (List ℕ)) (fault : SyncFault) (before after : OpsTaking) → HeardUpTo fault told before after
+    → ((end : ReplyEnd) → reply_end_of fault ≡ Some end → Err fault ≡ sync_answer after end)
     → (reply_end_of fault ≡ None → IsByReply (Err fault) → ⊥) → IfSome told (AnswersByReply (Err fault) before)
 up_to_exactly told fault before after h is none = by (reply_end_of fault) refl h
   where

@@ -10,7 +10,7 @@ use Rattle.origin_model.specs.declared.grammar.Grammar.{Grammar}
 use Rattle.origin_model.specs.declared.grammar.Grammar.TheVariants.{Version2}
 use Rattle.origin_model.specs.frames.Frames.{IsPartial, Item, Single, Typed, frame, item_bytes}
 use Rattle.origin_model.specs.relay.Session.{refusal_message}
-use Rattle.op_frame.specs.FrameFronts.{IsFrameFront}
+use Rattle.op_frame.specs.FrameFronts.{IsFrameStage}
 use Rattle.op_frame.specs.declared.grown.Grown.{Grown}
 use Rattle.op_frame.specs.declared.grown.Grown.TheVariants.{Bad}
 use Rattle.op_frame.proofs.ToldLemmas.{prepend_none}
@@ -32,7 +32,8 @@ hears-append u v w a b s t = record {
 }
 
 -- a fault behind bytes that were heard
-pub stops_in : (fault : SyncFault) (u v w : WireView) (place : ℕ) (bytes : List ℕ) → u.faults ≤ v.faults → v.room ≡ u.room → StopsIn fault v w place bytes → StopsIn fault u w place bytes
+pub stops_in : (fault : SyncFault) (u v w : WireView) (place : ℕ) (bytes : List ℕ) → u.faults ≤ v.faults → v.room ≡ u.room → StopsIn fault v w place bytes
+    → StopsIn fault u w place bytes
 stops_in WireFault u v w place bytes le room s = (s.0, omega (arith, le, s.1), λ sure. s.2 (ap (λ (r : Option ℕ). is_some r) room ∙ sure))
 stops_in (BadReply at) u v w place bytes le room s = s
 stops_in (CutShort at) u v w place bytes le room s = s
@@ -41,7 +42,8 @@ stops_in NoMemory u v w place bytes le room s = absurd s
 stops_in (RelayRefused code) u v w place bytes le room s = s
 stops_in (TooMany most) u v w place bytes le room s = s
 
-pub stops_behind : (fault : SyncFault) (u v w : WireView) (place : ℕ) (before bytes : List ℕ) → HeardBytes u v bytes → StopsHearing fault v w place (before ++ bytes) → StopsHearing fault u w place before
+pub stops_behind : (fault : SyncFault) (u v w : WireView) (place : ℕ) (before bytes : List ℕ) → HeardBytes u v bytes → StopsHearing fault v w place (before ++ bytes)
+    → StopsHearing fault u w place before
 stops_behind fault u v w place before bytes s t = record {
   bytes = bytes ++ t.bytes;
   hears = hears-append u v w bytes t.bytes s t.hears;
@@ -51,10 +53,24 @@ stops_behind fault u v w place before bytes s t = record {
 -- nothing is a front of the message that ends a reply
 pub number_front : (front more : List ℕ) → 0 < length more → length (front ++ more) ≡ 4 → IsMessageFront (ending ∷ front)
 number_front front more lacks long =
-    record { message = End (from_be_bytes w32 (front ++ more)); whole = ending ∷ (front ++ more); is_message = (front ++ more, long, refl, refl); more = more; lacks = lacks; front = refl }
+    record {
+      message = End (from_be_bytes w32 (front ++ more));
+      whole = ending ∷ (front ++ more);
+      is_message = (front ++ more, long, refl, refl);
+      more = more;
+      lacks = lacks;
+      front = refl;
+    }
 
 pub no_bytes : IsMessageFront []
-no_bytes = record { message = End (from_be_bytes w32 (0 ∷ 0 ∷ 0 ∷ 0 ∷ [])); whole = ending ∷ 0 ∷ 0 ∷ 0 ∷ 0 ∷ []; is_message = (0 ∷ 0 ∷ 0 ∷ 0 ∷ [], refl, refl, refl); more = ending ∷ 0 ∷ 0 ∷ 0 ∷ 0 ∷ []; lacks = omega arith; front = refl }
+no_bytes = record {
+  message = End (from_be_bytes w32 (0 ∷ 0 ∷ 0 ∷ 0 ∷ []));
+  whole = ending ∷ 0 ∷ 0 ∷ 0 ∷ 0 ∷ [];
+  is_message = (0 ∷ 0 ∷ 0 ∷ 0 ∷ [], refl, refl, refl);
+  more = ending ∷ 0 ∷ 0 ∷ 0 ∷ 0 ∷ [];
+  lacks = omega arith;
+  front = refl;
+}
 
 pub refusal_front : IsMessageFront (0x58 ∷ [])
 refusal_front = record { message = Refusal 1; whole = refusal_message 1; is_message = ((omega arith, omega arith), refl); more = 1 ∷ []; lacks = omega arith; front = refl }
@@ -97,7 +113,8 @@ code_behind message whole behind code more is split = by_kind message is (subst 
 
 pub other_is_frame : (message : Message) (whole behind : List ℕ) (x : ℕ) (xs : List ℕ) → x ≢ 0x55 → x ≢ 0x58 → IsMessage message whole → x ∷ xs ≡ whole ++ behind
     → (ops : List Op) × IsMessage (Operations ops) whole
-other_is_frame message whole behind x xs no_end no_refusal is split = by_kind message is (subst (λ (l : List ℕ). IsLead message (get_or l 0 0)) (sym split) (leads message whole behind is))
+other_is_frame message whole behind x xs no_end no_refusal is split =
+    by_kind message is (subst (λ (l : List ℕ). IsLead message (get_or l 0 0)) (sym split) (leads message whole behind is))
   where
     by_kind : (message : Message) → IsMessage message whole → IsLead message x → (ops : List Op) × IsMessage (Operations ops) whole
     by_kind (Operations ops) is lead = (ops, is)
@@ -122,14 +139,15 @@ broken_code code none = record {
 }
 
 -- what the bytes are by the grammar of replies
-pub grown_in : (grown : Grown) (g : Grammar) (bytes : List ℕ) → g ≡ Version2 → IsFrameFront grown g bytes → IsFrameFront grown Version2 bytes
-grown_in grown g bytes same is = subst (λ (h : Grammar). IsFrameFront grown h bytes) same is
+pub grown_in : (grown : Grown) (g : Grammar) (bytes : List ℕ) → g ≡ Version2 → IsFrameStage grown g bytes → IsFrameStage grown Version2 bytes
+grown_in grown g bytes same is = subst (λ (h : Grammar). IsFrameStage grown h bytes) same is
 
 -- a byte with which no frame begins or goes on
-pub broken_frame : (first byte : ℕ) (front bytes : List ℕ) → first ≢ 0x55 → first ≢ 0x58 → front ++ byte ∷ [] ≡ first ∷ bytes → IsMessageFront front → IsFrameFront Bad Version2 (front ++ byte ∷ [])
+pub broken_frame : (first byte : ℕ) (front bytes : List ℕ) → first ≢ 0x55 → first ≢ 0x58 → front ++ byte ∷ [] ≡ first ∷ bytes → IsMessageFront front
+    → IsFrameStage Bad Version2 (front ++ byte ∷ [])
     → IsBroken (first ∷ bytes)
 broken_frame first byte front bytes a b are was grown =
-    let none : IsFrameFront Bad Version2 (first ∷ bytes) = subst (IsFrameFront Bad Version2) are grown in
+    let none : IsFrameStage Bad Version2 (first ∷ bytes) = subst (IsFrameStage Bad Version2) are grown in
     record {
       before = front;
       byte = byte;

@@ -12,7 +12,8 @@ use Rattle.origin_model.specs.frames.Frames.{End as StreamEnd, Whole as EndsWhol
 use Rattle.origin_model.specs.relay.Session.{refusal_message}
 use Rattle.origin_model.specs.taking.Taking.{MeetsNoLimit, Held}
 use Rattle.origin_model.proofs.SharedLemmas.{bytes_of, no_place_left, ops_of}
-use Rattle.op_frame.specs.Courses.{IntakeOutcome, MeetsTooMany, Comes as StreamComes, Whole as StreamWhole, CutShort as StreamCut, BadFrame as StreamBad, TooLong as StreamLong, TooMany as StreamMany}
+use Rattle.op_frame.specs.Courses.{IntakeOutcome, MeetsTooMany, Comes as StreamComes, Whole as StreamWhole, CutShort as StreamCut, BadFrame as StreamBad, TooLong as StreamLong}
+use Rattle.op_frame.specs.Courses.{TooMany as StreamMany}
 use Rattle.op_frame.proofs.CodeLemmas.{same_fronts}
 use Rattle.op_frame.proofs.CourseLemmas.{comes_once, comes_some}
 use Rattle.op_frame.proofs.FrontLemmas.{Front, bad_there, front_of, front_there as part_there, frame_there}
@@ -78,7 +79,8 @@ end_stand (a ∷ b ∷ c ∷ d ∷ more) =
 
 refusal_stand : (xs : List ℕ) → Stand (0x58 ∷ xs)
 refusal_stand [] = front_there refusal_front
-refusal_stand (code ∷ more) = by_code (decided_by (both_decided (less_decided 0 code) (less_decided code 4)) (λ p. (omega (arith, p.0), omega (arith, p.1))) (λ p. (omega (arith, p.0), omega (arith, p.1))))
+refusal_stand (code ∷ more) =
+    by_code (decided_by (both_decided (less_decided 0 code) (less_decided code 4)) (λ p. (omega (arith, p.0), omega (arith, p.1))) (λ p. (omega (arith, p.0), omega (arith, p.1))))
   where
     by_code : Decided (IsCode code) → Stand (0x58 ∷ code ∷ more)
     by_code (inl is) = message_there (Refusal code) (record { whole = refusal_message code; is_message = (is, refl); behind = more; split = refl })
@@ -205,7 +207,8 @@ module _ (size : ℕ) (r s : List ℕ) where
       record { bytes = λ i. one.bytes i ++ behind.bytes i; ops = λ i. one.ops i ++ behind.ops i; rest = behind.rest }
 
   -- one goes up to an end: it has the operations of the other, and further ones
-  first_frames : (fs hs : List Framed) (q : ℕ) (other : ReplyEnd) → All (IsFrame Version2) fs → All (IsFrame Version2) hs → EndsReply size q s other → bytes_of fs ++ r ≡ bytes_of hs ++ s
+  first_frames : (fs hs : List Framed) (q : ℕ) (other : ReplyEnd) → All (IsFrame Version2) fs → All (IsFrame Version2) hs → EndsReply size q s other
+      → bytes_of fs ++ r ≡ bytes_of hs ++ s
       → (more : List Op) × (ops_of hs ≡ ops_of fs ++ more)
   first_frames [] hs q other are too f is = (ops_of hs, refl)
   first_frames (g ∷ fs) [] q other are too f is = absurd (not_ended size q s other g.ops f (first_there g fs s r are (sym is)))
@@ -219,11 +222,15 @@ module _ (size : ℕ) (r s : List ℕ) where
 pub reads_once : (bytes : List ℕ) (ops others : List Op) (end other : ReplyEnd) → ReadsReply bytes ops end → ReadsReply bytes others other → (ops ≡ others) × (end ≡ other)
 reads_once bytes ops others end other p q =
     let size : ℕ = length bytes in
-    let same = same_frames size p.rest q.rest p.found q.found (length (bytes_of p.found)) (length (bytes_of q.found)) end other p.are_frames q.are_frames p.ends q.ends (sym p.split ∙ q.split) in
+    let same = same_frames size p.rest q.rest p.found q.found (length (bytes_of p.found)) (length (bytes_of q.found)) end other p.are_frames q.are_frames p.ends q.ends
+    (sym p.split ∙ q.split) in
     let moved = subst (λ (n : ℕ). EndsReply size n q.rest end) (ap length same.bytes) (subst (λ (l : List ℕ). EndsReply size (length (bytes_of p.found)) l end) same.rest p.ends) in
     let fits = fits_or_not size in
-    let stand = stand_of q.rest in
-    (p.ops_are ∙ same.ops ∙ sym q.ops_are, end_is size (length (bytes_of q.found)) q.rest end fits stand moved ∙ sym (end_is size (length (bytes_of q.found)) q.rest other fits stand q.ends))
+    let stand = stand_of q.rest in (
+      p.ops_are ∙ same.ops ∙ sym q.ops_are,
+      end_is size (length (bytes_of q.found)) q.rest end fits stand moved
+          ∙ sym (end_is size (length (bytes_of q.found)) q.rest other fits stand q.ends),
+    )
 
 module _ (hold most : ℕ) (start : Held) (bytes : List ℕ) where
   -- what is read to an end comes to it, if all finds its place
@@ -245,7 +252,8 @@ module _ (hold most : ℕ) (start : Held) (bytes : List ℕ) where
   read_or_met ops TooMany e = inr (refl, e)
 
   -- where all finds its place, no operation is one too many
-  not_both : (ops others : List Op) (end : ReplyEnd) → MeetsNoLimit hold most start ops → ReadsReply bytes ops end → MeetsTooMany Version2 hold most start (take STREAM_LIMIT bytes) others → ⊥
+  not_both : (ops others : List Op) (end : ReplyEnd) → MeetsNoLimit hold most start ops → ReadsReply bytes ops end
+      → MeetsTooMany Version2 hold most start (take STREAM_LIMIT bytes) others → ⊥
   not_both ops others end places q m =
       let s = starts_more Version2 (take STREAM_LIMIT bytes) m.earlier m.rest m.framed m.behind m.starts m.begins in
       let first = first_frames (length bytes) m.behind q.rest s.found q.found (length (bytes_of q.found)) end s.are_frames q.are_frames q.ends (sym s.split ∙ q.split) in
@@ -258,7 +266,8 @@ module _ (hold most : ℕ) (start : Held) (bytes : List ℕ) where
       regroup a b x c d = simp append_assoc
 
   -- a reply comes to one end
-  pub reply_comes_once : (ops others : List Op) (end other : ReplyEnd) → ReplyComes hold most start bytes ops end → ReplyComes hold most start bytes others other → (ops ≡ others) × (end ≡ other)
+  pub reply_comes_once : (ops others : List Op) (end other : ReplyEnd) → ReplyComes hold most start bytes ops end → ReplyComes hold most start bytes others other
+      → (ops ≡ others) × (end ≡ other)
   reply_comes_once ops others end other p q = both (read_or_met ops end p.ends) (read_or_met others other q.ends)
     where
       both : ReadsReply bytes ops end ⊎ ((end ≡ TooMany) × MeetsTooMany Version2 hold most start (take STREAM_LIMIT bytes) ops)
@@ -267,7 +276,8 @@ module _ (hold most : ℕ) (start : Held) (bytes : List ℕ) where
       both (inl a) (inr b) = absurd (not_both ops others end p.has_place a b.1)
       both (inr a) (inl b) = absurd (not_both others ops other q.has_place b a.1)
       both (inr a) (inr b) =
-          let same = comes_once Version2 hold most start STREAM_LIMIT bytes ops others StreamMany StreamMany (record { has_place = p.has_place; ends = a.1 }) (record { has_place = q.has_place; ends = b.1 }) in
+          let same = comes_once Version2 hold most start STREAM_LIMIT bytes ops others StreamMany StreamMany (record { has_place = p.has_place; ends = a.1 })
+          (record { has_place = q.has_place; ends = b.1 }) in
           (same.0, a.0 ∙ sym b.0)
 
   -- no frame stands where a stream of frames ends
@@ -307,7 +317,8 @@ module _ (hold most : ℕ) (start : Held) (bytes : List ℕ) where
       whole : (ops : List Op) (end : StreamEnd) → length bytes ≤ STREAM_LIMIT → Reads Version2 bytes ops end → Reads Version2 (take STREAM_LIMIT bytes) ops end
       whole ops end fits reads = subst (λ (b : List ℕ). Reads Version2 b ops end) (sym (take_all STREAM_LIMIT bytes fits)) reads
 
-      by_course : (ops : List Op) (course : IntakeOutcome) → StreamComes Version2 hold most start STREAM_LIMIT bytes ops course → (ops : List Op) × (end : ReplyEnd) × ReplyComes hold most start bytes ops end
+      by_course : (ops : List Op) (course : IntakeOutcome) → StreamComes Version2 hold most start STREAM_LIMIT bytes ops course
+          → (ops : List Op) × (end : ReplyEnd) × ReplyComes hold most start bytes ops end
       by_course ops StreamMany c = (ops, TooMany, record { has_place = c.has_place; ends = c.ends })
       by_course ops StreamWhole c = plainly ops EndsWhole c.has_place (whole ops EndsWhole c.ends.0 c.ends.1)
       by_course ops (StreamCut k) c = plainly ops (EndsCutShort k) c.has_place (whole ops (EndsCutShort k) c.ends.0 c.ends.1)

@@ -17,7 +17,15 @@ use Rattle.relay_sync.specs.declared.serving.ServeFault.TheVariants.{DockFault, 
 -- a step that was taken
 pub takes_gives : {E : Type 0} (old new : DockView) (step : DockStep) (buf : List ℕ) → Takes {E = E} old new (Ok step) buf → GivesSteps old new (with_bytes step buf ∷ [])
 takes_gives old new step buf h =
-    record { gave = record { taken = h.taken; comes = (new.coming, h.came, refl) }; nothing_sent = h.nothing_sent; ended = h.ended; ended_at = h.ended_at; ends = h.ends; listens = h.listens; later = h.count.cause.later }
+    record {
+      gave = record { taken = h.taken; comes = (new.coming, h.came, refl) };
+      nothing_sent = h.nothing_sent;
+      ended = h.ended;
+      ended_at = h.ended_at;
+      ends = h.ends;
+      listens = h.listens;
+      later = h.count.cause.later;
+    }
 
 -- one call more
 pub sends_grow : {E T : Type 0} (x : T) (u v w : DockView) (session : ℕ) (piece : List ℕ) (at n : ℕ) → SendsText {E = E} {T = T} u v (Ok x) session (take at piece)
@@ -77,7 +85,8 @@ grows_none None = refl
 grows_none (Some xs) = ap Some (sym (append-nil xs))
 
 -- the reply went out, and its session goes on
-pub replied_on : {E T : Type 0} (x : T) (u v : DockView) (reply : Reply) → reply.closes ≡ false → SendsText {E = E} {T = T} u v (Ok x) reply.session reply.bytes → Replied u v (Some reply)
+pub replied_on : {E T : Type 0} (x : T) (u v : DockView) (reply : Reply) → reply.closes ≡ false → SendsText {E = E} {T = T} u v (Ok x) reply.session reply.bytes
+    → Replied u v (Some reply)
 replied_on {E} {T} x u v reply on s = record {
   sent = each Took u v reply s.writes.ok (λ other apart. took_none (out_to other u) (out_to other v) (s.others other apart).0 (s.others other apart).1);
   ended = rw on (s.ended ∙ grows_none u.ended);
@@ -107,7 +116,8 @@ replied_ended {E} {T} {F} {S} x y u v w reply closes s t = record {
 }
 
 -- a fault while it went out
-pub replied_front : {E T : Type 0} (e : E) (u v : DockView) (reply : Reply) → SendsText {E = E} {T = T} u v (Err e) reply.session reply.bytes → RepliedPartly DockFault u v (Some reply)
+pub replied_front : {E T : Type 0} (e : E) (u v : DockView) (reply : Reply) → SendsText {E = E} {T = T} u v (Err e) reply.session reply.bytes
+    → RepliedPartly DockFault u v (Some reply)
 replied_front {E} {T} e u v reply s = record {
   sent = each TookFront u v reply s.writes.err
       (λ other apart. front_none (out_to other u) (out_to other v) (took_none (out_to other u) (out_to other v) (s.others other apart).0 (s.others other apart).1));

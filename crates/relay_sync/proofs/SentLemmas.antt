@@ -1,5 +1,6 @@
 -- The log of a relay to which replicas sent what they held has the operations that were sent, and no others.
-use Rattle.std.proofs.Common.{Bool, List, [], ap, append-nil, append_assoc, arith, false, inl, inr, length, length-append, nat_eq, refl, subst, sym, true, ℕ, ◌++◌, ◌<◌, ◌∙◌, ◌∷◌, ◌≡◌, ◌≢◌, ◌≤◌, ◌⊎◌}
+use Rattle.std.proofs.Common.{Bool, List, [], ap, append-nil, append_assoc, arith, false, inl, inr, length, length-append, nat_eq, refl, subst, sym, true, ℕ, ◌++◌, ◌<◌, ◌∙◌, ◌∷◌}
+use Rattle.std.proofs.Common.{◌≡◌, ◌≢◌, ◌≤◌, ◌⊎◌}
 use Rattle.std.specs.Prelude.{All, IfSome, None, Option, Some, cond, flat_map, if◌then◌else◌, is_some, map}
 use Rattle.std.specs.Cmp.{nat_cmp_total}
 use Rattle.std.specs.Cmp.Lexicographic.{pointwise}
@@ -30,7 +31,9 @@ use Rattle.origin_model.specs.taking.Closure.{given_by, given_by_all, taker_stat
 use Rattle.origin_model.proofs.SharedLemmas.{bytes_of, has-append, hello, one_kind, ops_of}
 use Rattle.op_frame.proofs.CodeLemmas.{same_fronts}
 use Rattle.op_frame.proofs.ReadingLemmas.{begins_not_partial, framed_some, frames_once, same_front}
-use Rattle.relay_core.specs.Texts.{Beyond, Closed, FollowsFrames, Foreign, Greets, HasCome, IsCourse, IsGreetingFront, NoGreeting, OneTooMany, SaysCursor, SessionText, Speaks, StandsInText, Tells, TellsAll, TellsPiece, TellsTo, OpenTexts, LogWithTexts, Unfinished, log_behind, nothing_told, reply_to_text, reply_with, texts_behind, with_op, log_with_ops}
+use Rattle.relay_core.specs.Texts.{Beyond, Closed, FollowsFrames, Foreign, Greets, HasCome, IsCourse, IsGreetingFront, NoGreeting, OneTooMany, SaysCursor, SessionText, Speaks}
+use Rattle.relay_core.specs.Texts.{StandsInText, Tells, TellsAll, TellsPiece, TellsTo, OpenTexts, LogWithTexts, Unfinished, log_behind, nothing_told, reply_to_text, reply_with}
+use Rattle.relay_core.specs.Texts.{texts_behind, with_op, log_with_ops}
 use Rattle.relay_core.proofs.TellingLemmas.{sessions_by_whole_texts}
 use Rattle.relay_sync.specs.Exchanges.{AreInterleaved, IsHonestRequest, NoneRefused, Sending, beginners, events_of, gone_with, is_whole, session_of}
 use Rattle.relay_sync.specs.Saying.{request_for}
@@ -60,7 +63,8 @@ record IsLeft (sent ops : List Op) (rest left : List ℕ) : Type 0 where
   sent_are : sent ≡ ops ++ ops_of later
   bytes_are : rest ++ left ≡ bytes_of later ++ closing
 
-left_of : (fs found : List Framed) (rest left : List ℕ) → All (IsFrame Version2) fs → All (IsFrame Version2) found → bytes_of fs ++ (rest ++ left) ≡ bytes_of found ++ closing → IsLeft (ops_of found) (ops_of fs) rest left
+left_of : (fs found : List Framed) (rest left : List ℕ) → All (IsFrame Version2) fs → All (IsFrame Version2) found → bytes_of fs ++ (rest ++ left) ≡ bytes_of found ++ closing
+    → IsLeft (ops_of found) (ops_of fs) rest left
 left_of [] found rest left p q e = record { later = found; are = q; sent_are = refl; bytes_are = e }
 left_of (f ∷ fs) [] rest left p q e =
     absurd (frame_not_closing f (All-head (IsFrame Version2) f fs p) (bytes_of fs ++ (rest ++ left)) [] (sym (append_assoc f.bytes (bytes_of fs) (rest ++ left)) ∙ e))
@@ -85,13 +89,16 @@ something_left (f ∷ later) rest [] are p e =
     (record { is_frame = All-head (IsFrame Version2) f later are; split = sym (append-nil rest) ∙ e ∙ append_assoc f.bytes (bytes_of later) closing }) p)
 
 -- behind the closing byte no frame is left, and no byte
-none_later : (later : List Framed) (behind left : List ℕ) → All (IsFrame Version2) later → (closing ++ behind) ++ left ≡ bytes_of later ++ closing → (ops_of later ≡ []) × (length left ≡ 0)
+none_later : (later : List Framed) (behind left : List ℕ) → All (IsFrame Version2) later → (closing ++ behind) ++ left ≡ bytes_of later ++ closing
+    → (ops_of later ≡ []) × (length left ≡ 0)
 none_later [] behind left are e = (refl, omega (arith, ap length e, length-append (closing ++ behind) left))
 none_later (f ∷ later) behind left are e =
-    absurd (frame_not_closing f (All-head (IsFrame Version2) f later are) (bytes_of later ++ closing) (behind ++ left) (sym (append_assoc f.bytes (bytes_of later) closing) ∙ sym e))
+    absurd (frame_not_closing f (All-head (IsFrame Version2) f later are) (bytes_of later ++ closing) (behind ++ left)
+    (sym (append_assoc f.bytes (bytes_of later) closing) ∙ sym e))
 
 -- a text says the same operations however it is read
-same_said : (fs hs : List Framed) (r s : List ℕ) → All (IsFrame Version2) fs → All (IsFrame Version2) hs → IsPartial Version2 r → IsPartial Version2 s → bytes_of fs ++ r ≡ bytes_of hs ++ s → ops_of fs ≡ ops_of hs
+same_said : (fs hs : List Framed) (r s : List ℕ) → All (IsFrame Version2) fs → All (IsFrame Version2) hs → IsPartial Version2 r → IsPartial Version2 s
+    → bytes_of fs ++ r ≡ bytes_of hs ++ s → ops_of fs ≡ ops_of hs
 same_said [] [] r s p q x y e = refl
 same_said [] (h ∷ hs) r s p q x y e =
     absurd (begins_not_partial Version2 r h (bytes_of hs ++ s) (record { is_frame = All-head (IsFrame Version2) h hs q; split = e ∙ append_assoc h.bytes (bytes_of hs) s }) x)
@@ -124,7 +131,8 @@ same_come text a b (inr x) (inr y) =
     let s : SaysCursor text x.0 a x.1 = x.2 in
     let t : SaysCursor text y.0 b y.1 = y.2 in
     let same : s.messages ≡ t.messages = behind_number s.number t.number s.messages t.messages s.four_bytes t.four_bytes (sym s.text_is ∙ t.text_is) in
-    s.starts.ops_are ∙ same_said s.starts.found t.starts.found x.1 y.1 s.starts.are_frames t.starts.are_frames x.3 y.3 (sym s.starts.split ∙ same ∙ t.starts.split) ∙ sym t.starts.ops_are
+    s.starts.ops_are ∙ same_said s.starts.found t.starts.found x.1 y.1 s.starts.are_frames t.starts.are_frames x.3 y.3 (sym s.starts.split ∙ same ∙ t.starts.split)
+    ∙ sym t.starts.ops_are
 
 -- a text that begins a request, and what it says
 module _ (s : Sending) (honest : IsHonestRequest s) where
@@ -134,16 +142,24 @@ module _ (s : Sending) (honest : IsHonestRequest s) where
   long_request : 6 ≤ length (request_for s.cursor (taker_state s.replica))
   long_request =
       let five : length (hello s.cursor) ≡ 5 = refl in
-      omega (arith, five, ap length own_request.bytes_are, length-append (hello s.cursor ++ bytes_of own_request.found) closing, length-append (hello s.cursor) (bytes_of own_request.found))
+      omega (
+        arith,
+        five,
+        ap length own_request.bytes_are,
+        length-append (hello s.cursor ++ bytes_of own_request.found) closing,
+        length-append (hello s.cursor) (bytes_of own_request.found),
+      )
 
-  said_of : (text left : List ℕ) (cursor : ℕ) (ops : List Op) (rest : List ℕ) → text ++ left ≡ request_for s.cursor (taker_state s.replica) → SaysCursor text cursor ops rest → IsLeft (given_by s.replica) ops rest left
+  said_of : (text left : List ℕ) (cursor : ℕ) (ops : List Op) (rest : List ℕ) → text ++ left ≡ request_for s.cursor (taker_state s.replica) → SaysCursor text cursor ops rest
+      → IsLeft (given_by s.replica) ops rest left
   said_of text left cursor ops rest e says =
       let found : List Framed = own_request.found in
       let four : length (to_be_bytes w32 s.cursor) ≡ 4 = refl in
       let same : greeting ∷ (says.number ++ (says.messages ++ left)) ≡ greeting ∷ (to_be_bytes w32 s.cursor ++ (bytes_of found ++ closing)) =
       ap (λ t. greeting ∷ t) (sym (append_assoc says.number says.messages left)) ∙ ap (λ (t : List ℕ). t ++ left) (sym says.text_is) ∙ e ∙ own_request.bytes_are
       ∙ append_assoc (hello s.cursor) (bytes_of found) closing in
-      let messages : says.messages ++ left ≡ bytes_of found ++ closing = behind_number says.number (to_be_bytes w32 s.cursor) (says.messages ++ left) (bytes_of found ++ closing) says.four_bytes four same in
+      let messages : says.messages ++ left ≡ bytes_of found ++ closing =
+      behind_number says.number (to_be_bytes w32 s.cursor) (says.messages ++ left) (bytes_of found ++ closing) says.four_bytes four same in
       let l = left_of says.starts.found found rest left says.starts.are_frames own_request.are_frames
       (sym (append_assoc (bytes_of says.starts.found) rest left) ∙ ap (λ (t : List ℕ). t ++ left) (sym says.starts.split) ∙ messages) in
       record {
@@ -175,7 +191,8 @@ own_logged log op =
     elim (cases_Bool (is_logged log own)) [
       | inl t ↦ subst (λ b. is_logged (if b then log else log ++ own ∷ []) own ≡ true) (sym t) t
       | inr f ↦ subst (λ b. is_logged (if b then log else log ++ own ∷ []) own ≡ true) (sym f)
-          (list_any-append (pointwise nat_eq own) log (own ∷ []) ∙ or_right (is_logged log own) (is_logged (own ∷ []) own) (or_left (pointwise nat_eq own own) false (nat_list_eq_equiv.refl own)))
+          (list_any-append (pointwise nat_eq own) log (own ∷ [])
+          ∙ or_right (is_logged log own) (is_logged (own ∷ []) own) (or_left (pointwise nat_eq own own) false (nat_list_eq_equiv.refl own)))
     ]
 
 all_logged : (log : List (List ℕ)) (ops : List Op) → All (IsLogged (log_with_ops log ops)) ops
@@ -213,7 +230,8 @@ GaveOf all s = All (λ op. has_op all op ≡ true) (given_by s.replica)
 
 gave_of_more : (front all : List Op) (s : Sending) → GaveOf all s → GaveOf (front ++ all) s
 gave_of_more front all s gave =
-    All-weaker (λ op. has_op all op ≡ true) (λ op. has_op (front ++ all) op ≡ true) (λ op t. has-append front all op ∙ or_right (has_op front op) (has_op all op) t) (given_by s.replica) gave
+    All-weaker (λ op. has_op all op ≡ true) (λ op. has_op (front ++ all) op ≡ true) (λ op t. has-append front all op ∙ or_right (has_op front op) (has_op all op) t)
+    (given_by s.replica) gave
 
 all_gave : (sendings : List Sending) → All (GaveOf (given_by_all (beginners sendings))) sendings
 all_gave [] = All-nil (GaveOf [])
@@ -221,7 +239,8 @@ all_gave (s ∷ sendings) =
     let mine : List Op = given_by s.replica in
     let rest : List Op = given_by_all (beginners sendings) in
     All-cons (GaveOf (mine ++ rest)) s sendings
-    (All-weaker (λ op. has_op mine op ≡ true) (λ op. has_op (mine ++ rest) op ≡ true) (λ op t. has-append mine rest op ∙ or_left (has_op mine op) (has_op rest op) t) mine (has_own mine))
+    (All-weaker (λ op. has_op mine op ≡ true) (λ op. has_op (mine ++ rest) op ≡ true) (λ op t. has-append mine rest op ∙ or_left (has_op mine op) (has_op rest op) t) mine
+    (has_own mine))
     (All-weaker (GaveOf rest) (GaveOf (mine ++ rest)) (λ x gave. gave_of_more mine rest x gave) sendings (all_gave sendings))
 
 -- all that the sender of a whole session gave is in the log
@@ -319,7 +338,8 @@ module _ (sendings : List Sending) (honest : All IsHonestRequest sendings) where
   opened_along : (n : ℕ) (log : List (List ℕ)) (text : Option (List ℕ)) (mine : List Event) → Along n log text (Opened n ∷ mine) → (text ≡ None) × Along n log (Some []) mine
   opened_along n log text mine (inl a) = by a.pieces a.todo a.sessions a.events_are
     where
-      by : (pieces : List (List ℕ)) (todo : List Sending) → with_number n ≡ a.done ++ todo → Opened n ∷ mine ≡ pieces_to n pieces ++ flat_map events_of todo → (text ≡ None) × Along n log (Some []) mine
+      by : (pieces : List (List ℕ)) (todo : List Sending) → with_number n ≡ a.done ++ todo → Opened n ∷ mine ≡ pieces_to n pieces ++ flat_map events_of todo
+          → (text ≡ None) × Along n log (Some []) mine
       by [] [] is e = cc e
       by (piece ∷ pieces) todo is e = cc e
       by [] (s ∷ todo) is e =
@@ -346,7 +366,8 @@ module _ (sendings : List Sending) (honest : All IsHonestRequest sendings) where
           )
   opened_along n log text mine (inr a) = by a.pieces a.now.unsent a.more a.events_are
     where
-      by : (pieces : List (List ℕ)) (unsent : List ℕ) → 0 < length (joined_pieces pieces ++ unsent) → Opened n ∷ mine ≡ to_come n pieces unsent a.todo → (text ≡ None) × Along n log (Some []) mine
+      by : (pieces : List (List ℕ)) (unsent : List ℕ) → 0 < length (joined_pieces pieces ++ unsent) → Opened n ∷ mine ≡ to_come n pieces unsent a.todo
+          → (text ≡ None) × Along n log (Some []) mine
       by [] [] more e = absurd (omega (arith, more))
       by [] (byte ∷ unsent) more e = cc e
       by (piece ∷ pieces) unsent more e = cc e
@@ -355,7 +376,8 @@ module _ (sendings : List Sending) (honest : All IsHonestRequest sendings) where
   idle_piece : (n : ℕ) (bytes : List ℕ) (log : List (List ℕ)) (mine : List Event) → Idle n log None (Piece n bytes ∷ mine) → Idle n log None mine
   idle_piece n bytes log mine a = by a.pieces a.todo a.sessions a.events_are
     where
-      by : (pieces : List (List ℕ)) (todo : List Sending) → with_number n ≡ a.done ++ todo → Piece n bytes ∷ mine ≡ pieces_to n pieces ++ flat_map events_of todo → Idle n log None mine
+      by : (pieces : List (List ℕ)) (todo : List Sending) → with_number n ≡ a.done ++ todo → Piece n bytes ∷ mine ≡ pieces_to n pieces ++ flat_map events_of todo
+          → Idle n log None mine
       by [] [] is e = cc e
       by [] (s ∷ todo) is e = cc e
       by (piece ∷ pieces) todo is e = record { none = refl; done = a.done; todo = todo; sessions = is; pieces = pieces; events_are = cc e; taken = a.taken }
@@ -375,8 +397,10 @@ module _ (sendings : List Sending) (honest : All IsHonestRequest sendings) where
     more : HasAll log now
     within : All (IsOfSent sent) log → All (IsOfSent sent) now
 
-  module _ (n : ℕ) (log : List (List ℕ)) (old : List ℕ) (mine : List Event) (done : List Sending) (now : Sending) (todo : List Sending) (is : with_number n ≡ done ++ now ∷ todo) (piece : List ℕ) (pieces : List (List ℕ))
-      (events_are : mine ≡ to_come n pieces now.unsent todo) (request : (old ++ piece) ++ to_say pieces now ≡ request_for now.cursor (taker_state now.replica)) (taken : All (IsTaken log) done)
+  module _ (n : ℕ) (log : List (List ℕ)) (old : List ℕ) (mine : List Event) (done : List Sending) (now : Sending) (todo : List Sending) (is : with_number n ≡ done ++ now ∷ todo)
+      (piece : List ℕ) (pieces : List (List ℕ))
+      (events_are : mine ≡ to_come n pieces now.unsent todo) (request : (old ++ piece) ++ to_say pieces now ≡ request_for now.cursor (taker_state now.replica))
+      (taken : All (IsTaken log) done)
       (before : List Op) (logged : All (IsLogged log) before) where
     abbrev text : List ℕ
     text = old ++ piece
@@ -385,7 +409,8 @@ module _ (sendings : List Sending) (honest : All IsHonestRequest sendings) where
     w = now_among n done now todo is IsHonestRequest honest
 
     -- the text goes on
-    goes_on : (log_now : List (List ℕ)) → HasAll log log_now → 0 < length (to_say pieces now) → ((ops : List Op) → HasCome text ops → All (IsLogged log_now) ops) → Along n log_now (Some text) mine
+    goes_on : (log_now : List (List ℕ)) → HasAll log log_now → 0 < length (to_say pieces now) → ((ops : List Op) → HasCome text ops → All (IsLogged log_now) ops)
+        → Along n log_now (Some text) mine
     goes_on log_now more some come = inr (record {
       so_far = text;
       some = refl;
@@ -401,7 +426,8 @@ module _ (sendings : List Sending) (honest : All IsHonestRequest sendings) where
       taken = All-weaker (IsTaken log) (IsTaken log_now) (λ s t. taken_later log log_now s more t) done taken;
     })
 
-    course_comes : (course : SessionText) (limit : ℕ) → IsCourse course limit log before text → IsNoRefusal (reply_with n (reply_to_text course log)) → Comes n log text mine (log_behind course log) (reply_to_text course log)
+    course_comes : (course : SessionText) (limit : ℕ) → IsCourse course limit log before text → IsNoRefusal (reply_with n (reply_to_text course log))
+        → Comes n log text mine (log_behind course log) (reply_to_text course log)
     course_comes Greets limit front good = record {
       along = goes_on log (λ own t. t) (omega (arith, ap length request, length-append text (to_say pieces now), long_request now w, front_short text front))
           (λ ops c. subst (All (IsLogged log)) (sym (same_come text ops [] c (inl (front, refl)))) (All-nil (IsLogged log)));
@@ -427,7 +453,8 @@ module _ (sendings : List Sending) (honest : All IsHonestRequest sendings) where
         new_sent : All (λ op. has_op sent op ≡ true) new
         new_sent =
             all_behind (λ op. has_op sent op ≡ true) before new
-            (all_before (λ op. has_op sent op ≡ true) (before ++ new) (ops_of l.later) (subst (All (λ op. has_op sent op ≡ true)) l.sent_are (now_among n done now todo is (GaveOf sent) (all_gave sendings))))
+            (all_before (λ op. has_op sent op ≡ true) (before ++ new) (ops_of l.later)
+            (subst (All (λ op. has_op sent op ≡ true)) l.sent_are (now_among n done now todo is (GaveOf sent) (all_gave sendings))))
 
         by : (follows : FollowsFrames) → StandsInText follows limit log_now rest → IsNoRefusal (reply_with n (reply_to_text (Speaks cursor new rest follows) log))
             → Comes n log text mine (log_behind (Speaks cursor new rest follows) log) (reply_to_text (Speaks cursor new rest follows) log)
@@ -475,7 +502,8 @@ module _ (sendings : List Sending) (honest : All IsHonestRequest sendings) where
     here : Along at old.log (finite.get old.texts at) (event ∷ of_session at events)
     here = subst (λ b. Along at old.log (finite.get old.texts at) (cond b (event ∷ of_session at events) (of_session at events))) (eq-eqb at at refl) (on.along at)
 
-    others_on : HasAll old.log new.log → All (IsOfSent sent) new.log → ((n : ℕ) → at ≢ n → finite.get new.texts n ≡ finite.get old.texts n) → Along at new.log (finite.get new.texts at) (of_session at events) → IsOn new events
+    others_on : HasAll old.log new.log → All (IsOfSent sent) new.log → ((n : ℕ) → at ≢ n → finite.get new.texts n ≡ finite.get old.texts n)
+        → Along at new.log (finite.get new.texts at) (of_session at events) → IsOn new events
     others_on more within others mine = record { along = λ n. by n (nat_eq at n) refl; within = within }
       where
         by : (n : ℕ) (b : Bool) → nat_eq at n ≡ b → Along n new.log (finite.get new.texts n) (of_session n events)
@@ -484,7 +512,8 @@ module _ (sendings : List Sending) (honest : All IsHonestRequest sendings) where
             let other : at ≢ n = λ e. true≢false (sym (eq-eqb at n e) ∙ f) in
             let past : Along n old.log (finite.get old.texts n) (of_session n events) =
             subst (λ b. Along n old.log (finite.get old.texts n) (cond b (event ∷ of_session n events) (of_session n events))) f (on.along n) in
-            along_later n old.log new.log (finite.get new.texts n) (of_session n events) more (subst (λ (t : Option (List ℕ)). Along n old.log t (of_session n events)) (sym (others n other)) past)
+            along_later n old.log new.log (finite.get new.texts n) (of_session n events) more
+            (subst (λ (t : Option (List ℕ)). Along n old.log t (of_session n events)) (sym (others n other)) past)
 
   inserted_here : (texts : OpenTexts) (n : ℕ) (text : List ℕ) → finite.get (finite.insert texts n text) n ≡ Some text
   inserted_here texts n text = get-insert nat_cmp_total texts n text n ∙ ap (λ b. cond b (Some text) (finite.get texts n)) (nat_at-same n)
@@ -501,10 +530,12 @@ module _ (sendings : List Sending) (honest : All IsHonestRequest sendings) where
   behind_other texts k whole (Some bytes) n other = get-remove nat_cmp_total texts k n ∙ ap (λ b. cond b None (finite.get texts n)) (nat_at-other n k other)
 
   -- an event goes on so
-  step_on : (limit : ℕ) (old new : LogWithTexts) (event : Event) (events : List Event) (reply : Option Reply) → Tells limit old event new reply → IsNoRefusal reply → IsOn old (event ∷ events) → IsOn new events
+  step_on : (limit : ℕ) (old new : LogWithTexts) (event : Event) (events : List Event) (reply : Option Reply) → Tells limit old event new reply → IsNoRefusal reply
+      → IsOn old (event ∷ events) → IsOn new events
   step_on limit old new (Opened n) events reply t good on =
       let begun = opened_along n old.log (finite.get old.texts n) (of_session n events) (here old new (Opened n) events on) in
-      let texts_are : new.texts ≡ finite.insert old.texts n [] = ap (λ (u : LogWithTexts). u.texts) t.0 ∙ ap (λ o. if is_some o then old.texts else finite.insert old.texts n []) begun.0 in
+      let texts_are : new.texts ≡ finite.insert old.texts n [] =
+      ap (λ (u : LogWithTexts). u.texts) t.0 ∙ ap (λ o. if is_some o then old.texts else finite.insert old.texts n []) begun.0 in
       let log_is : new.log ≡ old.log = ap (λ (u : LogWithTexts). u.log) t.0 in
       others_on old new (Opened n) events on (λ own l. ap (λ k. is_logged k own) log_is ∙ l) (subst (All (IsOfSent sent)) (sym log_is) on.within)
       (λ k other. ap (λ u. finite.get u k) texts_are ∙ inserted_other old.texts n [] k other)
@@ -515,7 +546,8 @@ module _ (sendings : List Sending) (honest : All IsHonestRequest sendings) where
       mine : List Event
       mine = of_session n events
 
-      open_on : (text : List ℕ) → finite.get old.texts n ≡ Some text → Busy n old.log (Some text) (Piece n bytes ∷ mine) → TellsPiece limit old n text bytes new reply → IsOn new events
+      open_on : (text : List ℕ) → finite.get old.texts n ≡ Some text → Busy n old.log (Some text) (Piece n bytes ∷ mine) → TellsPiece limit old n text bytes new reply
+          → IsOn new events
       open_on text is b h = by_pieces b.pieces b.more b.events_are b.request
         where
           same : text ≡ b.so_far
@@ -537,7 +569,8 @@ module _ (sendings : List Sending) (honest : All IsHonestRequest sendings) where
               ∙ ap (λ t. b.so_far ++ t) (sym (append_assoc piece (joined_pieces pieces) b.now.unsent)) ∙ r in
               let logged : All (IsLogged old.log) h.comes.before = b.come h.comes.before (subst (λ t. HasCome t h.comes.before) same h.comes.has_come) in
               let allowed : IsNoRefusal (reply_with n (reply_to_text h.comes.course old.log)) = subst IsNoRefusal (h.reply_is ∙ ap (reply_with n) h.comes.answer_is) good in
-              let c = course_comes n old.log text mine b.done b.now b.todo b.sessions bytes pieces rest asks b.taken h.comes.before logged h.comes.course limit h.comes.is_course allowed in
+              let c = course_comes n old.log text mine b.done b.now b.todo b.sessions bytes pieces rest asks b.taken h.comes.before logged h.comes.course limit h.comes.is_course
+              allowed in
               let log_is : log_behind h.comes.course old.log ≡ new.log = sym h.comes.log_is in
               let left : finite.get new.texts n ≡ text_left (text ++ bytes) (reply_to_text h.comes.course old.log) =
               ap (λ u. finite.get u n) h.texts_are ∙ behind_here old.texts n (text ++ bytes) h.answer ∙ ap (text_left (text ++ bytes)) h.comes.answer_is in
@@ -549,7 +582,8 @@ module _ (sendings : List Sending) (honest : All IsHonestRequest sendings) where
       by None is (inl a) h =
           let same : old ≡ new = sym h.0 in
           subst (λ (u : LogWithTexts). IsOn u events) same
-          (others_on old old (Piece n bytes) events on (λ own l. l) on.within (λ k other. refl) (subst (λ (o : Option (List ℕ)). Along n old.log o mine) (sym is) (inl (idle_piece n bytes old.log mine a))))
+          (others_on old old (Piece n bytes) events on (λ own l. l) on.within (λ k other. refl)
+          (subst (λ (o : Option (List ℕ)). Along n old.log o mine) (sym is) (inl (idle_piece n bytes old.log mine a))))
       by None is (inr b) h = cc b.some
       by (Some text) is (inl a) h = cc a.none
       by (Some text) is (inr b) h = open_on text is b h
@@ -576,7 +610,8 @@ module _ (sendings : List Sending) (honest : All IsHonestRequest sendings) where
       not_gone [] (s ∷ todo) e = cc e
       not_gone (piece ∷ pieces) todo e = cc e
 
-      broken_off : (text : Option (List ℕ)) → (b : Busy n old.log text (Gone n ∷ mine)) → (pieces : List (List ℕ)) (unsent : List ℕ) → b.now.unsent ≡ unsent → 0 < length (joined_pieces pieces ++ unsent)
+      broken_off : (text : Option (List ℕ)) → (b : Busy n old.log text (Gone n ∷ mine)) → (pieces : List (List ℕ)) (unsent : List ℕ) → b.now.unsent ≡ unsent
+          → 0 < length (joined_pieces pieces ++ unsent)
           → Gone n ∷ mine ≡ to_come n pieces unsent b.todo → IsOn new events
       broken_off text b [] [] is more e = absurd (omega (arith, more))
       broken_off text b (piece ∷ pieces) unsent is more e = cc e
@@ -597,7 +632,8 @@ module _ (sendings : List Sending) (honest : All IsHonestRequest sendings) where
       by (inr b) = broken_off (finite.get old.texts n) b b.pieces b.now.unsent refl b.more b.events_are
 
   -- and so to the end
-  run_on : (limit : ℕ) (old new : LogWithTexts) (events : List Event) (replies : List (Option Reply)) → TellsAll limit old events new replies → NoneRefused replies → IsOn old events → IsOn new []
+  run_on : (limit : ℕ) (old new : LogWithTexts) (events : List Event) (replies : List (Option Reply)) → TellsAll limit old events new replies → NoneRefused replies
+      → IsOn old events → IsOn new []
   run_on limit old new [] replies t good on = subst (λ (u : LogWithTexts). IsOn u []) (sym t.0) on
   run_on limit old new (event ∷ events) replies t good on =
       let goods : NoneRefused (t.1 ∷ t.2) = subst NoneRefused t.5 good in
@@ -630,13 +666,15 @@ module _ (sendings : List Sending) (honest : All IsHonestRequest sendings) where
     pub taken : All (IsTaken log) sendings
     pub within : All (IsOfSent (given_by_all (beginners sendings))) log
 
-  pub gathered : (limit : ℕ) (events : List Event) (relay : Relay) (replies : List (Option Reply)) → AreInterleaved sendings events → RelayRuns (new_relay limit) events relay replies → NoneRefused replies → IsGathered relay.log
+  pub gathered : (limit : ℕ) (events : List Event) (relay : Relay) (replies : List (Option Reply)) → AreInterleaved sendings events
+      → RelayRuns (new_relay limit) events relay replies → NoneRefused replies → IsGathered relay.log
   gathered limit events relay replies each runs good =
       let told = (sessions_by_whole_texts.exactly limit events relay.log replies).0 (relay, runs, refl) in
       let on : IsOn told.0 [] = run_on limit nothing_told told.0 events replies told.1 good (begun_on events each) in
       let own : All (λ (s : Sending). IsTaken told.0.log s) sendings =
       all_weaker_at IsHonestRequest (IsTaken told.0.log) sendings (λ s among w.
       All-contains (λ (x : Sending). nat_eq x.number s.number ≡ true → IsTaken told.0.log x) sendings s
-      (all_from_filter (λ (x : Sending). nat_eq x.number s.number) (IsTaken told.0.log) sendings (all_done s.number told.0.log (finite.get told.0.texts s.number) (on.along s.number)))
+      (all_from_filter (λ (x : Sending). nat_eq x.number s.number) (IsTaken told.0.log) sendings
+      (all_done s.number told.0.log (finite.get told.0.texts s.number) (on.along s.number)))
       among (eq-eqb s.number s.number refl)) honest in
       record { taken = subst (λ l. All (IsTaken l) sendings) told.2 own; within = subst (All (IsOfSent sent)) told.2 on.within }

@@ -14,7 +14,8 @@ use Rattle.origin_model.proofs.SharedLemmas.{runs-append, step_runs}
 use Rattle.outer_ports.specs.dock.Docks.{DockView, SendsNothing, TakesNothing, out_to}
 use Rattle.outer_ports.specs.declared.dock.MemStep.{MemStep}
 use Rattle.relay_sync.specs.Sending.{GivesSteps, LastsFor, Replied, RepliedPartly}
-use Rattle.relay_sync.specs.Serving.{HaveCome, ended_in, ended_with, GaveSteps, HasRoomFor, Lasts, NoneAfter, Serves, ServesPartly, ServingStops, Spends, ends_behind, ServedStep, TurnStops, bytes_to, closed_by, closed_in, count_over, event_of, over_after, replies_of, sent_to, steps_of}
+use Rattle.relay_sync.specs.Serving.{HaveCome, ended_in, ended_with, GaveSteps, HasRoomFor, Lasts, NoneAfter, Serves, ServesPartly, ServingStops, Spends, ends_behind, ServedStep}
+use Rattle.relay_sync.specs.Serving.{TurnStops, bytes_to, closed_by, closed_in, count_over, event_of, over_after, replies_of, sent_to, steps_of}
 use Rattle.relay_sync.specs.declared.serving.ServeFault.{ServeFault}
 use Rattle.relay_sync.specs.declared.serving.ServeFault.TheVariants.{DockFault, NoMemory, TooLong}
 use Rattle.relay_sync.proofs.SendingLemmas.{ends_none, grows_none, sure_is}
@@ -68,7 +69,8 @@ ends_twice None a b = refl
 ends_twice (Some n) a b = ap Some (omega (arith, length-append a b))
 
 -- room for two parts: for the first, and then for the second
-module _ (x : DockView) (all a b : ℕ → List ℕ) (closed c d : List ℕ) (parts : (session : ℕ) → all session ≡ a session ++ b session) (ends_are : closed ≡ c ++ d) (h : HasRoomFor x all closed) where
+module _ (x : DockView) (all a b : ℕ → List ℕ) (closed c d : List ℕ) (parts : (session : ℕ) → all session ≡ a session ++ b session) (ends_are : closed ≡ c ++ d)
+    (h : HasRoomFor x all closed) where
   pub room_first : HasRoomFor x a c
   room_first = record {
     room = λ session.
@@ -146,7 +148,8 @@ pub serves-append : (a b c : Relay) (x y z : DockView) (us vs : List ServedStep)
 serves-append a b c x y z us vs h i = record {
   runs = runs-turns a b c us vs h.runs i.runs;
   gave = rw (turns-append us vs) (gave-append x y z (steps_of us) (steps_of vs) h.gave i.gave);
-  sent = λ session. rw (sent-append session us vs) (took_joins (out_to session x) (out_to session y) (out_to session z) (sent_to session us) (sent_to session vs) (h.sent session) (i.sent session));
+  sent = λ session. rw (sent-append session us vs)
+      (took_joins (out_to session x) (out_to session y) (out_to session z) (sent_to session us) (sent_to session vs) (h.sent session) (i.sent session));
   ended = rw (closed-append us vs) (i.ended ∙ ap (option_map (λ ended. ended ++ closed_in vs)) h.ended ∙ grows_twice x.ended (closed_in us) (closed_in vs));
   ended_at = i.ended_at ∙ (λ j. ended_in (λ session. (h.sent session).written j) (h.ended_at j) vs) ∙ sym (ended-append x.sent x.ended_at us vs);
   ends = rw (closed-append us vs) (i.ends ∙ ap (ends_behind (closed_in vs)) h.ends ∙ ends_twice x.ends (closed_in us) (closed_in vs));
@@ -156,7 +159,8 @@ serves-append a b c x y z us vs h i = record {
 }
 
 -- turns, and then a fault
-abbrev partly-append : (fault : ServeFault) (a b c : Relay) (x y z : DockView) (us vs : List ServedStep) → Serves a b x y us → ServesPartly fault b c y z vs → ServesPartly fault a c x z (us ++ vs)
+abbrev partly-append : (fault : ServeFault) (a b c : Relay) (x y z : DockView) (us vs : List ServedStep) → Serves a b x y us → ServesPartly fault b c y z vs
+    → ServesPartly fault a c x z (us ++ vs)
 partly-append fault a b c x y z us vs h i = record {
   more = i.more;
   few = i.few;
@@ -193,7 +197,8 @@ whole_partly fault a b x y turns other h = record {
 }
 
 -- steps of which the relay heard none
-abbrev unheard_partly : (fault : ServeFault) (a b : Relay) (x y : DockView) (steps : List MemStep) → b ≡ a → GivesSteps x y steps → length steps ≤ 1 → IfSome x.ends (λ ends. Spends fault steps x y)
+abbrev unheard_partly : (fault : ServeFault) (a b : Relay) (x y : DockView) (steps : List MemStep) → b ≡ a → GivesSteps x y steps → length steps ≤ 1
+    → IfSome x.ends (λ ends. Spends fault steps x y)
     → ServesPartly fault a b x y []
 unheard_partly fault a b x y steps same h few spent = record {
   more = steps;
@@ -208,7 +213,8 @@ unheard_partly fault a b x y steps same h few spent = record {
 }
 
 -- a step whose reply was sent
-pub turn_serves : (a b : Relay) (x y z : DockView) (step : MemStep) (reply : Option Reply) → GivesSteps x y (step ∷ []) → IfSome x.ends (λ ends. y.faults ≡ x.faults) → RelaySteps a (event_of step) b reply → Replied y z reply
+pub turn_serves : (a b : Relay) (x y z : DockView) (step : MemStep) (reply : Option Reply) → GivesSteps x y (step ∷ []) → IfSome x.ends (λ ends. y.faults ≡ x.faults)
+    → RelaySteps a (event_of step) b reply → Replied y z reply
     → Serves a b x z (record { step = step; reply = reply } ∷ [])
 turn_serves a b x y z step reply g sure s r = record {
   runs = step_runs (event_of step) a b reply s;
@@ -217,7 +223,8 @@ turn_serves a b x y z step reply g sure s r = record {
       rw (append-nil (bytes_to session reply))
       (took_joins (out_to session x) (out_to session y) (out_to session z) [] (bytes_to session reply) (sent_after x y g.nothing_sent session) (r.sent session));
   ended = rw (append-nil (closed_by reply)) (r.ended ∙ ap (option_map (λ ended. ended ++ closed_by reply)) g.ended);
-  ended_at = r.ended_at ∙ (λ j. ended_with (λ session. ((r.sent session).written ∙ ap (λ (known : Option (List ℕ)). append_known known (bytes_to session reply)) (g.nothing_sent.sent session)) j) reply (g.ended_at j));
+  ended_at = r.ended_at ∙ (λ j. ended_with
+      (λ session. ((r.sent session).written ∙ ap (λ (known : Option (List ℕ)). append_known known (bytes_to session reply)) (g.nothing_sent.sent session)) j) reply (g.ended_at j));
   ends = rw (append-nil (closed_by reply)) (r.ends ∙ ap (ends_behind (closed_by reply)) g.ends);
   listens = r.listens ∙ g.listens;
   later = omega (arith, g.later, r.later);
@@ -225,7 +232,8 @@ turn_serves a b x y z step reply g sure s r = record {
 }
 
 -- or up to a fault
-abbrev turn_partly : (fault : ServeFault) (a b : Relay) (x y z : DockView) (step : MemStep) (reply : Option Reply) → GivesSteps x y (step ∷ []) → IfSome x.ends (λ ends. y.faults ≡ x.faults)
+abbrev turn_partly : (fault : ServeFault) (a b : Relay) (x y z : DockView) (step : MemStep) (reply : Option Reply) → GivesSteps x y (step ∷ [])
+    → IfSome x.ends (λ ends. y.faults ≡ x.faults)
     → RelaySteps a (event_of step) b reply → RepliedPartly fault y z reply → ServesPartly fault a b x z (record { step = step; reply = reply } ∷ [])
 turn_partly fault a b x y z step reply g sure s r = record {
   more = [];
@@ -235,7 +243,11 @@ turn_partly fault a b x y z step reply g sure s r = record {
   sent = λ session.
       rw (append-nil (bytes_to session reply))
       (front_behind (out_to session x) (out_to session y) (out_to session z) [] (bytes_to session reply) (sent_after x y g.nothing_sent session) (r.sent session));
-  ended = record { count = r.ended.count; ended = rw (append-nil (closed_by reply)) (r.ended.ended ∙ ap (option_map (λ ended. ended ++ take r.ended.count (closed_by reply))) g.ended) };
+  ended = record {
+    count = r.ended.count;
+    ended = rw (append-nil (closed_by reply))
+        (r.ended.ended ∙ ap (option_map (λ ended. ended ++ take r.ended.count (closed_by reply))) g.ended);
+  };
   listens = r.listens ∙ g.listens;
   later = omega (arith, g.later, r.later);
   calm = λ lasts.
@@ -244,12 +256,19 @@ turn_partly fault a b x y z step reply g sure s r = record {
 }
 
 -- a turn that stopped before the relay heard a step
-pub unheard_stops : (fault : ServeFault) (a b : Relay) (x y : DockView) (steps : List MemStep) → b ≡ a → GivesSteps x y steps → length steps ≤ 1 → IfSome x.ends (λ ends. Spends fault steps x y) → TurnStops fault a b x y
+pub unheard_stops : (fault : ServeFault) (a b : Relay) (x y : DockView) (steps : List MemStep) → b ≡ a → GivesSteps x y steps → length steps ≤ 1
+    → IfSome x.ends (λ ends. Spends fault steps x y) → TurnStops fault a b x y
 unheard_stops fault a b x y steps same h few spent =
-    record { turns = []; partly = unheard_partly fault a b x y steps same h few spent; few = (let f : 0 + length steps ≤ 1 = omega (arith, few) in f); none_begun = λ lasts is. refl }
+    record {
+      turns = [];
+      partly = unheard_partly fault a b x y steps same h few spent;
+      few = (let f : 0 + length steps ≤ 1 = omega (arith, few) in f);
+      none_begun = λ lasts is. refl;
+    }
 
 -- as the reply was sent
-pub reply_stops : (fault : ServeFault) (a b : Relay) (x y z : DockView) (step : MemStep) (reply : Option Reply) → GivesSteps x y (step ∷ []) → IfSome x.ends (λ ends. y.faults ≡ x.faults)
+pub reply_stops : (fault : ServeFault) (a b : Relay) (x y z : DockView) (step : MemStep) (reply : Option Reply) → GivesSteps x y (step ∷ [])
+    → IfSome x.ends (λ ends. y.faults ≡ x.faults)
     → RelaySteps a (event_of step) b reply → RepliedPartly fault y z reply → TurnStops fault a b x z
 reply_stops fault a b x y z step reply g sure s r = record {
   turns = record { step = step; reply = reply } ∷ [];
@@ -299,7 +318,8 @@ none_after sessions turns turn none fewer count below = by (take-more turns turn
     by (inr e) = rw e fewer
 
 -- turns, and then one that stopped
-pub stops_behind : (sessions steps : ℕ) (fault : ServeFault) (a b c : Relay) (x y z : DockView) (us : List ServedStep) → Serves a b x y us → NoneAfter sessions us → count_over us < sessions → length us < steps
+pub stops_behind : (sessions steps : ℕ) (fault : ServeFault) (a b c : Relay) (x y z : DockView) (us : List ServedStep) → Serves a b x y us → NoneAfter sessions us
+    → count_over us < sessions → length us < steps
     → TurnStops fault b c y z → ServingStops sessions steps fault a c x z
 stops_behind sessions steps fault a b c x y z us h none fewer below i = record {
   turns = us ++ i.turns;
@@ -327,7 +347,8 @@ stops_behind sessions steps fault a b c x y z us h none fewer below i = record {
     none_begun (v ∷ vs) few = absurd (omega (arith, few))
 
 -- all steps that are allowed were taken
-pub long_stops : (sessions steps : ℕ) (a b : Relay) (x y : DockView) (us : List ServedStep) → Serves a b x y us → NoneAfter sessions us → count_over us < sessions → length us ≤ steps → ServingStops sessions steps TooLong a b x y
+pub long_stops : (sessions steps : ℕ) (a b : Relay) (x y : DockView) (us : List ServedStep) → Serves a b x y us → NoneAfter sessions us → count_over us < sessions
+    → length us ≤ steps → ServingStops sessions steps TooLong a b x y
 long_stops sessions steps a b x y us h none fewer within = record {
   turns = us;
   partly = whole_partly TooLong a b x y us (λ is. cc is) h;

@@ -108,13 +108,15 @@ pub is_end : (answer : Option ℕ) (u v : WireView) (before after : OpsTaking) (
     → Whole (End count) u v place heard [] × (after ≡ before)
 is_end answer u v before after place heard count is one = subst (HearsOne u v before after place heard) is one
 
-pub is_more : (answer : Option ℕ) (u v : WireView) (before after : OpsTaking) (place heard : ℕ) → ((count : ℕ) → answer ≡ Some count → ⊥) → HearsOne u v before after place heard answer
+pub is_more : (answer : Option ℕ) (u v : WireView) (before after : OpsTaking) (place heard : ℕ) → ((count : ℕ) → answer ≡ Some count → ⊥)
+    → HearsOne u v before after place heard answer
     → HearsMessage u v before after place heard
 is_more None u v before after place heard none one = one
 is_more (Some count) u v before after place heard none one = absurd (none count refl)
 
 -- the rest of a message behind its first byte
-pub whole_first : (message : Message) (u v w : WireView) (first byte place heard : ℕ) → HeardBytes u v (first ∷ []) → first ≡ byte → Whole message v w place heard (byte ∷ []) → Whole message u w place heard []
+pub whole_first : (message : Message) (u v w : WireView) (first byte place heard : ℕ) → HeardBytes u v (first ∷ []) → first ≡ byte → Whole message v w place heard (byte ∷ [])
+    → Whole message u w place heard []
 whole_first message u v w first byte place heard h is whole = record {
   bytes = byte ∷ whole.bytes;
   hears = hears-append u v w (byte ∷ []) whole.bytes (subst (λ (b : ℕ). HeardBytes u v (b ∷ [])) is h) whole.hears;
@@ -123,7 +125,8 @@ whole_first message u v w first byte place heard h is whole = record {
   within = whole.within;
 }
 
-pub frame_first : (frame : List ℕ) (u v w : WireView) (first place heard : ℕ) → HeardBytes u v (first ∷ []) → WholeFrame frame v w place heard (first ∷ []) → WholeFrame frame u w place heard []
+pub frame_first : (frame : List ℕ) (u v w : WireView) (first place heard : ℕ) → HeardBytes u v (first ∷ []) → WholeFrame frame v w place heard (first ∷ [])
+    → WholeFrame frame u w place heard []
 frame_first frame u v w first place heard h whole = record {
   is_frame = whole.is_frame;
   bytes = first ∷ whole.bytes;
@@ -146,7 +149,8 @@ stops_at fault u v now place s = record { bytes = s.bytes; hears = s.hears; stop
     by_fault (RelayRefused code) p = absurd p
     by_fault (TooMany most) p = absurd p
 
-pub stops_first : (fault : SyncFault) (u v w : WireView) (now : OpsTaking) (first byte place : ℕ) → HeardBytes u v (first ∷ []) → first ≡ byte → StopsHearing fault v w place (byte ∷ []) → StopsHearingAt fault u w now now place
+pub stops_first : (fault : SyncFault) (u v w : WireView) (now : OpsTaking) (first byte place : ℕ) → HeardBytes u v (first ∷ []) → first ≡ byte
+    → StopsHearing fault v w place (byte ∷ []) → StopsHearingAt fault u w now now place
 stops_first fault u v w now first byte place h is s =
     stops_at fault u w now place (stops_behind fault u v w place [] (byte ∷ []) (subst (λ (b : ℕ). HeardBytes u v (b ∷ [])) is h) s)
 
@@ -175,11 +179,21 @@ first_op (Typed run) is = by_text run.text is.text.some
 -- none of the frame's operations was taken in for want of memory
 pub none_taken : (start : OpsTaking) (frame : List ℕ) (ops : List Op) → IsMessage (Operations ops) frame → TakesNotAll feed_fault.NoMemory start start frame
 none_taken start frame ops is =
-    let first = first_op is.item is.is_item in
-    (first.0, start, record { front = []; more = first.1; is_message = subst (λ (o : List Op). IsMessage (Operations o) frame) (is.ops_are ∙ first.2) is; takes = takes_none start }, inl refl)
+    let first = first_op is.item is.is_item in (
+      first.0,
+      start,
+      record {
+        front = [];
+        more = first.1;
+        is_message = subst (λ (o : List Op). IsMessage (Operations o) frame) (is.ops_are ∙ first.2) is;
+        takes = takes_none start;
+      },
+      inl refl,
+    )
 
 -- operations of a frame were taken in: few were counted until then
-module _ (start now : OpsTaking) (frame : List ℕ) (given rest : List Op) (is : IsMessage (Operations (given ++ rest)) frame) (count : count_so_far now ≡ count_so_far start + length given) where
+module _ (start now : OpsTaking) (frame : List ℕ) (given rest : List Op) (is : IsMessage (Operations (given ++ rest)) frame)
+    (count : count_so_far now ≡ count_so_far start + length given) where
   few_given : 2 * count_so_far now ≤ 2 * count_so_far start + length frame
   few_given = omega (arith, count, frame_wide Version2 (record { bytes = frame; ops = given ++ rest }) is, length-append given rest)
 
@@ -203,16 +217,19 @@ module _ (start now : OpsTaking) (frame : List ℕ) (given rest : List Op) (is :
   }
 
 -- one more
-pub given_more : (frame : List ℕ) (given rest more : List Op) (op : Op) → IsMessage (Operations (given ++ rest)) frame → rest ≡ op ∷ more → IsMessage (Operations ((given ++ op ∷ []) ++ more)) frame
+pub given_more : (frame : List ℕ) (given rest more : List Op) (op : Op) → IsMessage (Operations (given ++ rest)) frame → rest ≡ op ∷ more
+    → IsMessage (Operations ((given ++ op ∷ []) ++ more)) frame
 given_more frame given rest more op is first =
     subst (λ (o : List Op). IsMessage (Operations o) frame) (ap (λ (o : List Op). given ++ o) first ∙ sym (append_assoc given (op ∷ []) more)) is
 
 -- or those before one were
-pub stops_before : (start now next : OpsTaking) (frame : List ℕ) (given more : List Op) (op : Op) (fault : FeedFault) → IsMessage (Operations (given ++ op ∷ more)) frame → TakesIn start now given
+pub stops_before : (start now next : OpsTaking) (frame : List ℕ) (given more : List Op) (op : Op) (fault : FeedFault) → IsMessage (Operations (given ++ op ∷ more)) frame
+    → TakesIn start now given
     → LeavesUnkept now.replica next.replica op now.counts next.counts fault → next.kept ≡ now.kept → TakesNotAll fault start next frame
 stops_before start now next frame given more op (feed_fault.TooMany most) is takes left kept =
     let same : next ≡ now = same_taking next now left.2 left.3 kept in
-    subst (λ (t : OpsTaking). TakesNotAll (feed_fault.TooMany most) start t frame) (sym same) (op, record { front = given; more = more; is_message = is; takes = takes }, left.0, left.1)
+    subst (λ (t : OpsTaking). TakesNotAll (feed_fault.TooMany most) start t frame) (sym same)
+    (op, record { front = given; more = more; is_message = is; takes = takes }, left.0, left.1)
 stops_before start now next frame given more op feed_fault.NoMemory is takes left kept = (
   op,
   now,
@@ -234,8 +251,10 @@ fails_at_once wire start port cursor = record {
 }
 
 -- or not all of it was
-pub fails_to_say : {E T : Type 0} (result : Result T E) (e : E) (u v : WireView) (start : OpsTaking) (port cursor : ℕ) (text : List ℕ) → result ≡ Err e → text ≡ request_for cursor start.replica.held
+pub fails_to_say : {E T : Type 0} (result : Result T E) (e : E) (u v : WireView) (start : OpsTaking) (port cursor : ℕ) (text : List ℕ) → result ≡ Err e
+    → text ≡ request_for cursor start.replica.held
     → SaysTo u v result port text → FailsToAsk WireFault u v start start port cursor
 fails_to_say {E} {T} result e u v start port cursor text is text_is says =
-    let said : SaysTo u v (Err e) port (request_for cursor start.replica.held) = subst (SaysTo u v (Err e) port) text_is (subst (λ (r : Result T E). SaysTo u v r port text) is says) in
+    let said : SaysTo u v (Err e) port (request_for cursor start.replica.held) =
+    subst (SaysTo u v (Err e) port) text_is (subst (λ (r : Result T E). SaysTo u v r port text) is says) in
     record { said = said.writes.err; no_other = said.no_other; left = said.left; cause = said.writes.cause.failed; same = refl }

@@ -1,5 +1,6 @@
 -- A replica reads what any relay replies, and a relay answers what any replica sends.
-use Rattle.std.proofs.Common.{Bool, List, [], ap, append-nil, append_assoc, arith, drop, false, inl, inr, length, length-append, nat_lt, refl, subst, sym, take, true, ℕ, ◌++◌, ◌<◌, ◌^◌, ◌∙◌, ◌∷◌, ◌≡◌, ◌≤◌, ◌⊎◌}
+use Rattle.std.proofs.Common.{Bool, List, [], ap, append-nil, append_assoc, arith, drop, false, inl, inr, length, length-append, nat_lt, refl, subst, sym, take, true, ℕ, ◌++◌, ◌<◌}
+use Rattle.std.proofs.Common.{◌^◌, ◌∙◌, ◌∷◌, ◌≡◌, ◌≤◌, ◌⊎◌}
 use Rattle.std.specs.Prelude.{All, flat_map, if◌then◌else◌, ◌*◌}
 use Rattle.std.specs.Int.{to_be_bytes, w32}
 use Rattle.std.proofs.lemmas.Bool.{cases_lt, le-ltb, lt-ltb}
@@ -16,8 +17,10 @@ use Rattle.origin_model.specs.declared.grammar.Grammar.TheVariants.{Version2}
 use Rattle.origin_model.specs.frames.Frames.{Framed, HasFrame, IsFrame, Reads, Whole, frame, single_frames}
 use Rattle.origin_model.specs.frames.Framings.{IsWritten, frames}
 use Rattle.origin_model.specs.operations.History.{accepted}
-use Rattle.origin_model.specs.relay.Session.{Closes, Goes, Taken, TakesAll, at_cursor, closing, is_logged, log_joined, refusal_message, reply_from, session_goes_on, session_refused, unread}
-use Rattle.origin_model.proofs.SharedLemmas.{all_once, bytes_of, closed_takes, closing_takes, frame_takes, hello, hello_takes, ops_of, origin_short, partly, singles_read, takes-append, written}
+use Rattle.origin_model.specs.relay.Session.{Closes, Goes, Taken, TakesAll, at_cursor, closing, is_logged, log_joined, refusal_message, reply_from, session_goes_on}
+use Rattle.origin_model.specs.relay.Session.{session_refused, unread}
+use Rattle.origin_model.proofs.SharedLemmas.{all_once, bytes_of, closed_takes, closing_takes, frame_takes, hello, hello_takes, ops_of, origin_short, partly, singles_read}
+use Rattle.origin_model.proofs.SharedLemmas.{takes-append, written}
 use Rattle.origin_model.specs.taking.Taking.{Held}
 use Rattle.op_frame.proofs.ReadingLemmas.{frames_once}
 use Rattle.relay_core.specs.OpLogs.{IsLogOf}
@@ -43,20 +46,24 @@ frames_short (op ∷ ops) have =
     omega (arith, length-append (frame op) (single_frames ops), frame_short op (All-head HasFrame op ops have), frames_short ops (All-tail HasFrame op ops have))
 
 -- a reply from a cursor of the log reads as the operations from there on
-pub reply_reads : (log : List (List ℕ)) (ops : List Op) (cursor : ℕ) → IsLogOf log ops → length log ≤ MOST_LOGGED → ReadsReply (reply_from log cursor) (drop cursor ops) (Ended (length log))
+pub reply_reads : (log : List (List ℕ)) (ops : List Op) (cursor : ℕ) → IsLogOf log ops → length log ≤ MOST_LOGGED
+    → ReadsReply (reply_from log cursor) (drop cursor ops) (Ended (length log))
 reply_reads log ops cursor is few =
     let own : List (List ℕ) → List ℕ = flat_map (λ f. f) in
     let some : List Op = drop cursor ops in
     let have : All HasFrame some = all_behind HasFrame (take cursor ops) some (subst (All HasFrame) (sym (take-append-drop cursor ops)) is.have_frames) in
     let r : Reads Version2 (single_frames some) some Whole = singles_read Version2 some have in
-    let same : own (drop cursor log) ≡ single_frames some = ap (λ l. own (drop cursor l)) is.frames_are ∙ ap own (drop-map frame cursor ops) ∙ flat_map-map (λ (f : List ℕ). f) frame some in
+    let same : own (drop cursor log) ≡ single_frames some =
+    ap (λ l. own (drop cursor l)) is.frames_are ∙ ap own (drop-map frame cursor ops) ∙ flat_map-map (λ (f : List ℕ). f) frame some in
     let end : List ℕ = 0x55 ∷ to_be_bytes w32 (length log) in
-    let bytes_are : reply_from log cursor ≡ bytes_of r.found ++ end = ap (λ l. l ++ end) (same ∙ r.split ∙ ap (λ l. bytes_of r.found ++ l) r.ends ∙ append-nil (bytes_of r.found)) in
+    let bytes_are : reply_from log cursor ≡ bytes_of r.found ++ end =
+    ap (λ l. l ++ end) (same ∙ r.split ∙ ap (λ l. bytes_of r.found ++ l) r.ends ∙ append-nil (bytes_of r.found)) in
     let many : length ops ≡ length log = sym (length-map ops frame) ∙ ap length (sym is.frames_are) in
     let fewer : length some ≤ length ops = omega (arith, ap length (take-append-drop cursor ops), length-append (take cursor ops) some) in
     let most : MOST_LOGGED ≡ 1048576 = refl in
     let limit : STREAM_LIMIT ≡ 2147483648 = refl in
-    let short : length (reply_from log cursor) ≤ STREAM_LIMIT = omega (arith, length-append (own (drop cursor log)) end, ap length same, frames_short some have, fewer, many, few, most, limit) in
+    let short : length (reply_from log cursor) ≤ STREAM_LIMIT =
+    omega (arith, length-append (own (drop cursor log)) end, ap length same, frames_short some have, fewer, many, few, most, limit) in
     record {
       found = r.found;
       are_frames = r.are_frames;
@@ -84,10 +91,12 @@ refused_behind log = session_refused log 2
 -- what whole frames behind a whole message come to: all of their operations join, or one finds the log full
 abbrev FramesCome : (limit cursor : ℕ) → (log : List (List ℕ)) → (ops : List Op) → (after : Taken) → Type 0
 FramesCome limit cursor log ops after =
-    ((length (log_with_ops log ops) ≤ limit) × (after ≡ partly (log_with_ops log ops) cursor [])) ⊎ ((r : IsRefused limit log ops) × (after ≡ refused_behind (log_with_ops log r.before)))
+    ((length (log_with_ops log ops) ≤ limit) × (after ≡ partly (log_with_ops log ops) cursor []))
+    ⊎ ((r : IsRefused limit log ops) × (after ≡ refused_behind (log_with_ops log r.before)))
 
 -- the same with operations that joined before
-come_later : (limit cursor : ℕ) (log : List (List ℕ)) (xs ys : List Op) (after : Taken) → FramesCome limit cursor (log_with_ops log xs) ys after → FramesCome limit cursor log (xs ++ ys) after
+come_later : (limit cursor : ℕ) (log : List (List ℕ)) (xs ys : List Op) (after : Taken) → FramesCome limit cursor (log_with_ops log xs) ys after
+    → FramesCome limit cursor log (xs ++ ys) after
 come_later limit cursor log xs ys after (inl f) =
     let joins : log_with_ops log (xs ++ ys) ≡ log_with_ops (log_with_ops log xs) ys = with_ops-append xs ys log in
     inl (subst (λ l. length l ≤ limit) (sym joins) f.0, f.1 ∙ ap (λ l. partly l cursor []) (sym joins))
@@ -115,7 +124,8 @@ frames_come limit cursor (f ∷ found) log are room =
     elim (all_or_refused limit f.ops log room) [
       | inl fits ↦
           let now : List (List ℕ) = log_with_ops log f.ops in
-          let goes : log_joined limit log cursor f.ops ≡ partly now cursor [] = all_join limit cursor f.ops [] log (subst (λ (l : List Op). length (log_with_ops log l) ≤ limit) (sym (append-nil f.ops)) fits) in
+          let goes : log_joined limit log cursor f.ops ≡ partly now cursor [] =
+          all_join limit cursor f.ops [] log (subst (λ (l : List Op). length (log_with_ops log l) ≤ limit) (sym (append-nil f.ops)) fits) in
           let rest = frames_come limit cursor found now (All-tail (IsFrame Version2) f found are) fits in (
             rest.0,
             takes-append limit f.bytes (bytes_of found) start (partly now cursor []) rest.0 (subst (TakesAll limit f.bytes start) goes first) rest.1,
@@ -123,9 +133,11 @@ frames_come limit cursor (f ∷ found) log are room =
           )
       | inr r ↦
           let closed : Taken = refused_behind (log_with_ops log r.before) in
-          let stops : log_joined limit log cursor f.ops ≡ closed = ap (log_joined limit log cursor) r.split ∙ one_too_many limit cursor r.before r.op r.later log r.lacks r.full in (
+          let stops : log_joined limit log cursor f.ops ≡ closed =
+          ap (log_joined limit log cursor) r.split ∙ one_too_many limit cursor r.before r.op r.later log r.lacks r.full in (
             closed,
-            takes-append limit f.bytes (bytes_of found) start closed closed (subst (TakesAll limit f.bytes start) stops first) (closed_takes limit (bytes_of found) (log_with_ops log r.before) (refusal_message 2)),
+            takes-append limit f.bytes (bytes_of found) start closed closed (subst (TakesAll limit f.bytes start) stops first)
+                (closed_takes limit (bytes_of found) (log_with_ops log r.before) (refusal_message 2)),
             inr (
               record {
                 before = r.before;
@@ -165,8 +177,11 @@ module _ (limit cursor : ℕ) (log : List (List ℕ)) (fits : cursor < 2 ^ 32) (
   request_comes =
       elim (cases_lt (length log) cursor) [
         | inl beyond ↦
-            let closed : Taken = session_refused log 3 in
-            (closed, greets closed closed (from true (lt-ltb (length log) cursor beyond)) (closed_takes limit (bytes_of found ++ closing) log (refusal_message 3)), inl (record { beyond = beyond; answered = refl }))
+            let closed : Taken = session_refused log 3 in (
+              closed,
+              greets closed closed (from true (lt-ltb (length log) cursor beyond)) (closed_takes limit (bytes_of found ++ closing) log (refusal_message 3)),
+              inl (record { beyond = beyond; answered = refl }),
+            )
         | inr within ↦
             let goes : Taken = partly log cursor [] in
             let is : at_cursor log cursor ≡ goes = from false (le-ltb (length log) cursor within) in
@@ -175,14 +190,27 @@ module _ (limit cursor : ℕ) (log : List (List ℕ)) (fits : cursor < 2 ^ 32) (
               | inl all ↦
                   let now : List (List ℕ) = log_with_ops log (ops_of found) in
                   let after : Taken = record { log = now; next = Closes (reply_from now cursor) } in
-                  let closes : TakesAll limit closing f.0 after = subst (λ t. TakesAll limit closing t after) (sym all.1) (closing_takes limit cursor now) in
-                  (after, greets goes after is (takes-append limit (bytes_of found) closing goes f.0 after f.1 closes), inr (inr (record { within = within; room = all.0; answered = refl })))
-              | inr r ↦
-                  let after : Taken = refused_behind (log_with_ops log r.0.before) in
-                  let closes : TakesAll limit closing f.0 after = subst (λ t. TakesAll limit closing t after) (sym r.1) (closed_takes limit closing (log_with_ops log r.0.before) (refusal_message 2)) in (
+                  let closes : TakesAll limit closing f.0 after = subst (λ t. TakesAll limit closing t after) (sym all.1) (closing_takes limit cursor now) in (
                     after,
                     greets goes after is (takes-append limit (bytes_of found) closing goes f.0 after f.1 closes),
-                    inr (inl (record { within = within; before = r.0.before; op = r.0.op; later = r.0.later; split = r.0.split; lacks = r.0.lacks; full = r.0.full; answered = refl })),
+                    inr (inr (record { within = within; room = all.0; answered = refl })),
+                  )
+              | inr r ↦
+                  let after : Taken = refused_behind (log_with_ops log r.0.before) in
+                  let closes : TakesAll limit closing f.0 after =
+                  subst (λ t. TakesAll limit closing t after) (sym r.1) (closed_takes limit closing (log_with_ops log r.0.before) (refusal_message 2)) in (
+                    after,
+                    greets goes after is (takes-append limit (bytes_of found) closing goes f.0 after f.1 closes),
+                    inr (inl (record {
+                      within = within;
+                      before = r.0.before;
+                      op = r.0.op;
+                      later = r.0.later;
+                      split = r.0.split;
+                      lacks = r.0.lacks;
+                      full = r.0.full;
+                      answered = refl;
+                    })),
                   )
             ]
       ]
@@ -196,10 +224,12 @@ pub record Asked (cursor : ℕ) (held : Held) : Type 0 where
 
 pub asked : (cursor : ℕ) (held : Held) → All HasFrame (sent_ops held) → Asked cursor held
 asked cursor held have =
-    let first : IsWritten (accepted held.history) (frames (accepted held.history)) = written (accepted held.history) (all_before HasFrame (accepted held.history) held.waiting have) in
+    let first : IsWritten (accepted held.history) (frames (accepted held.history)) =
+    written (accepted held.history) (all_before HasFrame (accepted held.history) held.waiting have) in
     let second : IsWritten held.waiting (frames held.waiting) = written held.waiting (all_behind HasFrame (accepted held.history) held.waiting have) in
     let found : List Framed = first.found ++ second.found in
-    let bytes_are : frames (accepted held.history) ++ frames held.waiting ≡ bytes_of found = (λ i. first.bytes_are i ++ second.bytes_are i) ∙ sym (flat_map-append (λ (f : Framed). f.bytes) first.found second.found) in
+    let bytes_are : frames (accepted held.history) ++ frames held.waiting ≡ bytes_of found =
+    (λ i. first.bytes_are i ++ second.bytes_are i) ∙ sym (flat_map-append (λ (f : Framed). f.bytes) first.found second.found) in
     record {
       found = found;
       are_frames = All-append (IsFrame Version2) first.found second.found first.are_frames second.are_frames;

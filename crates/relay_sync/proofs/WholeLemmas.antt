@@ -1,4 +1,5 @@
--- What is served of steps that come in parts, beside what would be served of the steps as they stand: the same replies, and the same sessions over.
+-- What is served of steps that come in parts, beside what would be served of the steps as they stand: the same replies,
+-- and the same sessions over.
 use Rattle.std.proofs.Common.{[], List, ap, append_assoc, arith, drop, false, inl, inr, length, refl, subst, suc, sym, take, true, ℕ, Bool, ◌++◌, ◌<◌, ◌≤◌, ◌∙◌, ◌∷◌, ◌≡◌, ◌≢◌, ◌⊎◌}
 use Rattle.std.specs.Prelude.{Err, IfSome, None, Ok, Option, Some, if◌then◌else◌, map, nat_lt}
 use Rattle.std.proofs.lemmas.List.{append-nil, take-append-drop, take_all}
@@ -12,7 +13,8 @@ use Rattle.outer_ports.specs.dock.Docks.{DockView}
 use Rattle.outer_ports.specs.dock.Steps.{Gives, GivesSome, given_part, rest_after}
 use Rattle.outer_ports.specs.declared.dock.MemStep.{MemStep}
 use Rattle.outer_ports.specs.declared.dock.MemStep.TheVariants.{Opened, Bytes, Gone}
-use Rattle.relay_sync.specs.Serving.{BlamesDock, HaveCome, Lasts, NoneAfter, Serves, SameTurns, ServingStops, Spends, SufficesForDock, ServedStep, bytes_to, closed_by, closed_in, count_over, event_of, over_after, replies_of, sent_to, steps_of, with_closed}
+use Rattle.relay_sync.specs.Serving.{BlamesDock, HaveCome, Lasts, NoneAfter, Serves, SameTurns, ServingStops, Spends, DockSuffices, ServedStep, bytes_to, closed_by, closed_in}
+use Rattle.relay_sync.specs.Serving.{count_over, event_of, over_after, replies_of, sent_to, steps_of, with_closed}
 use Rattle.relay_sync.specs.declared.serving.ServeFault.{ServeFault}
 use Rattle.relay_sync.specs.declared.serving.ServeFault.TheVariants.{DockFault, NoMemory, TooLong}
 use Rattle.relay_sync.proofs.ServingLemmas.{room_first}
@@ -23,7 +25,8 @@ record Begun (old last : Relay) (turn : ServedStep) (turns : List ServedStep) : 
   steps : RelaySteps old (event_of turn.step) middle turn.reply
   runs : RelayRuns middle (map event_of (steps_of turns)) last (replies_of turns)
 
-begun : (old last : Relay) (turn : ServedStep) (turns : List ServedStep) → RelayRuns old (map event_of (steps_of (turn ∷ turns))) last (replies_of (turn ∷ turns)) → Begun old last turn turns
+begun : (old last : Relay) (turn : ServedStep) (turns : List ServedStep) → RelayRuns old (map event_of (steps_of (turn ∷ turns))) last (replies_of (turn ∷ turns))
+    → Begun old last turn turns
 begun old last turn turns h =
     let reply : h.1 ≡ turn.reply = cc (h.5) in
     let rest : h.2 ≡ replies_of turns = cc (h.5) in
@@ -58,7 +61,8 @@ gives_whole old new last turn first whole left behind same is steps h =
     }
 
 -- the reply to a piece comes with one of its parts
-one_reply : {T : Type 0} (bring : Option Reply → List T) (more : List T) (reply first second : Option Reply) → bring None ≡ [] → ((first ≡ reply) × (second ≡ None)) ⊎ ((first ≡ None) × (second ≡ reply))
+one_reply : {T : Type 0} (bring : Option Reply → List T) (more : List T) (reply first second : Option Reply) → bring None ≡ []
+    → ((first ≡ reply) × (second ≡ None)) ⊎ ((first ≡ None) × (second ≡ reply))
     → bring reply ++ more ≡ bring first ++ (bring second ++ more)
 one_reply bring more reply first second none (inl p) = rw (p.0, p.1, none) refl
 one_reply bring more reply first second none (inr p) = rw (p.0, p.1, none) refl
@@ -70,7 +74,8 @@ one_closed over reply first second (inr p) = rw (p.0, p.1) refl
 
 -- so many bytes of a step were given
 gives_part : (old new last : Relay) (n count : ℕ) (bytes : List ℕ) (reply given : Option Reply) (whole : List ServedStep) (left behind : List MemStep)
-    → left ≡ Bytes n (drop count bytes) ∷ (steps_of whole ++ behind) → RelaySteps old (Piece n (take count bytes)) new given → Begun old last (record { step = Bytes n bytes; reply = reply }) whole
+    → left ≡ Bytes n (drop count bytes) ∷ (steps_of whole ++ behind) → RelaySteps old (Piece n (take count bytes)) new given
+    → Begun old last (record { step = Bytes n bytes; reply = reply }) whole
     → Left new last (record { step = Bytes n (take count bytes); reply = given }) (record { step = Bytes n bytes; reply = reply } ∷ whole) left behind
 gives_part old new last n count bytes reply given whole left behind is steps h =
     let parts : InParts old n (take count bytes) (drop count bytes) h.middle reply
@@ -79,14 +84,22 @@ gives_part old new last n count bytes reply given whole left behind is steps h =
     record {
       rest = record { step = Bytes n (drop count bytes); reply = parts.second } ∷ whole;
       left_is = is;
-      runs = (h.middle, parts.second, replies_of whole, subst (λ (r : Relay). RelaySteps r (Piece n (drop count bytes)) h.middle parts.second) (sym once.0) parts.goes_on, h.runs, refl);
+      runs = (
+        h.middle,
+        parts.second,
+        replies_of whole,
+        subst (λ (r : Relay). RelaySteps r (Piece n (drop count bytes)) h.middle parts.second) (sym once.0) parts.goes_on,
+        h.runs,
+        refl,
+      );
       sent = λ session. rw (once.1) (one_reply (bytes_to session) (sent_to session whole) reply parts.first parts.second refl parts.one);
       closed = rw (once.1) (one_reply closed_by (closed_in whole) reply parts.first parts.second refl parts.one);
       over = λ over. rw (once.1) (ap (λ o. over_after o whole) (one_closed over reply parts.first parts.second parts.one));
     }
 
 -- a step was given, whole or in part
-gives_some : (old new last : Relay) (most : ℕ) (step given : MemStep) (reply answer : Option Reply) (whole : List ServedStep) (left behind : List MemStep) → given ≡ given_part most step
+gives_some : (old new last : Relay) (most : ℕ) (step given : MemStep) (reply answer : Option Reply) (whole : List ServedStep) (left behind : List MemStep)
+    → given ≡ given_part most step
     → left ≡ rest_after most step ++ (steps_of whole ++ behind) → RelaySteps old (event_of given) new answer → Begun old last (record { step = step; reply = reply }) whole
     → Left new last (record { step = given; reply = answer }) (record { step = step; reply = reply } ∷ whole) left behind
 gives_some old new last most (Opened n) given reply answer whole left behind part is steps h =
@@ -107,8 +120,10 @@ gives_some old new last most (Bytes n bytes) given reply answer whole left behin
         (part ∙ ap (Bytes n) (take_all most bytes (ltb-false most (length bytes) fails))) is steps h
 
 -- the same of the steps to come
-takes_turn : (old new last : Relay) (turn first : ServedStep) (whole : List ServedStep) (coming left behind : List MemStep) → GivesSome (Some coming) (Some left) turn.step → coming ≡ steps_of (first ∷ whole) ++ behind
-    → RelaySteps old (event_of turn.step) new turn.reply → RelayRuns old (map event_of (steps_of (first ∷ whole))) last (replies_of (first ∷ whole)) → Left new last turn (first ∷ whole) left behind
+takes_turn : (old new last : Relay) (turn first : ServedStep) (whole : List ServedStep) (coming left behind : List MemStep) → GivesSome (Some coming) (Some left) turn.step
+    → coming ≡ steps_of (first ∷ whole) ++ behind
+    → RelaySteps old (event_of turn.step) new turn.reply → RelayRuns old (map event_of (steps_of (first ∷ whole))) last (replies_of (first ∷ whole))
+    → Left new last turn (first ∷ whole) left behind
 takes_turn old new last turn first whole coming left behind some is steps runs =
     let gives : Gives some.0 coming left turn.step = some.2 in
     let same : gives.first ≡ first.step = cc (gives.came, is) in
@@ -140,7 +155,8 @@ with_turn relay end last turn taken whole coming left behind l (inl more) =
       rest = more.rest;
       left_is = more.left_is;
       runs = more.runs;
-      sent = λ session. l.sent session ∙ ap (λ b. bytes_to session turn.reply ++ b) (more.sent session) ∙ sym (append_assoc (bytes_to session turn.reply) (sent_to session taken) (sent_to session more.rest));
+      sent = λ session. l.sent session ∙ ap (λ b. bytes_to session turn.reply ++ b) (more.sent session)
+          ∙ sym (append_assoc (bytes_to session turn.reply) (sent_to session taken) (sent_to session more.rest));
       closed = l.closed ∙ ap (λ b. closed_by turn.reply ++ b) more.closed ∙ sym (append_assoc (closed_by turn.reply) (closed_in taken) (closed_in more.rest));
       over = λ over. l.over over ∙ more.over (over_after over (turn ∷ []));
     })
@@ -152,7 +168,8 @@ gives_of_none : (coming : List MemStep) (after : Option (List MemStep)) (step : 
 gives_of_none coming None step some none = some
 gives_of_none coming (Some left) step some none = let gives : Gives some.0 coming left step = some.2 in cc (gives.came, none)
 
-takes_turns : (last end : Relay) (behind : List MemStep) (taken : List ServedStep) (old : Relay) (whole : List ServedStep) (coming left : List MemStep) → RelayRuns old (map event_of (steps_of whole)) last (replies_of whole)
+takes_turns : (last end : Relay) (behind : List MemStep) (taken : List ServedStep) (old : Relay) (whole : List ServedStep) (coming left : List MemStep)
+    → RelayRuns old (map event_of (steps_of whole)) last (replies_of whole)
     → coming ≡ steps_of whole ++ behind → HaveCome (Some coming) (steps_of taken) (Some left) → RelayRuns old (map event_of (steps_of taken)) end (replies_of taken)
     → Behind end last taken whole left behind ⊎ UsedUp taken whole behind
 takes_turns last end behind [] old whole coming left runs is comes given =
@@ -172,7 +189,8 @@ takes_turns last end behind (x ∷ xs) old (t ∷ ts) coming left runs is comes 
     by comes.0 comes.1 comes.2 b (λ m l rest. takes_turns last end behind xs b.middle l.rest m left l.runs l.left_is rest b.runs)
   where
     by : (middle : Option (List MemStep)) → GivesSome (Some coming) middle x.step → HaveCome middle (steps_of xs) (Some left) → (b : Begun old end x xs)
-        → ((m : List MemStep) (l : Left b.middle last x (t ∷ ts) m behind) → HaveCome (Some m) (steps_of xs) (Some left) → Behind end last xs l.rest left behind ⊎ UsedUp xs l.rest behind)
+        → ((m : List MemStep) (l : Left b.middle last x (t ∷ ts) m behind) → HaveCome (Some m) (steps_of xs) (Some left)
+        → Behind end last xs l.rest left behind ⊎ UsedUp xs l.rest behind)
         → Behind end last (x ∷ xs) (t ∷ ts) left behind ⊎ UsedUp (x ∷ xs) (t ∷ ts) behind
     by None some comes b rest = absurd some
     by (Some m) some comes b rest =
@@ -185,7 +203,8 @@ no_turns [] more e = refl
 no_turns (turn ∷ turns) more e = absurd (cc e)
 
 -- steps that are given in parts, to the last, are served as the steps whole
-pub parts_joined : (start one other : Relay) (whole parts : List ServedStep) → HaveCome (Some (steps_of whole)) (steps_of parts) (Some []) → RelayRuns start (map event_of (steps_of whole)) one (replies_of whole)
+pub parts_joined : (start one other : Relay) (whole parts : List ServedStep) → HaveCome (Some (steps_of whole)) (steps_of parts) (Some [])
+    → RelayRuns start (map event_of (steps_of whole)) one (replies_of whole)
     → RelayRuns start (map event_of (steps_of parts)) other (replies_of parts) → (one ≡ other) × SameTurns whole parts
 parts_joined start one other whole parts comes runs given =
     by (takes_turns one other [] parts start whole (steps_of whole) [] runs (sym (append-nil (steps_of whole))) comes given)
@@ -212,13 +231,15 @@ stays_told : (coming : List MemStep) (steps : List MemStep) (after : Option (Lis
 stays_told coming [] after h = (coming, h)
 stays_told coming (step ∷ steps) after h = by h.0 h.1 h.2 (λ m. stays_told m steps after)
   where
-    by : (middle : Option (List MemStep)) → GivesSome (Some coming) middle step → HaveCome middle steps after → ((m : List MemStep) → HaveCome (Some m) steps after → (left : List MemStep) × (after ≡ Some left))
+    by : (middle : Option (List MemStep)) → GivesSome (Some coming) middle step → HaveCome middle steps after
+        → ((m : List MemStep) → HaveCome (Some m) steps after → (left : List MemStep) × (after ≡ Some left))
         → (left : List MemStep) × (after ≡ Some left)
     by None some comes rest = absurd some
     by (Some m) some comes rest = rest m comes
 
 -- turns at a dock that suffices, and what is left of the steps to come
-module _ (sessions : ℕ) (a : Relay) (x : DockView) (s : SufficesForDock sessions a x) (b : Relay) (turns : List ServedStep) (after : Option (List MemStep)) (comes : HaveCome x.coming (steps_of turns) after)
+module _ (sessions : ℕ) (a : Relay) (x : DockView) (s : DockSuffices sessions a x) (b : Relay) (turns : List ServedStep) (after : Option (List MemStep))
+    (comes : HaveCome x.coming (steps_of turns) after)
     (runs : RelayRuns a (map event_of (steps_of turns)) b (replies_of turns)) (none : NoneAfter sessions turns) where
   abbrev coming : List MemStep
   coming = steps_of s.turns ++ s.behind
@@ -239,7 +260,8 @@ module _ (sessions : ℕ) (a : Relay) (x : DockView) (s : SufficesForDock sessio
   lasts_so : Lasts x turns
   lasts_so =
       let l = left_behind in
-      room_first x (λ session. sent_to session s.turns) (λ session. sent_to session turns) (λ session. sent_to session l.rest) (closed_in s.turns) (closed_in turns) (closed_in l.rest) l.sent l.closed
+      room_first x (λ session. sent_to session s.turns) (λ session. sent_to session turns) (λ session. sent_to session l.rest) (closed_in s.turns) (closed_in turns)
+      (closed_in l.rest) l.sent l.closed
       s.lasts
 
   -- where no step is left, enough sessions are over
@@ -250,17 +272,18 @@ module _ (sessions : ℕ) (a : Relay) (x : DockView) (s : SufficesForDock sessio
       subst (λ o. sessions ≤ length o) (l.over [] ∙ ap (λ rest. over_after [] (turns ++ rest)) (no_turns l.rest s.behind none_left) ∙ ap (over_after []) (append-nil turns)) s.over
 
 -- what was served at a dock that suffices
-calm_served : (sessions : ℕ) (a b : Relay) (x y : DockView) (turns : List ServedStep) → Serves a b x y turns → NoneAfter sessions turns → SufficesForDock sessions a x → y.faults ≡ x.faults
+calm_served : (sessions : ℕ) (a b : Relay) (x y : DockView) (turns : List ServedStep) → Serves a b x y turns → NoneAfter sessions turns → DockSuffices sessions a x
+    → y.faults ≡ x.faults
 calm_served sessions a b x y turns h none s = h.calm (lasts_so sessions a x s b turns y.coming h.gave.comes h.runs none)
 
 -- and up to a fault, which is none of the dock
 module _ (sessions steps : ℕ) (a b : Relay) (x y : DockView) where
-  lasts_until : (fault : ServeFault) → (h : ServingStops sessions steps fault a b x y) → SufficesForDock sessions a x → Lasts x h.turns
+  lasts_until : (fault : ServeFault) → (h : ServingStops sessions steps fault a b x y) → DockSuffices sessions a x → Lasts x h.turns
   lasts_until fault h s =
       let split = comes_split (steps_of h.turns) h.partly.more x.coming y.coming h.partly.gave.comes in
       lasts_so sessions a x s b h.turns split.0 split.1 h.partly.runs h.none_after
 
-  no_dock_fault : ServingStops sessions steps DockFault a b x y → SufficesForDock sessions a x → ⊥
+  no_dock_fault : ServingStops sessions steps DockFault a b x y → DockSuffices sessions a x → ⊥
   no_dock_fault h s =
       let split = comes_split (steps_of h.turns) h.partly.more x.coming y.coming h.partly.gave.comes in
       let lasts = lasts_until DockFault h s in
@@ -271,18 +294,20 @@ module _ (sessions steps : ℕ) (a b : Relay) (x y : DockView) where
       let enough = all_over sessions a x s b h.turns split.0 split.1 h.partly.runs h.none_after (left.1 ∙ ap Some none) in
       omega (arith, enough, h.not_over lasts refl)
 
-  calm_stopped : (fault : ServeFault) → ServingStops sessions steps fault a b x y → SufficesForDock sessions a x → y.faults ≡ x.faults
+  calm_stopped : (fault : ServeFault) → ServingStops sessions steps fault a b x y → DockSuffices sessions a x → y.faults ≡ x.faults
   calm_stopped DockFault h s = absurd (no_dock_fault h s)
   calm_stopped TooLong h s = h.partly.calm (lasts_until TooLong h s)
   calm_stopped NoMemory h s = h.partly.calm (lasts_until NoMemory h s)
 
-  sure_stopped : (fault : ServeFault) → ServingStops sessions steps fault a b x y → SufficesForDock sessions a x → fault ≢ DockFault
+  sure_stopped : (fault : ServeFault) → ServingStops sessions steps fault a b x y → DockSuffices sessions a x → fault ≢ DockFault
   sure_stopped DockFault h s is = no_dock_fault h s
   sure_stopped TooLong h s is = cc is
   sure_stopped NoMemory h s is = cc is
 
-pub served_blames : {T : Type 0} (result : T) (sessions : ℕ) (a b : Relay) (x y : DockView) (turns : List ServedStep) → Serves a b x y turns → NoneAfter sessions turns → BlamesDock sessions a x y (Ok result)
+pub served_blames : {T : Type 0} (result : T) (sessions : ℕ) (a b : Relay) (x y : DockView) (turns : List ServedStep) → Serves a b x y turns → NoneAfter sessions turns
+    → BlamesDock sessions a x y (Ok result)
 served_blames result sessions a b x y turns h none = record { calm = calm_served sessions a b x y turns h none; sure = λ s is. cc is }
 
-pub stopped_blames : {T : Type 0} (sessions steps : ℕ) (a b : Relay) (x y : DockView) (fault : ServeFault) → ServingStops sessions steps fault a b x y → BlamesDock {T = T} sessions a x y (Err fault)
+pub stopped_blames : {T : Type 0} (sessions steps : ℕ) (a b : Relay) (x y : DockView) (fault : ServeFault) → ServingStops sessions steps fault a b x y
+    → BlamesDock {T = T} sessions a x y (Err fault)
 stopped_blames sessions steps a b x y fault h = record { calm = calm_stopped sessions steps a b x y fault h; sure = λ s is. sure_stopped sessions steps a b x y fault h s (cc is) }

@@ -1,4 +1,5 @@
--- Replicas that exchange over a relay: who hears its log from the start, after all have sent, accepts the closure of the union of what all of them kept.
+-- Replicas that exchange over a relay: who hears its log from the start, after all have sent, accepts the closure of
+-- the union of what all of them kept.
 use Rattle.std.specs.Prelude.{◌≡◌, ◌≢◌, ℕ, ◌<◌, ◌≤◌, ◌^◌, nat_eq, All, Bool, IfSome, List, [], ◌∷◌, ◌++◌, Option, flat_map, length, map}
 use Rattle.std.specs.List.{filter}
 use Rattle.fugue_ids.specs.declared.op.Op.{Op}
@@ -53,7 +54,8 @@ session_of (Gone n) = n
 -- the events are those of the sessions, interleaved in any way; sessions with one number follow one another
 abbrev pub AreInterleaved : List Sending → List Event → Type 0
 AreInterleaved sendings events =
-    (n : ℕ) → filter (λ event. nat_eq (session_of event) n) events ≡ flat_map events_of (filter (λ (s : Sending). nat_eq s.number n) sendings)
+    (n : ℕ) → filter (λ event. nat_eq (session_of event) n) events ≡ flat_map events_of
+    (filter (λ (s : Sending). nat_eq s.number n) sendings)
 
 -- no session was refused
 abbrev pub NoneRefused : List (Option Reply) → Type 0
@@ -81,7 +83,8 @@ senders sendings = beginners (filter is_whole sendings)
 abbrev pub LogsAreWhatWasSent : Type 0
 LogsAreWhatWasSent =
     (limit : ℕ) (sendings : List Sending) (relay : Relay) → IsSentTo limit sendings relay
-    → (ops : List Op) × IsLogOf relay.log ops × IsPartOf (given_by_all (senders sendings)) ops × IsPartOf ops (given_by_all (beginners sendings))
+    → (ops : List Op) × IsLogOf relay.log ops × IsPartOf (given_by_all (senders sendings)) ops
+    × IsPartOf ops (given_by_all (beginners sendings))
 
 -- a replica heard a log from its start to its end, and what waited always had room
 pub record HearsLog (log : List (List ℕ)) (r : Taker) (after : Held) : Type 0 where
@@ -89,7 +92,8 @@ pub record HearsLog (log : List (List ℕ)) (r : Taker) (after : Held) : Type 0 
   pub kept : List Op
   pub ended : OpsTaking
   pub count : ℕ
-  pub hears : HearsTo (reply_from log 0) (taking_begun (record { number = number; hold = r.hold; most = r.most; held = taker_state r }) kept) ended (Ended count)
+  pub hears : HearsTo (reply_from log 0)
+      (taking_begun (record { number = number; hold = r.hold; most = r.most; held = taker_state r }) kept) ended (Ended count)
   pub none_full : ended.counts.full ≡ 0
   pub after_is : after ≡ ended.replica.held
 
@@ -107,6 +111,8 @@ HearersHaveTheClosure =
 -- so any two that had kept nothing else than the senders accept the same and print the same
 abbrev pub HearersConverge : Type 0
 HearersConverge =
-    (limit : ℕ) (sendings : List Sending) (relay : Relay) (a b : Taker) (after_a after_b : Held) → IsSentTo limit sendings relay → AllAreSent sendings
-    → Consistent (kept_by_all (senders sendings)) → IsPartOf (kept_by a) (kept_by_all (senders sendings)) → IsPartOf (kept_by b) (kept_by_all (senders sendings))
+    (limit : ℕ) (sendings : List Sending) (relay : Relay) (a b : Taker) (after_a after_b : Held) → IsSentTo limit sendings relay
+    → AllAreSent sendings
+    → Consistent (kept_by_all (senders sendings)) → IsPartOf (kept_by a) (kept_by_all (senders sendings))
+    → IsPartOf (kept_by b) (kept_by_all (senders sendings))
     → HearsLog relay.log a after_a → HearsLog relay.log b after_b → Converged after_a after_b

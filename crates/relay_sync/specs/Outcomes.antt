@@ -41,7 +41,8 @@ pub record IsNoMessage (bytes : List ℕ) : Type 0 where
   pub none_begins : (message : Message) → BeginsBytes message bytes → ⊥
   pub no_front : IsMessageFront bytes → ⊥
 
--- How the rest behind the frames ends a reply of so many bytes whose operations all find their place. The rest goes up to the limit, and what stands behind a message there counts for nothing.
+-- How the rest behind the frames ends a reply of so many bytes whose operations all find their place. The rest goes up
+-- to the limit, and what stands behind a message there counts for nothing.
 abbrev pub EndsReply : (size place : ℕ) → List ℕ → ReplyEnd → Type 0
 EndsReply size place rest (Ended count) = BeginsBytes (End count) rest
 EndsReply size place rest (Refused code) = BeginsBytes (Refusal code) rest
@@ -117,14 +118,18 @@ pub record AnswerIs (before : OpsTaking) (bytes : List ℕ) (answer : Result Syn
 
 -- each answer comes exactly where the bytes of the reply say so, but for a fault of the wire and want of memory
 abbrev pub AnswersByReply : Result Synced SyncFault → (before : OpsTaking) → List ℕ → Type 0
-AnswersByReply result before bytes = IsByReply result → (answer : Result Synced SyncFault) → IsByReply answer → (result ≡ answer) ↔ AnswerIs before bytes answer
+AnswersByReply result before bytes = IsByReply result → (answer : Result Synced SyncFault) → IsByReply answer
+    → (result ≡ answer) ↔ AnswerIs before bytes answer
 
 -- all bytes come to exactly one end, and what is heard of them is what they come to
 pub record RepliesComeOnce : Type 0 where
   pub one : (hold most : ℕ) (start : Held) (bytes : List ℕ) (ops others : List Op) (end other : ReplyEnd)
       → ReplyComes hold most start bytes ops end → ReplyComes hold most start bytes others other → (ops ≡ others) × (end ≡ other)
   pub some : (hold most : ℕ) (start : Held) (bytes : List ℕ) → (ops : List Op) × (end : ReplyEnd) × ReplyComes hold most start bytes ops end
-  pub heard : (old new : WireView) (before after : OpsTaking) (count : ℕ) → HearsReply old new before after count → HeardTo old.left before after (Ended count)
-  pub up_to : (fault : SyncFault) (old new : WireView) (before after : OpsTaking) → HearsPartly fault old new before after → HeardUpTo fault old.left before after
-  pub same : (bytes : List ℕ) (before after others : OpsTaking) (end other : ReplyEnd) → HearsTo bytes before after end → HearsTo bytes before others other
+  pub heard : (old new : WireView) (before after : OpsTaking) (count : ℕ) → HearsReply old new before after count
+      → HeardTo old.left before after (Ended count)
+  pub up_to : (fault : SyncFault) (old new : WireView) (before after : OpsTaking) → HearsPartly fault old new before after
+      → HeardUpTo fault old.left before after
+  pub same : (bytes : List ℕ) (before after others : OpsTaking) (end other : ReplyEnd) → HearsTo bytes before after end
+      → HearsTo bytes before others other
       → (after ≡ others) × (end ≡ other)

@@ -55,8 +55,8 @@ pub record IsBroken (bytes : List ℕ) : Type 0 where
   pub no_front : IsMessageFront bytes → ⊥
 
 -- no call on the wire fails but for want of room
-abbrev pub NeverFails : WireView → Type 0
-NeverFails wire = is_some wire.room ≡ true
+abbrev pub IsSureWire : WireView → Type 0
+IsSureWire wire = is_some wire.room ≡ true
 
 -- these bytes were heard, and nothing else happened to the wire
 pub record HeardBytes (old new : WireView) (bytes : List ℕ) : Type 0 where
@@ -65,7 +65,7 @@ pub record HeardBytes (old new : WireView) (bytes : List ℕ) : Type 0 where
   pub dials : new.dials ≡ old.dials
   pub room : new.room ≡ old.room
   pub later : old.faults ≤ new.faults
-  pub calm : NeverFails old → new.faults ≡ old.faults
+  pub calm : IsSureWire old → new.faults ≡ old.faults
 
 -- nothing is left to hear
 abbrev pub IsOver : WireView → Type 0
@@ -73,10 +73,11 @@ IsOver wire = IfSome wire.left (λ left. left ≡ [])
 
 -- why the message at this place goes no further than these bytes
 abbrev pub StopsIn : SyncFault → (old new : WireView) → (place : ℕ) → List ℕ → Type 0
-StopsIn WireFault old new place bytes = IsMessageFront bytes × Faulted old.faults new.faults × (NeverFails old → ⊥)
+StopsIn WireFault old new place bytes = IsMessageFront bytes × Faulted old.faults new.faults × (IsSureWire old → ⊥)
 StopsIn (BadReply at) old new place bytes = (at ≡ place) × IsBroken bytes × (place + length bytes ≤ STREAM_LIMIT)
 StopsIn (CutShort at) old new place bytes = (at ≡ place) × IsMessageFront bytes × IsOver new × (place + length bytes ≤ STREAM_LIMIT)
-StopsIn TooLong old new place bytes = (front : List ℕ) × (byte : ℕ) × (bytes ≡ front ++ byte ∷ []) × IsMessageFront front × (place + length front ≡ STREAM_LIMIT)
+StopsIn TooLong old new place bytes =
+    (front : List ℕ) × (byte : ℕ) × (bytes ≡ front ++ byte ∷ []) × IsMessageFront front × (place + length front ≡ STREAM_LIMIT)
 StopsIn NoMemory old new place bytes = ⊥
 StopsIn (RelayRefused code) old new place bytes = ⊥
 StopsIn (TooMany most) old new place bytes = ⊥
@@ -104,7 +105,8 @@ pub record WholeFrame (frame : List ℕ) (old new : WireView) (place heard : ℕ
   pub count : heard ≡ place + length frame
   pub within : heard ≤ STREAM_LIMIT
 
--- On a wire that tells, the count of faults rises only where the wire is blamed: no call that failed is passed over, and none is told as another fault.
+-- On a wire that tells, the count of faults rises only where the wire is blamed: no call that failed is passed over,
+-- and none is told as another fault.
 pub record WireRisesFor (blamed : Type 0) (old new : WireView) : Type 0 where
   pub tells : WireTells old → WireTells new
   pub calm_told : WireTells old → (blamed → ⊥) → new.faults ≡ old.faults

@@ -54,7 +54,8 @@ pub record RepliedPartly (fault : ServeFault) (old new : DockView) (reply : Opti
   pub sure : LastsFor old reply → fault ≢ DockFault
   pub calm : LastsFor old reply → new.faults ≡ old.faults
 
--- On a dock that tells, the count of faults rises only where the dock is blamed: no call that failed is passed over, and none is told as another fault.
+-- On a dock that tells, the count of faults rises only where the dock is blamed: no call that failed is passed over,
+-- and none is told as another fault.
 pub record DockRisesFor (blamed : Type 0) (old new : DockView) : Type 0 where
   pub tells : DockTells old → DockTells new
   pub calm_told : DockTells old → (blamed → ⊥) → new.faults ≡ old.faults

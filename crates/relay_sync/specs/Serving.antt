@@ -1,5 +1,6 @@
 -- What serving does: the steps that a dock gives are given to a relay, and its replies are sent.
-use Rattle.std.specs.Prelude.{◌≡◌, ◌≢◌, Result, Err, ℕ, ◌+◌, ◌<◌, ◌≤◌, List, [], ◌∷◌, ◌++◌, length, take, flat_map, map, nat_eq, if◌then◌else◌, Option, Some, None, IfSome, option_map, ◌-◌}
+use Rattle.std.specs.Prelude.{◌≡◌, ◌≢◌, Result, Err, ℕ, ◌+◌, ◌<◌, ◌≤◌, List, [], ◌∷◌, ◌++◌, length, take, flat_map, map, nat_eq}
+use Rattle.std.specs.Prelude.{if◌then◌else◌, Option, Some, None, IfSome, option_map, ◌-◌}
 use Rattle.std.specs.Io.KnownBytes.{append_known}
 use Rattle.fugue_ids.specs.Outs.{Took, TookFront}
 use Rattle.origin_model.specs.declared.relay.Event.{Event}
@@ -185,7 +186,7 @@ pub record ServingStops (sessions steps : ℕ) (fault : ServeFault) (old_relay n
 
 -- The first of the steps to come bring so many sessions to their end, and the dock lasts for the replies to them. The steps
 -- are those that stand there, in whatever parts the dock gives them.
-pub record SufficesForDock (sessions : ℕ) (relay : Relay) (dock : DockView) : Type 0 where
+pub record DockSuffices (sessions : ℕ) (relay : Relay) (dock : DockView) : Type 0 where
   pub turns : List ServedStep
   pub behind : List MemStep
   pub coming : dock.coming ≡ Some (steps_of turns ++ behind)
@@ -196,8 +197,8 @@ pub record SufficesForDock (sessions : ℕ) (relay : Relay) (dock : DockView) : 
 
 -- a dock that suffices counts no fault, and none is told
 pub record BlamesDock {T : Type 0} (sessions : ℕ) (relay : Relay) (old new : DockView) (result : Result T ServeFault) : Type 0 where
-  pub calm : SufficesForDock sessions relay old → new.faults ≡ old.faults
-  pub sure : SufficesForDock sessions relay old → result ≢ Err DockFault
+  pub calm : DockSuffices sessions relay old → new.faults ≡ old.faults
+  pub sure : DockSuffices sessions relay old → result ≢ Err DockFault
 
 -- turns that send the same to each session, and bring the same sessions to their end
 pub record SameTurns (a b : List ServedStep) : Type 0 where
@@ -209,5 +210,6 @@ pub record SameTurns (a b : List ServedStep) : Type 0 where
 -- those up to there, with that part for the piece.
 pub record PartsCountAsJoined : Type 0 where
   pub same : (start one other : Relay) (whole parts : List ServedStep) → HaveCome (Some (steps_of whole)) (steps_of parts) (Some [])
-      → RelayRuns start (map event_of (steps_of whole)) one (replies_of whole) → RelayRuns start (map event_of (steps_of parts)) other (replies_of parts)
+      → RelayRuns start (map event_of (steps_of whole)) one (replies_of whole)
+      → RelayRuns start (map event_of (steps_of parts)) other (replies_of parts)
       → (one ≡ other) × SameTurns whole parts

@@ -63,9 +63,12 @@ pub record HearsReply (old new : WireView) (before after : OpsTaking) (count : �
 
 -- why no more was heard, behind the frames whose operations were taken in: the bytes there decide
 abbrev pub ReplyStopsFor : SyncFault → (old new : WireView) → (before after : OpsTaking) → (place : ℕ) → List ℕ → Type 0
-ReplyStopsFor (RelayRefused code) old new before after place bytes = (after ≡ before) × IsMessage (Refusal code) bytes × (place + length bytes ≤ STREAM_LIMIT)
-ReplyStopsFor (TooMany most) old new before after place bytes = TakesNotAll (feed_fault.TooMany most) before after bytes × (place + length bytes ≤ STREAM_LIMIT)
-ReplyStopsFor NoMemory old new before after place bytes = TakesNotAll feed_fault.NoMemory before after bytes × (place + length bytes ≤ STREAM_LIMIT)
+ReplyStopsFor (RelayRefused code) old new before after place bytes =
+    (after ≡ before) × IsMessage (Refusal code) bytes × (place + length bytes ≤ STREAM_LIMIT)
+ReplyStopsFor (TooMany most) old new before after place bytes =
+    TakesNotAll (feed_fault.TooMany most) before after bytes × (place + length bytes ≤ STREAM_LIMIT)
+ReplyStopsFor NoMemory old new before after place bytes =
+    TakesNotAll feed_fault.NoMemory before after bytes × (place + length bytes ≤ STREAM_LIMIT)
 ReplyStopsFor fault old new before after place bytes = (after ≡ before) × StopsIn fault old new place bytes
 
 -- the reply was heard up to a fault, and the operations before it were taken in
@@ -88,7 +91,7 @@ pub record HearsNoFurther (old new : Option (List ℕ)) : Type 0 where
   pub heard : old ≡ prepend_known (flat_map (λ framed. framed.bytes) found ++ last) new
 
 -- the port was dialled, once and before all else, and all that the replica holds was said to it
-pub record IsDialled (old new : WireView) (port cursor : ℕ) (held : Held) : Type 0 where
+pub record SaysRequest (old new : WireView) (port cursor : ℕ) (held : Held) : Type 0 where
   pub dialled : DialsOnce old new port
   pub said : Took (out_of old) (out_of new) (request_for cursor held)
   pub left : new.left ≡ old.left
@@ -103,7 +106,7 @@ SaysNotAll fault old new = ⊥
 -- the replica said what it holds, and took in the reply
 pub record SyncsReplica (old new : WireView) (before after : OpsTaking) (port cursor count : ℕ) : Type 0 where
   pub asked : WireView
-  pub asks : IsDialled old asked port cursor before.replica.held
+  pub asks : SaysRequest old asked port cursor before.replica.held
   pub hears : HearsReply asked new before after count
 
 -- a front of it was said to the port, and nothing was heard
@@ -117,23 +120,24 @@ pub record FailsToAsk (fault : SyncFault) (old new : WireView) (before after : O
 -- it was said, and the reply was heard up to a fault
 pub record FailsToHear (fault : SyncFault) (old new : WireView) (before after : OpsTaking) (port cursor : ℕ) : Type 0 where
   pub asked : WireView
-  pub asks : IsDialled old asked port cursor before.replica.held
+  pub asks : SaysRequest old asked port cursor before.replica.held
   pub hears : HearsPartly fault asked new before after
 
 -- an exchange failed: as it asked, or as it heard the reply
 abbrev pub SyncFails : SyncFault → (old new : WireView) → (before after : OpsTaking) → (port cursor : ℕ) → Type 0
-SyncFails fault old new before after port cursor = FailsToAsk fault old new before after port cursor ⊎ FailsToHear fault old new before after port cursor
+SyncFails fault old new before after port cursor =
+    FailsToAsk fault old new before after port cursor ⊎ FailsToHear fault old new before after port cursor
 
 -- calls are sure, and so many bytes fit
-abbrev pub FitsReply : ℕ → WireView → Type 0
-FitsReply count wire = (room : ℕ) × (wire.room ≡ Some room) × (count ≤ room)
+abbrev pub FitsBytes : ℕ → WireView → Type 0
+FitsBytes count wire = (room : ℕ) × (wire.room ≡ Some room) × (count ≤ room)
 
 -- a call on the wire is blamed only where one failed, and none fails on a sure wire which what is said fits
 pub record BlamesWire {T : Type 0} (said : ℕ) (old new : WireView) (result : Result T SyncFault) : Type 0 where
   pub later : old.faults ≤ new.faults
   pub rose : result ≡ Err WireFault → Faulted old.faults new.faults
-  pub calm : FitsReply said old → new.faults ≡ old.faults
-  pub sure : FitsReply said old → result ≢ Err WireFault
+  pub calm : FitsBytes said old → new.faults ≡ old.faults
+  pub sure : FitsBytes said old → result ≢ Err WireFault
 
 -- one message was heard: a frame, whose operations were taken in
 pub record HearsMessage (old new : WireView) (before after : OpsTaking) (place heard : ℕ) : Type 0 where

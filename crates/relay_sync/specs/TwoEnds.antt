@@ -1,4 +1,5 @@
--- The two ends of an exchange, proved against one another: a replica reads what any relay replies, and a relay answers what any replica sends.
+-- The two ends of an exchange, proved against one another: a replica reads what any relay replies, and a relay answers
+-- what any replica sends.
 use Rattle.std.specs.Prelude.{◌≡◌, ◌⊎◌, ℕ, ◌<◌, ◌≤◌, ◌^◌, false, All, List, ◌∷◌, ◌++◌, drop, length}
 use Rattle.fugue_ids.specs.declared.op.Op.{Op}
 use Rattle.origin_model.specs.declared.relay.Event.{Event}
@@ -21,7 +22,8 @@ pub record IsReadable (log : List (List ℕ)) : Type 0 where
 
 -- so it is of each log that events lead to, whoever sent them
 abbrev pub RepliesAreRead : Type 0
-RepliesAreRead = (limit : ℕ) (events : List Event) (relay : Relay) → limit ≤ MOST_LOGGED → IsRelayState limit events relay → IsReadable relay.log
+RepliesAreRead = (limit : ℕ) (events : List Event) (relay : Relay) → limit ≤ MOST_LOGGED → IsRelayState limit events relay
+    → IsReadable relay.log
 
 -- what a replica sends: the accepted operations in their order, and then those that wait
 abbrev pub sent_ops : Held → List Op
@@ -52,6 +54,7 @@ pub record IsReplied (limit cursor : ℕ) (log : List (List ℕ)) (ops : List Op
 -- a request of a replica is answered in one of these ways: it is never called no session
 abbrev pub RequestsAreAnswered : Type 0
 RequestsAreAnswered =
-    (limit cursor : ℕ) (log : List (List ℕ)) (held : Held) (after : Taken) → cursor < 2 ^ 32 → length log ≤ limit → All HasFrame (sent_ops held)
+    (limit cursor : ℕ) (log : List (List ℕ)) (held : Held) (after : Taken) → cursor < 2 ^ 32 → length log ≤ limit
+    → All HasFrame (sent_ops held)
     → TakesAll limit (request_for cursor held) (record { log = log; next = Goes unread }) after
     → IsBeyond cursor log after ⊎ (IsFull limit cursor log (sent_ops held) after ⊎ IsReplied limit cursor log (sent_ops held) after)

@@ -10,7 +10,8 @@ use Rattle.causal_inbox.specs.declared.index.Found.TheVariants.{Same, Clash, Abs
 use Rattle.origin_model.specs.operations.History.{has_op}
 use Rattle.origin_model.specs.operations.Verdict.{verdict, first_line, first_stray, first_missing, names, id_held}
 use Rattle.origin_model.specs.declared.operations.Verdict.{Verdict}
-use Rattle.origin_model.specs.declared.operations.Verdict.TheVariants.{Again as AgainOnHistory, Conflict as ConflictOnHistory, Stray as StrayOnHistory, Missing as MissingOnHistory, Ready as ReadyOnHistory}
+use Rattle.origin_model.specs.declared.operations.Verdict.TheVariants.{Again as AgainOnHistory, Conflict as ConflictOnHistory, Stray as StrayOnHistory, Missing as MissingOnHistory}
+use Rattle.origin_model.specs.declared.operations.Verdict.TheVariants.{Ready as ReadyOnHistory}
 use Rattle.origin_model.specs.taking.Taking.{Held, Answer, Again, Conflict, Full, Waits, answer, answer_by, is_again, is_kept, is_taken, is_decided}
 use Rattle.replica_core.specs.declared.replica.Decision.{Decision}
 use Rattle.replica_core.specs.Decision.{decision_of, answer_by_decision}

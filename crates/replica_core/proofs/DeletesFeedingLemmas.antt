@@ -1,5 +1,6 @@
 -- Deletes of neighbours that are taken in one after another by one call.
-use Rattle.std.proofs.Common.{◌≡◌, ◌≢◌, ◌∙◌, ap, arith, append-nil, append_assoc, false, length, refl, subst, suc, sym, zero, inl, inr, ℕ, ◌+◌, ◌-◌, ◌<◌, ◌≤◌, ◌++◌, ◌∷◌, List, [], ◌^◌, true}
+use Rattle.std.proofs.Common.{◌≡◌, ◌≢◌, ◌∙◌, ap, arith, append-nil, append_assoc, false, length, length-append, refl, subst, suc, sym, take, zero, inl, inr, ℕ, ◌+◌, ◌-◌, ◌<◌, ◌≤◌}
+use Rattle.std.proofs.Common.{◌++◌, ◌∷◌, List, [], ◌^◌, true}
 use Rattle.std.specs.Prelude.{◌↔◌, All, Bool, None, Option, Some, option_map}
 use Rattle.std.proofs.lemmas.Bool.{cases_lt, or_from}
 use Rattle.std.proofs.lemmas.List.Elements.{All-append, All-cons, All-nil}
@@ -22,22 +23,24 @@ use Rattle.origin_model.specs.operations.History.{has_op, holder, stands_at}
 use Rattle.origin_model.specs.operations.Verdict.{fits}
 use Rattle.origin_model.specs.order.Laws.{IsIn}
 use Rattle.origin_model.specs.order.Printed.{is_hidden}
-use Rattle.origin_model.specs.taking.Taking.{Accepted, Answer, MeetsNoLimit, Held, IsSettled, TooMany, answer, answers_from, held_from, intake, intake_counted, is_kept, kept_from, no_counts, tally_from}
+use Rattle.origin_model.specs.taking.Taking.{Accepted, Answer, MeetsNoLimit, Held, IsSettled, TooMany, answer, answers_from, held_from, intake, intake_counted, is_kept, kept_from}
+use Rattle.origin_model.specs.taking.Taking.{no_counts, tally_from}
 use Rattle.origin_model.proofs.SharedLemmas.{hidden-has, holder_owns, IsIn-held, kept-yes, places-none, shown_can_go, stands_element, stands_place}
 use Rattle.origin_model.proofs.edits.EditIntakeLemmas.{comes}
 use Rattle.origin_model.proofs.edits.FreshIdLemmas.{IsUnknown, delete_unknown}
-use Rattle.replica_core.specs.Deleting.{AreUndeleted, AreWithin, IsUndeleted, deletes_from, ids_from}
+use Rattle.replica_core.specs.Deleting.{AreUndeleted, AreWithin, IsUndeleted, ids_from}
 use Rattle.replica_core.specs.Edits.{CanJoin}
 use Rattle.replica_core.specs.Feeding.{GoesAtOnce, StopsFeeding, StopsKeeping, TakesInAll}
 use Rattle.replica_core.specs.Keeping.{LeavesUnkept}
 use Rattle.replica_core.specs.Told.{LeavesAfterFault, total}
 use Rattle.replica_core.specs.declared.keeping.FeedFault.{FeedFault}
 use Rattle.replica_core.specs.declared.keeping.FeedFault.TheVariants.{NoMemory as FedNoMemory, TooMany as FedTooMany}
-use Rattle.replica_core.proofs.DeletingLemmas.{can_rest, deletes_parted, fewer_can, length-from}
+use Rattle.replica_core.proofs.DeletingLemmas.{can_rest, fewer_can}
 use Rattle.replica_core.proofs.FeedLemmas.{fed_quietly}
-use Rattle.replica_core.proofs.FeedingLemmas.{first_stops, first_unkept, joins_all, kept_behind, repeats_all, stops_copying, stops_joining, stops_on, takes_none_in, takes_on, unkept_on}
+use Rattle.replica_core.proofs.FeedingLemmas.{first_stops, first_unkept, joins_all, kept_behind, repeats_all, stops_copying, stops_joining, stops_on, takes_none_in, takes_on}
+use Rattle.replica_core.proofs.FeedingLemmas.{unkept_on}
 use Rattle.replica_core.proofs.JoinLemmas.{can_be_accepted, first_can}
-use Rattle.replica_core.proofs.NotingLemmas.{row_up}
+use Rattle.replica_core.proofs.NotingLemmas.{back_again}
 
 -- On the way through a row
 
@@ -48,7 +51,8 @@ pub record IsFeedingRow (s : State) (t : Tally) (x : Identifier) (count : ℕ) (
   pub within : done ≤ count
   pub few : total counts + length now.held.waiting + count ≤ 2 ^ 31 + done
 
-pub feeding_row : (s : State) (t : Tally) (x : Identifier) (count : ℕ) → IsSound s → IsSettled s.held → total t + length s.held.waiting + count ≤ 2 ^ 31 → IsFeedingRow s t x count s t 0
+pub feeding_row : (s : State) (t : Tally) (x : Identifier) (count : ℕ) → IsSound s → IsSettled s.held → total t + length s.held.waiting + count ≤ 2 ^ 31
+    → IsFeedingRow s t x count s t 0
 feeding_row s t x count stands settled few = record { taken = takes_none_in s t settled; stands = stands; within = omega arith; few = omega (arith, few) }
 
 -- some more
@@ -59,7 +63,8 @@ row_fed_on s now new t counts after x count done n f no_more less took stands =
     let once : total after + length new.held.waiting ≡ total counts + length now.held.waiting + length (deletes_up (id_behind x done) n) = took.once in
     let long : length (deletes_up (id_behind x done) n) ≡ n = length-deletes false (id_behind x done) n in
     record {
-      taken = subst (λ (z : List Op). TakesInAll s new z t after) (sym (deletes-append false x done n)) (takes_on s now new (deletes_up x done) (deletes_up (id_behind x done) n) t counts after f.taken took);
+      taken = subst (λ (z : List Op). TakesInAll s new z t after) (sym (deletes-append false x done n))
+          (takes_on s now new (deletes_up x done) (deletes_up (id_behind x done) n) t counts after f.taken took);
       stands = stands;
       within = omega (arith, no_more, less);
       few = omega (arith, few, once, long);
@@ -77,7 +82,8 @@ row_fed_some s now new t counts after x count done fault f less stops =
     (stops_on s now new (deletes_up x done) (deletes_up (id_behind x done) (count - done)) t counts after fault f.taken stops)
 
 -- all
-pub row_fed_all : (s now : State) (t counts : Tally) (x : Identifier) (count done : ℕ) → IsFeedingRow s t x count now counts done → count ≤ done → TakesInAll s now (deletes_up x count) t counts
+pub row_fed_all : (s now : State) (t counts : Tally) (x : Identifier) (count done : ℕ) → IsFeedingRow s t x count now counts done → count ≤ done
+    → TakesInAll s now (deletes_up x count) t counts
 row_fed_all s now t counts x count done f all = let e : done ≡ count = omega (arith, all, f.within) in subst (λ (n : ℕ). TakesInAll s now (deletes_up x n) t counts) e f.taken
 
 -- and what was kept of them
@@ -85,11 +91,14 @@ pub record IsKeepingRow (s : State) (t : Tally) (kept : List Op) (x : Identifier
   pub feeds : IsFeedingRow s t x count now counts done
   pub kept_are : kept_now ≡ kept ++ kept_from s.hold s.most s.held (deletes_up x done)
 
-pub keeping_row : (s : State) (t : Tally) (kept : List Op) (x : Identifier) (count : ℕ) → IsSound s → IsSettled s.held → total t + length s.held.waiting + count ≤ 2 ^ 31 → IsKeepingRow s t kept x count s t kept 0
+pub keeping_row : (s : State) (t : Tally) (kept : List Op) (x : Identifier) (count : ℕ) → IsSound s → IsSettled s.held → total t + length s.held.waiting + count ≤ 2 ^ 31
+    → IsKeepingRow s t kept x count s t kept 0
 keeping_row s t kept x count stands settled few = record { feeds = feeding_row s t x count stands settled few; kept_are = sym (append-nil kept) }
 
-pub row_kept_on : (s now new : State) (t counts after : Tally) (kept kept_now kept_new : List Op) (x : Identifier) (count done n : ℕ) → IsKeepingRow s t kept x count now counts kept_now done → n ≤ count - done → done < count
-    → TakesInAll now new (deletes_up (id_behind x done) n) counts after → IsSound new → kept_new ≡ kept_now ++ kept_from now.hold now.most now.held (deletes_up (id_behind x done) n)
+pub row_kept_on : (s now new : State) (t counts after : Tally) (kept kept_now kept_new : List Op) (x : Identifier) (count done n : ℕ)
+    → IsKeepingRow s t kept x count now counts kept_now done → n ≤ count - done → done < count
+    → TakesInAll now new (deletes_up (id_behind x done) n) counts after → IsSound new
+    → kept_new ≡ kept_now ++ kept_from now.hold now.most now.held (deletes_up (id_behind x done) n)
     → IsKeepingRow s t kept x count new after kept_new (done + n)
 row_kept_on s now new t counts after kept kept_now kept_new x count done n k no_more less took stands more =
     let front : List Op = deletes_up x done in
@@ -101,13 +110,15 @@ row_kept_on s now new t counts after kept kept_now kept_new x count done n k no_
           ∙ ap (λ (z : List Op). kept ++ z) (kept_behind s now front next k.feeds.taken.replica ∙ ap (kept_from s.hold s.most s.held) (sym (deletes-append false x done n)));
     }
 
-pub row_kept_some : (s now new : State) (t counts after : Tally) (kept kept_now kept_new : List Op) (x : Identifier) (count done : ℕ) (fault : FeedFault) → IsKeepingRow s t kept x count now counts kept_now done → done < count
+pub row_kept_some : (s now new : State) (t counts after : Tally) (kept kept_now kept_new : List Op) (x : Identifier) (count done : ℕ) (fault : FeedFault)
+    → IsKeepingRow s t kept x count now counts kept_now done → done < count
     → StopsKeeping (deletes_up (id_behind x done) (count - done)) now new counts after kept_now kept_new fault → StopsKeeping (deletes_up x count) s new t after kept kept_new fault
 row_kept_some s now new t counts after kept kept_now kept_new x count done fault k less stops =
     subst (λ (z : List Op). StopsKeeping z s new t after kept kept_new fault) (sym (left_over x count done less))
     (unkept_on s now new (deletes_up x done) (deletes_up (id_behind x done) (count - done)) t counts after kept kept_now kept_new fault k.feeds.taken k.kept_are stops)
 
-pub row_kept_all : (s now : State) (t counts : Tally) (kept kept_now : List Op) (x : Identifier) (count done : ℕ) → IsKeepingRow s t kept x count now counts kept_now done → count ≤ done
+pub row_kept_all : (s now : State) (t counts : Tally) (kept kept_now : List Op) (x : Identifier) (count done : ℕ) → IsKeepingRow s t kept x count now counts kept_now done
+    → count ≤ done
     → kept_now ≡ kept ++ kept_from s.hold s.most s.held (deletes_up x count)
 row_kept_all s now t counts kept kept_now x count done k all =
     let e : done ≡ count = omega (arith, all, k.feeds.within) in
@@ -115,13 +126,15 @@ row_kept_all s now t counts kept kept_now x count done k all =
 
 -- One Delete alone
 
-pub delete_stops : (s new : State) (x : Identifier) (count : ℕ) (t u : Tally) (fault : FeedFault) → IsSettled s.held → 0 < count → (fault ≡ FedTooMany s.most) ↔ (answer s.hold s.most s.held (Delete x) ≡ TooMany)
+pub delete_stops : (s new : State) (x : Identifier) (count : ℕ) (t u : Tally) (fault : FeedFault) → IsSettled s.held → 0 < count
+    → (fault ≡ FedTooMany s.most) ↔ (answer s.hold s.most s.held (Delete x) ≡ TooMany)
     → LeavesAfterFault s new (Delete x) t u fault → StopsFeeding (deletes_up x count) s new t u fault
 delete_stops s new x zero t u fault settled some many leaves = absurd (omega (arith, some))
 delete_stops s new x (suc n) t u fault settled some many leaves = first_stops s new (Delete x) (deletes_up (next_id x) n) t u fault settled many leaves
 
 pub delete_unkept : (s new : State) (x : Identifier) (count : ℕ) (t u : Tally) (kept kept_new : List Op) (fault : FeedFault) → IsSettled s.held → 0 < count
-    → (fault ≡ FedTooMany s.most) ↔ (answer s.hold s.most s.held (Delete x) ≡ TooMany) → LeavesUnkept s new (Delete x) t u fault → kept_new ≡ kept → StopsKeeping (deletes_up x count) s new t u kept kept_new fault
+    → (fault ≡ FedTooMany s.most) ↔ (answer s.hold s.most s.held (Delete x) ≡ TooMany) → LeavesUnkept s new (Delete x) t u fault → kept_new ≡ kept
+    → StopsKeeping (deletes_up x count) s new t u kept kept_new fault
 delete_unkept s new x zero t u kept kept_new fault settled some many leaves unkept = absurd (omega (arith, some))
 delete_unkept s new x (suc n) t u kept kept_new fault settled some many leaves unkept =
     first_unkept s new (Delete x) (deletes_up (next_id x) n) t u kept kept_new fault settled many leaves unkept
@@ -133,7 +146,8 @@ pub row_repeats : (s : State) (x : Identifier) (n : ℕ) (t : Tally) → IsSettl
 row_repeats s x n t settled there = repeats_all s s (deletes_up x n) t (record t { repeated = t.repeated + n }) n settled there refl (sym (length-deletes false x n)) refl
 
 -- one more of them
-pub one_more_deleted : (h : List Op) (x : Identifier) (n : ℕ) → All (λ op. has_op h op ≡ true) (deletes_up x n) → has_op h (Delete (id_behind x n)) ≡ true → All (λ op. has_op h op ≡ true) (deletes_up x (n + 1))
+pub one_more_deleted : (h : List Op) (x : Identifier) (n : ℕ) → All (λ op. has_op h op ≡ true) (deletes_up x n) → has_op h (Delete (id_behind x n)) ≡ true
+    → All (λ op. has_op h op ≡ true) (deletes_up x (n + 1))
 one_more_deleted h x n there here =
     subst (All P) (sym (deletes-append false x n 1)) (All-append P (deletes_up x n) (deletes_up (id_behind x n) 1) there (All-cons P (Delete (id_behind x n)) [] here (All-nil P)))
   where
@@ -160,13 +174,15 @@ at_once_all (op ∷ ops) s can =
     let same : intake s.hold s.most s.held op ≡ mid.held = sym (fed_quietly s.hold s.most s.held op Accepted no_counts yes can.in_turn.2).held in
     record {
       can = can;
-      has_place = All-cons (λ (a : Answer). a ≢ TooMany) (answer s.hold s.most s.held op) (answers_from s.hold s.most (intake s.hold s.most s.held op) ops) (λ many. accepted_or_many (sym yes ∙ many))
+      has_place = All-cons (λ (a : Answer). a ≢ TooMany) (answer s.hold s.most s.held op) (answers_from s.hold s.most (intake s.hold s.most s.held op) ops)
+          (λ many. accepted_or_many (sym yes ∙ many))
           (subst (λ (u : Held). MeetsNoLimit s.hold s.most u ops) (sym same) rest.has_place);
       held = ap (λ (u : Held). held_from s.hold s.most u ops) same ∙ rest.held;
       settled = subst (λ (u : Held). IsSettled (held_from s.hold s.most u ops)) (sym same) rest.settled;
       kept = kept-yes s.hold s.most s.held op ops (ap is_kept yes) ∙ ap (λ (u : Held). op ∷ kept_from s.hold s.most u ops) same ∙ ap (λ (z : List Op). op ∷ z) rest.kept;
       counted = λ t.
-          let one : intake_counted s.hold s.most s.held op t ≡ record t { accepted = t.accepted + 1 } = sym (fed_quietly s.hold s.most s.held op Accepted t yes can.in_turn.2).counted in
+          let one : intake_counted s.hold s.most s.held op t ≡ record t { accepted = t.accepted + 1 } =
+          sym (fed_quietly s.hold s.most s.held op Accepted t yes can.in_turn.2).counted in
           let more : t.accepted + 1 + length ops ≡ t.accepted + suc (length ops) = omega arith in
           (λ i. tally_from s.hold s.most (same i) ops (one i)) ∙ rest.counted (record t { accepted = t.accepted + 1 }) ∙ (λ i. record t { accepted = more i });
     }
@@ -175,7 +191,7 @@ at_once_all (op ∷ ops) s can =
     accepted_or_many e = cc e
 
 -- each is Ready in its turn
-ready_row : (n : ℕ) (x s : Identifier) (h : List Op) → AreUndeleted s h x n → ReadyInTurn h (deletes_from x n)
+ready_row : (n : ℕ) (x s : Identifier) (h : List Op) → AreUndeleted s h x n → ReadyInTurn h (deletes_up x n)
 ready_row zero x s h each = tt
 ready_row (suc n) x s h each =
     let here : IsUndeleted s h x = subst (IsUndeleted s h) (none_behind x) (each 0 (omega arith)) in
@@ -198,15 +214,16 @@ row_within (suc n) x s h each =
     All-cons (λ y. IsIn (within s) h y) x (ids_from (next_id x) n) (subst (IsUndeleted s h) (none_behind x) (each 0 (omega arith))).inside
     (row_within n (next_id x) s h (λ k less. subst (IsUndeleted s h) (sym (one_behind x k)) (each (suc k) (omega (arith, less)))))
 
-unknown_row : (n : ℕ) (x : Identifier) (w : List Op) → All (IsUnknown w) (deletes_from x n)
+unknown_row : (n : ℕ) (x : Identifier) (w : List Op) → All (IsUnknown w) (deletes_up x n)
 unknown_row zero x w = All-nil (IsUnknown w)
-unknown_row (suc n) x w = All-cons (IsUnknown w) (Delete x) (deletes_from (next_id x) n) (delete_unknown w x) (unknown_row n (next_id x) w)
+unknown_row (suc n) x w = All-cons (IsUnknown w) (Delete x) (deletes_up (next_id x) n) (delete_unknown w x) (unknown_row n (next_id x) w)
 
-pub row_can_go : (s : State) (section x : Identifier) (n : ℕ) → IsSettled s.held → AreUndeleted section s.held.history x n → length s.held.history + length s.held.waiting + n ≤ s.most → CanJoin s (deletes_from x n)
+pub row_can_go : (s : State) (section x : Identifier) (n : ℕ) → IsSettled s.held → AreUndeleted section s.held.history x n
+    → length s.held.history + length s.held.waiting + n ≤ s.most → CanJoin s (deletes_up x n)
 row_can_go s section x n settled each room = record {
   settled = settled;
-  in_turn = comes (deletes_from x n) s.held.history s.held.waiting settled (ready_row n x section s.held.history each) (unknown_row n x s.held.waiting);
-  room = omega (arith, room, length-from n x);
+  in_turn = comes (deletes_up x n) s.held.history s.held.waiting settled (ready_row n x section s.held.history each) (unknown_row n x s.held.waiting);
+  room = omega (arith, room, length-deletes false x n);
 }
 
 -- one more of them
@@ -218,7 +235,8 @@ one_more_undeleted s x h n each here k less =
     ]
 
 -- what the accepted operations tell of an element
-pub undeleted_by : (h : List Op) (x s : Identifier) (fit : Bool) → Some fit ≡ option_map (fits (TextOf s)) (holder h x) → fit ≡ true → has_op h (Delete x) ≡ false → IsUndeleted s h x
+pub undeleted_by : (h : List Op) (x s : Identifier) (fit : Bool) → Some fit ≡ option_map (fits (TextOf s)) (holder h x) → fit ≡ true → has_op h (Delete x) ≡ false
+    → IsUndeleted s h x
 undeleted_by h x s fit found does none = record { inside = by_holder (holder h x) refl (ap Some (sym does) ∙ found); shown = hidden-has h x ∙ none }
   where
     by_holder : (o : Option Op) → holder h x ≡ o → Some true ≡ option_map (fits (TextOf s)) o → IsIn (within s) h x
@@ -228,28 +246,40 @@ undeleted_by h x s fit found does none = record { inside = by_holder (holder h x
         record { op = op; held = held; place = stands_element (within s) op (stands_place op (within s) stands) ∙ origin_eq-true (id_of op) (Some x) (holder_owns h x op held) }
 
 -- they are taken in
-pub row_joins : (s new : State) (x : Identifier) (n : ℕ) (t : Tally) → CanJoin s (deletes_from x n) → new ≡ with_ops s (deletes_from x n) → TakesInAll s new (deletes_up x n) t (record t { accepted = t.accepted + n })
+pub row_joins : (s new : State) (x : Identifier) (n : ℕ) (t : Tally) → CanJoin s (deletes_up x n) → new ≡ with_ops s (deletes_up x n)
+    → TakesInAll s new (deletes_up x n) t (record t { accepted = t.accepted + n })
 row_joins s new x n t can is =
-    subst (λ (z : List Op). TakesInAll s new z t (record t { accepted = t.accepted + n })) (sym (row_up n x))
-    (joins_all s new (deletes_from x n) t (record t { accepted = t.accepted + n }) n (at_once_all (deletes_from x n) s can) is (sym (length-from n x)) refl)
+    joins_all s new (deletes_up x n) t (record t { accepted = t.accepted + n }) n (at_once_all (deletes_up x n) s can) is (sym (length-deletes false x n)) refl
 
 -- and all of them are kept
-pub row_is_kept : (s : State) (x : Identifier) (n : ℕ) → CanJoin s (deletes_from x n) → kept_from s.hold s.most s.held (deletes_up x n) ≡ deletes_up x n
-row_is_kept s x n can = subst (λ (z : List Op). kept_from s.hold s.most s.held z ≡ z) (sym (row_up n x)) (at_once_all (deletes_from x n) s can).kept
+pub row_is_kept : (s : State) (x : Identifier) (n : ℕ) → CanJoin s (deletes_up x n) → kept_from s.hold s.most s.held (deletes_up x n) ≡ deletes_up x n
+row_is_kept s x n can = (at_once_all (deletes_up x n) s can).kept
 
-pub row_pushed : (s : State) (x : Identifier) (n : ℕ) (kept mid new : List Op) → CanJoin s (deletes_from x n) → new ≡ mid ++ deletes_up x n → mid ≡ kept → new ≡ kept ++ kept_from s.hold s.most s.held (deletes_up x n)
-row_pushed s x n kept mid new can pushed same = pushed ∙ ap (λ (z : List Op). z ++ deletes_up x n) same ∙ ap (λ (z : List Op). kept ++ z) (sym (row_is_kept s x n can))
+pub row_pushed : (s : State) (x : Identifier) (n : ℕ) (kept new : List Op) → CanJoin s (deletes_up x n) → new ≡ kept ++ deletes_up x n
+    → new ≡ kept ++ kept_from s.hold s.most s.held (deletes_up x n)
+row_pushed s x n kept new can pushed = pushed ∙ ap (λ (z : List Op). kept ++ z) (sym (row_is_kept s x n can))
+
+pub row_pushed_whole : (x : Identifier) (n : ℕ) (kept mid : List Op) → mid ≡ kept ++ deletes_up x n → n ≤ length mid
+row_pushed_whole x n kept mid pushed = omega (arith, ap length pushed, length-append kept (deletes_up x n), length-deletes false x n)
+
+-- copies of a row but for the first so many are taken off
+pub row_back : (x : Identifier) (n k : ℕ) (kept mid new : List Op) → k < n → mid ≡ kept ++ deletes_up x n → new ≡ take (length mid - (n - k)) mid → new ≡ kept ++ deletes_up x k
+row_back x n k kept mid new fewer pushed gone =
+    back_again (kept ++ deletes_up x k) (deletes_up (id_behind x k) (n - k)) mid new (n - k)
+    (pushed ∙ ap (λ (z : List Op). kept ++ z) (left_over x n k fewer) ∙ sym (append_assoc kept (deletes_up x k) (deletes_up (id_behind x k) (n - k))))
+    (length-deletes false (id_behind x k) (n - k)) gone
 
 -- memory is wanting for their copies
-pub row_uncopied : (s new : State) (x : Identifier) (count n : ℕ) (t : Tally) (kept kept_new : List Op) → 0 < n → n ≤ count → CanJoin s (deletes_from x n) → new ≡ s → kept_new ≡ kept
+pub row_uncopied : (s new : State) (x : Identifier) (count n : ℕ) (t : Tally) (kept kept_new : List Op) → 0 < n → n ≤ count → CanJoin s (deletes_up x n) → new ≡ s → kept_new ≡ kept
     → StopsKeeping (deletes_up x count) s new t t kept kept_new FedNoMemory
 row_uncopied s new x count zero t kept kept_new some no_more can is same = absurd (omega (arith, some))
 row_uncopied s new x zero (suc n) t kept kept_new some no_more can is same = absurd (omega (arith, no_more))
 row_uncopied s new x (suc count) (suc n) t kept kept_new some no_more can is same =
-    stops_copying s new (Delete x) (deletes_from (next_id x) n) (deletes_up (next_id x) count) t kept kept_new can is same
+    stops_copying s new (Delete x) (deletes_up (next_id x) n) (deletes_up (next_id x) count) t kept kept_new can is same
 
 -- memory is wanting behind the first of them
-module _ (s new : State) (x : Identifier) (count n k : ℕ) (t : Tally) (fewer : k < n) (no_more : n ≤ count) (can : CanJoin s (deletes_from x n)) (is : new ≡ with_ops s (deletes_from x k)) where
+module _ (s new : State) (x : Identifier) (count n k : ℕ) (t : Tally) (fewer : k < n) (no_more : n ≤ count) (can : CanJoin s (deletes_up x n))
+    (is : new ≡ with_ops s (deletes_up x k)) where
   abbrev counts : Tally
   counts = record t { accepted = t.accepted + k }
 
@@ -259,11 +289,11 @@ module _ (s new : State) (x : Identifier) (count n k : ℕ) (t : Tally) (fewer :
   first_joins : TakesInAll s new (deletes_up x k) t counts
   first_joins = row_joins s new x k t (fewer_can s x n k (omega (arith, fewer)) can) is
 
-  next_can : CanJoin new (Delete y ∷ deletes_from (next_id y) (n - k - 1))
+  next_can : CanJoin new (Delete y ∷ deletes_up (next_id y) (n - k - 1))
   next_can =
       let e : n ≡ k + suc (n - k - 1) = omega (arith, fewer) in
-      subst (λ (z : State). CanJoin z (Delete y ∷ deletes_from (next_id y) (n - k - 1))) (sym is)
-      (can_rest s (deletes_from x k) (deletes_from y (suc (n - k - 1))) (subst (CanJoin s) (ap (deletes_from x) e ∙ deletes_parted k (suc (n - k - 1)) x) can))
+      subst (λ (z : State). CanJoin z (Delete y ∷ deletes_up (next_id y) (n - k - 1))) (sym is)
+      (can_rest s (deletes_up x k) (deletes_up y (suc (n - k - 1))) (subst (CanJoin s) (ap (deletes_up x) e ∙ deletes-append false x k (suc (n - k - 1))) can))
 
   whole : deletes_up x count ≡ deletes_up x k ++ (Delete y ∷ deletes_up (next_id y) (count - k - 1))
   whole = let e : count ≡ k + suc (count - k - 1) = omega (arith, fewer, no_more) in ap (deletes_up x) e ∙ deletes-append false x k (suc (count - k - 1))
@@ -272,24 +302,11 @@ module _ (s new : State) (x : Identifier) (count n k : ℕ) (t : Tally) (fewer :
   row_stops =
       subst (λ (z : List Op). StopsFeeding z s new t counts FedNoMemory) (sym whole)
       (stops_on s new new (deletes_up x k) (Delete y ∷ deletes_up (next_id y) (count - k - 1)) t counts counts FedNoMemory first_joins
-      (stops_joining new new (Delete y) (deletes_from (next_id y) (n - k - 1)) (deletes_up (next_id y) (count - k - 1)) counts next_can refl))
+      (stops_joining new new (Delete y) (deletes_up (next_id y) (n - k - 1)) (deletes_up (next_id y) (count - k - 1)) counts next_can refl))
 
   pub row_copies_stop : (kept kept_new : List Op) → kept_new ≡ kept ++ deletes_up x k → StopsKeeping (deletes_up x count) s new t counts kept kept_new FedNoMemory
   row_copies_stop kept kept_new more =
       subst (λ (z : List Op). StopsKeeping z s new t counts kept kept_new FedNoMemory) (sym whole)
       (unkept_on s new new (deletes_up x k) (Delete y ∷ deletes_up (next_id y) (count - k - 1)) t counts counts kept kept_new kept_new FedNoMemory first_joins
       (more ∙ ap (λ (z : List Op). kept ++ z) (sym (row_is_kept s x k (fewer_can s x n k (omega (arith, fewer)) can))))
-      (stops_copying new new (Delete y) (deletes_from (next_id y) (n - k - 1)) (deletes_up (next_id y) (count - k - 1)) counts kept_new kept_new next_can refl refl))
-
--- the copies of a row are appended, as far as this
-pub record IsAppendingRow (old now : List Op) (x : Identifier) (done count len room : ℕ) : Type 0 where
-  pub items : now ≡ old ++ deletes_up x done
-  pub fits : len + count ≤ room + done
-
-pub row_appended_on : (old now new : List Op) (x : Identifier) (done count len room len_new room_new : ℕ) → IsAppendingRow old now x done count len room → new ≡ now ++ Delete (id_behind x done) ∷ []
-    → len_new ≡ len + 1 → room_new ≡ room → IsAppendingRow old new x (done + 1) count len_new room_new
-row_appended_on old now new x done count len room len_new room_new a is longer same = record {
-  items = is ∙ ap (λ (z : List Op). z ++ Delete (id_behind x done) ∷ []) a.items ∙ append_assoc old (deletes_up x done) (Delete (id_behind x done) ∷ [])
-      ∙ ap (λ (z : List Op). old ++ z) (sym (deletes-append false x done 1));
-  fits = omega (arith, a.fits, longer, same);
-}
+      (stops_copying new new (Delete y) (deletes_up (next_id y) (n - k - 1)) (deletes_up (next_id y) (count - k - 1)) counts kept_new kept_new next_can refl refl))

@@ -1,5 +1,6 @@
 -- Deletes of elements whose identifiers follow one another, which join a history at once.
-use Rattle.std.proofs.Common.{◌≡◌, ◌∙◌, ap, arith, drop, get_or, length, refl, subst, suc, sym, take, zero, ℕ, ◌+◌, ◌-◌, ◌<◌, ◌≤◌, ◌++◌, ◌∷◌, List, [], length-append, length-drop, append_assoc, ◌^◌}
+use Rattle.std.proofs.Common.{false, ◌≡◌, ◌∙◌, ap, arith, drop, get_or, length, refl, subst, suc, sym, take, zero, ℕ, ◌+◌, ◌-◌, ◌<◌, ◌≤◌, ◌++◌, ◌∷◌, List, [], length-append}
+use Rattle.std.proofs.Common.{length-drop, append_assoc, ◌^◌}
 use Rattle.std.specs.Prelude.{All, Some, if◌then◌else◌, not}
 use Rattle.std.proofs.lemmas.List.{drop-drop, drop_all, map-append, take-append-drop, take_all}
 use Rattle.std.proofs.lemmas.List.Elements.{All-drop, All-filter, All-head, All-tail, All-take, All-weaker}
@@ -9,6 +10,8 @@ use Rattle.fugue_ids.specs.declared.op.Op.{Op}
 use Rattle.fugue_ids.specs.declared.op.Op.TheVariants.{Delete}
 use Rattle.fugue_ids.proofs.ListLemmas.{all_before, all_behind, all_from_contains}
 use Rattle.fugue_ids.proofs.RunLemmas.{none_behind, one_behind}
+use Rattle.op_runs.specs.Deletions.{deletes_up}
+use Rattle.op_runs.proofs.DeletionLemmas.{deletes-append, length-deletes}
 use Rattle.origin_model.specs.edits.Edits.{ReadyInTurn, deletes_of, history_with}
 use Rattle.origin_model.specs.edits.Effect.{Gains, StopsPartly, with_ops}
 use Rattle.origin_model.specs.edits.State.{State, IsSound}
@@ -25,15 +28,10 @@ use Rattle.section_catalogue.specs.Changes.{AnswersUpTo}
 use Rattle.section_catalogue.specs.Contents.{Contents, place_at}
 use Rattle.section_catalogue.specs.Manuscript.{HidesAll, Represents, each_hidden}
 use Rattle.section_catalogue.proofs.HolderLemmas.{in_place}
-use Rattle.replica_core.specs.Deleting.{AreWithin, deletes_from, ids_from}
+use Rattle.replica_core.specs.Deleting.{AreWithin, ids_from}
 use Rattle.replica_core.specs.Edits.{CanJoin, ComeInTurn}
 use Rattle.replica_core.proofs.JoinLemmas.{IsJoining, begins, ends, stops}
 use Rattle.replica_core.proofs.RunLemmas.{length-extended, taken_back}
-
--- as many as are asked for
-pub length-from : (k : ℕ) (x : Identifier) → length (deletes_from x k) ≡ k
-length-from zero x = refl
-length-from (suc k) x = ap suc (length-from k (next_id x))
 
 -- in two parts
 pub ids_parted : (m n : ℕ) (x : Identifier) → ids_from x (m + n) ≡ ids_from x m ++ ids_from (id_behind x m) n
@@ -42,40 +40,43 @@ ids_parted (suc m) n x =
     let e : suc m + n ≡ suc (m + n) = omega arith in
     ap (ids_from x) e ∙ ap (λ t. x ∷ t) (ids_parted m n (next_id x) ∙ ap (λ y. ids_from (next_id x) m ++ ids_from y n) (one_behind x m))
 
-pub deletes_parted : (m n : ℕ) (x : Identifier) → deletes_from x (m + n) ≡ deletes_from x m ++ deletes_from (id_behind x m) n
-deletes_parted m n x = ap deletes_of (ids_parted m n x) ∙ map-append (λ y. Delete y) (ids_from x m) (ids_from (id_behind x m) n)
+-- their Deletes
+row_of : (k : ℕ) (x : Identifier) → deletes_of (ids_from x k) ≡ deletes_up x k
+row_of zero x = refl
+row_of (suc k) x = ap (λ t. Delete x ∷ t) (row_of k (next_id x))
 
 -- the first of them
 ready_front : (xs ys h : List Op) → ReadyInTurn h (xs ++ ys) → ReadyInTurn h xs
 ready_front [] ys h r = tt
 ready_front (x ∷ xs) ys h r = (r.0, ready_front xs ys (x ∷ h) r.1)
 
-pub fewer_ready : (count k : ℕ) (x : Identifier) (h : List Op) → k ≤ count → ReadyInTurn h (deletes_from x count) → ReadyInTurn h (deletes_from x k)
+pub fewer_ready : (count k : ℕ) (x : Identifier) (h : List Op) → k ≤ count → ReadyInTurn h (deletes_up x count) → ReadyInTurn h (deletes_up x k)
 fewer_ready count k x h l ready =
     let e : count ≡ k + (count - k) = omega (arith, l) in
-    ready_front (deletes_from x k) (deletes_from (id_behind x k) (count - k)) h
-    (subst (ReadyInTurn h) (ap (deletes_from x) e ∙ deletes_parted k (count - k) x) ready)
+    ready_front (deletes_up x k) (deletes_up (id_behind x k) (count - k)) h
+    (subst (ReadyInTurn h) (ap (deletes_up x) e ∙ deletes-append false x k (count - k)) ready)
 
 -- the others are taken back
-pub others_taken_back : (count k left : ℕ) (x : Identifier) (h : List Op) → k ≤ count → left ≡ count - k → drop left (history_with h (deletes_from x count)) ≡ history_with h (deletes_from x k)
+pub others_taken_back : (count k left : ℕ) (x : Identifier) (h : List Op) → k ≤ count → left ≡ count - k
+    → drop left (history_with h (deletes_up x count)) ≡ history_with h (deletes_up x k)
 others_taken_back count k left x h l is =
     let e : count ≡ k + left = omega (arith, l, is) in
-    let front = deletes_from x k in
-    let back = deletes_from (id_behind x k) left in
-    ap (λ ops. drop left (history_with h ops)) (ap (deletes_from x) e ∙ deletes_parted k left x)
+    let front = deletes_up x k in
+    let back = deletes_up (id_behind x k) left in
+    ap (λ ops. drop left (history_with h ops)) (ap (deletes_up x) e ∙ deletes-append false x k left)
     ∙ ap (drop left) (extended-append h front back)
-    ∙ ap (λ n. drop n (history_with (history_with h front) back)) (sym (length-from left (id_behind x k)))
+    ∙ ap (λ n. drop n (history_with (history_with h front) back)) (sym (length-deletes false (id_behind x k) left))
     ∙ taken_back back (history_with h front)
 
 -- Deletes that are Ready in their turn hide what they name
-hidden_each : (k : ℕ) (x : Identifier) (h : List Op) → ReadyInTurn h (deletes_from x k) → each_hidden x k h ≡ history_with h (deletes_from x k)
+hidden_each : (k : ℕ) (x : Identifier) (h : List Op) → ReadyInTurn h (deletes_up x k) → each_hidden x k h ≡ history_with h (deletes_up x k)
 hidden_each zero x h ready = refl
 hidden_each (suc k) x h ready =
     ap (λ b. each_hidden (next_id x) k (if b then h else Delete x ∷ h)) (target_is_shown h x ready.0).1
     ∙ hidden_each k (next_id x) (Delete x ∷ h) ready.1
 
-pub stands_deleted : (m new : Contents) (count k : ℕ) (x : Identifier) (h : List Op) → k ≤ count → ReadyInTurn h (deletes_from x count) → Represents m h → HidesAll m new x k
-    → Represents new (history_with h (deletes_from x k))
+pub stands_deleted : (m new : Contents) (count k : ℕ) (x : Identifier) (h : List Op) → k ≤ count → ReadyInTurn h (deletes_up x count) → Represents m h → HidesAll m new x k
+    → Represents new (history_with h (deletes_up x k))
 stands_deleted m new count k x h l ready stands hides = subst (Represents new) (hidden_each k x h (fewer_ready count k x h l ready)) (hides h stands)
 
 -- where the elements of a section stand
@@ -91,7 +92,9 @@ placed_each (suc k) x s m h stands all (suc j) less =
 pub shown_within : (s : Identifier) (h : List Op) (at n : ℕ) (xs : List Identifier) → Lawful h → xs ≡ take n (drop at (shown (within s) h)) → AreWithin s h xs
 shown_within s h at n xs w is =
     let P : Identifier → Type 0 = λ x. IsIn (within s) h x in
-    subst (All P) (sym is) (All-take P n (drop at (shown (within s) h)) (All-drop P at (shown (within s) h) (All-filter (λ x. not (is_hidden h x)) P (order (within s) h) (all_from_contains P (order (within s) h) (λ x m. ((order_total (within s) h w).lists x).1 m)))))
+    subst (All P) (sym is) (All-take P n (drop at (shown (within s) h))
+    (All-drop P at (shown (within s) h)
+    (All-filter (λ x. not (is_hidden h x)) P (order (within s) h) (all_from_contains P (order (within s) h) (λ x m. ((order_total (within s) h w).lists x).1 m)))))
 
 -- and stay so
 still_in : (ys : List Identifier) (p : Place) (h : List Op) (x : Identifier) → IsIn p h x → IsIn p (history_with h (deletes_of ys)) x
@@ -111,7 +114,8 @@ pub record IsRow (rest : List Identifier) (x : Identifier) (k count : ℕ) (last
 pub row_begins : (rest : List Identifier) (x : Identifier) → x.counter < 2 ^ 32 → IsRow rest x 0 0 x
 row_begins rest x fits = record { counted = refl; last_is = sym (none_behind x); row = refl; fits = omega (arith, fits) }
 
-pub row_goes_on : (rest : List Identifier) (x : Identifier) (k count : ℕ) (last next : Identifier) → IsRow rest x k count last → k < length rest → next ≡ get_or rest k next → next ≡ next_id last
+pub row_goes_on : (rest : List Identifier) (x : Identifier) (k count : ℕ) (last next : Identifier) → IsRow rest x k count last → k < length rest → next ≡ get_or rest k next
+    → next ≡ next_id last
     → last.counter + 1 < 2 ^ 32 → IsRow rest x (k + 1) (count + 1) next
 row_goes_on rest x k count last next r less at is fits =
     let c : (x.counter + k) + 1 ≡ x.counter + (k + 1) = omega arith in
@@ -140,7 +144,8 @@ module _ (s : State) (xs ys : List Op) (can : CanJoin s (xs ++ ys)) where
   rest_comes [] ys h w c = c
   rest_comes (x ∷ xs) ys h w c = rest_comes xs ys (x ∷ h) w c.3
 
-  still_settled : (xs ys h w : List Op) → IsSettled (record { history = h; waiting = w }) → ComeInTurn w h (xs ++ ys) → IsSettled (record { history = history_with h xs; waiting = w })
+  still_settled : (xs ys h w : List Op) → IsSettled (record { history = h; waiting = w }) → ComeInTurn w h (xs ++ ys)
+      → IsSettled (record { history = history_with h xs; waiting = w })
   still_settled [] ys h w settled c = settled
   still_settled (x ∷ xs) ys h w settled c = still_settled xs ys (x ∷ h) w c.2 c.3
 
@@ -154,10 +159,10 @@ module _ (s : State) (xs ys : List Op) (can : CanJoin s (xs ++ ys)) where
     room = omega (arith, can.room, length-append xs ys, length-extended xs s.held.history);
   }
 
-pub fewer_can : (s : State) (x : Identifier) (count k : ℕ) → k ≤ count → CanJoin s (deletes_from x count) → CanJoin s (deletes_from x k)
+pub fewer_can : (s : State) (x : Identifier) (count k : ℕ) → k ≤ count → CanJoin s (deletes_up x count) → CanJoin s (deletes_up x k)
 fewer_can s x count k l can =
     let e : count ≡ k + (count - k) = omega (arith, l) in
-    can_front s (deletes_from x k) (deletes_from (id_behind x k) (count - k)) (subst (CanJoin s) (ap (deletes_from x) e ∙ deletes_parted k (count - k) x) can)
+    can_front s (deletes_up x k) (deletes_up (id_behind x k) (count - k)) (subst (CanJoin s) (ap (deletes_up x) e ∙ deletes-append false x k (count - k)) can)
 
 -- some more joined, or only the first of them
 module _ (old now new : State) (ops front rest : List Op) (j : IsJoining old now ops (front ++ rest)) (is : new ≡ with_ops now front) (stands : IsSound new) where
@@ -188,7 +193,8 @@ pub record IsDeletingEach (s : Identifier) (old now : State) (xs : List Identifi
 pub tail_is : (xs : List Identifier) (a : ℕ) → take (length xs - a) (drop a xs) ≡ drop a xs
 tail_is xs a = take_all (length xs - a) (drop a xs) (omega (arith, length-drop a xs))
 
-pub deleting_each : (s : Identifier) (old : State) (xs : List Identifier) → CanJoin old (deletes_of xs) → IsSound old → AreWithin s old.held.history xs → IsDeletingEach s old old xs 0
+pub deleting_each : (s : Identifier) (old : State) (xs : List Identifier) → CanJoin old (deletes_of xs) → IsSound old → AreWithin s old.held.history xs
+    → IsDeletingEach s old old xs 0
 deleting_each s old xs can stands inside = record { joining = begins old (deletes_of xs) can stands; within = inside; to = omega arith }
 
 module _ (s : Identifier) (old now : State) (xs : List Identifier) (at : ℕ) (d : IsDeletingEach s old now xs at) (x : Identifier) (less : at < length xs) (is : x ≡ get_or xs at x)
@@ -211,11 +217,12 @@ module _ (s : Identifier) (old now : State) (xs : List Identifier) (at : ℕ) (d
           let q : suc (n + 1) ≡ suc n + 1 = omega arith in
           head_of zs n y (omega (arith, l)) e ∙ ap (λ k. y ∷ drop k (z ∷ zs)) q
 
-  pub deletes_parted_off : IsJoining old now (deletes_of xs) (deletes_from x (count + 1) ++ deletes_of rest)
-  deletes_parted_off = subst (IsJoining old now (deletes_of xs)) (ap deletes_of parted ∙ map-append (λ y. Delete y) (ids_from x (count + 1)) rest) d.joining
+  pub deletes_parted_off : IsJoining old now (deletes_of xs) (deletes_up x (count + 1) ++ deletes_of rest)
+  deletes_parted_off = subst (IsJoining old now (deletes_of xs))
+      (ap deletes_of parted ∙ map-append (λ y. Delete y) (ids_from x (count + 1)) rest ∙ ap (λ z. z ++ deletes_of rest) (row_of (count + 1) x)) d.joining
 
-  pub row_can_join : CanJoin now (deletes_from x (count + 1))
-  row_can_join = can_front now (deletes_from x (count + 1)) (deletes_of rest) deletes_parted_off.can
+  pub row_can_join : CanJoin now (deletes_up x (count + 1))
+  row_can_join = can_front now (deletes_up x (count + 1)) (deletes_of rest) deletes_parted_off.can
 
   both_within : AreWithin s now.held.history (ids_from x (count + 1) ++ rest)
   both_within = subst (AreWithin s now.held.history) parted d.within
@@ -226,23 +233,25 @@ module _ (s : Identifier) (old now : State) (xs : List Identifier) (at : ℕ) (d
   long : length xs ≡ at + (count + 1) + length rest
   long = omega (arith, length-drop (at + (count + 1)) xs, few, length-drop (at + 1) xs, less)
 
-  pub row_deleted : (new : State) → new ≡ with_ops now (deletes_from x (count + 1)) → IsSound new → IsDeletingEach s old new xs (at + (count + 1))
+  pub row_deleted : (new : State) → new ≡ with_ops now (deletes_up x (count + 1)) → IsSound new → IsDeletingEach s old new xs (at + (count + 1))
   row_deleted new joined stands = record {
-    joining = goes_on_all old now new (deletes_of xs) (deletes_from x (count + 1)) (deletes_of rest) deletes_parted_off joined stands;
+    joining = goes_on_all old now new (deletes_of xs) (deletes_up x (count + 1)) (deletes_of rest) deletes_parted_off joined stands;
     within = subst (λ (z : State). AreWithin s z.held.history rest) (sym joined)
-        (still_within (ids_from x (count + 1)) s now.held.history rest (all_behind (λ y. IsIn (within s) now.held.history y) (ids_from x (count + 1)) rest both_within));
+        (subst (λ (row : List Op). AreWithin s (history_with now.held.history row) rest) (row_of (count + 1) x)
+        (still_within (ids_from x (count + 1)) s now.held.history rest (all_behind (λ y. IsIn (within s) now.held.history y) (ids_from x (count + 1)) rest both_within)));
     to = omega (arith, long);
   }
 
   -- fewer than the row
-  pub row_stopped : (new : State) (done : ℕ) → done < count + 1 → new ≡ with_ops now (deletes_from x done) → IsSound new → StopsPartly old new (deletes_of xs)
+  pub row_stopped : (new : State) (done : ℕ) → done < count + 1 → new ≡ with_ops now (deletes_up x done) → IsSound new → StopsPartly old new (deletes_of xs)
   row_stopped new done fewer joined stands =
       let e : count + 1 ≡ done + ((count + 1) - done) = omega (arith, fewer) in
-      let more : List Op = deletes_from (id_behind x done) ((count + 1) - done) in
+      let more : List Op = deletes_up (id_behind x done) ((count + 1) - done) in
       let j = subst (IsJoining old now (deletes_of xs))
-      (ap (λ ops. ops ++ deletes_of rest) (ap (deletes_from x) e ∙ deletes_parted done ((count + 1) - done) x) ∙ append_assoc (deletes_from x done) more (deletes_of rest)) deletes_parted_off in
-      stops_behind old now new (deletes_of xs) (deletes_from x done) (more ++ deletes_of rest) j joined stands
-      (omega (arith, fewer, length-append more (deletes_of rest), length-from ((count + 1) - done) (id_behind x done)))
+      (ap (λ ops. ops ++ deletes_of rest) (ap (deletes_up x) e ∙ deletes-append false x done ((count + 1) - done)) ∙ append_assoc (deletes_up x done) more (deletes_of rest))
+      deletes_parted_off in
+      stops_behind old now new (deletes_of xs) (deletes_up x done) (more ++ deletes_of rest) j joined stands
+      (omega (arith, fewer, length-append more (deletes_of rest), length-deletes false (id_behind x done) ((count + 1) - done)))
 
 pub each_deleted : (s : Identifier) (old now : State) (xs : List Identifier) (at : ℕ) → IsDeletingEach s old now xs at → length xs ≤ at → Gains old now (deletes_of xs)
 each_deleted s old now xs at d all = ends old now (deletes_of xs) (subst (IsJoining old now (deletes_of xs)) (ap deletes_of (drop_all at xs all)) d.joining)

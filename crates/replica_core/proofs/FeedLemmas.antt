@@ -4,7 +4,8 @@ use Rattle.std.proofs.lemmas.List.Elements.{All-push}
 use Rattle.fugue_ids.specs.declared.op.Op.{Op}
 use Rattle.origin_model.specs.operations.Verdict.{verdict}
 use Rattle.origin_model.specs.declared.taking.Tally.{Tally}
-use Rattle.origin_model.specs.taking.Taking.{Held, Answer, Accepted, Waits, answer, held_after, is_decided, is_kept, settle, intake, answer_counted, settling_counted, intake_counted, IsSettled}
+use Rattle.origin_model.specs.taking.Taking.{Held, Answer, Accepted, Waits, answer, held_after, is_decided, is_kept, settle, intake, answer_counted, settling_counted}
+use Rattle.origin_model.specs.taking.Taking.{intake_counted, IsSettled}
 use Rattle.replica_core.specs.Settling.{SettlesTo}
 use Rattle.replica_core.specs.Told.{JoinsNext, StandsPartly, SettlesOn, LeavesAfterFault, total}
 use Rattle.origin_model.specs.edits.State.{State}
@@ -66,7 +67,8 @@ pub record IsFedState (s : State) (op : Op) (before : Tally) (new : State) (afte
   pub once : total after + length new.held.waiting ≡ total before + length s.held.waiting + 1
 
 -- an answer that leaves a settled replica
-quiet_state : (s new : State) (op : Op) (a : Answer) (t : Tally) → answer s.hold s.most s.held op ≡ a → IsSettled (held_after a s.held op) → new ≡ record s { held = held_after a s.held op }
+quiet_state : (s new : State) (op : Op) (a : Answer) (t : Tally) → answer s.hold s.most s.held op ≡ a → IsSettled (held_after a s.held op)
+    → new ≡ record s { held = held_after a s.held op }
     → total (answer_counted a t) + length (held_after a s.held op).waiting ≡ total t + length s.held.waiting + 1 → IsFedState s op t new (answer_counted a t)
 quiet_state s new op a t e settled is once =
     let fed = fed_quietly s.hold s.most s.held op a t e settled in
@@ -92,7 +94,8 @@ pub taken_fed : (s new : State) (op : Op) (a : Answer) (t : Tally) → answer s.
 taken_fed s new op a t e settled is once =
     quiet_state s new op a t e settled (is ∙ ap (λ (b : Answer). record s { held = held_after b s.held op }) e) once
 
-accepted_mid : (s mid : State) (op : Op) → answer s.hold s.most s.held op ≡ Accepted → mid ≡ record s { held = held_after (answer s.hold s.most s.held op) s.held op } → mid ≡ record s { held = held_after Accepted s.held op }
+accepted_mid : (s mid : State) (op : Op) → answer s.hold s.most s.held op ≡ Accepted → mid ≡ record s { held = held_after (answer s.hold s.most s.held op) s.held op }
+    → mid ≡ record s { held = held_after Accepted s.held op }
 accepted_mid s mid op e is = is ∙ ap (λ (b : Answer). record s { held = held_after b s.held op }) e
 
 -- steps keep the number of those that are counted or wait

@@ -1,5 +1,6 @@
 -- Operations that are taken in one after another by one call.
-use Rattle.std.proofs.Common.{List, [], ap, append-nil, append_assoc, arith, drop, false, get_or, inl, length, length-append, refl, subst, suc, sym, take, true, zero, ℕ, ◌++◌, ◌+◌, ◌<◌, ◌^◌, ◌∙◌, ◌∷◌, ◌≡◌, ◌≢◌, ◌≤◌}
+use Rattle.std.proofs.Common.{List, [], ap, append-nil, append_assoc, arith, drop, false, get_or, inl, length, length-append, refl, subst, suc, sym, take, true, zero, ℕ, ◌++◌, ◌+◌}
+use Rattle.std.proofs.Common.{◌<◌, ◌^◌, ◌∙◌, ◌∷◌, ◌≡◌, ◌≢◌, ◌≤◌}
 use Rattle.std.specs.Prelude.{◌↔◌, All, Contains, Option, Some, flat_map, map, option_to_list}
 use Rattle.std.proofs.lemmas.Bool.{false_from_ne_true, true≢false}
 use Rattle.std.proofs.lemmas.List.Elements.{All-cons, All-head, All-nil, All-tail, All-weaker}
@@ -19,7 +20,8 @@ use Rattle.origin_model.specs.operations.Counters.{mentioned_ids}
 use Rattle.origin_model.specs.operations.History.{has_op, holds, is_own}
 use Rattle.origin_model.specs.operations.Verdict.{names, verdict}
 use Rattle.origin_model.specs.declared.operations.Verdict.TheVariants.{Ready}
-use Rattle.origin_model.specs.taking.Taking.{Accepted, Again, Answer, Full, MeetsNoLimit, Held, IsSettled, TooMany, answer, answers_from, held_from, intake, intake_counted, is_kept, kept_from, no_counts, tally_from}
+use Rattle.origin_model.specs.taking.Taking.{Accepted, Again, Answer, Full, MeetsNoLimit, Held, IsSettled, TooMany, answer, answers_from, held_from, intake, intake_counted}
+use Rattle.origin_model.specs.taking.Taking.{is_kept, kept_from, no_counts, tally_from}
 use Rattle.origin_model.proofs.SharedLemmas.{held-append, holds-other, kept-append, kept-no, kept_suffice, own_id, places-append, places-none, places-one, tally-append}
 use Rattle.origin_model.proofs.edits.EditIntakeLemmas.{comes}
 use Rattle.origin_model.proofs.edits.FreshIdLemmas.{IsUnknown}
@@ -82,7 +84,8 @@ takes_one s new op t u place is counted settled once = record {
 -- A fault behind operations that were taken in
 
 -- at the first one
-pub stops_some : (s : State) (op : Op) (more : List Op) (t : Tally) (fault : FeedFault) → IsSettled s.held → (fault ≡ FedTooMany s.most) ↔ (answer s.hold s.most s.held op ≡ TooMany)
+pub stops_some : (s : State) (op : Op) (more : List Op) (t : Tally) (fault : FeedFault) → IsSettled s.held
+    → (fault ≡ FedTooMany s.most) ↔ (answer s.hold s.most s.held op ≡ TooMany)
     → TakesInSome (op ∷ more) s t fault
 stops_some s op more t fault settled many =
     record { front = []; op = op; more = more; parts = refl; reached = s; counts = t; taken = takes_none_in s t settled; too_many = many }
@@ -103,22 +106,27 @@ some_behind s mid a b t u fault first some =
     }
 
 -- the first one
-pub first_stops : (s new : State) (op : Op) (more : List Op) (t u : Tally) (fault : FeedFault) → IsSettled s.held → (fault ≡ FedTooMany s.most) ↔ (answer s.hold s.most s.held op ≡ TooMany) → LeavesAfterFault s new op t u fault
+pub first_stops : (s new : State) (op : Op) (more : List Op) (t u : Tally) (fault : FeedFault) → IsSettled s.held
+    → (fault ≡ FedTooMany s.most) ↔ (answer s.hold s.most s.held op ≡ TooMany) → LeavesAfterFault s new op t u fault
     → StopsFeeding (op ∷ more) s new t u fault
 unfolding stops_some
 first_stops s new op more t u fault settled many leaves = record { some = stops_some s op more t fault settled many; leaves = leaves }
 
-pub first_unkept : (s new : State) (op : Op) (more : List Op) (t u : Tally) (kept kept_new : List Op) (fault : FeedFault) → IsSettled s.held → (fault ≡ FedTooMany s.most) ↔ (answer s.hold s.most s.held op ≡ TooMany)
+pub first_unkept : (s new : State) (op : Op) (more : List Op) (t u : Tally) (kept kept_new : List Op) (fault : FeedFault) → IsSettled s.held
+    → (fault ≡ FedTooMany s.most) ↔ (answer s.hold s.most s.held op ≡ TooMany)
     → LeavesUnkept s new op t u fault → kept_new ≡ kept → StopsKeeping (op ∷ more) s new t u kept kept_new fault
 unfolding stops_some
-first_unkept s new op more t u kept kept_new fault settled many leaves unkept = record { some = stops_some s op more t fault settled many; leaves = leaves; kept_are = unkept ∙ sym (append-nil kept) }
+first_unkept s new op more t u kept kept_new fault settled many leaves unkept =
+    record { some = stops_some s op more t fault settled many; leaves = leaves; kept_are = unkept ∙ sym (append-nil kept) }
 
 -- one further on
-pub stops_on : (s mid new : State) (a b : List Op) (t u v : Tally) (fault : FeedFault) → TakesInAll s mid a t u → StopsFeeding b mid new u v fault → StopsFeeding (a ++ b) s new t v fault
+pub stops_on : (s mid new : State) (a b : List Op) (t u v : Tally) (fault : FeedFault) → TakesInAll s mid a t u → StopsFeeding b mid new u v fault
+    → StopsFeeding (a ++ b) s new t v fault
 unfolding some_behind
 stops_on s mid new a b t u v fault first stops = record { some = some_behind s mid a b t u fault first stops.some; leaves = stops.leaves }
 
-pub unkept_on : (s mid new : State) (a b : List Op) (t u v : Tally) (kept kept_mid kept_new : List Op) (fault : FeedFault) → TakesInAll s mid a t u → kept_mid ≡ kept ++ kept_from s.hold s.most s.held a
+pub unkept_on : (s mid new : State) (a b : List Op) (t u v : Tally) (kept kept_mid kept_new : List Op) (fault : FeedFault) → TakesInAll s mid a t u
+    → kept_mid ≡ kept ++ kept_from s.hold s.most s.held a
     → StopsKeeping b mid new u v kept_mid kept_new fault → StopsKeeping (a ++ b) s new t v kept kept_new fault
 unfolding some_behind
 unkept_on s mid new a b t u v kept kept_mid kept_new fault first is stops =
@@ -140,7 +148,8 @@ pub record IsFeeding (s : State) (t : Tally) (ops : List Op) (now : State) (coun
   pub counters : 0 < length rest → next.id.counter + length rest ≤ 2 ^ 32
   pub few : total counts + length now.held.waiting + length rest ≤ 2 ^ 31
 
-pub feeding : (s : State) (t : Tally) (start : RunStart) (text : List ℕ) → IsSound s → IsSettled s.held → start.id.counter + length text ≤ 2 ^ 32 → total t + length s.held.waiting + length text ≤ 2 ^ 31
+pub feeding : (s : State) (t : Tally) (start : RunStart) (text : List ℕ) → IsSound s → IsSettled s.held → start.id.counter + length text ≤ 2 ^ 32
+    → total t + length s.held.waiting + length text ≤ 2 ^ 31
     → IsFeeding s t (run_from start text) s t start text
 feeding s t start text stands settled counters few = record { done = []; parts = refl; taken = takes_none_in s t settled; stands = stands; counters = λ some. counters; few = few }
 
@@ -170,7 +179,8 @@ fed_on s now new t counts after ops start next text front rest n f within took s
     let back = length-back text n within in
     record {
       done = f.done ++ run;
-      parts = f.parts ∙ ap (λ (z : List Op). f.done ++ z) (whole ∙ ap (λ (z : List ℕ). run_from start z ++ run_from next rest) is) ∙ sym (append_assoc f.done run (run_from next rest));
+      parts = f.parts ∙ ap (λ (z : List Op). f.done ++ z) (whole ∙ ap (λ (z : List ℕ). run_from start z ++ run_from next rest) is)
+          ∙ sym (append_assoc f.done run (run_from next rest));
       taken = takes_on s now new f.done run t counts after f.taken took;
       stands = stands;
       counters = λ left.
@@ -182,7 +192,8 @@ fed_on s now new t counts after ops start next text front rest n f within took s
     }
 
 -- all letters
-pub fed_all : (s now : State) (t counts : Tally) (ops : List Op) (next : RunStart) (rest : List ℕ) → IsFeeding s t ops now counts next rest → length rest ≡ 0 → TakesInAll s now ops t counts
+pub fed_all : (s now : State) (t counts : Tally) (ops : List Op) (next : RunStart) (rest : List ℕ) → IsFeeding s t ops now counts next rest → length rest ≡ 0
+    → TakesInAll s now ops t counts
 fed_all s now t counts ops next [] f none = subst (λ (z : List Op). TakesInAll s now z t counts) (sym (f.parts ∙ append-nil f.done)) f.taken
 fed_all s now t counts ops next (c ∷ rest) f none = absurd (omega (arith, none))
 
@@ -204,8 +215,10 @@ pub keeping : (s : State) (t : Tally) (kept : List Op) (start : RunStart) (text 
 unfolding feeding
 keeping s t kept start text stands settled counters few = record { feeds = feeding s t start text stands settled counters few; kept_are = sym (append-nil kept) }
 
-pub kept_on : (s now new : State) (t counts after : Tally) (kept kept_now kept_new ops : List Op) (start next : RunStart) (text front rest : List ℕ) (n : ℕ) → IsKeeping s t kept ops now counts kept_now start text
-    → n ≤ length text → TakesInAll now new (run_from start (take n text)) counts after → IsSound new → kept_new ≡ kept_now ++ kept_from now.hold now.most now.held (run_from start (take n text))
+pub kept_on : (s now new : State) (t counts after : Tally) (kept kept_now kept_new ops : List Op) (start next : RunStart) (text front rest : List ℕ) (n : ℕ)
+    → IsKeeping s t kept ops now counts kept_now start text
+    → n ≤ length text → TakesInAll now new (run_from start (take n text)) counts after → IsSound new
+    → kept_new ≡ kept_now ++ kept_from now.hold now.most now.held (run_from start (take n text))
     → front ≡ take n text → rest ≡ drop n text
     → run_from start text ≡ run_from start front ++ run_from next rest → (n < length text → next ≡ start_behind start n)
     → IsKeeping s t kept ops new after kept_new next rest
@@ -220,12 +233,15 @@ kept_on s now new t counts after kept kept_now kept_new ops start next text fron
           ∙ ap (λ (z : List Op). kept ++ z) (kept_behind s now done run k.feeds.taken.replica);
     }
 
-pub kept_all : (s now : State) (t counts : Tally) (kept kept_now ops : List Op) (next : RunStart) (rest : List ℕ) → IsKeeping s t kept ops now counts kept_now next rest → length rest ≡ 0
+pub kept_all : (s now : State) (t counts : Tally) (kept kept_now ops : List Op) (next : RunStart) (rest : List ℕ) → IsKeeping s t kept ops now counts kept_now next rest
+    → length rest ≡ 0
     → kept_now ≡ kept ++ kept_from s.hold s.most s.held ops
-kept_all s now t counts kept kept_now ops next [] k none = k.kept_are ∙ ap (λ (z : List Op). kept ++ kept_from s.hold s.most s.held z) (sym (k.feeds.parts ∙ append-nil k.feeds.done))
+kept_all s now t counts kept kept_now ops next [] k none =
+    k.kept_are ∙ ap (λ (z : List Op). kept ++ kept_from s.hold s.most s.held z) (sym (k.feeds.parts ∙ append-nil k.feeds.done))
 kept_all s now t counts kept kept_now ops next (c ∷ rest) k none = absurd (omega (arith, none))
 
-pub kept_some : (s now new : State) (t counts after : Tally) (kept kept_now kept_new ops : List Op) (next : RunStart) (rest : List ℕ) (fault : FeedFault) → IsKeeping s t kept ops now counts kept_now next rest
+pub kept_some : (s now new : State) (t counts after : Tally) (kept kept_now kept_new ops : List Op) (next : RunStart) (rest : List ℕ) (fault : FeedFault)
+    → IsKeeping s t kept ops now counts kept_now next rest
     → StopsKeeping (run_from next rest) now new counts after kept_now kept_new fault → StopsKeeping ops s new t after kept kept_new fault
 unfolding some_behind
 kept_some s now new t counts after kept kept_now kept_new ops next rest fault k stops =
@@ -250,7 +266,8 @@ each_id P id (c ∷ text) each =
 
 -- what operations neither have nor name is held by none of them
 unheld : (w : List Op) (x : Identifier) → (Contains (flat_map mentioned_ids w) x → ⊥) → holds w x ≡ false
-unheld w x none = by_each w (all_from_contains (λ i. id_eq x i ≡ false) (flat_map mentioned_ids w) (λ i m. ne-id_eq x i (λ e. none (subst (Contains (flat_map mentioned_ids w)) (sym e) m))))
+unheld w x none = by_each w
+    (all_from_contains (λ i. id_eq x i ≡ false) (flat_map mentioned_ids w) (λ i m. ne-id_eq x i (λ e. none (subst (Contains (flat_map mentioned_ids w)) (sym e) m))))
   where
     by_each : (w : List Op) → All (λ i. id_eq x i ≡ false) (flat_map mentioned_ids w) → holds w x ≡ false
     by_each [] a = refl
@@ -264,20 +281,26 @@ unheld w x none = by_each w (all_from_contains (λ i. id_eq x i ≡ false) (flat
         first_of : (P : Identifier → Type 0) (i : Identifier) (is : List Identifier) → All P (i ∷ is) → P i
         first_of P i is a = a 0 i (omega arith)
 
-unknown_run : (id s : Identifier) (l r : Option Identifier) (text : List ℕ) (w : List Op) → ((k : ℕ) → k < length text → Contains (flat_map mentioned_ids w) (id_behind id k) → ⊥) → All (IsUnknown w) (in_a_row id s l r text)
+unknown_run : (id s : Identifier) (l r : Option Identifier) (text : List ℕ) (w : List Op) → ((k : ℕ) → k < length text → Contains (flat_map mentioned_ids w) (id_behind id k) → ⊥)
+    → All (IsUnknown w) (in_a_row id s l r text)
 unknown_run id s l r [] w each = All-nil (IsUnknown w)
 unknown_run id s l r (c ∷ text) w each =
     let none : Contains (flat_map mentioned_ids w) id → ⊥ = λ m. each 0 (omega arith) (subst (Contains (flat_map mentioned_ids w)) (sym (none_behind id)) m) in
-    All-cons (IsUnknown w) (Text id s l r c) (in_a_row (next_id id) s (Some id) r text)
-    (unheld w id none, all_from_contains (λ i. id_eq id i ≡ false) (flat_map mentioned_ids w) (λ i m. ne-id_eq id i (λ e. none (subst (Contains (flat_map mentioned_ids w)) (sym e) m))))
+    All-cons (IsUnknown w) (Text id s l r c) (in_a_row (next_id id) s (Some id) r text) (
+      unheld w id none,
+      all_from_contains (λ i. id_eq id i ≡ false) (flat_map mentioned_ids w)
+          (λ i m. ne-id_eq id i (λ e. none (subst (Contains (flat_map mentioned_ids w)) (sym e) m))),
+    )
     (unknown_run (next_id id) s (Some id) r text w (λ k l m. each (suc k) (omega (arith, l)) (subst (Contains (flat_map mentioned_ids w)) (one_behind id k) m)))
 
 -- a run that is untouched and whose first letter is Ready does
-at_once : (s : State) (start : RunStart) (ch : ℕ) (text : List ℕ) → IsSound s → IsSettled s.held → AreUntouched s.held start.id (length (ch ∷ text)) → verdict s.held.history (text_by start ch) ≡ Ready
+at_once : (s : State) (start : RunStart) (ch : ℕ) (text : List ℕ) → IsSound s → IsSettled s.held → AreUntouched s.held start.id (length (ch ∷ text))
+    → verdict s.held.history (text_by start ch) ≡ Ready
     → length s.held.history + length s.held.waiting + length (ch ∷ text) ≤ s.most → GoesAtOnce s (run_from start (ch ∷ text))
 at_once s start ch text stands settled u ready room =
     let run : List Op = run_from start (ch ∷ text) in
-    let none : (k : ℕ) → k < length (ch ∷ text) → Contains (flat_map mentioned_ids s.held.waiting) (id_behind start.id k) → ⊥ = λ k l m. u.unnamed (record { k = k; within = l; found = m }) in
+    let none : (k : ℕ) → k < length (ch ∷ text) → Contains (flat_map mentioned_ids s.held.waiting) (id_behind start.id k)
+    → ⊥ = λ k l m. u.unnamed (record { k = k; within = l; found = m }) in
     let goes : GoesIn s.hold s.most s.held start ch text = runs_go_in_whole s.hold s.most s.held start ch text (record {
       lawful = stands.lawful;
       settled = settled;
@@ -288,7 +311,8 @@ at_once s start ch text stands settled u ready room =
     }) in
     let again = kept_suffice s.hold s.most s.held run settled in
     let place : MeetsNoLimit s.hold s.most s.held (kept_from s.hold s.most s.held run) =
-    All-weaker (λ (a : Answer). (a ≢ Full) × (a ≢ TooMany)) (λ (a : Answer). a ≢ TooMany) (λ a b. b.1) (answers_from s.hold s.most s.held (kept_from s.hold s.most s.held run)) again.within_limits in
+    All-weaker (λ (a : Answer). (a ≢ Full) × (a ≢ TooMany)) (λ (a : Answer). a ≢ TooMany) (λ a b. b.1)
+    (answers_from s.hold s.most s.held (kept_from s.hold s.most s.held run)) again.within_limits in
     let many : length run ≡ length (ch ∷ text) = length-run start (ch ∷ text) in
     record {
       can = record {
@@ -309,7 +333,8 @@ first_of_text (c ∷ text) zero ch some within is = absurd (omega (arith, some))
 first_of_text (c ∷ text) (suc n) ch some within is = ap (λ (z : ℕ). z ∷ take n text) (sym is)
 
 -- the front of a text that is untouched
-pub goes_at_once : (s : State) (start : RunStart) (text : List ℕ) (n ch : ℕ) → IsSound s → IsSettled s.held → 0 < n → n ≤ length text → ch ≡ get_or text 0 ch → AreUntouched s.held start.id n
+pub goes_at_once : (s : State) (start : RunStart) (text : List ℕ) (n ch : ℕ) → IsSound s → IsSettled s.held → 0 < n → n ≤ length text → ch ≡ get_or text 0 ch
+    → AreUntouched s.held start.id n
     → verdict s.held.history (text_by start ch) ≡ Ready → length s.held.history + length s.held.waiting + n ≤ s.most → GoesAtOnce s (run_from start (take n text))
 goes_at_once s start text n ch stands settled some within is u ready room =
     let front : List ℕ = take n text in
@@ -319,7 +344,8 @@ goes_at_once s start text n ch stands settled some within is u ready room =
     (at_once s start ch (drop 1 front) stands settled (subst (AreUntouched s.held start.id) (sym many) u) ready (omega (arith, room, many)))
 
 -- it is taken in, and counted
-pub joins_all : (s new : State) (ops : List Op) (t u : Tally) (n : ℕ) → GoesAtOnce s ops → new ≡ with_ops s ops → n ≡ length ops → u ≡ record t { accepted = t.accepted + n } → TakesInAll s new ops t u
+pub joins_all : (s new : State) (ops : List Op) (t u : Tally) (n : ℕ) → GoesAtOnce s ops → new ≡ with_ops s ops → n ≡ length ops → u ≡ record t { accepted = t.accepted + n }
+    → TakesInAll s new ops t u
 joins_all s new ops t u n goes is many counted =
     let held_is : new.held ≡ held_from s.hold s.most s.held ops = ap (λ (x : State). x.held) is ∙ sym goes.held in
     let more : u ≡ record t { accepted = t.accepted + length ops } = counted ∙ (λ i. record t { accepted = t.accepted + many i }) in
@@ -343,7 +369,8 @@ stops_joining s new op ops more t can is =
       leaves = (ap is_kept accepted, is ∙ ap (λ (x : State). record s { held = x.held }) (sym is), inl (is, refl));
     }
 
-pub stops_copying : (s new : State) (op : Op) (ops more : List Op) (t : Tally) (kept kept_new : List Op) → CanJoin s (op ∷ ops) → new ≡ s → kept_new ≡ kept → StopsKeeping (op ∷ more) s new t t kept kept_new FedNoMemory
+pub stops_copying : (s new : State) (op : Op) (ops more : List Op) (t : Tally) (kept kept_new : List Op) → CanJoin s (op ∷ ops) → new ≡ s → kept_new ≡ kept
+    → StopsKeeping (op ∷ more) s new t t kept kept_new FedNoMemory
 unfolding stops_some
 stops_copying s new op ops more t kept kept_new can is same =
     let accepted : answer s.hold s.most s.held op ≡ Accepted = can_be_accepted s op (first_can s op ops can) in
@@ -359,18 +386,22 @@ pub run_stops : (s new : State) (start : RunStart) (text : List ℕ) (n : ℕ) (
 run_stops s new start [] n t some within goes is = absurd (omega (arith, some, within))
 run_stops s new start (c ∷ text) zero t some within goes is = absurd (omega (arith, some))
 run_stops s new start (c ∷ text) (suc n) t some within goes is =
-    stops_joining s new (text_by start c) (in_a_row (next_id start.id) start.section (Some start.id) start.right (take n text)) (in_a_row (next_id start.id) start.section (Some start.id) start.right text) t goes.can is
+    stops_joining s new (text_by start c) (in_a_row (next_id start.id) start.section (Some start.id) start.right (take n text))
+    (in_a_row (next_id start.id) start.section (Some start.id) start.right text) t goes.can is
 
-pub copies_stop : (s new : State) (start : RunStart) (text : List ℕ) (n : ℕ) (t : Tally) (kept kept_new : List Op) → 0 < n → n ≤ length text → GoesAtOnce s (run_from start (take n text)) → new ≡ s → kept_new ≡ kept
+pub copies_stop : (s new : State) (start : RunStart) (text : List ℕ) (n : ℕ) (t : Tally) (kept kept_new : List Op) → 0 < n → n ≤ length text
+    → GoesAtOnce s (run_from start (take n text)) → new ≡ s → kept_new ≡ kept
     → StopsKeeping (run_from start text) s new t t kept kept_new FedNoMemory
 copies_stop s new start [] n t kept kept_new some within goes is same = absurd (omega (arith, some, within))
 copies_stop s new start (c ∷ text) zero t kept kept_new some within goes is same = absurd (omega (arith, some))
 copies_stop s new start (c ∷ text) (suc n) t kept kept_new some within goes is same =
-    stops_copying s new (text_by start c) (in_a_row (next_id start.id) start.section (Some start.id) start.right (take n text)) (in_a_row (next_id start.id) start.section (Some start.id) start.right text) t kept kept_new goes.can
+    stops_copying s new (text_by start c) (in_a_row (next_id start.id) start.section (Some start.id) start.right (take n text))
+    (in_a_row (next_id start.id) start.section (Some start.id) start.right text) t kept kept_new goes.can
     is same
 
 -- its operations are taken in
-pub run_joins : (s new : State) (start : RunStart) (text : List ℕ) (n : ℕ) (t : Tally) → n ≤ length text → GoesAtOnce s (run_from start (take n text)) → new ≡ with_ops s (run_from start (take n text))
+pub run_joins : (s new : State) (start : RunStart) (text : List ℕ) (n : ℕ) (t : Tally) → n ≤ length text → GoesAtOnce s (run_from start (take n text))
+    → new ≡ with_ops s (run_from start (take n text))
     → TakesInAll s new (run_from start (take n text)) t (record t { accepted = t.accepted + n })
 run_joins s new start text n t within goes is =
     let many : length (run_from start (take n text)) ≡ n = length-run start (take n text) ∙ length-front text n within in
@@ -379,27 +410,32 @@ run_joins s new start text n t within goes is =
 -- The first letter of a run, alone
 
 first_letter : (start : RunStart) (text : List ℕ) (ch : ℕ) → 0 < length text → ch ≡ get_or text 0 ch
-    → (run_from start text ≡ text_by start ch ∷ in_a_row (next_id start.id) start.section (Some start.id) start.right (drop 1 text)) × (run_from start (take 1 text) ≡ text_by start ch ∷ [])
+    → (run_from start text ≡ text_by start ch ∷ in_a_row (next_id start.id) start.section (Some start.id) start.right (drop 1 text))
+    × (run_from start (take 1 text) ≡ text_by start ch ∷ [])
 first_letter start [] ch some is = absurd (omega (arith, some))
 first_letter start (c ∷ text) ch some is =
     (ap (λ (z : ℕ). text_by start z ∷ in_a_row (next_id start.id) start.section (Some start.id) start.right text) (sym is), ap (λ (z : ℕ). text_by start z ∷ []) (sym is))
 
-pub letter_fed : (s new : State) (start : RunStart) (text : List ℕ) (ch : ℕ) (op : Op) (t u : Tally) → 0 < length text → ch ≡ get_or text 0 ch → op ≡ text_by start ch → TakesInAll s new (op ∷ []) t u
+pub letter_fed : (s new : State) (start : RunStart) (text : List ℕ) (ch : ℕ) (op : Op) (t u : Tally) → 0 < length text → ch ≡ get_or text 0 ch → op ≡ text_by start ch
+    → TakesInAll s new (op ∷ []) t u
     → TakesInAll s new (run_from start (take 1 text)) t u
 letter_fed s new start text ch op t u some is same takes =
     subst (λ (z : List Op). TakesInAll s new z t u) (ap (λ (o : Op). o ∷ []) same ∙ sym (first_letter start text ch some is).1) takes
 
-pub letter_stops : (s new : State) (start : RunStart) (text : List ℕ) (ch : ℕ) (op : Op) (t u : Tally) (fault : FeedFault) → IsSettled s.held → 0 < length text → ch ≡ get_or text 0 ch → op ≡ text_by start ch
+pub letter_stops : (s new : State) (start : RunStart) (text : List ℕ) (ch : ℕ) (op : Op) (t u : Tally) (fault : FeedFault) → IsSettled s.held → 0 < length text
+    → ch ≡ get_or text 0 ch → op ≡ text_by start ch
     → (fault ≡ FedTooMany s.most) ↔ (answer s.hold s.most s.held op ≡ TooMany) → LeavesAfterFault s new op t u fault → StopsFeeding (run_from start text) s new t u fault
 unfolding stops_some
 letter_stops s new start text ch op t u fault settled some is same many leaves =
     let rest : List Op = in_a_row (next_id start.id) start.section (Some start.id) start.right (drop 1 text) in
     subst (λ (z : List Op). StopsFeeding z s new t u fault) (ap (λ (o : Op). o ∷ rest) same ∙ sym (first_letter start text ch some is).0) (at op rest many leaves)
   where
-    at : (op : Op) (rest : List Op) → (fault ≡ FedTooMany s.most) ↔ (answer s.hold s.most s.held op ≡ TooMany) → LeavesAfterFault s new op t u fault → StopsFeeding (op ∷ rest) s new t u fault
+    at : (op : Op) (rest : List Op) → (fault ≡ FedTooMany s.most) ↔ (answer s.hold s.most s.held op ≡ TooMany) → LeavesAfterFault s new op t u fault
+        → StopsFeeding (op ∷ rest) s new t u fault
     at op rest many leaves = record { some = stops_some s op rest t fault settled many; leaves = leaves }
 
-pub letter_unkept : (s new : State) (start : RunStart) (text : List ℕ) (ch : ℕ) (op : Op) (t u : Tally) (kept kept_new : List Op) (fault : FeedFault) → IsSettled s.held → 0 < length text → ch ≡ get_or text 0 ch
+pub letter_unkept : (s new : State) (start : RunStart) (text : List ℕ) (ch : ℕ) (op : Op) (t u : Tally) (kept kept_new : List Op) (fault : FeedFault) → IsSettled s.held
+    → 0 < length text → ch ≡ get_or text 0 ch
     → op ≡ text_by start ch → (fault ≡ FedTooMany s.most) ↔ (answer s.hold s.most s.held op ≡ TooMany) → LeavesUnkept s new op t u fault → kept_new ≡ kept
     → StopsKeeping (run_from start text) s new t u kept kept_new fault
 unfolding stops_some
@@ -407,7 +443,8 @@ letter_unkept s new start text ch op t u kept kept_new fault settled some is sam
     let rest : List Op = in_a_row (next_id start.id) start.section (Some start.id) start.right (drop 1 text) in
     subst (λ (z : List Op). StopsKeeping z s new t u kept kept_new fault) (ap (λ (o : Op). o ∷ rest) same ∙ sym (first_letter start text ch some is).0) (at op rest many leaves)
   where
-    at : (op : Op) (rest : List Op) → (fault ≡ FedTooMany s.most) ↔ (answer s.hold s.most s.held op ≡ TooMany) → LeavesUnkept s new op t u fault → StopsKeeping (op ∷ rest) s new t u kept kept_new fault
+    at : (op : Op) (rest : List Op) → (fault ≡ FedTooMany s.most) ↔ (answer s.hold s.most s.held op ≡ TooMany) → LeavesUnkept s new op t u fault
+        → StopsKeeping (op ∷ rest) s new t u kept kept_new fault
     at op rest many leaves = record { some = stops_some s op rest t fault settled many; leaves = leaves; kept_are = unkept ∙ sym (append-nil kept) }
 
 -- Operations that are accepted already
@@ -465,11 +502,13 @@ repeats_all s new ops t u n settled there is many counted =
     }
 
 -- and none of them is kept
-pub repeats_kept : (s : State) (ops : List Op) (kept : List Op) → IsSettled s.held → All (λ op. has_op s.held.history op ≡ true) ops → kept ≡ kept ++ kept_from s.hold s.most s.held ops
+pub repeats_kept : (s : State) (ops : List Op) (kept : List Op) → IsSettled s.held → All (λ op. has_op s.held.history op ≡ true) ops
+    → kept ≡ kept ++ kept_from s.hold s.most s.held ops
 repeats_kept s ops kept settled there = sym (ap (λ (z : List Op). kept ++ z) (repeated_all s.hold s.most s.held ops settled there).kept ∙ append-nil kept)
 
 -- a front of a run that is accepted already
-pub run_repeats : (s : State) (start : RunStart) (text : List ℕ) (n : ℕ) (t : Tally) → n ≤ length text → IsSettled s.held → All (λ op. has_op s.held.history op ≡ true) (run_from start (take n text))
+pub run_repeats : (s : State) (start : RunStart) (text : List ℕ) (n : ℕ) (t : Tally) → n ≤ length text → IsSettled s.held
+    → All (λ op. has_op s.held.history op ≡ true) (run_from start (take n text))
     → TakesInAll s s (run_from start (take n text)) t (record t { repeated = t.repeated + n })
 run_repeats s start text n t within settled there =
     let many : length (run_from start (take n text)) ≡ n = length-run start (take n text) ∙ length-front text n within in

@@ -97,7 +97,8 @@ module _ (test : Identifier → Op → Bool) (m n : FinMap id_cmp Position) (op 
             ∙ noted-other-at x (others x e) (are x)
       ]
     where
-      noted-other-at : (x : Identifier) → test x op ≡ false → get m x ≡ option_map as_position (newest_position (test x) h) → get m x ≡ option_map as_position (newest_position (test x) (op ∷ h))
+      noted-other-at : (x : Identifier) → test x op ≡ false → get m x ≡ option_map as_position (newest_position (test x) h)
+          → get m x ≡ option_map as_position (newest_position (test x) (op ∷ h))
       noted-other-at x none at = at ∙ ap (option_map as_position) (sym (position-other (test x) op h none))
 
   -- and was taken out
@@ -116,7 +117,8 @@ module _ (test : Identifier → Op → Bool) (m n : FinMap id_cmp Position) (op 
 
 module _ (op : Op) (i : Identifier) (h : List Op) where
   -- the newest operation, which has an identifier, was put in
-  pub noted_position : (m n t : FinMap id_cmp Position) (k : ℕ) → key_of op ≡ Own i → n ≡ insert m i (as_position k) → IsHistoryIndex m t h → length h ≡ k → IsHistoryIndex n t (op ∷ h)
+  pub noted_position : (m n t : FinMap id_cmp Position) (k : ℕ) → key_of op ≡ Own i → n ≡ insert m i (as_position k) → IsHistoryIndex m t h → length h ≡ k
+      → IsHistoryIndex n t (op ∷ h)
   noted_position m n t k key put index same =
       record {
         positions_are = noted-own is_own m n op h i (put ∙ ap (λ j. insert m i (as_position j)) (sym same)) ((own_is op i i key).0 ∙ id_eq-refl i)
@@ -125,7 +127,8 @@ module _ (op : Op) (i : Identifier) (h : List Op) where
       }
 
   -- a Delete was
-  pub noted_target : (m s t : FinMap id_cmp Position) (k : ℕ) → key_of op ≡ Target i → t ≡ insert s i (as_position k) → IsHistoryIndex m s h → length h ≡ k → IsHistoryIndex m t (op ∷ h)
+  pub noted_target : (m s t : FinMap id_cmp Position) (k : ℕ) → key_of op ≡ Target i → t ≡ insert s i (as_position k) → IsHistoryIndex m s h → length h ≡ k
+      → IsHistoryIndex m t (op ∷ h)
   noted_target m s t k key put index same =
       record {
         positions_are = noted-other is_own m m op h (λ x. (target_is op i x key).0) index.positions_are;
@@ -191,10 +194,12 @@ last_position test m op h i are own f =
         let below : k < suc (length h) = position_below (test (id_behind i 1)) (op ∷ h) k is in
         omega (arith, next, below, here)
 
-pub last_own : (op : Op) (i : Identifier) (h : List Op) (m : FinMap id_cmp Position) → key_of op ≡ Own i → ArePositions is_own m (op ∷ h) → IsFollowedBy (λ first p k. later p k) (get m) i → ⊥
+pub last_own : (op : Op) (i : Identifier) (h : List Op) (m : FinMap id_cmp Position) → key_of op ≡ Own i → ArePositions is_own m (op ∷ h)
+    → IsFollowedBy (λ first p k. later p k) (get m) i → ⊥
 last_own op i h m key are = last_position is_own m op h i are ((own_is op i i key).0 ∙ id_eq-refl i)
 
-pub last_target : (op : Op) (i : Identifier) (h : List Op) (m : FinMap id_cmp Position) → key_of op ≡ Target i → ArePositions deletes m (op ∷ h) → IsFollowedBy (λ first p k. later p k) (get m) i → ⊥
+pub last_target : (op : Op) (i : Identifier) (h : List Op) (m : FinMap id_cmp Position) → key_of op ≡ Target i → ArePositions deletes m (op ∷ h)
+    → IsFollowedBy (λ first p k. later p k) (get m) i → ⊥
 last_target op i h m key are = last_position deletes m op h i are ((target_is op i i key).1 ∙ id_eq-refl i)
 
 -- at the position of an identifier stands its holder
@@ -221,7 +226,8 @@ held_at (op ∷ h) x k e =
 pub position_held : (m t : FinMap id_cmp Position) (ops : List Op) (x : Identifier) (k : ℕ) → IsHistoryIndex m t (reverse ops) → Some k ≡ option_map (λ p. p.at) (get m x)
     → slice_get ops k ≡ holder (reverse ops) x
 position_held m t ops x k index e =
-    ap (λ (l : List Op). slice_get l k) (sym (reverse-reverse ops)) ∙ held_at (reverse ops) x k (back (newest_position (is_own x) (reverse ops)) (e ∙ ap (option_map (λ p. p.at)) (index.positions_are x)))
+    ap (λ (l : List Op). slice_get l k) (sym (reverse-reverse ops))
+    ∙ held_at (reverse ops) x k (back (newest_position (is_own x) (reverse ops)) (e ∙ ap (option_map (λ p. p.at)) (index.positions_are x)))
   where
     back : (o : Option ℕ) → Some k ≡ option_map (λ p. p.at) (option_map as_position o) → o ≡ Some k
     back None d = cc
@@ -229,7 +235,8 @@ position_held m t ops x k index e =
 
 -- an identifier without a position is not held
 pub position_free : (m t : FinMap id_cmp Position) (h : List Op) (x : Identifier) → IsHistoryIndex m t h → None ≡ option_map (λ p. p.at) (get m x) → None ≡ holder h x
-position_free m t h x index e = sym (is_some-false (holder h x) (sym (has_position h x) ∙ sym (is_some-as (newest_position (is_own x) h)) ∙ ap is_some (sym (index.positions_are x)) ∙ gone (get m x) e))
+position_free m t h x index e =
+    sym (is_some-false (holder h x) (sym (has_position h x) ∙ sym (is_some-as (newest_position (is_own x) h)) ∙ ap is_some (sym (index.positions_are x)) ∙ gone (get m x) e))
   where
     gone : (o : Option Position) → None ≡ option_map (λ p. p.at) o → is_some o ≡ false
     gone None d = refl
@@ -256,5 +263,6 @@ pub unheld_free : (m t : FinMap id_cmp Position) (h : List Op) (first : Identifi
 unheld_free m t h first n index unheld k less = is_some-false (get m (id_behind first k)) (held_by_position m t h (id_behind first k) index ∙ unheld k less)
 
 -- targets that no Delete names have no positions
-pub untargeted_free : (m t : FinMap id_cmp Position) (h : List Op) (first : Identifier) (n : ℕ) → IsHistoryIndex m t h → ((k : ℕ) → k < n → has_op h (Delete (id_behind first k)) ≡ false) → AreFree (get t) first n
+pub untargeted_free : (m t : FinMap id_cmp Position) (h : List Op) (first : Identifier) (n : ℕ) → IsHistoryIndex m t h
+    → ((k : ℕ) → k < n → has_op h (Delete (id_behind first k)) ≡ false) → AreFree (get t) first n
 untargeted_free m t h first n index new k less = is_some-false (get t (id_behind first k)) (target_held m t h (id_behind first k) index ∙ new k less)

@@ -7,7 +7,8 @@ use Rattle.fugue_ids.specs.declared.op.Op.{Op}
 use Rattle.origin_model.specs.declared.taking.Tally.{Tally}
 use Rattle.origin_model.specs.operations.Verdict.{verdict}
 use Rattle.origin_model.specs.declared.operations.Verdict.{Verdict}
-use Rattle.origin_model.specs.declared.operations.Verdict.TheVariants.{Again as VerdictAgain, Conflict as VerdictConflict, Missing as VerdictMissing, Ready as VerdictReady, Stray as VerdictStray}
+use Rattle.origin_model.specs.declared.operations.Verdict.TheVariants.{Again as VerdictAgain, Conflict as VerdictConflict, Missing as VerdictMissing, Ready as VerdictReady}
+use Rattle.origin_model.specs.declared.operations.Verdict.TheVariants.{Stray as VerdictStray}
 use Rattle.origin_model.specs.taking.Taking.{Again, Answer, Conflict, Held, TooMany, answer, answer_by, held_from, intake_counted, is_again, is_kept, is_taken, kept_from}
 use Rattle.origin_model.proofs.SharedLemmas.{held-append, kept-append, places-append, places-none, places-one, tally-append}
 use Rattle.replica_core.specs.Keeping.{TakesIn, TakesInKeeping, OpsTaking}
@@ -56,7 +57,8 @@ none_kept false false at_hold VerdictReady = refl
 
 pub full_keeps_none : (hold most : ℕ) (s : Held) (op : Op) → length s.history + length s.waiting ≡ most → is_kept (answer hold most s op) ≡ false
 full_keeps_none hold most s op full =
-    ap (λ (b : Bool). is_kept (answer_by_tests (is_again s op) (is_taken s op) b (nat_eq (length s.waiting) hold) (verdict s.history op))) (eq-eqb (length s.history + length s.waiting) most full)
+    ap (λ (b : Bool). is_kept (answer_by_tests (is_again s op) (is_taken s op) b (nat_eq (length s.waiting) hold) (verdict s.history op)))
+    (eq-eqb (length s.history + length s.waiting) most full)
     ∙ none_kept (is_again s op) (is_taken s op) (nat_eq (length s.waiting) hold) (verdict s.history op)
 
 -- and where fewer are, none is one too many
@@ -77,7 +79,8 @@ not_too_many false false false VerdictReady is = cc is
 pub room_for_one : (hold most : ℕ) (s : Held) (op : Op) → length s.history + length s.waiting ≢ most → answer hold most s op ≢ TooMany
 room_for_one hold most s op other is =
     not_too_many (is_again s op) (is_taken s op) (nat_eq (length s.waiting) hold) (verdict s.history op)
-    (ap (λ (b : Bool). answer_by_tests (is_again s op) (is_taken s op) b (nat_eq (length s.waiting) hold) (verdict s.history op)) (sym (ne_eqb (length s.history + length s.waiting) most other)) ∙ is)
+    (ap (λ (b : Bool). answer_by_tests (is_again s op) (is_taken s op) b (nat_eq (length s.waiting) hold) (verdict s.history op))
+    (sym (ne_eqb (length s.history + length s.waiting) most other)) ∙ is)
 
 -- what is kept is not one too many
 pub kept_has_place : (hold most : ℕ) (s : Held) (op : Op) → is_kept (answer hold most s op) ≡ true → answer hold most s op ≢ TooMany

@@ -18,7 +18,8 @@ pub hides_grows : (old new : Contents) (x : Identifier) → Hides old new x → 
 hides_grows old new x hides h s ready = subst (Represents new) (ap (λ b. if b then h else Delete x ∷ h) (target_is_shown h x ready).1) (hides h s)
 
 -- where an identifier has a place, its holder fits where the operations of that place do
-pub fits_by_place : (m : Contents) (h : List Op) (x : Identifier) (p : Place) (role : Role) (fit : Bool) → Represents m h → place_at m x ≡ Some p → ((op : Op) → place op ≡ Some p → fit ≡ fits role op)
+pub fits_by_place : (m : Contents) (h : List Op) (x : Identifier) (p : Place) (role : Role) (fit : Bool) → Represents m h → place_at m x ≡ Some p
+    → ((op : Op) → place op ≡ Some p → fit ≡ fits role op)
     → Some fit ≡ option_map (fits role) (holder h x)
 fits_by_place m h x p role fit stands at told =
     let o = has_holder p (holder h x) (sym (stands.places x) ∙ at) in

@@ -1,5 +1,6 @@
 -- The marks of the waiting operations: how many are set, and what they say of those that wait.
-use Rattle.std.proofs.Common.{◌≡◌, ◌<◌, ◌≤◌, refl, sym, ap, ◌∙◌, ◌+◌, ◌-◌, ℕ, suc, min, List, [], ◌∷◌, ◌++◌, length, Bool, true, false, not, ltb, set, take, drop, get_or, inl, inr, arith}
+use Rattle.std.proofs.Common.{◌≡◌, ◌<◌, ◌≤◌, refl, sym, ap, ◌∙◌, ◌+◌, ◌-◌, ℕ, suc, min, List, [], ◌∷◌, ◌++◌, length, Bool, true, false, not, ltb, set, take, drop, get_or, inl, inr}
+use Rattle.std.proofs.Common.{arith}
 use Rattle.std.specs.Prelude.{Option, Some, None, All, cond, count_by, position, remove, slice_get}
 use Rattle.std.proofs.lemmas.Option.{get_or_from_slice_get, slice_get_within}
 use Rattle.std.specs.List.{position_or_len}
@@ -47,7 +48,8 @@ pub counted_pushed : (marks : List Bool) → count_by (λ m. m) (marks ++ false 
 counted_pushed marks = omega (arith, sum_by_push (λ m. cond m 1 0) marks false)
 
 -- the marks in front after one is set or not
-pub clear_put : (marks : List Bool) (clear n p : ℕ) (mark : Bool) → IsClearBefore clear marks → clear ≤ length marks → n ≡ cond mark (min clear p) clear → IsClearBefore n (set marks p mark)
+pub clear_put : (marks : List Bool) (clear n p : ℕ) (mark : Bool) → IsClearBefore clear marks → clear ≤ length marks → n ≡ cond mark (min clear p) clear
+    → IsClearBefore n (set marks p mark)
 clear_put marks clear n p true front within is k below =
     get_or-set_other marks p k true false (λ same. omega (arith, is, below, same)) ∙ front k (omega (arith, is, below))
 clear_put marks clear n p false front within is k below = elim (cases_eq k p) [
@@ -61,7 +63,8 @@ clear_within marks put clear n p true within is same = omega (arith, within, is,
 clear_within marks put clear n p false within is same = omega (arith, within, is, ap length same, length-set marks p false)
 
 -- the marks in front with one mark less
-pub clear_removed : (marks : List Bool) (clear n p : ℕ) → IsClearBefore clear marks → p < length marks → (p < clear → n ≡ clear - 1) → (clear ≤ p → n ≡ clear) → IsClearBefore n (remove marks p)
+pub clear_removed : (marks : List Bool) (clear n p : ℕ) → IsClearBefore clear marks → p < length marks → (p < clear → n ≡ clear - 1) → (clear ≤ p → n ≡ clear)
+    → IsClearBefore n (remove marks p)
 clear_removed marks clear n p front within before behind k below = elim (cases_lt p clear) [
   | inl in_front ↦ elim (cases_lt k p) [
     | inl lower ↦ get_or-remove_below marks p false k lower within ∙ front k (omega (arith, lower, in_front))
@@ -121,7 +124,8 @@ marks_removed h w k =
     (λ i. take-map f k w i ++ drop-map f (suc k) w i) ∙ sym (map-append f (take k w) (drop (suc k) w))
 
 -- the marks after the operation at a position has left, and another has joined the history or none
-pub marks_left : (h w older ops : List Op) (k : ℕ) (marks left : List Bool) → marks ≡ due_marks h w → left ≡ remove marks k → older ≡ h → ops ≡ remove w k → left ≡ due_marks older ops
+pub marks_left : (h w older ops : List Op) (k : ℕ) (marks left : List Bool) → marks ≡ due_marks h w → left ≡ remove marks k → older ≡ h → ops ≡ remove w k
+    → left ≡ due_marks older ops
 marks_left h w older ops k marks left is leaves same rest =
     leaves
     ∙ ap (λ (l : List Bool). remove l k) is

@@ -1,5 +1,6 @@
 -- The positions of a run that joins a history.
-use Rattle.std.proofs.Common.{[], ap, append-nil, arith, drop, false, get_or, inl, inr, length, length-append, List, refl, subst, suc, sym, take, true, zero, ℕ, ◌++◌, ◌+◌, ◌-◌, ◌<◌, ◌||◌, ◌∙◌, ◌∷◌, ◌≡◌, ◌≤◌}
+use Rattle.std.proofs.Common.{[], ap, append-nil, arith, drop, false, get_or, inl, inr, length, length-append, List, refl, subst, suc, sym, take, true, zero, ℕ, ◌++◌, ◌+◌, ◌-◌}
+use Rattle.std.proofs.Common.{◌<◌, ◌||◌, ◌∙◌, ◌∷◌, ◌≡◌, ◌≤◌}
 use Rattle.std.specs.Prelude.{All, if◌then◌else◌, None, Option, option_and_then, reverse, slice_get, Some}
 use Rattle.std.proofs.lemmas.List.Elements.{All-cons, All-nil, All-weaker}
 use Rattle.std.proofs.lemmas.List.{reverse-append}
@@ -15,24 +16,24 @@ use Rattle.fugue_ids.specs.declared.op.Op.{Op}
 use Rattle.fugue_ids.specs.declared.op.Op.TheVariants.{Delete, Text}
 use Rattle.fugue_ids.specs.declared.run.RunStart.{RunStart}
 use Rattle.fugue_ids.proofs.RunLemmas.{none_behind, one_behind, typed-append}
+use Rattle.op_runs.proofs.DeletionLemmas.{deletes-append, length-deletes}
 use Rattle.origin_model.specs.edits.Edits.{ReadyInTurn, history_with}
 use Rattle.origin_model.specs.operations.History.{has_op, holds}
 use Rattle.origin_model.proofs.SharedLemmas.{has-append, holds-older}
 use Rattle.origin_model.proofs.edits.MadeLemmas.{extended-append, join_at_end}
 use Rattle.stretch_map.specs.Rules.{AreFree}
 use Rattle.stretch_map.specs.declared.follows.Position.{Position}
-use Rattle.op_runs.specs.Deletions.{deletes_by}
+use Rattle.op_runs.specs.Deletions.{deletes_up}
 use Rattle.op_runs.specs.Repeats.{same_front}
-use Rattle.replica_core.specs.Deleting.{deletes_from}
 use Rattle.replica_core.specs.Due.{newest_id}
 use Rattle.replica_core.specs.Index.{IsHistoryIndex, sections_and_notes, with_positions}
 use Rattle.replica_core.proofs.FeedingLemmas.{length-front, length-run}
-use Rattle.replica_core.proofs.DeletingLemmas.{deletes_parted, length-from}
 use Rattle.replica_core.proofs.IndexLemmas.{is_new, noted_position, noted_target, unheld_free, untargeted_free}
 use Rattle.replica_core.proofs.RunLemmas.{length-extended}
 
 -- the identifiers of a run that is Ready in its turn are not held
-run_unheld : (id s : Identifier) (l r : Option Identifier) (text : List ℕ) (h : List Op) (k : ℕ) → ReadyInTurn h (in_a_row id s l r text) → k < length text → holds h (id_behind id k) ≡ false
+run_unheld : (id s : Identifier) (l r : Option Identifier) (text : List ℕ) (h : List Op) (k : ℕ) → ReadyInTurn h (in_a_row id s l r text) → k < length text
+    → holds h (id_behind id k) ≡ false
 run_unheld id s l r [] h k ready less = absurd (omega (arith, less))
 run_unheld id s l r (c ∷ text) h zero ready less = ap (holds h) (none_behind id) ∙ (is_new h (Text id s l r c) ready.0).1
 run_unheld id s l r (c ∷ text) h (suc k) ready less =
@@ -41,7 +42,8 @@ run_unheld id s l r (c ∷ text) h (suc k) ready less =
     false_from_ne_true _ (λ t. true≢false (sym (holds-older first h (id_behind id (suc k)) t) ∙ ap (holds (first ∷ h)) (sym (one_behind id k)) ∙ later))
 
 -- so they have no positions
-pub run_free : (m t : FinMap id_cmp Position) (h : List Op) (start : RunStart) (text : List ℕ) → IsHistoryIndex m t h → ReadyInTurn h (run_from start text) → AreFree (get m) start.id (length text)
+pub run_free : (m t : FinMap id_cmp Position) (h : List Op) (start : RunStart) (text : List ℕ) → IsHistoryIndex m t h → ReadyInTurn h (run_from start text)
+    → AreFree (get m) start.id (length text)
 run_free m t h start text index ready =
     unheld_free m t h start.id (length text) index (λ k less. run_unheld start.id start.section start.left start.right text h k ready less)
 
@@ -81,14 +83,16 @@ letters_noted m t h start text (suc n) within index =
     let b : length (run_from start front) ≡ length front = length-run start front in
     let c : length front ≡ n = length-front text n (omega (arith, within)) in
     subst (IsHistoryIndex (with_positions start.id (length h) (suc n) m) t) (sym (one_more h start text n less))
-    (noted_position (text_by (start_behind start n) (get_or text n 0)) (id_behind start.id n) before (with_positions start.id (length h) n m) (with_positions start.id (length h) (suc n) m) t
+    (noted_position (text_by (start_behind start n) (get_or text n 0)) (id_behind start.id n) before (with_positions start.id (length h) n m)
+    (with_positions start.id (length h) (suc n) m) t
     (length h + n) refl refl (letters_noted m t h start text n (omega (arith, within)) index) (omega (arith, a, b, c)))
 
 -- the positions of a run
 pub run_noted : (m t : FinMap id_cmp Position) (h : List Op) (start : RunStart) (text : List ℕ) → IsHistoryIndex m t h
     → IsHistoryIndex (with_positions start.id (length h) (length text) m) t (history_with h (run_from start text))
 run_noted m t h start text index =
-    subst (λ z. IsHistoryIndex (with_positions start.id (length h) (length text) m) t (history_with h (run_from start z))) (all text) (letters_noted m t h start text (length text) (omega arith) index)
+    subst (λ z. IsHistoryIndex (with_positions start.id (length h) (length text) m) t (history_with h (run_from start z))) (all text)
+    (letters_noted m t h start text (length text) (omega arith) index)
   where
     all : (text : List ℕ) → take (length text) text ≡ text
     all [] = refl
@@ -101,7 +105,7 @@ back_again ops run new old n is len gone =
     gone ∙ (λ i. take (length (is i) - n) (is i)) ∙ ap (λ j. take j (ops ++ run)) k ∙ take-append_seam ops run
 
 -- Deletes of neighbours that are Ready in their turn are not there
-row_new : (k n : ℕ) (x : Identifier) (h : List Op) → ReadyInTurn h (deletes_from x n) → k < n → has_op h (Delete (id_behind x k)) ≡ false
+row_new : (k n : ℕ) (x : Identifier) (h : List Op) → ReadyInTurn h (deletes_up x n) → k < n → has_op h (Delete (id_behind x k)) ≡ false
 row_new k zero x h ready less = absurd (omega (arith, less))
 row_new zero (suc n) x h ready less = ap (λ y. has_op h (Delete y)) (none_behind x) ∙ (is_new h (Delete x) ready.0).0
 row_new (suc k) (suc n) x h ready less =
@@ -109,32 +113,28 @@ row_new (suc k) (suc n) x h ready less =
     false_from_ne_true _ (λ t. true≢false (sym (or_right _ _ t) ∙ ap (λ y. has_op (Delete x ∷ h) (Delete y)) (sym (one_behind x k)) ∙ later))
 
 -- so their targets have no positions
-pub row_free : (m t : FinMap id_cmp Position) (h : List Op) (x : Identifier) (n : ℕ) → IsHistoryIndex m t h → ReadyInTurn h (deletes_from x n) → AreFree (get t) x n
+pub row_free : (m t : FinMap id_cmp Position) (h : List Op) (x : Identifier) (n : ℕ) → IsHistoryIndex m t h → ReadyInTurn h (deletes_up x n) → AreFree (get t) x n
 row_free m t h x n index ready = untargeted_free m t h x n index (λ k less. row_new k n x h ready less)
 
 -- none of them is a Section or a Note
-pub row_listed : (n : ℕ) (x : Identifier) (h : List Op) → sections_and_notes (history_with h (deletes_from x n)) ≡ sections_and_notes h
+pub row_listed : (n : ℕ) (x : Identifier) (h : List Op) → sections_and_notes (history_with h (deletes_up x n)) ≡ sections_and_notes h
 row_listed zero x h = refl
 row_listed (suc n) x h = row_listed n (next_id x) (Delete x ∷ h) ∙ append-nil (sections_and_notes h)
 
 -- their positions
-pub row_noted : (m t : FinMap id_cmp Position) (h : List Op) (x : Identifier) (n : ℕ) → IsHistoryIndex m t h → IsHistoryIndex m (with_positions x (length h) n t) (history_with h (deletes_from x n))
+pub row_noted : (m t : FinMap id_cmp Position) (h : List Op) (x : Identifier) (n : ℕ) → IsHistoryIndex m t h
+    → IsHistoryIndex m (with_positions x (length h) n t) (history_with h (deletes_up x n))
 row_noted m t h x zero index = index
 row_noted m t h x (suc n) index =
-    let before : List Op = history_with h (deletes_from x n) in
+    let before : List Op = history_with h (deletes_up x n) in
     let last : Op = Delete (id_behind x n) in
     let up : suc n ≡ n + 1 = omega arith in
-    let longer : history_with h (deletes_from x (suc n)) ≡ last ∷ before =
-    ap (λ k. history_with h (deletes_from x k)) up ∙ ap (history_with h) (deletes_parted n 1 x) ∙ extended-append h (deletes_from x n) (last ∷ []) in
-    let len : length before ≡ length h + length (deletes_from x n) = length-extended (deletes_from x n) h in
+    let longer : history_with h (deletes_up x (suc n)) ≡ last ∷ before =
+    ap (λ k. history_with h (deletes_up x k)) up ∙ ap (history_with h) (deletes-append false x n 1) ∙ extended-append h (deletes_up x n) (last ∷ []) in
+    let len : length before ≡ length h + length (deletes_up x n) = length-extended (deletes_up x n) h in
     subst (IsHistoryIndex m (with_positions x (length h) (suc n) t)) (sym longer)
     (noted_target last (id_behind x n) before m (with_positions x (length h) n t) (with_positions x (length h) (suc n) t) (length h + n) refl refl
-    (row_noted m t h x n index) (omega (arith, len, length-from n x)))
-
--- in a list of operations they are Deletes of neighbours forwards
-pub row_up : (n : ℕ) (x : Identifier) → deletes_by false x n ≡ deletes_from x n
-row_up zero x = refl
-row_up (suc n) x = ap (λ z. Delete x ∷ z) (row_up n (next_id x))
+    (row_noted m t h x n index) (omega (arith, len, length-deletes false x n)))
 
 -- operations that are appended to a list join the history that it is of
 pub appended_joins : (ops new run : List Op) → new ≡ ops ++ run → reverse new ≡ history_with (reverse ops) run
@@ -146,7 +146,8 @@ appended_joins ops new run is =
 turned_found : (ops : List Op) (op : Op) → has_op ops op ≡ true → has_op (reverse ops) op ≡ true
 turned_found [] op found = found
 turned_found (o ∷ ops) op found =
-    let longer : has_op (reverse (o ∷ ops)) op ≡ has_op (reverse ops) op || has_op (o ∷ []) op = ap (λ z. has_op z op) (reverse-append (o ∷ []) ops) ∙ has-append (reverse ops) (o ∷ []) op in
+    let longer : has_op (reverse (o ∷ ops)) op ≡ has_op (reverse ops) op || has_op (o ∷ []) op =
+    ap (λ z. has_op z op) (reverse-append (o ∷ []) ops) ∙ has-append (reverse ops) (o ∷ []) op in
     elim (or_cases (op_eq o op) (has_op ops op) found) [
       | inl here ↦ longer ∙ or_right _ _ (or_left _ _ here)
       | inr there ↦ longer ∙ or_left _ _ (turned_found ops op there)
@@ -204,7 +205,8 @@ module _ (ops : List Op) (position : ℕ) (start : RunStart) (text : List ℕ) w
   repeated_there =
       history_has ops (run_from start (take count text))
       (subst (All (λ o. has_op ops o ≡ true)) (front_of_run start text count)
-      (All-weaker (λ o. has_op (drop position ops) o ≡ true) (λ o. has_op ops o ≡ true) (behind_has position ops) (take count (run_from start text)) (front_has (drop position ops) (run_from start text))))
+      (All-weaker (λ o. has_op (drop position ops) o ≡ true) (λ o. has_op ops o ≡ true) (behind_has position ops) (take count (run_from start text))
+      (front_has (drop position ops) (run_from start text))))
 
 -- The last operation goes
 

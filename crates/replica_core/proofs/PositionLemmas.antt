@@ -1,5 +1,6 @@
 -- Where a list has the first member that passes a test.
-use Rattle.std.proofs.Common.{◌≡◌, refl, sym, ◌∙◌, ap, ℕ, zero, suc, ◌+◌, ◌<◌, ◌≤◌, List, [], ◌∷◌, length, drop, get_or, Bool, true, false, cond, arith, inl, inr, ltb, length-drop, length-take, take, ◌-◌}
+use Rattle.std.proofs.Common.{◌≡◌, refl, sym, ◌∙◌, ap, ℕ, zero, suc, ◌+◌, ◌<◌, ◌≤◌, List, [], ◌∷◌, length, drop, get_or, Bool, true, false, cond, arith, inl, inr, ltb, length-drop}
+use Rattle.std.proofs.Common.{length-take, take, ◌-◌}
 use Rattle.std.specs.Prelude.{Some, None, All, option_map, position}
 use Rattle.std.specs.List.{position_or_len}
 use Rattle.std.proofs.lemmas.Bool.{cases_Bool, cases_lt, le-ltb, lt-ltb, ltb-true, ltb-false, true≢false}
@@ -75,7 +76,8 @@ module _ {X : Type 0} (p : X → Bool) (xs part : List X) (c : ℕ) (d : X) (wit
   part_passes i there =
       let f = position-Some p part i d there in
       let below : c + i < length xs = omega (arith, f.0, part_within) in
-      let first : position_or_len p xs ≡ c + i = position_or_len_is p xs (c + i) d (omega (arith, below)) (fails_in i (omega (arith, f.0)) f.2) (λ l. ap p (sym (part_at i f.0)) ∙ f.1) in
+      let first : position_or_len p xs ≡ c + i =
+      position_or_len_is p xs (c + i) d (omega (arith, below)) (fails_in i (omega (arith, f.0)) f.2) (λ l. ap p (sym (part_at i f.0)) ∙ f.1) in
       rw (first, lt-ltb (c + i) (length xs) below) refl
 
   -- none of its members passes

@@ -1,5 +1,6 @@
 -- What is so of every replica stays so.
-use Rattle.std.proofs.Common.{◌≡◌, ◌≢◌, refl, sym, ◌∙◌, ap, subst, ℕ, zero, suc, ◌+◌, ◌<◌, ◌≤◌, length, List, [], ◌∷◌, ◌++◌, Bool, true, false, nat_eq, arith, append_assoc, length-append, get_or}
+use Rattle.std.proofs.Common.{◌≡◌, ◌≢◌, refl, sym, ◌∙◌, ap, subst, ℕ, zero, suc, ◌+◌, ◌<◌, ◌≤◌, length, List, [], ◌∷◌, ◌++◌, Bool, true, false, nat_eq, arith, append_assoc}
+use Rattle.std.proofs.Common.{length-append, get_or}
 use Rattle.std.specs.Prelude.{if◌then◌else◌, Option, Some, None, All, AllPairs, remove, slice_get}
 use Rattle.std.proofs.lemmas.Bool.{or_parts, or_from, true≢false, eqb-false, ne_eqb, false_from_ne_true}
 use Rattle.std.proofs.lemmas.List.Elements.{All-nil, All-cons, All-append}
@@ -154,7 +155,8 @@ stands_same s held same t = subst (λ (x : Held). IsSound (record s { held = x }
 pub stands_by_accept : (s : State) (new : List Op) (op : Op) → answer s.hold s.most s.held op ≡ Accepted → new ≡ op ∷ s.held.history → IsSound s
     → IsSound (record s { held = record { history = new; waiting = s.held.waiting } })
 stands_by_accept s new op answered is t =
-    subst (λ (h : List Op). IsSound (record s { held = record { history = h; waiting = s.held.waiting } })) (sym is) (stands_accepted s op t (kept_new s.hold s.most s.held op (ap is_kept answered)) (accepted_is_ready s.hold s.most s.held op answered))
+    subst (λ (h : List Op). IsSound (record s { held = record { history = h; waiting = s.held.waiting } })) (sym is)
+    (stands_accepted s op t (kept_new s.hold s.most s.held op (ap is_kept answered)) (accepted_is_ready s.hold s.most s.held op answered))
 
 -- an operation whose answer was to be looked up came to wait
 pub stands_by_push : (s : State) (inbox new : OpenWaiting) (op : Op) → inbox.ops ≡ s.held.waiting → inbox.hold ≡ s.hold

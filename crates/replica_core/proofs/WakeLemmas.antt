@@ -1,5 +1,6 @@
 -- When an operation joins the history, what does not rest on it is decided as before.
-use Rattle.std.proofs.Common.{◌≡◌, refl, sym, ◌∙◌, ap, ℕ, zero, suc, ◌+◌, ◌<◌, ◌≤◌, length, List, [], ◌∷◌, ◌++◌, Bool, true, false, nat_eq, arith, append_assoc, length-append, inl, inr, drop, get_or, subst, ◌≢◌}
+use Rattle.std.proofs.Common.{◌≡◌, refl, sym, ◌∙◌, ap, ℕ, zero, suc, ◌+◌, ◌<◌, ◌≤◌, length, List, [], ◌∷◌, ◌++◌, Bool, true, false, nat_eq, arith, append_assoc, length-append, inl}
+use Rattle.std.proofs.Common.{inr, drop, get_or, subst, ◌≢◌}
 use Rattle.std.specs.Prelude.{if◌then◌else◌, Option, Some, None, All, AllPairs, map, set, slice_get}
 use Rattle.std.specs.List.{list_any}
 use Rattle.std.proofs.lemmas.Bool.{cases_Bool, or_parts, eqb-true, eq-eqb, true≢false, and_parts, and_from}
@@ -95,7 +96,8 @@ abbrev pub all_tried : (Op → Bool) → List Op → List ℕ → List Bool → 
 all_tried test ops [] marks = marks
 all_tried test ops (position ∷ positions) marks = all_tried test ops positions (tried test ops position marks)
 
-tried-some : (test : Op → Bool) (ops : List Op) (position : ℕ) (marks : List Bool) (op : Op) → slice_get ops position ≡ Some op → tried test ops position marks ≡ set marks position (test op)
+tried-some : (test : Op → Bool) (ops : List Op) (position : ℕ) (marks : List Bool) (op : Op) → slice_get ops position ≡ Some op
+    → tried test ops position marks ≡ set marks position (test op)
 tried-some test ops position marks op e = rw (e, tried)
 
 naming-yes : (at : ℕ) (i : Identifier) (x : Op) (ops : List Op) → is_naming i x ≡ true → positions_from at (is_naming i) (x ∷ ops) ≡ at ∷ positions_from (suc at) (is_naming i) ops
@@ -115,7 +117,8 @@ tried_all : (f g : Op → Bool) (i : Identifier) (whole front ops : List Op) (at
     → all_tried g whole (positions_from at (is_naming i) ops) marks ≡ before ++ map g ops
 tried_all f g i whole front [] at before marks is at_front at_before marked others = marked
 tried_all f g i whole front (x ∷ ops) at before marks is at_front at_before marked others =
-    let go : (b : Bool) (after : List Bool) → b ≡ g x → after ≡ before ++ b ∷ map f ops → all_tried g whole (positions_from (suc at) (is_naming i) ops) after ≡ before ++ g x ∷ map g ops =
+    let go : (b : Bool) (after : List Bool) → b ≡ g x → after ≡ before ++ b ∷ map f ops
+    → all_tried g whole (positions_from (suc at) (is_naming i) ops) after ≡ before ++ g x ∷ map g ops =
     λ b after same now.
     tried_all f g i whole (front ++ x ∷ []) ops (suc at) (before ++ b ∷ []) after
     (is ∙ sym (append_assoc front (x ∷ []) ops))
@@ -171,7 +174,8 @@ naming_below : (at : ℕ) (i : Identifier) (ops : List Op) (k p : ℕ) → slice
 naming_below at i [] k p e = cc
 naming_below at i (x ∷ ops) k p e =
     elim (cases_Bool (is_naming i x)) [
-      | inl yes_ ↦ first (positions_from (suc at) (is_naming i) ops) k (λ j d. naming_below (suc at) i ops j p d) (ap (λ (l : List ℕ). slice_get l k) (sym (naming-yes at i x ops yes_)) ∙ e)
+      | inl yes_ ↦ first (positions_from (suc at) (is_naming i) ops) k (λ j d. naming_below (suc at) i ops j p d)
+          (ap (λ (l : List ℕ). slice_get l k) (sym (naming-yes at i x ops yes_)) ∙ e)
       | inr no_ ↦ omega (arith, naming_below (suc at) i ops k p (ap (λ (l : List ℕ). slice_get l k) (sym (naming-no at i x ops no_)) ∙ e))
     ]
   where

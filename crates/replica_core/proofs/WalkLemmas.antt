@@ -1,5 +1,6 @@
 -- A walk over the Sections and Notes alone. What holds before an operation, and is not changed by those between them, holds behind all.
-use Rattle.std.proofs.Common.{Bool, List, [], ap, append_assoc, arith, drop, false, get_or, inl, inr, length, refl, reverse, subst, suc, sym, take, ℕ, ◌+◌, ◌++◌, ◌<◌, ◌∙◌, ◌∷◌, ◌≡◌, ◌≤◌}
+use Rattle.std.proofs.Common.{Bool, List, [], ap, append_assoc, arith, drop, false, get_or, inl, inr, length, refl, reverse, subst, suc, sym, take, ℕ, ◌+◌, ◌++◌, ◌<◌, ◌∙◌, ◌∷◌}
+use Rattle.std.proofs.Common.{◌≡◌, ◌≤◌}
 use Rattle.std.proofs.lemmas.Bool.{cases_Bool}
 use Rattle.std.proofs.lemmas.List.{append-nil, drop_more, length-drop, length-reverse, reverse-append, take_all, take_more, drop_all}
 use Rattle.std.proofs.lemmas.Option.{slice_get_read}
@@ -13,7 +14,8 @@ passed_more xs i x l e =
     ap reverse (take_more xs i x l) ∙ reverse-append (take i xs) (get_or xs i x ∷ []) ∙ ap (λ z. z ∷ reverse (take i xs)) (sym e)
 
 -- what is so of those that were passed, and of one more
-pub passed_step : {X : Type 0} → (P : List X → Type 0) (xs : List X) (i : ℕ) (x : X) → i < length xs → x ≡ get_or xs i x → P (x ∷ reverse (take i xs)) → P (reverse (take (i + 1) xs))
+pub passed_step : {X : Type 0} → (P : List X → Type 0) (xs : List X) (i : ℕ) (x : X) → i < length xs → x ≡ get_or xs i x → P (x ∷ reverse (take i xs))
+    → P (reverse (take (i + 1) xs))
 passed_step P xs i x l e p = subst P (sym (passed_more xs i x l e)) p
 
 -- all are passed
@@ -93,7 +95,8 @@ module _ (P : ℕ → Type 0) (ops : List Op)
     passed i op rest e other p =
         subst P (one_more i) (between i op (more_there i op rest e) (here i op rest e).0 other p)
 
-    reach : (rest : List Op) (i : ℕ) (positions left : List ℕ) (k p : ℕ) → drop i ops ≡ rest → P i → p ∷ left ≡ positions_from i rest → drop (k + 1) positions ≡ left → StandsAt P ops positions k p
+    reach : (rest : List Op) (i : ℕ) (positions left : List ℕ) (k p : ℕ) → drop i ops ≡ rest → P i → p ∷ left ≡ positions_from i rest → drop (k + 1) positions ≡ left
+        → StandsAt P ops positions k p
     reach [] i positions left k p e holds is on = cc
     reach (op ∷ rest) i positions left k p e holds is on =
         elim (cases_Bool (is_section_or_note op)) [

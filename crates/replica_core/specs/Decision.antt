@@ -3,10 +3,14 @@ use Rattle.std.specs.Prelude.{Bool, true, false, if◌then◌else◌}
 use Rattle.causal_inbox.specs.declared.index.Found.{Found}
 use Rattle.causal_inbox.specs.declared.index.Found.TheVariants.{Same, Clash, Absent}
 use Rattle.origin_model.specs.declared.operations.Verdict.{Verdict}
-use Rattle.origin_model.specs.declared.operations.Verdict.TheVariants.{Again as AgainOnHistory, Conflict as ConflictOnHistory, Stray as StrayOnHistory, Missing as MissingOnHistory, Ready as ReadyOnHistory}
+use Rattle.origin_model.specs.declared.operations.Verdict.TheVariants.{Again as AgainOnHistory, Conflict as ConflictOnHistory}
+use Rattle.origin_model.specs.declared.operations.Verdict.TheVariants.{Stray as StrayOnHistory, Missing as MissingOnHistory}
+use Rattle.origin_model.specs.declared.operations.Verdict.TheVariants.{Ready as ReadyOnHistory}
 use Rattle.origin_model.specs.taking.Taking.{Answer, Again, Conflict, Stray, TooMany, Accepted, Full, Waits}
 use Rattle.replica_core.specs.declared.replica.Decision.{Decision}
-use Rattle.replica_core.specs.declared.replica.Decision.TheVariants.{Again as DecidedAgain, Conflict as DecidedConflict, Stray as DecidedStray, TooMany as DecidedTooMany, Ready as DecidedReady, Missing as DecidedMissing}
+use Rattle.replica_core.specs.declared.replica.Decision.TheVariants.{Again as DecidedAgain, Conflict as DecidedConflict}
+use Rattle.replica_core.specs.declared.replica.Decision.TheVariants.{Stray as DecidedStray, TooMany as DecidedTooMany}
+use Rattle.replica_core.specs.declared.replica.Decision.TheVariants.{Ready as DecidedReady, Missing as DecidedMissing}
 
 -- the first line that applies
 abbrev pub decision_of : Found → Verdict → (at_most : Bool) → Decision

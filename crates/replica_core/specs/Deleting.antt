@@ -3,7 +3,6 @@ use Rattle.std.specs.Prelude.{◌≡◌, ℕ, zero, suc, ◌<◌, false, List, [
 use Rattle.fugue_ids.specs.Identifiers.{Identifier}
 use Rattle.fugue_ids.specs.Runs.{id_behind, next_id}
 use Rattle.fugue_ids.specs.declared.op.Op.{Op}
-use Rattle.origin_model.specs.edits.Edits.{deletes_of}
 use Rattle.origin_model.specs.order.Laws.{IsIn}
 use Rattle.origin_model.specs.order.Printed.{is_hidden}
 use Rattle.origin_model.specs.declared.operations.Place.TheVariants.{Section as within}
@@ -12,10 +11,6 @@ use Rattle.origin_model.specs.declared.operations.Place.TheVariants.{Section as 
 abbrev pub ids_from : Identifier → ℕ → List Identifier
 ids_from x zero = []
 ids_from x (suc k) = x ∷ ids_from (next_id x) k
-
--- their Deletes
-abbrev pub deletes_from : Identifier → ℕ → List Op
-deletes_from x k = deletes_of (ids_from x k)
 
 -- elements of the section s
 abbrev pub AreWithin : Identifier → List Op → List Identifier → Type 0

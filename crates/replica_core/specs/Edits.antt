@@ -25,7 +25,8 @@ typed_at number spot new = typed_texts number spot.counter spot.section spot.lef
 abbrev pub ComeInTurn : List Op → List Op → List Op → Type 0
 ComeInTurn waiting history [] = Unit {0}
 ComeInTurn waiting history (op ∷ ops) =
-    (verdict history op ≡ Ready) × (id_held waiting (id_of op) ≡ false) × IsSettled (record { history = op ∷ history; waiting = waiting }) × ComeInTurn waiting (op ∷ history) ops
+    (verdict history op ≡ Ready) × (id_held waiting (id_of op) ≡ false) × IsSettled (record { history = op ∷ history; waiting = waiting })
+    × ComeInTurn waiting (op ∷ history) ops
 
 -- a settled replica can accept the operations, one after another
 pub record CanJoin (s : State) (ops : List Op) : Type 0 where

@@ -1,4 +1,4 @@
--- Taking in operations one after another by one call, as the Texts of a run.
+-- Taking in operations one after another by one call, as the Texts of a run or Deletes of neighbours.
 use Rattle.std.specs.Prelude.{◌≡◌, ◌↔◌, ◌<◌, ◌+◌, ◌++◌, ◌∷◌, List, false, length, ℕ}
 use Rattle.fugue_ids.specs.Identifiers.{Identifier}
 use Rattle.fugue_ids.specs.Runs.{id_behind}
@@ -44,13 +44,15 @@ pub record TakesInSome (ops : List Op) (old : State) (before : Tally) (fault : F
   pub taken : TakesInAll old reached front before counts
   pub too_many : (fault ≡ FedTooMany old.most) ↔ (answer reached.hold reached.most reached.held op ≡ TooMany)
 
--- a fault of `feed_run`: the operation left what its own fault of `feed` leaves
+-- a fault of `feed_run` or `feed_deletes`: the operation left what its own fault of `feed` leaves
 pub record StopsFeeding (ops : List Op) (old new : State) (before after : Tally) (fault : FeedFault) : Type 0 where
   pub some : TakesInSome ops old before fault
   pub leaves : LeavesAfterFault some.reached new some.op some.counts after fault
 
--- a fault of `feed_run_keeping`: the operation left what its own fault of `feed_keeping` leaves, and what was kept of those before it is behind the kept ones
-pub record StopsKeeping (ops : List Op) (old new : State) (before after : Tally) (kept kept_after : List Op) (fault : FeedFault) : Type 0 where
+-- a fault of `feed_run_keeping` or `feed_deletes_keeping`: the operation left what its own fault of `feed_keeping`
+-- leaves, and what was kept of those before it is behind the kept ones
+pub record StopsKeeping (ops : List Op) (old new : State) (before after : Tally) (kept kept_after : List Op)
+    (fault : FeedFault) : Type 0 where
   pub some : TakesInSome ops old before fault
   pub leaves : LeavesUnkept some.reached new some.op some.counts after fault
   pub kept_are : kept_after ≡ kept ++ kept_from old.hold old.most old.held some.front

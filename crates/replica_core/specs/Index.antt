@@ -1,5 +1,7 @@
--- Where accepted operations are found: the positions of those with identifiers, of the Deletes by their targets, and of the Sections and Notes.
-use Rattle.std.specs.Prelude.{◌≡◌, ℕ, Bool, true, false, if◌then◌else◌, Option, Some, None, List, [], ◌∷◌, ◌++◌, length, option_map, option_and_then, slice_get}
+-- Where accepted operations are found: the positions of those with identifiers, of the Deletes by their targets, and of
+-- the Sections and Notes.
+use Rattle.std.specs.Prelude.{◌≡◌, ℕ, Bool, true, false, if◌then◌else◌, Option, Some, None, List, [], ◌∷◌, ◌++◌, length, option_map}
+use Rattle.std.specs.Prelude.{option_and_then, slice_get}
 use Rattle.std.specs.FinMap.{FinMap, get}
 use Rattle.fugue_ids.specs.Identifiers.{Identifier, id_cmp}
 use Rattle.fugue_ids.specs.Ops.{key_of}

@@ -2,7 +2,8 @@
 use Rattle.std.specs.Prelude.{◌≡◌, ◌≢◌, ◌⊎◌, ◌+◌, ◌++◌, ◌∷◌, [], List, length}
 use Rattle.fugue_ids.specs.declared.op.Op.{Op}
 use Rattle.origin_model.specs.declared.taking.Tally.{Tally}
-use Rattle.origin_model.specs.taking.Taking.{MeetsNoLimit, TooMany, IsSettled, answer, held_from, intake, intake_counted, kept_from, no_counts, tally_from}
+use Rattle.origin_model.specs.taking.Taking.{MeetsNoLimit, TooMany, IsSettled, answer, held_from, intake, intake_counted, kept_from}
+use Rattle.origin_model.specs.taking.Taking.{no_counts, tally_from}
 use Rattle.replica_core.specs.declared.keeping.FeedFault.{FeedFault}
 use Rattle.replica_core.specs.declared.keeping.FeedFault.TheVariants.{TooMany as FedTooMany, NoMemory}
 use Rattle.origin_model.specs.edits.State.{State}
@@ -16,12 +17,14 @@ pub record TakesInKeeping (old new : State) (op : Op) (before after : Tally) (ke
   pub once : total after + length new.held.waiting ≡ total before + length old.held.waiting + 1
   pub kept_are : kept_after ≡ kept ++ kept_from old.hold old.most old.held (op ∷ [])
 
--- Nothing changed, or the operation stands and settling stopped on its way. Want of memory may come before it is known what the answer is, but an operation that is one too many is never told as want of memory.
+-- Nothing changed, or the operation stands and settling stopped on its way. Want of memory may come before it is known
+-- what the answer is, but an operation that is one too many is never told as want of memory.
 abbrev pub LeavesUnkept : (old new : State) → Op → (before after : Tally) → FeedFault → Type 0
 LeavesUnkept old new op before after (FedTooMany limit) =
     (limit ≡ old.most) × (answer old.hold old.most old.held op ≡ TooMany) × (new ≡ old) × (after ≡ before)
 LeavesUnkept old new op before after NoMemory =
-    (new ≡ record old { held = new.held }) × (((new ≡ old) × (after ≡ before)) ⊎ StandsPartly old.hold old.most old.held new.held op before after)
+    (new ≡ record old { held = new.held })
+    × (((new ≡ old) × (after ≡ before)) ⊎ StandsPartly old.hold old.most old.held new.held op before after)
     × (answer old.hold old.most old.held op ≢ TooMany)
 
 -- a replica that takes operations in, what became of them so far, and copies of those that were kept

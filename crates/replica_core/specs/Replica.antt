@@ -7,7 +7,8 @@ use Rattle.origin_model.specs.edits.State.{State, IsSound}
 
 -- a replica of this number, with these limits, accepted operations and waiting ones
 abbrev pub replica_state : (number hold most : ℕ) → List Op → OpenWaiting → State
-replica_state number hold most history inbox = record { number = number; hold = hold; most = most; held = record { history = history; waiting = inbox.ops } }
+replica_state number hold most history inbox =
+    record { number = number; hold = hold; most = most; held = record { history = history; waiting = inbox.ops } }
 
 -- as many may wait as the replica tells, and the marks are those of the operations that can leave
 pub record IsKept (s : State) (inbox : OpenWaiting) (due : List Bool) : Type 0 where

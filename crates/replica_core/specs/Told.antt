@@ -4,13 +4,15 @@ use Rattle.fugue_ids.specs.declared.op.Op.{Op}
 use Rattle.origin_model.specs.operations.Verdict.{verdict}
 use Rattle.origin_model.specs.declared.operations.Verdict.TheVariants.{Ready}
 use Rattle.origin_model.specs.declared.taking.Tally.{Tally}
-use Rattle.origin_model.specs.taking.Taking.{Held, Answer, Again, Conflict, Stray, TooMany, Accepted, Full, Waits, answer, held_after, is_kept, settle_step, earliest, settle, intake, answer_counted, settling_counted, IsSettled}
+use Rattle.origin_model.specs.taking.Taking.{Held, Answer, Again, Conflict, Stray, TooMany, Accepted, Full, Waits, answer, held_after}
+use Rattle.origin_model.specs.taking.Taking.{is_kept, settle_step, earliest, settle, intake, answer_counted, settling_counted, IsSettled}
 use Rattle.replica_core.specs.declared.replica.Taken.{Taken}
 use Rattle.replica_core.specs.declared.replica.Taken.TheVariants.{Accepted as TakenAccepted, Waits as TakenWaits, Again as TakenAgain}
 use Rattle.replica_core.specs.declared.replica.Settled.{Settled}
 use Rattle.replica_core.specs.declared.replica.Settled.TheVariants.{Accepted as SettledAccepted, DroppedStray}
 use Rattle.replica_core.specs.declared.replica.DeliverFault.{DeliverFault}
-use Rattle.replica_core.specs.declared.replica.DeliverFault.TheVariants.{Conflict as RefusedConflict, Stray as RefusedStray, Full as RefusedFull, TooMany as RefusedTooMany, NoMemory}
+use Rattle.replica_core.specs.declared.replica.DeliverFault.TheVariants.{Conflict as RefusedConflict, Stray as RefusedStray}
+use Rattle.replica_core.specs.declared.replica.DeliverFault.TheVariants.{Full as RefusedFull, TooMany as RefusedTooMany, NoMemory}
 use Rattle.replica_core.specs.declared.keeping.FeedFault.{FeedFault}
 use Rattle.replica_core.specs.declared.keeping.FeedFault.TheVariants.{TooMany as FedTooMany, NoMemory as FedNoMemory}
 use Rattle.replica_core.specs.Settling.{SettlesTo}
@@ -54,7 +56,8 @@ pub record StaysBelow (tally : Tally) : Type 0 where
 abbrev pub total : Tally → ℕ
 total tally = tally.accepted + tally.repeated + tally.conflict + tally.stray + tally.full
 
--- the operation stands and settling stopped on its way, before a waiting operation that joins: the tally counts what stands, and what is left of settling ends where all of it would have ended
+-- the operation stands and settling stopped on its way, before a waiting operation that joins: the tally counts what
+-- stands, and what is left of settling ends where all of it would have ended
 pub record StandsPartly (hold most : ℕ) (old new : Held) (op : Op) (before after : Tally) : Type 0 where
   pub steps : SettlesTo (held_after (answer hold most old op) old op) new
   pub counted : after ≡ settling_counted (held_after (answer hold most old op) old op) new (answer_counted (answer hold most old op) before)
@@ -65,7 +68,8 @@ pub record StandsPartly (hold most : ℕ) (old new : Held) (op : Op) (before aft
 abbrev pub LeavesAfterFault : (old new : State) → Op → (before after : Tally) → FeedFault → Type 0
 LeavesAfterFault old new op before after (FedTooMany limit) = (limit ≡ old.most) × (new ≡ old) × (after ≡ before)
 LeavesAfterFault old new op before after FedNoMemory =
-    (is_kept (answer old.hold old.most old.held op) ≡ true) × (new ≡ record old { held = new.held }) × (((new ≡ old) × (after ≡ before)) ⊎ StandsPartly old.hold old.most old.held new.held op before after)
+    (is_kept (answer old.hold old.most old.held op) ≡ true) × (new ≡ record old { held = new.held })
+    × (((new ≡ old) × (after ≡ before)) ⊎ StandsPartly old.hold old.most old.held new.held op before after)
 
 -- a step that is counted, or there was none
 abbrev pub IsTallied : (old new : Held) → (before after : Tally) → Bool → Type 0

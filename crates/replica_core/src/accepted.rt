@@ -4,6 +4,7 @@ ghost use Rattle.fugue_ids.specs.Runs.{run_from};
 ghost use Rattle.fugue_ids.specs.declared.op.Op.TheVariants.{Delete as DeleteOf};
 ghost use Rattle.op_runs.specs.Finding.{op_of};
 ghost use Rattle.op_runs.specs.Parts.{IsOther};
+ghost use Rattle.op_runs.specs.Deletions.{deletes_up};
 ghost use Rattle.origin_model.specs.edits.Edits.{ReadyInTurn, history_with};
 ghost use Rattle.origin_model.specs.operations.History.{accepted as accepted_list, has_op, holder as holder_on, holds as holds_on, place as place_in};
 ghost use Rattle.origin_model.specs.operations.Counters.{counters, IsGreatest};
@@ -11,12 +12,12 @@ ghost use Rattle.origin_model.specs.order.Printed.{manuscript as manuscript_on, 
 ghost use Rattle.origin_model.specs.operations.Verdict.{verdict as verdict_on, Lawful};
 ghost use Rattle.origin_model.specs.declared.operations.Place.TheVariants.{Catalogue as catalogue};
 ghost use Rattle.origin_model.specs.declared.operations.Verdict.TheVariants.{Ready};
-ghost use Rattle.replica_core.specs.Deleting.{AreWithin, deletes_from, ids_from};
+ghost use Rattle.replica_core.specs.Deleting.{AreWithin, ids_from};
 ghost use Rattle.replica_core.specs.Due.{newest_id as newest_id_of};
 ghost use Rattle.replica_core.specs.Feeding.{AreUnheld};
 ghost use Rattle.replica_core.specs.Index.{matches_key, newest_position, sections_and_notes as positions_in};
 ghost use Rattle.section_catalogue.specs.Contents.{place_count};
-ghost use Rattle.section_catalogue.specs.Manuscript.{GrowsBy, IsOrderedPlace, IsReadyOn, IsTextOf, Represents, PlacesStay};
+ghost use Rattle.section_catalogue.specs.Manuscript.{GrowsBy, IsOrderedPlace, IsReadyOn, IsTextOf, Represents, RepresentsSame};
 
 use crate::history::History;
 use crate::look_ups::ShownSection;
@@ -54,7 +55,7 @@ fn take_in(manuscript: &mut Manuscript, op: &OpRef<'_>) -> Result<(), NoMemory>
     requires ready { IsReadyOn manuscript.old (op_of op.now) }
     requires room { place_count manuscript.old (op_of op.now) < MOST_OPERATIONS }
     ensures ok { OnOk result (GrowsBy manuscript.old manuscript.new (op_of op.now)) }
-    ensures err { OnErr result (PlacesStay manuscript.old manuscript.new) }
+    ensures err { OnErr result (RepresentsSame manuscript.old manuscript.new) }
 {
     match op {
         OpRef::Letter(start, ch) => manuscript.insert(&start.text(*ch)),
@@ -68,7 +69,7 @@ fn take_in(manuscript: &mut Manuscript, op: &OpRef<'_>) -> Result<(), NoMemory>
 fn take_in_delete(manuscript: &mut Manuscript, target: ElementId) -> Result<(), NoMemory>
     requires { IsReadyOn manuscript.old (DeleteOf target) }
     ensures ok { OnOk result (GrowsBy manuscript.old manuscript.new (DeleteOf target)) }
-    ensures err { OnErr result (PlacesStay manuscript.old manuscript.new) }
+    ensures err { OnErr result (RepresentsSame manuscript.old manuscript.new) }
 {
     match manuscript.place_of(target) {
         Some(_) => manuscript.hide(target),
@@ -339,10 +340,10 @@ impl Accepted {
         requires some { 0 < count }
         requires counters { first.counter + count ≤ 2 ^ 32 }
         requires room { length self.old + count ≤ MOST_OPERATIONS }
-        requires ready { ReadyInTurn self.old (deletes_from first count) }
+        requires ready { ReadyInTurn self.old (deletes_up first count) }
         requires within { AreWithin section.now self.old (ids_from first count) }
-        ensures ok { OnOk result (self.new ≡ history_with self.old (deletes_from first count)) }
-        ensures err { IfErr result (λ e. self.new ≡ history_with self.old (deletes_from first e.done)) }
+        ensures ok { OnOk result (self.new ≡ history_with self.old (deletes_up first count)) }
+        ensures err { IfErr result (λ e. self.new ≡ history_with self.old (deletes_up first e.done)) }
         ensures fewer { IfErr result (λ e. e.done < count) }
     {
         let Ok(()) = self.history.push_deletes(first, count) else {

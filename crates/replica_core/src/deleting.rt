@@ -1,18 +1,20 @@
 //! Taking in Deletes of neighbours: they go in as one where nothing else is asked of them.
-ghost use Rattle.std.specs.Prelude.{◌≡◌, ◌<◌, ◌≤◌, ◌+◌, ◌^◌, ◌++◌, All, IfErr, IfOk, IfSome, IsTrue, OnOk, length, true};
-ghost use Rattle.std.specs.Prelude.{vec_len, vec_capacity};
+ghost use Rattle.std.specs.Prelude.{◌≡◌, ◌<◌, ◌≤◌, ◌+◌, ◌^◌, ◌++◌, All, IfErr, IfNone, IfOk, IfSome, IsTrue, OnOk, length, true};
 ghost use Rattle.op_runs.specs.Deletions.{deletes_up};
 ghost use Rattle.origin_model.specs.edits.State.{IsSound};
 ghost use Rattle.origin_model.specs.operations.History.{has_op};
+ghost use Rattle.origin_model.specs.declared.operations.Place.TheVariants.{Catalogue as InCatalogue, Section as InSection};
 ghost use Rattle.origin_model.specs.taking.Taking.{IsSettled, kept_from};
-ghost use Rattle.replica_core.specs.Deleting.{AreUndeleted, AreWithin, IsUndeleted, deletes_from, ids_from};
+ghost use Rattle.replica_core.specs.Deleting.{AreUndeleted, AreWithin, IsUndeleted, ids_from};
 ghost use Rattle.replica_core.specs.Edits.{CanJoin};
 ghost use Rattle.replica_core.specs.Feeding.{StopsFeeding, StopsKeeping, TakesInAll};
 ghost use Rattle.replica_core.specs.Told.{total};
 
+use crate::copies::push_row;
 use crate::open_replica::OpenReplica;
 use crate::{FeedFault, Replica};
 use fugue_ids::{ElementId, Op};
+use op_runs::OpRuns;
 use origin_model::{Lookup, Place, Role, Tally};
 
 impl Replica {
@@ -45,17 +47,17 @@ impl Replica {
         first: ElementId,
         count: u32,
         tally: &mut Tally,
-        kept: &mut Vec<Op>,
+        kept: &mut OpRuns,
     ) -> Result<(), FeedFault>
         requires settled { IsSettled self.old.held }
         requires counters { first.counter + count ≤ 2 ^ 32 }
         requires counts_rise { total tally.old + length self.old.held.waiting + count ≤ 2 ^ 31 }
         ensures ok { OnOk result (TakesInAll self.old self.new (deletes_up first count) tally.old tally.new) }
-        ensures kept { OnOk result (kept.new.items ≡ kept.old.items
+        ensures kept { OnOk result (kept.new ≡ kept.old
             ++ kept_from self.old.hold self.old.most self.old.held (deletes_up first count)) }
         ensures err { IfErr result
             (λ fault. StopsKeeping (deletes_up first count) self.old self.new tally.old tally.new
-            kept.old.items kept.new.items fault) }
+            kept.old kept.new fault) }
         ensures stands { IsSound self.new }
     {
         let fed = self.inner.feed_deletes_keeping(first, count, tally, kept);
@@ -94,17 +96,17 @@ impl OpenReplica {
         first: ElementId,
         count: u32,
         tally: &mut Tally,
-        kept: &mut Vec<Op>,
+        kept: &mut OpRuns,
     ) -> Result<(), FeedFault>
         requires settled { IsSettled self.old.state.held }
         requires counters { first.counter + count ≤ 2 ^ 32 }
         requires counts_rise { total tally.old + length self.old.state.held.waiting + count ≤ 2 ^ 31 }
         ensures ok { OnOk result (TakesInAll self.old.state self.new.state (deletes_up first count) tally.old tally.new) }
-        ensures kept { OnOk result (kept.new.items ≡ kept.old.items
+        ensures kept { OnOk result (kept.new ≡ kept.old
             ++ kept_from self.old.state.hold self.old.state.most self.old.state.held (deletes_up first count)) }
         ensures err { IfErr result
             (λ fault. StopsKeeping (deletes_up first count) self.old.state self.new.state tally.old tally.new
-            kept.old.items kept.new.items fault) }
+            kept.old kept.new fault) }
         ensures stands { IsSound self.new.state }
     {
         let _ = &self.alloc;
@@ -156,13 +158,13 @@ impl OpenReplica {
         }
     }
 
-    /// The same, with copies of those that were accepted or wait. The memory for the copies is taken first.
+    /// The same, with copies of those that were accepted or wait. The copies are made first.
     fn feed_deletes_front_keeping(
         &mut self,
         first: ElementId,
         count: u32,
         tally: &mut Tally,
-        kept: &mut Vec<Op>,
+        kept: &mut OpRuns,
     ) -> Result<u32, FeedFault>
         requires settled { IsSettled self.old.state.held }
         requires some { 0 < count }
@@ -171,11 +173,11 @@ impl OpenReplica {
         ensures some { IfOk result (λ n. 0 < n) }
         ensures within { IfOk result (λ n. n ≤ count) }
         ensures ok { IfOk result (λ n. TakesInAll self.old.state self.new.state (deletes_up first n) tally.old tally.new) }
-        ensures kept { IfOk result (λ n. kept.new.items ≡ kept.old.items
+        ensures kept { IfOk result (λ n. kept.new ≡ kept.old
             ++ kept_from self.old.state.hold self.old.state.most self.old.state.held (deletes_up first n)) }
         ensures err { IfErr result
             (λ fault. StopsKeeping (deletes_up first count) self.old.state self.new.state tally.old tally.new
-            kept.old.items kept.new.items fault) }
+            kept.old kept.new fault) }
         ensures stands { IsSound self.new.state }
     {
         let repeated = self.deleted(first, count);
@@ -187,18 +189,15 @@ impl OpenReplica {
             self.feed_keeping(Op::Delete { target: first }, tally, kept)?;
             return Ok(1);
         };
-        let Ok(()) = kept.reserve(row as usize) else {
-            return Err(FeedFault::NoMemory);
-        };
+        push_row(kept, first, row)?;
         match self.join_deletes(&section, first, row) {
             Ok(()) => {
                 tally.accepted += row;
-                push_deletes(kept, first, row);
                 Ok(row)
             }
             Err(stopped) => {
                 tally.accepted += stopped.done;
-                push_deletes(kept, first, stopped.done);
+                kept.pop((row - stopped.done) as usize);
                 Err(FeedFault::NoMemory)
             }
         }
@@ -230,7 +229,7 @@ impl OpenReplica {
         requires counters { first.counter + count ≤ 2 ^ 32 }
         ensures some { IfSome result (λ found. 0 < found.1) }
         ensures within { IfSome result (λ found. found.1 ≤ count) }
-        ensures can { IfSome result (λ found. CanJoin self.now.state (deletes_from first found.1)) }
+        ensures can { IfSome result (λ found. CanJoin self.now.state (deletes_up first found.1)) }
         ensures placed { IfSome result
             (λ found. AreWithin found.0 self.now.state.held.history (ids_from first found.1)) }
         ensures stands { IsSound self.now.state }
@@ -281,22 +280,12 @@ impl OpenReplica {
 }
 
 /// The section whose elements stand in the place, if it is one.
-fn section_of(place: &Place) -> Option<ElementId> {
+fn section_of(place: &Place) -> Option<ElementId>
+    ensures some { IfSome result (λ section. place.now ≡ InSection section) }
+    ensures none { IfNone result (place.now ≡ InCatalogue) }
+{
     match place {
         Place::Catalogue => None,
         Place::Section(section) => Some(*section),
-    }
-}
-
-/// Appends the Deletes of so many identifiers, from this one on. It takes no memory.
-fn push_deletes(ops: &mut Vec<Op>, first: ElementId, count: u32)
-    requires counters { first.counter + count ≤ 2 ^ 32 }
-    requires room { vec_len ops.old + count ≤ vec_capacity ops.old }
-    ensures { ops.new.items ≡ ops.old.items ++ deletes_up first count }
-{
-    'deletes: for done in 0..count {
-        ops.push_reserved(Op::Delete {
-            target: first.behind(done),
-        });
     }
 }

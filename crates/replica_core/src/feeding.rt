@@ -1,6 +1,6 @@
 //! Taking in a run: its letters go in as one where nothing else is asked of them.
 ghost use Rattle.std.specs.Prelude.{◌≡◌, ◌<◌, ◌≤◌, ◌+◌, ◌^◌, ◌++◌, IfErr, IfOk, IsTrue, OnErr, OnOk, length, take};
-ghost use Rattle.std.specs.Prelude.{All, vec_len, vec_capacity, true, ◌↔◌};
+ghost use Rattle.std.specs.Prelude.{All, true, ◌↔◌};
 ghost use Rattle.fugue_ids.specs.Runs.{run_from, text_by};
 ghost use Rattle.fugue_ids.specs.declared.limits.TheConstants.{MOST_OPERATIONS};
 ghost use Rattle.origin_model.specs.edits.State.{IsSound};
@@ -11,9 +11,11 @@ ghost use Rattle.origin_model.specs.taking.Taking.{IsSettled, kept_from};
 ghost use Rattle.replica_core.specs.Feeding.{AreUntouched, GoesAtOnce, StopsFeeding, StopsKeeping, TakesInAll};
 ghost use Rattle.replica_core.specs.Told.{total};
 
+use crate::copies::push_letters;
 use crate::open_replica::OpenReplica;
 use crate::{FeedFault, Replica};
-use fugue_ids::{ElementId, Op, RunStart};
+use fugue_ids::{ElementId, RunStart};
+use op_runs::OpRuns;
 use origin_model::{Tally, Verdict};
 
 impl Replica {
@@ -46,17 +48,17 @@ impl Replica {
         start: &RunStart,
         text: &[char],
         tally: &mut Tally,
-        kept: &mut Vec<Op>,
+        kept: &mut OpRuns,
     ) -> Result<(), FeedFault>
         requires settled { IsSettled self.old.held }
         requires counters { start.now.id.counter + length text.now ≤ 2 ^ 32 }
         requires counts_rise { total tally.old + length self.old.held.waiting + length text.now ≤ 2 ^ 31 }
         ensures ok { OnOk result (TakesInAll self.old self.new (run_from start.now text.now) tally.old tally.new) }
-        ensures kept { OnOk result (kept.new.items ≡ kept.old.items
+        ensures kept { OnOk result (kept.new ≡ kept.old
             ++ kept_from self.old.hold self.old.most self.old.held (run_from start.now text.now)) }
         ensures err { IfErr result
             (λ fault. StopsKeeping (run_from start.now text.now) self.old self.new tally.old tally.new
-            kept.old.items kept.new.items fault) }
+            kept.old kept.new fault) }
         ensures stands { IsSound self.new }
     {
         let fed = self.inner.feed_run_keeping(start, text, tally, kept);
@@ -99,18 +101,18 @@ impl OpenReplica {
         start: &RunStart,
         text: &[char],
         tally: &mut Tally,
-        kept: &mut Vec<Op>,
+        kept: &mut OpRuns,
     ) -> Result<(), FeedFault>
         requires settled { IsSettled self.old.state.held }
         requires counters { start.now.id.counter + length text.now ≤ 2 ^ 32 }
         requires counts_rise { total tally.old + length self.old.state.held.waiting + length text.now ≤ 2 ^ 31 }
         ensures ok { OnOk result
             (TakesInAll self.old.state self.new.state (run_from start.now text.now) tally.old tally.new) }
-        ensures kept { OnOk result (kept.new.items ≡ kept.old.items
+        ensures kept { OnOk result (kept.new ≡ kept.old
             ++ kept_from self.old.state.hold self.old.state.most self.old.state.held (run_from start.now text.now)) }
         ensures err { IfErr result
             (λ fault. StopsKeeping (run_from start.now text.now) self.old.state self.new.state tally.old tally.new
-            kept.old.items kept.new.items fault) }
+            kept.old kept.new fault) }
         ensures stands { IsSound self.new.state }
     {
         let _ = &self.alloc;
@@ -161,13 +163,13 @@ impl OpenReplica {
         Ok(count)
     }
 
-    /// The same, with copies of those that were accepted or wait. The memory for the copies is taken first.
+    /// The same, with copies of those that were accepted or wait. The copies are made first.
     fn feed_front_keeping(
         &mut self,
         start: &RunStart,
         text: &[char],
         tally: &mut Tally,
-        kept: &mut Vec<Op>,
+        kept: &mut OpRuns,
     ) -> Result<usize, FeedFault>
         requires settled { IsSettled self.old.state.held }
         requires some { 0 < length text.now }
@@ -178,12 +180,12 @@ impl OpenReplica {
         ensures ok { IfOk result
             (λ n. TakesInAll self.old.state self.new.state (run_from start.now (take n text.now))
             tally.old tally.new) }
-        ensures kept { IfOk result (λ n. kept.new.items ≡ kept.old.items
+        ensures kept { IfOk result (λ n. kept.new ≡ kept.old
             ++ kept_from self.old.state.hold self.old.state.most self.old.state.held
             (run_from start.now (take n text.now))) }
         ensures err { IfErr result
             (λ fault. StopsKeeping (run_from start.now text.now) self.old.state self.new.state tally.old tally.new
-            kept.old.items kept.new.items fault) }
+            kept.old kept.new fault) }
         ensures stands { IsSound self.new.state }
     {
         let repeated = self.repeated(start, text);
@@ -196,12 +198,12 @@ impl OpenReplica {
             self.feed_keeping(start.text(text[0]), tally, kept)?;
             return Ok(1);
         }
-        let Ok(()) = kept.reserve(count) else {
+        push_letters(kept, start, &text[..count])?;
+        let Ok(()) = self.join_run(start, &text[..count]) else {
+            kept.pop(count);
             return Err(FeedFault::NoMemory);
         };
-        self.join_run(start, &text[..count])?;
         tally.accepted += count as u32;
-        push_letters(kept, start, &text[..count]);
         Ok(count)
     }
 
@@ -269,18 +271,5 @@ impl OpenReplica {
         ensures stands { IsSound self.now.state }
     {
         self.accepted.is_free(first, count) && !self.inbox.concerns(first, count)
-    }
-}
-
-/// Appends the Texts of a run. It takes no memory.
-pub(crate) fn push_letters(ops: &mut Vec<Op>, start: &RunStart, text: &[char])
-    requires counters { start.now.id.counter + length text.now ≤ 2 ^ 32 }
-    requires room { vec_len ops.old + length text.now ≤ vec_capacity ops.old }
-    ensures { ops.new.items ≡ ops.old.items ++ run_from start.now text.now }
-{
-    let mut count = 0;
-    'letters: for ch in text {
-        ops.push_reserved(start.nth(count).text(*ch));
-        count += 1;
     }
 }

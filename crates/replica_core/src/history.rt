@@ -5,12 +5,12 @@ ghost use Rattle.fugue_ids.specs.declared.limits.TheConstants.{MOST_OPERATIONS};
 ghost use Rattle.fugue_ids.specs.declared.op.Op.{Op as AnyOp};
 ghost use Rattle.op_runs.specs.Finding.{op_of};
 ghost use Rattle.op_runs.specs.Parts.{IsOther};
+ghost use Rattle.op_runs.specs.Deletions.{deletes_up};
 ghost use Rattle.origin_model.specs.edits.Edits.{ReadyInTurn, history_with};
 ghost use Rattle.origin_model.specs.operations.History.{accepted, has_op, holder as holder_on, holds as holds_on};
 ghost use Rattle.origin_model.specs.operations.Counters.{counters, IsGreatest};
 ghost use Rattle.origin_model.specs.operations.Verdict.{fits as fits_role, verdict, Lawful};
 ghost use Rattle.origin_model.specs.declared.operations.Verdict.TheVariants.{Ready};
-ghost use Rattle.replica_core.specs.Deleting.{deletes_from};
 ghost use Rattle.replica_core.specs.Due.{newest_id as newest_id_of};
 ghost use Rattle.replica_core.specs.Feeding.{AreUnheld};
 ghost use Rattle.replica_core.specs.Index.{matches_key, newest_position, sections_and_notes as positions_in};
@@ -222,8 +222,8 @@ impl History {
     pub fn push_deletes(&mut self, first: ElementId, count: u32) -> Result<(), NoMemory>
         requires counters { first.counter + count ≤ 2 ^ 32 }
         requires room { length self.old + count ≤ MOST_OPERATIONS }
-        requires ready { ReadyInTurn self.old (deletes_from first count) }
-        ensures ok { OnOk result (self.new ≡ history_with self.old (deletes_from first count)) }
+        requires ready { ReadyInTurn self.old (deletes_up first count) }
+        ensures ok { OnOk result (self.new ≡ history_with self.old (deletes_up first count)) }
         ensures err { OnErr result (self.new ≡ self.old) }
     {
         if count == 0 {

@@ -1,15 +1,14 @@
 //! Taking in, with a copy of each operation that is kept, for those who save what was kept.
-ghost use Rattle.std.specs.Prelude.{◌≡◌, ◌↔◌, ◌<◌, ◌++◌, ◌∷◌, [], Err, OnOk, OnErr, IfErr, IfOk, vec_len, vec_capacity};
+ghost use Rattle.std.specs.Prelude.{◌≡◌, ◌↔◌, Err, OnOk, OnErr, IfErr};
 ghost use Rattle.origin_model.specs.taking.Taking.{answer, TooMany, IsSettled};
 ghost use Rattle.origin_model.specs.edits.State.{IsSound};
 ghost use Rattle.replica_core.specs.Told.{StaysBelow};
 ghost use Rattle.replica_core.specs.Keeping.{TakesInKeeping, LeavesUnkept};
 
-use crate::Replica;
 use crate::open_replica::OpenReplica;
+use crate::{Copies, Replica};
 use fugue_ids::{NoMemory, Op};
 use origin_model::Tally;
-use std::alloc::Global;
 
 /// Why an operation was not taken in to the end.
 #[derive(Clone, Copy, Debug)]
@@ -34,21 +33,21 @@ impl From<NoMemory> for FeedFault {
 impl Replica {
     /// Feeds the operation, and appends a copy of it to `kept` where it was accepted or waits.
     ///
-    /// The memory for the copy is taken first, but for where as many are held as may be: then nothing more is kept, and
-    /// one that is too many is told as that and not as want of memory. After a fault `kept` is as before.
-    pub fn feed_keeping(
+    /// The copy is made first, but for where as many are held as may be: then nothing more is kept, and one that is too
+    /// many is told as that and not as want of memory. After a fault `kept` is as before.
+    pub fn feed_keeping<K: Copies>(
         &mut self,
         op: Op,
         tally: &mut Tally,
-        kept: &mut Vec<Op>,
+        kept: &mut K,
     ) -> Result<(), FeedFault>
         requires settled { IsSettled self.old.held }
         requires counts_rise { StaysBelow tally.old }
-        ensures ok { OnOk result (TakesInKeeping self.old self.new op tally.old tally.new kept.old.items kept.new.items) }
+        ensures ok { OnOk result (TakesInKeeping self.old self.new op tally.old tally.new (K.ops kept.old) (K.ops kept.new)) }
         ensures too_many { (result ≡ Err (FeedFault.TooMany self.old.most))
             ↔ (answer self.old.hold self.old.most self.old.held op ≡ TooMany) }
         ensures err { IfErr result (λ fault. LeavesUnkept self.old self.new op tally.old tally.new fault) }
-        ensures unkept { OnErr result (kept.new.items ≡ kept.old.items) }
+        ensures unkept { OnErr result (K.ops kept.new ≡ K.ops kept.old) }
         ensures stands { IsSound self.new }
     {
         let fed = self.inner.feed_keeping(op, tally, kept);
@@ -58,65 +57,41 @@ impl Replica {
 }
 
 impl OpenReplica {
-    #[tactic(auto, using(crate::proofs::KeepingLemmas::full_keeps_none, crate::proofs::KeepingLemmas::room_for_one, crate::proofs::KeepingLemmas::kept_has_place))]
-    pub fn feed_keeping(
+    #[tactic(auto, using(crate::proofs::KeepingLemmas::full_keeps_none, crate::proofs::KeepingLemmas::room_for_one, crate::proofs::KeepingLemmas::kept_has_place, crate::proofs::NotingLemmas::back_again))]
+    pub fn feed_keeping<K: Copies>(
         &mut self,
         op: Op,
         tally: &mut Tally,
-        kept: &mut Vec<Op>,
+        kept: &mut K,
     ) -> Result<(), FeedFault>
         requires settled { IsSettled self.old.state.held }
         requires counts_rise { StaysBelow tally.old }
         ensures ok { OnOk result (TakesInKeeping self.old.state self.new.state op tally.old tally.new
-            kept.old.items kept.new.items) }
+            (K.ops kept.old) (K.ops kept.new)) }
         ensures too_many { (result ≡ Err (FeedFault.TooMany self.old.state.most))
             ↔ (answer self.old.state.hold self.old.state.most self.old.state.held op ≡ TooMany) }
         ensures err { IfErr result (λ fault. LeavesUnkept self.old.state self.new.state op tally.old tally.new fault) }
-        ensures unkept { OnErr result (kept.new.items ≡ kept.old.items) }
+        ensures unkept { OnErr result (K.ops kept.new ≡ K.ops kept.old) }
         ensures stands { IsSound self.new.state }
     {
         if self.room() == 0 {
             self.feed(op, tally)?;
             return Ok(());
         }
-        let Ok(copy) = copy_for(self.alloc, &op, kept) else {
+        let Ok(()) = kept.push_copy(self.alloc, &op) else {
             drop(op);
             return Err(FeedFault::NoMemory);
         };
         match self.feed(op, tally) {
-            Ok(true) => {
-                push_reserved(kept, copy);
-                Ok(())
-            }
+            Ok(true) => Ok(()),
             Ok(false) => {
-                drop(copy);
+                kept.drop_newest();
                 Ok(())
             }
             Err(fault) => {
-                drop(copy);
+                kept.drop_newest();
                 Err(fault)
             }
         }
-    }
-}
-
-/// A copy that may be appended, for which there is room then.
-fn copy_for(alloc: Global, op: &Op, kept: &mut Vec<Op>) -> Result<Op, NoMemory>
-    ensures copy { IfOk result (λ copy. copy ≡ op.now) }
-    ensures room { OnOk result (vec_len kept.new < vec_capacity kept.new) }
-    ensures kept { kept.new.items ≡ kept.old.items }
-{
-    kept.reserve(1)?;
-    op.clone_in(alloc)
-}
-
-/// Appends, and takes no memory.
-fn push_reserved(kept: &mut Vec<Op>, op: Op)
-    requires { vec_len kept.old < vec_capacity kept.old }
-    ensures { kept.new.items ≡ kept.old.items ++ op ∷ [] }
-{
-    match kept.push(op) {
-        Ok(()) => {}
-        Err(_) => unreachable!(),
     }
 }

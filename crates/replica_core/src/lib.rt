@@ -2,6 +2,7 @@
 #![tactic(auto)]
 
 mod accepted;
+mod copies;
 mod deleting;
 mod due;
 mod edits;
@@ -14,6 +15,7 @@ mod open_replica;
 mod replica;
 mod waking;
 
+pub use copies::Copies;
 pub use keeping::FeedFault;
 pub use origin_model::{EditFault, Tally};
 pub use replica::{DeliverFault, NewFault, Replica, Settled, Taken};

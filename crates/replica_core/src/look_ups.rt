@@ -6,7 +6,7 @@ ghost use Rattle.origin_model.specs.operations.History.{accepted as accepted_lis
 ghost use Rattle.origin_model.specs.order.Printed.{is_withdrawn as withdrawn_in, shown, text as text_on};
 ghost use Rattle.origin_model.specs.declared.operations.Place.TheVariants.{Catalogue as catalogue, Section as within};
 ghost use Rattle.replica_core.specs.Index.{matches_key, if_section_or_note, newest_position, section_or_note_at, sections_and_notes as positions_in};
-ghost use Rattle.section_list.specs.Cells.{section_text as text_in};
+ghost use Rattle.run_store.specs.Cells.{cell_text};
 ghost use Rattle.section_catalogue.specs.Manuscript.{IsOrderedPlace, IsTextOf, LookUpsAgree, Represents};
 ghost use Rattle.origin_model.specs.edits.Refusal.{section_shown};
 ghost use Rattle.origin_model.specs.edits.State.{IsSound};
@@ -182,7 +182,7 @@ fn section_or_note(op: &Op) -> Option<&Op>
 
 /// The scalars that are not hidden, in order.
 fn shown_text(alloc: Global, place: &SectionList) -> Result<String, NoMemory>
-    ensures { IfOk result (λ text. string_bytes text ≡ encode_utf8_all (text_in place.now.cells)) }
+    ensures { IfOk result (λ text. string_bytes text ≡ encode_utf8_all (cell_text place.now.cells)) }
 {
     let mut sink = MemSink::new(alloc, usize::MAX, Vec::new(alloc));
     let Ok(()) = place.write_text(&mut sink) else {

@@ -1,12 +1,13 @@
 //! A replica while operations are taken in: the bodies of what a `Replica` does then.
 ghost use Rattle.std.specs.Prelude.{◌≡◌, ◌↔◌, ◌<◌, ◌≤◌, ◌+◌, ◌-◌, ◌^◌, ◌==◌, ◌∷◌, [], length, IfErr, IfOk, OnErr, OnOk};
 ghost use Rattle.fugue_ids.specs.Runs.{run_from};
+ghost use Rattle.op_runs.specs.Deletions.{deletes_up};
 ghost use Rattle.origin_model.specs.edits.Effect.{with_ops};
 ghost use Rattle.origin_model.specs.edits.Refusal.{held_count};
 ghost use Rattle.origin_model.specs.edits.State.{IsSound};
 ghost use Rattle.origin_model.specs.taking.Taking.{answer, intake, intake_counted, is_kept, held_after, IsSettled, TooMany};
 ghost use Rattle.replica_core.specs.Decision.{answer_by_decision};
-ghost use Rattle.replica_core.specs.Deleting.{AreWithin, deletes_from, ids_from};
+ghost use Rattle.replica_core.specs.Deleting.{AreWithin, ids_from};
 ghost use Rattle.replica_core.specs.Edits.{CanJoin};
 ghost use Rattle.replica_core.specs.Told.{Answers, IsTallied, JoinsNext, LeavesAfterFault, Settles, SettlesOrStops};
 ghost use Rattle.replica_core.specs.Told.{StaysBelow, total};
@@ -174,10 +175,10 @@ impl OpenReplica {
     ) -> Result<(), StoppedAfter>
         requires some { 0 < count }
         requires counters { first.counter + count ≤ 2 ^ 32 }
-        requires can { CanJoin self.old.state (deletes_from first count) }
+        requires can { CanJoin self.old.state (deletes_up first count) }
         requires within { AreWithin section.now self.old.state.held.history (ids_from first count) }
-        ensures ok { OnOk result (self.new.state ≡ with_ops self.old.state (deletes_from first count)) }
-        ensures err { IfErr result (λ e. self.new.state ≡ with_ops self.old.state (deletes_from first e.done)) }
+        ensures ok { OnOk result (self.new.state ≡ with_ops self.old.state (deletes_up first count)) }
+        ensures err { IfErr result (λ e. self.new.state ≡ with_ops self.old.state (deletes_up first e.done)) }
         ensures fewer { IfErr result (λ e. e.done < count) }
         ensures settled { IsSettled self.new.state.held }
         ensures stands { IsSound self.new.state }

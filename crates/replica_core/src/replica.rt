@@ -2,6 +2,7 @@ ghost use Rattle.std.specs.Prelude.{◌≡◌, ◌≢◌, ◌↔◌, ◌<◌, �
 ghost use Rattle.std.specs.Prelude.{OnErr, IfErr, All, List, ℕ, ◌++◌};
 ghost use Rattle.fugue_ids.specs.Outs.{WritesBytes};
 ghost use Rattle.fugue_ids.specs.Runs.{run_from};
+ghost use Rattle.op_runs.specs.Deletions.{deletes_up};
 ghost use Rattle.origin_model.specs.operations.History.{accepted as accepted_list};
 ghost use Rattle.origin_model.specs.operations.Verdict.{verdict as verdict_on};
 ghost use Rattle.origin_model.specs.order.Printed.{manuscript};
@@ -11,10 +12,10 @@ ghost use Rattle.origin_model.specs.operations.Counters.{counters, IsGreatest};
 ghost use Rattle.origin_model.specs.edits.State.{all_ops, IsOpen, IsOutside, IsWithin, IsSound};
 ghost use Rattle.origin_model.specs.edits.Refusal.{held_count};
 ghost use Rattle.origin_model.specs.edits.Effect.{with_ops};
-ghost use Rattle.replica_core.specs.Deleting.{AreWithin, deletes_from, ids_from};
+ghost use Rattle.replica_core.specs.Deleting.{AreWithin, ids_from};
 ghost use Rattle.replica_core.specs.Edits.{CanJoin};
 ghost use Rattle.replica_core.specs.Decision.{decision_of};
-ghost use Rattle.replica_core.specs.Told.{Answers, JoinsNext, LeavesAfterFault, Settles, SettlesOrStops, StaysBelow, total};
+ghost use Rattle.replica_core.specs.Told.{Answers, JoinsNext, LeavesAfterFault, Settles, StaysBelow, total};
 
 use crate::FeedFault;
 use crate::accepted::Accepted;
@@ -241,10 +242,10 @@ impl Replica {
     ) -> Result<(), StoppedAfter>
         requires some { 0 < count }
         requires counters { first.counter + count ≤ 2 ^ 32 }
-        requires can { CanJoin self.old (deletes_from first count) }
+        requires can { CanJoin self.old (deletes_up first count) }
         requires within { AreWithin section.now self.old.held.history (ids_from first count) }
-        ensures ok { OnOk result (self.new ≡ with_ops self.old (deletes_from first count)) }
-        ensures err { IfErr result (λ e. self.new ≡ with_ops self.old (deletes_from first e.done)) }
+        ensures ok { OnOk result (self.new ≡ with_ops self.old (deletes_up first count)) }
+        ensures err { IfErr result (λ e. self.new ≡ with_ops self.old (deletes_up first e.done)) }
         ensures fewer { IfErr result (λ e. e.done < count) }
         ensures settled { IsSettled self.new.held }
         ensures stands { IsSound self.new }

@@ -1,5 +1,6 @@
 -- What a file holds while a batch is appended, and then.
-use Rattle.std.proofs.Common.{◌≡◌, ◌≢◌, inl, inr, ℕ, ◌+◌, ◌<◌, ◌≤◌, List, [], ◌∷◌, ◌++◌, length, take, drop, get_or, refl, ap, sym, subst, ◌∙◌, arith, append_assoc, length-append, length-drop, drop-cons, add-one}
+use Rattle.std.proofs.Common.{◌≡◌, ◌≢◌, inl, inr, ℕ, ◌+◌, ◌<◌, ◌≤◌, List, [], ◌∷◌, ◌++◌, length, take, drop, get_or, refl, ap, sym, subst, ◌∙◌, arith, append_assoc, length-append}
+use Rattle.std.proofs.Common.{length-drop, drop-cons, add-one}
 use Rattle.std.proofs.lemmas.List.{length-take, take-append-drop}
 use Rattle.std.proofs.lemmas.Bool.{cases_eq}
 use Rattle.std.specs.Prelude.{◌↔◌, All, Some, None, Option, IfSome, Ok, Err}
@@ -14,7 +15,8 @@ use Rattle.origin_model.specs.declared.files.TheConstants.{LONGEST_BATCH}
 use Rattle.origin_model.specs.files.Image.{Content, HasImage, Holds, last_slot, open_slot, open_slots}
 use Rattle.origin_model.specs.frames.Frames.{HasFrame, Whole}
 use Rattle.origin_model.specs.frames.Framings.{frames}
-use Rattle.origin_model.proofs.SharedLemmas.{batch_appended, batch_of, before_gate, framing_read, from_parts, image_once, is_batch, ReadOnce, same_to_gate, to_parts, with_batch, written_framing}
+use Rattle.origin_model.proofs.SharedLemmas.{batch_appended, batch_of, before_gate, framing_read, from_parts, image_once, is_batch, ReadOnce, same_to_gate, to_parts, with_batch}
+use Rattle.origin_model.proofs.SharedLemmas.{written_framing}
 use Rattle.op_frame.proofs.ReadingLemmas.{reads_once}
 use Rattle.replica_file.specs.declared.appending.AppendFault.{AppendFault}
 use Rattle.replica_file.specs.declared.appending.AppendFault.TheVariants.{BatchTooLong, DiskFault, NoMemory}
@@ -62,10 +64,12 @@ other_gate before image content h inside front shut =
 module _ (before : List ℕ) (content : Content) (ops : List Op) (h : HasImage before (Holds content)) (have : All HasFrame ops) (short : length (frames ops) ≤ LONGEST_BATCH)
     (few : content.slots < last_slot) where
   -- the bytes of one more batch, opened
-  pub with_open_gate : (image : List ℕ) → IsWrittenBehind before content.at (behind_gate ops) image → get_or image content.at 0 ≡ 1 → HasImage image (Holds (content_with_ops content ops))
+  pub with_open_gate : (image : List ℕ) → IsWrittenBehind before content.at (behind_gate ops) image → get_or image content.at 0 ≡ 1
+      → HasImage image (Holds (content_with_ops content ops))
   with_open_gate image written open_now =
       let more : List ℕ = drop (length (behind_gate ops)) (drop (content.at + 1) image) in
-      let behind : drop (content.at + 1) image ≡ behind_gate ops ++ more = sym (take-append-drop (length (behind_gate ops)) (drop (content.at + 1) image)) ∙ ap (λ (z : List ℕ). z ++ more) written.behind in
+      let behind : drop (content.at + 1) image ≡ behind_gate ops ++ more =
+      sym (take-append-drop (length (behind_gate ops)) (drop (content.at + 1) image)) ∙ ap (λ (z : List ℕ). z ++ more) written.behind in
       let bytes : image ≡ take content.at before ++ (open_slot (batch_of ops) ++ 0 ∷ more) =
       at_offset image content.at 1 written.inside open_now ∙ (λ i. written.front i ++ 1 ∷ behind i)
       ∙ ap (λ (z : List ℕ). take content.at before ++ 1 ∷ z) (append_assoc ((batch_of ops).word ++ frames ops) (0 ∷ []) more) in
@@ -95,7 +99,8 @@ leaves_either h k content ops means have short few inside leaves = record {
 }
 
 -- the next batch can be appended behind the one that was opened
-has_batch : (before : List ℕ) (s : DiskState) (content : Content) (end : End) (ops : List Op) → HasImage before (Holds content) → content.at ≡ end.at → content.slots ≡ end.slots → All HasFrame ops
+has_batch : (before : List ℕ) (s : DiskState) (content : Content) (end : End) (ops : List Op) → HasImage before (Holds content) → content.at ≡ end.at → content.slots ≡ end.slots
+    → All HasFrame ops
     → length (frames ops) ≤ LONGEST_BATCH → content.slots < last_slot → IsOpened before content.at (behind_gate ops) s → HasBatch content end ops s
 has_batch before s content end ops h at slots have short few is =
     let means : Means s (content_with_ops content ops) =
@@ -176,9 +181,11 @@ not_appended end ops disk fault some inside too_long = record {
   faults = no_calls disk _ _ (λ is. let same : fault ≡ DiskFault = cc is in inside same);
 }
 
-module _ (end : End) (ops : List Op) (have : All HasFrame ops) (short : length (frames ops) ≤ LONGEST_BATCH) (few : end.slots < last_slot) (bytes : List ℕ) (is : bytes ≡ behind_gate ops) where
+module _ (end : End) (ops : List Op) (have : All HasFrame ops) (short : length (frames ops) ≤ LONGEST_BATCH) (few : end.slots < last_slot) (bytes : List ℕ)
+    (is : bytes ≡ behind_gate ops) where
   -- the batch was written
-  at_moments : (old p : Option History) → IfSome old (λ h. EndsAtGate h.last end) → IfSome old (λ h. LeavesOnlyTo h p (BeforeOrWritten h.last.seen end.at bytes)) → IfSome old (λ h. Leaves ops h p)
+  at_moments : (old p : Option History) → IfSome old (λ h. EndsAtGate h.last end) → IfSome old (λ h. LeavesOnlyTo h p (BeforeOrWritten h.last.seen end.at bytes))
+      → IfSome old (λ h. Leaves ops h p)
   at_moments None p ends leaves = tt
   at_moments (Some h) None ends leaves = λ content means. leaves
   at_moments (Some h) (Some k) ends leaves = λ content means.
@@ -206,7 +213,8 @@ module _ (end : End) (ops : List Op) (have : All HasFrame ops) (short : length (
   fits (inl long) = omega (arith, long, short)
   fits (inr spent) = omega (arith, spent.1, few)
 
-  module _ (old new : DiskView) (some : ops ≢ []) (ends : IfSome old.past (λ h. EndsAtGate h.last end)) (moments : IfSome old.past (λ h. LeavesOnlyTo h new.past (BeforeOrWritten h.last.seen end.at bytes)))
+  module _ (old new : DiskView) (some : ops ≢ []) (ends : IfSome old.past (λ h. EndsAtGate h.last end))
+      (moments : IfSome old.past (λ h. LeavesOnlyTo h new.past (BeforeOrWritten h.last.seen end.at bytes)))
       (honest : IfSome old.past (λ h. IsHonest h.last) → IfSome new.past (λ k. IsHonest k.last)) (later : old.faults ≤ new.faults)
       (calm : IfSome old.room (λ room. LastsForCalls bytes room → new.faults ≡ old.faults)) where
     -- a call failed

@@ -1,5 +1,6 @@
 -- What a crash leaves while bytes are written behind a gate, and while it is opened.
-use Rattle.std.proofs.Common.{◌≡◌, ◌⊎◌, inl, inr, ℕ, zero, suc, ◌+◌, ◌-◌, ◌<◌, ◌≤◌, List, [], ◌∷◌, ◌++◌, length, take, drop, get_or, refl, ap, sym, ◌∙◌, arith, append_assoc, length-append, length-drop}
+use Rattle.std.proofs.Common.{◌≡◌, ◌⊎◌, inl, inr, ℕ, zero, suc, ◌+◌, ◌-◌, ◌<◌, ◌≤◌, List, [], ◌∷◌, ◌++◌, length, take, drop, get_or, refl, ap, sym, ◌∙◌, arith, append_assoc}
+use Rattle.std.proofs.Common.{length-append, length-drop}
 use Rattle.std.proofs.lemmas.List.{length-take, length-take-le, get_or-take, get_or-drop, get_or_append_left, get_or-append_right, take_at, drop_at, ext_get_or, get_or_at}
 use Rattle.std.proofs.lemmas.List.Elements.{All-nil}
 use Rattle.std.proofs.lemmas.Bool.{cases_lt}
@@ -63,7 +64,12 @@ module _ (before : List ℕ) (gate : ℕ) (bytes : List ℕ) (inside : gate + 1 
   kept = same_outside (gate + 1) bytes before inside
 
   pub reach : gate + 1 + length bytes ≤ length behind
-  reach = omega (arith, length-append (take (gate + 1) before ++ bytes) (drop (gate + 1 + length bytes) before), length-append (take (gate + 1) before) bytes, length-take-le (gate + 1) before inside)
+  reach = omega (
+    arith,
+    length-append (take (gate + 1) before ++ bytes) (drop (gate + 1 + length bytes) before),
+    length-append (take (gate + 1) before) bytes,
+    length-take-le (gate + 1) before inside,
+  )
 
   pub front_kept : take (gate + 1) behind ≡ take (gate + 1) before
   front_kept = kept.front
@@ -91,7 +97,8 @@ module _ (before : List ℕ) (gate : ℕ) (bytes : List ℕ) (inside : gate + 1 
   -- while the gate is opened
   pub while_opened : (seen image : List ℕ) → IsCrashImage (torn_state gate 1 seen (at_rest behind)) image → IsWrittenBehind before gate bytes image
   while_opened seen image is =
-      but_for_gate image is.no_shorter (λ i below outside. is.same i below (free_more [] (gate, 1) i (All-nil (λ (range : ℕ × ℕ). (i < range.0) ⊎ (range.0 + range.1 ≤ i))) outside))
+      but_for_gate image is.no_shorter
+      (λ i below outside. is.same i below (free_more [] (gate, 1) i (All-nil (λ (range : ℕ × ℕ). (i < range.0) ⊎ (range.0 + range.1 ≤ i))) outside))
 
   -- what a read gives with the gate opened
   abbrev pub open_gate : List ℕ

@@ -9,7 +9,8 @@ use Rattle.replica_file.specs.Laws.{OneImage}
 use Rattle.replica_file.proofs.AppendLemmas.{read_once}
 
 -- a reading that ends otherwise is none of whole frames
-other_end : (grammar : Grammar) (bytes : List ℕ) (ops : List Op) (end : End) → (Whole ≡ end → ⊥) → Reads grammar bytes ops end → (others : List Op) → Reads grammar bytes others Whole → ⊥
+other_end : (grammar : Grammar) (bytes : List ℕ) (ops : List Op) (end : End) → (Whole ≡ end → ⊥) → Reads grammar bytes ops end → (others : List Op)
+    → Reads grammar bytes others Whole → ⊥
 other_end grammar bytes ops end differs reads others whole = differs ((reads_once grammar bytes others ops Whole end whole reads).1)
 
 by_end : (grammar : Grammar) (bytes : List ℕ) (ops : List Op) (end : End) → Reads grammar bytes ops end

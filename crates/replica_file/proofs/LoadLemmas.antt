@@ -1,9 +1,9 @@
 -- What loading does to a disk: it is synced, and then read.
 use Rattle.std.proofs.Common.{◌≡◌, ℕ, ◌+◌, ◌≤◌, List, ◌∷◌, ◌++◌, inl, inr, length, take, ap, refl, sym, subst, ◌∙◌, arith, length-append}
 use Rattle.std.specs.Prelude.{Option, Some, None, IfSome, IfOk, IsSome, Result, Ok, Err}
-use Rattle.outer_ports.specs.disk.Disks.{DiskView, IsSureStep, RoomView, Syncs, spent_by_write}
+use Rattle.outer_ports.specs.disk.Disks.{DiskView, IsSureStep, RoomView, Syncs, room_after_write}
 use Rattle.outer_ports.specs.disk.States.{IsHonest, IsCrashImage, DiskState, durable}
-use Rattle.outer_ports.specs.disk.Moments.{History, LeavesOnlyTo, MayLeave, after_moment}
+use Rattle.outer_ports.specs.disk.Moments.{History, LeavesOnlyTo, MayLeave, past_after_step}
 use Rattle.outer_ports.proofs.SharedLemmas.{image_at_rest, leaves_more, leaves_none}
 use Rattle.origin_model.specs.files.Image.{Content, HasImage, Holds, open_slots}
 use Rattle.origin_model.proofs.SharedLemmas.{to_parts}
@@ -22,7 +22,7 @@ use Rattle.replica_file.proofs.OnceLemmas.{exact}
 use Rattle.replica_file.proofs.PartLemmas.{told_all, told_one}
 
 -- a sync changes nothing of what a read gives
-pub seen_stays : (P : List ℕ → Type 0) (o p : Option History) → p ≡ after_moment durable o → IfSome p (λ h. P h.last.seen) → IfSome o (λ h. P h.last.seen)
+pub seen_stays : (P : List ℕ → Type 0) (o p : Option History) → p ≡ past_after_step durable o → IfSome p (λ h. P h.last.seen) → IfSome o (λ h. P h.last.seen)
 seen_stays P None p is told = tt
 seen_stays P (Some h) p is told = subst (λ q. IfSome q (λ k. P k.last.seen)) is told
 
@@ -30,7 +30,14 @@ seen_stays P (Some h) p is told = subst (λ q. IfSome q (λ k. P k.last.seen)) i
 gate_inside : (bytes : List ℕ) (content : Content) → HasImage bytes (Holds content) → content.at + 1 ≤ length bytes
 gate_inside bytes content h =
     let p = to_parts bytes content h in
-    omega (arith, ap length p.split, length-append p.head (open_slots p.batches ++ p.gate ∷ p.rest), length-append (open_slots p.batches) (p.gate ∷ p.rest), p.long, ap (λ (c : Content). c.at) p.content_is)
+    omega (
+      arith,
+      ap length p.split,
+      length-append p.head (open_slots p.batches ++ p.gate ∷ p.rest),
+      length-append (open_slots p.batches) (p.gate ∷ p.rest),
+      p.long,
+      ap (λ (c : Content). c.at) p.content_is,
+    )
 
 ends_at : (s : DiskState) (most : ℕ) (r : State) (end : End) → Loads most s.seen r end → EndsAtGate (durable s) end
 ends_at s most r end l = record {
@@ -44,12 +51,13 @@ ends_at s most r end l = record {
   };
 }
 
-ends_settled : (most : ℕ) (o q : Option History) (r : State) (end : End) → q ≡ after_moment durable o → IfSome o (λ h. Loads most h.last.seen r end) → IfSome q (λ h. EndsAtGate h.last end)
+ends_settled : (most : ℕ) (o q : Option History) (r : State) (end : End) → q ≡ past_after_step durable o → IfSome o (λ h. Loads most h.last.seen r end)
+    → IfSome q (λ h. EndsAtGate h.last end)
 ends_settled most None q r end is loads = subst (λ t. IfSome t (λ h. EndsAtGate h.last end)) (sym is) tt
 ends_settled most (Some h) q r end is loads = subst (λ t. IfSome t (λ k. EndsAtGate k.last end)) (sym is) (ends_at h.last most r end loads)
 
 -- each image of a sync could be left before it
-settled_leaves : (o q : Option History) → IfSome o (λ h. IsHonest h.last) → q ≡ after_moment durable o → IfSome o (λ h. LeavesOnlyTo h q (MayLeave h))
+settled_leaves : (o q : Option History) → IfSome o (λ h. IsHonest h.last) → q ≡ past_after_step durable o → IfSome o (λ h. LeavesOnlyTo h q (MayLeave h))
 settled_leaves None q honest is = tt
 settled_leaves (Some h) q honest is =
     subst (λ t. LeavesOnlyTo h t (MayLeave h)) (sym is)
@@ -63,7 +71,7 @@ still_leaves o q same = subst (λ t. IfSome o (λ h. LeavesOnlyTo h t (MayLeave 
     stays (Some h) = leaves_none (MayLeave h) h
 
 -- a disk that tells does so behind a sync
-pub tells_settled : (o q : Option History) → q ≡ after_moment durable o → IsSome o → IsSome q
+pub tells_settled : (o q : Option History) → q ≡ past_after_step durable o → IsSome o → IsSome q
 tells_settled None q is tells = subst IsSome (sym is) tells
 tells_settled (Some h) q is tells = subst IsSome (sym is) refl
 
@@ -105,16 +113,18 @@ module _ {E T M : Type 0} (most : ℕ) (old synced new : DiskView) (done : T) (s
     calm_told = λ tells not. looks.calm_told (tells_settled old.past synced.past sync.settled tells) (λ failed. not (ap loaded_of failed)) ∙ sync.calm_told tells;
   }
     where
-      sure : (o p : Option RoomView) → p ≡ spent_by_write 0 o → IfSome p (λ room. result ≡ Err DiskFault → ⊥) → IfSome o (λ room. LastsToLoad room → loaded_of result ≡ Err DiskFault → ⊥)
+      sure : (o p : Option RoomView) → p ≡ room_after_write 0 o → IfSome p (λ room. result ≡ Err DiskFault → ⊥)
+          → IfSome o (λ room. LastsToLoad room → loaded_of result ≡ Err DiskFault → ⊥)
       sure None p is none = tt
       sure (Some room) p is none = λ lasts failed. subst (λ q. IfSome q (λ room. result ≡ Err DiskFault → ⊥)) is none (alone result failed)
 
-      calm : (o p : Option RoomView) → p ≡ spent_by_write 0 o → IfSome o (λ room. IsSureStep {E = E} {T = T} room 0 old synced (Ok done)) → IfSome p (λ room. new.faults ≡ synced.faults)
+      calm : (o p : Option RoomView) → p ≡ room_after_write 0 o → IfSome o (λ room. IsSureStep {E = E} {T = T} room 0 old synced (Ok done))
+          → IfSome p (λ room. new.faults ≡ synced.faults)
           → IfSome o (λ room. LastsToLoad room → new.faults ≡ old.faults)
       calm None p is first then = tt
       calm (Some room) p is first then = λ lasts. subst (λ q. IfSome q (λ room. new.faults ≡ synced.faults)) is then ∙ first.calm
 
-  pub settled_past : new.past ≡ after_moment durable old.past
+  pub settled_past : new.past ≡ past_after_step durable old.past
   settled_past = looks.past ∙ sync.settled
 
   pub loads_settled : IfSome synced.past (λ h. LoadAnswerIs most h.last.seen (loaded_of result)) → IfOk result (λ loaded. CanTake loaded.0)
@@ -145,5 +155,5 @@ module _ {E T M : Type 0} (most : ℕ) (old synced new : DiskView) (done : T) (s
 
 -- what was loaded was settled
 pub loaded_synced : (most : ℕ) (old new : DiskView) (loaded : State × End) → LoadMeets most old new (Ok loaded)
-    → (new.past ≡ after_moment durable old.past) × (new.room ≡ spent_by_write 0 old.room)
+    → (new.past ≡ past_after_step durable old.past) × (new.room ≡ room_after_write 0 old.room)
 loaded_synced most old new loaded meets = elim meets.synced [ inl is ↦ is | inr not ↦ let failed = not.0 in cc failed ]

@@ -10,7 +10,8 @@ use Rattle.fugue_ids.specs.declared.limits.TheConstants.{MOST_OPERATIONS}
 use Rattle.origin_model.specs.operations.Verdict.{verdict}
 use Rattle.origin_model.specs.declared.operations.Verdict.{Verdict}
 use Rattle.origin_model.specs.declared.operations.Verdict.TheVariants as verdict_is
-use Rattle.origin_model.specs.taking.Taking.{Accepted, Again, IsSettled, Conflict, Full, MeetsNoLimit, Held, Stray, Waits, Answer, TooMany as AnswersTooMany, answer, answer_by, answers_from, held, held_from, intake, is_again, is_kept, is_taken, nothing_held, held_after, settle, settle_step, settled_within}
+use Rattle.origin_model.specs.taking.Taking.{Accepted, Again, IsSettled, Conflict, Full, MeetsNoLimit, Held, Stray, Waits, Answer, TooMany as AnswersTooMany, answer, answer_by}
+use Rattle.origin_model.specs.taking.Taking.{answers_from, held, held_from, intake, is_again, is_kept, is_taken, nothing_held, held_after, settle, settle_step, settled_within}
 use Rattle.origin_model.proofs.SharedLemmas.{answers-append, held-append, places-append, places-one}
 use Rattle.origin_model.specs.edits.State.{State, IsSound}
 use Rattle.replica_core.specs.Feeding.{StopsFeeding, TakesInAll}
@@ -30,7 +31,8 @@ by_tests false true at_most at_hold v = Conflict
 by_tests false false at_most at_hold v = answer_by at_most at_hold v
 
 -- where the answer is not that there are too many, being below the limit says the same
-below_limit : (again known at_most at_hold : Bool) (v : Verdict) → by_tests again known at_most at_hold v ≢ AnswersTooMany → by_tests again known at_most at_hold v ≡ by_tests again known false at_hold v
+below_limit : (again known at_most at_hold : Bool) (v : Verdict) → by_tests again known at_most at_hold v ≢ AnswersTooMany
+    → by_tests again known at_most at_hold v ≡ by_tests again known false at_hold v
 below_limit true known at_most at_hold v other = refl
 below_limit false true at_most at_hold v other = refl
 below_limit false false false at_hold v other = refl
@@ -44,7 +46,9 @@ answer_is : (hold most : ℕ) (s : Held) (op : Op)
     → answer hold most s op ≡ by_tests (is_again s op) (is_taken s op) (nat_eq (length s.history + length s.waiting) most) (nat_eq (length s.waiting) hold) (verdict s.history op)
 answer_is hold most s op = by_cases (is_again s op) (is_taken s op)
   where
-    by_cases : (again taken : Bool) → (if again then Again else if taken then Conflict else answer_by (nat_eq (length s.history + length s.waiting) most) (nat_eq (length s.waiting) hold) (verdict s.history op))
+    by_cases : (again taken : Bool)
+        → (if again then Again else if taken then Conflict else
+        answer_by (nat_eq (length s.history + length s.waiting) most) (nat_eq (length s.waiting) hold) (verdict s.history op))
         ≡ by_tests again taken (nat_eq (length s.history + length s.waiting) most) (nat_eq (length s.waiting) hold) (verdict s.history op)
     by_cases true taken = refl
     by_cases false true = refl
@@ -56,7 +60,8 @@ pub same_answer : (hold most : ℕ) (s : Held) (op : Op) → length s.history + 
 same_answer hold most s op few within other = elim (eqb_tells (length s.history + length s.waiting) MOST_OPERATIONS) [
   | inl full ↦ ap (λ (n : ℕ). answer hold n s op) (omega (arith, few, within, full.1))
   | inr less ↦ answer_is hold most s op
-      ∙ below_limit (is_again s op) (is_taken s op) (nat_eq (length s.history + length s.waiting) most) (nat_eq (length s.waiting) hold) (verdict s.history op) (λ many. other (answer_is hold most s op ∙ many))
+      ∙ below_limit (is_again s op) (is_taken s op) (nat_eq (length s.history + length s.waiting) most) (nat_eq (length s.waiting) hold) (verdict s.history op)
+      (λ many. other (answer_is hold most s op ∙ many))
       ∙ sym (answer_is hold MOST_OPERATIONS s op ∙ ap (λ (b : Bool). by_tests (is_again s op) (is_taken s op) b (nat_eq (length s.waiting) hold) (verdict s.history op)) less.0)
 ]
 
@@ -119,7 +124,8 @@ few_on hold most s op few = by (is_kept (answer hold most s op)) refl
         omega (arith, settle_few (held_after (answer hold most s op) s op), count_kept (answer hold most s op) s op is, below)
 
 -- a greater limit changes nothing where all find their place
-same_held : (hold most : ℕ) (s : Held) (ops : List Op) → count s ≤ most → most ≤ MOST_OPERATIONS → MeetsNoLimit hold most s ops → held_from hold most s ops ≡ held_from hold MOST_OPERATIONS s ops
+same_held : (hold most : ℕ) (s : Held) (ops : List Op) → count s ≤ most → most ≤ MOST_OPERATIONS → MeetsNoLimit hold most s ops
+    → held_from hold most s ops ≡ held_from hold MOST_OPERATIONS s ops
 same_held hold most s [] few within place = refl
 same_held hold most s (op ∷ ops) few within place =
     let a : Answer = answer hold most s op in
@@ -159,12 +165,15 @@ pub feeds_dropped : (was : Bool) (r : State) (ops : List Op) → was ≡ false �
 feeds_dropped was r ops is = subst (λ (b : Bool). Feeds b r b r ops) (sym is) (record { behind = λ before many. still_many r.hold r.most before ops many })
 
 -- the operations found their place, one after another
-pub feeds_taken : (r new : State) (ops : List Op) → IsSound r → MeetsNoLimit r.hold r.most r.held ops → new ≡ record r { held = held_from r.hold r.most r.held ops } → Feeds true r true new ops
+pub feeds_taken : (r new : State) (ops : List Op) → IsSound r → MeetsNoLimit r.hold r.most r.held ops → new ≡ record r { held = held_from r.hold r.most r.held ops }
+    → Feeds true r true new ops
 feeds_taken r new ops stands place same = record { behind = λ before are. subst (λ (s : State). AreIn s (before ++ ops)) (sym same) (are_more r before ops stands place are) }
 
 -- the same of one
-pub feeds_one : (was : Bool) (r new : State) (op : Op) → was ≡ true → IsSound r → answer r.hold r.most r.held op ≢ AnswersTooMany → new ≡ record r { held = intake r.hold r.most r.held op } → Feeds was r was new (op ∷ [])
-feeds_one was r new op is stands other same = subst (λ (b : Bool). Feeds b r b new (op ∷ [])) (sym is) (feeds_taken r new (op ∷ []) stands (places-one r.hold r.most r.held op other) same)
+pub feeds_one : (was : Bool) (r new : State) (op : Op) → was ≡ true → IsSound r → answer r.hold r.most r.held op ≢ AnswersTooMany
+    → new ≡ record r { held = intake r.hold r.most r.held op } → Feeds was r was new (op ∷ [])
+feeds_one was r new op is stands other same =
+    subst (λ (b : Bool). Feeds b r b new (op ∷ [])) (sym is) (feeds_taken r new (op ∷ []) stands (places-one r.hold r.most r.held op other) same)
 
 pub feeds_refused : (was : Bool) (r new : State) (op : Op) → was ≡ true → answer r.hold r.most r.held op ≡ AnswersTooMany → new ≡ r → Feeds was r false new (op ∷ [])
 feeds_refused was r new op is many same =
@@ -194,7 +203,8 @@ pub wanted_kept : (old new : State) (op : Op) (before after : Tally) (fault : Fe
     → is_kept (answer old.hold old.most old.held op) ≡ true
 wanted_kept old new op before after fault is leaves = (subst (LeavesAfterFault old new op before after) is leaves).0
 
-pub wants_one : (was : Bool) (old new : State) (op : Op) (before after : Tally) (fault : FeedFault) → was ≡ true → fault ≡ FedNoMemory → LeavesAfterFault old new op before after fault → WantsMemory was old (op ∷ [])
+pub wants_one : (was : Bool) (old new : State) (op : Op) (before after : Tally) (fault : FeedFault) → was ≡ true → fault ≡ FedNoMemory
+    → LeavesAfterFault old new op before after fault → WantsMemory was old (op ∷ [])
 wants_one was old new op before after fault found is leaves = record {
   front = [];
   op = op;

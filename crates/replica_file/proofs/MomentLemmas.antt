@@ -31,7 +31,8 @@ moments_next hold earlier (first ∷ batches) batch =
     ∙ sym (append_assoc here rest (last ((earlier ++ first ∷ []) ++ batches)))
     ∙ ap (λ (l : List Batch). (here ++ rest) ++ last l) (append_assoc earlier (first ∷ []) batches)
 
-module _ (bytes : List ℕ) (slots : ℕ) (gate : Gate) (r : State) (moments : List ℕ) (w : WalkedWith bytes slots gate r moments) (open_now : gate.open ≡ true) (next : Gate) (was now : Bool) (s : State)
+module _ (bytes : List ℕ) (slots : ℕ) (gate : Gate) (r : State) (moments : List ℕ) (w : WalkedWith bytes slots gate r moments) (open_now : gate.open ≡ true) (next : Gate)
+    (was now : Bool) (s : State)
     (was_so : was ≡ true) (few : slots < last_slot) (same : IsSameButHeld r s) (took : TakesSlot bytes gate.at next was r now s) (found : now ≡ true) where
   abbrev further : Walked bytes (slots + 1) next s
   further = walk_on bytes slots gate r w.walked open_now next was now s was_so few same took found
@@ -46,7 +47,8 @@ module _ (bytes : List ℕ) (slots : ℕ) (gate : Gate) (r : State) (moments : L
     are = is
         ∙ (λ i. w.are i ++ new_moment (length (ap (λ (h : Held). h.history) w.walked.fed.same i)) (length (ap (λ (h : Held). h.history) further.fed.same i)))
         ∙ ap (λ (h : ℕ). moments_of h w.walked.batches ++ new_moment (accepted_by h w.walked.batches) (accepted_by s.hold further.batches)) (sym (ap (λ (t : State). t.hold) same))
-        ∙ ap (λ (l : List Batch). moments_of s.hold w.walked.batches ++ new_moment (accepted_by s.hold w.walked.batches) (accepted_by s.hold l)) adds ∙ sym (moments_next s.hold [] w.walked.batches took.batch)
+        ∙ ap (λ (l : List Batch). moments_of s.hold w.walked.batches ++ new_moment (accepted_by s.hold w.walked.batches) (accepted_by s.hold l)) adds
+        ∙ sym (moments_next s.hold [] w.walked.batches took.batch)
         ∙ ap (moments_of s.hold) (sym adds);
   }
 
@@ -87,9 +89,11 @@ one_list bytes a b x y =
     let same : x.content ≡ y.content = same_content bytes x.content y.content (x.header, x.ends) (y.header, y.ends) in
     let bs : List Batch = x.ends.batches in
     let cs : List Batch = y.ends.batches in
-    let first = first_ones 0 (length cs) bs cs (x.ends.gate ∷ x.ends.rest) (y.ends.gate ∷ y.ends.rest) (recursion_from_All IsBatch bs x.ends.found.batches_are) (recursion_from_All IsBatch cs y.ends.found.batches_are)
+    let first = first_ones 0 (length cs) bs cs (x.ends.gate ∷ x.ends.rest) (y.ends.gate ∷ y.ends.rest) (recursion_from_All IsBatch bs x.ends.found.batches_are)
+    (recursion_from_All IsBatch cs y.ends.found.batches_are)
     (sym x.ends.found.split ∙ y.ends.found.split) (omega arith) (omega (arith, x.ends.found.few)) x.ends.found.gate (Closed y.ends.gate y.ends.rest refl y.ends.closed) in
-    let long : length bs ≡ length cs = sym (ap (λ (c : Content). c.slots) x.ends.content_is) ∙ ap (λ (c : Content). c.slots) same ∙ ap (λ (c : Content). c.slots) y.ends.content_is in
+    let long : length bs ≡ length cs =
+    sym (ap (λ (c : Content). c.slots) x.ends.content_is) ∙ ap (λ (c : Content). c.slots) same ∙ ap (λ (c : Content). c.slots) y.ends.content_is in
     let alike : cs ≡ bs = no_more bs cs first.0 first.1 long in
     x.are ∙ (λ i. moments_of (same i).hold (sym alike i)) ∙ sym y.are
 

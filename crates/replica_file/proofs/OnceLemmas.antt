@@ -16,25 +16,31 @@ use Rattle.replica_file.proofs.AppendLemmas.{read_once, same_content}
 use Rattle.replica_file.proofs.LoadingLemmas.{never_both, still_many}
 
 -- open slots of a file, wherever they stop, are the first ones of all
-pub first_ones : (k m : ℕ) (bs cs : List Batch) (r q : List ℕ) → AllByRecursion IsBatch bs → AllByRecursion IsBatch cs → open_slots bs ++ r ≡ open_slots cs ++ q → m ≡ k + length cs → k + length bs ≤ last_slot
+pub first_ones : (k m : ℕ) (bs cs : List Batch) (r q : List ℕ) → AllByRecursion IsBatch bs → AllByRecursion IsBatch cs → open_slots bs ++ r ≡ open_slots cs ++ q
+    → m ≡ k + length cs → k + length bs ≤ last_slot
     → r ≢ [] → Ends m q → (more : List Batch) × (cs ≡ bs ++ more)
 first_ones k m [] cs r q a b e mk few f y = (cs, refl)
 first_ones k m (b ∷ bs) [] r q a c e mk few f y =
     absurd (no_open_slot m b (open_slots bs ++ r) q a.0 (slots_not_empty bs r f) (omega (arith, mk, few)) (sym e ∙ append_assoc (open_slot b) (open_slots bs) r) y)
 first_ones k m (b ∷ bs) (c ∷ cs) r q x y e mk few f ends =
-    let d : (b.word ++ b.bytes) ++ (open_slots bs ++ r) ≡ (c.word ++ c.bytes) ++ (open_slots cs ++ q) = cc (sym (append_assoc (open_slot b) (open_slots bs) r) ∙ e ∙ append_assoc (open_slot c) (open_slots cs) q) in
-    let s = same_batch read_once b c (open_slots bs ++ r) (open_slots cs ++ q) x.0 y.0 (sym (append_assoc b.word b.bytes (open_slots bs ++ r)) ∙ d ∙ append_assoc c.word c.bytes (open_slots cs ++ q)) in
+    let d : (b.word ++ b.bytes) ++ (open_slots bs ++ r) ≡ (c.word ++ c.bytes) ++ (open_slots cs ++ q) =
+    cc (sym (append_assoc (open_slot b) (open_slots bs) r) ∙ e ∙ append_assoc (open_slot c) (open_slots cs) q) in
+    let s = same_batch read_once b c (open_slots bs ++ r) (open_slots cs ++ q) x.0 y.0
+    (sym (append_assoc b.word b.bytes (open_slots bs ++ r)) ∙ d ∙ append_assoc c.word c.bytes (open_slots cs ++ q)) in
     let rest = first_ones (k + 1) m bs cs r q x.1 y.1 s.1 (omega (arith, mk)) (omega (arith, few)) f ends in
     (rest.0, λ i. sym s.0 i ∷ rest.1 i)
 
 -- the operations of open slots, of which one is too many, are no first ones of some that find their place
-no_place : (bytes : List ℕ) (most m : ℕ) (many : FindsTooMany most bytes) (cs : List Batch) (q : List ℕ) → OpenSlots (slots_of bytes) cs q → m ≡ length cs → Ends m q → FindPlace (hold_of bytes) most (batch_ops cs) → ⊥
+no_place : (bytes : List ℕ) (most m : ℕ) (many : FindsTooMany most bytes) (cs : List Batch) (q : List ℕ) → OpenSlots (slots_of bytes) cs q → m ≡ length cs → Ends m q
+    → FindPlace (hold_of bytes) most (batch_ops cs) → ⊥
 no_place bytes most m many cs q found is ends place =
     let bs : List Batch = many.earlier ++ many.batch ∷ [] in
-    let first = first_ones 0 m bs cs many.rest q (recursion_from_All IsBatch bs many.found.batches_are) (recursion_from_All IsBatch cs found.batches_are) (sym many.found.split ∙ found.split) (omega (arith, is))
+    let first = first_ones 0 m bs cs many.rest q (recursion_from_All IsBatch bs many.found.batches_are) (recursion_from_All IsBatch cs found.batches_are)
+    (sym many.found.split ∙ found.split) (omega (arith, is))
     (omega (arith, many.found.few)) many.found.gate ends in
     let ops : batch_ops cs ≡ batch_ops bs ++ batch_ops first.0 = ap batch_ops first.1 ∙ flat_map-append (λ (batch : Batch). batch.ops) bs first.0 in
-    never_both (hold_of bytes) most (batch_ops cs) place (subst (AreTooMany (hold_of bytes) most) (sym ops) (still_many (hold_of bytes) most (batch_ops bs) (batch_ops first.0) many.refused))
+    never_both (hold_of bytes) most (batch_ops cs) place
+    (subst (AreTooMany (hold_of bytes) most) (sym ops) (still_many (hold_of bytes) most (batch_ops bs) (batch_ops first.0) many.refused))
 
 -- a file whose content is taken in has no operation too many
 loads_or_many : (most : ℕ) (bytes : List ℕ) (r : State) (end : End) → Loads most bytes r end → FindsTooMany most bytes → ⊥
@@ -45,10 +51,12 @@ loads_or_many most bytes r end l many =
 
 bad_or_many : (most : ℕ) (bytes : List ℕ) (slot : ℕ) → FindsBadBatch most bytes slot → FindsTooMany most bytes → ⊥
 bad_or_many most bytes slot b many =
-    no_place bytes most (length b.ends.batches) many b.ends.batches (1 ∷ b.ends.rest) b.ends.found refl (Bad b.ends.rest refl (subst (λ (n : ℕ). IsNoBatch n b.ends.rest) b.ends.number b.ends.bad)) b.place
+    no_place bytes most (length b.ends.batches) many b.ends.batches (1 ∷ b.ends.rest) b.ends.found refl
+    (Bad b.ends.rest refl (subst (λ (n : ℕ). IsNoBatch n b.ends.rest) b.ends.number b.ends.bad)) b.place
 
 -- two answers that the bytes decide are one
-pub answers_once : (most : ℕ) (bytes : List ℕ) (a b : Result (State × End) LoadFault) → IsLoadByBytes a → IsLoadByBytes b → LoadAnswerIs most bytes a → LoadAnswerIs most bytes b → a ≡ b
+pub answers_once : (most : ℕ) (bytes : List ℕ) (a b : Result (State × End) LoadFault) → IsLoadByBytes a → IsLoadByBytes b → LoadAnswerIs most bytes a → LoadAnswerIs most bytes b
+    → a ≡ b
 answers_once most bytes (Ok x) (Ok y) p q l k =
     let same = same_content bytes l.content k.content l.holds k.holds in
     let held = l.replica_is ∙ ap (λ (c : Content). record { number = c.replica; hold = c.hold; most = most; held = state c }) same ∙ sym k.replica_is in

@@ -1,5 +1,6 @@
 -- The frames of a part of a file, a piece at a time.
-use Rattle.std.proofs.Common.{◌≡◌, ◌≢◌, ◌⊎◌, inl, inr, ℕ, ◌+◌, ◌-◌, ◌<◌, ◌≤◌, min, List, [], ◌∷◌, ◌++◌, length, take, drop, refl, ap, sym, subst, ◌∙◌, arith, append_assoc, length-append, length-drop}
+use Rattle.std.proofs.Common.{◌≡◌, ◌≢◌, ◌⊎◌, inl, inr, ℕ, ◌+◌, ◌-◌, ◌<◌, ◌≤◌, min, List, [], ◌∷◌, ◌++◌, length, take, drop, refl, ap, sym, subst, ◌∙◌, arith, append_assoc}
+use Rattle.std.proofs.Common.{length-append, length-drop}
 use Rattle.std.specs.Prelude.{Option, Some, None, IfSome, Bool, true}
 use Rattle.std.proofs.Math.Seq.{take-add}
 use Rattle.std.proofs.lemmas.Grind.{flat_map-append}
@@ -16,7 +17,7 @@ use Rattle.origin_model.specs.taking.Taking.{Held}
 use Rattle.origin_model.proofs.SharedLemmas.{bytes_of}
 use Rattle.replica_file.specs.Loading.{IsSameButHeld}
 use Rattle.replica_file.specs.Pieces.{AreBad, Lacks, TakesInPiece}
-use Rattle.replica_file.specs.Slots.{EndsOff, HasNoFrames, TakesFrames, TakesInSlots}
+use Rattle.replica_file.specs.Slots.{EndsOff, HasNoFrames, TakesFrames, TakesInFrames}
 use Rattle.replica_file.specs.Wanting.{AreFilePieces, AreWholeFrames, BeginsPiece, ForContent, ForOperation, ForPiece, IsWanting, file_part}
 use Rattle.replica_file.proofs.LoadingLemmas.{feeds_none, feeds_then, same_then}
 use Rattle.op_frame.proofs.StepLemmas.{asks_too, front_short}
@@ -69,16 +70,19 @@ module _ (grammar : Grammar) where
         → IsWanting grammar after (bytes ++ more) ops hold most s places
     wanting_further more begins (ForPiece rest starts begin) = ForPiece (rest ++ more) (starts_further bytes rest more ops starts) (begins rest begin)
     wanting_further more begins (ForContent rest starts first) = ForContent (rest ++ more) (starts_further bytes rest more ops starts) (asks_too rest more first)
-    wanting_further more begins (ForOperation op later behind starts found kept) = ForOperation op later (behind ++ more) (starts_further bytes behind more (ops ++ op ∷ later) starts) found kept
+    wanting_further more begins (ForOperation op later behind starts found kept) =
+        ForOperation op later (behind ++ more) (starts_further bytes behind more (ops ++ op ∷ later) starts) found kept
 
     -- and behind other operations
-    wanting_then : (whole : List ℕ) (earlier : List Op) → Starts grammar whole earlier bytes → ((rest : List ℕ) → before rest → after rest) → IsWanting grammar before bytes ops hold most s places
+    wanting_then : (whole : List ℕ) (earlier : List Op) → Starts grammar whole earlier bytes → ((rest : List ℕ) → before rest → after rest)
+        → IsWanting grammar before bytes ops hold most s places
         → IsWanting grammar after whole (earlier ++ ops) hold most s places
     wanting_then whole earlier one begins (ForPiece rest starts begin) = ForPiece rest (starts_then whole bytes rest earlier ops one starts) (begins rest begin)
     wanting_then whole earlier one begins (ForContent rest starts first) = ForContent rest (starts_then whole bytes rest earlier ops one starts) first
     wanting_then whole earlier one begins (ForOperation op later behind starts found kept) =
         ForOperation op later behind
-        (subst (λ (all : List Op). Starts grammar whole all behind) (sym (append_assoc earlier ops (op ∷ later))) (starts_then whole bytes behind earlier (ops ++ op ∷ later) one starts)) found kept
+        (subst (λ (all : List Op). Starts grammar whole all behind) (sym (append_assoc earlier ops (op ∷ later)))
+        (starts_then whole bytes behind earlier (ops ++ op ∷ later) one starts)) found kept
 
 module _ (grammar : Grammar) (bytes : List ℕ) (at left size : ℕ) (piece : List ℕ) (is : piece ≡ take size (drop at bytes)) (within : size ≤ left) where
   more : List ℕ
@@ -120,30 +124,35 @@ module _ (grammar : Grammar) (bytes : List ℕ) (at left size : ℕ) (piece : Li
           })
 
   -- whole frames of the piece are some of the part
-  pub piece_took : (len : ℕ) (was now : Bool) (old new : State) → TakesInPiece grammar piece len was old now new → TakesInSlots grammar bytes at left len was old now new
+  pub piece_took : (len : ℕ) (was now : Bool) (old new : State) → TakesInPiece grammar piece len was old now new → TakesInFrames grammar bytes at left len was old now new
   piece_took len was now old new took = record {
     ops = took.ops;
     inside = omega (arith, took.whole.inside, ap length part_is, length-append piece more);
     starts = subst (λ (l : List ℕ). Starts grammar l took.ops (drop len l)) (sym part_is)
-        (subst (Starts grammar (piece ++ more) took.ops) (sym (drop-append-le len piece more took.whole.inside)) (starts_further grammar piece (drop len piece) more took.ops took.whole.starts));
+        (subst (Starts grammar (piece ++ more) took.ops) (sym (drop-append-le len piece more took.whole.inside))
+        (starts_further grammar piece (drop len piece) more took.ops took.whole.starts));
     feeds = took.feeds;
   }
 
   -- memory was wanting in the piece
-  pub piece_lacks : (was : Bool) (old : State) → Lacks grammar (λ rest. rest ≡ piece) piece was old → Lacks grammar (λ rest. rest ≡ file_part bytes at left) (file_part bytes at left) was old
+  pub piece_lacks : (was : Bool) (old : State) → Lacks grammar (λ rest. rest ≡ piece) piece was old
+      → Lacks grammar (λ rest. rest ≡ file_part bytes at left) (file_part bytes at left) was old
   piece_lacks was old lacks = record {
     ops = lacks.ops;
     now = lacks.now;
     new = lacks.new;
     feeds = lacks.feeds;
     same = lacks.same;
-    wants = subst (λ (l : List ℕ). IsWanting grammar (λ rest. rest ≡ file_part bytes at left) l lacks.ops lacks.new.hold lacks.new.most lacks.new.held (lacks.now ≡ true)) (sym part_is)
-        (wanting_further grammar (λ rest. rest ≡ piece) (λ rest. rest ≡ file_part bytes at left) piece lacks.ops lacks.new.hold lacks.new.most lacks.new.held (lacks.now ≡ true) more
+    wants = subst (λ (l : List ℕ). IsWanting grammar (λ rest. rest ≡ file_part bytes at left) l lacks.ops lacks.new.hold lacks.new.most lacks.new.held (lacks.now ≡ true))
+        (sym part_is)
+        (wanting_further grammar (λ rest. rest ≡ piece) (λ rest. rest ≡ file_part bytes at left) piece lacks.ops lacks.new.hold lacks.new.most lacks.new.held
+        (lacks.now ≡ true) more
         (λ rest whole. ap (λ (l : List ℕ). l ++ more) whole ∙ sym part_is) lacks.wants);
   }
 
   -- whole frames of a piece
-  pub piece_whole : (len : ℕ) (ops : List Op) → AreWholeFrames grammar piece len ops → size ≡ min left 65536 → (found : List Op) × AreWholeFrames grammar (file_part bytes at (min left 65536)) len found
+  pub piece_whole : (len : ℕ) (ops : List Op) → AreWholeFrames grammar piece len ops → size ≡ min left 65536
+      → (found : List Op) × AreWholeFrames grammar (file_part bytes at (min left 65536)) len found
   piece_whole len ops whole smaller =
       (ops, subst (λ (l : List ℕ). AreWholeFrames grammar l len ops) (is ∙ ap (λ (n : ℕ). take n (drop at bytes)) smaller) whole)
 
@@ -166,10 +175,11 @@ module _ (grammar : Grammar) (bytes : List ℕ) (at len taken : ℕ) (within : t
       ap (take (len - taken)) (sym (drop_twice taken at bytes)) ∙ sym (drop-take taken (len - taken) (drop at bytes))
       ∙ ap (λ (n : ℕ). drop taken (take n (drop at bytes))) {x = taken + (len - taken)} {y = len} (omega (arith, within))
 
-  pub frames_more : (l : ℕ) (a b c : Bool) (r s t : State) → TakesInSlots grammar bytes at len taken a r b s → TakesInSlots grammar bytes (at + taken) (len - taken) l b s c t
-      → TakesInSlots grammar bytes at len (taken + l) a r c t
+  pub frames_more : (l : ℕ) (a b c : Bool) (r s t : State) → TakesInFrames grammar bytes at len taken a r b s → TakesInFrames grammar bytes (at + taken) (len - taken) l b s c t
+      → TakesInFrames grammar bytes at len (taken + l) a r c t
   frames_more l a b c r s t one two =
-      let behind : Starts grammar (drop taken (file_part bytes at len)) two.ops (drop l (drop taken (file_part bytes at len))) = subst (λ (x : List ℕ). Starts grammar x two.ops (drop l x)) left_is two.starts in
+      let behind : Starts grammar (drop taken (file_part bytes at len)) two.ops (drop l (drop taken (file_part bytes at len))) =
+      subst (λ (x : List ℕ). Starts grammar x two.ops (drop l x)) left_is two.starts in
       record {
         ops = one.ops ++ two.ops;
         inside = omega (arith, one.inside, two.inside, ap length left_is, length-drop taken (file_part bytes at len));
@@ -178,7 +188,8 @@ module _ (grammar : Grammar) (bytes : List ℕ) (at len taken : ℕ) (within : t
         feeds = feeds_then a b c r s t one.ops two.ops one.feeds two.feeds;
       }
 
-  pub frames_bad : (a b : Bool) (r s : State) → TakesInSlots grammar bytes at len taken a r b s → HasNoFrames grammar bytes (at + taken) (len - taken) → HasNoFrames grammar bytes at len
+  pub frames_bad : (a b : Bool) (r s : State) → TakesInFrames grammar bytes at len taken a r b s → HasNoFrames grammar bytes (at + taken) (len - taken)
+      → HasNoFrames grammar bytes at len
   frames_bad a b r s one (inl short) = inl (omega (arith, short, length-drop (at + taken) bytes, length-drop at bytes))
   frames_bad a b r s one (inr off) =
       let behind : EndsOff grammar (drop taken (file_part bytes at len)) = subst (EndsOff grammar) left_is off in
@@ -190,7 +201,7 @@ module _ (grammar : Grammar) (bytes : List ℕ) (at len taken : ℕ) (within : t
       })
 
   -- memory was wanting in what is left
-  pub frames_lacks : (a b : Bool) (r s : State) → IsSameButHeld r s → TakesInSlots grammar bytes at len taken a r b s → Pieces grammar bytes at len taken
+  pub frames_lacks : (a b : Bool) (r s : State) → IsSameButHeld r s → TakesInFrames grammar bytes at len taken a r b s → Pieces grammar bytes at len taken
       → Lacks grammar (λ rest. rest ≡ file_part bytes (at + taken) (len - taken)) (file_part bytes (at + taken) (len - taken)) b s
       → Lacks grammar (BeginsPiece grammar bytes at len) (file_part bytes at len) a r
   frames_lacks a b r s same one pieces lacks = record {
@@ -199,23 +210,33 @@ module _ (grammar : Grammar) (bytes : List ℕ) (at len taken : ℕ) (within : t
     new = lacks.new;
     feeds = feeds_then a b lacks.now r s lacks.new one.ops lacks.ops one.feeds lacks.feeds;
     same = same_then r s lacks.new same lacks.same;
-    wants = wanting_then grammar (λ rest. rest ≡ file_part bytes (at + taken) (len - taken)) (BeginsPiece grammar bytes at len) (file_part bytes (at + taken) (len - taken)) lacks.ops
-        lacks.new.hold lacks.new.most lacks.new.held (lacks.now ≡ true) (file_part bytes at len) one.ops (subst (Starts grammar (file_part bytes at len) one.ops) (sym left_is) one.starts)
+    wants = wanting_then grammar (λ rest. rest ≡ file_part bytes (at + taken) (len - taken)) (BeginsPiece grammar bytes at len)
+        (file_part bytes (at + taken) (len - taken)) lacks.ops
+        lacks.new.hold lacks.new.most lacks.new.held (lacks.now ≡ true) (file_part bytes at len) one.ops
+        (subst (Starts grammar (file_part bytes at len) one.ops) (sym left_is) one.starts)
         (λ rest whole. record { taken = taken; pieces = pieces.pieces; are_pieces = pieces.are_pieces; rest_is = whole ∙ left_is }) lacks.wants;
   }
 
-pub frames_begin : (grammar : Grammar) (bytes : List ℕ) (at len : ℕ) (a : Bool) (r : State) → TakesInSlots grammar bytes at len 0 a r a r
+pub frames_begin : (grammar : Grammar) (bytes : List ℕ) (at len : ℕ) (a : Bool) (r : State) → TakesInFrames grammar bytes at len 0 a r a r
 frames_begin grammar bytes at len a r = record { ops = []; inside = omega arith; starts = starts_none grammar (file_part bytes at len); feeds = feeds_none a r }
 
-pub frames_over : (grammar : Grammar) (bytes : List ℕ) (at len taken : ℕ) (a b : Bool) (r s : State) → taken ≤ len → len ≤ taken → TakesInSlots grammar bytes at len taken a r b s
+pub frames_over : (grammar : Grammar) (bytes : List ℕ) (at len taken : ℕ) (a b : Bool) (r s : State) → taken ≤ len → len ≤ taken → TakesInFrames grammar bytes at len taken a r b s
     → TakesFrames grammar bytes at len a r b s
 frames_over grammar bytes at len taken a b r s within all one =
     let long : length (file_part bytes at len) ≡ len = omega (arith, one.inside, within, all, length-take len (drop at bytes)) in
-    let none : drop taken (file_part bytes at len) ≡ [] = nil_from_length (drop taken (file_part bytes at len)) (omega (arith, length-drop taken (file_part bytes at len), long, all)) in
+    let none : drop taken (file_part bytes at len) ≡ [] =
+    nil_from_length (drop taken (file_part bytes at len)) (omega (arith, length-drop taken (file_part bytes at len), long, all)) in
     record {
       ops = one.ops;
       long = long;
-      reads = record { found = one.starts.found; are_frames = one.starts.are_frames; ops_are = one.starts.ops_are; rest = drop taken (file_part bytes at len); split = one.starts.split; ends = none };
+      reads = record {
+        found = one.starts.found;
+        are_frames = one.starts.are_frames;
+        ops_are = one.starts.ops_are;
+        rest = drop taken (file_part bytes at len);
+        split = one.starts.split;
+        ends = none;
+      };
       feeds = one.feeds;
     }
 

@@ -31,7 +31,12 @@ module _ (bytes : List ℕ) (ops : List Op) (old new : FrameReading) (before aft
       let none : drop len bytes ≡ [] = ap (λ (n : ℕ). drop n bytes) is ∙ drop_all_of bytes in
       record {
         inside = omega (arith, is);
-        starts = record { found = reads.found; are_frames = reads.are_frames; ops_are = reads.ops_are; split = reads.split ∙ ap (λ (r : List ℕ). bytes_before reads ++ r) (reads.ends ∙ sym none) };
+        starts = record {
+          found = reads.found;
+          are_frames = reads.are_frames;
+          ops_are = reads.ops_are;
+          split = reads.split ∙ ap (λ (r : List ℕ). bytes_before reads ++ r) (reads.ends ∙ sym none);
+        };
         ends = inl none;
       }
     where
@@ -163,7 +168,8 @@ module _ (grammar : Grammar) (bytes : List ℕ) (ops : List Op) (was now : Bool)
   steps_by other result same steps = subst (λ (g : Grammar). PieceSteps g bytes ops was old now new reader source result) same steps
 
   -- a step for which memory was wanting
-  pub steps_lacks : (first : Bool) (begin : State) (stop : Stop) → Feeds first begin was old ops → IsSameButHeld begin old → PieceSteps grammar bytes ops was old now new reader source (Err stop)
+  pub steps_lacks : (first : Bool) (begin : State) (stop : Stop) → Feeds first begin was old ops → IsSameButHeld begin old
+      → PieceSteps grammar bytes ops was old now new reader source (Err stop)
       → stop ≡ stop_is.NoMemory → Lacks grammar (λ rest. rest ≡ bytes) bytes first begin
   steps_lacks first begin stop feeds same steps is =
       let lacks : LacksBehind grammar bytes ops was old = subst (λ s. PieceSteps grammar bytes ops was old now new reader source (Err s)) is steps in

@@ -45,6 +45,7 @@ more_reaches a b c at filled n before after within more kept =
     (reaches_once (at + filled) (length more.part) (at + length before) b.reach c.reach (omega (arith, more.long, within)) more.read.asked)
 
 -- the gate behind a slot is the furthest byte of it that is read
-pub gate_reaches : (result : Result Gate Stop) (at : ℕ) (a b c : Option ℕ) → IfOk result (λ gate. gate.at ≡ at) → OnOk result (ReachesTo (at + 1) b c) → ReachesTo at a b → IfOk result (λ gate. ReachesTo (gate.at + 1) a c)
+pub gate_reaches : (result : Result Gate Stop) (at : ℕ) (a b c : Option ℕ) → IfOk result (λ gate. gate.at ≡ at) → OnOk result (ReachesTo (at + 1) b c) → ReachesTo at a b
+    → IfOk result (λ gate. ReachesTo (gate.at + 1) a c)
 gate_reaches (Err e) at a b c is last first = tt
 gate_reaches (Ok gate) at a b c is last first = reaches_then at (at + 1) (gate.at + 1) a b c (omega (arith, is)) (omega (arith, is)) first last

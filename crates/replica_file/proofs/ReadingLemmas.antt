@@ -68,7 +68,8 @@ drop_twice a (suc b) [] = drop_none a ∙ sym (drop_none (suc b + a))
 drop_twice a (suc b) (x ∷ l) = drop_twice a b l ∙ ap (λ (n : ℕ). drop n (x ∷ l)) {x = suc (b + a)} {y = suc b + a} (omega arith)
 
 -- a front of a buffer is what stands on the disk, and so many bytes more
-pub read_on : {E : Type 0} (a b c : DiskView) (at filled n : ℕ) (before after : List ℕ) → b.past ≡ a.past → filled ≤ length before → ReadsMore {E = E} b c (Ok n) at filled before after
+pub read_on : {E : Type 0} (a b c : DiskView) (at filled n : ℕ) (before after : List ℕ) → b.past ≡ a.past → filled ≤ length before
+    → ReadsMore {E = E} b c (Ok n) at filled before after
     → IfSome a.past (λ h. (take filled before ≡ take filled (drop at h.last.seen)) × (filled ≤ length (drop at h.last.seen)))
     → IfSome a.past (λ h. (take (filled + n) after ≡ take (filled + n) (drop at h.last.seen)) × (filled + n ≤ length (drop at h.last.seen)))
 read_on a b c at filled n before after same within more told = by_told a.past told (subst (λ o. IfSome o (λ h. GivesAt h.last.seen (at + filled) n more.part)) same more.read.told)

@@ -56,7 +56,8 @@ module _ (bytes : List ℕ) (at : ℕ) where
       new = old;
       feeds = feeds_none was old;
       same = refl;
-      wants = ForPiece (file_part bytes (at + 5) word.len) (starts_none word.grammar (file_part bytes (at + 5) word.len)) (record { taken = 0; pieces = []; are_pieces = refl; rest_is = refl });
+      wants = ForPiece (file_part bytes (at + 5) word.len) (starts_none word.grammar (file_part bytes (at + 5) word.len))
+          (record { taken = 0; pieces = []; are_pieces = refl; rest_is = refl });
     })
 
     -- no byte is there behind them
@@ -65,7 +66,8 @@ module _ (bytes : List ℕ) (at : ℕ) where
         NoGate (omega (arith, ap length frames_behind, is.len_is, long, ends, length-drop (at + 5) bytes, length-take word.len (drop (at + 5) bytes)))
 
     -- a batch
-    pub slot_took : (next : Gate) (was now : Bool) (old new : State) → word.len ≤ LONGEST_BATCH → TakesFrames word.grammar bytes (at + 5) word.len was old now new → IsGate bytes next
+    pub slot_took : (next : Gate) (was now : Bool) (old new : State) → word.len ≤ LONGEST_BATCH → TakesFrames word.grammar bytes (at + 5) word.len was old now new
+        → IsGate bytes next
         → next.at ≡ at + 5 + word.len → TakesSlot bytes at next was old now new
     slot_took next was now old new short took gate next_is =
         let rest : drop word.len (drop (at + 5) bytes) ≡ drop next.at bytes = drop_twice word.len (at + 5) bytes ∙ ap (λ (n : ℕ). drop n bytes) (sym next_is) in
@@ -79,7 +81,8 @@ module _ (bytes : List ℕ) (at : ℕ) where
             reads = took.reads;
           };
           split = sym (take-append-drop 4 behind)
-              ∙ ap (λ (l : List ℕ). take 4 behind ++ l) (frames_behind ∙ sym (take-append-drop word.len (drop (at + 5) bytes)) ∙ ap (λ (l : List ℕ). file_part bytes (at + 5) word.len ++ l) rest)
+              ∙ ap (λ (l : List ℕ). take 4 behind ++ l)
+              (frames_behind ∙ sym (take-append-drop word.len (drop (at + 5) bytes)) ∙ ap (λ (l : List ℕ). file_part bytes (at + 5) word.len ++ l) rest)
               ∙ sym (append_assoc (take 4 behind) (file_part bytes (at + 5) word.len) (drop next.at bytes));
           next_at = next_is ∙ ap (λ (n : ℕ). at + 5 + n) (sym took.long);
           gate = gate;
@@ -87,7 +90,8 @@ module _ (bytes : List ℕ) (at : ℕ) where
         }
 
 -- the same of a disk that was only looked at
-pub slot_ends : (o p q : Option History) (r : Result Gate Stop) (at : ℕ) (word : Word) (was now : Bool) (old new : State) → p ≡ o → q ≡ o → IfSome o (λ h. IsWord h.last.seen (at + 1) word)
+pub slot_ends : (o p q : Option History) (r : Result Gate Stop) (at : ℕ) (word : Word) (was now : Bool) (old new : State) → p ≡ o → q ≡ o
+    → IfSome o (λ h. IsWord h.last.seen (at + 1) word)
     → word.len ≤ LONGEST_BATCH → IfSome p (λ h. TakesFrames word.grammar h.last.seen (at + 5) word.len was old now new) → IfOk r (λ gate. IfSome q (λ h. IsGate h.last.seen gate))
     → IfOk r (λ gate. gate.at ≡ at + 5 + word.len) → IfOk r (λ next. IfSome o (λ h. TakesSlot h.last.seen at next was old now new))
 slot_ends o p q (Err e) at word was now old new one two told short took gate is = tt

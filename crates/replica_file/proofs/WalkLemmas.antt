@@ -6,7 +6,8 @@ use Rattle.std.proofs.lemmas.List.{append-nil}
 use Rattle.std.proofs.lemmas.List.Elements.{All-append, All-cons, All-nil}
 use Rattle.std.proofs.lemmas.Option.{get_or_from_slice_get, slice_get_within}
 use Rattle.fugue_ids.specs.declared.op.Op.{Op}
-use Rattle.origin_model.specs.files.Image.{Batch, IsBatch, IsNoBatch, OpenSlots, batch_ops, content_of, has_header, header_of, last_slot, length_at, number_at, open_slot, open_slots, slots_of}
+use Rattle.origin_model.specs.files.Image.{Batch, IsBatch, IsNoBatch, OpenSlots, batch_ops, content_of, has_header, header_of, last_slot, length_at, number_at, open_slot}
+use Rattle.origin_model.specs.files.Image.{open_slots, slots_of}
 use Rattle.origin_model.specs.taking.Taking.{Answer, Held, TooMany as AnswersTooMany, answer, held, is_kept, nothing_held}
 use Rattle.fugue_ids.specs.declared.limits.TheConstants.{MOST_OPERATIONS}
 use Rattle.origin_model.specs.edits.State.{State}
@@ -72,7 +73,8 @@ module _ (bytes : List ℕ) (slots : ℕ) (gate : Gate) (r : State) (w : Walked 
       by_wants (ForOperation op later behind starts found kept) =
           let are : AreIn slot.lacks.new reached = subst (λ (b : Bool). Fed b slot.lacks.new reached) found fed_so_far in
           ForOperation op later behind starts (by_limits (λ h m. FindPlace h m reached) are.place)
-          (by_limits (λ h m. is_kept (answer h m (held h m reached) op) ≡ true) (subst (λ (s : Held). is_kept (answer slot.lacks.new.hold slot.lacks.new.most s op) ≡ true) are.held_is kept))
+          (by_limits (λ h m. is_kept (answer h m (held h m reached) op) ≡ true)
+          (subst (λ (s : Held). is_kept (answer slot.lacks.new.hold slot.lacks.new.most s op) ≡ true) are.held_is kept))
 
       pub walk_lacks : LacksMemory most bytes
       walk_lacks = record {
@@ -90,7 +92,8 @@ module _ (bytes : List ℕ) (slots : ℕ) (gate : Gate) (r : State) (w : Walked 
         wants = by_wants slot.lacks.wants;
       }
 
-    module _ (next : Gate) (was now : Bool) (s : State) (was_so : was ≡ true) (few : slots < last_slot) (same : IsSameButHeld r s) (took : TakesSlot bytes gate.at next was r now s) where
+    module _ (next : Gate) (was now : Bool) (s : State) (was_so : was ≡ true) (few : slots < last_slot) (same : IsSameButHeld r s)
+        (took : TakesSlot bytes gate.at next was r now s) where
       abbrev all : List Batch
       all = w.batches ++ took.batch ∷ []
 
@@ -100,7 +103,8 @@ module _ (bytes : List ℕ) (slots : ℕ) (gate : Gate) (r : State) (w : Walked 
         few = omega (arith, length-append w.batches (took.batch ∷ []), w.number, few);
         split = w.found.split ∙ ap (λ (l : List ℕ). open_slots w.batches ++ l) (open_gate ∙ ap (λ (l : List ℕ). 1 ∷ l) took.split)
             ∙ sym (append_assoc (open_slots w.batches) (open_slot took.batch) (drop next.at bytes))
-            ∙ ap (λ (l : List ℕ). l ++ drop next.at bytes) (sym (flat_map-append open_slot w.batches (took.batch ∷ []) ∙ ap (λ (l : List ℕ). open_slots w.batches ++ l) (append-nil (open_slot took.batch))));
+            ∙ ap (λ (l : List ℕ). l ++ drop next.at bytes)
+            (sym (flat_map-append open_slot w.batches (took.batch ∷ []) ∙ ap (λ (l : List ℕ). open_slots w.batches ++ l) (append-nil (open_slot took.batch))));
         gate = not_none bytes next.at took.gate.byte took.gate.is;
       }
 
@@ -176,7 +180,8 @@ walk_out bytes most end r limit out =
     }
 
 -- the walk begins with no slot
-pub walk_begin : (bytes : List ℕ) (first : Gate) (r : State) → has_header bytes ≡ true → first.at ≡ 13 → IsGate bytes first → r.number ≡ number_at 5 (header_of bytes) → r.hold ≡ number_at 9 (header_of bytes)
+pub walk_begin : (bytes : List ℕ) (first : Gate) (r : State) → has_header bytes ≡ true → first.at ≡ 13 → IsGate bytes first → r.number ≡ number_at 5 (header_of bytes)
+    → r.hold ≡ number_at 9 (header_of bytes)
     → r.held ≡ nothing_held → Walked bytes 0 first r
 walk_begin bytes first r header at gate number hold none = record {
   header = header;

@@ -1,7 +1,7 @@
 -- Making a file.
 use Rattle.std.specs.Prelude.{◌≡◌, ◌≢◌, ◌↔◌, ℕ, ◌≤◌, [], Result, Err, IfSome, OnOk, OnErr}
-use Rattle.outer_ports.specs.disk.Disks.{DiskView, RoomView, spent_by_write}
-use Rattle.outer_ports.specs.disk.Moments.{MayHaveWritten, after_moment}
+use Rattle.outer_ports.specs.disk.Disks.{DiskView, RoomView, room_after_write}
+use Rattle.outer_ports.specs.disk.Moments.{MayHaveWritten, past_after_step}
 use Rattle.outer_ports.specs.disk.States.{at_rest, durable, wrote}
 use Rattle.origin_model.specs.files.Image.{Content, HasImage, Holds, new_file}
 use Rattle.replica_file.specs.Faults.{AccountsForFaults}
@@ -20,13 +20,13 @@ pub record LastsToCreate (room : RoomView) : Type 0 where
 -- the file of a replica that holds nothing was made
 pub record IsCreated (replica hold : ℕ) (old new : DiskView) : Type 0 where
   -- its bytes were written and settled
-  pub calls : new.past ≡ after_moment durable (after_moment (wrote 0 (new_file replica hold)) old.past)
+  pub calls : new.past ≡ past_after_step durable (past_after_step (wrote 0 (new_file replica hold)) old.past)
   -- and nothing else stands there
   pub at_rest : IfSome new.past (λ h. h.last ≡ at_rest (new_file replica hold))
   -- they mean a replica that holds nothing
   pub holds : HasImage (new_file replica hold) (Holds (nothing_yet replica hold))
   -- that took a write of 14 bytes and a sync
-  pub room : new.room ≡ spent_by_write 0 (spent_by_write 14 old.room)
+  pub room : new.room ≡ room_after_write 0 (room_after_write 14 old.room)
 
 -- the making of such a file
 pub record CreateMeets (replica hold : ℕ) (old new : DiskView) (result : Result (Unit {0}) CreateFault) : Type 0 where

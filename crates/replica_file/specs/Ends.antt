@@ -1,12 +1,21 @@
 -- Where the meaning of a file ends, and disks that keep the file up to there whatever happens.
 use Rattle.std.specs.Prelude.{◌≡◌, ℕ, ◌+◌, ◌*◌, ◌≤◌, List, length, take}
 use Rattle.outer_ports.specs.disk.States.{DiskState, IsCrashImage}
+use Rattle.origin_model.specs.declared.files.TheConstants.{LONGEST_BATCH}
 use Rattle.origin_model.specs.files.Image.{Content, HasImage, Holds}
 use Rattle.replica_file.specs.declared.load_file.End.{End}
 
--- how far the slots before an end reach: a header, and for each slot a gate, a word and at most the longest batch
+-- how many bytes a slot has at most: its gate, the four of its word, and the longest batch
+abbrev pub longest_slot : ℕ
+longest_slot = LONGEST_BATCH + 5
+
+-- where a gate behind so many slots stands at most: behind the 13 bytes of the header and the longest slots
+abbrev pub farthest_gate : ℕ → ℕ
+farthest_gate slots = 13 + longest_slot * slots
+
+-- an end is no farther than the longest slots before it would put it
 abbrev pub IsWithinReach : End → Type 0
-IsWithinReach end = end.at ≤ 13 + 268435461 * end.slots
+IsWithinReach end = end.at ≤ farthest_gate end.slots
 
 -- whatever a crash leaves, it begins with the same n bytes
 pub record Agrees (s : DiskState) (n : ℕ) : Type 0 where

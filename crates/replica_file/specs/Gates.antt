@@ -1,8 +1,8 @@
 -- Bytes that are written behind a closed gate, which is opened then.
 use Rattle.std.specs.Prelude.{◌≡◌, ◌⊎◌, ℕ, ◌+◌, ◌<◌, ◌≤◌, List, [], ◌∷◌, length, take, drop, slice_get, Option, Some, None}
 use Rattle.outer_ports.specs.disk.States.{DiskState, at_rest, wrote, durable}
-use Rattle.outer_ports.specs.disk.Moments.{History, after_moment}
-use Rattle.outer_ports.specs.disk.Disks.{RoomView, spent_by_write}
+use Rattle.outer_ports.specs.disk.Moments.{History, past_after_step}
+use Rattle.outer_ports.specs.disk.Disks.{RoomView, room_after_write}
 
 -- the bytes stand behind the gate, of which nothing is said, and what stood before it stands
 pub record IsWrittenBehind (before : List ℕ) (gate : ℕ) (bytes image : List ℕ) : Type 0 where
@@ -27,11 +27,13 @@ OpenedTo before gate bytes (Some h) = IsOpened before gate bytes h.last
 
 -- the bytes are written behind the gate and settled, and then the gate is opened and that is settled
 abbrev pub gate_opened : ℕ → List ℕ → Option History → Option History
-gate_opened gate bytes past = after_moment durable (after_moment (wrote gate (1 ∷ [])) (after_moment durable (after_moment (wrote (gate + 1) bytes) past)))
+gate_opened gate bytes past =
+    past_after_step durable
+    (past_after_step (wrote gate (1 ∷ [])) (past_after_step durable (past_after_step (wrote (gate + 1) bytes) past)))
 
 -- the same of the room
 abbrev pub spent_opening : List ℕ → Option RoomView → Option RoomView
-spent_opening bytes room = spent_by_write 0 (spent_by_write 1 (spent_by_write 0 (spent_by_write (length bytes) room)))
+spent_opening bytes room = room_after_write 0 (room_after_write 1 (room_after_write 0 (room_after_write (length bytes) room)))
 
 -- the room lasts for these four calls
 pub record LastsForCalls (bytes : List ℕ) (room : RoomView) : Type 0 where

@@ -4,7 +4,8 @@ use Rattle.fugue_ids.specs.declared.op.Op.{Op}
 use Rattle.outer_ports.specs.disk.Disks.{RoomView}
 use Rattle.origin_model.specs.declared.files.TheConstants.{LONGEST_BATCH}
 use Rattle.origin_model.specs.declared.grammar.Grammar.{Grammar}
-use Rattle.origin_model.specs.files.Image.{Batch, Content, EndsBadly, HasImage, Holds, OpenSlots, batch_ops, has_header, header_of, last_slot, length_at, number_at, open_slots, slots_of, state, tag_of, word_tag}
+use Rattle.origin_model.specs.files.Image.{Batch, Content, EndsBadly, HasImage, Holds, OpenSlots, batch_ops, has_header, header_of}
+use Rattle.origin_model.specs.files.Image.{last_slot, length_at, number_at, open_slots, slots_of, state, tag_of, word_tag}
 use Rattle.origin_model.specs.taking.Taking.{MeetsNoLimit, TooMany as AnswersTooMany, answers_from, held, nothing_held}
 use Rattle.origin_model.specs.edits.State.{State}
 use Rattle.replica_file.specs.Wanting.{BeginsPiece, IsWanting, file_part}
@@ -67,7 +68,8 @@ pub record LacksMemory (most : ℕ) (bytes : List ℕ) : Type 0 where
   pub short : length_at (at + 1) bytes ≤ LONGEST_BATCH
   -- the operations of the slot that were taken in
   pub ops : List Op
-  pub wants : IsWanting grammar (BeginsPiece grammar bytes (at + 5) (length_at (at + 1) bytes)) (file_part bytes (at + 5) (length_at (at + 1) bytes)) ops (hold_of bytes) most
+  pub wants : IsWanting grammar (BeginsPiece grammar bytes (at + 5) (length_at (at + 1) bytes))
+      (file_part bytes (at + 5) (length_at (at + 1) bytes)) ops (hold_of bytes) most
       (held (hold_of bytes) most (batch_ops earlier ++ ops)) (FindPlace (hold_of bytes) most (batch_ops earlier ++ ops))
 
 -- the bytes decide such an answer: it is no fault of the disk, and no want of memory
@@ -87,7 +89,8 @@ LoadAnswerIs most bytes (Err NoMemory) = LacksMemory most bytes
 
 -- each answer comes exactly where the bytes say so, but for a fault of the disk and want of memory
 abbrev pub LoadAnswersBy : Result (State × End) LoadFault → (most : ℕ) → List ℕ → Type 0
-LoadAnswersBy result most bytes = IsLoadByBytes result → (answer : Result (State × End) LoadFault) → IsLoadByBytes answer → (result ≡ answer) ↔ LoadAnswerIs most bytes answer
+LoadAnswersBy result most bytes = IsLoadByBytes result → (answer : Result (State × End) LoadFault) → IsLoadByBytes answer
+    → (result ≡ answer) ↔ LoadAnswerIs most bytes answer
 
 -- the room lasts for the sync
 abbrev pub LastsToLoad : RoomView → Type 0

@@ -1,7 +1,7 @@
 -- What loading a file does to it, and answers.
 use Rattle.std.specs.Prelude.{◌≡◌, ◌⊎◌, ℕ, ◌+◌, Result, Err, IfOk, IfSome}
-use Rattle.outer_ports.specs.disk.Disks.{DiskView, spent_by_write}
-use Rattle.outer_ports.specs.disk.Moments.{LeavesOnlyTo, MayLeave, after_moment}
+use Rattle.outer_ports.specs.disk.Disks.{DiskView, room_after_write}
+use Rattle.outer_ports.specs.disk.Moments.{LeavesOnlyTo, MayLeave, past_after_step}
 use Rattle.outer_ports.specs.disk.States.{durable}
 use Rattle.origin_model.specs.edits.State.{State}
 use Rattle.replica_file.specs.Ends.{EndsAtGate, IsWithinReach}
@@ -33,7 +33,7 @@ pub record LoadMeets (most : ℕ) (old new : DiskView) (result : Result (State �
   -- what an answer without a fault gives
   pub loaded : IfOk result (λ loaded. IsLoaded old new loaded.0 loaded.1)
   -- the file was settled, unless that failed, and otherwise it is as it was
-  pub synced : ((new.past ≡ after_moment durable old.past) × (new.room ≡ spent_by_write 0 old.room))
+  pub synced : ((new.past ≡ past_after_step durable old.past) × (new.room ≡ room_after_write 0 old.room))
       ⊎ ((result ≡ Err DiskFault) × (new.past ≡ old.past) × (new.room ≡ old.room))
   -- a crash leaves nothing but what it could leave before
   pub moments : IfSome old.past (λ h. LeavesOnlyTo h new.past (MayLeave h))

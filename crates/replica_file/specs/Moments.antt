@@ -22,7 +22,7 @@ moments_behind hold earlier [] = []
 moments_behind hold earlier (batch ∷ batches) =
     new_moment (accepted_by hold earlier) (accepted_by hold (earlier ++ batch ∷ [])) ++ moments_behind hold (earlier ++ batch ∷ []) batches
 
--- how many operations were accepted after each batch
+-- the moments of batches: of each with which more operations are accepted, how many are
 abbrev pub moments_of : (hold : ℕ) → List Batch → List ℕ
 moments_of hold batches = moments_behind hold [] batches
 

@@ -35,9 +35,12 @@ pub record LacksBehind (grammar : Grammar) (bytes : List ℕ) (ops : List Op) (w
   pub wants : IsWanting grammar (λ rest. rest ≡ bytes) bytes (ops ++ more) new.hold new.most new.held (now ≡ true)
 
 -- one step over a piece: some operations more were taken in, or the whole frames are over, or what follows is bad, or memory was wanting
-abbrev pub PieceSteps : Grammar → List ℕ → List Op → (was : Bool) (old : State) (now : Bool) (new : State) → FrameReading → SourceView → Result (Option ℕ) Stop → Type 0
-PieceSteps grammar bytes ops was old now new reader source (Ok None) = (more : List Op) × IsReading bytes (ops ++ more) reader source × Feeds was old now new more
-PieceSteps grammar bytes ops was old now new reader source (Ok (Some len)) = AreWholeFrames grammar bytes len ops × (now ≡ was) × (new ≡ old)
+abbrev pub PieceSteps : Grammar → List ℕ → List Op → (was : Bool) (old : State) (now : Bool) (new : State) → FrameReading → SourceView
+    → Result (Option ℕ) Stop → Type 0
+PieceSteps grammar bytes ops was old now new reader source (Ok None) =
+    (more : List Op) × IsReading bytes (ops ++ more) reader source × Feeds was old now new more
+PieceSteps grammar bytes ops was old now new reader source (Ok (Some len)) =
+    AreWholeFrames grammar bytes len ops × (now ≡ was) × (new ≡ old)
 PieceSteps grammar bytes ops was old now new reader source (Err Bad) = AreBad grammar bytes
 PieceSteps grammar bytes ops was old now new reader source (Err Disk) = ⊥
 PieceSteps grammar bytes ops was old now new reader source (Err NoMemory) = LacksBehind grammar bytes ops was old

@@ -2,7 +2,8 @@
 use Rattle.std.specs.Prelude.{◌≡◌, ◌≢◌, ◌⊎◌, ℕ, ◌+◌, ◌<◌, ◌≤◌, List, [], ◌++◌, length, drop, Some, slice_get, Err, Bool, true, false}
 use Rattle.fugue_ids.specs.declared.op.Op.{Op}
 use Rattle.origin_model.specs.declared.files.TheConstants.{LONGEST_BATCH}
-use Rattle.origin_model.specs.files.Image.{Batch, IsBatch, OpenSlots, batch_ops, has_header, header_of, is_header, length_at, number_at, open_slots, slots_of, tag_of, word_tag}
+use Rattle.origin_model.specs.files.Image.{Batch, IsBatch, OpenSlots, batch_ops, has_header, header_of, is_header, length_at, number_at}
+use Rattle.origin_model.specs.files.Image.{open_slots, slots_of, tag_of, word_tag}
 use Rattle.origin_model.specs.declared.grammar.Grammar.{Grammar}
 use Rattle.origin_model.specs.frames.Frames.{IsBad, IsPartial, Reads, Starts, Whole}
 use Rattle.origin_model.specs.edits.State.{State}
@@ -17,14 +18,16 @@ use Rattle.replica_file.specs.declared.gate.Gate.{Gate}
 use Rattle.replica_file.specs.declared.slot.Word.{Word}
 
 -- frames of the operations are the first so many bytes of a part, and they were taken in
-pub record TakesInSlots (grammar : Grammar) (bytes : List ℕ) (at len taken : ℕ) (was : Bool) (old : State) (now : Bool) (new : State) : Type 0 where
+pub record TakesInFrames (grammar : Grammar) (bytes : List ℕ) (at len taken : ℕ) (was : Bool) (old : State) (now : Bool)
+    (new : State) : Type 0 where
   pub ops : List Op
   pub inside : taken ≤ length (file_part bytes at len)
   pub starts : Starts grammar (file_part bytes at len) ops (drop taken (file_part bytes at len))
   pub feeds : Feeds was old now new ops
 
 -- the part is all there and whole frames, and they were taken in
-pub record TakesFrames (grammar : Grammar) (bytes : List ℕ) (at len : ℕ) (was : Bool) (old : State) (now : Bool) (new : State) : Type 0 where
+pub record TakesFrames (grammar : Grammar) (bytes : List ℕ) (at len : ℕ) (was : Bool) (old : State) (now : Bool)
+    (new : State) : Type 0 where
   pub ops : List Op
   pub long : length (file_part bytes at len) ≡ len
   pub reads : Reads grammar (file_part bytes at len) ops Whole
@@ -46,7 +49,8 @@ pub record LacksInSlot (bytes : List ℕ) (at : ℕ) (was : Bool) (old : State) 
   pub grammar : Grammar
   pub tagged : word_tag (number_at (at + 1) bytes) ≡ tag_of grammar
   pub short : length_at (at + 1) bytes ≤ LONGEST_BATCH
-  pub lacks : Lacks grammar (BeginsPiece grammar bytes (at + 5) (length_at (at + 1) bytes)) (file_part bytes (at + 5) (length_at (at + 1) bytes)) was old
+  pub lacks : Lacks grammar (BeginsPiece grammar bytes (at + 5) (length_at (at + 1) bytes))
+      (file_part bytes (at + 5) (length_at (at + 1) bytes)) was old
 
 -- the four bytes at an offset are a slot's word
 pub record IsWord (bytes : List ℕ) (at : ℕ) (word : Word) : Type 0 where
@@ -56,7 +60,8 @@ pub record IsWord (bytes : List ℕ) (at : ℕ) (word : Word) : Type 0 where
 
 -- the four bytes are not there, or their tag is that of no grammar, or their length is above the limit
 abbrev pub HasNoWord : List ℕ → (at : ℕ) → Type 0
-HasNoWord bytes at = (length (drop at bytes) < 4) ⊎ ((grammar : Grammar) → word_tag (number_at at bytes) ≢ tag_of grammar) ⊎ (LONGEST_BATCH < length_at at bytes)
+HasNoWord bytes at = (length (drop at bytes) < 4) ⊎ ((grammar : Grammar) → word_tag (number_at at bytes) ≢ tag_of grammar)
+    ⊎ (LONGEST_BATCH < length_at at bytes)
 
 -- a gate is open or not, as the byte at its place says
 pub record IsGate (bytes : List ℕ) (gate : Gate) : Type 0 where

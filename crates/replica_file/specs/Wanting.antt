@@ -21,7 +21,8 @@ pub record AreWholeFrames (grammar : Grammar) (bytes : List ℕ) (len : ℕ) (op
 abbrev pub AreFilePieces : Grammar → List ℕ → (at len : ℕ) → List ℕ → (taken : ℕ) → Type 0
 AreFilePieces grammar bytes at len [] taken = taken ≡ 0
 AreFilePieces grammar bytes at len (n ∷ ns) taken =
-    (before : ℕ) × (taken ≡ before + n) × ((ops : List Op) × AreWholeFrames grammar (file_part bytes (at + before) (min (len - before) 65536)) n ops)
+    (before : ℕ) × (taken ≡ before + n)
+    × ((ops : List Op) × AreWholeFrames grammar (file_part bytes (at + before) (min (len - before) 65536)) n ops)
     × AreFilePieces grammar bytes at len ns before
 
 -- the rest of a part of a file begins where a piece does
@@ -32,11 +33,13 @@ pub record BeginsPiece (grammar : Grammar) (bytes : List ℕ) (at len : ℕ) (re
   pub rest_is : rest ≡ drop taken (file_part bytes at len)
 
 -- Why memory was wanting behind these operations, which frames at the front of the bytes stand for: they are all taken in.
-pub data IsWanting (grammar : Grammar) (Begins : List ℕ → Type 0) (bytes : List ℕ) (ops : List Op) (hold most : ℕ) (s : Held) (places : Type 0) : Type 0 where
+pub data IsWanting (grammar : Grammar) (Begins : List ℕ → Type 0) (bytes : List ℕ) (ops : List Op) (hold most : ℕ) (s : Held)
+    (places : Type 0) : Type 0 where
   -- the rest was still to be read
   ForPiece : (rest : List ℕ) → Starts grammar bytes ops rest → Begins rest → IsWanting grammar Begins bytes ops hold most s places
   -- the next frame is a section's, which has a title, or a note's, which has a body
   ForContent : (rest : List ℕ) → Starts grammar bytes ops rest → AsksMemory rest → IsWanting grammar Begins bytes ops hold most s places
   -- all operations found their place, and the next one, of a frame that may stand for later ones too, would be kept
-  ForOperation : (op : Op) (later : List Op) (behind : List ℕ) → Starts grammar bytes (ops ++ op ∷ later) behind → places → is_kept (answer hold most s op) ≡ true
+  ForOperation : (op : Op) (later : List Op) (behind : List ℕ) → Starts grammar bytes (ops ++ op ∷ later) behind → places
+      → is_kept (answer hold most s op) ≡ true
       → IsWanting grammar Begins bytes ops hold most s places

@@ -4,7 +4,7 @@ ghost use Rattle.replica_file.specs.Loading.{CanTake, IsSameButHeld};
 ghost use Rattle.replica_file.specs.Looks.{LooksOnly, ReadsNoFurther};
 ghost use Rattle.replica_file.specs.Pieces.{Lacks};
 ghost use Rattle.replica_file.specs.Wanting.{AreWholeFrames, BeginsPiece, file_part};
-ghost use Rattle.replica_file.specs.Slots.{HasNoFrames, TakesFrames, TakesInSlots};
+ghost use Rattle.replica_file.specs.Slots.{HasNoFrames, TakesFrames, TakesInFrames};
 
 use crate::loading::Loading;
 use crate::piece::{PIECE, take_piece};
@@ -61,7 +61,7 @@ fn take_some<H: Disk>(
     requires some { 0 < left.len }
     requires ready { CanTake loading.old.replica }
     ensures within { IfOk result (λ len. (0 < len) × (len ≤ left.len)) }
-    ensures took { IfOk result (λ len. IfSome (H.seen disk.old).past (λ h. TakesInSlots left.grammar h.last.seen at left.len len
+    ensures took { IfOk result (λ len. IfSome (H.seen disk.old).past (λ h. TakesInFrames left.grammar h.last.seen at left.len len
         loading.old.finds_place loading.old.replica loading.new.finds_place loading.new.replica)) }
     ensures bad { result ≡ Err Stop.Bad → IfSome (H.seen disk.old).past (λ h.
         HasNoFrames left.grammar h.last.seen at left.len) }

@@ -2,7 +2,7 @@ ghost use Rattle.std.specs.Prelude.{◌≡◌, ◌<◌, ◌≤◌, ◌+◌, ◌^
 ghost use Rattle.fugue_ids.specs.Runs.{run_from};
 ghost use Rattle.op_runs.specs.Deletions.{deletes_up};
 ghost use Rattle.fugue_ids.specs.declared.limits.TheConstants.{BUFFER, GREATEST_HOLD, MOST_OPERATIONS};
-ghost use Rattle.op_frame.specs.NextRuns.{AreSoundRuns, ops_given};
+ghost use Rattle.op_frame.specs.NextRuns.{AreSoundNextOps, ops_given};
 ghost use Rattle.origin_model.specs.taking.Taking.{nothing_held};
 ghost use Rattle.origin_model.specs.edits.State.{IsSound};
 ghost use Rattle.replica_file.specs.Loading.{Feeds, CanTake, IsSameButHeld, WantsMemory};
@@ -47,11 +47,11 @@ impl Loading {
         self.replica
     }
 
-    /// Takes in the next operations: a run's Texts, Deletes of neighbours, or one alone. Refusals change nothing and are no faults, but one too
-    /// many is noted.
+    /// Takes in the next operations: a run's Texts, Deletes of neighbours, or one alone. Refusals change nothing and are
+    /// no faults, but one too many is noted.
     pub(crate) fn take(&mut self, next: NextOps, text: &[char]) -> Result<(), NoMemory>
         requires ready { CanTake self.old.replica }
-        requires sound { AreSoundRuns next text.now }
+        requires sound { AreSoundNextOps next text.now }
         requires short { length text.now ≤ BUFFER }
         ensures feeds { OnOk result (Feeds self.old.finds_place self.old.replica
             self.new.finds_place self.new.replica (ops_given next text.now)) }

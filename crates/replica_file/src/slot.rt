@@ -2,6 +2,7 @@ ghost use Rattle.std.specs.Prelude.{◌≡◌, ◌≢◌, ◌⊎◌, ◌↔◌, 
 ghost use Rattle.origin_model.specs.declared.files.TheConstants.{LONGEST_BATCH};
 ghost use Rattle.origin_model.specs.declared.grammar.Grammar.{Grammar as AnyGrammar};
 ghost use Rattle.origin_model.specs.files.Image.{IsNoBatch, tag_of};
+ghost use Rattle.replica_file.specs.Ends.{longest_slot};
 ghost use Rattle.replica_file.specs.Loading.{CanTake, IsSameButHeld};
 ghost use Rattle.replica_file.specs.Looks.{LooksOnly, ReadsNoFurther};
 ghost use Rattle.replica_file.specs.Slots.{HasNoWord, IsGate, IsWord, LacksInSlot, TakesSlot};
@@ -34,7 +35,7 @@ pub(crate) fn take_slot<H: Disk>(
         (slot : ℕ) → IsNoBatch slot (drop (at + 1) h.last.seen)) }
     ensures memory { result ≡ Err Stop.NoMemory → IfSome (H.seen disk.old).past (λ h.
         LacksInSlot h.last.seen at loading.old.finds_place loading.old.replica) }
-    ensures reaches { IfOk result (λ next. next.at ≤ at + 268435461) }
+    ensures reaches { IfOk result (λ next. next.at ≤ at + longest_slot) }
     ensures ready { OnOk result (CanTake loading.new.replica) }
     ensures same { OnOk result (IsSameButHeld loading.old.replica loading.new.replica) }
     ensures looks { LooksOnly (H.seen disk.old) (H.seen disk.new) (result ≡ Err Stop.Disk) }

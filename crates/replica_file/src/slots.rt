@@ -1,5 +1,5 @@
 ghost use Rattle.std.specs.Prelude.{◌≡◌, ◌+◌, ◌*◌, ◌<◌, ◌≤◌, true, IfSome, IfOk, IfErr, OnOk};
-ghost use Rattle.replica_file.specs.Ends.{IsWithinReach};
+ghost use Rattle.replica_file.specs.Ends.{IsWithinReach, farthest_gate};
 ghost use Rattle.replica_file.specs.Loading.{CanTake, IsSameButHeld};
 ghost use Rattle.replica_file.specs.Looks.{LooksOnly, ReadsNoFurther};
 ghost use Rattle.replica_file.specs.Moments.{WalkedWith, WalksOutWith};
@@ -64,7 +64,7 @@ fn next_gate<H: Disk>(
     requires walked { IfSome (H.seen disk.old).past (λ h.
         WalkedWith h.last.seen slots gate loading.old.replica moments.old.items) }
     requires open { gate.open ≡ true }
-    requires reaches { gate.at ≤ 13 + 268435461 * slots }
+    requires reaches { gate.at ≤ farthest_gate slots }
     requires ready { CanTake loading.old.replica }
     requires finds_place { loading.old.finds_place ≡ true }
     requires most { loading.old.replica.most ≡ most }
@@ -73,7 +73,7 @@ fn next_gate<H: Disk>(
     ensures stops { IfErr result (λ fault. IfSome (H.seen disk.old).past (λ h.
         SlotStopsFor most h.last.seen fault)) }
     ensures more { OnOk result (slots < 4294967295) }
-    ensures reaches { IfOk result (λ next. next.at ≤ 13 + 268435461 * (slots + 1)) }
+    ensures reaches { IfOk result (λ next. next.at ≤ farthest_gate (slots + 1)) }
     ensures finds_place { OnOk result (loading.new.finds_place ≡ true) }
     ensures ready { OnOk result (CanTake loading.new.replica) }
     ensures same { OnOk result (IsSameButHeld loading.old.replica loading.new.replica) }

@@ -91,7 +91,11 @@ module _ (cs : List Cell) (d : AllPairs (λ x y. x ≢ y) (cell_ids cs)) (x : Id
   is-first e =
       let p = around cs x c in
       elim (last-member p.front) [
-        | inl none ↦ (index-other p ∙ ap (λ (zs : List Cell). length zs) none, ap (λ zs. first_id (keyed_cells zs)) (p.is ∙ ap (λ zs. zs ++ p.cell ∷ p.back) none) ∙ ap Some p.named)
+        | inl none ↦ (
+          index-other p ∙ ap (λ (zs : List Cell). length zs) none,
+          ap (λ zs. first_id (keyed_cells zs)) (p.is ∙ ap (λ zs. zs ++ p.cell ∷ p.back) none)
+              ∙ ap Some p.named,
+        )
         | inr q ↦ absurd (none-some q.1.id (e ∙ ap last_id (front-other p) ∙ ap (λ zs. last_id (keyed_cells zs)) q.2 ∙ last-keyed q.0 q.1))
       ]
 

@@ -65,7 +65,8 @@ module _ (r : Kept) (s : AreRuns r) (x : Identifier) (run : Run) (o : ℕ) (spot
       ∙ (λ j. first j + own j)
 
 -- the runs before one show no more cells than there may be
-pub weight-few : (r : Kept) → AreRuns r → (run : Run) (i : ℕ) → StandsAt r.rope i run.id → value_under run.id r.rope ≡ Some run → weight_sum visible_weight (take i r.rope) ≤ MOST_OPERATIONS
+pub weight-few : (r : Kept) → AreRuns r → (run : Run) (i : ℕ) → StandsAt r.rope i run.id → value_under run.id r.rope ≡ Some run
+    → weight_sum visible_weight (take i r.rope) ≤ MOST_OPERATIONS
 weight-few r s run i stands held =
     let spot : IsCellSpot r.rope run.id run 0 = record {
       held = held;

@@ -97,7 +97,8 @@ module _ (r : Kept) (s : AreRuns r) (h : Head) (text : List ℕ) (new : MayComeT
         let old : cells_in r ≡ all_cells r.letters front ++ all_cells r.letters back = ap (all_cells r.letters) is ∙ cells-append r.letters front back in
         joined-sound r s h text new (with_rope between) k (omega (arith, ap length old, length-append (all_cells r.letters front) (all_cells r.letters back)))
         (All-append Q front (new_item ∷ back) (same-runs front before) (All-cons Q new_item back new-run (same-runs back behind)))
-        (between-cells ∙ sym (inserted-at (all_cells r.letters front) (typed_cells h text) (all_cells r.letters back)) ∙ ap (inserted_at k (typed_cells h text)) (sym old)) refl (begun-letters r s h text new)
+        (between-cells ∙ sym (inserted-at (all_cells r.letters front) (typed_cells h text) (all_cells r.letters back)) ∙ ap (inserted_at k (typed_cells h text)) (sym old)) refl
+        (begun-letters r s h text new)
 
     begun-between : (at : Beginning) → placed_at at new_item r.rope ≡ between
         → all_cells r.letters front ++ (typed_cells h text ++ all_cells r.letters back) ≡ begun_run at (typed_cells h text) (cells_in r) → IsBegun at
@@ -127,7 +128,8 @@ module _ (r : Kept) (s : AreRuns r) (h : Head) (text : List ℕ) (new : MayComeT
         let x : List Item = (run.id, run) ∷ [] in
         begun-between (p.front ++ x) p.back (p.is ∙ sym (append_assoc p.front x p.back)) (Behind run)
         (ap (placed_after run.id new_item) p.is ∙ after-at run.id run new_item p.front p.back k.0 k.1 ∙ sym (append_assoc p.front x (new_item ∷ p.back)))
-        (ap (λ cs. cs ++ (typed_cells h text ++ all_cells r.letters p.back)) (cells-append r.letters p.front x ∙ ap (λ cs. all_cells r.letters p.front ++ cs) (append-nil (cells_of r.letters run)))
+        (ap (λ cs. cs ++ (typed_cells h text ++ all_cells r.letters p.back))
+        (cells-append r.letters p.front x ∙ ap (λ cs. all_cells r.letters p.front ++ cs) (append-nil (cells_of r.letters run)))
         ∙ behind-run r s run p.front p.back p.is this (typed_cells h text))
 
   pub is-begun : (at : Beginning) → CanBegin at r.rope → IsBegun at

@@ -1,5 +1,6 @@
 -- The border between two runs of one passage, at any place of it.
-use Rattle.std.proofs.Common.{◌≡◌, ◌≢◌, ◌⊎◌, ℕ, suc, ◌+◌, ◌-◌, ◌<◌, ◌≤◌, true, false, List, [], ◌∷◌, ◌++◌, ap, append_assoc, arith, inl, inr, length, length-drop, refl, subst, sym, take, drop, ◌∙◌}
+use Rattle.std.proofs.Common.{◌≡◌, ◌≢◌, ◌⊎◌, ℕ, suc, ◌+◌, ◌-◌, ◌<◌, ◌≤◌, true, false, List, [], ◌∷◌, ◌++◌, ap, append_assoc, arith, inl, inr, length, length-drop, refl, subst, sym}
+use Rattle.std.proofs.Common.{take, drop, ◌∙◌}
 use Rattle.std.specs.Prelude.{None, Some, cond, slice_index_or}
 use Rattle.std.specs.List.{All}
 use Rattle.std.proofs.lemmas.Bool.{and_parts, eqb-true}

@@ -40,8 +40,10 @@ others-all x (c ∷ cs) a = (ne-id_eq c.id x (λ e. All-head (λ y. x ≢ y) c.i
 -- the cells around one of distinct ones
 pub others-front : (front : List Cell) (c : Cell) (back : List Cell) → AllPairs (λ x y. x ≢ y) (cell_ids (front ++ c ∷ back)) → Others c.id front
 others-front [] c back d = tt
-others-front (a ∷ front) c back d =
-    (ne-id_eq a.id c.id (apart front (all_pairs_head (λ x y. x ≢ y) a.id (cell_ids (front ++ c ∷ back)) d)), others-front front c back (all_pairs_tail (λ x y. x ≢ y) a.id (cell_ids (front ++ c ∷ back)) d))
+others-front (a ∷ front) c back d = (
+  ne-id_eq a.id c.id (apart front (all_pairs_head (λ x y. x ≢ y) a.id (cell_ids (front ++ c ∷ back)) d)),
+  others-front front c back (all_pairs_tail (λ x y. x ≢ y) a.id (cell_ids (front ++ c ∷ back)) d),
+)
   where
     apart : (xs : List Cell) → All (λ y. a.id ≢ y) (cell_ids (xs ++ c ∷ back)) → a.id ≢ c.id
     apart [] all = All-head (λ y. a.id ≢ y) c.id (cell_ids back) all
@@ -76,7 +78,8 @@ pub rest-none : (x : Identifier) (cs : List Cell) → Others x cs → rest_of (S
 rest-none x [] p = refl
 rest-none x (c ∷ cs) p = ap (λ b. if b then keyed_cells cs else rest_of (Some x) (keyed_cells cs)) p.0 ∙ rest-none x cs p.1
 
-pub front-at : (x : Identifier) (front : List Cell) (c : Cell) (back : List Cell) → Others x front → c.id ≡ x → front_of (Some x) (keyed_cells (front ++ c ∷ back)) ≡ keyed_cells front
+pub front-at : (x : Identifier) (front : List Cell) (c : Cell) (back : List Cell) → Others x front → c.id ≡ x
+    → front_of (Some x) (keyed_cells (front ++ c ∷ back)) ≡ keyed_cells front
 front-at x [] c back p e = ap (λ b. if b then [] else record { id = c.id; key = c.key } ∷ front_of (Some x) (keyed_cells back)) (eq-id_eq c.id x e)
 front-at x (a ∷ front) c back p e =
     ap (λ b. if b then [] else record { id = a.id; key = a.key } ∷ front_of (Some x) (keyed_cells (front ++ c ∷ back))) p.0
@@ -88,8 +91,10 @@ follows [] None = refl
 follows (c ∷ cs) None = refl
 follows [] (Some x) = refl
 follows (c ∷ cs) (Some x) = elim (cases_Bool (id_eq c.id x)) [
-  | inl t ↦ ap (λ b. first_id (if b then keyed_cells cs else rest_of (Some x) (keyed_cells cs))) t ∙ first cs ∙ ap (λ b. if b then first_after (cell_ids cs) else following (cell_ids cs) (Some x)) (sym t)
-  | inr f ↦ ap (λ b. first_id (if b then keyed_cells cs else rest_of (Some x) (keyed_cells cs))) f ∙ follows cs (Some x) ∙ ap (λ b. if b then first_after (cell_ids cs) else following (cell_ids cs) (Some x)) (sym f)
+  | inl t ↦ ap (λ b. first_id (if b then keyed_cells cs else rest_of (Some x) (keyed_cells cs))) t ∙ first cs
+      ∙ ap (λ b. if b then first_after (cell_ids cs) else following (cell_ids cs) (Some x)) (sym t)
+  | inr f ↦ ap (λ b. first_id (if b then keyed_cells cs else rest_of (Some x) (keyed_cells cs))) f ∙ follows cs (Some x)
+      ∙ ap (λ b. if b then first_after (cell_ids cs) else following (cell_ids cs) (Some x)) (sym f)
 ]
   where
     first : (xs : List Cell) → first_id (keyed_cells xs) ≡ first_after (cell_ids xs)

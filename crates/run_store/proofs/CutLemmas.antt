@@ -170,7 +170,8 @@ module _ (r : Kept) (s : AreRuns r) (run : Run) (at : ℕ) (v : value_under run.
       )
 
   -- whatever was answered
-  pub cut-left : {T E : Type 0} (res : Result T E) (now : List Item) → OnOk res (now ≡ cut_rope) → OnErr res (now ≡ r.rope) → AreRuns (record { rope = now; letters = r.letters; count = r.count })
+  pub cut-left : {T E : Type 0} (res : Result T E) (now : List Item) → OnOk res (now ≡ cut_rope) → OnErr res (now ≡ r.rope)
+      → AreRuns (record { rope = now; letters = r.letters; count = r.count })
   cut-left res now ok err = either (λ (xs : List Item). AreRuns (record { rope = xs; letters = r.letters; count = r.count })) res cut_rope r.rope now ok err cut-sound s
 
   pub is-cut : {T E : Type 0} (res : Result T E) (now : Kept) → OnOk res (now ≡ cut_runs) → OnErr res (now ≡ r) → IsCut res run at r now

@@ -49,12 +49,14 @@ module _ (r : Kept) (s : AreRuns r) where
       )
 
   -- the index of the cell at a spot
-  pub index-spot : (x : Identifier) (run : Run) (o i : ℕ) → IsCellSpot r.rope x run o → slice_get r.rope i ≡ Some (run.id, run) → index_of (cell_ids (cells_in r)) x ≡ cells_to r.letters r.rope i + o
+  pub index-spot : (x : Identifier) (run : Run) (o i : ℕ) → IsCellSpot r.rope x run o → slice_get r.rope i ≡ Some (run.id, run)
+      → index_of (cell_ids (cells_in r)) x ≡ cells_to r.letters r.rope i + o
   index-spot x run o i at e =
       ap (index_of (cell_ids (cells_in r))) at.is ∙ index-placed r (take i r.rope) run o _ (placed-at r s i run o e at.inside) at.inside
 
   -- the cells of different runs stand as these do
-  pub earlier-runs : (x y : Identifier) (run other : Run) (o p i j : ℕ) → id_eq run.id other.id ≡ false → IsCellSpot r.rope x run o → IsCellSpot r.rope y other p → slice_get r.rope i ≡ Some (run.id, run)
+  pub earlier-runs : (x y : Identifier) (run other : Run) (o p i j : ℕ) → id_eq run.id other.id ≡ false → IsCellSpot r.rope x run o → IsCellSpot r.rope y other p
+      → slice_get r.rope i ≡ Some (run.id, run)
       → slice_get r.rope j ≡ Some (other.id, other) → nat_lt i j ≡ nat_lt (index_of (cell_ids (cells_in r)) x) (index_of (cell_ids (cells_in r)) y)
   earlier-runs x y run other o p i j apart at by e f =
       let a = index-spot x run o i at e in

@@ -58,7 +58,8 @@ module _ (r : Kept) (s : AreRuns r) (x : Identifier) where
       let e = sym spot.is in
       ap (λ cs. cell_of cs x) l.place.cells_is
       ∙ ap (cell_of (cells_before r.letters l.front run o ++ cell_there r.letters run o ∷ cells_behind r.letters run (suc o) l.back)) (spot.is)
-      ∙ cell-at (head_behind o (first_of run)).id (cells_before r.letters l.front run o) (cell_there r.letters run o) (cells_behind r.letters run (suc o) l.back) l.place.before refl
+      ∙ cell-at (head_behind o (first_of run)).id (cells_before r.letters l.front run o) (cell_there r.letters run o)
+      (cells_behind r.letters run (suc o) l.back) l.place.before refl
 
   pub cell-missing : (Contains (cell_ids (cells_in r)) x → ⊥) → cell_of (cells_in r) x ≡ None
   cell-missing n = cell-none x (cells_in r) (others-absent x (cells_in r) n)

@@ -37,7 +37,8 @@ set-stretch (x ∷ L) zero new l = refl
 set-stretch (x ∷ L) (suc i) new l = set-stretch L i new (omega (arith, l))
 
 -- where letters come to one, the first one is as it was or has these letters more
-set-first : (L : List (List ℕ)) (i : ℕ) (more : List ℕ) → length (slice_index_or (slice_set L i (slice_index_or L i [] ++ more)) 0 []) ≤ length (slice_index_or L 0 []) + length more
+set-first : (L : List (List ℕ)) (i : ℕ) (more : List ℕ)
+    → length (slice_index_or (slice_set L i (slice_index_or L i [] ++ more)) 0 []) ≤ length (slice_index_or L 0 []) + length more
 set-first [] i more = omega arith
 set-first (l ∷ L) zero more = omega (arith, length-append l more)
 set-first (l ∷ L) (suc i) more = omega arith

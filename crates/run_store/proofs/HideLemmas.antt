@@ -1,5 +1,6 @@
 -- Cells that are hidden, in a run of their own.
-use Rattle.std.proofs.Common.{◌≡◌, ◌≢◌, ◌+◌, ◌<◌, ◌≤◌, ℕ, zero, suc, true, false, List, [], ◌∷◌, ◌++◌, ap, append_assoc, arith, length, length-drop, refl, subst, sym, take, drop, ◌∙◌}
+use Rattle.std.proofs.Common.{◌≡◌, ◌≢◌, ◌+◌, ◌<◌, ◌≤◌, ℕ, zero, suc, true, false, List, [], ◌∷◌, ◌++◌, ap, append_assoc, arith, length, length-drop, refl, subst, sym, take, drop}
+use Rattle.std.proofs.Common.{◌∙◌}
 use Rattle.std.specs.Prelude.{Bool, OnErr, OnOk, Result, Some, cond, if◌then◌else◌, map}
 use Rattle.std.specs.List.{All, AllPairs}
 use Rattle.std.proofs.lemmas.List.{length-map, length-take-le, take-append-drop}
@@ -193,7 +194,8 @@ module _ (r : Kept) (s : AreRuns r) (run : Run) (at : ℕ) (v : value_under run.
   with_rope xs = record { rope = xs; letters = r.letters; count = r.count }
 
   -- what a call left that puts it so, or changes nothing for want of memory
-  module _ {T E : Type 0} (res : Result T E) (now rope : List Item) (e : rope ≡ put_under part.id (record part { hidden = true }) (rope_parted at run r.rope)) (ok : OnOk res (now ≡ rope))
+  module _ {T E : Type 0} (res : Result T E) (now rope : List Item) (e : rope ≡ put_under part.id (record part { hidden = true }) (rope_parted at run r.rope))
+      (ok : OnOk res (now ≡ rope))
       (err : OnErr res (now ≡ r.rope)) where
     made : OnOk res (now ≡ to.rope)
     made = on-ok res (now ≡ rope) (now ≡ to.rope) (λ q. q ∙ e) ok

@@ -152,7 +152,8 @@ module _ (r : Kept) (s : AreRuns r) where
       pub extended-sound : AreRuns extended
       extended-sound =
           let p = found run.id run r.rope v in
-          joined-sound r s h text new extended (suc (index_of (cell_ids (cells_in r)) (last_id_of_run run))) (behind-within run p.front p.back p.is this) (extended-each p.front p.back p.is)
+          joined-sound r s h text new extended (suc (index_of (cell_ids (cells_in r)) (last_id_of_run run))) (behind-within run p.front p.back p.is this)
+          (extended-each p.front p.back p.is)
           extended-cells refl (il.few r.count this.ends s.letters)
 
       pub extended-length : length extended.rope ≡ length r.rope

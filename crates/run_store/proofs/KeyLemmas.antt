@@ -28,7 +28,8 @@ keyed-append = map-append keyed_cell
 fit-typed : (h : Head) (ls : List ℕ) → h.key.depth + length ls ≤ 2 ^ 32 → h.key.forest < 2 ^ 32 → All IsFit (keyed_cells (typed_cells h ls))
 fit-typed h [] d f = All-nil IsFit
 fit-typed h (l ∷ ls) d f =
-    All-cons IsFit (record { id = h.id; key = h.key }) (keyed_cells (typed_cells (next_head h) ls)) (omega (arith, d), f) (fit-typed (next_head h) ls (omega (arith, d)) (omega arith))
+    All-cons IsFit (record { id = h.id; key = h.key }) (keyed_cells (typed_cells (next_head h) ls)) (omega (arith, d), f)
+    (fit-typed (next_head h) ls (omega (arith, d)) (omega arith))
 
 fit-runs : (L : List (List ℕ)) (n : ℕ) → n ≤ MOST_OPERATIONS → (xs : List Item) → All (IsRun L n) xs → All IsFit (keyed_cells (all_cells L xs))
 fit-runs L n few [] a = All-nil IsFit

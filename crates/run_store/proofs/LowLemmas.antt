@@ -1,5 +1,6 @@
 -- The nearest cells whose keys are low enough: the keys of a run rise, so its first cell tells whether it has one.
-use Rattle.std.proofs.Common.{◌≡◌, ℕ, zero, suc, ◌+◌, ◌<◌, ◌≤◌, ◌^◌, Bool, true, false, not, List, [], ◌∷◌, ◌++◌, ap, append-nil, arith, cond, inl, inr, length, length-drop, refl, subst, sym, take, drop, get_or, ◌∙◌}
+use Rattle.std.proofs.Common.{◌≡◌, ℕ, zero, suc, ◌+◌, ◌<◌, ◌≤◌, ◌^◌, Bool, true, false, not, List, [], ◌∷◌, ◌++◌, ap, append-nil, arith, cond, inl, inr, length, length-drop, refl}
+use Rattle.std.proofs.Common.{subst, sym, take, drop, get_or, ◌∙◌}
 use Rattle.std.specs.Prelude.{Option, None, Some, filter, nat_le, option_map, slice_get}
 use Rattle.std.specs.List.{All}
 use Rattle.std.proofs.lemmas.Bool.{cases_Bool, cases_lt}
@@ -64,9 +65,11 @@ module _ (k : Key) where
   last-none-back cs ds e = last-front cs ds (no_last (filter (is_low k) (keyed_cells ds)) e)
 
   -- a cell that is low, and behind which none is
-  last-at : (cs : List Cell) (c : Cell) (ds : List Cell) → not (key_lt k c.key) ≡ true → filter (is_low k) (keyed_cells ds) ≡ [] → last_low k (keyed_cells (cs ++ c ∷ ds)) ≡ Some c.id
+  last-at : (cs : List Cell) (c : Cell) (ds : List Cell) → not (key_lt k c.key) ≡ true → filter (is_low k) (keyed_cells ds) ≡ []
+      → last_low k (keyed_cells (cs ++ c ∷ ds)) ≡ Some c.id
   last-at cs c ds l e =
-      ap last_id (parts-low cs (c ∷ ds) ∙ ap (λ t. filter (is_low k) (keyed_cells cs) ++ t) (low_one k (record { id = c.id; key = c.key }) (keyed_cells ds) l ∙ ap (λ t. record { id = c.id; key = c.key } ∷ t) e))
+      ap last_id (parts-low cs (c ∷ ds) ∙ ap (λ t. filter (is_low k) (keyed_cells cs) ++ t)
+      (low_one k (record { id = c.id; key = c.key }) (keyed_cells ds) l ∙ ap (λ t. record { id = c.id; key = c.key } ∷ t) e))
       ∙ last_push (filter (is_low k) (keyed_cells cs)) (record { id = c.id; key = c.key })
 
   -- by its depth a cell behind the first is low, or not
@@ -77,7 +80,8 @@ module _ (k : Key) where
   deep-high a d = grind (arith, nat_tests)
 
   -- what stands behind a place whose depth is as great is not low
-  behind-high : (h : Head) (ls : List ℕ) (o : ℕ) → (suc o < length ls → k.depth ≤ h.key.depth + o) → filter (is_low k) (keyed_cells (typed_cells (head_behind (suc o) h) (drop (suc o) ls))) ≡ []
+  behind-high : (h : Head) (ls : List ℕ) (o : ℕ) → (suc o < length ls → k.depth ≤ h.key.depth + o)
+      → filter (is_low k) (keyed_cells (typed_cells (head_behind (suc o) h) (drop (suc o) ls))) ≡ []
   behind-high h ls o n =
       elim (cases_lt (suc o) (length ls)) [
         | inl l ↦ none-low (head_behind (suc o) h) (drop (suc o) ls) (deep-high (head_behind (suc o) h).key (omega (arith, n l, behind-depth (suc o) h)))
@@ -95,7 +99,8 @@ module _ (k : Key) where
       ∙ last-at (typed_cells h (take o ls)) c behind low (behind-high h ls o n)
 
   -- it is the first one, where no other is low
-  pub last-first : (h : Head) (ls : List ℕ) → 0 < length ls → not (key_lt k h.key) ≡ true → (1 < length ls → k.depth ≤ h.key.depth) → last_low k (keyed_cells (typed_cells h ls)) ≡ Some h.id
+  pub last-first : (h : Head) (ls : List ℕ) → 0 < length ls → not (key_lt k h.key) ≡ true → (1 < length ls → k.depth ≤ h.key.depth)
+      → last_low k (keyed_cells (typed_cells h ls)) ≡ Some h.id
   last-first h [] l e n = absurd (omega (arith, l))
   last-first h (c ∷ []) l e n = last-at [] (cell_with_letter h c) [] e refl
   last-first h (c ∷ d ∷ cs) l e n =
@@ -112,10 +117,12 @@ module _ (k : Key) where
   last-empty h (c ∷ cs) l = absurd (omega (arith, l))
 
   -- the first low cell from a place on that is not the first
-  pub first-from : (h : Head) (ls : List ℕ) (o : ℕ) → 0 < o → o < length ls → h.key.depth + o ≤ k.depth → first_low k (keyed_cells (typed_cells (head_behind o h) (drop o ls))) ≡ Some (head_behind o h).id
+  pub first-from : (h : Head) (ls : List ℕ) (o : ℕ) → 0 < o → o < length ls → h.key.depth + o ≤ k.depth
+      → first_low k (keyed_cells (typed_cells (head_behind o h) (drop o ls))) ≡ Some (head_behind o h).id
   first-from h ls o p l d =
       ap (λ cs. first_low k (keyed_cells cs)) (sym (append-nil (typed_cells (head_behind o h) (drop o ls))))
-      ∙ first-typed-low (head_behind o h) (drop o ls) [] (omega (arith, l, length-drop o ls)) (deep-low (head_behind o h).key (omega (arith, d, behind-depth o h)) (behind-forest o h p))
+      ∙ first-typed-low (head_behind o h) (drop o ls) [] (omega (arith, l, length-drop o ls))
+      (deep-low (head_behind o h).key (omega (arith, d, behind-depth o h)) (behind-forest o h p))
 
   pub none-from : (h : Head) (ls : List ℕ) (o : ℕ) → k.depth < h.key.depth + o → first_low k (keyed_cells (typed_cells (head_behind o h) (drop o ls))) ≡ None
   none-from h ls o d = ap first_id (none-low (head_behind o h) (drop o ls) (deep-high (head_behind o h).key (omega (arith, d, behind-depth o h))))
@@ -158,10 +165,13 @@ module _ (k : Key) where
     last_in (Some x) = last_low k (keyed_cells (cells_of L x.1))
 
     -- the last low run is one of the runs, and its first cell is low
-    pub last-run-low : (xs : List Item) → All (IsRun L n) xs → (y : Item) → last_run run_rank (rank_of k) xs ≡ Some y → (not (key_lt k y.1.key) ≡ true) × ((i : ℕ) × (slice_get xs i ≡ Some y))
+    pub last-run-low : (xs : List Item) → All (IsRun L n) xs → (y : Item) → last_run run_rank (rank_of k) xs ≡ Some y
+        → (not (key_lt k y.1.key) ≡ true) × ((i : ℕ) × (slice_get xs i ≡ Some y))
     last-run-low [] a y e = cc
     last-run-low (x ∷ xs) a y e =
-        (elim (last_run run_rank (rank_of k) xs) as (λ o. last_run run_rank (rank_of k) xs ≡ o → or_else o (if_low run_rank (rank_of k) x) ≡ Some y → (not (key_lt k y.1.key) ≡ true) × ((i : ℕ) × (slice_get (x ∷ xs) i ≡ Some y))) [
+        (elim (last_run run_rank (rank_of k) xs) as
+        (λ o. last_run run_rank (rank_of k) xs ≡ o → or_else o (if_low run_rank (rank_of k) x) ≡ Some y
+        → (not (key_lt k y.1.key) ≡ true) × ((i : ℕ) × (slice_get (x ∷ xs) i ≡ Some y))) [
           | Some z ↦ (λ f g. let p = last-run-low xs (All-tail (IsRun L n) x xs a) y (f ∙ g) in (p.0, (suc p.1.0, p.1.1)))
           | None ↦ (λ f g. own g)
         ]) refl e

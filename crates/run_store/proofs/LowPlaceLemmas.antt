@@ -59,7 +59,8 @@ module _ (r : Kept) (s : AreRuns r) (k : Key) (fits : k.forest < 2 ^ 32) where
         ∙ ap (last_in k r.letters r.count fits few) (keyed-none found (e ∙ told-is))
 
     module _ (y : Identifier) (e : Some y ≡ told) where
-      pub run-told : (run : Run) × (value_under y r.rope ≡ Some run) × (last_low k (keyed_cells (all_cells r.letters (take n r.rope))) ≡ last_low k (keyed_cells (cells_of r.letters run)))
+      pub run-told : (run : Run) × (value_under y r.rope ≡ Some run)
+          × (last_low k (keyed_cells (all_cells r.letters (take n r.rope))) ≡ last_low k (keyed_cells (cells_of r.letters run)))
       run-told =
           let p = keyed-some found y (e ∙ told-is) in
           let x : Item = p.0 in
@@ -71,7 +72,8 @@ module _ (r : Kept) (s : AreRuns r) (k : Key) (fits : k.forest < 2 ^ 32) where
           )
 
       -- it is the run under that key
-      pub low-told : (run : Run) → Some run ≡ value_under y r.rope → last_low k (keyed_cells (all_cells r.letters (take n r.rope))) ≡ last_low k (keyed_cells (cells_of r.letters run))
+      pub low-told : (run : Run) → Some run ≡ value_under y r.rope
+          → last_low k (keyed_cells (all_cells r.letters (take n r.rope))) ≡ last_low k (keyed_cells (cells_of r.letters run))
       low-told run v =
           let p = run-told in
           let w : Some run ≡ Some p.0 = v ∙ p.1 in
@@ -93,26 +95,32 @@ module _ (r : Kept) (s : AreRuns r) (k : Key) (fits : k.forest < 2 ^ 32) where
     front-len = length-take-le o letters (omega (arith, letters-len, spot.inside))
 
     -- the first low cell behind it
-    pub first-inside : (n : ℕ) → n ≡ suc o → (y : Identifier) → Some y ≡ first_low k (keyed_cells (typed_cells (head_behind n (first_of run)) (drop n letters))) → Some y ≡ first_low k (rest_of (Some x) (keyed_cells (cells_in r)))
+    pub first-inside : (n : ℕ) → n ≡ suc o → (y : Identifier) → Some y ≡ first_low k (keyed_cells (typed_cells (head_behind n (first_of run)) (drop n letters)))
+        → Some y ≡ first_low k (rest_of (Some x) (keyed_cells (cells_in r)))
     first-inside n i y e =
         let l = located r s run o spot.held spot.inside in
-        let f : first_low k (keyed_cells (typed_cells (head_behind (suc o) (first_of run)) (drop (suc o) letters))) ≡ Some y = ap (λ j. first_low k (keyed_cells (typed_cells (head_behind j (first_of run)) (drop j letters)))) (sym i) ∙ sym e in
+        let f : first_low k (keyed_cells (typed_cells (head_behind (suc o) (first_of run)) (drop (suc o) letters))) ≡ Some y =
+        ap (λ j. first_low k (keyed_cells (typed_cells (head_behind j (first_of run)) (drop j letters)))) (sym i) ∙ sym e in
         sym (ap (first_low k) (rest-spot r s x run o spot l.front l.back l.place)
         ∙ first-front k (typed_cells (head_behind (suc o) (first_of run)) (drop (suc o) letters)) (all_cells r.letters l.back) y f)
 
-    pub first-outside : (n : ℕ) → n ≡ suc o → None ≡ first_low k (keyed_cells (typed_cells (head_behind n (first_of run)) (drop n letters))) → (i j : ℕ) → slice_get r.rope i ≡ Some (run.id, run) → j ≡ suc i
+    pub first-outside : (n : ℕ) → n ≡ suc o → None ≡ first_low k (keyed_cells (typed_cells (head_behind n (first_of run)) (drop n letters))) → (i j : ℕ)
+        → slice_get r.rope i ≡ Some (run.id, run) → j ≡ suc i
         → first_low k (keyed_cells (all_cells r.letters (drop j r.rope))) ≡ first_low k (rest_of (Some x) (keyed_cells (cells_in r)))
     first-outside n e none i j at d =
-        let f : first_low k (keyed_cells (typed_cells (head_behind (suc o) (first_of run)) (drop (suc o) letters))) ≡ None = ap (λ j. first_low k (keyed_cells (typed_cells (head_behind j (first_of run)) (drop j letters)))) (sym e) ∙ sym none in
+        let f : first_low k (keyed_cells (typed_cells (head_behind (suc o) (first_of run)) (drop (suc o) letters))) ≡ None =
+        ap (λ j. first_low k (keyed_cells (typed_cells (head_behind j (first_of run)) (drop j letters)))) (sym e) ∙ sym none in
         ap (λ z. first_low k (keyed_cells (all_cells r.letters (drop z r.rope)))) d
         ∙ sym (ap (first_low k) (rest-spot r s x run o spot (take i r.rope) (drop (suc i) r.rope) (placed-at r s i run o at spot.inside))
         ∙ first-past k (typed_cells (head_behind (suc o) (first_of run)) (drop (suc o) letters)) (all_cells r.letters (drop (suc i) r.rope)) f)
 
     -- the last low cell before it
-    pub last-inside : (y : Identifier) → Some y ≡ last_low k (keyed_cells (typed_cells (first_of run) (take o letters))) → Some y ≡ last_low k (front_of (Some x) (keyed_cells (cells_in r)))
+    pub last-inside : (y : Identifier) → Some y ≡ last_low k (keyed_cells (typed_cells (first_of run) (take o letters)))
+        → Some y ≡ last_low k (front_of (Some x) (keyed_cells (cells_in r)))
     last-inside y e =
         let l = located r s run o spot.held spot.inside in
-        sym (ap (last_low k) (front-spot r s x run o spot l.front l.back l.place) ∙ last-back k (all_cells r.letters l.front) (typed_cells (first_of run) (take o letters)) y (sym e))
+        sym (ap (last_low k) (front-spot r s x run o spot l.front l.back l.place)
+        ∙ last-back k (all_cells r.letters l.front) (typed_cells (first_of run) (take o letters)) y (sym e))
 
     pub last-outside : None ≡ last_low k (keyed_cells (typed_cells (first_of run) (take o letters))) → (i : ℕ) → slice_get r.rope i ≡ Some (run.id, run)
         → last_low k (keyed_cells (all_cells r.letters (take i r.rope))) ≡ last_low k (front_of (Some x) (keyed_cells (cells_in r)))

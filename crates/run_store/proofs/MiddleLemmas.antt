@@ -50,7 +50,8 @@ contains-drop (suc n) [] y c = c
 contains-drop (suc n) (x ∷ xs) y c = contains_there x xs y (contains-drop n xs y c)
 
 -- an index among the members behind a place
-end-behind : (xs : List Identifier) → AllPairs (λ x y. x ≢ y) xs → (n : ℕ) → n ≤ length xs → (to : Option Identifier) → HoldsOrigin (drop n xs) to → end_index xs to ≡ n + end_index (drop n xs) to
+end-behind : (xs : List Identifier) → AllPairs (λ x y. x ≢ y) xs → (n : ℕ) → n ≤ length xs → (to : Option Identifier) → HoldsOrigin (drop n xs) to
+    → end_index xs to ≡ n + end_index (drop n xs) to
 end-behind xs d n l None h = omega (arith, l, length-drop n xs)
 end-behind xs d zero l (Some y) h = omega arith
 end-behind [] d (suc n) l (Some y) h = absurd (contains_none y h)
@@ -81,7 +82,8 @@ no-ids : (es : List Keyed) → ids_of es ≡ [] → es ≡ []
 no-ids [] e = refl
 no-ids (x ∷ es) e = cc
 
-module _ (r : Kept) (s : AreRuns r) (from to : Option Identifier) (held : HoldsOrigin (cell_ids (cells_in r)) from) (behind : HoldsOrigin (ids_of (rest_of from (keyed_cells (cells_in r)))) to) where
+module _ (r : Kept) (s : AreRuns r) (from to : Option Identifier) (held : HoldsOrigin (cell_ids (cells_in r)) from)
+    (behind : HoldsOrigin (ids_of (rest_of from (keyed_cells (cells_in r)))) to) where
   abbrev xs : List Identifier
   xs = cell_ids (cells_in r)
 
@@ -131,7 +133,8 @@ module _ (r : Kept) (s : AreRuns r) (from to : Option Identifier) (held : HoldsO
     as_within : (m : Identifier) → IsMemberWithin xs low high m → IsMemberWithin xs n (end_index xs to) m
     as_within m i = record { held = i.held; from = omega (arith, i.from, begins); to = omega (arith, i.to, ends) }
 
-    pub none-answers : (o : Option Found) → IfSome o (λ m. IsMemberWithin xs low high m.id) → IfNone o (high ≤ low) → (IsNone o → between from to es ≡ []) × (between from to es ≡ [] → IsNone o)
+    pub none-answers : (o : Option Found) → IfSome o (λ m. IsMemberWithin xs low high m.id) → IfNone o (high ≤ low)
+        → (IsNone o → between from to es ≡ []) × (between from to es ≡ [] → IsNone o)
     none-answers None some none = ((λ z. none-between (omega (arith, none, begins, ends))), (λ z. refl))
     none-answers (Some m) some none = ((λ z. absurd (cc z)), (λ z. absurd (some-between m.id (one-between m.id (as_within m.id some)) z)))
 

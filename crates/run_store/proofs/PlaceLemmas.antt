@@ -134,7 +134,8 @@ module _ (L : List (List ℕ)) (n : ℕ) where
       ap (λ cs. all_cells L front ++ cs) (more (first_of run) o ls m)
       ∙ sym (append_assoc (all_cells L front) (typed_cells (first_of run) (take o ls)) (cell_there L run o ∷ []))
     where
-      more : (h : Head) (k : ℕ) (xs : List ℕ) → k < length xs → typed_cells h (take (suc k) xs) ≡ typed_cells h (take k xs) ++ cell_with_letter (head_behind k h) (get_or xs k 0) ∷ []
+      more : (h : Head) (k : ℕ) (xs : List ℕ) → k < length xs
+          → typed_cells h (take (suc k) xs) ≡ typed_cells h (take k xs) ++ cell_with_letter (head_behind k h) (get_or xs k 0) ∷ []
       more h k [] m = absurd (omega (arith, m))
       more h zero (x ∷ xs) m = refl
       more h (suc k) (x ∷ xs) m =

@@ -1,5 +1,6 @@
 -- Where the cells of a run stand among all.
-use Rattle.std.proofs.Common.{◌≡◌, ◌≢◌, ℕ, suc, ◌<◌, ◌≤◌, false, List, [], ◌∷◌, ◌++◌, ap, append_assoc, arith, get_or, length, length-append, length-drop, subst, sym, take, drop, ◌∙◌}
+use Rattle.std.proofs.Common.{◌≡◌, ◌≢◌, ℕ, suc, ◌<◌, ◌≤◌, false, List, [], ◌∷◌, ◌++◌, ap, append_assoc, arith, get_or, length, length-append, length-drop, subst, sym, take, drop}
+use Rattle.std.proofs.Common.{◌∙◌}
 use Rattle.std.specs.Prelude.{Some, slice_index_or}
 use Rattle.std.specs.List.{All, AllPairs}
 use Rattle.std.proofs.lemmas.Grind.{flat_map-append}
@@ -87,7 +88,8 @@ pub record IsPlaced (r : Kept) (front : List Item) (run : Run) (o : ℕ) (back :
   pub before : Others (head_behind o (first_of run)).id (cells_before r.letters front run o)
   pub behind : Others (head_behind o (first_of run)).id (cells_behind r.letters run (suc o) back)
 
-pub placed : (r : Kept) → AreRuns r → (front : List Item) (run : Run) (o : ℕ) (back : List Item) → r.rope ≡ front ++ (run.id, run) ∷ back → o < run.len → IsPlaced r front run o back
+pub placed : (r : Kept) → AreRuns r → (front : List Item) (run : Run) (o : ℕ) (back : List Item) → r.rope ≡ front ++ (run.id, run) ∷ back → o < run.len
+    → IsPlaced r front run o back
 placed r s front run o back is l =
     let runs : All (IsRun r.letters r.count) (front ++ (run.id, run) ∷ back) = subst (All (IsRun r.letters r.count)) is s.each in
     let this = All-head (IsRun r.letters r.count) (run.id, run) back (all_behind (IsRun r.letters r.count) front ((run.id, run) ∷ back) runs) in

@@ -27,7 +27,8 @@ module _ (r : Kept) (s : AreRuns r) where
       )
 
   -- a cell of a run, between two offsets
-  pub in-run : (run : Run) (i o from to : ℕ) (x : Identifier) → x ≡ (head_behind o (first_of run)).id → slice_get r.rope i ≡ Some (run.id, run) → from ≤ o → o < to → o < run.len → IsInRun r.rope i from to x
+  pub in-run : (run : Run) (i o from to : ℕ) (x : Identifier) → x ≡ (head_behind o (first_of run)).id → slice_get r.rope i ≡ Some (run.id, run) → from ≤ o → o < to → o < run.len
+      → IsInRun r.rope i from to x
   in-run run i o from to x e at low high inside = record {
     run = run;
     offset = o;
@@ -84,7 +85,8 @@ module _ (r : Kept) (s : AreRuns r) where
         cases_up : (a c : ℕ) → (a ≤ c) ⊎ (c < a)
         cases_up a c = grind arith
 
-    within-by : (k from to : ℕ) (x : Identifier) → (c : IsInRun r.rope k from to x) → low ≤ cells_to r.letters r.rope k + c.offset → cells_to r.letters r.rope k + c.offset < high → IsMemberWithin (cell_ids (cells_in r)) low high x
+    within-by : (k from to : ℕ) (x : Identifier) → (c : IsInRun r.rope k from to x) → low ≤ cells_to r.letters r.rope k + c.offset → cells_to r.letters r.rope k + c.offset < high
+        → IsMemberWithin (cell_ids (cells_in r)) low high x
     within-by k from to x c l h =
         let n = index-spot r s x c.run c.offset k c.spot c.at in
         record { held = spot-held r s x c.run c.offset c.spot; from = omega (arith, n, l); to = omega (arith, n, h) }
@@ -121,7 +123,8 @@ module _ (r : Kept) (s : AreRuns r) where
     pub some-second : i < j → (x : Identifier) → IsInRun r.rope j 0 p x → IsMemberWithin (cell_ids (cells_in r)) low high x
     some-second l x c = within-by j 0 p x c (omega (arith, begin-before j l end-within)) (omega (arith, c.to))
 
-    pub none-next : j ≡ suc i → (to : ℕ) → to ≡ 4294967295 → ((x : Item) → slice_get r.rope i ≡ Some x → o < to → x.1.len ≤ o) → ((x : Item) → slice_get r.rope j ≡ Some x → 0 < p → x.1.len ≤ 0) → high ≤ low
+    pub none-next : j ≡ suc i → (to : ℕ) → to ≡ 4294967295 → ((x : Item) → slice_get r.rope i ≡ Some x → o < to → x.1.len ≤ o)
+        → ((x : Item) → slice_get r.rope j ≡ Some x → 0 < p → x.1.len ≤ 0) → high ≤ low
     none-next q to m first second =
         let x = item-at i (omega (arith, q, end-within)) in
         let this = run-at r s i x.0.0 x.0.1 x.1 in

@@ -56,7 +56,8 @@ pub record IsUnderWay (L : List (List ℕ)) (rope : List Item) (u v : OutView) (
   pub gathered : GathersText {T = Unit {0}} u v p q (Ok tt) (flat_map (run_text L) (take place rope))
 
 -- what comes first of a walk that has the runs from a place on
-pub next-run : (r : Kept) → AreRuns r → (walk : List Item) (i : ℕ) → walk ≡ drop i r.rope → (run : Run) → Some run ≡ option_map (λ (x : Item). x.1) (slice_get walk 0) → slice_get r.rope i ≡ Some (run.id, run)
+pub next-run : (r : Kept) → AreRuns r → (walk : List Item) (i : ℕ) → walk ≡ drop i r.rope → (run : Run) → Some run ≡ option_map (λ (x : Item). x.1) (slice_get walk 0)
+    → slice_get r.rope i ≡ Some (run.id, run)
 next-run r s walk i left run first =
     run-named r s i run (sym (first ∙ ap (λ ys. option_map (λ (x : Item). x.1) (slice_get ys 0)) left ∙ ap (option_map (λ (x : Item). x.1)) (drop-first r.rope i)))
 

@@ -20,7 +20,8 @@ last_shown a = record (head_behind (a.len - 1) (first_of a)) { hidden = false }
 abbrev pub run_continues : Run → Run → Bool
 run_continues a b =
     is_continued (Some (cell_with_letter (last_shown a) 0)) b.id b.left b.right
-    && (nat_eq b.key.depth ((last_shown a).key.depth + 1) && (nat_eq b.key.forest 0 && (nat_eq b.stretch a.stretch && nat_eq b.start (a.start + a.len))))
+    && (nat_eq b.key.depth ((last_shown a).key.depth + 1)
+    && (nat_eq b.key.forest 0 && (nat_eq b.stretch a.stretch && nat_eq b.start (a.start + a.len))))
 
 -- b stands directly behind a, and goes on from it
 pub record IsBorder (rope : List (Identifier × Run)) (a b : Run) : Type 0 where

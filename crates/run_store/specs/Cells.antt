@@ -1,5 +1,6 @@
 -- Cells in a list.
-use Rattle.std.specs.Prelude.{Bool, not, if◌then◌else◌, ◌&&◌, List, [], ◌∷◌, Option, Some, None, option_map, ℕ, zero, suc, map, filter, length, take, true}
+use Rattle.std.specs.Prelude.{Bool, not, if◌then◌else◌, ◌&&◌, List, [], ◌∷◌, Option, Some, None, option_map, ℕ, zero, suc, map, filter}
+use Rattle.std.specs.Prelude.{length, take, true}
 use Rattle.std.specs.List.{list_any}
 use Rattle.fugue_ids.specs.Identifiers.{Identifier, id_eq}
 use Rattle.fugue_ids.specs.Keys.{Keyed}

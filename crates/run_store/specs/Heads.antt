@@ -7,15 +7,27 @@ use Rattle.run_store.specs.declared.cell.Head.{Head}
 
 -- the cell directly behind this one in its run
 abbrev pub next_head : Head → Head
-next_head h = record { id = id_behind h.id 1; left = Some h.id; right = h.right; hidden = h.hidden; key = record { depth = suc h.key.depth; forest = 0 } }
+next_head h = record {
+  id = id_behind h.id 1;
+  left = Some h.id;
+  right = h.right;
+  hidden = h.hidden;
+  key = record { depth = suc h.key.depth; forest = 0 };
+}
 
 -- the cell n behind this one in its run
 abbrev pub head_behind : ℕ → Head → Head
 head_behind zero h = h
 head_behind (suc n) h =
-    record { id = id_behind h.id (suc n); left = Some (id_behind h.id n); right = h.right; hidden = h.hidden; key = record { depth = h.key.depth + suc n; forest = 0 } }
+    record {
+      id = id_behind h.id (suc n);
+      left = Some (id_behind h.id n);
+      right = h.right;
+      hidden = h.hidden;
+      key = record { depth = h.key.depth + suc n; forest = 0 };
+    }
 
--- a cell with its letter, and without
+-- the cell of a head, with its letter
 abbrev pub cell_with_letter : Head → ℕ → Cell
 cell_with_letter h ch = record { id = h.id; left = h.left; right = h.right; ch = ch; hidden = h.hidden; key = h.key }
 

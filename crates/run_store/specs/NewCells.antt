@@ -37,8 +37,9 @@ cell_forest (Some c) left = if origin_eq c.left left then suc c.key.forest else 
 abbrev pub forest_beside : List Cell → Option Identifier → Option Identifier → ℕ
 forest_beside cells left right = cell_forest (cell_of_origin cells right) left
 
--- The key of a new cell: one deeper than its left origin, and its forest is one more than that of its right origin, where that has the same left origin.
--- Where the left origin has the right origin itself, the forest is 0. (An element whose origins are older than itself is not both left and right of another.)
+-- The key of a new cell: one deeper than its left origin, and its forest is one more than that of its right origin,
+-- where that has the same left origin. Where the left origin has the right origin itself, the forest is 0. (An element
+-- whose origins are older than itself is not both left and right of another.)
 abbrev pub new_cell_key : List Cell → Option Identifier → Option Identifier → Key
 new_cell_key cells left right = record {
   depth = suc (depth_under cells left);
@@ -47,7 +48,8 @@ new_cell_key cells left right = record {
 
 -- a new cell, which is not hidden
 abbrev pub new_cell : List Cell → Identifier → Option Identifier → Option Identifier → ℕ → Cell
-new_cell cells id left right ch = record { id = id; left = left; right = right; ch = ch; hidden = false; key = new_cell_key cells left right }
+new_cell cells id left right ch =
+    record { id = id; left = left; right = right; ch = ch; hidden = false; key = new_cell_key cells left right }
 
 -- what it says of itself
 abbrev pub new_head : List Cell → Identifier → Option Identifier → Option Identifier → Head
@@ -62,7 +64,8 @@ abbrev pub cell_before : List Cell → ℕ → Option Cell
 cell_before cells zero = None
 cell_before cells (suc i) = slice_get cells i
 
--- a new cell directly behind this one continues its run: this one is its left origin and the one before it of the same replica, has the same right origin and is not hidden
+-- a new cell directly behind this one continues its run: this one is its left origin and the one before it of the same
+-- replica, has the same right origin and is not hidden
 abbrev pub is_continued : Option Cell → Identifier → Option Identifier → Option Identifier → Bool
 is_continued None id left right = false
 is_continued (Some c) id left right = origin_eq left (Some c.id) && (id_eq id (next_id c.id) && (origin_eq right c.right && not c.hidden))

@@ -1,5 +1,6 @@
 -- Runs of cells: each keeps its first cell, and finds its letters in a stretch of them.
-use Rattle.std.specs.Prelude.{◌≡◌, ◌≢◌, ◌≤◌, ◌<◌, ◌^◌, ℕ, ◌+◌, ◌-◌, List, [], Some, All, AllPairs, drop, flat_map, length, take, slice_index_or, if◌then◌else◌, min}
+use Rattle.std.specs.Prelude.{◌≡◌, ◌≢◌, ◌≤◌, ◌<◌, ◌^◌, ℕ, ◌+◌, ◌-◌, List, [], Some, All, AllPairs, drop, flat_map, length, take}
+use Rattle.std.specs.Prelude.{slice_index_or, if◌then◌else◌, min}
 use Rattle.fugue_ids.specs.Identifiers.{Identifier}
 use Rattle.fugue_ids.specs.declared.limits.TheConstants.{MOST_OPERATIONS}
 use Rattle.node_rope.specs.Beside.{placed_after, put_under}
@@ -79,7 +80,16 @@ run_to n r = record r { len = n }
 abbrev pub run_behind : ℕ → Run → Run
 run_behind n r =
     let h = head_behind n (first_of r) in
-    record { id = h.id; left = h.left; right = h.right; hidden = h.hidden; key = h.key; stretch = r.stretch; start = r.start + n; len = r.len - n }
+    record {
+      id = h.id;
+      left = h.left;
+      right = h.right;
+      hidden = h.hidden;
+      key = h.key;
+      stretch = r.stretch;
+      start = r.start + n;
+      len = r.len - n;
+    }
 
 -- the rope with two runs in the place of one, whose key the first keeps
 abbrev pub parted_as : Identifier → Run → Run → List (Identifier × Run) → List (Identifier × Run)

@@ -42,7 +42,8 @@ IsBegin rope place offset = ((place ≡ 0) × (offset ≡ 0)) ⊎ ((x : Identifi
 
 -- a standing before which they may stand: the end of all, or that of a cell
 abbrev pub IsEndStanding : List (Identifier × Run) → ℕ → ℕ → Type 0
-IsEndStanding rope place offset = ((place ≡ length rope) × (offset ≡ 0)) ⊎ ((x : Identifier × Run) × (slice_get rope place ≡ Some x) × (offset < x.1.len))
+IsEndStanding rope place offset =
+    ((place ≡ length rope) × (offset ≡ 0)) ⊎ ((x : Identifier × Run) × (slice_get rope place ≡ Some x) × (offset < x.1.len))
 
 -- x is a cell of the run at the place, and stands in it from the offset `low` on, and before `high`
 pub record IsInRun (rope : List (Identifier × Run)) (place low high : ℕ) (x : Identifier) : Type 0 where
@@ -74,8 +75,8 @@ pub record IsFoundCell (rope : List (Identifier × Run)) (f : Found) : Type 0 wh
   pub spot : IsCellSpot rope f.id run f.at.offset
   pub key : f.key ≡ (head_behind f.at.offset (first_of run)).key
 
--- a part of the cells that begins behind one whose key is at most that of the part, or at the beginning, and that ends before such a one, or at the
--- end; its ends stand where it says
+-- a part of the cells that begins behind one whose key is at most that of the part, or at the beginning, and that ends
+-- before such a one, or at the end; its ends stand where it says
 pub record IsStandingPart (r : Kept) (p : Part) : Type 0 where
   pub from : HoldsOrigin (low_ids p.most (keyed_cells (cells_in r))) p.from
   pub to : HoldsOrigin (low_ids p.most (rest_of p.from (keyed_cells (cells_in r)))) p.to

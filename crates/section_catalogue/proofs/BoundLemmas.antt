@@ -5,22 +5,23 @@ use Rattle.std.proofs.lemmas.List.{length-map}
 use Rattle.fugue_ids.specs.Identifiers.{Identifier}
 use Rattle.fugue_ids.specs.declared.op.Op.{Op}
 use Rattle.origin_model.specs.operations.History.{place}
-use Rattle.origin_model.specs.order.Order.{order}
 use Rattle.origin_model.specs.declared.operations.Place.{Place}
 use Rattle.origin_model.specs.declared.operations.Place.TheVariants.{Catalogue as catalogue, Section as within}
+use Rattle.run_store.specs.declared.cell.Cell.{Cell}
 use Rattle.section_list.specs.SectionList.{Listing}
 use Rattle.section_catalogue.specs.declared.tables.Section.{Section as Titled}
 use Rattle.section_catalogue.specs.Contents.{Contents, section_count_at, listed_count, place_count, section_at}
-use Rattle.section_catalogue.specs.Place.{Lists, cell_in}
+use Rattle.section_catalogue.specs.Place.{Lists}
 use Rattle.origin_model.proofs.SharedLemmas.{order_bounded}
 use Rattle.section_catalogue.specs.Manuscript.{Represents}
 
 -- what lists a place has at most one member for each operation
 listed_bounded : (p : Place) (h : List Op) (s : Listing) → Lists p h s → length s.cells ≤ length h
-listed_bounded p h s l = omega (arith, ap length l.cells, length-map (order p h) (cell_in h), order_bounded p h)
+listed_bounded p h s l = omega (arith, ap length l.listed, length-map s.cells (λ (c : Cell). c.id), order_bounded p h)
 
 -- a text that may be there
-text_bounded : (s : Identifier) (h : List Op) (o : Option Titled) → IfSome o (λ (e : Titled). Lists (within s) h e.text) → listed_count (option_map (λ (e : Titled). e.text) o) ≤ length h
+text_bounded : (s : Identifier) (h : List Op) (o : Option Titled) → IfSome o (λ (e : Titled). Lists (within s) h e.text)
+    → listed_count (option_map (λ (e : Titled). e.text) o) ≤ length h
 text_bounded s h None l = omega arith
 text_bounded s h (Some e) l = listed_bounded (within s) h e.text l
 

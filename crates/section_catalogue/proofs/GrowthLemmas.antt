@@ -1,6 +1,7 @@
 -- A manuscript that stands for a history stands for the longer one once its newest element has come.
 use Rattle.std.proofs.Common.{List, [], ap, false, inl, inr, refl, subst, sym, ℕ, ◌∙◌, ◌∷◌, ◌≡◌, ◌≢◌}
-use Rattle.std.specs.Prelude.{IfSome, None, Option, Some, map, option_map}
+use Rattle.std.specs.Prelude.{IfSome, None, Option, Some, option_map}
+use Rattle.std.proofs.lemmas.List.Elements.{All-nil}
 use Rattle.fugue_ids.specs.Identifiers.{Identifier}
 use Rattle.fugue_ids.specs.Ops.{id_of}
 use Rattle.fugue_ids.proofs.IdentifierLemmas.{cases_id}
@@ -16,11 +17,11 @@ use Rattle.origin_model.specs.declared.operations.Place.{Place}
 use Rattle.origin_model.specs.declared.operations.Place.TheVariants.{Catalogue as catalogue, Section as within}
 use Rattle.origin_model.specs.declared.operations.Verdict.TheVariants.{Ready}
 use Rattle.origin_model.proofs.SharedLemmas.{no_text_before, not_hidden_before, order_by_nodes, ready_is_new, stands_element}
-use Rattle.section_list.specs.SectionList.{Listing, empty_listing as no_elements, with_element}
+use Rattle.section_list.specs.SectionList.{IsOfNode, Listing, empty_listing as no_elements, with_element}
 use Rattle.section_catalogue.specs.declared.tables.Section.{Section as Titled}
 use Rattle.section_catalogue.specs.Changes.{AddsSection, AddsText}
 use Rattle.section_catalogue.specs.Contents.{Contents, place_at, section_at}
-use Rattle.section_catalogue.specs.Place.{Lists, cell_in, place_held, scalar_held, title_held}
+use Rattle.section_catalogue.specs.Place.{IsCellIn, Lists, place_held, scalar_held, title_held}
 use Rattle.section_catalogue.specs.Manuscript.{Represents}
 use Rattle.section_catalogue.proofs.HolderLemmas.{cell-older, holder-new, holder-older, nodes-other, none_held, order-nothing, order-other}
 use Rattle.section_catalogue.proofs.ListingLemmas.{grown, node_of, unmoved}
@@ -46,19 +47,18 @@ module _ (op : Op) (h : List Op) (x : Identifier) (own : id_of op ≡ Some x) (w
   elsewhere : (q : Place) (s : Listing) → place op ≢ Some q → Lists q h s → Lists q (op ∷ h) s
   elsewhere q s n l =
       unmoved q h (op ∷ h) x s w.1 l (λ e. let none : place_held (holder h x) ≡ None = ap place_held none_before in cc (none, e)) (nodes-other q op h n) (order-other q op h n)
-      (λ y d. cell-older op h x y own d)
+      (cell-older op h x own)
 
   -- its own place
   at_home : (p : Place) (ch : ℕ) (s : Listing) → place op ≡ Some p → scalar_held (Some op) ≡ ch → is_hidden (op ∷ h) x ≡ is_hidden h x → Lists p h s
       → Lists p (op ∷ h) (with_element (node_of op x) ch s)
   at_home p ch s e k j l =
       grown p op h x ch s w (stands_element p op e ∙ own) l unheld
-      (λ i. record {
-        id = x;
-        ch = (ap scalar_held (holder-new op h x x own refl) ∙ k) i;
-        hidden = (j ∙ not_hidden_before h x w.1 unheld) i;
+      (record {
+        ch = sym (ap scalar_held (holder-new op h x x own refl) ∙ k);
+        hidden = sym (j ∙ not_hidden_before h x w.1 unheld);
       })
-      (λ y d. cell-older op h x y own d)
+      (cell-older op h x own)
 
   -- the look-ups of what is said of each element
   looked_up : {X : Type 0} (f : Option Op → X) (old new : Identifier → X) (v : X) → f (Some op) ≡ v → IsReplaced old new x v → ((y : Identifier) → old y ≡ f (holder h y))
@@ -75,9 +75,10 @@ no_text op h s w f n =
     let none : nodes (within s) (op ∷ h) ≡ [] = nodes-other (within s) op h n ∙ no_text_before h s w.1 f in
     let nothing : order (within s) (op ∷ h) ≡ [] = (order_by_nodes (within s) (op ∷ h) w).same_order ∙ ap node_order none ∙ order-nothing catalogue in
     record {
-      in_order = record { are_nodes = tt; in_order = sym (order-nothing catalogue) };
+      in_order = record { are_nodes = tt; in_order = sym (order-nothing catalogue); each = All-nil (IsOfNode []) };
       same_nodes = λ y. ap (λ ns. find_node ns y) (sym none);
-      cells = ap (map (cell_in (op ∷ h))) (sym nothing);
+      listed = sym nothing;
+      each = All-nil (IsCellIn (op ∷ h));
     }
 
 -- a section came
@@ -90,13 +91,15 @@ section_stands old new h id left right title s ready c =
     record {
       lawful = w;
       sections = subst (Lists catalogue (op ∷ h)) (sym c.listed) (at_home op h id refl w catalogue 32 old.catalogue refl refl refl s.sections);
-      titles = looked_up op h id refl w title_held (λ y. option_map (λ (t : Titled). t.title) (section_at old y)) (λ y. option_map (λ (t : Titled). t.title) (section_at new y)) (Some title) refl
+      titles = looked_up op h id refl w title_held (λ y. option_map (λ (t : Titled). t.title) (section_at old y)) (λ y. option_map (λ (t : Titled). t.title) (section_at new y))
+          (Some title) refl
           (record { here = ap (option_map (λ (t : Titled). t.title)) c.sections.here; others = λ y n. ap (option_map (λ (t : Titled). t.title)) (c.sections.others y n) }) s.titles;
       texts = λ y. elim (cases_id y id) [
         | inl d ↦ subst (λ z. IfSome (section_at new z) (λ (t : Titled). Lists (within z) (op ∷ h) t.text)) (sym d)
             (subst (λ o. IfSome o (λ (t : Titled). Lists (within id) (op ∷ h) t.text)) (sym c.sections.here) (no_text op h id w (unheld op h id refl w) (λ e. cc)))
         | inr n ↦ subst (λ o. IfSome o (λ (t : Titled). Lists (within y) (op ∷ h) t.text)) (sym (c.sections.others y n))
-            (if_some (section_at old y) (λ (t : Titled). Lists (within y) h t.text) (λ (t : Titled). Lists (within y) (op ∷ h) t.text) (λ t l. elsewhere op h id refl w (within y) t.text (λ e. cc) l) (s.texts y))
+            (if_some (section_at old y) (λ (t : Titled). Lists (within y) h t.text) (λ (t : Titled). Lists (within y) (op ∷ h) t.text)
+            (λ t l. elsewhere op h id refl w (within y) t.text (λ e. cc) l) (s.texts y))
       ];
       places = looked_up op h id refl w place_held (place_at old) (place_at new) (Some catalogue) refl c.places s.places;
     }

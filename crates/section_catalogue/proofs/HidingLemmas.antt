@@ -14,12 +14,13 @@ use Rattle.origin_model.specs.operations.Verdict.{Lawful, verdict}
 use Rattle.origin_model.specs.declared.operations.Verdict.TheVariants.{Ready}
 use Rattle.origin_model.specs.declared.operations.Place.{Place}
 use Rattle.origin_model.specs.declared.operations.Place.TheVariants.{Catalogue as catalogue, Section as within}
-use Rattle.section_list.specs.Cells.{section_hiding}
+use Rattle.run_store.specs.Cells.{cell_hiding}
+use Rattle.run_store.specs.declared.cell.Cell.{Cell}
 use Rattle.section_list.specs.SectionList.{Listing, with_hidden}
 use Rattle.section_catalogue.specs.declared.tables.Section.{Section as Titled}
 use Rattle.section_catalogue.specs.Changes.{HidesAt, HidesSection, HidesText}
 use Rattle.section_catalogue.specs.Contents.{Contents, place_at, section_at}
-use Rattle.section_catalogue.specs.Place.{Lists, cell_in, place_held, scalar_held, title_held}
+use Rattle.section_catalogue.specs.Place.{IsCellIn, Lists, place_held, scalar_held, title_held}
 use Rattle.section_catalogue.specs.Manuscript.{Hides, Represents, once_hidden}
 use Rattle.origin_model.proofs.SharedLemmas.{shown_can_go, target_is_shown}
 use Rattle.section_catalogue.proofs.HolderLemmas.{has_holder, nodes-other, order-other}
@@ -73,21 +74,21 @@ once x h w k =
 
 module _ (x : Identifier) (h now : List Op) (k : IsHiding x h now) where
   -- another cell stays
-  cell-other : (y : Identifier) → y ≢ x → cell_in now y ≡ cell_in h y
-  cell-other y n =
-      λ i. record {
-        id = y;
-        ch = scalar_held (k.holders y i);
-        hidden = (k.hides y ∙ ap (λ b. b || is_hidden h y) (ne-id_eq x y (λ d. n (sym d)))) i;
-      }
+  cell-other : (c : Cell) → c.id ≢ x → IsCellIn h c → IsCellIn now c
+  cell-other c n o = record {
+    ch = o.ch ∙ ap scalar_held (sym (k.holders c.id));
+    hidden = o.hidden ∙ sym (k.hides c.id ∙ ap (λ b. b || is_hidden h c.id) (ne-id_eq x c.id (λ d. n (sym d))));
+  }
 
   -- each cell, and the one of x hidden
-  cell-hidden : (y : Identifier) → section_hiding x (cell_in h y) ≡ cell_in now y
-  cell-hidden y =
-      elim (cases_id y x) [
-        | inl d ↦ ap (λ b. if b then record (cell_in h y) { hidden = true } else cell_in h y) (eq-id_eq y x d)
-            ∙ sym (λ i. record { id = y; ch = scalar_held (k.holders y i); hidden = (k.hides y ∙ ap (λ b. b || is_hidden h y) (eq-id_eq x y (sym d))) i })
-        | inr n ↦ ap (λ b. if b then record (cell_in h y) { hidden = true } else cell_in h y) (ne-id_eq y x n) ∙ sym (cell-other y n)
+  cell-hidden : (c : Cell) → IsCellIn h c → IsCellIn now (cell_hiding x c)
+  cell-hidden c o =
+      elim (cases_id c.id x) [
+        | inl d ↦ subst (λ b. IsCellIn now (if b then record c { hidden = true } else c)) (sym (eq-id_eq c.id x d)) (record {
+          ch = o.ch ∙ ap scalar_held (sym (k.holders c.id));
+          hidden = sym (k.hides c.id ∙ ap (λ b. b || is_hidden h c.id) (eq-id_eq x c.id (sym d)));
+        })
+        | inr n ↦ subst (λ b. IsCellIn now (if b then record c { hidden = true } else c)) (sym (ne-id_eq c.id x n)) (cell-other c n o)
       ]
 
   -- the place of x
@@ -119,7 +120,8 @@ module _ (x : Identifier) (h now : List Op) (k : IsHiding x h now) where
         lawful = k.lawful;
         sections = subst (Lists catalogue now) (sym c.listed) (elsewhere catalogue old.catalogue s.lawful (λ e. cc) s.sections);
         titles = λ y. titles_stay (section_at old) (section_at new) section hide c.sections (λ t. refl) y ∙ s.titles y ∙ ap title_held (sym (k.holders y));
-        texts = each_text (section_at old) (section_at new) section hide c.sections (λ y t. Lists (within y) h t.text) (λ y t. Lists (within y) now t.text) (λ t l. at_home (within section) t.text l)
+        texts = each_text (section_at old) (section_at new) section hide c.sections (λ y t. Lists (within y) h t.text) (λ y t. Lists (within y) now t.text)
+            (λ t l. at_home (within section) t.text l)
             (λ y t n l. elsewhere (within y) t.text s.lawful (λ e. let d : section ≡ y = cc in n (sym d)) l) s.texts;
         places = λ y. c.places y ∙ s.places y ∙ ap place_held (sym (k.holders y));
       }

@@ -32,7 +32,8 @@ unfolding with_first_hidden
 first_hides old s x = record { listed = refl; sections = by_entry (section_at old s) refl; places = λ y. refl }
   where
     by_entry : (o : Option Titled) → section_at old s ≡ o
-        → IsReplaced (section_at old) (entry_at (elim o [ None ↦ old.sections | Some t ↦ (s, record t { text = with_hidden x t.text }) ∷ old.sections ])) s (with_hidden_text x (section_at old s))
+        → IsReplaced (section_at old) (entry_at (elim o [ None ↦ old.sections | Some t ↦ (s, record t { text = with_hidden x t.text }) ∷ old.sections ])) s
+        (with_hidden_text x (section_at old s))
     by_entry None e = record { here = e ∙ sym (ap (with_hidden_text x) e); others = λ y d. refl }
     by_entry (Some t) e =
         let now : Titled = record t { text = with_hidden x t.text } in
@@ -90,7 +91,8 @@ run_held m h s x k stands some placed = record {
   held = each (section_at m s) (λ j less. (held_at m h (within s) (id_behind x j) stands (placed j less)).held);
 }
   where
-    each : (o : Option Titled) → ((j : ℕ) → j < k → IfSome o (λ (t : Titled). has_node t.text.nodes (id_behind x j) ≡ true)) → IfSome o (λ (t : Titled). AreAllNodes t.text.nodes x k)
+    each : (o : Option Titled) → ((j : ℕ) → j < k → IfSome o (λ (t : Titled). has_node t.text.nodes (id_behind x j) ≡ true))
+        → IfSome o (λ (t : Titled). AreAllNodes t.text.nodes x k)
     each None f = tt
     each (Some t) f = f
 

@@ -15,7 +15,8 @@ use Rattle.origin_model.specs.order.Order.{order}
 use Rattle.origin_model.specs.order.Printed.{is_hidden}
 use Rattle.origin_model.specs.declared.operations.Place.{Place}
 use Rattle.origin_model.proofs.SharedLemmas.{element_stands, holder-other, holder-own, holder_owns, nodes-none, order-none, stands_element, stands_place}
-use Rattle.section_catalogue.specs.Place.{cell_in, place_held, scalar_held}
+use Rattle.run_store.specs.declared.cell.Cell.{Cell}
+use Rattle.section_catalogue.specs.Place.{IsCellIn, place_held, scalar_held}
 
 -- a look-up of the newest operation
 pub holder-new : (op : Op) (h : List Op) (x y : Identifier) → id_of op ≡ Some x → y ≡ x → holder (op ∷ h) y ≡ Some op
@@ -63,10 +64,11 @@ unfolding order
 order-nothing q = refl
 
 -- an element that came leaves the other cells
-pub cell-older : (op : Op) (h : List Op) (x y : Identifier) → id_of op ≡ Some x → y ≢ x → cell_in (op ∷ h) y ≡ cell_in h y
-cell-older op h x y o n =
-    (λ i. record { id = y; ch = scalar_held (holder-older op h x y o n i); hidden = is_hidden (op ∷ h) y })
-    ∙ (λ i. record { id = y; ch = scalar_held (holder h y); hidden = origin_eq (no_target (key_of op) o i) (Some y) || is_hidden h y })
+pub cell-older : (op : Op) (h : List Op) (x : Identifier) → id_of op ≡ Some x → (c : Cell) → c.id ≢ x → IsCellIn h c → IsCellIn (op ∷ h) c
+cell-older op h x o c n k = record {
+  ch = k.ch ∙ ap scalar_held (sym (holder-older op h x c.id o n));
+  hidden = k.hidden ∙ ap (λ t. origin_eq t (Some c.id) || is_hidden h c.id) (sym (no_target (key_of op) o));
+}
   where
     no_target : (k : OpKey) → own_in k ≡ Some x → target_in k ≡ None
     no_target (Own i) e = refl

@@ -1,5 +1,5 @@
 -- The places of elements, as a look-up reads them.
-use Rattle.std.proofs.Common.{Bool, List, [], ap, arith, cond, inl, inr, length, refl, suc, sym, true, false, zero, ℕ, ◌+◌, ◌-◌, ◌<◌, ◌∙◌, ◌∷◌, ◌≡◌, ◌≢◌, ◌≤◌, ◌⊎◌}
+use Rattle.std.proofs.Common.{Bool, List, [], ap, arith, cond, inl, inr, refl, suc, sym, true, false, zero, ℕ, ◌+◌, ◌-◌, ◌<◌, ◌∙◌, ◌∷◌, ◌≡◌, ◌≢◌, ◌≤◌, ◌⊎◌}
 use Rattle.std.specs.Prelude.{None, Option, Some, map, option_map}
 use Rattle.std.specs.FinMap.{FinMap, empty, entries, find, get, get-entries, get-insert, get-remove, insert, len-empty, len-entries, remove}
 use Rattle.std.specs.Ordering.{is_eq}
@@ -72,7 +72,8 @@ settled_all m n first count h is = record {
     at : (y : Identifier) → entry_at (places_of n) y ≡ option_map (λ k. k.place) (get (with_run (λ f home k. home) first h count m) y)
     at y = place-get n y ∙ ap (λ k. option_map (λ z. z.place) (get k y)) is
 
-    inside : (first : Identifier) (h : Home) (count : ℕ) (m : FinMap id_cmp Home) (j : ℕ) → j < count → get (with_run (λ f home k. home) first h count m) (id_behind first j) ≡ Some h
+    inside : (first : Identifier) (h : Home) (count : ℕ) (m : FinMap id_cmp Home) (j : ℕ) → j < count
+        → get (with_run (λ f home k. home) first h count m) (id_behind first j) ≡ Some h
     inside first h zero m j less = absurd (omega (arith, less))
     inside first h (suc k) m j less =
         let older : FinMap id_cmp Home = with_run (λ f home k. home) first h k m in
@@ -81,7 +82,8 @@ settled_all m n first count h is = record {
           | inl e ↦ ap (λ b. cond b (Some h) (get older (id_behind first j))) (ap (λ z. is_eq (id_cmp z (id_behind first k))) e ∙ id_at-same (id_behind first k))
           | inr d ↦
               let apart : j ≢ k = λ e. d (ap (id_behind first) e) in
-              ap (λ b. cond b (Some h) (get older (id_behind first j))) (id_at-other (id_behind first j) (id_behind first k) (λ e. d (sym e))) ∙ inside first h k m j (omega (arith, apart, less))
+              ap (λ b. cond b (Some h) (get older (id_behind first j))) (id_at-other (id_behind first j) (id_behind first k) (λ e. d (sym e)))
+              ∙ inside first h k m j (omega (arith, apart, less))
         ]
 
     outside : (first : Identifier) (h : Home) (count : ℕ) (m : FinMap id_cmp Home) (y : Identifier) → ((j : ℕ) → j < count → y ≢ id_behind first j)
@@ -100,7 +102,8 @@ pub record IsForgetting (old now : Mapped Home) (first : Identifier) (count left
   pub others : (y : Identifier) → ((j : ℕ) → j < count → y ≢ id_behind first j) → entry_at (places_of now.values) y ≡ entry_at (places_of old.values) y
 
 -- the next one can go without memory
-pub can_forget : (old now : Mapped Home) (first : Identifier) (count left : ℕ) → 0 < left → IsForgetting old now first count left → (key : Identifier) → key ≡ id_behind first (left - 1)
+pub can_forget : (old now : Mapped Home) (first : Identifier) (count left : ℕ) → 0 < left → IsForgetting old now first count left → (key : Identifier)
+    → key ≡ id_behind first (left - 1)
     → (now.newest ≡ Some key) ⊎ (IsFollowedBy (λ f home k. home) (get now.values) key → ⊥)
 can_forget old now first count left some is key at =
     elim (cases_whole left count is.within) [
@@ -117,7 +120,8 @@ can_forget old now first count left some is key at =
     cases_whole a b le = grind (arith, le)
 
 -- once it went
-pub forgot : (old now new : Mapped Home) (first : Identifier) (count left : ℕ) → 0 < left → IsForgetting old now first count left → (key : Identifier) → key ≡ id_behind first (left - 1)
+pub forgot : (old now new : Mapped Home) (first : Identifier) (count left : ℕ) → 0 < left → IsForgetting old now first count left → (key : Identifier)
+    → key ≡ id_behind first (left - 1)
     → new.values ≡ remove now.values key → IsForgetting old new first count (left - 1)
 forgot old now new first count left some is key at went =
     let now_is = unsettled now.values new.values key went in

@@ -1,13 +1,14 @@
 -- A place that lists a history's elements, as one more comes or one is hidden.
-use Rattle.std.proofs.Common.{List, [], ap, false, refl, subst, suc, sym, true, zero, ℕ, ◌∙◌, ◌∷◌, ◌≡◌, ◌≢◌}
-use Rattle.std.specs.Prelude.{None, Option, Some, if◌then◌else◌, is_some, map}
+use Rattle.std.proofs.Common.{List, ap, false, refl, subst, sym, true, ℕ, ◌∙◌, ◌∷◌, ◌≡◌, ◌≢◌}
+use Rattle.std.specs.Prelude.{None, Option, Some, if◌then◌else◌, is_some}
 use Rattle.std.specs.List.{Contains, insert}
 use Rattle.std.proofs.lemmas.Bool.{true≢false}
+use Rattle.std.proofs.lemmas.List.Elements.{All-contains, All-map}
 use Rattle.std.proofs.lemmas.List.Sums.{count_by-le-length}
 use Rattle.fugue_ids.specs.Identifiers.{Identifier, id_eq}
 use Rattle.fugue_ids.specs.Listed.{index_of}
 use Rattle.fugue_ids.proofs.IdentifierLemmas.{index_of-insert}
-use Rattle.fugue_ids.proofs.ListLemmas.{contains_here, contains_there}
+use Rattle.fugue_ids.proofs.ListLemmas.{all_from_contains, all_insert, contains_map}
 use Rattle.fugue_ids.specs.declared.op.Op.{Op}
 use Rattle.origin_model.specs.order.Laws.{IsIn}
 use Rattle.origin_model.specs.sides.Node.{AreNodes, IsNew, find_node, has_node, has_origin, node_order, nodes, with_node}
@@ -17,34 +18,13 @@ use Rattle.origin_model.specs.operations.Verdict.{Lawful}
 use Rattle.origin_model.specs.declared.operations.node.Node.{Node}
 use Rattle.origin_model.specs.declared.operations.Place.{Place}
 use Rattle.origin_model.proofs.SharedLemmas.{order-some, order_by_nodes, order_total, same_nodes_same_order}
-use Rattle.section_list.specs.Cells.{Cell, section_cell_ids, section_hiding}
-use Rattle.section_list.specs.SectionList.{Listing, with_element, with_hidden}
-use Rattle.section_catalogue.specs.Place.{Lists, cell_in, place_held}
+use Rattle.run_store.specs.Cells.{cell_hiding, cell_ids}
+use Rattle.run_store.specs.declared.cell.Cell.{Cell}
+use Rattle.section_list.specs.SectionList.{IsInOrder, Listing, newest_cell, with_element, with_hidden}
+use Rattle.section_list.proofs.KeptLemmas.{keeps_hidden, one_more}
+use Rattle.section_catalogue.specs.Place.{IsCellIn, Lists, place_held}
 use Rattle.section_catalogue.proofs.HolderLemmas.{in_place}
 use Rattle.std.specs.Prelude.{count_by}
-
--- two functions that agree on a list
-map-alike : {X : Type 0} (f g : Identifier → X) (xs : List Identifier) → ((y : Identifier) → Contains xs y → f y ≡ g y) → map f xs ≡ map g xs
-map-alike f g [] k = refl
-map-alike f g (y ∷ ys) k = λ i. k y (contains_here y ys) i ∷ map-alike f g ys (λ z m. k z (contains_there y ys z m)) i
-
--- a function on a list with one more member
-map-insert : (f : Identifier → Cell) (xs : List Identifier) (k : ℕ) (x : Identifier) → map f (insert xs k x) ≡ insert (map f xs) k (f x)
-map-insert f xs zero x = refl
-map-insert f [] (suc k) x = refl
-map-insert f (y ∷ ys) (suc k) x = ap (λ t. f y ∷ t) (map-insert f ys k x)
-
--- the cells have the identifiers that they were made for
-pub ids-cells : (h : List Op) (xs : List Identifier) → section_cell_ids (map (cell_in h) xs) ≡ xs
-ids-cells h [] = refl
-ids-cells h (x ∷ xs) = ap (λ t. x ∷ t) (ids-cells h xs)
-
--- cells of the place's elements are in order
-in_order_by : (p : Place) (h : List Op) (ns : List Node) (cs : List Cell) → Lawful h → AreNodes ns → ((x : Identifier) → find_node ns x ≡ find_node (nodes p h) x)
-    → cs ≡ map (cell_in h) (order p h) → section_cell_ids cs ≡ node_order ns
-in_order_by p h ns cs w are f e =
-    let b = order_by_nodes p h w in
-    ap section_cell_ids e ∙ ids-cells h (order p h) ∙ b.same_order ∙ sym (same_nodes_same_order ns (nodes p h) are b.are_nodes f)
 
 -- nodes that are found alike
 module _ (ns ms : List Node) (f : (x : Identifier) → find_node ns x ≡ find_node ms x) where
@@ -75,63 +55,63 @@ is_new p op h x s w e l =
 held_in : (p : Place) (h : List Op) (x : Identifier) → IsIn p h x → holds h x ≡ true
 held_in p h x m = ap is_some m.held
 
+-- the element of a cell is in the order
+is_listed : (p : Place) (h : List Op) (s : Listing) → Lists p h s → (c : Cell) → Contains s.cells c → Contains (order p h) c.id
+is_listed p h s l c m = subst (λ xs. Contains xs c.id) l.listed (contains_map (λ (z : Cell). z.id) s.cells c m)
+
 -- one element more
 pub grown : (p : Place) (op : Op) (h : List Op) (x : Identifier) (ch : ℕ) (s : Listing)
     → Lawful (op ∷ h) → element_of p op ≡ Some x → Lists p h s → holds h x ≡ false
-    → cell_in (op ∷ h) x ≡ record { id = x; ch = ch; hidden = false } → ((y : Identifier) → y ≢ x → cell_in (op ∷ h) y ≡ cell_in h y)
+    → IsCellIn (op ∷ h) (newest_cell (node_of op x) s.nodes ch) → ((c : Cell) → c.id ≢ x → IsCellIn h c → IsCellIn (op ∷ h) c)
     → Lists p (op ∷ h) (with_element (node_of op x) ch s)
 grown p op h x ch s w e l fresh here others =
     let n : Node = node_of op x in
     let b = order_by_nodes p (op ∷ h) w in
     let now : nodes p (op ∷ h) ≡ n ∷ nodes p h = nodes-own p op h x e in
-    let are : AreNodes (n ∷ s.nodes) = (is_new p op h x s w e l, l.in_order.are_nodes) in
+    let new : IsNew s.nodes n = is_new p op h x s w e l in
     let alike : (y : Identifier) → find_node (n ∷ s.nodes) y ≡ find_node (nodes p (op ∷ h)) y =
     λ y. ap (λ o. if id_eq n.id y then Some n else o) (l.same_nodes y) ∙ ap (λ ns. find_node ns y) (sym now) in
     let old : List Identifier = order p h in
     let at : ℕ = count_by (λ z. before_in old (op ∷ h) z x) old in
     let is : order p (op ∷ h) ≡ insert old at x = order-some p op h x e in
     let absent : Contains old x → ⊥ = λ m. true≢false (sym (held_in p h x (((order_total p h w.1).lists x).1 m)) ∙ fresh) in
-    let ordered : node_order (n ∷ s.nodes) ≡ order p (op ∷ h) = same_nodes_same_order (n ∷ s.nodes) (nodes p (op ∷ h)) are b.are_nodes alike ∙ sym b.same_order in
-    let index : index_of (node_order (n ∷ s.nodes)) x ≡ at =
-    ap (λ xs. index_of xs x) (ordered ∙ is) ∙ index_of-insert old at x (count_by-le-length (λ z. before_in old (op ∷ h) z x) old) absent in
-    let cell : Cell = record { id = x; ch = ch; hidden = false } in
-    let kept : map (cell_in (op ∷ h)) old ≡ map (cell_in h) old =
-    map-alike (cell_in (op ∷ h)) (cell_in h) old (λ y m. others y (λ d. absent (subst (Contains old) d m))) in
-    let cells : insert s.cells (index_of (node_order (n ∷ s.nodes)) x) cell ≡ map (cell_in (op ∷ h)) (order p (op ∷ h)) =
-    (λ i. insert (l.cells i) (index i) (sym here i))
-    ∙ (λ i. insert (sym kept i) at (cell_in (op ∷ h) x))
-    ∙ sym (map-insert (cell_in (op ∷ h)) old at x) ∙ ap (map (cell_in (op ∷ h))) (sym is) in
+    let ordered : node_order (n ∷ s.nodes) ≡ order p (op ∷ h) =
+    same_nodes_same_order (n ∷ s.nodes) (nodes p (op ∷ h)) (new, l.in_order.are_nodes) b.are_nodes alike ∙ sym b.same_order in
+    let i : ℕ = index_of (node_order (n ∷ s.nodes)) x in
+    let index : i ≡ at = ap (λ xs. index_of xs x) (ordered ∙ is) ∙ index_of-insert old at x (count_by-le-length (λ z. before_in old (op ∷ h) z x) old) absent in
+    let placed : node_order (n ∷ s.nodes) ≡ insert (cell_ids s.cells) i x = ordered ∙ is ∙ (λ j. insert (sym l.listed j) (sym index j) x) in
+    let kept : IsInOrder (with_element n ch s) = one_more s.nodes s.cells l.in_order n new i ch placed in
     record {
-      in_order = record { are_nodes = are; in_order = in_order_by p (op ∷ h) (n ∷ s.nodes) (insert s.cells (index_of (node_order (n ∷ s.nodes)) x) cell) w are alike cells };
+      in_order = kept;
       same_nodes = alike;
-      cells = cells;
+      listed = kept.in_order ∙ ordered;
+      each = all_insert (IsCellIn (op ∷ h)) s.cells i (newest_cell n s.nodes ch) here
+          (all_from_contains (IsCellIn (op ∷ h)) s.cells
+          (λ c m. others c (λ d. absent (subst (Contains old) d (is_listed p h s l c m))) (All-contains (IsCellIn h) s.cells c l.each m)));
     }
 
 -- a place in which nothing happens: x is not there
 pub unmoved : (q : Place) (h now : List Op) (x : Identifier) (s : Listing) → Lawful h → Lists q h s → place_held (holder h x) ≢ Some q
-    → nodes q now ≡ nodes q h → order q now ≡ order q h → ((y : Identifier) → y ≢ x → cell_in now y ≡ cell_in h y) → Lists q now s
+    → nodes q now ≡ nodes q h → order q now ≡ order q h → ((c : Cell) → c.id ≢ x → IsCellIn h c → IsCellIn now c) → Lists q now s
 unmoved q h now x s w l apart en eo others =
+    let away : (c : Cell) → Contains s.cells c → c.id ≢ x = λ c m d.
+    apart (subst (λ z. place_held (holder h z) ≡ Some q) d (in_place q h c.id (((order_total q h w).lists c.id).1 (is_listed q h s l c m)))) in
     record {
       in_order = l.in_order;
       same_nodes = λ y. l.same_nodes y ∙ ap (λ ns. find_node ns y) (sym en);
-      cells = l.cells ∙ sym (ap (map (cell_in now)) eo
-          ∙ map-alike (cell_in now) (cell_in h) (order q h) (λ y m. others y (λ d. apart (subst (λ z. place_held (holder h z) ≡ Some q) d (in_place q h y (((order_total q h w).lists y).1 m))))));
+      listed = l.listed ∙ sym eo;
+      each = all_from_contains (IsCellIn now) s.cells (λ c m. others c (away c m) (All-contains (IsCellIn h) s.cells c l.each m));
     }
 
 -- one element hidden
 pub hidden : (p : Place) (h now : List Op) (x : Identifier) (s : Listing) → Lists p h s → nodes p now ≡ nodes p h → order p now ≡ order p h
-    → ((y : Identifier) → section_hiding x (cell_in h y) ≡ cell_in now y) → Lists p now (with_hidden x s)
-hidden p h now x s l en eo cell =
-    let cells : map (section_hiding x) s.cells ≡ map (cell_in now) (order p h) = ap (map (section_hiding x)) l.cells ∙ fused (order p h) in
+    → ((c : Cell) → IsCellIn h c → IsCellIn now (cell_hiding x c)) → Lists p now (with_hidden x s)
+hidden p h now x s l en eo hides =
+    let kept : IsInOrder (with_hidden x s) = keeps_hidden s.nodes s.cells l.in_order x in
     record {
-      in_order = record {
-        are_nodes = l.in_order.are_nodes;
-        in_order = ap section_cell_ids cells ∙ ids-cells now (order p h) ∙ sym (ids-cells h (order p h)) ∙ ap section_cell_ids (sym l.cells) ∙ l.in_order.in_order;
-      };
+      in_order = kept;
       same_nodes = λ y. l.same_nodes y ∙ ap (λ ns. find_node ns y) (sym en);
-      cells = cells ∙ ap (map (cell_in now)) (sym eo);
+      listed = kept.in_order ∙ sym l.in_order.in_order ∙ l.listed ∙ sym eo;
+      each = All-map (IsCellIn now) (cell_hiding x) s.cells
+          (all_from_contains (λ c. IsCellIn now (cell_hiding x c)) s.cells (λ c m. hides c (All-contains (IsCellIn h) s.cells c l.each m)));
     }
-  where
-    fused : (xs : List Identifier) → map (section_hiding x) (map (cell_in h) xs) ≡ map (cell_in now) xs
-    fused [] = refl
-    fused (y ∷ ys) = λ i. cell y i ∷ fused ys i

@@ -53,7 +53,8 @@ cases_among y first (suc k) =
     cases_last j k less = grind (arith, less)
 
 -- what was filled with a place and emptied again is as before
-pub emptied : {X : Type 0} (old mid new : Identifier → X) (first : Identifier) (k : ℕ) (value none : X) → AnswersUpTo old first k none → IsFilled old mid first k value → IsFilled mid new first k none → AnswersSame old new
+pub emptied : {X : Type 0} (old mid new : Identifier → X) (first : Identifier) (k : ℕ) (value none : X) → AnswersUpTo old first k none → IsFilled old mid first k value
+    → IsFilled mid new first k none → AnswersSame old new
 emptied old mid new first k value none before put gone y =
     elim (cases_among y first k) [
       | inl w ↦ ap new w.2 ∙ gone.here w.0 w.1 ∙ sym (before w.0 w.1) ∙ ap old (sym w.2)
@@ -118,7 +119,8 @@ nothing_added old new s n adds = record {
 }
 
 -- the rest of a run comes to the contents with its first element
-rest_adds : (old mid new : Contents) (s : Identifier) (n : Node) (ch : ℕ) (text : List ℕ) → AddsText old mid s n ch → AddsTyped old new s n (ch ∷ text) → AddsTyped mid new s (next_node n) text
+rest_adds : (old mid new : Contents) (s : Identifier) (n : Node) (ch : ℕ) (text : List ℕ) → AddsText old mid s n ch → AddsTyped old new s n (ch ∷ text)
+    → AddsTyped mid new s (next_node n) text
 rest_adds old mid new s n ch text one adds = record {
   listed = adds.listed ∙ sym one.listed;
   sections = record {
@@ -139,7 +141,8 @@ rest_adds old mid new s n ch text one adds = record {
 }
 
 -- a manuscript stands for the history with a run, once its elements have come
-pub run_stands : (text : List ℕ) (old new : Contents) (h : List Op) (id section : Identifier) (left right : Option Identifier) → Represents old h → ReadyInTurn h (in_a_row id section left right text)
+pub run_stands : (text : List ℕ) (old new : Contents) (h : List Op) (id section : Identifier) (left right : Option Identifier) → Represents old h
+    → ReadyInTurn h (in_a_row id section left right text)
     → AddsTyped old new section (first_node id left right) text → Represents new (history_with h (in_a_row id section left right text))
 run_stands [] old new h id section left right s ready adds = still old new (nothing_added old new section (first_node id left right) adds) h s
 run_stands (ch ∷ text) old new h id section left right s ready adds =
@@ -150,7 +153,8 @@ run_stands (ch ∷ text) old new h id section left right s ready adds =
     (rest_adds old mid new section n ch text one adds)
 
 -- none of the identifiers of a run is held before it comes
-run_unheld : (text : List ℕ) (h : List Op) (id section : Identifier) (left right : Option Identifier) → ReadyInTurn h (in_a_row id section left right text) → (j : ℕ) → j < length text
+run_unheld : (text : List ℕ) (h : List Op) (id section : Identifier) (left right : Option Identifier) → ReadyInTurn h (in_a_row id section left right text) → (j : ℕ)
+    → j < length text
     → holds h (id_behind id j) ≡ false
 run_unheld [] h id section left right ready j less = absurd (omega (arith, less))
 run_unheld (ch ∷ text) h id section left right ready zero less = ap (holds h) (none_behind id) ∙ ready_is_new h (Text id section left right ch) id ready.0 refl
@@ -218,6 +222,7 @@ pub all_ready_here : (old now : Contents) (ops : List Op) → old ≡ now → Ar
 all_ready_here old now ops v r = record { history = r.history; stands = subst (λ m. Represents m r.history) (sym v) r.stands; ready = r.ready }
 
 -- room in a text that may be there
-pub room_in : (o : Option Titled) (n : ℕ) → listed_count (option_map (λ (e : Titled). e.text) o) + n ≤ MOST_OPERATIONS → IfSome o (λ (e : Titled). length e.text.cells + n ≤ MOST_OPERATIONS)
+pub room_in : (o : Option Titled) (n : ℕ) → listed_count (option_map (λ (e : Titled). e.text) o) + n ≤ MOST_OPERATIONS
+    → IfSome o (λ (e : Titled). length e.text.cells + n ≤ MOST_OPERATIONS)
 room_in None n room = tt
 room_in (Some e) n room = room

@@ -19,7 +19,8 @@ if_some_map f None P Q g p = tt
 if_some_map f (Some x) P Q g p = g x p
 
 -- a section that keeps its title
-title_stays : (f : Titled → Titled) (o : Option Titled) → ((t : Titled) → (f t).title ≡ t.title) → option_map (λ (t : Titled). t.title) (option_map f o) ≡ option_map (λ (t : Titled). t.title) o
+title_stays : (f : Titled → Titled) (o : Option Titled) → ((t : Titled) → (f t).title ≡ t.title)
+    → option_map (λ (t : Titled). t.title) (option_map f o) ≡ option_map (λ (t : Titled). t.title) o
 title_stays f None k = refl
 title_stays f (Some t) k = ap Some (k t)
 

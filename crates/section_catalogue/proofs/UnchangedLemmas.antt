@@ -7,7 +7,7 @@ use Rattle.section_catalogue.specs.declared.tables.Section.{Section as Titled}
 use Rattle.section_catalogue.specs.Changes.{IsUnchanged}
 use Rattle.section_catalogue.specs.Contents.{Contents}
 use Rattle.section_catalogue.specs.Place.{Lists}
-use Rattle.section_catalogue.specs.Manuscript.{Represents, PlacesStay}
+use Rattle.section_catalogue.specs.Manuscript.{Represents, RepresentsSame}
 
 -- look-ups that are as before, the other way
 back : (old new : Contents) → IsUnchanged old new → IsUnchanged new old
@@ -24,7 +24,7 @@ still old new u h s =
       places = λ y. u.places y ∙ s.places y;
     }
 
-pub stays : (old new : Contents) → IsUnchanged old new → PlacesStay old new
+pub stays : (old new : Contents) → IsUnchanged old new → RepresentsSame old new
 stays old new u h = (still old new u h, still new old (back old new u) h)
 
 -- what follows from a call, whether it went well or not

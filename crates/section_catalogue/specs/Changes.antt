@@ -7,7 +7,8 @@ use Rattle.origin_model.specs.sides.Node.{has_node, has_origin}
 use Rattle.origin_model.specs.declared.operations.node.Node.{Node}
 use Rattle.origin_model.specs.declared.operations.Place.{Place}
 use Rattle.origin_model.specs.declared.operations.Place.TheVariants.{Catalogue as catalogue, Section as within}
-use Rattle.section_list.specs.SectionList.{AreNoNodes, empty_listing as no_elements, with_element, with_elements, with_hidden, with_run_hidden}
+use Rattle.section_list.specs.SectionList.{AreNoNodes, empty_listing as no_elements, with_element, with_elements, with_hidden}
+use Rattle.section_list.specs.SectionList.{with_run_hidden}
 use Rattle.section_catalogue.specs.declared.tables.Section.{Section as Titled}
 use Rattle.section_catalogue.specs.Contents.{Contents, section_at, place_at}
 

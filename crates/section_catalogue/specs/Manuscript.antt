@@ -14,7 +14,7 @@ use Rattle.origin_model.specs.declared.operations.Place.TheVariants.{Catalogue a
 use Rattle.origin_model.specs.declared.operations.Verdict.TheVariants.{Ready}
 use Rattle.origin_model.specs.edits.Edits.{ReadyInTurn, history_with}
 use Rattle.origin_model.specs.edits.Landing.{following}
-use Rattle.section_list.specs.Cells.{section_cell_ids, is_hidden_in_section as hidden_in, section_text as text_in, section_cells_shown}
+use Rattle.run_store.specs.Cells.{cell_ids, cell_text, cells_shown, is_hidden_cell}
 use Rattle.section_list.specs.SectionList.{Listing, empty_listing as no_elements}
 use Rattle.section_catalogue.specs.declared.tables.Section.{Section as Titled}
 use Rattle.section_catalogue.specs.Contents.{Contents, section_at, place_at, text_at}
@@ -75,24 +75,25 @@ abbrev pub HidesAll : Contents → Contents → Identifier → ℕ → Type 0
 HidesAll old new x k = (h : List Op) → Represents old h → Represents new (each_hidden x k h)
 
 -- it stands for the same histories
-abbrev pub PlacesStay : Contents → Contents → Type 0
-PlacesStay old new = (h : List Op) → Represents old h ↔ Represents new h
+abbrev pub RepresentsSame : Contents → Contents → Type 0
+RepresentsSame old new = (h : List Op) → Represents old h ↔ Represents new h
 
 -- no section
 abbrev pub empty_contents : Contents
 empty_contents = record { catalogue = no_elements; sections = []; places = [] }
 
--- what a place lists is the order of the definitions, so its visible elements are those that are shown, and what follows an element is the next one there
+-- what a place lists is the order of the definitions, so its visible elements are those that are shown, and what
+-- follows an element is the next one there
 pub record IsOrderedPlace (p : Place) (h : List Op) (s : Listing) : Type 0 where
-  pub all : section_cell_ids s.cells ≡ order p h
-  pub visible : section_cell_ids (section_cells_shown s.cells) ≡ shown p h
-  pub hidden : (x : Identifier) → IsIn p h x → hidden_in s.cells x ≡ is_hidden h x
-  pub after : (x : Option Identifier) → following (section_cell_ids s.cells) x ≡ following (order p h) x
+  pub all : cell_ids s.cells ≡ order p h
+  pub visible : cell_ids (cells_shown s.cells) ≡ shown p h
+  pub hidden : (x : Identifier) → IsIn p h x → is_hidden_cell s.cells x ≡ is_hidden h x
+  pub after : (x : Option Identifier) → following (cell_ids s.cells) x ≡ following (order p h) x
 
 -- and the text of a section is what is shown of it
 pub record IsTextOf (s : Identifier) (h : List Op) (l : Listing) : Type 0 where
   pub place : IsOrderedPlace (within s) h l
-  pub text : text_in l.cells ≡ text h s
+  pub text : cell_text l.cells ≡ text h s
 
 -- the look-ups of a manuscript are the definitions, for each history that it stands for and each place
 pub record LookUpsAgree (m : Contents) (h : List Op) : Type 0 where

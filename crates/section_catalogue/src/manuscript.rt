@@ -6,7 +6,7 @@ ghost use Rattle.origin_model.specs.declared.operations.Place.TheVariants.{Catal
 ghost use Rattle.fugue_ids.specs.Runs.{run_from};
 ghost use Rattle.section_catalogue.specs.Contents.{place_at, place_count, section_count_at, text_at, contents_of};
 ghost use Rattle.section_catalogue.specs.Manuscript.{AreReadyOn, GrowsBy, GrowsByAll, HasHistory, Hides, HidesAll, IsReadyOn, OnEach};
-ghost use Rattle.section_catalogue.specs.Manuscript.{Represents, PlacesStay};
+ghost use Rattle.section_catalogue.specs.Manuscript.{Represents, RepresentsSame};
 ghost use Rattle.section_catalogue.specs.Manuscript.{empty_contents, LookUpsAreDefinitions};
 ghost use Rattle.section_catalogue.specs.Changes.{AnswersUpTo, HidesAt, IsElementAt, IsUnchanged};
 
@@ -104,7 +104,7 @@ impl Manuscript {
         requires placed { IsSome (place op.now) }
         requires room { place_count self.old op.now < MOST_OPERATIONS }
         ensures ok { OnOk result (GrowsBy self.old self.new op.now) }
-        ensures err { OnErr result (PlacesStay self.old self.new) }
+        ensures err { OnErr result (RepresentsSame self.old self.new) }
         ensures has_history { HasHistory self.new }
     {
         match op {
@@ -143,7 +143,7 @@ impl Manuscript {
         requires ready { AreReadyOn self.old (run_from start.now text.now) }
         requires room { section_count_at self.old (within start.now.section) + length text.now ≤ MOST_OPERATIONS }
         ensures ok { OnOk result (GrowsByAll self.old self.new (run_from start.now text.now)) }
-        ensures err { OnErr result (PlacesStay self.old self.new) }
+        ensures err { OnErr result (RepresentsSame self.old self.new) }
         ensures has_history { HasHistory self.new }
     {
         let first = Node {
@@ -158,7 +158,7 @@ impl Manuscript {
     pub fn hide(&mut self, id: ElementId) -> Result<(), NoMemory>
         requires { IsSome (place_at self.old id) }
         ensures ok { OnOk result (Hides self.old self.new id) }
-        ensures err { OnErr result (PlacesStay self.old self.new) }
+        ensures err { OnErr result (RepresentsSame self.old self.new) }
         ensures has_history { HasHistory self.new }
     {
         match home_of(&self.tables.places, id) {

@@ -1,7 +1,7 @@
 //! The manuscript in bytes, which are gathered and go out by whole arrays.
 ghost use Rattle.std.specs.Prelude.{◌≡◌, ◌∷◌, [], ◌++◌, flat_map};
 ghost use Rattle.fugue_ids.specs.Gathers.{GathersText};
-ghost use Rattle.section_list.specs.Cells.{section_cell_ids, section_cells_shown};
+ghost use Rattle.run_store.specs.Cells.{cell_ids, cells_shown};
 ghost use Rattle.section_catalogue.specs.Section.{section_printed, printed_at};
 
 use crate::tables::Section;
@@ -42,7 +42,7 @@ pub(crate) fn put_sections<O: Out>(
     catalogue: &SectionList,
 ) -> Result<(), Failed>
     ensures { GathersText (O.seen output.old) (O.seen output.new) gather.old gather.new result
-        (flat_map (printed_at sections.now.entries) (section_cell_ids (section_cells_shown catalogue.now.cells))) }
+        (flat_map (printed_at sections.now.entries) (cell_ids (cells_shown catalogue.now.cells))) }
 {
     let mut shown = catalogue.shown();
     'sections: while let Some(id) = shown.step() {

@@ -1,4 +1,5 @@
--- A store that has the nodes of a place in order has their keys, gives a new one its key, and has the longer list of nodes once it is put in.
+-- A store that has the nodes of a place in order has their keys, gives a new one its key, and has the longer list of
+-- nodes once it is put in.
 use Rattle.std.proofs.Common.{Bool, List, [], ap, false, inl, inr, refl, subst, suc, sym, true, ℕ, ◌∙◌, ◌∷◌, ◌≡◌, ◌≢◌, ◌↔◌, zero}
 use Rattle.std.specs.Prelude.{Err, IfErr, None, Ok, OnErr, OnOk, Option, Result, Some, if◌then◌else◌, is_some, map, option_map}
 use Rattle.std.specs.List.{All, Contains, insert}
@@ -20,13 +21,18 @@ use Rattle.origin_model.specs.declared.operations.node.Node.{Node}
 use Rattle.origin_model.proofs.SharedLemmas.{holder-nodes, key-other, never_both, newest_key, nodes-lawful, nodes_listed, op_of}
 use Rattle.run_store.specs.Cells.{cell_of, cell_hiding, cell_ids, cells_hiding, keyed_cells, origins_in_cell}
 use Rattle.run_store.specs.NewCells.{cell_depth, depth_under, forest_beside, cell_forest as forest_held, has_right, new_cell, new_cell_key as stored_key, shares_right}
-use Rattle.run_store.specs.declared.cell.Cell.{Cell as StoredCell}
+use Rattle.run_store.specs.declared.cell.Cell.{Cell}
 use Rattle.run_store.proofs.CellLemmas.{cell-none, others-absent}
-use Rattle.section_list.specs.Kept.{IsOfNode, KeepsNodes, node_of}
+use Rattle.run_store.proofs.HideLemmas.{hiding-ids}
+use Rattle.section_list.specs.SectionList.{IsInOrder, IsOfNode, newest_cell, node_of}
 use Rattle.fugue_ids.proofs.OptionLemmas.{is_some-false}
 
+-- the cells are the nodes in order
+abbrev pub AreInOrder : List Node → List Cell → Type 0
+AreInOrder ns cs = IsInOrder (record { nodes = ns; cells = cs })
+
 -- the keys of cells that have those of their nodes
-keyed-each : (ns : List Node) (cs : List StoredCell) → All (IsOfNode ns) cs → keyed_cells cs ≡ keyed_in (as_ops ns) (cell_ids cs)
+keyed-each : (ns : List Node) (cs : List Cell) → All (IsOfNode ns) cs → keyed_cells cs ≡ keyed_in (as_ops ns) (cell_ids cs)
 keyed-each ns [] a = refl
 keyed-each ns (c ∷ cs) a =
     let e = (All-head (IsOfNode ns) c cs a).key in
@@ -34,18 +40,18 @@ keyed-each ns (c ∷ cs) a =
     λ i. record { id = c.id; key = e i } ∷ r i
 
 -- the store lists the nodes with their keys
-pub keyed_kept : (ns : List Node) (cs : List StoredCell) → KeepsNodes ns cs → keyed_cells cs ≡ keyed_order ns
+pub keyed_kept : (ns : List Node) (cs : List Cell) → AreInOrder ns cs → keyed_cells cs ≡ keyed_order ns
 keyed_kept ns cs k = keyed-each ns cs k.each ∙ ap (keyed_in (as_ops ns)) k.in_order
 
 -- the first cell of an identifier
-pub record Found (cs : List StoredCell) (x : Identifier) : Type 0 where
-  pub cell : StoredCell
+pub record Found (cs : List Cell) (x : Identifier) : Type 0 where
+  pub cell : Cell
   pub found : cell_of cs x ≡ Some cell
   pub own : cell.id ≡ x
   pub member : Contains cs cell
 
 -- a member has one
-pub find_cell : (cs : List StoredCell) (x : Identifier) → Contains (cell_ids cs) x → Found cs x
+pub find_cell : (cs : List Cell) (x : Identifier) → Contains (cell_ids cs) x → Found cs x
 find_cell [] x m = absurd (contains_none x m)
 find_cell (c ∷ cs) x m =
     elim (cases_id c.id x) [
@@ -56,7 +62,7 @@ find_cell (c ∷ cs) x m =
     ]
 
 -- the origins of a cell
-abbrev cell_origins : StoredCell → Option Identifier × Option Identifier
+abbrev cell_origins : Cell → Option Identifier × Option Identifier
 cell_origins c = (c.left, c.right)
 
 -- the node of an identifier with these origins
@@ -64,7 +70,7 @@ abbrev pub node_with : Identifier → Option Identifier × Option Identifier →
 node_with x o = record { id = x; left = o.0; right = o.1 }
 
 -- a store with the nodes in order
-module _ (ns : List Node) (cs : List StoredCell) (k : KeepsNodes ns cs) where
+module _ (ns : List Node) (cs : List Cell) (k : AreInOrder ns cs) where
   -- the nodes as a history
   abbrev h : List Op
   h = as_ops ns
@@ -118,7 +124,8 @@ module _ (ns : List Node) (cs : List StoredCell) (k : KeepsNodes ns cs) where
       let f = cell_at r o in
       ap (λ c. forest_held c l) f.found
       ∙ elim (cases_Bool (origin_eq f.cell.left l)) [
-        | inl t ↦ ap (λ b. if b then suc f.cell.key.forest else 0) t ∙ ap (λ (z : Key). suc z.forest) (key_at r f) ∙ ap (λ b. forest_above h (if b then Some r else None)) (sym (left_kept r l f ∙ t))
+        | inl t ↦ ap (λ b. if b then suc f.cell.key.forest else 0) t ∙ ap (λ (z : Key). suc z.forest) (key_at r f)
+            ∙ ap (λ b. forest_above h (if b then Some r else None)) (sym (left_kept r l f ∙ t))
         | inr t ↦ ap (λ b. if b then suc f.cell.key.forest else 0) t ∙ ap (λ b. forest_above h (if b then Some r else None)) (sym (left_kept r l f ∙ t))
       ]
 
@@ -150,11 +157,11 @@ module _ (ns : List Node) (cs : List StoredCell) (k : KeepsNodes ns cs) where
   -- a new node
   module _ (n : Node) (new : IsNew ns n) where
     -- an older cell is not its
-    apart : (c : StoredCell) → IsOfNode ns c → n.id ≢ c.id
+    apart : (c : Cell) → IsOfNode ns c → n.id ≢ c.id
     apart c o d = true≢false (sym (ap is_some (ap (find_node ns) d ∙ o.node)) ∙ new.fresh)
 
     -- older cells keep their nodes and keys
-    stays : (c : StoredCell) → IsOfNode ns c → IsOfNode (n ∷ ns) c
+    stays : (c : Cell) → IsOfNode ns c → IsOfNode (n ∷ ns) c
     stays c o =
         let other : id_eq n.id c.id ≡ false = ne-id_eq n.id c.id (apart c o) in
         record {
@@ -162,70 +169,62 @@ module _ (ns : List Node) (cs : List StoredCell) (k : KeepsNodes ns cs) where
           key = o.key ∙ sym (ap (λ (z : Keyed). z.key) (key-other (as_op n) h c.id other));
         }
 
-    -- the new cell has the new node
-    own_cell : (ch : ℕ) → IsOfNode (n ∷ ns) (new_cell cs n.id n.left n.right ch)
-    own_cell ch = record {
-      node = ap (λ b. if b then Some n else find_node ns n.id) (eq-id_eq n.id n.id refl);
-      key = new_key_kept n.left n.right new.left new.right ∙ sym (newest_key (as_op n) h n.id (eq-id_eq n.id n.id refl));
-    }
+    -- the newest cell has the newest node
+    pub own_cell : (ch : ℕ) → IsOfNode (n ∷ ns) (newest_cell n ns ch)
+    own_cell ch = record { node = ap (λ b. if b then Some n else find_node ns n.id) (eq-id_eq n.id n.id refl); key = refl }
+
+    -- it is the one that the store makes
+    pub is_newest : (ch : ℕ) → new_cell cs n.id n.left n.right ch ≡ newest_cell n ns ch
+    is_newest ch =
+        let key = new_key_kept n.left n.right new.left new.right ∙ sym (newest_key (as_op n) h n.id (eq-id_eq n.id n.id refl)) in
+        λ i. record { id = n.id; left = n.left; right = n.right; ch = ch; hidden = false; key = key i }
 
     -- the identifiers with one more
-    ids-insert : (cells : List StoredCell) (i : ℕ) (c : StoredCell) → cell_ids (insert cells i c) ≡ insert (cell_ids cells) i c.id
+    ids-insert : (cells : List Cell) (i : ℕ) (c : Cell) → cell_ids (insert cells i c) ≡ insert (cell_ids cells) i c.id
     ids-insert cells zero c = refl
     ids-insert [] (suc i) c = refl
     ids-insert (d ∷ cells) (suc i) c = ap (λ t. d.id ∷ t) (ids-insert cells i c)
 
-    -- the store with the new cell has the longer list of nodes
-    pub keeps_more : (i ch : ℕ) → node_order (n ∷ ns) ≡ insert (cell_ids cs) i n.id → KeepsNodes (n ∷ ns) (insert cs i (new_cell cs n.id n.left n.right ch))
-    keeps_more i ch e =
-        let c : StoredCell = new_cell cs n.id n.left n.right ch in
+    -- the cells with the newest one are in order
+    pub one_more : (i ch : ℕ) → node_order (n ∷ ns) ≡ insert (cell_ids cs) i n.id → AreInOrder (n ∷ ns) (insert cs i (newest_cell n ns ch))
+    one_more i ch e =
+        let c : Cell = newest_cell n ns ch in
         record {
           are_nodes = (new, k.are_nodes);
           in_order = ids-insert cs i c ∙ sym e;
           each = all_insert (IsOfNode (n ∷ ns)) cs i c (own_cell ch) (all_from_contains (IsOfNode (n ∷ ns)) cs (λ d m. stays d (All-contains (IsOfNode ns) cs d k.each m)));
         }
 
+    -- so are those with the one that the store makes
+    pub keeps_more : (i ch : ℕ) → node_order (n ∷ ns) ≡ insert (cell_ids cs) i n.id → AreInOrder (n ∷ ns) (insert cs i (new_cell cs n.id n.left n.right ch))
+    keeps_more i ch e = subst (λ c. AreInOrder (n ∷ ns) (insert cs i c)) (sym (is_newest ch)) (one_more i ch e)
+
   -- a hidden cell keeps its node
-  hides : (x : Identifier) (c : StoredCell) → IsOfNode ns c → IsOfNode ns (cell_hiding x c)
+  hides : (x : Identifier) (c : Cell) → IsOfNode ns c → IsOfNode ns (cell_hiding x c)
   hides x c o = elim (id_eq c.id x) as (λ b. IsOfNode ns (if b then record c { hidden = true } else c)) [ true ↦ record { node = o.node; key = o.key } | false ↦ o ]
 
-  -- the identifiers stay
-  ids-hiding : (x : Identifier) (cells : List StoredCell) → cell_ids (map (cell_hiding x) cells) ≡ cell_ids cells
-  ids-hiding x [] = refl
-  ids-hiding x (c ∷ cells) =
-      let e : (cell_hiding x c).id ≡ c.id = elim (id_eq c.id x) as (λ b. (if b then record c { hidden = true } else c).id ≡ c.id) [ true ↦ refl | false ↦ refl ] in
-      λ i. e i ∷ ids-hiding x cells i
-
   -- so the store keeps the nodes
-  pub keeps_hidden : (x : Identifier) → KeepsNodes ns (map (cell_hiding x) cs)
+  pub keeps_hidden : (x : Identifier) → AreInOrder ns (map (cell_hiding x) cs)
   keeps_hidden x = record {
     are_nodes = k.are_nodes;
-    in_order = ids-hiding x cs ∙ k.in_order;
+    in_order = hiding-ids 1 x cs ∙ k.in_order;
     each = All-map (IsOfNode ns) (cell_hiding x) cs (all_from_contains (λ c. IsOfNode ns (cell_hiding x c)) cs (λ c m. hides x c (All-contains (IsOfNode ns) cs c k.each m)));
   }
 
--- what follows where there is a value
-pub on_ok : {T E A B : Type 0} (r : Result T E) → (A → B) → OnOk r A → OnOk r B
-on_ok (Ok v) f k = f k
-on_ok (Err e) f k = k
-
 -- whether or not the cell was hidden, the store keeps the nodes
-pub kept_hidden : {T E : Type 0} (ns : List Node) (cs after : List StoredCell) (x : Identifier) → KeepsNodes ns cs → (r : Result T E) → OnOk r (after ≡ map (cell_hiding x) cs) → OnErr r (after ≡ cs) → KeepsNodes ns after
-kept_hidden ns cs after x k (Ok v) ok err = subst (KeepsNodes ns) (sym ok) (keeps_hidden ns cs k x)
-kept_hidden ns cs after x k (Err e) ok err = subst (KeepsNodes ns) (sym err) k
+pub kept_hidden : {T E : Type 0} (ns : List Node) (cs after : List Cell) (x : Identifier) → AreInOrder ns cs → (r : Result T E) → OnOk r (after ≡ map (cell_hiding x) cs)
+    → OnErr r (after ≡ cs) → AreInOrder ns after
+kept_hidden ns cs after x k (Ok v) ok err = subst (AreInOrder ns) (sym ok) (keeps_hidden ns cs k x)
+kept_hidden ns cs after x k (Err e) ok err = subst (AreInOrder ns) (sym err) k
 
 -- some are hidden, and the store keeps the nodes
-keeps_run_hidden : (n : ℕ) (x : Identifier) (ns : List Node) (cs : List StoredCell) → KeepsNodes ns cs → KeepsNodes ns (cells_hiding x n cs)
+keeps_run_hidden : (n : ℕ) (x : Identifier) (ns : List Node) (cs : List Cell) → AreInOrder ns cs → AreInOrder ns (cells_hiding x n cs)
 keeps_run_hidden zero x ns cs k = k
 keeps_run_hidden (suc n) x ns cs k = keeps_run_hidden n (id_behind x 1) ns (map (cell_hiding x) cs) (keeps_hidden ns cs k x)
 
 -- however many were hidden, the store keeps the nodes
-pub kept_run_hidden : {T E : Type 0} (ns : List Node) (cs after : List StoredCell) (x : Identifier) (n : ℕ) (done : E → ℕ) → KeepsNodes ns cs → (r : Result T E) → OnOk r (after ≡ cells_hiding x n cs)
-    → IfErr r (λ e. after ≡ cells_hiding x (done e) cs) → KeepsNodes ns after
-kept_run_hidden ns cs after x n done k (Ok v) ok err = subst (KeepsNodes ns) (sym ok) (keeps_run_hidden n x ns cs k)
-kept_run_hidden ns cs after x n done k (Err e) ok err = subst (KeepsNodes ns) (sym err) (keeps_run_hidden (done e) x ns cs k)
-
--- what follows where there is none
-pub if_err : {T E : Type 0} {A B : E → Type 0} (r : Result T E) → ((e : E) → A e → B e) → IfErr r A → IfErr r B
-if_err (Ok v) f k = k
-if_err (Err e) f k = f e k
+pub kept_run_hidden : {T E : Type 0} (ns : List Node) (cs after : List Cell) (x : Identifier) (n : ℕ) (done : E → ℕ) → AreInOrder ns cs → (r : Result T E)
+    → OnOk r (after ≡ cells_hiding x n cs)
+    → IfErr r (λ e. after ≡ cells_hiding x (done e) cs) → AreInOrder ns after
+kept_run_hidden ns cs after x n done k (Ok v) ok err = subst (AreInOrder ns) (sym ok) (keeps_run_hidden n x ns cs k)
+kept_run_hidden ns cs after x n done k (Err e) ok err = subst (AreInOrder ns) (sym err) (keeps_run_hidden (done e) x ns cs k)

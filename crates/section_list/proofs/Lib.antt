@@ -1,3 +1,3 @@
 pub mod GrowthLemmas
 pub mod KeptLemmas
-pub mod PlainLemmas
+pub mod ShownLemmas

@@ -9,8 +9,7 @@ ghost use Rattle.fugue_ids.specs.declared.key.Gap.TheVariants.{Alone};
 ghost use Rattle.origin_model.specs.edits.Landing.{following};
 ghost use Rattle.origin_model.specs.sides.Node.{IsNew, has_node, has_origin, node_order};
 ghost use Rattle.origin_model.specs.sides.Slot.{IsBeside, at_gap};
-ghost use Rattle.section_list.specs.Cells.{section_cell_ids, is_hidden_in_section as hidden_in, section_text};
-ghost use Rattle.section_list.specs.Cells.{section_cells_shown, section_shown_before};
+ghost use Rattle.run_store.specs.Cells.{cell_ids, cell_text, cells_shown, is_hidden_cell, shown_before};
 ghost use Rattle.section_list.specs.SectionList.{AreAllNodes, AreNoNodes, IsInOrder, empty_listing, with_element, with_elements};
 ghost use Rattle.section_list.specs.SectionList.{with_hidden, with_run_hidden};
 
@@ -30,15 +29,13 @@ pub struct SectionList {
 }
 
 impl Model for SectionList {
-    ghost use Rattle.std.specs.Prelude.{map};
-    ghost use Rattle.section_list.specs.Kept.{KeepsNodes, plain_cell};
-    ghost use Rattle.section_list.specs.SectionList.{Listing};
+    ghost use Rattle.section_list.specs.SectionList.{IsInOrder, Listing};
 
     ghost Value = { Listing };
 
-    ghost view = { λ s. record { nodes = s.ages.nodes; cells = map plain_cell s.store.cells } };
+    ghost view = { λ s. record { nodes = s.ages.nodes; cells = s.store.cells } };
 
-    ghost invariant = { λ s. KeepsNodes s.ages.nodes s.store.cells };
+    ghost invariant = { λ s. IsInOrder (record { nodes = s.ages.nodes; cells = s.store.cells }) };
 }
 
 impl NodeLookup for SectionList {
@@ -74,7 +71,7 @@ impl SectionList {
 
     /// How many elements are visible.
     pub fn visible_count(&self) -> usize
-        ensures { result ≡ length (section_cells_shown self.now.cells) }
+        ensures { result ≡ length (cells_shown self.now.cells) }
     {
         self.store.visible_count()
     }
@@ -88,14 +85,14 @@ impl SectionList {
 
     /// Whether the element is held and hidden.
     pub fn is_hidden(&self, id: ElementId) -> bool
-        ensures { result ≡ hidden_in self.now.cells id }
+        ensures { result ≡ is_hidden_cell self.now.cells id }
     {
         self.store.is_hidden(id)
     }
 
     /// The element with i visible ones before it that is visible itself.
     pub fn nth_visible(&self, i: usize) -> Option<ElementId>
-        ensures { result ≡ slice_get (section_cell_ids (section_cells_shown self.now.cells)) i }
+        ensures { result ≡ slice_get (cell_ids (cells_shown self.now.cells)) i }
     {
         self.store.nth_visible(i)
     }
@@ -103,33 +100,33 @@ impl SectionList {
     /// How many visible elements stand before this one, which may be hidden itself. None is the answer for one that is
     /// not held.
     pub fn visible_before(&self, id: ElementId) -> Option<usize>
-        ensures some { IfSome result (λ n. n ≡ section_shown_before self.now.cells id) }
-        ensures none { IsNone result ↔ (Contains (section_cell_ids self.now.cells) id → ⊥) }
+        ensures some { IfSome result (λ n. n ≡ shown_before self.now.cells id) }
+        ensures none { IsNone result ↔ (Contains (cell_ids self.now.cells) id → ⊥) }
     {
         self.store.visible_before(id)
     }
 
     /// Whether a stands before b, hidden or not. Of an element that is not held the answer is no.
     pub fn is_before(&self, a: ElementId, b: ElementId) -> bool
-        ensures both { Contains (section_cell_ids self.now.cells) a → Contains (section_cell_ids self.now.cells) b
-            → result ≡ nat_lt (index_of (section_cell_ids self.now.cells) a)
-            (index_of (section_cell_ids self.now.cells) b) }
-        ensures none { ((Contains (section_cell_ids self.now.cells) a → ⊥)
-            ⊎ (Contains (section_cell_ids self.now.cells) b → ⊥)) → result ≡ false }
+        ensures both { Contains (cell_ids self.now.cells) a → Contains (cell_ids self.now.cells) b
+            → result ≡ nat_lt (index_of (cell_ids self.now.cells) a)
+            (index_of (cell_ids self.now.cells) b) }
+        ensures none { ((Contains (cell_ids self.now.cells) a → ⊥)
+            ⊎ (Contains (cell_ids self.now.cells) b → ⊥)) → result ≡ false }
     {
         self.store.is_before(a, b)
     }
 
     /// A walk along the visible elements, in order.
     pub fn shown(&self) -> Shown<'_>
-        ensures { result ≡ section_cell_ids (section_cells_shown self.now.cells) }
+        ensures { result ≡ cell_ids (cells_shown self.now.cells) }
     {
         self.store.shown()
     }
 
     /// A walk along those that have `at` visible ones before them: none of these is passed.
     pub fn shown_from(&self, at: usize) -> Shown<'_>
-        ensures { result ≡ drop at (section_cell_ids (section_cells_shown self.now.cells)) }
+        ensures { result ≡ drop at (cell_ids (cells_shown self.now.cells)) }
     {
         self.store.shown_from(at)
     }
@@ -137,7 +134,7 @@ impl SectionList {
     /// The element behind this one, hidden or not; the first one for None. None comes back for one that is not held or
     /// stands last.
     pub fn after(&self, id: Option<ElementId>) -> Option<ElementId>
-        ensures { result ≡ following (section_cell_ids self.now.cells) id }
+        ensures { result ≡ following (cell_ids self.now.cells) id }
     {
         self.store.after(id)
     }
@@ -200,8 +197,8 @@ impl SectionList {
     fn gap_of(&self, node: &Node) -> Gap
         requires { IsNew self.now.nodes node.now }
         ensures place { node_order (node.now ∷ self.now.nodes)
-            ≡ at_gap result node.now.id (section_cell_ids self.now.cells) }
-        ensures beside { IsBeside result (section_cell_ids self.now.cells) }
+            ≡ at_gap result node.now.id (cell_ids self.now.cells) }
+        ensures beside { IsBeside result (cell_ids self.now.cells) }
         ensures alone { (result ≡ Alone) ↔ (self.now.nodes ≡ []) }
     {
         find_gap(self, &self.store, node)
@@ -212,7 +209,7 @@ impl SectionList {
         requires { has_node self.old.nodes id ≡ true }
         ensures ok { OnOk result (self.new ≡ with_hidden id self.old) }
         ensures err { OnErr result (self.new ≡ self.old) }
-        ensures again { hidden_in self.old.cells id ≡ true → self.new ≡ self.old }
+        ensures again { is_hidden_cell self.old.cells id ≡ true → self.new ≡ self.old }
         ensures in_order { IsInOrder self.new }
     {
         self.store.hide(id)
@@ -235,7 +232,7 @@ impl SectionList {
     /// memory.
     pub fn write_text<O: Sink>(&self, output: &mut O) -> Result<(), Failed>
         ensures { WritesBytes (O.seen output.old) (O.seen output.new) result
-            (encode_utf8_all (section_text self.now.cells)) }
+            (encode_utf8_all (cell_text self.now.cells)) }
     {
         self.store.write_text(output)
     }
@@ -243,7 +240,7 @@ impl SectionList {
     /// Puts the text behind what waits to go out.
     pub fn put_text<O: Out>(&self, gather: &mut Gather, output: &mut O) -> Result<(), Failed>
         ensures { GathersText (O.seen output.old) (O.seen output.new) gather.old gather.new result
-            (encode_utf8_all (section_text self.now.cells)) }
+            (encode_utf8_all (cell_text self.now.cells)) }
     {
         self.store.put_text(gather, output)
     }

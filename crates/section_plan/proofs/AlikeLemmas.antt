@@ -27,11 +27,13 @@ came_last (z ∷ xs) x y zero e = inl e
 came_last (z ∷ xs) x y (suc k) e = came_last xs x y k e
 
 -- one text more
-pub texts_more : (p : Pairs) (sections : List Part) (place : ℕ) (texts : List Scalars) (s : Scalars) → HasSectionTexts p sections place texts → place < length sections → s.place ≡ place → s.list.items ≡ text_at_place sections place → s.reversed.items ≡ reverse s.list.items
+pub texts_more : (p : Pairs) (sections : List Part) (place : ℕ) (texts : List Scalars) (s : Scalars) → HasSectionTexts p sections place texts → place < length sections
+    → s.place ≡ place → s.list.items ≡ text_at_place sections place → s.reversed.items ≡ reverse s.list.items
     → HasSectionTexts p sections (place + 1) (texts ++ s ∷ [])
 texts_more p sections place texts s has l here reads back = record {
   within = λ k t e. elim (came_last texts s t k e) [ inl f ↦ has.within k t f | inr f ↦ omega (arith, l, here, ap (λ (u : Scalars). u.place) f) ];
-  reversed = λ k t e. elim (came_last texts s t k e) [ inl f ↦ has.reversed k t f | inr f ↦ ap (λ (u : Scalars). u.reversed.items) (sym f) ∙ (back ∙ ap (λ (u : Scalars). reverse u.list.items) f) ];
+  reversed = λ k t e. elim (came_last texts s t k e)
+      [ inl f ↦ has.reversed k t f | inr f ↦ ap (λ (u : Scalars). u.reversed.items) (sym f) ∙ (back ∙ ap (λ (u : Scalars). reverse u.list.items) f) ];
   all = λ i m free some.
       elim (cases_eq i place) [
         | inl e ↦ (length texts, s, slice_get-seam texts s, here ∙ sym e, reads ∙ ap (text_at_place sections) (sym e))
@@ -40,7 +42,8 @@ texts_more p sections place texts s has l here reads back = record {
 }
 
 -- a section that has a part needs no text, nor one whose text is empty
-pub texts_same : (p : Pairs) (sections : List Part) (place : ℕ) (texts : List Scalars) → HasSectionTexts p sections place texts → (part_of p place ≡ None → text_at_place sections place ≢ [] → ⊥) → HasSectionTexts p sections (place + 1) texts
+pub texts_same : (p : Pairs) (sections : List Part) (place : ℕ) (texts : List Scalars) → HasSectionTexts p sections place texts
+    → (part_of p place ≡ None → text_at_place sections place ≢ [] → ⊥) → HasSectionTexts p sections (place + 1) texts
 texts_same p sections place texts has taken = record {
   within = has.within;
   reversed = has.reversed;
@@ -52,7 +55,8 @@ texts_same p sections place texts has taken = record {
 }
 
 -- what is none while some sections are free is none while fewer are
-fewer : (old new : Pairs) (texts : List Scalars) (n : ℕ) (text : List ℕ) → ((i : ℕ) → part_of new i ≡ None → part_of old i ≡ None) → NoneAmong old texts n text → NoneAmong new texts n text
+fewer : (old new : Pairs) (texts : List Scalars) (n : ℕ) (text : List ℕ) → ((i : ℕ) → part_of new i ≡ None → part_of old i ≡ None) → NoneAmong old texts n text
+    → NoneAmong new texts n text
 fewer old new texts n text was none k s l e free = none k s l e (was s.place free)
 
 -- a part whose text is empty is served
@@ -60,7 +64,8 @@ pub served_empty : (p : Pairs) (texts : List Scalars) (place : ℕ) (text : List
 served_empty p texts place text e none k s l at free = ap (alike s.list.items) e ∙ empty_new s.list.items
 
 -- one part more is served
-pub served_more : (start mid new : Pairs) (sections parts : List Part) (texts : List Scalars) (place : ℕ) → IsMatching (length sections) (length parts) start → AreServed start mid texts parts place → AreKept mid new
+pub served_more : (start mid new : Pairs) (sections parts : List Part) (texts : List Scalars) (place : ℕ) → IsMatching (length sections) (length parts) start
+    → AreServed start mid texts parts place → AreKept mid new
     → IsServed new texts place (text_at_place parts place) → AreServed start new texts parts (place + 1)
 served_more start mid new sections parts texts place m to kept done = record {
   kept = kept_both start mid new to.kept kept;
@@ -68,13 +73,15 @@ served_more start mid new sections parts texts place m to kept done = record {
       elim (cases_eq j place) [
         | inl e ↦ subst (λ k. IsServed new texts k (text_at_place parts k)) (sym e) done
         | inr ne ↦ λ none.
-            fewer mid new texts (length texts) (text_at_place parts j) (λ i. free_before (length sections) (length parts) mid new (to.kept.matching (length sections) (length parts) m) kept i)
+            fewer mid new texts (length texts) (text_at_place parts j)
+            (λ i. free_before (length sections) (length parts) mid new (to.kept.matching (length sections) (length parts) m) kept i)
             (to.served j (omega arith) (part_free_before mid new kept j none))
       ];
 }
 
 -- all of them are
-pub served_all : (start now : Pairs) (sections parts : List Part) (texts : List Scalars) (place : ℕ) → IsMatching (length sections) (length parts) start → HasSectionTexts start sections (length sections) texts
+pub served_all : (start now : Pairs) (sections parts : List Part) (texts : List Scalars) (place : ℕ) → IsMatching (length sections) (length parts) start
+    → HasSectionTexts start sections (length sections) texts
     → AreServed start now texts parts place → ((j : ℕ) → j < length parts → j < place) → NoPairIsAlike now sections parts
 served_all start now sections parts texts place m has served all i j li lj free_i free_j = by (text_at_place sections i) refl
   where

@@ -21,13 +21,15 @@ either false v o (inl e) = cc
 either false v o (inr h) = h
 
 -- a text that was set or found is found
-key_inserted : (bs : List ℕ) (m n : BTreeMap (Bor (List ℕ)) ℕ) (v : ℕ) → UpdatesBy (λ x y. slice_cmp nat_cmp x.now y.now) (λ k. slice_cmp nat_cmp bs k.now) m n (Some v) → (cs : List ℕ)
+key_inserted : (bs : List ℕ) (m n : BTreeMap (Bor (List ℕ)) ℕ) (v : ℕ) → UpdatesBy (λ x y. slice_cmp nat_cmp x.now y.now) (λ k. slice_cmp nat_cmp bs k.now) m n (Some v)
+    → (cs : List ℕ)
     → (bs ≡ cs) ⊎ IsSome (found_for m cs) → IsSome (found_for n cs)
 key_inserted bs m n v u cs (inl e) = rw (btree_map_updates_str bs m n (Some v) u cs) (either (bytes_eq bs cs) v (found_for m cs) (inl ((bytes_eq-Decides bs cs).1 e)))
 key_inserted bs m n v u cs (inr h) = rw (btree_map_updates_str bs m n (Some v) u cs) (either (bytes_eq bs cs) v (found_for m cs) (inr h))
 
 -- the next section's key is in the map too
-pub keys_more : (p : Pairs) (sections : List Part) (key : Key) (place : ℕ) (bs : List ℕ) (m n : BTreeMap (Bor (List ℕ)) ℕ) → bs ≡ key_at key sections place → HasKeysOfFree p sections key place m
+pub keys_more : (p : Pairs) (sections : List Part) (key : Key) (place : ℕ) (bs : List ℕ) (m n : BTreeMap (Bor (List ℕ)) ℕ) → bs ≡ key_at key sections place
+    → HasKeysOfFree p sections key place m
     → UpdatesBy (λ x y. slice_cmp nat_cmp x.now y.now) (λ k. slice_cmp nat_cmp bs k.now) m n (Some place) → HasKeysOfFree p sections key (place + 1) n
 keys_more p sections key place bs m n is has u i wanted l free = by (cases_eq i place)
   where

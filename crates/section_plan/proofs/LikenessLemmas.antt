@@ -14,16 +14,19 @@ differ : (x y : ℕ) (xs ys : List ℕ) → nat_eq x y ≡ false → common_pref
 differ x y xs ys e = ap (λ b. cond b (1 + common_prefix_len nat_eq xs ys) 0) e
 
 -- one more member is the same
-pub common_more : (a b : List ℕ) (k : ℕ) → k < length a → k < length b → nat_eq (get_or a k 0) (get_or b k 0) ≡ true → common_prefix_len nat_eq a b ≡ k + common_prefix_len nat_eq (drop k a) (drop k b)
+pub common_more : (a b : List ℕ) (k : ℕ) → k < length a → k < length b → nat_eq (get_or a k 0) (get_or b k 0) ≡ true
+    → common_prefix_len nat_eq a b ≡ k + common_prefix_len nat_eq (drop k a) (drop k b)
     → common_prefix_len nat_eq a b ≡ (k + 1) + common_prefix_len nat_eq (drop (k + 1) a) (drop (k + 1) b)
 common_more a b k l m e was =
     let x = drop_more a k 0 l in
     let y = drop_more b k 0 m in
-    let step : common_prefix_len nat_eq (drop k a) (drop k b) ≡ 1 + common_prefix_len nat_eq (drop (k + 1) a) (drop (k + 1) b) = rw (x, y) (heads (get_or a k 0) (get_or b k 0) (drop (k + 1) a) (drop (k + 1) b) e) in
+    let step : common_prefix_len nat_eq (drop k a) (drop k b) ≡ 1 + common_prefix_len nat_eq (drop (k + 1) a) (drop (k + 1) b) =
+    rw (x, y) (heads (get_or a k 0) (get_or b k 0) (drop (k + 1) a) (drop (k + 1) b) e) in
     omega (arith, was, step)
 
 -- or it is another
-pub common_until : (a b : List ℕ) (k : ℕ) → k < length a → k < length b → nat_eq (get_or a k 0) (get_or b k 0) ≡ false → common_prefix_len nat_eq a b ≡ k + common_prefix_len nat_eq (drop k a) (drop k b)
+pub common_until : (a b : List ℕ) (k : ℕ) → k < length a → k < length b → nat_eq (get_or a k 0) (get_or b k 0) ≡ false
+    → common_prefix_len nat_eq a b ≡ k + common_prefix_len nat_eq (drop k a) (drop k b)
     → k ≡ common_prefix_len nat_eq a b
 common_until a b k l m e was =
     let x = drop_more a k 0 l in
@@ -39,7 +42,8 @@ none_right [] = refl
 none_right (x ∷ a) = refl
 
 -- or one of them ends
-pub common_all : (a b : List ℕ) (k : ℕ) → k ≤ length a → k ≤ length b → (k < length a → k < length b → ⊥) → common_prefix_len nat_eq a b ≡ k + common_prefix_len nat_eq (drop k a) (drop k b) → k ≡ common_prefix_len nat_eq a b
+pub common_all : (a b : List ℕ) (k : ℕ) → k ≤ length a → k ≤ length b → (k < length a → k < length b → ⊥)
+    → common_prefix_len nat_eq a b ≡ k + common_prefix_len nat_eq (drop k a) (drop k b) → k ≡ common_prefix_len nat_eq a b
 common_all a b k l m end was = elim (cases_lt k (length a)) [
   | inl x ↦ elim (cases_lt k (length b)) [
     | inl y ↦ absurd (end x y)
@@ -53,17 +57,22 @@ pub end_more : (a b : List ℕ) (k : ℕ) → k < length a → k < length b → 
     → common_prefix_len nat_eq (reverse a) (reverse b) ≡ k + common_prefix_len nat_eq (drop k (reverse a)) (drop k (reverse b))
     → common_prefix_len nat_eq (reverse a) (reverse b) ≡ (k + 1) + common_prefix_len nat_eq (drop (k + 1) (reverse a)) (drop (k + 1) (reverse b))
 end_more a b k l m e was =
-    common_more (reverse a) (reverse b) k (omega (arith, length-reverse a)) (omega (arith, length-reverse b)) (rw (get_or-reverse a k 0 l, get_or-reverse b k 0 m) (eq-eqb (get_or a (length a - 1 - k) 0) (get_or b (length b - 1 - k) 0) e)) was
+    common_more (reverse a) (reverse b) k (omega (arith, length-reverse a)) (omega (arith, length-reverse b))
+    (rw (get_or-reverse a k 0 l, get_or-reverse b k 0 m) (eq-eqb (get_or a (length a - 1 - k) 0) (get_or b (length b - 1 - k) 0) e)) was
 
 pub end_until : (a b : List ℕ) (k : ℕ) → k < length a → k < length b → (get_or a (length a - 1 - k) 0 ≡ get_or b (length b - 1 - k) 0 → ⊥)
-    → common_prefix_len nat_eq (reverse a) (reverse b) ≡ k + common_prefix_len nat_eq (drop k (reverse a)) (drop k (reverse b)) → k ≡ common_prefix_len nat_eq (reverse a) (reverse b)
+    → common_prefix_len nat_eq (reverse a) (reverse b) ≡ k + common_prefix_len nat_eq (drop k (reverse a)) (drop k (reverse b))
+    → k ≡ common_prefix_len nat_eq (reverse a) (reverse b)
 end_until a b k l m e was =
-    common_until (reverse a) (reverse b) k (omega (arith, length-reverse a)) (omega (arith, length-reverse b)) (rw (get_or-reverse a k 0 l, get_or-reverse b k 0 m) (ne_eqb (get_or a (length a - 1 - k) 0) (get_or b (length b - 1 - k) 0) e)) was
+    common_until (reverse a) (reverse b) k (omega (arith, length-reverse a)) (omega (arith, length-reverse b))
+    (rw (get_or-reverse a k 0 l, get_or-reverse b k 0 m) (ne_eqb (get_or a (length a - 1 - k) 0) (get_or b (length b - 1 - k) 0) e)) was
 
 pub end_all : (a b : List ℕ) (k : ℕ) → k ≤ length a → k ≤ length b → (k < length a → k < length b → ⊥)
-    → common_prefix_len nat_eq (reverse a) (reverse b) ≡ k + common_prefix_len nat_eq (drop k (reverse a)) (drop k (reverse b)) → k ≡ common_prefix_len nat_eq (reverse a) (reverse b)
+    → common_prefix_len nat_eq (reverse a) (reverse b) ≡ k + common_prefix_len nat_eq (drop k (reverse a)) (drop k (reverse b))
+    → k ≡ common_prefix_len nat_eq (reverse a) (reverse b)
 end_all a b k l m end was =
-    common_all (reverse a) (reverse b) k (omega (arith, length-reverse a)) (omega (arith, length-reverse b)) (λ x y. end (omega (arith, length-reverse a)) (omega (arith, length-reverse b))) was
+    common_all (reverse a) (reverse b) k (omega (arith, length-reverse a)) (omega (arith, length-reverse b))
+    (λ x y. end (omega (arith, length-reverse a)) (omega (arith, length-reverse b))) was
 
 and_false : (b : Bool) → b && false ≡ false
 and_false true = refl
@@ -82,5 +91,6 @@ empty_old b = none_shared (longer_text [] b)
 
 pub empty_new : (a : List ℕ) → alike a [] ≡ false
 empty_new a =
-    (λ i. list_any is_alphabetic (longer_text a []) && (shares_third (none_right a i) (length (longer_text a [])) || shares_third (none_right (reverse a) i) (length (longer_text a []))))
+    (λ i. list_any is_alphabetic (longer_text a [])
+    && (shares_third (none_right a i) (length (longer_text a [])) || shares_third (none_right (reverse a) i) (length (longer_text a []))))
     ∙ none_shared (longer_text a [])

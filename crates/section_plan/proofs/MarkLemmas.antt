@@ -1,5 +1,6 @@
 -- Texts by the marks of their first thirds.
-use Rattle.std.proofs.Common.{List, [], ap, arith, cond, false, get_or, inl, inr, length, nat_eq, nat_le, nat_lt, refl, reverse, subst, suc, sym, take, true, zero, ℕ, ◌*◌, ◌+◌, ◌-◌, ◌++◌, ◌/◌, ◌<◌, ◌≤◌, ◌∙◌, ◌∷◌, ◌≡◌, ◌⊎◌}
+use Rattle.std.proofs.Common.{List, [], ap, arith, cond, false, get_or, inl, inr, length, nat_eq, nat_le, nat_lt, refl, reverse, subst, suc, sym, take, true, zero, ℕ, ◌*◌, ◌+◌}
+use Rattle.std.proofs.Common.{◌-◌, ◌++◌, ◌/◌, ◌<◌, ◌≤◌, ◌∙◌, ◌∷◌, ◌≡◌, ◌⊎◌}
 use Rattle.std.specs.Prelude.{IfNone, IfSome, None, Option, Some, slice_get}
 use Rattle.std.specs.List.{common_prefix_len}
 use Rattle.std.proofs.Math.Nat.{min-eq_left, min_comm}
@@ -9,7 +10,8 @@ use Rattle.std.proofs.lemmas.List.{get_or_append_left, get_or_push, length-rever
 use Rattle.std.proofs.lemmas.Option.{same_Some, slice_get_within}
 use Rattle.section_plan.specs.Alike.{NoneAmong}
 use Rattle.section_plan.specs.Likeness.{alike, longer_text, shares_third}
-use Rattle.section_plan.specs.Marks.{AreThirds, AreTried, IsFirst, IsNotBefore, IsTextIndex, NoneFronted, NoneMarked, earlier, mark_from, mark_of_text, next_mark, third_mark, turns_left}
+use Rattle.section_plan.specs.Marks.{AreThirds, AreTried, IsFirst, IsNotBefore, IsTextIndex, NoneFronted, NoneMarked, earlier, mark_from, mark_of_text, next_mark, third_mark}
+use Rattle.section_plan.specs.Marks.{turns_left}
 use Rattle.section_plan.specs.Matching.{part_of}
 use Rattle.section_plan.specs.declared.alike.Scalars.{Scalars}
 use Rattle.section_plan.specs.declared.marks.Marks.{Marks}
@@ -53,14 +55,17 @@ module _ (p : Pairs) (sections : List Scalars) (marks : List ℕ) (mark : ℕ) (
   }
 
   -- one more was
-  pub tried_more : (k : ℕ) (o : Option ℕ) (u : Scalars) → AreTried p sections marks mark text (Some k) → IsFirst marks (k + 1) (get_or marks k 0) o → slice_get sections k ≡ Some u → (part_of p u.place ≡ None → alike u.list.items text ≡ false)
+  pub tried_more : (k : ℕ) (o : Option ℕ) (u : Scalars) → AreTried p sections marks mark text (Some k) → IsFirst marks (k + 1) (get_or marks k 0) o → slice_get sections k ≡ Some u
+      → (part_of p u.place ≡ None → alike u.list.items text ≡ false)
       → AreTried p sections marks mark text o
   tried_more k o u was first at other = record {
     there = λ j e. there o first j e;
     tried = λ j s here same free. elim (was.tried j s here same free) [
       | inl out ↦ inl out
       | inr l ↦ elim (cases_eq j k) [
-        | inl e ↦ let is : u ≡ s = same_Some u s (sym at ∙ (ap (slice_get sections) (sym e) ∙ here)) in inl (ap (λ (t : Scalars). alike t.list.items text) (sym is) ∙ other (ap (λ (t : Scalars). part_of p t.place) is ∙ free))
+        | inl e ↦ let is : u ≡ s =
+            same_Some u s (sym at ∙ (ap (slice_get sections) (sym e) ∙ here)) in
+            inl (ap (λ (t : Scalars). alike t.list.items text) (sym is) ∙ other (ap (λ (t : Scalars). part_of p t.place) is ∙ free))
         | inr ne ↦ inr (from_next o first j (omega (arith, l, ne)) (marked_within j s here) same)
       ]
     ];
@@ -87,14 +92,16 @@ falls marks k mark None l first = omega (arith, l)
 falls marks k mark (Some i) l first = omega (arith, first.0, first.1)
 
 -- one front more
-pub fronted_more : (p : Pairs) (sections : List Scalars) (marks list text : List ℕ) (n mark : ℕ) → NoneFronted p sections marks list n text → mark ≡ mark_of_text (take n list) → NoneMarked p sections marks mark text
+pub fronted_more : (p : Pairs) (sections : List Scalars) (marks list text : List ℕ) (n mark : ℕ) → NoneFronted p sections marks list n text → mark ≡ mark_of_text (take n list)
+    → NoneMarked p sections marks mark text
     → NoneFronted p sections marks list (n + 1) text
 fronted_more p sections marks list text n mark was is none w l = elim (cases_eq w n) [
   | inl e ↦ subst (λ m. NoneMarked p sections marks m text) (is ∙ ap (λ i. mark_of_text (take i list)) (sym e)) none
   | inr ne ↦ was w (omega (arith, l, ne))
 ]
 
-pub fronted_next : (p : Pairs) (sections : List Scalars) (marks list text : List ℕ) (n mark : ℕ) (found marked : Option ℕ) → IfNone found (NoneFronted p sections marks list n text) → mark ≡ mark_of_text (take n list)
+pub fronted_next : (p : Pairs) (sections : List Scalars) (marks list text : List ℕ) (n mark : ℕ) (found marked : Option ℕ)
+    → IfNone found (NoneFronted p sections marks list n text) → mark ≡ mark_of_text (take n list)
     → IfNone marked (NoneMarked p sections marks mark text) → IfNone (earlier found marked) (NoneFronted p sections marks list (n + 1) text)
 fronted_next p sections marks list text n mark None None was is none = fronted_more p sections marks list text n mark was is none
 fronted_next p sections marks list text n mark None (Some j) was is none = tt
@@ -135,7 +142,8 @@ third_front a b xs ys l m e =
     (omega (arith, w, bound.1), ap mark_of_text (front_same xs ys (length xs / 3) w))
 
 -- where none that has the mark of a front is alike, nor of an end, none is
-pub none_among : (p : Pairs) (texts : List Scalars) (front end : Marks) (text back : List ℕ) → IsTextIndex texts front end → back ≡ reverse text → NoneFronted p texts front.marks.items text (length text + 1) text
+pub none_among : (p : Pairs) (texts : List Scalars) (front end : Marks) (text back : List ℕ) → IsTextIndex texts front end → back ≡ reverse text
+    → NoneFronted p texts front.marks.items text (length text + 1) text
     → NoneFronted p texts end.marks.items back (length back + 1) text → NoneAmong p texts (length texts) text
 none_among p texts front end text back is reversed fronts ends k s l at free = by (cases_Bool (alike s.list.items text))
   where
@@ -158,14 +166,16 @@ none_among p texts front end text back is reversed fronts ends k s l at free = b
         ]
 
 pub none_found : (p : Pairs) (texts : List Scalars) (front end : Marks) (text back : List ℕ) (one other : Option ℕ) → IsTextIndex texts front end → back ≡ reverse text
-    → IfNone one (NoneFronted p texts front.marks.items text (length text + 1) text) → IfNone other (NoneFronted p texts end.marks.items back (length back + 1) text) → IfNone (earlier one other) (NoneAmong p texts (length texts) text)
+    → IfNone one (NoneFronted p texts front.marks.items text (length text + 1) text) → IfNone other (NoneFronted p texts end.marks.items back (length back + 1) text)
+    → IfNone (earlier one other) (NoneAmong p texts (length texts) text)
 none_found p texts front end text back None None is reversed fronts ends = none_among p texts front end text back is reversed fronts ends
 none_found p texts front end text back None (Some j) is reversed fronts ends = tt
 none_found p texts front end text back (Some k) None is reversed fronts ends = tt
 none_found p texts front end text back (Some k) (Some j) is reversed fronts ends = tt
 
 -- one mark more
-pub thirds_more : (list : Scalars → List ℕ) (texts : List Scalars) (n : ℕ) (marks : List ℕ) (s : Scalars) (m : ℕ) → AreThirds list texts n marks → slice_get texts n ≡ Some s → m ≡ third_mark (list s) → AreThirds list texts (n + 1) (marks ++ m ∷ [])
+pub thirds_more : (list : Scalars → List ℕ) (texts : List Scalars) (n : ℕ) (marks : List ℕ) (s : Scalars) (m : ℕ) → AreThirds list texts n marks → slice_get texts n ≡ Some s
+    → m ≡ third_mark (list s) → AreThirds list texts (n + 1) (marks ++ m ∷ [])
 thirds_more list texts n marks s m was at is = record {
   long = length_push marks m ∙ ap (λ k. k + 1) was.long;
   each = λ k t l e. elim (cases_eq k n) [

@@ -4,7 +4,7 @@ use Rattle.std.specs.Prelude.{remove}
 use Rattle.std.proofs.lemmas.Bool.{cases_eq, cases_lt}
 use Rattle.std.proofs.lemmas.List.{ext_get_or}
 use Rattle.std.proofs.lemmas.List.Edits.{get_or-insert_above, get_or-insert_at, get_or-insert_below, get_or-remove_above, get_or-remove_below, length-insert, length-remove}
-use Rattle.section_plan.specs.Orders.{ArePlaced, IsOrder, IsPartPlaced, IsStepOf, moved_place}
+use Rattle.section_plan.specs.Orders.{ArePlaced, IsOrder, IsPartPlaced, IsStepOf, order_after_move}
 
 -- a member of what is left without one stood in the list, elsewhere, and in the same order
 record WasAt (order : List ℕ) (from k a : ℕ) : Type 0 where
@@ -30,7 +30,7 @@ module _ (order : List ℕ) (stays : List Bool) (part from to : ℕ) (is : IsOrd
   to_most : to ≤ length (remove order from)
   to_most = let l = step.to_within in omega (arith, mid_length)
 
-  new_length : length (moved_place order from to part) ≡ length order
+  new_length : length (order_after_move order from to part) ≡ length order
   new_length = length-insert (remove order from) to part to_most ∙ mid_length
 
   mid_other : (k : ℕ) → k + 1 < length order → get_or (remove order from) k 0 ≢ part
@@ -75,32 +75,38 @@ module _ (order : List ℕ) (stays : List Bool) (part from to : ℕ) (is : IsOrd
             omega arith
       ]
 
-  at_front : (k : ℕ) → k < to → get_or (moved_place order from to part) k 0 ≡ get_or (remove order from) k 0
+  at_front : (k : ℕ) → k < to → get_or (order_after_move order from to part) k 0 ≡ get_or (remove order from) k 0
   at_front k l = get_or-insert_below (remove order from) to part 0 k l to_most
 
-  at_part : get_or (moved_place order from to part) to 0 ≡ part
+  at_part : get_or (order_after_move order from to part) to 0 ≡ part
   at_part = get_or-insert_at (remove order from) to part 0 to_most
 
-  at_back : (k : ℕ) → to ≤ k → get_or (moved_place order from to part) (k + 1) 0 ≡ get_or (remove order from) k 0
+  at_back : (k : ℕ) → to ≤ k → get_or (order_after_move order from to part) (k + 1) 0 ≡ get_or (remove order from) k 0
   at_back k l = get_or-insert_above (remove order from) to part 0 k l to_most
 
   pub was_placed : (x : ℕ) → x ≢ part → IsPartPlaced stays (part + 1) x → IsPartPlaced stays part x
   was_placed x ne (inl l) = inl (omega arith)
   was_placed x ne (inr e) = inr e
 
-  at_later : (k : ℕ) → to < k → get_or (moved_place order from to part) k 0 ≡ get_or (remove order from) (k - 1) 0
-  at_later k l = let e : k ≡ k - 1 + 1 = omega arith in ap (λ n. get_or (moved_place order from to part) n 0) e ∙ at_back (k - 1) (omega arith)
+  at_later : (k : ℕ) → to < k → get_or (order_after_move order from to part) k 0 ≡ get_or (remove order from) (k - 1) 0
+  at_later k l = let e : k ≡ k - 1 + 1 = omega arith in ap (λ n. get_or (order_after_move order from to part) n 0) e ∙ at_back (k - 1) (omega arith)
 
-  new_less : (a b : ℕ) → a < b → b < length order → IsPartPlaced stays (part + 1) (get_or (moved_place order from to part) a 0) → IsPartPlaced stays (part + 1) (get_or (moved_place order from to part) b 0)
-      → get_or (moved_place order from to part) a 0 < get_or (moved_place order from to part) b 0
+  new_less : (a b : ℕ) → a < b → b < length order → IsPartPlaced stays (part + 1) (get_or (order_after_move order from to part) a 0)
+      → IsPartPlaced stays (part + 1) (get_or (order_after_move order from to part) b 0)
+      → get_or (order_after_move order from to part) a 0 < get_or (order_after_move order from to part) b 0
   new_less a b l m p q = elim (cases_lt a to) [
     | inl x ↦
         let old = was_placed (get_or (remove order from) a 0) (mid_other a (let t = step.to_within in omega arith)) (subst (IsPartPlaced stays (part + 1)) (at_front a x) p) in
         elim (cases_lt b to) [
-          | inl y ↦ rw (at_front a x, at_front b y) (mid_less a b l (let t = step.to_within in omega arith) old (was_placed (get_or (remove order from) b 0) (mid_other b (let t = step.to_within in omega arith)) (subst (IsPartPlaced stays (part + 1)) (at_front b y) q)))
+          | inl y ↦ rw (at_front a x, at_front b y)
+              (mid_less a b l (let t = step.to_within in omega arith) old
+              (was_placed (get_or (remove order from) b 0) (mid_other b (let t = step.to_within in omega arith)) (subst (IsPartPlaced stays (part + 1)) (at_front b y) q)))
           | inr y ↦ elim (cases_eq b to) [
             | inl e ↦ rw (at_front a x, e, at_part) (front_less a x old)
-            | inr ne ↦ let z : to < b = omega arith in rw (at_front a x, at_later b z) (mid_less a (b - 1) (omega arith) (omega arith) old (was_placed (get_or (remove order from) (b - 1) 0) (mid_other (b - 1) (omega arith)) (subst (IsPartPlaced stays (part + 1)) (at_later b z) q)))
+            | inr ne ↦ let z : to < b =
+                omega arith in rw (at_front a x, at_later b z)
+                (mid_less a (b - 1) (omega arith) (omega arith) old
+                (was_placed (get_or (remove order from) (b - 1) 0) (mid_other (b - 1) (omega arith)) (subst (IsPartPlaced stays (part + 1)) (at_later b z) q)))
           ]
         ]
     | inr x ↦
@@ -108,15 +114,20 @@ module _ (order : List ℕ) (stays : List Bool) (part from to : ℕ) (is : IsOrd
         let later = was_placed (get_or (remove order from) (b - 1) 0) (mid_other (b - 1) (omega arith)) (subst (IsPartPlaced stays (part + 1)) (at_later b z) q) in
         elim (cases_eq a to) [
           | inl e ↦ rw (e, at_part, at_later b z) (back_more (b - 1) (omega arith) (omega arith) later)
-          | inr ne ↦ let w : to < a = omega arith in rw (at_later a w, at_later b z) (mid_less (a - 1) (b - 1) (omega arith) (omega arith) (was_placed (get_or (remove order from) (a - 1) 0) (mid_other (a - 1) (omega arith)) (subst (IsPartPlaced stays (part + 1)) (at_later a w) p)) later)
+          | inr ne ↦ let w : to < a =
+              omega arith in rw (at_later a w, at_later b z)
+              (mid_less (a - 1) (b - 1) (omega arith) (omega arith)
+              (was_placed (get_or (remove order from) (a - 1) 0) (mid_other (a - 1) (omega arith)) (subst (IsPartPlaced stays (part + 1)) (at_later a w) p)) later)
         ]
   ]
 
-  pub placed_new : ArePlaced (moved_place order from to part) stays (part + 1)
+  pub placed_new : ArePlaced (order_after_move order from to part) stays (part + 1)
   placed_new a b l m p q = new_less a b l (omega (arith, new_length)) p q
 
   -- which member of the order each one of the new order is
-  new_is : (k : ℕ) → k < length order → ((k ≡ to) × (get_or (moved_place order from to part) k 0 ≡ part)) ⊎ ((j : ℕ) × (j + 1 < length order) × (get_or (moved_place order from to part) k 0 ≡ get_or (remove order from) j 0) × (k < to → k ≡ j) × (to < k → k ≡ j + 1) × (k ≢ to))
+  new_is : (k : ℕ) → k < length order → ((k ≡ to) × (get_or (order_after_move order from to part) k 0 ≡ part))
+      ⊎ ((j : ℕ) × (j + 1 < length order) × (get_or (order_after_move order from to part) k 0 ≡ get_or (remove order from) j 0) × (k < to → k ≡ j) × (to < k → k ≡ j + 1)
+      × (k ≢ to))
   new_is k l = elim (cases_lt k to) [
     | inl x ↦ inr (k, let t = step.to_within in omega arith, at_front k x, λ y. refl, λ y. omega arith, omega arith)
     | inr x ↦ elim (cases_eq k to) [
@@ -135,7 +146,7 @@ module _ (order : List ℕ) (stays : List Bool) (part from to : ℕ) (is : IsOrd
         | inr x ↦ let f = a.1.back x in elim (cases_lt k from) [ inl y ↦ let g = b.1.front y in omega arith | inr y ↦ let g = b.1.back y in omega arith ]
       ]
 
-  new_once : (a b : ℕ) → a < length order → b < length order → get_or (moved_place order from to part) a 0 ≡ get_or (moved_place order from to part) b 0 → a ≡ b
+  new_once : (a b : ℕ) → a < length order → b < length order → get_or (order_after_move order from to part) a 0 ≡ get_or (order_after_move order from to part) b 0 → a ≡ b
   new_once a b l m e = elim (new_is a l) [
     | inl x ↦ elim (new_is b m) [
       | inl y ↦ x.0 ∙ sym y.0
@@ -153,7 +164,7 @@ module _ (order : List ℕ) (stays : List Bool) (part from to : ℕ) (is : IsOrd
     ]
   ]
 
-  new_within : (a : ℕ) → a < length order → get_or (moved_place order from to part) a 0 < length order
+  new_within : (a : ℕ) → a < length order → get_or (order_after_move order from to part) a 0 < length order
   new_within a l = elim (new_is a l) [
     | inl x ↦ rw (x.1, sym step.stands) (is.within from step.from_within)
     | inr x ↦ let was = was_at order from x.0 step.from_within x.1 in rw (x.2, was.1.same) (is.within was.0 was.1.within)
@@ -165,7 +176,7 @@ module _ (order : List ℕ) (stays : List Bool) (part from to : ℕ) (is : IsOrd
     | inr x ↦ let e : a - 1 + 1 ≡ a = omega arith in (a - 1, omega arith, get_or-remove_above order from 0 (a - 1) (omega arith) step.from_within ∙ ap (λ n. get_or order n 0) e)
   ]
 
-  new_all : (r : ℕ) → r < length order → (a : ℕ) × (a < length order) × (get_or (moved_place order from to part) a 0 ≡ r)
+  new_all : (r : ℕ) → r < length order → (a : ℕ) × (a < length order) × (get_or (order_after_move order from to part) a 0 ≡ r)
   new_all r l = elim (cases_eq r part) [
     | inl e ↦ (to, step.to_within, at_part ∙ sym e)
     | inr ne ↦
@@ -178,14 +189,14 @@ module _ (order : List ℕ) (stays : List Bool) (part from to : ℕ) (is : IsOrd
         ]
   ]
 
-  pub order_new : IsOrder (moved_place order from to part)
+  pub order_new : IsOrder (order_after_move order from to part)
   order_new = record {
     within = λ a l. rw new_length (new_within a (omega (arith, new_length)));
     once = λ a b l m e. new_once a b (omega (arith, new_length)) (omega (arith, new_length)) e;
     all = λ r l. let there = new_all r (omega (arith, new_length)) in (there.0, omega (arith, there.1, new_length), there.2);
   }
 
-  pub length_new : length (moved_place order from to part) ≡ length order
+  pub length_new : length (order_after_move order from to part) ≡ length order
   length_new = new_length
 
 -- a part that stays is placed where it stands
@@ -197,8 +208,8 @@ placed_stay order stays part e placed a b l m p q = placed a b l m (was (get_or 
     was x (inr f) = inr f
 
 -- so is one that stands behind the part before it
-moved_same : (order : List ℕ) (from part : ℕ) → from < length order → get_or order from 0 ≡ part → moved_place order from from part ≡ order
-moved_same order from part l e = ext_get_or 0 (moved_place order from from part) order len (λ k m. by k (omega (arith, len)))
+moved_same : (order : List ℕ) (from part : ℕ) → from < length order → get_or order from 0 ≡ part → order_after_move order from from part ≡ order
+moved_same order from part l e = ext_get_or 0 (order_after_move order from from part) order len (λ k m. by k (omega (arith, len)))
   where
     mid_length : length (remove order from) + 1 ≡ length order
     mid_length = length-remove order from l
@@ -206,10 +217,10 @@ moved_same order from part l e = ext_get_or 0 (moved_place order from from part)
     most : from ≤ length (remove order from)
     most = omega (arith, length-remove order from l)
 
-    len : length (moved_place order from from part) ≡ length order
+    len : length (order_after_move order from from part) ≡ length order
     len = length-insert (remove order from) from part (omega (arith, length-remove order from l)) ∙ length-remove order from l
 
-    by : (k : ℕ) → k < length order → get_or (moved_place order from from part) k 0 ≡ get_or order k 0
+    by : (k : ℕ) → k < length order → get_or (order_after_move order from from part) k 0 ≡ get_or order k 0
     by k m =
         let most : from ≤ length (remove order from) = omega (arith, length-remove order from l) in
         elim (cases_lt k from) [
@@ -218,13 +229,16 @@ moved_same order from part l e = ext_get_or 0 (moved_place order from from part)
             | inl same ↦ rw same (get_or-insert_at (remove order from) from part 0 most ∙ sym e)
             | inr ne ↦
                 let f : k ≡ k - 1 + 1 = omega arith in
-                ap (λ n. get_or (moved_place order from from part) n 0) f ∙ (get_or-insert_above (remove order from) from part 0 (k - 1) (omega arith) most ∙ (get_or-remove_above order from 0 (k - 1) (omega arith) l ∙ ap (λ n. get_or order n 0) (sym f)))
+                ap (λ n. get_or (order_after_move order from from part) n 0) f
+                ∙ (get_or-insert_above (remove order from) from part 0 (k - 1) (omega arith) most
+                ∙ (get_or-remove_above order from 0 (k - 1) (omega arith) l ∙ ap (λ n. get_or order n 0) (sym f)))
           ]
         ]
 
-pub placed_there : (order : List ℕ) (stays : List Bool) (part from to : ℕ) → IsOrder order → ArePlaced order stays part → IsStepOf order part from to → from ≡ to → ArePlaced order stays (part + 1)
+pub placed_there : (order : List ℕ) (stays : List Bool) (part from to : ℕ) → IsOrder order → ArePlaced order stays part → IsStepOf order part from to → from ≡ to
+    → ArePlaced order stays (part + 1)
 placed_there order stays part from to is placed step e =
-    let same : moved_place order from to part ≡ order = rw (sym e) (moved_same order from part step.from_within step.stands) in
+    let same : order_after_move order from to part ≡ order = rw (sym e) (moved_same order from part step.from_within step.stands) in
     subst (λ o. ArePlaced o stays (part + 1)) same (placed_new order stays part from to is placed step)
 
 -- the order of the parts, once all are placed

@@ -35,14 +35,17 @@ keys_stay sections parts old new key n matching kept m has i wanted l free =
     has i wanted l (record { within = free.within; free = free_before (length sections) parts old new matching kept i free.free; same = free.same })
 
 -- a part more is done
-pub completed_more : (start mid new : Pairs) (sections parts : List Part) (key : Key) (place : ℕ) → IsMatching (length sections) (length parts) start → IsCompletedTo start mid sections parts key place → AreKept mid new
-    → AddsSamePart mid new sections key place (key_at key parts place) → IsSettledPart new sections key place (part_at parts place) → IsCompletedTo start new sections parts key (place + 1)
+pub completed_more : (start mid new : Pairs) (sections parts : List Part) (key : Key) (place : ℕ) → IsMatching (length sections) (length parts) start
+    → IsCompletedTo start mid sections parts key place → AreKept mid new
+    → AddsSamePart mid new sections key place (key_at key parts place) → IsSettledPart new sections key place (part_at parts place)
+    → IsCompletedTo start new sections parts key (place + 1)
 completed_more start mid new sections parts key place m to kept same done = record {
   grows = record { kept = kept_both start mid new to.grows.kept kept; same = λ i j e. from_mid i j (same i j e) };
   done = λ j l. by j l (cases_eq j place);
 }
   where
-    from_mid : (i j : ℕ) → (section_of mid j ≡ Some i) ⊎ ((j ≡ place) × (key_at key sections i ≡ key_at key parts place)) → (section_of start j ≡ Some i) ⊎ (key_at key sections i ≡ key_at key parts j)
+    from_mid : (i j : ℕ) → (section_of mid j ≡ Some i) ⊎ ((j ≡ place) × (key_at key sections i ≡ key_at key parts place))
+        → (section_of start j ≡ Some i) ⊎ (key_at key sections i ≡ key_at key parts j)
     from_mid i j (inl e) = to.grows.same i j e
     from_mid i j (inr e) = inr (e.1 ∙ ap (λ k. key_at key parts k) (sym e.0))
 
@@ -50,12 +53,17 @@ completed_more start mid new sections parts key place m to kept same done = reco
     by j l (inl e) = subst (λ k. IsSettledPart new sections key k (part_at parts k)) (sym e) done
     by j l (inr ne) = λ none keyed i free.
         to.done j (omega arith) (part_free_before mid new kept j none) keyed i
-        (record { within = free.within; free = free_before (length sections) (length parts) mid new (to.grows.kept.matching (length sections) (length parts) m) kept i free.free; same = free.same })
+        (record {
+          within = free.within;
+          free = free_before (length sections) (length parts) mid new (to.grows.kept.matching (length sections) (length parts) m) kept i free.free;
+          same = free.same;
+        })
 
 pub grows_none : (key : Key) (sections parts : List Part) (a : Pairs) → GainsPairs key sections parts a a
 grows_none key sections parts a = record { kept = record { matching = λ s p m. m; stay = λ i j e. e }; same = λ i j e. inl e }
 
-pub grows_both : (key : Key) (sections parts : List Part) (a b c : Pairs) → GainsPairs key sections parts a b → GainsPairs key sections parts b c → GainsPairs key sections parts a c
+pub grows_both : (key : Key) (sections parts : List Part) (a b c : Pairs) → GainsPairs key sections parts a b → GainsPairs key sections parts b c
+    → GainsPairs key sections parts a c
 grows_both key sections parts a b c g h = record { kept = kept_both a b c g.kept h.kept; same = λ i j e. by i j (h.same i j e) }
   where
     by : (i j : ℕ) → (section_of b j ≡ Some i) ⊎ (key_at key sections i ≡ key_at key parts j) → (section_of a j ≡ Some i) ⊎ (key_at key sections i ≡ key_at key parts j)
@@ -63,7 +71,8 @@ grows_both key sections parts a b c g h = record { kept = kept_both a b c g.kept
     by i j (inr e) = inr e
 
 -- where none was paired at first, and then those with the same text, texts are kept by what stays of these pairs
-pub texts_kept : (sections parts : List Part) (none mid new : Pairs) → IsMatching (length sections) (length parts) none → ((j : ℕ) → section_of none j ≡ None) → GainsPairs Text sections parts none mid
+pub texts_kept : (sections parts : List Part) (none mid new : Pairs) → IsMatching (length sections) (length parts) none → ((j : ℕ) → section_of none j ≡ None)
+    → GainsPairs Text sections parts none mid
     → NoneIsLeft mid sections parts Text → AreKept mid new → TextsAreMatched new sections parts
 texts_kept sections parts none mid new m empty grows done kept i j li lj same keyed = by (part_of mid i) refl (section_of mid j) refl
   where
@@ -85,6 +94,7 @@ texts_kept sections parts none mid new m empty grows done kept i j li lj same ke
     by None e None f = absurd (done i j li lj e f keyed same)
 
 -- where none is left, none is later
-pub left_still : (sections parts : List Part) (old new : Pairs) (key : Key) → IsMatching (length sections) (length parts) old → AreKept old new → NoneIsLeft old sections parts key → NoneIsLeft new sections parts key
+pub left_still : (sections parts : List Part) (old new : Pairs) (key : Key) → IsMatching (length sections) (length parts) old → AreKept old new → NoneIsLeft old sections parts key
+    → NoneIsLeft new sections parts key
 left_still sections parts old new key m kept none i j li lj free_i free_j keyed =
     none i j li lj (free_before (length sections) (length parts) old new m kept i free_i) (part_free_before old new kept j free_j) keyed

@@ -13,7 +13,8 @@ AreThere sections texts = (k : ℕ) (s : Scalars) → slice_get texts k ≡ Some
 
 -- one of the texts is that of a section
 abbrev pub HasText : (sections : List Part) → List Scalars → (section : ℕ) → Type 0
-HasText sections texts i = (k : ℕ) × (s : Scalars) × (slice_get texts k ≡ Some s) × (s.place ≡ i) × (s.list.items ≡ text_at_place sections i)
+HasText sections texts i =
+    (k : ℕ) × (s : Scalars) × (slice_get texts k ≡ Some s) × (s.place ≡ i) × (s.list.items ≡ text_at_place sections i)
 
 -- the texts are those of sections, and among them is that of each free section in front of a place, unless it is empty
 pub record HasSectionTexts (p : Pairs) (sections : List Part) (place : ℕ) (texts : List Scalars) : Type 0 where
@@ -23,7 +24,8 @@ pub record HasSectionTexts (p : Pairs) (sections : List Part) (place : ℕ) (tex
 
 -- none of the first texts is that of a free section and alike
 abbrev pub NoneAmong : Pairs → List Scalars → (first : ℕ) → (text : List ℕ) → Type 0
-NoneAmong p texts first text = (k : ℕ) (s : Scalars) → k < first → slice_get texts k ≡ Some s → part_of p s.place ≡ None → alike s.list.items text ≡ false
+NoneAmong p texts first text = (k : ℕ) (s : Scalars) → k < first → slice_get texts k ≡ Some s → part_of p s.place ≡ None
+    → alike s.list.items text ≡ false
 
 -- the part has a section, or none of the texts is that of a free section and alike
 abbrev pub IsServed : Pairs → List Scalars → (part : ℕ) → (text : List ℕ) → Type 0

@@ -21,15 +21,18 @@ pub record IsFreeWith (p : Pairs) (sections : List Part) (key : Key) (wanted : L
 
 -- each key of a free section in front of a place is in the map
 abbrev pub HasKeysOfFree : Pairs → List Part → Key → (place : ℕ) → BTreeMap (Bor (List ℕ)) ℕ → Type 0
-HasKeysOfFree p sections key place m = (i : ℕ) (wanted : List ℕ) → i < place → IsFreeWith p sections key wanted i → IsSome (found_for m wanted)
+HasKeysOfFree p sections key place m = (i : ℕ) (wanted : List ℕ) → i < place → IsFreeWith p sections key wanted i
+    → IsSome (found_for m wanted)
 
 -- pairs came for this part alone, with a section that has this key
 abbrev pub AddsSamePart : (old new : Pairs) → (sections : List Part) → Key → (place : ℕ) → (wanted : List ℕ) → Type 0
-AddsSamePart old new sections key place wanted = (i j : ℕ) → section_of new j ≡ Some i → (section_of old j ≡ Some i) ⊎ ((j ≡ place) × (key_at key sections i ≡ wanted))
+AddsSamePart old new sections key place wanted = (i j : ℕ) → section_of new j ≡ Some i
+    → (section_of old j ≡ Some i) ⊎ ((j ≡ place) × (key_at key sections i ≡ wanted))
 
 -- the part has a section, or no free section has its key
 abbrev pub IsSettledPart : Pairs → (sections : List Part) → Key → (place : ℕ) → Part → Type 0
-IsSettledPart p sections key place part = section_of p place ≡ None → is_keyed key part ≡ true → (i : ℕ) → IsFreeWith p sections key (key_in key part) i → ⊥
+IsSettledPart p sections key place part = section_of p place ≡ None → is_keyed key part ≡ true → (i : ℕ)
+    → IsFreeWith p sections key (key_in key part) i → ⊥
 
 -- so has each part in front of a place
 abbrev pub AreDone : Pairs → (sections parts : List Part) → Key → (place : ℕ) → Type 0

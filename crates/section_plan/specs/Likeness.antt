@@ -15,4 +15,5 @@ shares_third common long = nat_le long (3 * common)
 abbrev pub alike : (old new : List ℕ) → Bool
 alike old new =
     list_any is_alphabetic (longer_text old new)
-    && (shares_third (common_prefix_len nat_eq old new) (length (longer_text old new)) || shares_third (common_prefix_len nat_eq (reverse old) (reverse new)) (length (longer_text old new)))
+    && (shares_third (common_prefix_len nat_eq old new) (length (longer_text old new))
+    || shares_third (common_prefix_len nat_eq (reverse old) (reverse new)) (length (longer_text old new)))

@@ -1,5 +1,6 @@
 -- Texts by a mark of their first third: a number that is the same for the same scalars.
-use Rattle.std.specs.Prelude.{◌≡◌, ◌⊎◌, ℕ, ◌+◌, ◌-◌, ◌*◌, ◌<◌, ◌≤◌, ◌/◌, ◌%◌, false, Option, None, Some, List, [], ◌∷◌, length, min, reverse, slice_get, slice_index, slice_index_or, take}
+use Rattle.std.specs.Prelude.{◌≡◌, ◌⊎◌, ℕ, ◌+◌, ◌-◌, ◌*◌, ◌<◌, ◌≤◌, ◌/◌, ◌%◌, false, Option, None, Some, List, [], ◌∷◌, length, min}
+use Rattle.std.specs.Prelude.{reverse, slice_get, slice_index, slice_index_or, take}
 use Rattle.std.specs.BTreeMap.{get}
 use Rattle.std.specs.Ordering.{nat_cmp}
 use Rattle.section_plan.specs.Likeness.{alike}
@@ -18,14 +19,16 @@ abbrev pub mark_from : ℕ → List ℕ → ℕ
 mark_from mark [] = mark
 mark_from mark (c ∷ cs) = mark_from (next_mark mark c) cs
 
--- the mark of a text: a number by which texts that differ are told apart at once
+-- the mark of a text: a hash, which is the same for equal texts
 abbrev pub mark_of_text : List ℕ → ℕ
 mark_of_text text = mark_from 0 text
 
 -- of the marks from a place on the first one that is this one: None where there is none
 abbrev pub IsFirst : (marks : List ℕ) → (from mark : ℕ) → Option ℕ → Type 0
 IsFirst marks from mark None = (j : ℕ) → from ≤ j → j < length marks → slice_index marks j ≡ mark → ⊥
-IsFirst marks from mark (Some k) = (from ≤ k) × (k < length marks) × (slice_index marks k ≡ mark) × ((j : ℕ) → from ≤ j → j < length marks → slice_index marks j ≡ mark → k ≤ j)
+IsFirst marks from mark (Some k) =
+    (from ≤ k) × (k < length marks) × (slice_index marks k ≡ mark)
+    × ((j : ℕ) → from ≤ j → j < length marks → slice_index marks j ≡ mark → k ≤ j)
 
 -- from a place on the first one of each mark, and for each place the next one with its mark
 pub record AreMarked (marks : List ℕ) (from : ℕ) (first : ℕ → Option ℕ) (next : List (Option ℕ)) : Type 0 where
@@ -35,7 +38,8 @@ pub record AreMarked (marks : List ℕ) (from : ℕ) (first : ℕ → Option ℕ
 
 -- no free section whose text has this mark is alike
 abbrev pub NoneMarked : Pairs → List Scalars → (marks : List ℕ) → (mark : ℕ) → (text : List ℕ) → Type 0
-NoneMarked p sections marks mark text = (k : ℕ) (s : Scalars) → slice_get sections k ≡ Some s → slice_index marks k ≡ mark → part_of p s.place ≡ None → alike s.list.items text ≡ false
+NoneMarked p sections marks mark text = (k : ℕ) (s : Scalars) → slice_get sections k ≡ Some s → slice_index marks k ≡ mark
+    → part_of p s.place ≡ None → alike s.list.items text ≡ false
 
 -- the place is not in front of the next one
 abbrev pub IsNotBefore : Option ℕ → ℕ → Type 0
@@ -45,7 +49,8 @@ IsNotBefore (Some k) j = k ≤ j
 -- the next place has this mark, and of those in front of it that have it no free section is alike
 pub record AreTried (p : Pairs) (sections : List Scalars) (marks : List ℕ) (mark : ℕ) (text : List ℕ) (next : Option ℕ) : Type 0 where
   pub there : (k : ℕ) → next ≡ Some k → (k < length marks) × (slice_index marks k ≡ mark)
-  pub tried : (k : ℕ) (s : Scalars) → slice_get sections k ≡ Some s → slice_index marks k ≡ mark → part_of p s.place ≡ None → (alike s.list.items text ≡ false) ⊎ IsNotBefore next k
+  pub tried : (k : ℕ) (s : Scalars) → slice_get sections k ≡ Some s → slice_index marks k ≡ mark → part_of p s.place ≡ None
+      → (alike s.list.items text ≡ false) ⊎ IsNotBefore next k
 
 -- the first one of two places, where there are any
 abbrev pub earlier : (one other : Option ℕ) → Option ℕ

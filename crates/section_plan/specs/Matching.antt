@@ -59,7 +59,8 @@ key_at key ps i = key_in key (part_at ps i)
 
 -- the pairs that came are of sections and parts that have the same key
 abbrev pub AddsSame : (old new : Pairs) → (sections parts : List Part) → Key → Type 0
-AddsSame old new sections parts key = (i j : ℕ) → section_of new j ≡ Some i → (section_of old j ≡ Some i) ⊎ (key_at key sections i ≡ key_at key parts j)
+AddsSame old new sections parts key = (i j : ℕ) → section_of new j ≡ Some i
+    → (section_of old j ≡ Some i) ⊎ (key_at key sections i ≡ key_at key parts j)
 
 -- no section and no part that have the same key are left without a pair
 abbrev pub NoneIsLeft : Pairs → (sections parts : List Part) → Key → Type 0
@@ -72,7 +73,8 @@ text_at_place ps i = chars (key_at Text ps i)
 
 -- no section and no part that are left without a pair have texts that are alike
 abbrev pub NoPairIsAlike : Pairs → (sections parts : List Part) → Type 0
-NoPairIsAlike p sections parts = (i j : ℕ) → i < length sections → j < length parts → part_of p i ≡ None → section_of p j ≡ None → alike (text_at_place sections i) (text_at_place parts j) ≡ false
+NoPairIsAlike p sections parts = (i j : ℕ) → i < length sections → j < length parts → part_of p i ≡ None → section_of p j ≡ None
+    → alike (text_at_place sections i) (text_at_place parts j) ≡ false
 
 -- pairs came, of sections and parts that have the same key, and none went
 pub record GainsPairs (key : Key) (sections parts : List Part) (old new : Pairs) : Type 0 where
@@ -90,5 +92,6 @@ HadText p sections parts j = (i : ℕ) × (section_of p j ≡ Some i) × (key_at
 -- where a section and a part have the same text, and it is not empty, the section keeps it, or the part has it from another
 -- section: so as many keep a text as there can be
 abbrev pub TextsAreMatched : Pairs → (sections parts : List Part) → Type 0
-TextsAreMatched p sections parts = (i j : ℕ) → i < length sections → j < length parts → key_at Text sections i ≡ key_at Text parts j → is_keyed Text (part_at parts j) ≡ true
+TextsAreMatched p sections parts = (i j : ℕ) → i < length sections → j < length parts → key_at Text sections i ≡ key_at Text parts j
+    → is_keyed Text (part_at parts j) ≡ true
     → HasPartWithText p sections parts i ⊎ HadText p sections parts j

@@ -1,5 +1,6 @@
 -- The order in which the sections of a draft's parts stand: a list of the parts' numbers.
-use Rattle.std.specs.Prelude.{◌≡◌, ◌≢◌, ◌⊎◌, ℕ, ◌+◌, ◌-◌, ◌<◌, Bool, true, false, Option, Some, None, List, insert, length, remove, slice_index, slice_index_or}
+use Rattle.std.specs.Prelude.{◌≡◌, ◌≢◌, ◌⊎◌, ℕ, ◌+◌, ◌-◌, ◌<◌, Bool, true, false, Option, Some, None, List, insert, length, remove}
+use Rattle.std.specs.Prelude.{slice_index, slice_index_or}
 use Rattle.section_plan.specs.declared.orders.Step.{Step}
 
 -- each number below the length stands in the list once
@@ -14,12 +15,13 @@ IsPartPlaced stays next part = (part < next) ⊎ (slice_index_or stays part fals
 
 -- the sections of such parts stand in the order of the parts
 abbrev pub ArePlaced : List ℕ → List Bool → (next : ℕ) → Type 0
-ArePlaced order stays next = (a b : ℕ) → a < b → b < length order → IsPartPlaced stays next (slice_index order a) → IsPartPlaced stays next (slice_index order b)
+ArePlaced order stays next = (a b : ℕ) → a < b → b < length order → IsPartPlaced stays next (slice_index order a)
+    → IsPartPlaced stays next (slice_index order b)
     → slice_index order a < slice_index order b
 
 -- a member goes to another place
-abbrev pub moved_place : List ℕ → (from to part : ℕ) → List ℕ
-moved_place order from to part = insert (remove order from) to part
+abbrev pub order_after_move : List ℕ → (from to part : ℕ) → List ℕ
+order_after_move order from to part = insert (remove order from) to part
 
 -- where a part stands, and where it would stand behind the part before it, or in front of all
 pub record IsStepOf (order : List ℕ) (part from to : ℕ) : Type 0 where
@@ -32,4 +34,6 @@ pub record IsStepOf (order : List ℕ) (part from to : ℕ) : Type 0 where
 -- the section of a part was placed: by a step, which it wants since it does not stay and stands elsewhere, or by none
 abbrev pub Places : (old new : List ℕ) → List Bool → (part : ℕ) → Option Step → Type 0
 Places old new stays part None = new ≡ old
-Places old new stays part (Some step) = (new ≡ moved_place old step.from step.to part) × IsStepOf old part step.from step.to × (slice_index_or stays part false ≡ false) × (step.from ≢ step.to)
+Places old new stays part (Some step) =
+    (new ≡ order_after_move old step.from step.to part) × IsStepOf old part step.from step.to × (slice_index_or stays part false ≡ false)
+    × (step.from ≢ step.to)

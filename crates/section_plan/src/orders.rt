@@ -1,7 +1,7 @@
 //! The order in which the sections of a draft's parts stand, and the steps that lead to the order of the parts.
 
 ghost use Rattle.std.specs.Prelude.{◌≡◌, ◌+◌, ◌<◌, IfOk, IfSome, OnOk, length, slice_index};
-ghost use Rattle.section_plan.specs.Orders.{ArePlaced, IsOrder, IsStepOf, Places, moved_place};
+ghost use Rattle.section_plan.specs.Orders.{ArePlaced, IsOrder, IsStepOf, Places, order_after_move};
 
 use fugue_ids::NoMemory;
 
@@ -71,7 +71,7 @@ fn step_of(order: &[usize], part: usize, near: usize) -> Step
 /// Takes a member to another place.
 fn reorder(order: &mut Vec<usize>, step: Step, part: usize) -> Result<(), NoMemory>
     requires { IsStepOf order.old.items part step.from step.to }
-    ensures { OnOk result (order.new.items ≡ moved_place order.old.items step.from step.to part) }
+    ensures { OnOk result (order.new.items ≡ order_after_move order.old.items step.from step.to part) }
 {
     let _part = order.remove(step.from);
     order.insert(step.to, part)?;

@@ -29,16 +29,19 @@ module _ (list : List Identifier) (here there : Option Identifier) (a b : Identi
   pub end_first : (y : Identifier) → here ≡ None → there ≡ Some y → HoldsOrigin list there → true ≡ first
   end_first y e f s =
       let l : index_of list y < length list = contains-below list y (subst (λ o. HoldsOrigin list o) f s) in
-      sym ((λ i. precedes (index_of_origin list (e i)) (index_of_origin list (f i)) a b) ∙ rank_more (index_of_origin list None) (index_of list y) a b (omega (arith, index_end list, l)))
+      sym ((λ i. precedes (index_of_origin list (e i)) (index_of_origin list (f i)) a b)
+      ∙ rank_more (index_of_origin list None) (index_of list y) a b (omega (arith, index_end list, l)))
 
   -- what has a right origin does not go before what has none
   pub end_last : (x : Identifier) → here ≡ Some x → there ≡ None → HoldsOrigin list here → false ≡ first
   end_last x e f s =
       let l : index_of list x < length list = contains-below list x (subst (λ o. HoldsOrigin list o) e s) in
-      sym ((λ i. precedes (index_of_origin list (e i)) (index_of_origin list (f i)) a b) ∙ rank_less (index_of list x) (index_of_origin list None) a b (omega (arith, index_end list, l)))
+      sym ((λ i. precedes (index_of_origin list (e i)) (index_of_origin list (f i)) a b)
+      ∙ rank_less (index_of list x) (index_of_origin list None) a b (omega (arith, index_end list, l)))
 
   -- the later right origin goes first
-  pub by_order : (x y : Identifier) (v : Bool) → here ≡ Some x → there ≡ Some y → id_eq x y ≡ false → HoldsOrigin list there → v ≡ nat_lt (index_of list y) (index_of list x) → v ≡ first
+  pub by_order : (x y : Identifier) (v : Bool) → here ≡ Some x → there ≡ Some y → id_eq x y ≡ false → HoldsOrigin list there → v ≡ nat_lt (index_of list y) (index_of list x)
+      → v ≡ first
   by_order x y v e f n t r =
       let d : nat_eq (index_of list y) (index_of list x) ≡ false =
       ne_eqb _ _ (λ k. id_eq-false x y n (sym (same-index_of list y x (subst (λ o. HoldsOrigin list o) f t) k))) in

@@ -64,7 +64,8 @@ passing_in : (G : Identifier → Bool) (xs : List Identifier) (e : Identifier) �
 passing_in G xs e is = (contains_filter_from G xs e (end_in (filter G xs) e is)).0
 
 -- the last that passes in the part of a slot
-pub same_siblings : (G : Identifier → Bool) (es : List Keyed) (s : Slot) (k : Key) (from to : Option Identifier) (key : Key) → from ≡ part_from es s k → to ≡ part_to es s k → key ≡ child_key s k
+pub same_siblings : (G : Identifier → Bool) (es : List Keyed) (s : Slot) (k : Key) (from to : Option Identifier) (key : Key) → from ≡ part_from es s k → to ≡ part_to es s k
+    → key ≡ child_key s k
     → last_passing G (low_ids key (between from to es)) ≡ last_passing G (siblings es s k)
 same_siblings G es s k from to key f t e = λ i. last_passing G (low_ids (e i) (between (f i) (t i) es))
 
@@ -99,7 +100,8 @@ module _ (n : Node) (ns : List Node) (es : List Keyed) (new : AreNodes (n ∷ ns
     pub bounds : (s ≢ RightOf None → All IsFit es)
         → HoldsOrigin (low_ids (child_key s k) es) (part_from es s k) × HoldsOrigin (low_ids (child_key s k) (rest_of (part_from es s k) es)) (part_to es s k)
     bounds fit =
-        by_slot s fit (λ f. moved (λ es s k. HoldsOrigin (low_ids (child_key s k) es) (part_from es s k) × HoldsOrigin (low_ids (child_key s k) (rest_of (part_from es s k) es)) (part_to es s k))
+        by_slot s fit (λ f. moved (λ es s k. HoldsOrigin (low_ids (child_key s k) es) (part_from es s k)
+        × HoldsOrigin (low_ids (child_key s k) (rest_of (part_from es s k) es)) (part_to es s k))
         (part_bounds n ns new (subst (All IsFit) list f)))
       where
         by_slot : (z : Slot) → (z ≢ RightOf None → All IsFit es)
@@ -118,8 +120,12 @@ module _ (n : Node) (ns : List Node) (es : List Keyed) (new : AreNodes (n ∷ ns
     no_sibling fit great =
         let f : All IsFit es = by_slot s key fit great in
         let least : All (λ e. key_lt e.key (child_key s k) ≡ false) (slot_part es s k) =
-        moved (λ es s k. All (λ e. key_lt e.key (child_key s k) ≡ false) (slot_part es s k)) (part_least n ns new (subst (All IsFit) list f)) in
-        (f, ap (λ l. last_passing first (ids l)) (sym (no_low (child_key s k) (slot_part es s k) great (all_front IsFit (part_to es s k) (rest_of (part_from es s k) es) (all_rest IsFit (part_from es s k) es f)) least)))
+        moved (λ es s k. All (λ e. key_lt e.key (child_key s k) ≡ false) (slot_part es s k)) (part_least n ns new (subst (All IsFit) list f)) in (
+          f,
+          ap (λ l. last_passing first (ids l))
+              (sym (no_low (child_key s k) (slot_part es s k) great
+              (all_front IsFit (part_to es s k) (rest_of (part_from es s k) es) (all_rest IsFit (part_from es s k) es f)) least)),
+        )
       where
         by_slot : (z : Slot) → IsSlotKey es z k → (z ≢ RightOf None → All IsFit es) → IsGreat (child_key z k) → All IsFit es
         by_slot (RightOf None) h fit g = absurd (grind (arith, h, g))

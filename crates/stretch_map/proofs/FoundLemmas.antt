@@ -165,7 +165,8 @@ in_latest : {V : Type 0} (ls : List (ℕ × Latest V)) → IsStrictlySortedBy na
 in_latest ls ordered r x i = lookup-from_Contains (eq_by_cmp_equiv nat_cmp_total) r x ls (IsDistinct-from_sorted nat_cmp (keys_of ls) ordered) i
 
 -- a member of all stretches is a last one or a kept one
-parts : {V : Type 0} (ls : List (ℕ × Latest V)) (es : List (StretchEntry V)) (e : StretchEntry V) → Contains (entries_with ls es) e → Contains ls (e.0.replica, (e.0.counter, e.1)) ⊎ Contains es e
+parts : {V : Type 0} (ls : List (ℕ × Latest V)) (es : List (StretchEntry V)) (e : StretchEntry V) → Contains (entries_with ls es) e
+    → Contains ls (e.0.replica, (e.0.counter, e.1)) ⊎ Contains es e
 parts [] es e i = inr i
 parts {V} (x ∷ xs) es e i =
     elim (contains_cases (record { replica = x.0; counter = x.1.0 }, x.1.1) (entries_with xs es) e i) [
@@ -178,7 +179,8 @@ kept_part : {V : Type 0} (ls : List (ℕ × Latest V)) (es : List (StretchEntry 
 kept_part [] es e i = i
 kept_part (x ∷ xs) es e i = contains_there (record { replica = x.0; counter = x.1.0 }, x.1.1) (entries_with xs es) e (kept_part xs es e i)
 
-latest_part : {V : Type 0} (ls : List (ℕ × Latest V)) (es : List (StretchEntry V)) (e : StretchEntry V) → Contains ls (e.0.replica, (e.0.counter, e.1)) → Contains (entries_with ls es) e
+latest_part : {V : Type 0} (ls : List (ℕ × Latest V)) (es : List (StretchEntry V)) (e : StretchEntry V) → Contains ls (e.0.replica, (e.0.counter, e.1))
+    → Contains (entries_with ls es) e
 latest_part [] es e i = absurd (contains_none _ i)
 latest_part {V} (x ∷ xs) es e i =
     let f : StretchEntry V = (record { replica = x.0; counter = x.1.0 }, x.1.1) in

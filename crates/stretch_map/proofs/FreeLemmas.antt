@@ -5,7 +5,8 @@ use Rattle.stretch_map.specs.Contents.{StretchEntry, Layout}
 use Rattle.stretch_map.specs.Stretches.{AreFreeTo, AreStretches, Has, IsFloor, IsLatest, IsLatestUpTo, KeepsEntry, NoLatestUpTo, NoneUpTo}
 use Rattle.stretch_map.proofs.FoundLemmas.{cases_le, not_covered, same_kept, same_latest, uncovered}
 
-module _ {V : Type 0} (nth : Identifier → V → ℕ → V) (reaches : Identifier → V → ℕ → Type 0) (l : Layout V) (are : AreStretches reaches l) (first : Identifier) (last : ℕ) (some : first.counter ≤ last) where
+module _ {V : Type 0} (nth : Identifier → V → ℕ → V) (reaches : Identifier → V → ℕ → Type 0) (l : Layout V) (are : AreStretches reaches l) (first : Identifier) (last : ℕ)
+    (some : first.counter ≤ last) where
   -- the last of the identifiers
   abbrev end : Identifier
   end = record { replica = first.replica; counter = last }
@@ -31,11 +32,13 @@ module _ {V : Type 0} (nth : Identifier → V → ℕ → V) (reaches : Identifi
       let begun : e.0.counter ≤ e.1.last = are.begun e h in
       elim (cases_le e.0.counter first.counter) [
         | inl i ↦ not_covered nth reaches l are first (free first (record { replica = refl; from = omega arith; to = some })) e h (record { replica = r; from = i; to = to })
-        | inr i ↦ not_covered nth reaches l are e.0 (free e.0 (record { replica = sym r; from = omega (arith, i); to = from })) e h (record { replica = refl; from = omega arith; to = begun })
+        | inr i ↦ not_covered nth reaches l are e.0 (free e.0 (record { replica = sym r; from = omega (arith, i); to = from })) e h
+            (record { replica = refl; from = omega arith; to = begun })
       ]
 
   -- where the last stretch of the replica begins up to there, it decides
-  pub free_by_latest : (x : Identifier) → x ≡ end → (e : StretchEntry V) → IsLatestUpTo l.0 x e → (e.0.replica ≡ first.replica → e.1.last < first.counter) → AreFreeTo nth l first last
+  pub free_by_latest : (x : Identifier) → x ≡ end → (e : StretchEntry V) → IsLatestUpTo l.0 x e → (e.0.replica ≡ first.replica → e.1.last < first.counter)
+      → AreFreeTo nth l first last
   free_by_latest x at_end e up ends =
       let is : IsLatestUpTo l.0 end e = subst (λ y. IsLatestUpTo l.0 y e) at_end up in
       let less : e.1.last < first.counter = ends is.replica in

@@ -76,9 +76,11 @@ module _ {V : Type 0} {A : Type 0} (entry : A → StretchEntry V) (r : ℕ) (m :
       )
 
   -- the part from the replica's first identifier on and before that of the next replica
-  pub last_before : (next : ℕ) (last : Option A) → next ≡ r + 1 → IsRangeOf id_cmp (Included (id_at r 0)) (Excluded (id_at next 0)) m es → IsLast last → IsLastIn (option_map entry last)
+  pub last_before : (next : ℕ) (last : Option A) → next ≡ r + 1 → IsRangeOf id_cmp (Included (id_at r 0)) (Excluded (id_at next 0)) m es → IsLast last
+      → IsLastIn (option_map entry last)
   last_before next last is part steps =
-      last_in (Included (id_at r 0)) (Excluded (id_at (r + 1) 0)) last (subst (λ (n : ℕ). IsRangeOf id_cmp (Included (id_at r 0)) (Excluded (id_at n 0)) m es) is part) steps (in_replica r) (own last)
+      last_in (Included (id_at r 0)) (Excluded (id_at (r + 1) 0)) last (subst (λ (n : ℕ). IsRangeOf id_cmp (Included (id_at r 0)) (Excluded (id_at n 0)) m es) is part) steps
+      (in_replica r) (own last)
     where
       own : (o : Option A) → IfSome o (λ a. IsInRange id_cmp (Included (id_at r 0)) (Excluded (id_at (r + 1) 0)) (entry a).0 → (entry a).0.replica ≡ r)
       own None = tt

@@ -9,7 +9,8 @@ use Rattle.stretch_map.specs.Stretches.{Adds, AreStretches, CanCome, Covers, End
 use Rattle.stretch_map.proofs.FoundLemmas.{cases_le, covered, not_covered}
 use Rattle.stretch_map.proofs.SetLemmas.{Fits, Sets, set_are, value_stays, value_within}
 
-module _ {V : Type 0} (nth : Identifier → V → ℕ → V) (reaches : Identifier → V → ℕ → Type 0) (l : Layout V) (are : AreStretches reaches l) (run : StretchEntry V) (comes : CanCome nth reaches l run) where
+module _ {V : Type 0} (nth : Identifier → V → ℕ → V) (reaches : Identifier → V → ℕ → Type 0) (l : Layout V) (are : AreStretches reaches l) (run : StretchEntry V)
+    (comes : CanCome nth reaches l run) where
   -- no stretch has an identifier of the new one
   pub not_in_new : (q : Identifier) → Covers run q → (e : StretchEntry V) → Has l e → Covers e q → ⊥
   not_in_new q c e h d = not_covered nth reaches l are q (comes.free q c) e h d
@@ -78,9 +79,11 @@ module _ {V : Type 0} (nth : Identifier → V → ℕ → V) (reaches : Identifi
       reached_there (suc j) less =
           let plus : j + 1 ≡ suc j = omega arith in
           let same : run.0.counter - e.0.counter + j + 1 ≡ run.0.counter - e.0.counter + suc j = omega arith in
-          let one : reaches (id_behind run.0 j) (nth run.0 run.1.value j) 1 = goes_on run.0 run.1.value j 1 (subst (reaches run.0 run.1.value) (sym plus) (comes.reached (suc j) less)) in
+          let one : reaches (id_behind run.0 j) (nth run.0 run.1.value j) 1 =
+          goes_on run.0 run.1.value j 1 (subst (reaches run.0 run.1.value) (sym plus) (comes.reached (suc j) less)) in
           subst (reaches e.0 e.1.value) same
-          (joins e.0 e.1.value (steps + j) (reached_there j (omega (arith, less))) (subst (λ v. reaches (id_behind e.0 (steps + j)) v 1) (value_there j) (subst (λ x. reaches x (nth run.0 run.1.value j) 1) (there j) one)))
+          (joins e.0 e.1.value (steps + j) (reached_there j (omega (arith, less)))
+          (subst (λ v. reaches (id_behind e.0 (steps + j)) v 1) (value_there j) (subst (λ x. reaches x (nth run.0 run.1.value j) 1) (there j) one)))
 
       grown_fits : Fits reaches l (up_to e run.1.last)
       grown_fits =
@@ -119,7 +122,8 @@ module _ {V : Type 0} (nth : Identifier → V → ℕ → V) (reaches : Identifi
             inside = λ q c.
                 let from : run.0.counter ≤ q.counter = c.from in
                 let far : run.0.counter - e.0.counter + (q.counter - run.0.counter) ≡ q.counter - e.0.counter = omega (arith, from, next, begun) in
-                covered nth reaches k joined_are q (up_to e run.1.last) sets.here (record { replica = goes.replica ∙ c.replica; from = omega (arith, from, next, begun); to = c.to })
+                covered nth reaches k joined_are q (up_to e run.1.last) sets.here
+                (record { replica = goes.replica ∙ c.replica; from = omega (arith, from, next, begun); to = c.to })
                 ∙ sym (ap (λ n. Some (nth e.0 e.1.value n)) far) ∙ sym (ap Some (value_there (q.counter - run.0.counter)));
             outside = λ q d.
                 value_within nth reaches l k are joined_are q e old run.1.last sets

@@ -44,7 +44,8 @@ module _ {V : Type 0} (es fs : List (StretchEntry V)) where
 
 module _ {V : Type 0} (ls ks : List (ℕ × Latest V)) where
   -- a last stretch after the change is the one that was set or was one before
-  pub latest_cases : (f : StretchEntry V) → LatestBecomes ls ks f.0.replica (Some (f.0.counter, f.1)) → (x : StretchEntry V) → IsLatest ks x → (x ≡ f) ⊎ ((x.0.replica ≢ f.0.replica) × IsLatest ls x)
+  pub latest_cases : (f : StretchEntry V) → LatestBecomes ls ks f.0.replica (Some (f.0.counter, f.1)) → (x : StretchEntry V) → IsLatest ks x
+      → (x ≡ f) ⊎ ((x.0.replica ≢ f.0.replica) × IsLatest ls x)
   latest_cases f becomes x h =
       elim (cases_number x.0.replica f.0.replica) [
         | inl d ↦ inl (same_latest ks x f h becomes.here d)
@@ -61,7 +62,8 @@ module _ {V : Type 0} (ls ks : List (ℕ × Latest V)) where
 
 module _ {V : Type 0} (l k : Layout V) (laid : IsLaid l) where
   -- a last stretch is set, behind the kept ones of its replica: each other one was there before
-  set_cases : (f : StretchEntry V) → LatestBecomes l.0 k.0 f.0.replica (Some (f.0.counter, f.1)) → ((x : StretchEntry V) → KeepsEntry k.1 x → x.0.replica ≡ f.0.replica → x.0.counter < f.0.counter)
+  set_cases : (f : StretchEntry V) → LatestBecomes l.0 k.0 f.0.replica (Some (f.0.counter, f.1))
+      → ((x : StretchEntry V) → KeepsEntry k.1 x → x.0.replica ≡ f.0.replica → x.0.counter < f.0.counter)
       → ((x : StretchEntry V) → KeepsEntry k.1 x → Has l x) → (x : StretchEntry V) → Has k x → (x ≡ f) ⊎ ((x.0 ≢ f.0) × Has l x)
   set_cases f becomes before was x h =
       elim h [
@@ -89,7 +91,8 @@ module _ {V : Type 0} (l k : Layout V) (laid : IsLaid l) where
       ]
 
   -- a last stretch is set, behind the kept ones of its replica: it is a new one, or that one has another end
-  pub sets_latest : (f : StretchEntry V) → ((x : StretchEntry V) → IsLatest l.0 x → x.0.replica ≡ f.0.replica → x.0 ≡ f.0) → ((x : StretchEntry V) → KeepsEntry l.1 x → x.0.replica ≡ f.0.replica → x.0.counter < f.0.counter)
+  pub sets_latest : (f : StretchEntry V) → ((x : StretchEntry V) → IsLatest l.0 x → x.0.replica ≡ f.0.replica → x.0 ≡ f.0)
+      → ((x : StretchEntry V) → KeepsEntry l.1 x → x.0.replica ≡ f.0.replica → x.0.counter < f.0.counter)
       → LatestBecomes l.0 k.0 f.0.replica (Some (f.0.counter, f.1)) → k.1 ≡ l.1 → Sets l k f
   sets_latest f old before becomes rest =
       let was : (x : StretchEntry V) → KeepsEntry k.1 x → KeepsEntry l.1 x = λ x h. subst (λ es. KeepsEntry es x) rest h in
@@ -113,7 +116,8 @@ module _ {V : Type 0} (l k : Layout V) (laid : IsLaid l) where
       }
 
   -- a kept stretch is set, before the last one of its replica
-  pub sets_kept : (f : StretchEntry V) → ((x : StretchEntry V) → IsLatest l.0 x → f.0.replica ≡ x.0.replica → f.0.counter < x.0.counter) → KeptBecomes l.1 k.1 f.0 (Some f.1) → k.0 ≡ l.0 → Sets l k f
+  pub sets_kept : (f : StretchEntry V) → ((x : StretchEntry V) → IsLatest l.0 x → f.0.replica ≡ x.0.replica → f.0.counter < x.0.counter) → KeptBecomes l.1 k.1 f.0 (Some f.1)
+      → k.0 ≡ l.0 → Sets l k f
   sets_kept f behind becomes rest =
       let was : (x : StretchEntry V) → IsLatest k.0 x → IsLatest l.0 x = λ x h. subst (λ ls. IsLatest ls x) rest h in
       record {

@@ -14,7 +14,8 @@ use Rattle.fugue_ids.proofs.OrderLemmas.{id_cmp-IsAntisymmetric, id_cmp_total}
 use Rattle.fugue_ids.specs.Runs.{id_behind}
 
 -- identifiers are free where all of them are among those that are
-pub all_free : {V : Type 0} (value_of : Identifier → Option V) (first : Identifier) (count last : ℕ) → 0 < count → last ≡ first.counter + (count - 1) → AreFree value_of first count → (q : Identifier)
+pub all_free : {V : Type 0} (value_of : Identifier → Option V) (first : Identifier) (count last : ℕ) → 0 < count → last ≡ first.counter + (count - 1)
+    → AreFree value_of first count → (q : Identifier)
     → IsAmong first last q → value_of q ≡ None
 all_free value_of first count last some is free q c =
     let from : first.counter ≤ q.counter = c.from in
@@ -34,13 +35,16 @@ only_first value_of key none zero less = ap value_of (none_behind key) ∙ none
 only_first value_of key none (suc k) less = absurd (omega (arith, less))
 
 -- and the rule reaches to one value
-pub reaches_one : {V : Type 0} (reaches : Identifier → V → ℕ → Type 0) → ((first : Identifier) (v : V) → reaches first v 0) → (key : Identifier) (v : V) → ReachesRun reaches key v 1
+pub reaches_one : {V : Type 0} (reaches : Identifier → V → ℕ → Type 0) → ((first : Identifier) (v : V) → reaches first v 0) → (key : Identifier) (v : V)
+    → ReachesRun reaches key v 1
 reaches_one reaches starts key v zero less = starts key v
 reaches_one reaches starts key v (suc k) less = absurd (omega (arith, less))
 
 -- an answer decides whether identifiers are free
-pub free_by : {V : Type 0} (nth : Identifier → V → ℕ → V) (l : Layout V) (value_of : Identifier → Option V) → ((q : Identifier) → value_of q ≡ value_in nth l q) → (first : Identifier) (count last : ℕ) → 0 < count
-    → last ≡ first.counter + (count - 1) → (b : Bool) → (IsTrue b → AreFreeTo nth l first last) → (IsFalse b → AreFreeTo nth l first last → ⊥) → IsTrue b ↔ AreFree value_of first count
+pub free_by : {V : Type 0} (nth : Identifier → V → ℕ → V) (l : Layout V) (value_of : Identifier → Option V) → ((q : Identifier) → value_of q ≡ value_in nth l q)
+    → (first : Identifier) (count last : ℕ) → 0 < count
+    → last ≡ first.counter + (count - 1) → (b : Bool) → (IsTrue b → AreFreeTo nth l first last) → (IsFalse b → AreFreeTo nth l first last → ⊥)
+    → IsTrue b ↔ AreFree value_of first count
 free_by nth l value_of seen first count last some is b on off = (
   (λ t. free_all value_of first count last is (λ q c. seen q ∙ on t q c)),
   (λ free. elim b as (λ x. (IsFalse x → AreFreeTo nth l first last → ⊥) → IsTrue x) [
@@ -69,14 +73,16 @@ module _ {V : Type 0} (nth : Identifier → V → ℕ → V) where
         | inl e ↦
             let there : q.counter ≡ first.counter + n = ap (λ (x : Identifier). x.counter) e in
             let steps : n ≡ q.counter - first.counter = omega (arith, there) in
-            ap (λ b. cond b (Some (nth first v n)) (get older q)) (ap (λ z. is_eq (id_cmp z (id_behind first n))) e ∙ id_at-same (id_behind first n)) ∙ ap (λ k. Some (nth first v k)) steps
+            ap (λ b. cond b (Some (nth first v n)) (get older q)) (ap (λ z. is_eq (id_cmp z (id_behind first n))) e ∙ id_at-same (id_behind first n))
+            ∙ ap (λ k. Some (nth first v k)) steps
         | inr d ↦
             let apart : q.counter ≢ first.counter + n = λ e. d (λ i. record { replica = sym r i; counter = e i }) in
             ap (λ b. cond b (Some (nth first v n)) (get older q)) (id_at-other q (id_behind first n) (λ e. d (sym e))) ∙ run_inside first v n m q r from (omega (arith, apart, to))
       ]
 
   -- and every other value stays
-  run_outside : (first : Identifier) (v : V) (n : ℕ) (m : FinMap id_cmp V) (q : Identifier) → (first.replica ≡ q.replica → first.counter ≤ q.counter → q.counter < first.counter + n → ⊥)
+  run_outside : (first : Identifier) (v : V) (n : ℕ) (m : FinMap id_cmp V) (q : Identifier)
+      → (first.replica ≡ q.replica → first.counter ≤ q.counter → q.counter < first.counter + n → ⊥)
       → get (with_run nth first v n m) q ≡ get m q
   run_outside first v zero m q out = refl
   run_outside first v (suc n) m q out =
@@ -110,8 +116,10 @@ module _ {V : Type 0} (nth : Identifier → V → ℕ → V) where
   run_of_one at_start key v m = λ i. insert m (none_behind key i) (at_start key v i)
 
   -- a run may come where its identifiers are free
-  pub can_come : (reaches : Identifier → V → ℕ → Type 0) (l : Layout V) (value_of : Identifier → Option V) → ((q : Identifier) → value_of q ≡ value_in nth l q) → (first : Identifier) (v : V) (count last : ℕ)
-      → 0 < count → last ≡ first.counter + (count - 1) → ReachesRun reaches first v count → AreFree value_of first count → CanCome nth reaches l (first, record { value = v; last = last })
+  pub can_come : (reaches : Identifier → V → ℕ → Type 0) (l : Layout V) (value_of : Identifier → Option V) → ((q : Identifier) → value_of q ≡ value_in nth l q)
+      → (first : Identifier) (v : V) (count last : ℕ)
+      → 0 < count → last ≡ first.counter + (count - 1) → ReachesRun reaches first v count → AreFree value_of first count
+      → CanCome nth reaches l (first, record { value = v; last = last })
   can_come reaches l value_of seen first v count last some is reached free = record {
     begun = omega (arith, is);
     reached = λ n to. reached n (omega (arith, to, is, some));
@@ -127,7 +135,8 @@ module _ {V : Type 0} (nth : Identifier → V → ℕ → V) where
         get-contents k q ∙ loses.found q ∙ ap (λ o. cond (is_eq (id_cmp q key)) None o) (sym (get-contents l q)) ∙ sym (get-remove id_cmp_total (contents nth l) key q))
 
   -- where the next identifier has not the value that follows, a stretch ends with the key
-  pub ends_unless_followed : (reaches : Identifier → V → ℕ → Type 0) → ((first : Identifier) (value : V) (j k : ℕ) → nth (id_behind first j) (nth first value j) k ≡ nth first value (j + k))
+  pub ends_unless_followed : (reaches : Identifier → V → ℕ → Type 0)
+      → ((first : Identifier) (value : V) (j k : ℕ) → nth (id_behind first j) (nth first value j) k ≡ nth first value (j + k))
       → (l : Layout V) → AreStretches reaches l → (key : Identifier) → (IsFollowedBy nth (value_in nth l) key → ⊥) → EndsAt l key
   ends_unless_followed reaches adds l are key not e has cover =
       elim (cases_le e.1.last key.counter) [
@@ -136,12 +145,14 @@ module _ {V : Type 0} (nth : Identifier → V → ℕ → V) where
             let from : e.0.counter ≤ key.counter = cover.from in
             let j : ℕ = key.counter - e.0.counter in
             let steps : key.counter + 1 - e.0.counter ≡ key.counter - e.0.counter + 1 = omega arith in
-            let there : id_behind e.0 (key.counter - e.0.counter) ≡ key = let c : e.0.counter + (key.counter - e.0.counter) ≡ key.counter = omega arith in λ i. record { replica = cover.replica i; counter = c i } in
+            let there : id_behind e.0 (key.counter - e.0.counter) ≡ key = let c : e.0.counter + (key.counter - e.0.counter) ≡ key.counter =
+            omega arith in λ i. record { replica = cover.replica i; counter = c i } in
             let next = covered nth reaches l are (id_behind key 1) e has (record { replica = cover.replica; from = omega arith; to = omega arith }) in
             absurd (not (record {
               value = nth e.0 e.1.value (key.counter - e.0.counter);
               held = covered nth reaches l are key e has cover;
-              followed = next ∙ ap (λ n. Some (nth e.0 e.1.value n)) steps ∙ ap Some (sym (adds e.0 e.1.value (key.counter - e.0.counter) 1)) ∙ ap (λ x. Some (nth x (nth e.0 e.1.value (key.counter - e.0.counter)) 1)) there;
+              followed = next ∙ ap (λ n. Some (nth e.0 e.1.value n)) steps ∙ ap Some (sym (adds e.0 e.1.value (key.counter - e.0.counter) 1))
+                  ∙ ap (λ x. Some (nth x (nth e.0 e.1.value (key.counter - e.0.counter)) 1)) there;
             }))
       ]
 

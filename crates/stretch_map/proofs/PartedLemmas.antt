@@ -64,7 +64,8 @@ module _ {V : Type 0} (nth : Identifier → V → ℕ → V) (reaches : Identifi
             ]
       ]
     where
-      before_rest : (x : StretchEntry V) → x.0 ≢ e.0 → Has l x → x.0.replica ≡ e.0.replica → (y : StretchEntry V) → y.0.counter ≡ e.0.counter + j → x.0.counter < y.0.counter → x.1.last < y.0.counter
+      before_rest : (x : StretchEntry V) → x.0 ≢ e.0 → Has l x → x.0.replica ≡ e.0.replica → (y : StretchEntry V) → y.0.counter ≡ e.0.counter + j → x.0.counter < y.0.counter
+          → x.1.last < y.0.counter
       before_rest x other h rr y yc below =
           elim (cases_le e.0.counter x.0.counter) [
             | inl up ↦
@@ -101,7 +102,8 @@ module _ {V : Type 0} (nth : Identifier → V → ℕ → V) (reaches : Identifi
         laid = splits.laid;
       }
 
-  parted_own : (q : Identifier) → Covers e q → (y : StretchEntry V) × Has k y × Covers y q × (nth y.0 y.1.value (q.counter - y.0.counter) ≡ nth e.0 e.1.value (q.counter - e.0.counter))
+  parted_own : (q : Identifier) → Covers e q → (y : StretchEntry V) × Has k y × Covers y q
+      × (nth y.0 y.1.value (q.counter - y.0.counter) ≡ nth e.0 e.1.value (q.counter - e.0.counter))
   parted_own q cover =
       let low : e.0.counter ≤ q.counter = cover.from in
       let high : q.counter ≤ e.1.last = cover.to in

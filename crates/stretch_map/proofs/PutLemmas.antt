@@ -6,13 +6,15 @@ use Rattle.fugue_ids.specs.Identifiers.{Identifier, id_cmp}
 use Rattle.fugue_ids.specs.Runs.{id_behind}
 use Rattle.stretch_map.specs.Contents.{StretchEntry, Latest, Layout, value_in}
 use Rattle.stretch_map.specs.Rules.{FollowsByRule}
-use Rattle.stretch_map.specs.Stretches.{Adds, AreStretches, CanCome, GoesOn, Grows, Has, IsBehindAll, IsFloor, IsLatest, IsLatestUpTo, KeepsEntry, KeptBecomes, LatestBecomes, NoLatestUpTo, latest_at, up_to}
+use Rattle.stretch_map.specs.Stretches.{Adds, AreStretches, CanCome, GoesOn, Grows, Has, IsBehindAll, IsFloor, IsLatest, IsLatestUpTo, KeepsEntry, KeptBecomes, LatestBecomes}
+use Rattle.stretch_map.specs.Stretches.{NoLatestUpTo, latest_at, up_to}
 use Rattle.stretch_map.specs.declared.stretches.Stretch.{Stretch}
 use Rattle.stretch_map.proofs.FoundLemmas.{cases_le, found, same_latest}
 use Rattle.stretch_map.proofs.GrownLemmas.{added, first_not_in, joined}
 use Rattle.stretch_map.proofs.KeptLemmas.{kept_becomes, sets_behind, sets_kept, sets_latest}
 
-module _ {V : Type 0} (nth : Identifier → V → ℕ → V) (reaches : Identifier → V → ℕ → Type 0) (l : Layout V) (are : AreStretches reaches l) (run : StretchEntry V) (comes : CanCome nth reaches l run) where
+module _ {V : Type 0} (nth : Identifier → V → ℕ → V) (reaches : Identifier → V → ℕ → Type 0) (l : Layout V) (are : AreStretches reaches l) (run : StretchEntry V)
+    (comes : CanCome nth reaches l run) where
   abbrev key : Identifier
   key = run.0
 
@@ -59,7 +61,8 @@ module _ {V : Type 0} (nth : Identifier → V → ℕ → V) (reaches : Identifi
   begun_kept none es becomes = added nth reaches l are run comes (l.0, es) (sets_kept l (l.0, es) are.laid run (λ x a r. none x a (sym r)) becomes refl)
 
   -- and behind it
-  pub begun_behind : (e : StretchEntry V) → IsLatestUpTo l.0 key e → (ls : List (ℕ × Latest V)) (es : List (StretchEntry V)) → LatestBecomes l.0 ls key.replica (Some (key.counter, run.1))
+  pub begun_behind : (e : StretchEntry V) → IsLatestUpTo l.0 key e → (ls : List (ℕ × Latest V)) (es : List (StretchEntry V))
+      → LatestBecomes l.0 ls key.replica (Some (key.counter, run.1))
       → KeptBecomes l.1 es e.0 (Some e.1) → Adds nth reaches l (ls, es) run
   begun_behind e is ls es becomes keeps =
       added nth reaches l are run comes (ls, es) (sets_behind l (ls, es) are.laid e run is.latest is.replica (begins_before e is) becomes keeps)
@@ -83,7 +86,8 @@ module _ {V : Type 0} (nth : Identifier → V → ℕ → V) (reaches : Identifi
             ] in
             let steps : ℕ = next.before.counter - e.0.counter in
             let far : steps + 1 ≡ key.counter - e.0.counter = omega arith in
-            let there : id_behind e.0 steps ≡ next.before = let c : e.0.counter + steps ≡ next.before.counter = omega arith in λ i. record { replica = w.2.replica i; counter = c i } in
+            let there : id_behind e.0 steps ≡ next.before = let c : e.0.counter + steps ≡ next.before.counter =
+            omega arith in λ i. record { replica = w.2.replica i; counter = c i } in
             let value_there : nth e.0 e.1.value steps ≡ next.value_before = let both : Some (nth e.0 e.1.value steps) ≡ Some next.value_before = sym w.3 ∙ next.held in cc in (
               e,
               w.1,
@@ -127,7 +131,8 @@ module _ {V : Type 0} (nth : Identifier → V → ℕ → V) (reaches : Identifi
   module _ (joins : (first : Identifier) (v : V) (j : ℕ) → reaches first v j → reaches (id_behind first j) (nth first v j) 1 → reaches first v (j + 1))
       (adds : (first : Identifier) (v : V) (j k : ℕ) → nth (id_behind first j) (nth first v j) k ≡ nth first v (j + k)) where
     -- where no kept stretch goes on, nor a last one can, the value does not follow
-    pub not_next_before : NoLatestUpTo l.0 key → ((e : StretchEntry V) → IsFloor l.1 key e → GoesOn nth reaches e key value → ⊥) → FollowsByRule nth reaches (value_in nth l) key value → ⊥
+    pub not_next_before : NoLatestUpTo l.0 key → ((e : StretchEntry V) → IsFloor l.1 key e → GoesOn nth reaches e key value → ⊥)
+        → FollowsByRule nth reaches (value_in nth l) key value → ⊥
     not_next_before none kept next =
         let e = goes_from joins adds next in
         elim e.1 [
@@ -155,8 +160,14 @@ module _ {V : Type 0} (nth : Identifier → V → ℕ → V) (reaches : Identifi
         ]
 
 -- the map as the longer stretch is written
-pub map_grew : {V : Type 0} (nth : Identifier → V → ℕ → V) (reaches : Identifier → V → ℕ → Type 0) (m n : BTreeMap Identifier (Stretch V)) (run e : StretchEntry V) → KeepsEntry m.entries e
+pub map_grew : {V : Type 0} (nth : Identifier → V → ℕ → V) (reaches : Identifier → V → ℕ → Type 0) (m n : BTreeMap Identifier (Stretch V)) (run e : StretchEntry V)
+    → KeepsEntry m.entries e
     → GoesOn nth reaches e run.0 run.1.value → (s : Stretch V) → s ≡ (up_to e run.1.last).1 → UpdatesBy id_cmp (id_cmp e.0) m n (Some s) → IsOrdered id_cmp n
     → Grows nth reaches m.entries n.entries run
 map_grew nth reaches m n run e kept goes s is u ordered =
-    record { stretch = e; kept = kept; goes_on = goes; becomes = kept_becomes m n e.0 (Some (up_to e run.1.last).1) (subst (λ t. UpdatesBy id_cmp (id_cmp e.0) m n (Some t)) is u) ordered }
+    record {
+      stretch = e;
+      kept = kept;
+      goes_on = goes;
+      becomes = kept_becomes m n e.0 (Some (up_to e run.1.last).1) (subst (λ t. UpdatesBy id_cmp (id_cmp e.0) m n (Some t)) is u) ordered;
+    }

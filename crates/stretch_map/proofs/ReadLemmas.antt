@@ -11,7 +11,8 @@ abbrev pub IsValueIn : {V : Type 0} → (Identifier → V → ℕ → V) → Str
 IsValueIn nth e key r = IfNone r (Covers e key → ⊥) × IfSome r (λ v. Covers e key × (v ≡ nth e.0 e.1.value (key.counter - e.0.counter)))
 
 -- only the floor of a key may have it
-pub floor_covers : {V : Type 0} (reaches : Identifier → V → ℕ → Type 0) (l : Layout V) → AreStretches reaches l → (key : Identifier) (e : StretchEntry V) → IsFloor l.1 key e → (f : StretchEntry V)
+pub floor_covers : {V : Type 0} (reaches : Identifier → V → ℕ → Type 0) (l : Layout V) → AreStretches reaches l → (key : Identifier) (e : StretchEntry V) → IsFloor l.1 key e
+    → (f : StretchEntry V)
     → KeepsEntry l.1 f → Covers f key → Covers e key
 floor_covers {V} reaches l are key e floor f k c =
     let r : f.0.replica ≡ key.replica = c.replica in
@@ -40,7 +41,8 @@ pub none_kept : {V : Type 0} (nth : Identifier → V → ℕ → V) (es : List (
 none_kept nth es key none = record { none = λ e k c. none e k (inr (c.replica, c.from)); some = tt }
 
 -- what the floor has
-pub read_kept : {V : Type 0} (nth : Identifier → V → ℕ → V) (reaches : Identifier → V → ℕ → Type 0) (l : Layout V) → AreStretches reaches l → (key : Identifier) (e : StretchEntry V) → IsFloor l.1 key e
+pub read_kept : {V : Type 0} (nth : Identifier → V → ℕ → V) (reaches : Identifier → V → ℕ → Type 0) (l : Layout V) → AreStretches reaches l
+    → (key : Identifier) (e : StretchEntry V) → IsFloor l.1 key e
     → (r : Option V) → IsValueIn nth e key r → IsReadIn nth (KeepsEntry l.1) key r
 read_kept nth reaches l are key e floor None v = record { none = λ f k c. v.0 (floor_covers reaches l are key e floor f k c); some = tt }
 read_kept nth reaches l are key e floor (Some a) v = record { none = tt; some = (e, floor.kept, v.1.0, v.1.1) }

@@ -31,7 +31,8 @@ by_key q key x there elsewhere on off =
     ]
 
 -- a stretch that is set where it can be
-pub set_are : {V : Type 0} (reaches : Identifier → V → ℕ → Type 0) (l k : Layout V) → AreStretches reaches l → (e : StretchEntry V) → Fits reaches l e → Sets l k e → AreStretches reaches k
+pub set_are : {V : Type 0} (reaches : Identifier → V → ℕ → Type 0) (l k : Layout V) → AreStretches reaches l → (e : StretchEntry V) → Fits reaches l e → Sets l k e
+    → AreStretches reaches k
 set_are {V} reaches l k are e fits sets =
     record {
       begun = λ x h. elim (sets.cases x h) [ inl d ↦ subst (λ (z : StretchEntry V). z.0.counter ≤ z.1.last) (sym d) fits.begun | inr d ↦ are.begun x d.1 ];
@@ -56,10 +57,12 @@ set_are {V} reaches l k are e fits sets =
       laid = sets.laid;
     }
 
-module _ {V : Type 0} (nth : Identifier → V → ℕ → V) (reaches : Identifier → V → ℕ → Type 0) (l k : Layout V) (are : AreStretches reaches l) (still : AreStretches reaches k) (q : Identifier) where
+module _ {V : Type 0} (nth : Identifier → V → ℕ → V) (reaches : Identifier → V → ℕ → Type 0) (l k : Layout V) (are : AreStretches reaches l) (still : AreStretches reaches k)
+    (q : Identifier) where
   -- where an identifier is in a stretch of k exactly where it is in one of l, with the same value, it has the same value
   pub value_stays : ((x : StretchEntry V) → Has k x → Covers x q → (y : StretchEntry V) × Has l y × Covers y q)
-      → ((x : StretchEntry V) → Has l x → Covers x q → (y : StretchEntry V) × Has k y × Covers y q × (nth y.0 y.1.value (q.counter - y.0.counter) ≡ nth x.0 x.1.value (q.counter - x.0.counter)))
+      → ((x : StretchEntry V) → Has l x → Covers x q
+      → (y : StretchEntry V) × Has k y × Covers y q × (nth y.0 y.1.value (q.counter - y.0.counter) ≡ nth x.0 x.1.value (q.counter - x.0.counter)))
       → value_in nth k q ≡ value_in nth l q
   value_stays from to =
       elim (found nth reaches l are q) [
@@ -68,19 +71,25 @@ module _ {V : Type 0} (nth : Identifier → V → ℕ → V) (reaches : Identifi
       ]
 
   -- so where one stretch ends elsewhere, with the same identifiers up to there
-  pub value_within : (e : StretchEntry V) → Has l e → (last : ℕ) → Sets l k (up_to e last) → (Covers (up_to e last) q → q.counter ≤ e.1.last) → (Covers e q → q.counter ≤ last) → value_in nth k q ≡ value_in nth l q
+  pub value_within : (e : StretchEntry V) → Has l e → (last : ℕ) → Sets l k (up_to e last) → (Covers (up_to e last) q → q.counter ≤ e.1.last) → (Covers e q → q.counter ≤ last)
+      → value_in nth k q ≡ value_in nth l q
   value_within e old last sets within reaching =
       value_stays
       (λ x h c.
       elim (sets.cases x h) [
-        | inl d ↦ let cover : Covers (up_to e last) q = subst (λ (z : StretchEntry V). Covers z q) d c in (e, old, record { replica = cover.replica; from = cover.from; to = within cover })
+        | inl d ↦ let cover : Covers (up_to e last) q =
+            subst (λ (z : StretchEntry V). Covers z q) d c in (e, old, record { replica = cover.replica; from = cover.from; to = within cover })
         | inr d ↦ (x, d.1, c)
       ])
       (λ x h c.
       elim (cases_id x.0 e.0) [
         | inl d ↦
             let value : x.1 ≡ e.1 = same_has reaches l are x e h old d in
-            let cover : Covers e q = subst (λ (z : StretchEntry V). Covers z q) (λ i. (d i, value i)) c in
-            (up_to e last, sets.here, record { replica = cover.replica; from = cover.from; to = reaching cover }, λ i. nth (sym d i) (sym value i).value (q.counter - (sym d i).counter))
+            let cover : Covers e q = subst (λ (z : StretchEntry V). Covers z q) (λ i. (d i, value i)) c in (
+              up_to e last,
+              sets.here,
+              record { replica = cover.replica; from = cover.from; to = reaching cover },
+              λ i. nth (sym d i) (sym value i).value (q.counter - (sym d i).counter),
+            )
         | inr d ↦ (x, sets.stays x d h, c, refl)
       ])

@@ -7,7 +7,8 @@ use Rattle.fugue_ids.specs.Identifiers.{Identifier, id_cmp}
 use Rattle.fugue_ids.proofs.IdentifierLemmas.{cases_id, id_at-other}
 use Rattle.fugue_ids.specs.Runs.{id_behind}
 use Rattle.stretch_map.specs.Contents.{StretchEntry, Latest, Layout}
-use Rattle.stretch_map.specs.Stretches.{AreStretches, Covers, IsSplit, IsFloor, IsLatest, IsLatestUpTo, IsSplitBefore, IsReadIn, IsSame, IsShorter, IsTakenFrom, IsTakenFromLatest, KeepsEntry, KeptBecomes, LatestBecomes, Loses, rest_behind, up_to}
+use Rattle.stretch_map.specs.Stretches.{AreStretches, Covers, IsSplit, IsFloor, IsLatest, IsLatestUpTo, IsSplitBehind, IsReadIn, IsSame, IsShorter, IsTakenFrom, IsTakenFromLatest}
+use Rattle.stretch_map.specs.Stretches.{KeepsEntry, KeptBecomes, LatestBecomes, Loses, rest_behind, up_to}
 use Rattle.stretch_map.specs.declared.stretches.Stretch.{Stretch}
 use Rattle.stretch_map.proofs.FoundLemmas.{not_both, one_covers, same_kept, same_latest}
 use Rattle.stretch_map.proofs.KeptLemmas.{drops_kept, drops_latest, kept_becomes, sets_kept, sets_latest}
@@ -31,18 +32,21 @@ cut_by nth m k n e key cover u w ordered =
 
 module _ {V : Type 0} (nth : Identifier → V → ℕ → V) (reaches : Identifier → V → ℕ → Type 0) (l : Layout V) (are : AreStretches reaches l) (key : Identifier) where
   -- a last stretch is without its last identifier
-  pub shorter_latest : (e : StretchEntry V) → IsLatest l.0 e → Covers e key → e.1.last ≡ key.counter → (ls : List (ℕ × Latest V)) → IsTakenFromLatest l.0 ls e → Loses nth reaches l (ls, l.1) key
+  pub shorter_latest : (e : StretchEntry V) → IsLatest l.0 e → Covers e key → e.1.last ≡ key.counter → (ls : List (ℕ × Latest V)) → IsTakenFromLatest l.0 ls e
+      → Loses nth reaches l (ls, l.1) key
   shorter_latest e old cover ends ls taken = by_rest taken.left taken.shorter taken.becomes
     where
       by_rest : (r : Option (StretchEntry V)) → IsShorter e r → LatestBecomes l.0 ls e.0.replica (option_map (λ x. (x.0.counter, x.1)) r) → Loses nth reaches l (ls, l.1) key
       by_rest None short becomes = dropped nth reaches l (ls, l.1) are key e (inl old) cover ends short.0 (drops_latest l (ls, l.1) are.laid e old becomes refl)
       by_rest (Some x) short becomes =
           shortened nth reaches l (ls, l.1) are key e (inl old) cover ends short.1.0
-          (sets_latest l (ls, l.1) are.laid (up_to e (e.1.last - 1)) (λ y a r. ap (λ (z : StretchEntry V). z.0) (same_latest l.0 y e a old r)) (λ y h r. are.laid.before e y old h r)
+          (sets_latest l (ls, l.1) are.laid (up_to e (e.1.last - 1)) (λ y a r. ap (λ (z : StretchEntry V). z.0) (same_latest l.0 y e a old r))
+          (λ y h r. are.laid.before e y old h r)
           (subst (λ (z : StretchEntry V). LatestBecomes l.0 ls e.0.replica (Some (z.0.counter, z.1))) short.1.1 becomes) refl)
 
   -- a kept stretch is without its last identifier
-  pub shorter_kept : (e : StretchEntry V) → KeepsEntry l.1 e → Covers e key → e.1.last ≡ key.counter → (es : List (StretchEntry V)) → IsTakenFrom l.1 es e → Loses nth reaches l (l.0, es) key
+  pub shorter_kept : (e : StretchEntry V) → KeepsEntry l.1 e → Covers e key → e.1.last ≡ key.counter → (es : List (StretchEntry V)) → IsTakenFrom l.1 es e
+      → Loses nth reaches l (l.0, es) key
   shorter_kept e old cover ends es taken = by_rest taken.left taken.shorter taken.becomes
     where
       by_rest : (r : Option (StretchEntry V)) → IsShorter e r → KeptBecomes l.1 es e.0 (option_map (λ x. x.1) r) → Loses nth reaches l (l.0, es) key
@@ -53,7 +57,7 @@ module _ {V : Type 0} (nth : Identifier → V → ℕ → V) (reaches : Identifi
           (subst (λ (z : StretchEntry V). KeptBecomes l.1 es e.0 (Some z.1)) short.1.1 becomes) refl)
 
   -- a stretch that ends with the key already
-  pub parted_there : (e : StretchEntry V) → KeepsEntry l.1 e → Covers e key → e.1.last ≤ key.counter → IsSplitBefore nth reaches l l e key
+  pub parted_there : (e : StretchEntry V) → KeepsEntry l.1 e → Covers e key → e.1.last ≤ key.counter → IsSplitBehind nth reaches l l e key
   parted_there e kept cover low =
       let to : key.counter ≤ e.1.last = cover.to in
       let same : e.1.last ≡ key.counter = omega arith in
@@ -62,7 +66,8 @@ module _ {V : Type 0} (nth : Identifier → V → ℕ → V) (reaches : Identifi
   -- a kept stretch cut in two
   pub parted_kept : ((first : Identifier) (value : V) (j k : ℕ) → nth (id_behind first j) (nth first value j) k ≡ nth first value (j + k))
       → ((first : Identifier) (value : V) (j k : ℕ) → reaches first value (j + k) → reaches (id_behind first j) (nth first value j) k)
-      → (e : StretchEntry V) → KeepsEntry l.1 e → Covers e key → key.counter < e.1.last → (es : List (StretchEntry V)) → IsSplit nth l.1 es e key → IsSplitBefore nth reaches l (l.0, es) e key
+      → (e : StretchEntry V) → KeepsEntry l.1 e → Covers e key → key.counter < e.1.last → (es : List (StretchEntry V)) → IsSplit nth l.1 es e key
+      → IsSplitBehind nth reaches l (l.0, es) e key
   parted_kept adds goes_on e old cover inside es cut =
       record {
         are = parted_are nth reaches adds goes_on l (l.0, es) are e (inr old) (key.counter - e.0.counter + 1) (omega arith) within splits;
@@ -87,7 +92,8 @@ module _ {V : Type 0} (nth : Identifier → V → ℕ → V) (reaches : Identifi
 
       -- a kept stretch after the cut is one of both parts, or was kept
       kept_parts : (x : StretchEntry V) → KeepsEntry es x
-          → (x ≡ up_to e key.counter) ⊎ ((x ≡ rest_behind nth e (key.counter - e.0.counter + 1)) ⊎ ((x.0 ≢ e.0) × (x.0 ≢ id_behind e.0 (key.counter - e.0.counter + 1)) × KeepsEntry l.1 x))
+          → (x ≡ up_to e key.counter)
+          ⊎ ((x ≡ rest_behind nth e (key.counter - e.0.counter + 1)) ⊎ ((x.0 ≢ e.0) × (x.0 ≢ id_behind e.0 (key.counter - e.0.counter + 1)) × KeepsEntry l.1 x))
       kept_parts x a =
           elim (cases_id x.0 e.0) [
             | inl d ↦ let value = same_kept es x (up_to e key.counter) a cut.head d in inl (λ i. (d i, value i))
@@ -134,7 +140,7 @@ module _ {V : Type 0} (nth : Identifier → V → ℕ → V) (reaches : Identifi
           }
 
   -- a stretch cut in two, and then its last value gone
-  pub loses_after : (k t : Layout V) (e : StretchEntry V) → IsSplitBefore nth reaches l k e key → Loses nth reaches k t key → Loses nth reaches l t key
+  pub loses_after : (k t : Layout V) (e : StretchEntry V) → IsSplitBehind nth reaches l k e key → Loses nth reaches k t key → Loses nth reaches l t key
   loses_after k t e cut lost = record { are = lost.are; found = λ q. lost.found q ∙ ap (cond (is_eq (id_cmp q key)) None) (cut.found q) }
 
   -- the same after stretches were kept differently
@@ -154,14 +160,17 @@ module _ {V : Type 0} (nth : Identifier → V → ℕ → V) (reaches : Identifi
   none_by_floor e floor not = record { none = λ f h c. not (floor_covers reaches l are key e floor f h c); some = tt }
 
 -- a kept stretch cut in two, and then its last value taken
-pub taken_after : {V : Type 0} (nth : Identifier → V → ℕ → V) (reaches : Identifier → V → ℕ → Type 0) (l : Layout V) → AreStretches reaches l → (key : Identifier) (k : Layout V) (e : StretchEntry V)
-    → IsSplitBefore nth reaches l k e key → Covers e key → (es : List (StretchEntry V)) (last : ℕ) → last ≡ key.counter → IsTakenFrom k.1 es (up_to e last) → Loses nth reaches l (k.0, es) key
+pub taken_after : {V : Type 0} (nth : Identifier → V → ℕ → V) (reaches : Identifier → V → ℕ → Type 0) (l : Layout V) → AreStretches reaches l
+    → (key : Identifier) (k : Layout V) (e : StretchEntry V)
+    → IsSplitBehind nth reaches l k e key → Covers e key → (es : List (StretchEntry V)) (last : ℕ) → last ≡ key.counter → IsTakenFrom k.1 es (up_to e last)
+    → Loses nth reaches l (k.0, es) key
 taken_after nth reaches l are key k e parted cover es last same taken =
     loses_after nth reaches l are key k (k.0, es) e parted
     (shorter_kept nth reaches k parted.are key (up_to e key.counter) parted.head (record { replica = cover.replica; from = cover.from; to = omega arith }) refl es
     (subst (λ (c : ℕ). IsTakenFrom k.1 es (up_to e c)) same taken))
 
 -- what is left of a stretch is written in the map of kept ones
-pub taken_from : {V : Type 0} (m n : BTreeMap Identifier (Stretch V)) (e : StretchEntry V) (left : Option (StretchEntry V)) → IsShorter e left → UpdatesBy id_cmp (id_cmp e.0) m n (option_map (λ x. x.1) left)
+pub taken_from : {V : Type 0} (m n : BTreeMap Identifier (Stretch V)) (e : StretchEntry V) (left : Option (StretchEntry V)) → IsShorter e left
+    → UpdatesBy id_cmp (id_cmp e.0) m n (option_map (λ x. x.1) left)
     → IsOrdered id_cmp n → IsTakenFrom m.entries n.entries e
 taken_from m n e left short u ordered = record { left = left; shorter = short; becomes = kept_becomes m n e.0 (option_map (λ x. x.1) left) u ordered }

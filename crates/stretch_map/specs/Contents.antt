@@ -20,7 +20,8 @@ coded_id = code_by (ℕ × ℕ) (coded× coded_ℕ coded_ℕ) (λ x. (x.replica,
 -- and values with the one that came last as a pair of these
 abbrev pub coded_mapped : {V : Type 0} → Coded V → Coded (Mapped V)
 coded_mapped {V} v =
-    code_by (FinMap id_cmp V × Option Identifier) (coded× (code coded_id v) (coded_option coded_id)) (λ h. (h.values, h.newest)) (λ p. record { values = p.0; newest = p.1 })
+    code_by (FinMap id_cmp V × Option Identifier) (coded× (code coded_id v) (coded_option coded_id)) (λ h. (h.values, h.newest))
+    (λ p. record { values = p.0; newest = p.1 })
     (λ _. refl)
 
 -- the first n values of a stretch, the last of them first

@@ -32,15 +32,18 @@ pub typed-start : (first : Identifier) (t : Typed) → typed_behind first t 0 �
 typed-start first t = refl
 
 -- the origins behind at least one step
-behind-suc : (first : Identifier) (t : Typed) (n m : ℕ) → n ≡ suc m → typed_behind first t n ≡ record { left = Some (id_behind first m); right = t.right }
+behind-suc : (first : Identifier) (t : Typed) (n m : ℕ) → n ≡ suc m
+    → typed_behind first t n ≡ record { left = Some (id_behind first m); right = t.right }
 behind-suc first t n m e = ap (typed_behind first t) e
 
 -- steps of identifiers add up
 behind-behind : (first : Identifier) (j k : ℕ) → id_behind (id_behind first j) k ≡ id_behind first (j + k)
-behind-behind first j k = let e : first.counter + j + k ≡ first.counter + (j + k) = omega arith in λ i. record { replica = first.replica; counter = e i }
+behind-behind first j k = let e : first.counter + j + k ≡ first.counter + (j + k) =
+    omega arith in λ i. record { replica = first.replica; counter = e i }
 
 -- steps add up
-pub typed-adds : (first : Identifier) (t : Typed) (j k : ℕ) → typed_behind (id_behind first j) (typed_behind first t j) k ≡ typed_behind first t (j + k)
+pub typed-adds : (first : Identifier) (t : Typed) (j k : ℕ)
+    → typed_behind (id_behind first j) (typed_behind first t j) k ≡ typed_behind first t (j + k)
 typed-adds first t j zero = let e : j ≡ j + 0 = omega arith in ap (typed_behind first t) e
 typed-adds first t j (suc k) =
     let step : j + suc k ≡ suc (j + k) = omega arith in

@@ -32,7 +32,8 @@ with_run nth first value zero m = m
 with_run nth first value (suc n) m = insert (with_run nth first value n m) (id_behind first n) (nth first value n)
 
 -- the value is the one that follows that of the identifier before
-pub record FollowsByRule {V : Type 0} (nth : Identifier → V → ℕ → V) (reaches : Identifier → V → ℕ → Type 0) (value_of : Identifier → Option V) (key : Identifier) (value : V) : Type 0 where
+pub record FollowsByRule {V : Type 0} (nth : Identifier → V → ℕ → V) (reaches : Identifier → V → ℕ → Type 0)
+    (value_of : Identifier → Option V) (key : Identifier) (value : V) : Type 0 where
   pub before : Identifier
   pub at_key : id_behind before 1 ≡ key
   pub value_before : V

@@ -1,5 +1,6 @@
 -- The stretches of a map, and what becomes of them.
-use Rattle.std.specs.Prelude.{◌≡◌, ◌≢◌, ◌⊎◌, ℕ, ◌+◌, ◌-◌, ◌<◌, ◌≤◌, None, Option, Some, List, IfNone, IfSome, IsOk, OnErr, OnOk, Result, cond, option_map}
+use Rattle.std.specs.Prelude.{◌≡◌, ◌≢◌, ◌⊎◌, ℕ, ◌+◌, ◌-◌, ◌<◌, ◌≤◌, None, Option, Some, List, IfNone, IfSome, IsOk, OnErr, OnOk, Result}
+use Rattle.std.specs.Prelude.{cond, option_map}
 use Rattle.std.specs.BTreeMap.{is_at}
 use Rattle.std.specs.List.Sorted.{IsStrictlySortedBy}
 use Rattle.std.specs.Map.{keys_of, lookup}
@@ -62,7 +63,8 @@ abbrev pub EndsAt : {V : Type 0} → Layout V → Identifier → Type 0
 EndsAt {V} l key = (e : StretchEntry V) → Has l e → Covers e key → e.1.last ≤ key.counter
 
 -- what one of the stretches for which P holds has at the key, and None where none of them has it
-pub record IsReadIn {V : Type 0} (nth : Identifier → V → ℕ → V) (P : StretchEntry V → Type 0) (key : Identifier) (value : Option V) : Type 0 where
+pub record IsReadIn {V : Type 0} (nth : Identifier → V → ℕ → V) (P : StretchEntry V → Type 0) (key : Identifier)
+    (value : Option V) : Type 0 where
   pub none : IfNone value ((e : StretchEntry V) → P e → Covers e key → ⊥)
   pub some : IfSome value (λ v. (e : StretchEntry V) × P e × Covers e key × (v ≡ nth e.0 e.1.value (key.counter - e.0.counter)))
 
@@ -92,7 +94,8 @@ pub record IsBehindAll {V : Type 0} (l : Layout V) (key : Identifier) : Type 0 w
   pub before : (e : StretchEntry V) → KeepsEntry l.1 e → e.0.replica ≡ key.replica → e.0.counter < key.counter
 
 -- the stretch ends right before the key, and the rule leads from it to the value
-pub record GoesOn {V : Type 0} (nth : Identifier → V → ℕ → V) (reaches : Identifier → V → ℕ → Type 0) (e : StretchEntry V) (key : Identifier) (value : V) : Type 0 where
+pub record GoesOn {V : Type 0} (nth : Identifier → V → ℕ → V) (reaches : Identifier → V → ℕ → Type 0) (e : StretchEntry V)
+    (key : Identifier) (value : V) : Type 0 where
   pub replica : e.0.replica ≡ key.replica
   pub next : e.1.last + 1 ≡ key.counter
   pub reached : reaches e.0 e.1.value (key.counter - e.0.counter)
@@ -123,33 +126,39 @@ abbrev pub AreFreeTo : {V : Type 0} → (Identifier → V → ℕ → V) → Lay
 AreFreeTo nth l first last = (q : Identifier) → IsAmong first last q → value_in nth l q ≡ None
 
 -- a stretch may come to these: it is not empty, the rule reaches to its end, and none of its identifiers has a value
-pub record CanCome {V : Type 0} (nth : Identifier → V → ℕ → V) (reaches : Identifier → V → ℕ → Type 0) (l : Layout V) (run : StretchEntry V) : Type 0 where
+pub record CanCome {V : Type 0} (nth : Identifier → V → ℕ → V) (reaches : Identifier → V → ℕ → Type 0) (l : Layout V)
+    (run : StretchEntry V) : Type 0 where
   pub begun : run.0.counter ≤ run.1.last
   pub reached : IsReachedByRule reaches run
   pub free : AreFreeTo nth l run.0 run.1.last
 
 -- the kept stretches fs are es, but that one goes on with the new one, and has its identifiers too
-pub record Grows {V : Type 0} (nth : Identifier → V → ℕ → V) (reaches : Identifier → V → ℕ → Type 0) (es fs : List (StretchEntry V)) (run : StretchEntry V) : Type 0 where
+pub record Grows {V : Type 0} (nth : Identifier → V → ℕ → V) (reaches : Identifier → V → ℕ → Type 0) (es fs : List (StretchEntry V))
+    (run : StretchEntry V) : Type 0 where
   pub stretch : StretchEntry V
   pub kept : KeepsEntry es stretch
   pub goes_on : GoesOn nth reaches stretch run.0 run.1.value
   pub becomes : KeptBecomes es fs stretch.0 (Some (up_to stretch run.1.last).1)
 
 -- k has the values of the new stretch, and else those of l; a stretch ends where the new one does
-pub record Adds {V : Type 0} (nth : Identifier → V → ℕ → V) (reaches : Identifier → V → ℕ → Type 0) (l k : Layout V) (run : StretchEntry V) : Type 0 where
+pub record Adds {V : Type 0} (nth : Identifier → V → ℕ → V) (reaches : Identifier → V → ℕ → Type 0) (l k : Layout V)
+    (run : StretchEntry V) : Type 0 where
   pub are : AreStretches reaches k
   pub inside : (q : Identifier) → Covers run q → value_in nth k q ≡ Some (nth run.0 run.1.value (q.counter - run.0.counter))
   pub outside : (q : Identifier) → (Covers run q → ⊥) → value_in nth k q ≡ value_in nth l q
   pub ends : EndsAt k (last_identifier run)
 
--- l becomes k as the new stretch is put: an error leaves all as before, and there is none where its first value follows that of the identifier before
-pub record PutsStretch {V T E : Type 0} (nth : Identifier → V → ℕ → V) (reaches : Identifier → V → ℕ → Type 0) (l k : Layout V) (run : StretchEntry V) (result : Result T E) : Type 0 where
+-- l becomes k as the new stretch is put: an error leaves all as before, and there is none where its first value follows
+-- that of the identifier before
+pub record PutsStretch {V T E : Type 0} (nth : Identifier → V → ℕ → V) (reaches : Identifier → V → ℕ → Type 0) (l k : Layout V)
+    (run : StretchEntry V) (result : Result T E) : Type 0 where
   pub ok : OnOk result (Adds nth reaches l k run)
   pub err : OnErr result (k ≡ l)
   pub sure : FollowsByRule nth reaches (value_in nth l) run.0 run.1.value → IsOk result
 
 -- k has the values of l, but none at the key
-pub record Loses {V : Type 0} (nth : Identifier → V → ℕ → V) (reaches : Identifier → V → ℕ → Type 0) (l k : Layout V) (key : Identifier) : Type 0 where
+pub record Loses {V : Type 0} (nth : Identifier → V → ℕ → V) (reaches : Identifier → V → ℕ → Type 0) (l k : Layout V)
+    (key : Identifier) : Type 0 where
   pub are : AreStretches reaches k
   pub found : (q : Identifier) → value_in nth k q ≡ cond (is_eq (id_cmp q key)) None (value_in nth l q)
 
@@ -180,14 +189,16 @@ abbrev pub rest_behind : {V : Type 0} → (Identifier → V → ℕ → V) → S
 rest_behind nth e j = (id_behind e.0 j, record { value = nth e.0 e.1.value j; last = e.1.last })
 
 -- the kept stretches fs are es, but that this one ends with the key, and what was behind is another one
-pub record IsSplit {V : Type 0} (nth : Identifier → V → ℕ → V) (es fs : List (StretchEntry V)) (e : StretchEntry V) (key : Identifier) : Type 0 where
+pub record IsSplit {V : Type 0} (nth : Identifier → V → ℕ → V) (es fs : List (StretchEntry V)) (e : StretchEntry V)
+    (key : Identifier) : Type 0 where
   pub head : KeepsEntry fs (up_to e key.counter)
   pub tail : KeepsEntry fs (rest_behind nth e (key.counter - e.0.counter + 1))
   pub others : (q : Identifier) → q ≢ e.0 → q ≢ id_behind e.0 (key.counter - e.0.counter + 1) → kept_at fs q ≡ kept_at es q
   pub ordered : IsStrictlySortedBy id_cmp (keys_of fs)
 
 -- k has the values of l, and this stretch ends with the key
-pub record IsSplitBefore {V : Type 0} (nth : Identifier → V → ℕ → V) (reaches : Identifier → V → ℕ → Type 0) (l k : Layout V) (e : StretchEntry V) (key : Identifier) : Type 0 where
+pub record IsSplitBehind {V : Type 0} (nth : Identifier → V → ℕ → V) (reaches : Identifier → V → ℕ → Type 0) (l k : Layout V)
+    (e : StretchEntry V) (key : Identifier) : Type 0 where
   pub are : AreStretches reaches k
   pub found : (q : Identifier) → value_in nth k q ≡ value_in nth l q
   pub head : KeepsEntry k.1 (up_to e key.counter)
@@ -205,4 +216,5 @@ pub record IsLastOf {V : Type 0} (P : StretchEntry V → Type 0) (replica : ℕ)
 -- the greatest counter of the replica in the stretches for which P holds
 pub record IsGreatestOf {V : Type 0} (P : StretchEntry V → Type 0) (replica : ℕ) (greatest : Option ℕ) : Type 0 where
   pub none : IfNone greatest (NoneOf P replica)
-  pub some : IfSome greatest (λ n. ((e : StretchEntry V) × P e × (e.0.replica ≡ replica) × (e.1.last ≡ n)) × ((f : StretchEntry V) → P f → f.0.replica ≡ replica → f.1.last ≤ n))
+  pub some : IfSome greatest (λ n. ((e : StretchEntry V) × P e × (e.0.replica ≡ replica) × (e.1.last ≡ n))
+      × ((f : StretchEntry V) → P f → f.0.replica ≡ replica → f.1.last ≤ n))

@@ -2,7 +2,7 @@
 ghost use Rattle.std.specs.Prelude.{◌≡◌, ◌+◌, ◌<◌, ◌≤◌, IfOk, IsFalse, IsOk, IsTrue, OnErr, OnOk};
 ghost use Rattle.std.specs.BTreeMap.{IsUnchanged};
 ghost use Rattle.stretch_map.specs.Contents.{StretchEntry, layout, value_at_id};
-ghost use Rattle.stretch_map.specs.Stretches.{AreStretches, Covers, EndsAt, IsSplit, IsLatest, IsSplitBefore, IsReachedByRule};
+ghost use Rattle.stretch_map.specs.Stretches.{AreStretches, Covers, EndsAt, IsSplit, IsLatest, IsSplitBehind, IsReachedByRule};
 ghost use Rattle.stretch_map.specs.Stretches.{IsSame, IsShorter, IsTakenFrom, IsTakenFromLatest, KeepsEntry, Loses};
 
 use crate::follows::Follows;
@@ -146,7 +146,7 @@ fn end_at<V: Follows>(
     requires are { AreStretches V.reaches (layout stretches.old) }
     requires there { KeepsEntry stretches.old.kept.entries (first, stretch.now) }
     requires covers { Covers (first, stretch.now) key }
-    ensures ok { OnOk result (IsSplitBefore V.nth V.reaches (layout stretches.old) (layout stretches.new)
+    ensures ok { OnOk result (IsSplitBehind V.nth V.reaches (layout stretches.old) (layout stretches.new)
         (first, stretch.now) key) }
     ensures err { OnErr result (layout stretches.new ≡ layout stretches.old) }
     ensures sure { stretch.now.last ≤ key.counter → IsOk result }

@@ -1,5 +1,6 @@
 -- Operations that are Ready in their turn are accepted in order by a replica at which nothing waits.
-use Rattle.version_views.proofs.Words.{Bool, Delete, Identifier, Lawful, List, None, Op, Option, Some, Text, [], ap, arith, false, id_of, length, ne_eqb, refl, subst, suc, sym, take, true, verdict, ℕ, ◌++◌, ◌+◌, ◌-◌, ◌<◌, ◌∙◌, ◌∷◌, ◌≡◌, ◌≤◌}
+use Rattle.version_views.proofs.Words.{Bool, Delete, Identifier, Lawful, List, Op, Option, Some, Text, [], ap, arith, id_of, length, ne_eqb, refl, subst, suc, sym, take, verdict}
+use Rattle.version_views.proofs.Words.{ℕ, ◌++◌, ◌+◌, ◌-◌, ◌<◌, ◌∙◌, ◌∷◌, ◌≡◌, ◌≤◌}
 use Rattle.std.proofs.Common.{append_assoc, length-append, min, reverse, zero}
 use Rattle.std.proofs.lemmas.List.{append-nil, reverse-append, take_min}
 use Rattle.std.proofs.Math.Seq.{take-append_seam}
@@ -8,7 +9,6 @@ use Rattle.origin_model.specs.declared.operations.Verdict.TheVariants.{Ready}
 use Rattle.origin_model.specs.edits.Edits.{ReadyInTurn, history_with}
 use Rattle.origin_model.specs.edits.Effect.{with_ops}
 use Rattle.origin_model.specs.edits.State.{State, IsSound}
-use Rattle.origin_model.specs.operations.Verdict.{id_held}
 use Rattle.origin_model.specs.taking.Taking.{Accepted, Held, IsSettled, answer, held_from, held_after}
 use Rattle.origin_model.proofs.edits.EditIntakeLemmas.{Comes, accepts, state_of, takes}
 use Rattle.origin_model.proofs.edits.MadeLemmas.{extended-append, extended_length, lawful_front, ready_front}

@@ -1,5 +1,6 @@
 -- Versions and views of small files, computed from the definitions. Histories are newest first.
-use Rattle.version_views.proofs.Words.{Delete, Identifier, List, None, Note, Op, Section, Some, Text, [], chain, chars, codes, false, is_utf8, manuscript, order, refl, true, ℕ, ◌++◌, ◌∷◌, ◌≡◌}
+use Rattle.version_views.proofs.Words.{Delete, Identifier, List, None, Note, Op, Section, Some, Text, [], chain, chars, codes, false, is_utf8, manuscript, order, refl, true, ℕ}
+use Rattle.version_views.proofs.Words.{◌++◌, ◌∷◌, ◌≡◌}
 use lib.Utf8.{encode}
 use Rattle.std.specs.List.{repeat}
 unfoldable use Rattle.std.specs.Fmt.{digits}

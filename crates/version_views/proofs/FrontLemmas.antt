@@ -1,5 +1,7 @@
 -- What the operations that were accepted first hold and hide, by the positions among all.
-use Rattle.version_views.proofs.Words.{Bool, Delete, Identifier, Lawful, List, None, Note, Op, Option, Section, Some, Text, [], ap, arith, cases_Bool, deletes, false, holder, if◌then◌else◌, inl, inr, is_hidden, length, length-append, refl, subst, sym, take, true, true≢false, verdict, ℕ, ◌++◌, ◌-◌, ◌<◌, ◌∙◌, ◌∷◌, ◌≡◌, ◌≤◌}
+use Rattle.version_views.proofs.Words.{Bool, Delete, Identifier, Lawful, List, None, Note, Op, Option, Section, Some, Text, [], ap, arith, cases_Bool, deletes, false, holder}
+use Rattle.version_views.proofs.Words.{if◌then◌else◌, inl, inr, is_hidden, length, length-append, refl, subst, sym, take, true, true≢false, verdict, ℕ, ◌++◌, ◌-◌, ◌<◌, ◌∙◌, ◌∷◌}
+use Rattle.version_views.proofs.Words.{◌≡◌, ◌≤◌}
 use Rattle.std.proofs.Common.{get_or, length-drop, reverse}
 use Rattle.std.specs.Prelude.{is_some, nat_lt, slice_get}
 use Rattle.std.proofs.lemmas.Option.{slice_get_cases}
@@ -43,8 +45,10 @@ within : (test : Op → Bool) (h : List Op) (n : ℕ) → length h ≤ n → is_
 within test [] n l = refl
 within test (op ∷ h) n l =
     elim (cases_Bool (test op)) [
-      | inl o ↦ ap (is_below n) (ap (step (length h) (newest_position test h)) o) ∙ lt-ltb (length h) n (omega (arith, l)) ∙ sym (ap is_some (ap (step (length h) (newest_position test h)) o))
-      | inr o ↦ ap (is_below n) (ap (step (length h) (newest_position test h)) o) ∙ within test h n (omega (arith, l)) ∙ sym (ap is_some (ap (step (length h) (newest_position test h)) o))
+      | inl o ↦ ap (is_below n) (ap (step (length h) (newest_position test h)) o) ∙ lt-ltb (length h) n (omega (arith, l))
+          ∙ sym (ap is_some (ap (step (length h) (newest_position test h)) o))
+      | inr o ↦ ap (is_below n) (ap (step (length h) (newest_position test h)) o) ∙ within test h n (omega (arith, l))
+          ∙ sym (ap is_some (ap (step (length h) (newest_position test h)) o))
     ]
 
 -- what passes among all does so in a back part where its position is below the number of that
@@ -53,7 +57,8 @@ below_back test [] h once = within test h (length h) (omega arith)
 below_back test (op ∷ new) h once =
     let at : Bool → Option ℕ = step (length (new ++ h)) (newest_position test (new ++ h)) in
     elim (cases_Bool (test op)) [
-      | inl o ↦ ap (is_below (length h)) (ap at o) ∙ le-ltb (length (new ++ h)) (length h) (omega (arith, length-append new h)) ∙ sym (ap is_some (none_behind test new h (once.0 o)))
+      | inl o ↦ ap (is_below (length h)) (ap at o) ∙ le-ltb (length (new ++ h)) (length h) (omega (arith, length-append new h))
+          ∙ sym (ap is_some (none_behind test new h (once.0 o)))
       | inr o ↦ ap (is_below (length h)) (ap at o) ∙ below_back test new h once.1
     ]
 
@@ -69,8 +74,10 @@ holder_back x (op ∷ new) h once e =
 -- an identifier is had once
 once_own : (x : Identifier) (h : List Op) → Lawful h → Once (is_own x) h
 once_own x [] w = tt
-once_own x (op ∷ older) w =
-    (λ o. is_some-false (newest_position (is_own x) older) (own_position older x ∙ ap (id_held older) (sym (own_id op x o)) ∙ (when_ready older op w.0).fresh), once_own x older w.1)
+once_own x (op ∷ older) w = (
+  λ o. is_some-false (newest_position (is_own x) older) (own_position older x ∙ ap (id_held older) (sym (own_id op x o)) ∙ (when_ready older op w.0).fresh),
+  once_own x older w.1,
+)
 
 -- and deleted once
 not_yet : (x : Identifier) (op : Op) (older : List Op) → verdict older op ≡ Ready → deletes x op ≡ true → is_hidden older x ≡ false
@@ -95,7 +102,8 @@ first_has : (test : Op → Bool) (n : ℕ) (h : List Op) → n ≤ length h → 
 first_has test n h l once =
     let f : List Op = first_ops n h in
     ap (λ k. is_below k (newest_position test h)) (sym (length-first n h l))
-    ∙ subst (λ whole. Once test whole → is_below (length f) (newest_position test whole) ≡ is_some (newest_position test f)) (parts n h) (below_back test (take (length h - n) h) f) once
+    ∙ subst (λ whole. Once test whole → is_below (length f) (newest_position test whole) ≡ is_some (newest_position test f)) (parts n h)
+    (below_back test (take (length h - n) h) f) once
 
 -- the operation at the position of an identifier is its holder
 held_at : (h : List Op) (x : Identifier) (k : ℕ) (op : Op) → newest_position (is_own x) h ≡ Some k → op ≡ get_or (reverse h) k op → (k < length h) × (Some op ≡ holder h x)
@@ -134,7 +142,8 @@ held_first n h x k op w l e below is =
     ∙ subst (λ whole. Once (is_own x) whole → holder whole x ≡ holder f x) (parts n h) (λ o. holder_back x (take (length h - n) h) f o has) once
 
 -- so it is what stands at the position
-pub get_first : (n : ℕ) (h : List Op) (x : Identifier) (k : ℕ) → Lawful h → n ≤ length h → newest_position (is_own x) h ≡ Some k → k < n → slice_get (reverse h) k ≡ holder (first_ops n h) x
+pub get_first : (n : ℕ) (h : List Op) (x : Identifier) (k : ℕ) → Lawful h → n ≤ length h → newest_position (is_own x) h ≡ Some k → k < n
+    → slice_get (reverse h) k ≡ holder (first_ops n h) x
 get_first n h x k w l e below =
     elim (slice_get_cases (reverse h) k).1 [
       | inl s ↦ s.2 ∙ held_first n h x k s.0 w l e below (sym s.3)

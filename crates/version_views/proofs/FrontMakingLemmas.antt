@@ -1,5 +1,6 @@
 -- A front is made of the operations that were accepted first, one after another; and these stay the first.
-use Rattle.version_views.proofs.Words.{Lawful, List, None, Op, Some, [], ap, arith, drop, length, refl, subst, sym, take, take-append-drop, ℕ, ◌+◌, ◌++◌, ◌-◌, ◌<◌, ◌∙◌, ◌∷◌, ◌≡◌, ◌≤◌}
+use Rattle.version_views.proofs.Words.{Lawful, List, None, Op, Some, [], ap, arith, drop, length, refl, subst, sym, take, take-append-drop, ℕ, ◌+◌, ◌++◌, ◌-◌, ◌<◌, ◌∙◌, ◌∷◌, ◌≡◌}
+use Rattle.version_views.proofs.Words.{◌≤◌}
 use Rattle.std.proofs.Common.{append_assoc, length-drop, length-take, reverse}
 use Rattle.std.proofs.lemmas.Bool.{le-ltb, lt-ltb}
 use Rattle.std.proofs.lemmas.List.{length-reverse, reverse-append, reverse-reverse}
@@ -41,10 +42,12 @@ pub front_is : (n : ℕ) (s begun new : State) → begun ≡ record (replica_at 
     → new ≡ with_ops begun (take n (reverse s.held.history)) → new ≡ replica_at n s
 front_is n s begun new b e =
     let first : List Op = take n (reverse s.held.history) in
-    e ∙ ap (λ (t : State). with_ops t first) b ∙ ap (λ h. record (replica_at n s) { held = record { history = h; waiting = [] } }) (from_nothing first ∙ first_taken n s.held.history)
+    e ∙ ap (λ (t : State). with_ops t first) b ∙ ap (λ h. record (replica_at n s) { held = record { history = h; waiting = [] } })
+    (from_nothing first ∙ first_taken n s.held.history)
 
 -- the replica that holds nothing yet can accept them
-pub first_can : (n : ℕ) (s begun : State) → n ≤ length s.held.history → IsSound s → IsSound begun → begun ≡ record (replica_at n s) { held = nothing_held } → CanAccept begun (take n (reverse s.held.history))
+pub first_can : (n : ℕ) (s begun : State) → n ≤ length s.held.history → IsSound s → IsSound begun → begun ≡ record (replica_at n s) { held = nothing_held }
+    → CanAccept begun (take n (reverse s.held.history))
 first_can n s begun l st stands b =
     let first : List Op = take n (reverse s.held.history) in
     let lawful : Lawful (history_with [] first) = subst Lawful (sym (from_nothing first)) (first_lawful n s.held.history st.lawful) in

@@ -1,5 +1,6 @@
 -- The versions of a file, one by one: each is given by an operation, and each that is given is there.
-use Rattle.version_views.proofs.Words.{Bool, List, None, Op, Option, Some, [], ap, arith, cases_Bool, eq-eqb, false, if◌then◌else◌, inl, inr, length, nat_eq, ne_eqb, option_map, option_to_list, refl, subst, sym, ℕ, ◌<◌, ◌∙◌, ◌∷◌, ◌≡◌}
+use Rattle.version_views.proofs.Words.{Bool, List, None, Op, Option, Some, [], ap, arith, cases_Bool, eq-eqb, false, if◌then◌else◌, inl, inr, length, nat_eq, ne_eqb, option_map}
+use Rattle.version_views.proofs.Words.{option_to_list, refl, subst, sym, ℕ, ◌<◌, ◌∙◌, ◌∷◌, ◌≡◌}
 use Rattle.std.specs.List.{Contains}
 use Rattle.std.proofs.lemmas.Bool.{eqb-true}
 use Rattle.std.proofs.lemmas.List.Elements.{Contains-append_cases, Contains-append_left, Contains-append_right}
@@ -66,14 +67,16 @@ is_there r history (op ∷ older) v n =
           let is : Some op ≡ Some n.op = sym (ap (step op older v.count) k) ∙ n.stands in
           let same : op ≡ n.op = cc in
           let name : name_in r history op ≡ Some v.name = ap (name_in r history) same ∙ n.named in
-          let here : Contains (one (length older) (Some v.name)) v = subst (λ m. Contains (record { name = v.name; count = m } ∷ []) v) (sym (eqb-true (length older) v.count k)) (contains_here v []) in
+          let here : Contains (one (length older) (Some v.name)) v =
+          subst (λ m. Contains (record { name = v.name; count = m } ∷ []) v) (sym (eqb-true (length older) v.count k)) (contains_here v []) in
           Contains-append_right (versions_up_to r history older) (one (length older) (name_in r history op)) v (subst (λ o. Contains (one (length older) o) v) (sym name) here)
       | inr k ↦ Contains-append_left (versions_up_to r history older) (one (length older) (name_in r history op)) v
           (is_there r history older v (record { op = n.op; stands = sym (ap (step op older v.count) k) ∙ n.stands; named = n.named }))
     ]
 
 pub versions_are_given : VersionsAreGiven
-versions_are_given h r v = ((λ c. by_names (names_it r h h v c)), (λ g. is_there r h h v (record { op = g.op; stands = g.stands; named = ap (named_by r g.op) g.not_withdrawn ∙ g.gives })))
+versions_are_given h r v =
+    ((λ c. by_names (names_it r h h v c)), (λ g. is_there r h h v (record { op = g.op; stands = g.stands; named = ap (named_by r g.op) g.not_withdrawn ∙ g.gives })))
   where
     by_names : Names r h h v → GivesName h r v
     by_names n =

@@ -1,5 +1,6 @@
 -- The lines of versions, one operation after the other, the oldest first.
-use Rattle.version_views.proofs.Words.{List, false, None, Op, Option, Some, [], ap, append-nil, arith, flat_map, length, option_map, option_to_list, refl, suc, sym, ℕ, ◌++◌, ◌+◌, ◌<◌, ◌∙◌, ◌∷◌, ◌≡◌}
+use Rattle.version_views.proofs.Words.{List, false, None, Op, Option, Some, [], ap, append-nil, arith, flat_map, length, option_map, option_to_list, refl, suc, sym, ℕ, ◌++◌, ◌+◌}
+use Rattle.version_views.proofs.Words.{◌<◌, ◌∙◌, ◌∷◌, ◌≡◌}
 use Rattle.std.specs.Prelude.{slice_get}
 use Rattle.std.proofs.Common.{append_assoc, drop, drop-cons, get_or, reverse}
 use Rattle.std.proofs.lemmas.List.{length-reverse, reverse-append}
@@ -56,11 +57,13 @@ pub line_next : (r : ℕ) (h : List Op) (n : ℕ) (op : Op) → n < length (reve
     → lines_from r h (drop n (reverse h)) n ≡ line_at r h n ++ lines_from r h (drop (n + 1) (reverse h)) (n + 1)
 line_next r h n op below is there =
     next_line r h (reverse h) n op below is
-    ∙ ap (λ (o : Option (List ℕ)). (elim o [ None ↦ [] | Some name ↦ version_line (record { name = name; count = n }) ]) ++ lines_from r h (drop (n + 1) (reverse h)) (n + 1)) (sym (name_there r h n op there))
+    ∙ ap (λ (o : Option (List ℕ)). (elim o [ None ↦ [] | Some name ↦ version_line (record { name = name; count = n }) ]) ++ lines_from r h (drop (n + 1) (reverse h)) (n + 1))
+    (sym (name_there r h n op there))
 
 -- where it has none they are those behind it
 pub no_line : (r : ℕ) (h ops : List Op) (n : ℕ) (op : Op) → n < length ops → op ≡ get_or ops n op → is_section_or_note op ≡ false
     → lines_from r h (drop n ops) n ≡ lines_from r h (drop (n + 1) ops) (n + 1)
 no_line r h ops n op below is other =
     next_line r h ops n op below is
-    ∙ ap (λ (o : Option (List ℕ)). (elim o [ None ↦ [] | Some name ↦ version_line (record { name = name; count = n }) ]) ++ lines_from r h (drop (n + 1) ops) (n + 1)) (no_name r h op other)
+    ∙ ap (λ (o : Option (List ℕ)). (elim o [ None ↦ [] | Some name ↦ version_line (record { name = name; count = n }) ]) ++ lines_from r h (drop (n + 1) ops) (n + 1))
+    (no_name r h op other)

@@ -1,5 +1,6 @@
 -- A version that is named counts at once; and it is refused exactly where its note is.
-use Rattle.version_views.proofs.Words.{List, None, Note, Op, Some, [], ap, eq-eqb, false, if◌then◌else◌, is_hidden, Lawful, length, nat_eq, pointwise, refl, subst, sym, true, Identifier, ℕ, ◌&&◌, ◌∙◌, ◌∷◌, ◌≡◌}
+use Rattle.version_views.proofs.Words.{List, None, Note, Op, Some, [], ap, eq-eqb, false, if◌then◌else◌, is_hidden, Lawful, length, nat_eq, pointwise, refl, subst, sym, true}
+use Rattle.version_views.proofs.Words.{Identifier, ℕ, ◌&&◌, ◌∙◌, ◌∷◌, ◌≡◌}
 use Rattle.std.specs.Prelude.{◌≢◌, Err, Ok, Result}
 use Rattle.std.proofs.lemmas.Cmp.{nat_list_eq_equiv}
 use Rattle.origin_model.specs.declared.edit_fault.EditFault.{EditFault}

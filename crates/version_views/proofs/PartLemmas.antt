@@ -1,6 +1,7 @@
 -- A view, by the parts that the elements of today's lists add.
-use Rattle.version_views.proofs.Words.{Bool, Identifier, Lawful, List, None, Op, Option, Place, Some, [], ap, codes, cond, false, filter, flat_map, holder, holds, if◌then◌else◌, is_hidden, length, manuscript, not, order, refl, shown, subst, sym, take, true, ℕ, ◌&&◌, ◌++◌, ◌-◌, ◌∙◌, ◌∷◌, ◌≡◌}
-use Rattle.std.specs.Prelude.{Err, IfSome, IsSome, Ok, is_some, option_map}
+use Rattle.version_views.proofs.Words.{Bool, Identifier, Lawful, List, None, Op, Option, Place, Some, [], ap, codes, cond, false, filter, flat_map, holder, holds, if◌then◌else◌}
+use Rattle.version_views.proofs.Words.{is_hidden, length, manuscript, not, order, refl, shown, subst, sym, take, true, ℕ, ◌&&◌, ◌++◌, ◌-◌, ◌∙◌, ◌∷◌, ◌≡◌}
+use Rattle.std.specs.Prelude.{Err, IfSome, Ok, is_some}
 use Rattle.std.specs.Str.{encode_utf8_all}
 use Rattle.fugue_ids.proofs.TextLemmas.{encode-parts}
 use Rattle.origin_model.specs.declared.operations.Place.TheVariants.{Catalogue as catalogue, Section as within}
@@ -24,14 +25,17 @@ parts_kept : (test : Identifier → Bool) (part all : Identifier → List ℕ) �
 parts_kept test part all each [] = refl
 parts_kept test part all each (x ∷ xs) =
     ap (λ t. t ++ flat_map part xs) (each x) ∙ ap (λ t. (if test x then all x else []) ++ t) (parts_kept test part all each xs)
-    ∙ elim (test x) as (λ (b : Bool). (if b then all x else []) ++ flat_map all (filter test xs) ≡ flat_map all (cond b (x ∷ filter test xs) (filter test xs))) [ true ↦ refl | false ↦ refl ]
+    ∙ elim (test x) as (λ (b : Bool). (if b then all x else []) ++ flat_map all (filter test xs) ≡ flat_map all (cond b (x ∷ filter test xs) (filter test xs)))
+    [ true ↦ refl | false ↦ refl ]
 
 -- an element adds its scalar where it is shown
 scalar_kept : (h : List Op) (x : Identifier) → scalar_part h x ≡ (if is_shown h x then encode_utf8_all (scalar_of (holder h x)) else [])
 scalar_kept h x =
-    elim (is_hidden h x) as (λ (b : Bool). encode_utf8_all (scalar_of (if b then None else holder h x)) ≡ (if holds h x && not b then encode_utf8_all (scalar_of (holder h x)) else [])) [
+    elim (is_hidden h x) as
+    (λ (b : Bool). encode_utf8_all (scalar_of (if b then None else holder h x)) ≡ (if holds h x && not b then encode_utf8_all (scalar_of (holder h x)) else [])) [
       | true ↦ elim (holder h x) as (λ (o : Option Op). [] ≡ (if is_some o && false then encode_utf8_all (scalar_of o) else [])) [ None ↦ refl | Some op ↦ refl ]
-      | false ↦ elim (holder h x) as (λ (o : Option Op). encode_utf8_all (scalar_of o) ≡ (if is_some o && true then encode_utf8_all (scalar_of o) else [])) [ None ↦ refl | Some op ↦ refl ]
+      | false ↦ elim (holder h x) as (λ (o : Option Op). encode_utf8_all (scalar_of o) ≡ (if is_some o && true then encode_utf8_all (scalar_of o) else []))
+          [ None ↦ refl | Some op ↦ refl ]
     ]
 
 -- and so does a section what is printed of it
@@ -77,7 +81,8 @@ section_shown h x op e =
     ∙ ap (λ (o : Option Op). elim o [ None ↦ [] | Some q ↦ printed_section h x ]) e
 
 -- and of one whose elements add the text
-pub section_put : (n : ℕ) (h : List Op) (x : Identifier) (op : Op) (title : List ℕ) (ids : List Identifier) → Lawful h → title ≡ encode_utf8_all (title_of (Some op)) → ids ≡ order (within x) h
+pub section_put : (n : ℕ) (h : List Op) (x : Identifier) (op : Op) (title : List ℕ) (ids : List Identifier) → Lawful h → title ≡ encode_utf8_all (title_of (Some op))
+    → ids ≡ order (within x) h
     → Some op ≡ shown_holder (first_ops n h) x
     → (codes "# " ++ title ++ 10 ∷ []) ++ (flat_map (scalar_part (first_ops n h)) ids ++ 10 ∷ []) ≡ section_part (first_ops n h) x
 section_put n h x op title ids w t e s =

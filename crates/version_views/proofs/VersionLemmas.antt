@@ -1,5 +1,7 @@
 -- The version with a name, found from the newest operation on, and what later operations leave of it.
-use Rattle.version_views.proofs.Words.{All, All-head, All-tail, All-weaker, Bool, Identifier, List, None, Op, Option, Some, [], ap, append-nil, arith, cases_Bool, deletes, eq-eqb, false, id_of, if◌then◌else◌, inl, inr, is_hidden, length, nat_eq, ne_eqb, not, option_map, option_to_list, pointwise, refl, sym, true, true≢false, ℕ, ◌&&◌, ◌++◌, ◌<◌, ◌∙◌, ◌∷◌, ◌≡◌, ◌||◌}
+use Rattle.version_views.proofs.Words.{All, All-head, All-tail, All-weaker, Bool, Identifier, List, None, Op, Option, Some, [], ap, append-nil, arith, cases_Bool, deletes, eq-eqb}
+use Rattle.version_views.proofs.Words.{false, id_of, if◌then◌else◌, inl, inr, is_hidden, length, nat_eq, ne_eqb, not, option_map, option_to_list, pointwise, refl, sym, true}
+use Rattle.version_views.proofs.Words.{true≢false, ℕ, ◌&&◌, ◌++◌, ◌<◌, ◌∙◌, ◌∷◌, ◌≡◌, ◌||◌}
 use Rattle.std.proofs.Common.{get_or, reverse, ◌+◌}
 use Rattle.std.proofs.lemmas.Bool.{not-true, or_right}
 use Rattle.std.specs.Prelude.{option_and_then, slice_get}
@@ -8,7 +10,8 @@ use Rattle.version_views.proofs.Words.{Delete, Note, Section, Text, take}
 use Rattle.replica_core.specs.Index.{is_section_or_note}
 use Rattle.replica_core.proofs.WalkLemmas.{passed_more}
 use Rattle.version_views.specs.Laws.{LaterOpsLeaveVersion, LaterOpsLeaveWritten, VersionIsWithin, leaves_version}
-use Rattle.version_views.specs.Versions.{Version, is_version, is_version_at, is_withdrawn_version, last_named, name_given, name_in, name_in_at, op_behind, version_with, versions_up_to, withdraws, withdraws_note}
+use Rattle.version_views.specs.Versions.{Version, is_version, is_version_at, is_withdrawn_version, last_named, name_given, name_in, name_in_at, op_behind, version_with}
+use Rattle.version_views.specs.Versions.{versions_up_to, withdraws, withdraws_note}
 use Rattle.version_views.specs.Views.{view}
 use Rattle.version_views.proofs.ViewLemmas.{later_ops_leave_view}
 
@@ -25,7 +28,8 @@ last_named-push : (name : List ℕ) (vs : List Version) (v : Version)
 last_named-push name [] v = refl
 last_named-push name (w ∷ vs) v =
     ap (before_last name w) (last_named-push name vs v)
-    ∙ elim (pointwise nat_eq v.name name) as (λ (b : Bool). before_last name w (if b then Some v else last_named name vs) ≡ (if b then Some v else last_named name (w ∷ vs))) [ true ↦ refl | false ↦ refl ]
+    ∙ elim (pointwise nat_eq v.name name) as (λ (b : Bool). before_last name w (if b then Some v else last_named name vs) ≡ (if b then Some v else last_named name (w ∷ vs)))
+    [ true ↦ refl | false ↦ refl ]
 
 -- the newest operation that is a version with the name: how many are before it
 abbrev pub newest : ℕ → List Op → List ℕ → List Op → Option ℕ
@@ -151,7 +155,8 @@ newest_stays r new h name (op ∷ older) f =
     ]
 
 -- operations of which none is a version with the name are passed over
-passed_over : (r : ℕ) (h : List Op) (name : List ℕ) (front back : List Op) → All (λ op. is_version r h name op ≡ false) front → newest r h name (front ++ back) ≡ newest r h name back
+passed_over : (r : ℕ) (h : List Op) (name : List ℕ) (front back : List Op) → All (λ op. is_version r h name op ≡ false) front
+    → newest r h name (front ++ back) ≡ newest r h name back
 passed_over r h name [] back a = refl
 passed_over r h name (op ∷ front) back a =
     ap (λ b. if b then Some (length (front ++ back)) else newest r h name (front ++ back)) (All-head (λ o. is_version r h name o ≡ false) op front a)

@@ -1,10 +1,9 @@
 -- What the operations that were accepted first have, read off the lists of all.
-use Rattle.version_views.proofs.Words.{Bool, Identifier, Lawful, List, Op, [], ap, arith, drop, filter, holds, has_op, is_hidden, length, length-append, manuscript, not, order, refl, subst, sym, take, take-append-drop, true, ℕ, ◌++◌, ◌+◌, ◌-◌, ◌∙◌, ◌∷◌, ◌≡◌, ◌≤◌, false}
+use Rattle.version_views.proofs.Words.{Bool, Identifier, Lawful, List, Op, [], ap, arith, drop, filter, holds, is_hidden, length, length-append, manuscript, not, order, refl}
+use Rattle.version_views.proofs.Words.{subst, sym, take, take-append-drop, true, ℕ, ◌++◌, ◌+◌, ◌-◌, ◌∙◌, ◌∷◌, ◌≡◌, ◌≤◌, false}
 use Rattle.fugue_ids.proofs.ListLemmas.{filter-both}
-use Rattle.origin_model.proofs.SharedLemmas.{has-append, Lawful-append, part_at_end, parts_keep_order}
+use Rattle.origin_model.proofs.SharedLemmas.{Lawful-append, part_at_end, parts_keep_order}
 use Rattle.std.proofs.Math.Seq.{drop-append-add}
-use Rattle.origin_model.specs.order.Laws.{IsPartOf}
-use Rattle.std.proofs.lemmas.Bool.{or_right}
 use Rattle.version_views.specs.Laws.{FirstByFilter, LaterOpsLeaveView, OrderByFilter, ShownByFilter}
 use Rattle.std.specs.Prelude.{Some, if◌then◌else◌, is_some, ◌||◌}
 use Rattle.origin_model.specs.order.Printed.{deletes}

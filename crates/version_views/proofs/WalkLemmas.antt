@@ -1,5 +1,6 @@
 -- A walk along a list that has each element once, by what follows an element.
-use Rattle.version_views.proofs.Words.{Bool, Identifier, List, None, Option, Some, [], ap, arith, cases_Bool, false, flat_map, if◌then◌else◌, inl, inr, length, refl, subst, suc, sym, true, true≢false, ℕ, ◌++◌, ◌<◌, ◌∙◌, ◌∷◌, ◌≡◌}
+use Rattle.version_views.proofs.Words.{Bool, Identifier, List, None, Option, Some, [], ap, arith, cases_Bool, false, flat_map, if◌then◌else◌, inl, inr, length, refl, subst, suc}
+use Rattle.version_views.proofs.Words.{sym, true, true≢false, ℕ, ◌++◌, ◌<◌, ◌∙◌, ◌∷◌, ◌≡◌}
 use Rattle.std.specs.Prelude.{IfSome, ◌≢◌, ◌⊎◌}
 use Rattle.std.specs.List.{All, AllPairs, Contains}
 use Rattle.std.proofs.lemmas.List.Elements.{All-contains}

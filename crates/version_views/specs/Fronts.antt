@@ -55,7 +55,8 @@ PartsGrow = (old new : State) (ops : List Op) → StopsPartly old new ops → Gr
 
 -- what a note leaves has the old history at its beginning
 abbrev pub NotesGrow : Type 0
-NotesGrow = (old new : State) (named : List Identifier) (code : ℕ) (body : List ℕ) (n : ℕ) → IsNoted old new named code body n → GrowsHistory old.held.history new.held.history
+NotesGrow = (old new : State) (named : List Identifier) (code : ℕ) (body : List ℕ) (n : ℕ) → IsNoted old new named code body n
+    → GrowsHistory old.held.history new.held.history
 
 -- so the first operations are the same ones later
 abbrev pub FirstStay : Type 0

@@ -1,5 +1,6 @@
 -- Laws of versions and views.
-use Rattle.std.specs.Prelude.{◌≡◌, ◌↔◌, ◌<◌, ◌≤◌, ℕ, Option, Some, Bool, true, false, not, ◌&&◌, All, Contains, List, ◌++◌, filter, length, option_map}
+use Rattle.std.specs.Prelude.{◌≡◌, ◌↔◌, ◌<◌, ◌≤◌, ℕ, Option, Some, Bool, true, false, not, ◌&&◌, All, Contains, List, ◌++◌, filter, length}
+use Rattle.std.specs.Prelude.{option_map}
 use Rattle.fugue_ids.specs.Identifiers.{Identifier}
 use Rattle.fugue_ids.specs.declared.op.Op.{Op}
 use Rattle.origin_model.specs.declared.operations.Place.{Place}
@@ -7,7 +8,8 @@ use Rattle.origin_model.specs.operations.History.{holds}
 use Rattle.origin_model.specs.operations.Verdict.{Lawful}
 use Rattle.origin_model.specs.order.Order.{order}
 use Rattle.origin_model.specs.order.Printed.{is_hidden, shown}
-use Rattle.version_views.specs.Versions.{Version, is_version, is_withdrawn_version, name_given, op_behind, version_with, versions, withdraws}
+use Rattle.version_views.specs.Versions.{Version, is_version, is_withdrawn_version, name_given, op_behind, version_with, versions}
+use Rattle.version_views.specs.Versions.{withdraws}
 use Rattle.version_views.specs.Views.{first_ops, view}
 
 -- the order of the operations that were accepted first is that of all, without what they lack

@@ -1,7 +1,8 @@
 -- When a version is not named.
 use Rattle.std.specs.Prelude.{◌≡◌, ◌≢◌, ◌↔◌, ℕ, Some, Result, Err}
 use Rattle.origin_model.specs.declared.edit_fault.EditFault.{EditFault}
-use Rattle.origin_model.specs.declared.edit_fault.EditFault.TheVariants.{IdsSpent as NoteIdsSpent, NoMemory as NoteNoMemory, NoSection, OutOfRange, TooMany as NoteTooMany}
+use Rattle.origin_model.specs.declared.edit_fault.EditFault.TheVariants.{IdsSpent as NoteIdsSpent, NoMemory as NoteNoMemory, NoSection}
+use Rattle.origin_model.specs.declared.edit_fault.EditFault.TheVariants.{OutOfRange, TooMany as NoteTooMany}
 use Rattle.origin_model.specs.edits.Noting.{note_refusal}
 use Rattle.origin_model.specs.edits.State.{State}
 use Rattle.version_views.specs.declared.naming.VersionFault.{VersionFault}

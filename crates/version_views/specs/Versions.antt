@@ -1,5 +1,6 @@
 -- Named versions of a file: notes of code 4 without names, made by the file's own replica. A history is newest first.
-use Rattle.std.specs.Prelude.{ℕ, nat_eq, Option, Some, None, Bool, false, if◌then◌else◌, ◌&&◌, List, [], ◌∷◌, ◌++◌, length, option_and_then, option_map, option_to_list, slice_get}
+use Rattle.std.specs.Prelude.{ℕ, nat_eq, Option, Some, None, Bool, false, if◌then◌else◌, ◌&&◌, List, [], ◌∷◌, ◌++◌, length, option_and_then}
+use Rattle.std.specs.Prelude.{option_map, option_to_list, slice_get}
 use Rattle.fugue_ids.specs.Ops.{id_of}
 use Rattle.fugue_ids.specs.Titles.{is_line}
 use Rattle.fugue_ids.specs.declared.op.Op.{Op}
@@ -38,7 +39,9 @@ name_in_at r history n = option_and_then (name_in r history) (slice_get (accepte
 -- those of the oldest operations, where the whole history tells what is withdrawn
 abbrev pub versions_up_to : ℕ → List Op → List Op → List Version
 versions_up_to r history [] = []
-versions_up_to r history (op ∷ older) = versions_up_to r history older ++ option_to_list (option_map (λ name. record { name = name; count = length older }) (name_in r history op))
+versions_up_to r history (op ∷ older) =
+    versions_up_to r history older ++ option_to_list
+    (option_map (λ name. record { name = name; count = length older }) (name_in r history op))
 
 -- the versions of a file of the replica r, in the order in which they were named
 abbrev pub versions : List Op → ℕ → List Version

@@ -11,7 +11,7 @@ ghost use Rattle.origin_model.specs.edits.State.{IsSound};
 ghost use Rattle.origin_model.specs.operations.History.{holder};
 ghost use Rattle.origin_model.specs.order.Order.{order};
 ghost use Rattle.origin_model.specs.order.Printed.{is_hidden as hidden_in, scalar_of, title_of};
-ghost use Rattle.section_list.specs.Cells.{section_cell_ids};
+ghost use Rattle.run_store.specs.Cells.{cell_ids};
 ghost use Rattle.version_views.specs.Views.{first_ops, scalar_part, section_part, shown_holder, view};
 
 use fugue_ids::{ElementId, Failed, Gather, NoMemory, Op, OpKey, Out};
@@ -112,9 +112,9 @@ fn put_elements<O: Out>(
     list: &SectionList,
 ) -> Result<(), Failed>
     requires first { n ≤ length replica.now.held.history }
-    requires once { AllPairs (λ x y. x ≢ y) (section_cell_ids list.now.cells) }
+    requires once { AllPairs (λ x y. x ≢ y) (cell_ids list.now.cells) }
     ensures { GathersText (O.seen output.old) (O.seen output.new) gather.old gather.new result
-        (flat_map (scalar_part (first_ops n replica.now.held.history)) (section_cell_ids list.now.cells)) }
+        (flat_map (scalar_part (first_ops n replica.now.held.history)) (cell_ids list.now.cells)) }
 {
     let mut next = list.after(None);
     'elements: while let Some(id) = next {
@@ -127,7 +127,7 @@ fn put_elements<O: Out>(
 /// The elements of a section, hidden ones too.
 fn elements_of(replica: &Replica, section: ElementId) -> &SectionList
     requires { Contains (order catalogue replica.now.held.history) section }
-    ensures elements { section_cell_ids result.now.cells ≡ order (within section) replica.now.held.history }
+    ensures elements { cell_ids result.now.cells ≡ order (within section) replica.now.held.history }
     ensures stands { IsSound replica.now }
 {
     let list = replica.places().section(section).unwrap();

@@ -6,7 +6,7 @@ use Rattle.std.proofs.lemmas.Bool.{cases_lt}
 use Rattle.std.specs.Prelude.{min, replicate}
 use Rattle.outer_ports.specs.disk.States.{DiskState, IsFree, IsCrashImage, IsHonest, SameOutside}
 use Rattle.outer_ports.proofs.SharedLemmas.{IsOutside, same_byte, same_outside}
-use Rattle.memory_ports.specs.disk.Picks.{range_filled, picked_byte, padded_bytes, image_picked}
+use Rattle.memory_ports.specs.disk.Picks.{range_filled, ranges_filled, padded_bytes, image_picked}
 use Rattle.memory_ports.specs.declared.disk.mem_disk.Pick.{Pick}
 use Rattle.memory_ports.specs.declared.disk.mem_disk.Pick.TheVariants.{Old, New, Fill}
 
@@ -20,13 +20,13 @@ range_filled_same at n byte bytes =
     subst (λ k. SameOutside (min at (length bytes)) k bytes (range_filled at n byte bytes)) (length-replicate (min n (length bytes - at)) byte)
     (same_outside (min at (length bytes)) (replicate (min n (length bytes - at)) byte) bytes (omega arith))
 
-pub filled_long : (ranges : List (ℕ × ℕ)) (byte : ℕ) (bytes : List ℕ) → length (picked_byte ranges byte bytes) ≡ length bytes
+pub filled_long : (ranges : List (ℕ × ℕ)) (byte : ℕ) (bytes : List ℕ) → length (ranges_filled ranges byte bytes) ≡ length bytes
 filled_long [] byte bytes = refl
 filled_long (range ∷ ranges) byte bytes =
     let same = range_filled_same range.0 range.1 byte bytes in
     filled_long ranges byte (range_filled range.0 range.1 byte bytes) ∙ omega (arith, same.no_shorter, same.no_longer)
 
-pub filled_free : (ranges : List (ℕ × ℕ)) (byte : ℕ) (bytes : List ℕ) (i : ℕ) → IsFree ranges i → get_or (picked_byte ranges byte bytes) i 0 ≡ get_or bytes i 0
+pub filled_free : (ranges : List (ℕ × ℕ)) (byte : ℕ) (bytes : List ℕ) (i : ℕ) → IsFree ranges i → get_or (ranges_filled ranges byte bytes) i 0 ≡ get_or bytes i 0
 filled_free [] byte bytes i free = refl
 filled_free (range ∷ ranges) byte bytes i free =
     filled_free ranges byte (range_filled range.0 range.1 byte bytes) i (All-tail (IsOutside i) range ranges free)
@@ -47,7 +47,8 @@ picked_image New s honest fits =
       same = λ i below free. get_or_append_left s.seen (replicate (s.longest - length s.seen) 0) 0 i (omega (arith, below, honest.no_shorter)) ∙ honest.same i below free;
     }
 picked_image (Fill byte) s honest fits =
-    let long : length (picked_byte s.ranges byte (padded_bytes s.longest byte s.base)) ≡ s.longest = filled_long s.ranges byte (padded_bytes s.longest byte s.base) ∙ padded_long s.longest byte s.base fits in
+    let long : length (ranges_filled s.ranges byte (padded_bytes s.longest byte s.base)) ≡ s.longest =
+    filled_long s.ranges byte (padded_bytes s.longest byte s.base) ∙ padded_long s.longest byte s.base fits in
     record {
       no_shorter = omega (arith, long, fits);
       no_longer = omega (arith, long);

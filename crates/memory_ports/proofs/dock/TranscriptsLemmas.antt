@@ -74,7 +74,8 @@ module _ (transcripts : List TranscriptView) (session : ℕ) where
       option_or_none None = refl
       option_or_none (Some transcript) = refl
 
-  pub sent_more : (new : TranscriptView) → log_of transcripts session ≡ None → new.session ≡ session → new.bytes ≡ [] → (s : ℕ) → sent_by (transcripts ++ new ∷ []) s ≡ sent_by transcripts s
+  pub sent_more : (new : TranscriptView) → log_of transcripts session ≡ None → new.session ≡ session → new.bytes ≡ [] → (s : ℕ)
+      → sent_by (transcripts ++ new ∷ []) s ≡ sent_by transcripts s
   sent_more new none is empty s = elim (cases_eq s session) [
     | inl it ↦ rw it (ap sent_in (log_more new none is) ∙ empty ∙ ap sent_in (sym none))
     | inr other ↦ ap sent_in (others_more new s is other)

@@ -40,7 +40,8 @@ pub record MemLooks {E T : Type 0} (asked old new : MemDiskView) (result : Resul
 -- writes as calls are listed can fail behind it, and then nothing is done. One that is taken leaves memory for those.
 pub record MemSteps {E T : Type 0} (n : ℕ) (next : History) (old new : MemDiskView) (result : Result T E) : Type 0 where
   pub fails : FailsNext old.calls → IsErr result
-  pub taken : OnOk result (new ≡ record old { past = next; calls = call_passed old.calls; ready = length old.calls.listed; room = new.room })
+  pub taken : OnOk result
+      (new ≡ record old { past = next; calls = call_passed old.calls; ready = length old.calls.listed; room = new.room })
   pub counts : OnErr result (new.calls ≡ call_failed old.calls)
   pub wanting : OnErr result (FailsNext old.calls ⊎ (new ≡ record old { calls = call_failed old.calls }))
   pub short : OnErr result (FailsNext old.calls ⊎ (old.room < n) ⊎ (old.ready ≤ length old.calls.listed))
@@ -49,7 +50,11 @@ pub record MemSteps {E T : Type 0} (n : ℕ) (next : History) (old new : MemDisk
 pub record MemDiskWrites {E T : Type 0} (old new : MemDiskView) (result : Result T E) (at : ℕ) (bytes : List ℕ) : Type 0 where
   pub steps : MemSteps (length bytes) (history_after_step (wrote at bytes) old.past) old new result
   pub torn : FailsNext old.calls → 0 < old.ready
-      → new ≡ record old { past = history_after_step (tried_state at (length bytes)) old.past; calls = call_failed old.calls; ready = old.ready - 1 }
+      → new ≡ record old {
+        past = history_after_step (tried_state at (length bytes)) old.past;
+        calls = call_failed old.calls;
+        ready = old.ready - 1;
+      }
   pub may_tear : FailsNext old.calls → (new.past ≡ old.past) ⊎ (new.past ≡ history_after_step (tried_state at (length bytes)) old.past)
 
 -- a sync that fails does nothing

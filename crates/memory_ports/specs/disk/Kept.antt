@@ -5,7 +5,7 @@ use Rattle.outer_ports.specs.disk.Moments.{History, history_after_step}
 use Rattle.memory_ports.specs.declared.disk.kept.Step.{Step}
 use Rattle.memory_ports.specs.declared.disk.kept.Step.TheVariants.{Wrote, Tried, Synced}
 
--- what contracts see of a disk in memory that plays steps
+-- what contracts see of a file in memory that keeps its past as steps
 pub record KeptView : Type 0 where
   pub past : History
   -- how many bytes the next steps together write at most
@@ -31,11 +31,11 @@ step_of (Tried at n) bytes s = tried_state at n s
 step_of Synced bytes s = durable s
 
 -- the steps, the oldest first, with all bytes that they wrote one behind the other
-abbrev pub replayed_steps : List Step → List ℕ → History → History
-replayed_steps [] written h = h
-replayed_steps (step ∷ steps) written h =
-    replayed_steps steps (drop (written_by step) written) (history_after_step (step_of step (take (written_by step) written)) h)
+abbrev pub replayed_history : List Step → List ℕ → History → History
+replayed_history [] written h = h
+replayed_history (step ∷ steps) written h =
+    replayed_history steps (drop (written_by step) written) (history_after_step (step_of step (take (written_by step) written)) h)
 
 -- the states of a disk that began with these bytes and took these steps
-abbrev pub past_images : List ℕ → List Step → List ℕ → History
-past_images first steps written = replayed_steps steps written (record { last = at_rest first; before = [] })
+abbrev pub past_after_steps : List ℕ → List Step → List ℕ → History
+past_after_steps first steps written = replayed_history steps written (record { last = at_rest first; before = [] })

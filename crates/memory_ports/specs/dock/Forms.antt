@@ -1,5 +1,6 @@
 -- The docks in memory, as contracts see them, and what a call does to each.
-use Rattle.std.specs.Prelude.{◌≡◌, ◌⊎◌, ◌↔◌, ℕ, ◌-◌, ◌<◌, min, if◌then◌else◌, List, [], ◌∷◌, ◌++◌, length, take, Some, Result, IsErr, IfOk, OnOk, OnErr}
+use Rattle.std.specs.Prelude.{◌≡◌, ◌⊎◌, ◌↔◌, ℕ, ◌-◌, ◌<◌, min, if◌then◌else◌, List, [], ◌∷◌, ◌++◌, length, take, Some, Result, IsErr, IfOk}
+use Rattle.std.specs.Prelude.{OnOk, OnErr}
 use Rattle.outer_ports.specs.Calls.{CallsView, FailsNext, call_passed, call_failed, risen}
 use Rattle.outer_ports.specs.Latest.{once_more}
 use Rattle.outer_ports.specs.dock.Steps.{Gives, with_bytes, opens_session}
@@ -54,7 +55,8 @@ listening_at port taken = record { port = port; taken = Some (length taken) }
 pub record MemListens {E T : Type 0} (old new : MemDockView) (result : Result T E) (port : ℕ) : Type 0 where
   pub fails : IsErr result ↔ FailsNext old.calls
   pub refused : OnErr result (new ≡ record old { calls = call_failed old.calls })
-  pub listened : OnOk result (new ≡ record old { listens = once_more (listening_at port old.taken) old.listens; calls = call_passed old.calls })
+  pub listened : OnOk result
+      (new ≡ record old { listens = once_more (listening_at port old.taken) old.listens; calls = call_passed old.calls })
 
 -- A call fails where it is to fail and where no step is left, and else only where the step needs further memory. Otherwise
 -- it gives all of the next step that the piece and the buffer allow.
@@ -63,7 +65,13 @@ pub record MemTakes {E : Type 0} (old new : MemDockView) (result : Result DockSt
   pub wanting : OnErr result (FailsNext old.calls ⊎ (old.coming ≡ []) ⊎ (old.spare_steps ≡ 0))
   pub refused : OnErr result (new ≡ record old { spare_steps = new.spare_steps; calls = call_failed old.calls })
   pub gives : IfOk result (λ step. Gives (min old.piece (length buf)) old.coming new.coming (with_bytes step buf))
-  pub taken : IfOk result (λ step. new ≡ record old { taken = old.taken ++ with_bytes step buf ∷ []; coming = new.coming; spare_steps = new.spare_steps; calls = call_passed old.calls })
+  pub taken : IfOk result
+      (λ step. new ≡ record old {
+        taken = old.taken ++ with_bytes step buf ∷ [];
+        coming = new.coming;
+        spare_steps = new.spare_steps;
+        calls = call_passed old.calls;
+      })
 
 -- A call fails where it is to fail, and else only where what it takes has no room. Otherwise it takes all that the piece
 -- allows.
@@ -80,7 +88,13 @@ pub record MemEnds {E T : Type 0} (old new : MemDockView) (result : Result T E) 
   pub fails : FailsNext old.calls → IsErr result
   pub wanting : OnErr result (FailsNext old.calls ⊎ (old.spare_ends ≡ 0))
   pub refused : OnErr result (new ≡ record old { spare_ends = new.spare_ends; calls = call_failed old.calls })
-  pub ended : OnOk result (new ≡ record old { ended = old.ended ++ session ∷ []; ended_at = old.ended_at ++ length (sent_by old.transcripts session) ∷ []; spare_ends = new.spare_ends; calls = call_passed old.calls })
+  pub ended : OnOk result
+      (new ≡ record old {
+        ended = old.ended ++ session ∷ [];
+        ended_at = old.ended_at ++ length (sent_by old.transcripts session) ∷ [];
+        spare_ends = new.spare_ends;
+        calls = call_passed old.calls;
+      })
 
 -- A call fails exactly where no step is left. Otherwise it gives all of the next step that the piece and the buffer allow.
 pub record SureTakes {E : Type 0} (old new : SureDockView) (result : Result DockStep E) (buf : List ℕ) : Type 0 where
@@ -102,4 +116,9 @@ pub record SureSends {E : Type 0} (old new : SureDockView) (result : Result ℕ 
 pub record SureEnds {E T : Type 0} (old new : SureDockView) (result : Result T E) (session : ℕ) : Type 0 where
   pub fails : IsErr result ↔ (old.ends ≡ 0)
   pub refused : OnErr result (new ≡ record old { faults = risen old.faults })
-  pub ended : OnOk result (new ≡ record old { ended = old.ended ++ session ∷ []; ended_at = old.ended_at ++ length (sent_by old.transcripts session) ∷ []; ends = old.ends - 1 })
+  pub ended : OnOk result
+      (new ≡ record old {
+        ended = old.ended ++ session ∷ [];
+        ended_at = old.ended_at ++ length (sent_by old.transcripts session) ∷ [];
+        ends = old.ends - 1;
+      })

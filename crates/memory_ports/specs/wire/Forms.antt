@@ -53,7 +53,8 @@ dial_at port said left = record { port = port; said = Some (length said); left =
 pub record MemDials {E T : Type 0} (old new : MemWireView) (result : Result T E) (port : ℕ) : Type 0 where
   pub fails : IsErr result ↔ FailsNext old.calls
   pub refused : OnErr result (new ≡ record old { calls = call_failed old.calls })
-  pub dialled : OnOk result (new ≡ record old { dials = once_more (dial_at port old.said old.left) old.dials; calls = call_passed old.calls })
+  pub dialled : OnOk result
+      (new ≡ record old { dials = once_more (dial_at port old.said old.left) old.dials; calls = call_passed old.calls })
 
 -- a read, as of a source in memory
 pub record MemWireReads {E : Type 0} (old new : MemWireView) (result : Result ℕ E) (buf : List ℕ) : Type 0 where

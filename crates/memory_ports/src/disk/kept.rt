@@ -4,7 +4,7 @@ ghost use Rattle.outer_ports.specs.disk.States.{at_rest, wrote, tried_state, dur
 ghost use Rattle.outer_ports.specs.disk.Moments.{history_after_step};
 ghost use Rattle.outer_ports.specs.disk.Disks.{GivesAt};
 ghost use Rattle.memory_ports.specs.disk.Kept.{KeptView};
-ghost use Rattle.memory_ports.specs.disk.Picks.{padded_bytes, image_picked, range_filled, picked_byte};
+ghost use Rattle.memory_ports.specs.disk.Picks.{padded_bytes, image_picked, range_filled, ranges_filled};
 
 use crate::Pick;
 use crate::reserved::{add, append, reserve_both};
@@ -40,19 +40,19 @@ pub(crate) struct Kept {
 impl Model for Kept {
     ghost use Rattle.std.specs.Prelude.{◌≡◌, ◌≤◌, ◌<◌, ◌+◌, true, if◌then◌else◌, length, vec_len, vec_capacity};
     ghost use Rattle.outer_ports.specs.disk.States.{IsHonest};
-    ghost use Rattle.memory_ports.specs.disk.Kept.{KeptView, past_images, written_by_all};
+    ghost use Rattle.memory_ports.specs.disk.Kept.{KeptView, past_after_steps, written_by_all};
 
     ghost Value = { KeptView };
 
     ghost view = { λ k. record {
-      past = past_images
+      past = past_after_steps
           (if k.fresh then k.bytes.items else k.first.items) k.steps.items k.written.items;
       room = k.room;
       calls = k.calls;
     } };
 
     ghost invariant = { λ k.
-        ((past_images (if k.fresh then k.bytes.items else k.first.items) k.steps.items k.written.items).last
+        ((past_after_steps (if k.fresh then k.bytes.items else k.first.items) k.steps.items k.written.items).last
         ≡ record {
           seen = k.bytes.items;
           base = if k.fresh then k.bytes.items else k.base.items;
@@ -301,7 +301,7 @@ pub(crate) fn overwrite(old: &mut Vec<u8>, at: usize, bytes: &[u8])
 
 /// Puts this byte wherever one of the ranges is.
 pub(crate) fn fill(bytes: &mut [u8], ranges: &[(u64, u64)], byte: u8)
-    ensures { bytes.new ≡ picked_byte ranges.now byte bytes.old }
+    ensures { bytes.new ≡ ranges_filled ranges.now byte bytes.old }
 {
     for (at, count) in ranges {
         fill_range(bytes, *at, *count, byte);

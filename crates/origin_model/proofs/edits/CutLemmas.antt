@@ -1,5 +1,8 @@
 -- Deletes of shown elements: each is Ready in its turn, no order changes, and what is shown loses exactly these elements.
-use Rattle.origin_model.proofs.Words.{All-contains, All-weaker, Bool, Contains, Delete, Identifier, IsIn, Lawful, List, None, Op, Option, Place, Ready, Some, [], all_from_contains, all_pairs_head, all_pairs_tail, ap, append-nil, arith, catalogue, cond, contains_filter_from, contains_middle, drop, element_of, false, filter, holder, id_eq, id_eq-refl, is_hidden, ne-id_eq, not, order, refl, shown, slice_get, subst, suc, sym, take, take-append-drop, true, verdict, within, ℕ, ◌++◌, ◌+◌, ◌||◌, ◌∙◌, ◌∷◌, ◌≡◌, ◌≢◌}
+use Rattle.origin_model.proofs.Words.{All-contains, All-weaker, Bool, Contains, Delete, Identifier, IsIn, Lawful, List, None, Op, Option, Place, Ready, Some, [], all_from_contains}
+use Rattle.origin_model.proofs.Words.{all_pairs_head, all_pairs_tail, ap, append-nil, arith, catalogue, cond, contains_filter_from, contains_middle, drop, element_of, false}
+use Rattle.origin_model.proofs.Words.{filter, holder, id_eq, id_eq-refl, is_hidden, ne-id_eq, not, order, refl, shown, slice_get, subst, suc, sym, take, take-append-drop, true}
+use Rattle.origin_model.proofs.Words.{verdict, within, ℕ, ◌++◌, ◌+◌, ◌||◌, ◌∙◌, ◌∷◌, ◌≡◌, ◌≢◌}
 use Rattle.std.proofs.lemmas.List.{drop-drop}
 use Rattle.origin_model.proofs.operations.ElementLemmas.{one_place}
 use Rattle.origin_model.proofs.operations.FoundedLemmas.{shown_can_go}
@@ -22,7 +25,8 @@ filter_two f g (x ∷ xs) =
     let nf : Identifier → Bool = λ y. not (f y) in
     elim (g x) as (λ b. cond (not (f x || b)) (x ∷ both) both ≡ filter nf (cond (not b) (x ∷ kept) kept)) [
       | true ↦ elim (f x) as (λ a. cond (not (a || true)) (x ∷ both) both ≡ filter nf kept) [ true ↦ filter_two f g xs | false ↦ filter_two f g xs ]
-      | false ↦ elim (f x) as (λ a. cond (not (a || false)) (x ∷ both) both ≡ cond (not a) (x ∷ filter nf kept) (filter nf kept)) [ true ↦ filter_two f g xs | false ↦ ap (λ z. x ∷ z) (filter_two f g xs) ]
+      | false ↦ elim (f x) as (λ a. cond (not (a || false)) (x ∷ both) both ≡ cond (not a) (x ∷ filter nf kept) (filter nf kept))
+          [ true ↦ filter_two f g xs | false ↦ ap (λ z. x ∷ z) (filter_two f g xs) ]
     ]
 
 -- a list of distinct members without one of them
@@ -59,7 +63,8 @@ not_there : (p q : Place) (h : List Op) (x y : Identifier) → Lawful h → q �
 not_there p q h x y w n a b =
     let m : IsIn p h x = order-member p h x w a in
     let k : IsIn q h y = order-member q h y w (contains_filter_from (is_shown h) (order q h) y b).0 in
-    ap not (ne-id_eq x y (λ e. n (one_place p q m.op x y m.place (subst (λ o. element_of q o ≡ Some y) (same_op (holder h y) m.op k.op (ap (holder h) (sym e) ∙ m.held) k.held) k.place))))
+    ap not (ne-id_eq x y (λ e. n
+    (one_place p q m.op x y m.place (subst (λ o. element_of q o ≡ Some y) (same_op (holder h y) m.op k.op (ap (holder h) (sym e) ∙ m.held) k.held) k.place))))
 
 -- Deletes of elements that stand together in what is shown
 taking : (xs : List Identifier) (p : Place) (h : List Op) (a b : List Identifier) → Lawful h → shown p h ≡ a ++ (xs ++ b) → Taken p h (deletes_of xs) (a ++ b)
@@ -80,7 +85,8 @@ taking (x ∷ xs) p h a b w e =
     }
 
 -- a cut in a section that is there
-cut_in_takes : (h : List Op) (s : Identifier) (at n : ℕ) → Lawful h → IsEdit (within s) h (cut_in h s at n) at n [] × ((p : Place) → order p (history_with h (cut_in h s at n)) ≡ order p h)
+cut_in_takes : (h : List Op) (s : Identifier) (at n : ℕ) → Lawful h
+    → IsEdit (within s) h (cut_in h s at n) at n [] × ((p : Place) → order p (history_with h (cut_in h s at n)) ≡ order p h)
 cut_in_takes h s at n w =
     let p : Place = within s in
     let xs : List Identifier = shown p h in

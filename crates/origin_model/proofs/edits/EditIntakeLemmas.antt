@@ -1,7 +1,9 @@
 -- On a settled state an edit is the taking in of its operations: each is accepted, and nothing that waits is decided.
-use Rattle.origin_model.proofs.Words.{All, All-head, All-tail, List, Op, Ready, [], ap, arith, false, false_from_ne_true, has_op, id_held, id_of, if◌then◌else◌, length, nat_eq, ne_eqb, refl, sym, true≢false, verdict, ℕ, ◌+◌, ◌||◌, ◌∙◌, ◌∷◌, ◌≡◌, ◌≤◌}
+use Rattle.origin_model.proofs.Words.{All, All-head, All-tail, List, Op, Ready, [], ap, arith, false, false_from_ne_true, has_op, id_held, id_of, if◌then◌else◌, length, nat_eq}
+use Rattle.origin_model.proofs.Words.{ne_eqb, refl, sym, true≢false, verdict, ℕ, ◌+◌, ◌||◌, ◌∙◌, ◌∷◌, ◌≡◌, ◌≤◌}
 use Rattle.origin_model.specs.edits.Edits.{Command, ReadyInTurn, history_with, made}
-use Rattle.origin_model.specs.taking.Taking.{Accepted, Again, IsSettled, Conflict, Held, answer, answer_by, held_from, intake, is_again, is_decided, is_kept, is_taken, kept_from, settle, held_after}
+use Rattle.origin_model.specs.taking.Taking.{Accepted, Again, IsSettled, Conflict, Held, answer, answer_by, held_from, intake, is_again, is_decided, is_kept, is_taken, kept_from}
+use Rattle.origin_model.specs.taking.Taking.{settle, held_after}
 use Rattle.origin_model.proofs.edits.FreshIdLemmas.{IsUnknown}
 use Rattle.origin_model.proofs.edits.UndecidedLemmas.{Undecided, made_unknown, stays}
 use Rattle.origin_model.proofs.operations.CauseLemmas.{ready_absent}
@@ -22,7 +24,8 @@ pub not_waiting : (h w : List Op) (op : Op) → Undecided h w → verdict h op �
 not_waiting h w op a r = false_from_ne_true _ (λ t. true≢false (sym (ap is_decided r) ∙ undecided_found h w a op t))
 
 -- a Ready operation whose identifier does not wait is accepted where there is room
-pub accepts : (hold most : ℕ) (h w : List Op) (op : Op) → Undecided h w → verdict h op ≡ Ready → id_held w (id_of op) ≡ false → nat_eq (length h + length w) most ≡ false → answer hold most (state_of h w) op ≡ Accepted
+pub accepts : (hold most : ℕ) (h w : List Op) (op : Op) → Undecided h w → verdict h op ≡ Ready → id_held w (id_of op) ≡ false → nat_eq (length h + length w) most ≡ false
+    → answer hold most (state_of h w) op ≡ Accepted
 accepts hold most h w op a r n room =
     let again : is_again (state_of h w) op ≡ false = λ i. ready_absent h op r i || not_waiting h w op a r i in
     let clash : is_taken (state_of h w) op ≡ false = λ i. (when_ready h op r).fresh i || n i in

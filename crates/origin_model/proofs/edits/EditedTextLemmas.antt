@@ -1,9 +1,12 @@
 -- What edits do to the texts of sections, by scalars.
-use Rattle.origin_model.proofs.Words.{All, All-head, All-tail, Contains, Identifier, IsIn, Lawful, List, Op, Option, Place, Some, Text, [], all_from_contains, ap, catalogue, contains_filter_from, drop, element_of, flat_map, holder, id_eq-refl, is_hidden, is_some, length, not, not_some, order, refl, scalar_of, shown, slice_get, subst, suc, sym, take, text, within, zero, ℕ, ◌++◌, ◌+◌, ◌∙◌, ◌∷◌, ◌≡◌, ◌≢◌, ◌≤◌}
+use Rattle.origin_model.proofs.Words.{All, All-head, All-tail, Contains, Identifier, IsIn, Lawful, List, Op, Option, Place, Some, Text, [], all_from_contains, ap, catalogue}
+use Rattle.origin_model.proofs.Words.{contains_filter_from, drop, element_of, flat_map, holder, id_eq-refl, is_hidden, is_some, length, not, not_some, order, refl, scalar_of}
+use Rattle.origin_model.proofs.Words.{shown, slice_get, subst, suc, sym, take, text, within, zero, ℕ, ◌++◌, ◌+◌, ◌∙◌, ◌∷◌, ◌≡◌, ◌≢◌, ◌≤◌}
 use Rattle.std.proofs.lemmas.Grind.{flat_map-append}
 use Rattle.origin_model.proofs.operations.LookupLemmas.{held_not_own, holder-other, holder-own, when_ready}
 use Rattle.origin_model.proofs.order.{order-member}
-use Rattle.origin_model.specs.edits.Edits.{Add, Cut, DropSection, IsEdit, Put, ReadyInTurn, history_with, id_at, left_for, made, next_counter, put_in, right_for, splice, typed_texts, typed_ids}
+use Rattle.origin_model.specs.edits.Edits.{Add, Cut, DropSection, IsEdit, Put, ReadyInTurn, history_with, id_at, left_for, made, next_counter, put_in, right_for, splice}
+use Rattle.origin_model.specs.edits.Edits.{typed_texts, typed_ids}
 use Rattle.origin_model.proofs.edits.PutLemmas.{add_lands, put_lands}
 use Rattle.origin_model.proofs.edits.MadeLemmas.{put_made}
 use Rattle.origin_model.proofs.edits.CutLemmas.{cut_takes, drop_takes}
@@ -75,7 +78,8 @@ same_scalars p h ops w r =
     (λ x m. let k = member p h x w m in ap scalar_of (holder_stays ops h x k.op r k.held ∙ sym k.held))
 
 -- what was shown, spliced, is spliced in the text
-text_here : (h ops : List Op) (s : Identifier) (at n : ℕ) (ids : List Identifier) (new : List ℕ) → Lawful h → IsEdit (within s) h ops at n ids → flat_map (scalars_at (history_with h ops)) ids ≡ new
+text_here : (h ops : List Op) (s : Identifier) (at n : ℕ) (ids : List Identifier) (new : List ℕ) → Lawful h → IsEdit (within s) h ops at n ids
+    → flat_map (scalars_at (history_with h ops)) ids ≡ new
     → text (history_with h ops) s ≡ splice (text h s) at n new
 text_here h ops s at n ids new w e k =
     let f : Identifier → List ℕ = scalars_at (history_with h ops) in
@@ -92,7 +96,8 @@ text_here h ops s at n ids new w e k =
     ∙ (λ i. front i ++ k i ++ back i)
 
 -- another section keeps its text
-text_there : (p : Place) (h ops : List Op) (at n : ℕ) (ids : List Identifier) (t : Identifier) → Lawful h → IsEdit p h ops at n ids → within t ≢ p → text (history_with h ops) t ≡ text h t
+text_there : (p : Place) (h ops : List Op) (at n : ℕ) (ids : List Identifier) (t : Identifier) → Lawful h → IsEdit p h ops at n ids → within t ≢ p
+    → text (history_with h ops) t ≡ text h t
 text_there p h ops at n ids t w e d =
     ap (flat_map (scalars_at (history_with h ops))) (e.elsewhere (within t) d)
     ∙ flat_agree (scalars_at (history_with h ops)) (scalars_at h) (shown (within t) h) (same_scalars (within t) h ops w e.ready)
@@ -106,12 +111,14 @@ not_catalogue : (t : Identifier) → within t ≢ catalogue
 not_catalogue t e = cc e
 
 -- an edit of what is shown is one of the text
-text_edit : (h ops : List Op) (s : Identifier) (at n : ℕ) (ids : List Identifier) (new : List ℕ) → Lawful h → IsEdit (within s) h ops at n ids → flat_map (scalars_at (history_with h ops)) ids ≡ new → IsTextEdit h ops s at n new
+text_edit : (h ops : List Op) (s : Identifier) (at n : ℕ) (ids : List Identifier) (new : List ℕ) → Lawful h → IsEdit (within s) h ops at n ids
+    → flat_map (scalars_at (history_with h ops)) ids ≡ new → IsTextEdit h ops s at n new
 text_edit h ops s at n ids new w e k =
     record { here = text_here h ops s at n ids new w e k; elsewhere = λ t d. text_there (within s) h ops at n ids t w e (other_place t s d) }
 
 -- the new elements have the scalars that were typed
-typed_scalars : (chs : List ℕ) (r c : ℕ) (s : Identifier) (l q : Option Identifier) (h : List Op) → ReadyInTurn h (typed_texts r c s l q chs) → flat_map (scalars_at (history_with h (typed_texts r c s l q chs))) (typed_ids r c chs) ≡ chs
+typed_scalars : (chs : List ℕ) (r c : ℕ) (s : Identifier) (l q : Option Identifier) (h : List Op) → ReadyInTurn h (typed_texts r c s l q chs)
+    → flat_map (scalars_at (history_with h (typed_texts r c s l q chs))) (typed_ids r c chs) ≡ chs
 typed_scalars [] r c s l q h ready = refl
 typed_scalars (ch ∷ chs) r c s l q h ready =
     let x : Identifier = id_at r c in
@@ -143,7 +150,8 @@ drop_keeps_texts r h w k s t v e = text_there catalogue h (made r h w (DropSecti
 -- a section that is added leaves the texts
 pub add_keeps_texts : (r : ℕ) (h w : List Op) (at : ℕ) (title : List ℕ) (t : Identifier) → Lawful h → at ≤ length (shown catalogue h)
     → text (history_with h (made r h w (Add at title))) t ≡ text h t
-add_keeps_texts r h w at title t v l = text_there catalogue h (made r h w (Add at title)) at 0 (id_at r (next_counter r h w) ∷ []) t v (add_lands r h w at title v l).0 (not_catalogue t)
+add_keeps_texts r h w at title t v l =
+    text_there catalogue h (made r h w (Add at title)) at 0 (id_at r (next_counter r h w) ∷ []) t v (add_lands r h w at title v l).0 (not_catalogue t)
 
 -- a text is as long as what is shown
 pub text_length : (h : List Op) (s : Identifier) → Lawful h → length (text h s) ≡ length (shown (within s) h)

@@ -1,5 +1,7 @@
 -- The identifiers that an edit makes are new: no accepted or waiting operation has or names one of them.
-use Rattle.origin_model.proofs.Words.{All, All-cons, All-head, All-nil, All-weaker, Bool, Delete, Identifier, List, Op, Some, [], all_before, all_behind, all_from_contains, all_from_map, ap, arith, eq-eqb, false, false_from_ne_true, filter, flat_map, holds, id_eq, id_eq-true, id_held, id_of, is_own, map, names, nat_eq, option_to_list, origin_eq, refl, subst, sym, true, ℕ, ◌++◌, ◌<◌, ◌∙◌, ◌∷◌, ◌≡◌, ◌≤◌}
+use Rattle.origin_model.proofs.Words.{All, All-cons, All-head, All-nil, All-weaker, Bool, Delete, Identifier, List, Op, Some, [], all_before, all_behind, all_from_contains}
+use Rattle.origin_model.proofs.Words.{all_from_map, ap, arith, eq-eqb, false, false_from_ne_true, filter, flat_map, holds, id_eq, id_eq-true, id_held, id_of, is_own, map, names}
+use Rattle.origin_model.proofs.Words.{nat_eq, option_to_list, origin_eq, refl, subst, sym, true, ℕ, ◌++◌, ◌<◌, ◌∙◌, ◌∷◌, ◌≡◌, ◌≤◌}
 use Rattle.std.proofs.lemmas.Grind.{flat_map-append}
 use Rattle.fugue_ids.proofs.ListLemmas.{all_from_filter}
 use Rattle.origin_model.specs.edits.Edits.{above_all, id_at, next_counter}

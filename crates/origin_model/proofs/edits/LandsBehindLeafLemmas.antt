@@ -1,6 +1,10 @@
 -- Where an element lands whose left origin is no other element's.
-use Rattle.origin_model.proofs.Words.{All-contains, Bool, Contains, Contains-append_cases, Contains-append_left, Contains-append_right, Identifier, IsIn, IsOrderedBy, Lawful, List, None, Op, Place, Some, [], all_from_contains, all_pairs_behind, ap, append-nil, append_assoc, before_in, cases_Bool, chain_before, contains_here, contains_middle, element_of, false, false_from_ne_true, holder, inl, inr, is_own, left_at, left_of, lefts, next_left, order, placed, sibling, subst, sym, true, true≢false, ◌++◌, ◌∙◌, ◌∷◌, ◌≡◌, ◌≢◌}
-use Rattle.origin_model.proofs.order.{IsIn-held, before_in-irrefl, before_in-trans, chain-other, chain-own, chain_above, common, first_before, front_before, left_by, left_origin_held, lefts-in, lefts-prefix, order-in, order-ordered, order-some, parts_late, same_chain, stay_ordered}
+use Rattle.origin_model.proofs.Words.{All-contains, Bool, Contains, Contains-append_cases, Contains-append_left, Contains-append_right, Identifier, IsIn, IsOrderedBy, Lawful, List}
+use Rattle.origin_model.proofs.Words.{None, Op, Place, Some, [], all_from_contains, all_pairs_behind, ap, append-nil, append_assoc, before_in, cases_Bool, chain_before}
+use Rattle.origin_model.proofs.Words.{contains_here, contains_middle, element_of, false, false_from_ne_true, holder, inl, inr, is_own, left_at, left_of, lefts, next_left, order}
+use Rattle.origin_model.proofs.Words.{placed, sibling, subst, sym, true, true≢false, ◌++◌, ◌∙◌, ◌∷◌, ◌≡◌, ◌≢◌}
+use Rattle.origin_model.proofs.order.{IsIn-held, before_in-irrefl, before_in-trans, chain-other, chain-own, chain_above, common, first_before, front_before, left_by}
+use Rattle.origin_model.proofs.order.{left_origin_held, lefts-in, lefts-prefix, order-in, order-ordered, order-some, parts_late, same_chain, stay_ordered}
 use Rattle.origin_model.proofs.operations.LookupLemmas.{IsHeld, cases_held, held_not_own, holder-other, holder-own, left_named, when_ready}
 use Rattle.origin_model.proofs.operations.ElementLemmas.{element_own}
 use Rattle.origin_model.proofs.sides.SlotLemmas.{left_from}
@@ -52,7 +56,8 @@ module _ (p : Place) (op : Op) (older : List Op) (x l : Identifier) (front back 
   -- no chain goes on from the left origin
   ends_there : (e : Identifier) → IsIn p older e → (u : Identifier) (more : List Identifier) → lefts older e ≡ lefts older l ++ u ∷ more → ⊥
   ends_there e m u more q =
-      let mu : IsIn p older u = All-contains (IsIn p older) (lefts older e) u (lefts-in p older e w.1 m) (subst (λ z. Contains z u) (sym q) (contains_middle (lefts older l) u more)) in
+      let mu : IsIn p older u =
+      All-contains (IsIn p older) (lefts older e) u (lefts-in p older e w.1 m) (subst (λ z. Contains z u) (sym q) (contains_middle (lefts older l) u more)) in
       leaf u (left_from older u (Some l) w.1 (IsIn-held p older u mu) l_held (lefts-prefix older e u (lefts older l) more w.1 (IsIn-held p older e m) q))
 
   -- every other element stands to the new one as to its left origin
@@ -75,7 +80,8 @@ module _ (p : Place) (op : Op) (older : List Op) (x l : Identifier) (front back 
   back_stays : (e : Identifier) → Contains back e → Bx e x ≡ false
   back_stays e m =
       let comes : Bx l e ≡ true = first_before Bx l e back (all_pairs_behind (λ a b. Bx a b ≡ true) front (l ∷ back) sorted) m in
-      as_left e (old_in e (contains_around front l back e (Contains-append_right front back e m))) (λ d. true≢false (sym comes ∙ ap (Bx l) d ∙ before_in-irrefl (order p older) h l))
+      as_left e (old_in e (contains_around front l back e (Contains-append_right front back e m)))
+      (λ d. true≢false (sym comes ∙ ap (Bx l) d ∙ before_in-irrefl (order p older) h l))
       ∙ false_from_ne_true (Bx e l) (λ j. loop l e comes j)
 
   -- those up to the left origin go before the new element
@@ -92,7 +98,8 @@ module _ (p : Place) (op : Op) (older : List Op) (x l : Identifier) (front back 
   lands =
       order-some p op older x at
       ∙ ap (λ o. placed (λ e. Bx e x) o x) (whole ∙ sym (append_assoc front (l ∷ []) back))
-      ∙ placed_between (λ e. Bx e x) (front ++ l ∷ []) back x (all_from_contains (λ e. Bx e x ≡ true) (front ++ l ∷ []) goes_first) (all_from_contains (λ e. Bx e x ≡ false) back back_stays)
+      ∙ placed_between (λ e. Bx e x) (front ++ l ∷ []) back x (all_from_contains (λ e. Bx e x ≡ true) (front ++ l ∷ []) goes_first)
+      (all_from_contains (λ e. Bx e x ≡ false) back back_stays)
       ∙ append_assoc front (l ∷ []) (x ∷ back)
 
 -- an element whose left origin is no other element's lands directly behind that

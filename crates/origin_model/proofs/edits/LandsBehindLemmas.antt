@@ -1,8 +1,15 @@
 -- Where an element lands whose origins stand next to each other.
-use Rattle.origin_model.proofs.Words.{All, All-contains, All-head, All-tail, Bool, Contains, Contains-append_cases, Contains-append_left, Contains-append_right, Identifier, IsIn, IsOrderedBy, Lawful, List, None, Op, Option, Place, Some, [], all_from_contains, all_pairs_before, all_pairs_behind, ap, append-nil, append_assoc, arith, before_in, cases_Bool, cases_origin, chain_before, contains_here, contains_middle, element_of, false, false_from_ne_true, false≢true, fork_before, has_left, holder, if◌then◌else◌, inl, inr, is_own, is_some, left_at, left_of, lefts, length, next_left, next_right, order, origin_eq, placed, refl, right_beside, right_of, rights, same_from_push, sibling, slice_index_or, subst, suc, sym, true, true≢false, zero, ℕ, ◌++◌, ◌<◌, ◌∙◌, ◌∷◌, ◌≡◌, ◌≢◌, ◌⊎◌}
+use Rattle.origin_model.proofs.Words.{All, All-contains, All-head, All-tail, Bool, Contains, Contains-append_cases, Contains-append_left, Contains-append_right, Identifier, IsIn}
+use Rattle.origin_model.proofs.Words.{IsOrderedBy, Lawful, List, None, Op, Option, Place, Some, [], all_from_contains, all_pairs_before, all_pairs_behind, ap, append-nil}
+use Rattle.origin_model.proofs.Words.{append_assoc, arith, before_in, cases_Bool, cases_origin, chain_before, contains_here, contains_middle, element_of, false, false_from_ne_true}
+use Rattle.origin_model.proofs.Words.{false≢true, fork_before, has_left, holder, if◌then◌else◌, inl, inr, is_own, is_some, left_at, left_of, lefts, length, next_left, next_right}
+use Rattle.origin_model.proofs.Words.{order, origin_eq, placed, refl, right_beside, right_of, rights, same_from_push, sibling, slice_index_or, subst, suc, sym, true, true≢false}
+use Rattle.origin_model.proofs.Words.{zero, ℕ, ◌++◌, ◌<◌, ◌∙◌, ◌∷◌, ◌≡◌, ◌≢◌, ◌⊎◌}
 use Rattle.std.specs.Prelude.{IfSome}
 use Rattle.origin_model.specs.declared.sides.Slot.TheVariants.{RightOf}
-use Rattle.origin_model.proofs.order.{IsIn-held, before_in-irrefl, before_in-trans, chain-ends, chain-other, chain-own, chain_above, chain_before-fork, chain_before-same, common, first_of, front_before, has_left-at, has_left_by, last_of, left_by, lefts-above, lefts-in, lefts-prefix, never_none, no_member, order-has, order-in, order-ordered, order-some, order_total, parts, placed-behind, placed-first, same_chain, stay_ordered}
+use Rattle.origin_model.proofs.order.{IsIn-held, before_in-irrefl, before_in-trans, chain-ends, chain-other, chain-own, chain_above, chain_before-fork, chain_before-same, common}
+use Rattle.origin_model.proofs.order.{first_of, front_before, has_left-at, has_left_by, last_of, left_by, lefts-above, lefts-in, lefts-prefix, never_none, no_member, order-has}
+use Rattle.origin_model.proofs.order.{order-in, order-ordered, order-some, order_total, parts, placed-behind, placed-first, same_chain, stay_ordered}
 use Rattle.origin_model.proofs.operations.LookupLemmas.{IsHeld, held_not_own, left_named, when_ready}
 use Rattle.origin_model.proofs.operations.ElementLemmas.{element_own}
 use Rattle.origin_model.proofs.sides.SlotLemmas.{IsThere, left_from, there}
@@ -17,9 +24,11 @@ has_left_from None l k e = absurd (false≢true k)
 has_left_from (Some op) l k e = ap (λ z. origin_eq z l) e ∙ origin_eq-refl l
 
 -- an element goes in behind those that stand before it, and before the others
-pub placed_between : (q : Identifier → Bool) (front back : List Identifier) (x : Identifier) → All (λ e. q e ≡ true) front → All (λ e. q e ≡ false) back → placed q (front ++ back) x ≡ front ++ x ∷ back
+pub placed_between : (q : Identifier → Bool) (front back : List Identifier) (x : Identifier) → All (λ e. q e ≡ true) front → All (λ e. q e ≡ false) back
+    → placed q (front ++ back) x ≡ front ++ x ∷ back
 placed_between q [] back x f g = placed-first q back x g
-placed_between q (e ∷ es) back x f g = placed-behind q e (es ++ back) x (All-head (λ z. q z ≡ true) e es f) ∙ ap (λ l. e ∷ l) (placed_between q es back x (All-tail (λ z. q z ≡ true) e es f) g)
+placed_between q (e ∷ es) back x f g =
+    placed-behind q e (es ++ back) x (All-head (λ z. q z ≡ true) e es f) ∙ ap (λ l. e ∷ l) (placed_between q es back x (All-tail (λ z. q z ≡ true) e es f) g)
 
 -- the empty chain is a proper prefix of any other
 nonempty : (F : Identifier → Identifier → Bool) (xs : List Identifier) → (xs ≡ [] → ⊥) → chain_before true F [] xs ≡ true
@@ -128,10 +137,12 @@ module _ (p : Place) (op : Op) (older : List Op) (x : Identifier) (front back : 
 
     before_end : (l : Option Identifier) → left_of op ≡ l → chain_before true Sx A (lefts h r) ≡ true
     before_end None e =
-        ap (λ a. chain_before true Sx a (lefts h r)) (ap (chain_above next_left older) e) ∙ nonempty Sx (lefts h r) (λ d. never_none next_left older r (IsIn-held p older r mr) (sym (le r mr) ∙ d))
+        ap (λ a. chain_before true Sx a (lefts h r)) (ap (chain_above next_left older) e)
+        ∙ nonempty Sx (lefts h r) (λ d. never_none next_left older r (IsIn-held p older r mr) (sym (le r mr) ∙ d))
     before_end (Some l) e =
         let m : Contains front l = left_in_front l e in
-        ap (λ a. chain_before true Sx a (lefts h r)) (ap (chain_above next_left older) e ∙ sym (le l (old_in l (Contains-append_left front back l m)))) ∙ front_before Bx front back l r sorted m r_back
+        ap (λ a. chain_before true Sx a (lefts h r)) (ap (chain_above next_left older) e ∙ sym (le l (old_in l (Contains-append_left front back l m))))
+        ∙ front_before Bx front back l r sorted m r_back
 
     not_end : (l : Option Identifier) → left_of op ≡ l → lefts h r ≡ A → ⊥
     not_end None e q = never_none next_left older r (IsIn-held p older r mr) (sym (le r mr) ∙ q ∙ ap (chain_above next_left older) e)
@@ -150,8 +161,10 @@ module _ (p : Place) (op : Op) (older : List Op) (x : Identifier) (front back : 
           | inl k ↦
               let rr : rights h r ≡ rights older r ++ [] = re r mr ∙ sym (append-nil (rights older r)) in
               let rx : rights h x ≡ rights older r ++ x ∷ [] = chain-own next_right op older x own
-              ∙ ap (λ o. chain_above next_right older (right_beside older (left_of op) o) ++ x ∷ []) is_right ∙ ap (λ b. chain_above next_right older (if b then Some r else None) ++ x ∷ []) k in
-              let lr : lefts h r ≡ A ++ r ∷ [] = le r mr ∙ lefts-above older r w.1 (IsIn-held p older r mr) ∙ ap (λ l. chain_above next_left older l ++ r ∷ []) (has_left-at older r (left_of op) k) in
+              ∙ ap (λ o. chain_above next_right older (right_beside older (left_of op) o) ++ x ∷ []) is_right
+              ∙ ap (λ b. chain_above next_right older (if b then Some r else None) ++ x ∷ []) k in
+              let lr : lefts h r ≡ A ++ r ∷ [] =
+              le r mr ∙ lefts-above older r w.1 (IsIn-held p older r mr) ∙ ap (λ l. chain_above next_left older l ++ r ∷ []) (has_left-at older r (left_of op) k) in
               (λ i. chain_before true Sx (lx i) (lr i)) ∙ common true Sx A (x ∷ []) (r ∷ []) ∙ chain_before-fork true Sx x r [] [] nr
               ∙ (λ i. chain_before false Fx (rx i) (rr i)) ∙ common false Fx (rights older r) (x ∷ []) []
           | inr k ↦ elim (parts true Sx A (lefts h r)) [
@@ -187,7 +200,8 @@ module _ (p : Place) (op : Op) (older : List Op) (x : Identifier) (front back : 
   lands =
       order-some p op older x at
       ∙ ap (λ o. placed (λ e. Bx e x) o x) whole
-      ∙ placed_between (λ e. Bx e x) front back x (all_from_contains (λ e. Bx e x ≡ true) front front_goes) (all_from_contains (λ e. Bx e x ≡ false) back (back_by (right_of op) refl))
+      ∙ placed_between (λ e. Bx e x) front back x (all_from_contains (λ e. Bx e x ≡ true) front front_goes)
+      (all_from_contains (λ e. Bx e x ≡ false) back (back_by (right_of op) refl))
 
 -- an element whose right origin stands directly behind its left origin lands between them
 pub lands_behind : LandsBehind
@@ -220,4 +234,10 @@ lands_behind_origin p op older x w at l r =
     let e : left_of op ≡ last_before c.front = sym c.ends in
     let head : right_of op ≡ first_after c.back =
     r ∙ (λ i. following (c.whole i) (e i)) ∙ following_end c.front c.back (subst Distinct c.whole (order_total p older w.1).once) in
-    record { front = c.front; back = c.back; was = c.whole; origin = c.ends; is = lands_behind p op older x c.front c.back w at c.whole e head ∙ sym (append_assoc c.front (x ∷ []) c.back) }
+    record {
+      front = c.front;
+      back = c.back;
+      was = c.whole;
+      origin = c.ends;
+      is = lands_behind p op older x c.front c.back w at c.whole e head ∙ sym (append_assoc c.front (x ∷ []) c.back);
+    }

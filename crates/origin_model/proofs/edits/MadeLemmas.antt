@@ -1,8 +1,10 @@
 -- How many operations an edit makes, where they join, and which counter comes next.
-use Rattle.origin_model.proofs.Words.{Delete, Identifier, Lawful, List, None, Op, Option, Some, Text, [], accepted, ap, append-nil, append_assoc, arith, catalogue, drop, length, length-take-le, refl, reverse, reverse-append, shown, slice_get, suc, sym, take, within, zero, ℕ, ◌++◌, ◌+◌, ◌∙◌, ◌∷◌, ◌≡◌, ◌≤◌}
+use Rattle.origin_model.proofs.Words.{Delete, Identifier, Lawful, List, None, Op, Option, Some, Text, [], accepted, ap, append-nil, append_assoc, arith, catalogue, drop, length}
+use Rattle.origin_model.proofs.Words.{length-take-le, refl, reverse, reverse-append, shown, slice_get, suc, sym, take, within, zero, ℕ, ◌++◌, ◌+◌, ◌∙◌, ◌∷◌, ◌≡◌, ◌≤◌}
 use Rattle.std.proofs.Math.Seq.{take-nil}
 use Rattle.std.proofs.lemmas.List.{length-drop, length-map}
-use Rattle.origin_model.specs.edits.Edits.{ReadyInTurn, Cut, DropSection, history_with, Put, cut_in, deletes_of, id_at, left_for, made, next_counter, put_in, right_for, typed_texts}
+use Rattle.origin_model.specs.edits.Edits.{ReadyInTurn, Cut, DropSection, history_with, Put, cut_in, deletes_of, id_at, left_for, made, next_counter, put_in, right_for}
+use Rattle.origin_model.specs.edits.Edits.{typed_texts}
 
 -- the operations stand at the end of the accepted ones
 pub join_at_end : (h ops : List Op) → accepted (history_with h ops) ≡ accepted h ++ ops
@@ -44,7 +46,8 @@ part_length : (xs : List Identifier) (at n : ℕ) → at + n ≤ length xs → l
 part_length xs at n l = length-take-le n (drop at xs) (omega (arith, length-drop at xs, l))
 
 -- the edit of a section that is there
-pub put_made : (r : ℕ) (h w : List Op) (k : ℕ) (s : Identifier) (at : ℕ) (new : List ℕ) → slice_get (shown catalogue h) k ≡ Some s → made r h w (Put k at new) ≡ put_in r h w s at new
+pub put_made : (r : ℕ) (h w : List Op) (k : ℕ) (s : Identifier) (at : ℕ) (new : List ℕ) → slice_get (shown catalogue h) k ≡ Some s
+    → made r h w (Put k at new) ≡ put_in r h w s at new
 put_made r h w k s at new e = ap (λ o. elim o [ None ↦ [] | Some s ↦ put_in r h w s at new ]) e
 
 -- a cut of a section that is there
@@ -56,12 +59,15 @@ pub drop_made : (r : ℕ) (h w : List Op) (k : ℕ) (s : Identifier) → slice_g
 drop_made r h w k s e = ap (λ o. elim o [ None ↦ [] | Some s ↦ Delete s ∷ [] ]) e
 
 -- a put makes as many operations as scalars
-pub put_counted : (r : ℕ) (h w : List Op) (k : ℕ) (s : Identifier) (at : ℕ) (new : List ℕ) → slice_get (shown catalogue h) k ≡ Some s → length (made r h w (Put k at new)) ≡ length new
+pub put_counted : (r : ℕ) (h w : List Op) (k : ℕ) (s : Identifier) (at : ℕ) (new : List ℕ) → slice_get (shown catalogue h) k ≡ Some s
+    → length (made r h w (Put k at new)) ≡ length new
 put_counted r h w k s at new e = ap length (put_made r h w k s at new e) ∙ typed_length r (next_counter r h w) s (left_for (within s) h at) (right_for (within s) h at) new
 
 -- a cut as many as the elements that it asks for, where so many are shown
-pub cut_counted : (r : ℕ) (h w : List Op) (k : ℕ) (s : Identifier) (at n : ℕ) → slice_get (shown catalogue h) k ≡ Some s → at + n ≤ length (shown (within s) h) → length (made r h w (Cut k at n)) ≡ n
-cut_counted r h w k s at n e l = ap length (cut_made r h w k s at n e) ∙ length-map (take n (drop at (shown (within s) h))) (λ x. Delete x) ∙ part_length (shown (within s) h) at n l
+pub cut_counted : (r : ℕ) (h w : List Op) (k : ℕ) (s : Identifier) (at n : ℕ) → slice_get (shown catalogue h) k ≡ Some s → at + n ≤ length (shown (within s) h)
+    → length (made r h w (Cut k at n)) ≡ n
+cut_counted r h w k s at n e l =
+    ap length (cut_made r h w k s at n e) ∙ length-map (take n (drop at (shown (within s) h))) (λ x. Delete x) ∙ part_length (shown (within s) h) at n l
 
 -- the first texts are those of the first scalars
 typed_front : (j r c : ℕ) (s : Identifier) (l q : Option Identifier) (new : List ℕ) → take j (typed_texts r c s l q new) ≡ typed_texts r c s l q (take j new)
@@ -79,7 +85,8 @@ deletes_front (suc j) (suc n) (x ∷ xs) l = ap (λ z. Delete x ∷ z) (deletes_
 -- the first operations of a put are a smaller put
 pub put_front : (r : ℕ) (h w : List Op) (k j at : ℕ) (new : List ℕ) → take j (made r h w (Put k at new)) ≡ made r h w (Put k at (take j new))
 put_front r h w k j at new =
-    elim (slice_get (shown catalogue h) k) as (λ o. take j (elim o [ None ↦ [] | Some s ↦ put_in r h w s at new ]) ≡ elim o [ None ↦ [] | Some s ↦ put_in r h w s at (take j new) ]) [
+    elim (slice_get (shown catalogue h) k) as
+    (λ o. take j (elim o [ None ↦ [] | Some s ↦ put_in r h w s at new ]) ≡ elim o [ None ↦ [] | Some s ↦ put_in r h w s at (take j new) ]) [
       | None ↦ take-nil j
       | Some s ↦ typed_front j r (next_counter r h w) s (left_for (within s) h at) (right_for (within s) h at) new
     ]

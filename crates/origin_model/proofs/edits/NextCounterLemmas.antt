@@ -1,5 +1,6 @@
 -- The next counter is one more than the greatest.
-use Rattle.origin_model.proofs.Words.{All, All-head, All-tail, List, None, Op, Option, Some, [], ap, arith, filter, filter-append, flat_map, length, map, nat_eq, refl, slice_index_or, suc, zero, ℕ, ◌++◌, ◌<◌, ◌∙◌, ◌∷◌, ◌≡◌, ◌≤◌}
+use Rattle.origin_model.proofs.Words.{All, All-head, All-tail, List, None, Op, Option, Some, [], ap, arith, filter, filter-append, flat_map, length, map, nat_eq, refl}
+use Rattle.origin_model.proofs.Words.{slice_index_or, suc, zero, ℕ, ◌++◌, ◌<◌, ◌∙◌, ◌∷◌, ◌≡◌, ◌≤◌}
 use Rattle.std.proofs.Common.{max}
 use Rattle.std.proofs.Math.Nat.{le-max_left, le-max_right}
 use Rattle.std.proofs.lemmas.Grind.{flat_map-append}

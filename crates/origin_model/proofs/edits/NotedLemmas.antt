@@ -1,5 +1,7 @@
 -- A note of a replica: it is Ready where its names are held, decides nothing that waits, and changes nothing that is shown.
-use Rattle.origin_model.proofs.Words.{All, All-cons, All-head, All-nil, All-tail, Bool, Identifier, if◌then◌else◌, ◌-◌, ◌^◌, ◌&&◌, ◌≢◌, Lawful, List, None, Note, Op, Place, Ready, Some, [], ap, filter, holds, id_eq-refl, is_hidden, length, not, order, refl, shown, subst, sym, true, false, verdict, ℕ, ◌+◌, ◌∷◌, ◌≡◌, ◌≤◌, map, names}
+use Rattle.origin_model.proofs.Words.{All, All-cons, All-head, All-nil, All-tail, Bool, Identifier, if◌then◌else◌, ◌-◌, ◌^◌, ◌&&◌, ◌≢◌, Lawful, List, None, Note, Op, Place, Ready}
+use Rattle.origin_model.proofs.Words.{Some, [], ap, filter, holds, id_eq-refl, is_hidden, length, not, order, refl, shown, subst, sym, true, false, verdict, ℕ, ◌+◌, ◌∷◌, ◌≡◌, ◌≤◌}
+use Rattle.origin_model.proofs.Words.{map, names}
 use Rattle.std.specs.Prelude.{nat_lt}
 use Rattle.std.proofs.Math.Nat.{le_refl}
 use Rattle.origin_model.specs.declared.operations.Role.TheVariants.{Any}
@@ -63,7 +65,8 @@ noted_comes r h w named code body l settled held =
     (All-cons (IsUnknown w) (noted h w r named code body) [] (noted_unknown r h w named code body) (All-nil (IsUnknown w)))
 
 -- on a settled state with room, making a note is taking it in
-pub note_is_taken_in : (hold most r : ℕ) (h w : List Op) (named : List Identifier) (code : ℕ) (body : List ℕ) → Lawful h → IsSettled (record { history = h; waiting = w }) → AreHeld h named
+pub note_is_taken_in : (hold most r : ℕ) (h w : List Op) (named : List Identifier) (code : ℕ) (body : List ℕ) → Lawful h → IsSettled (record { history = h; waiting = w })
+    → AreHeld h named
     → length h + length w + 1 ≤ most → IsTakenIn hold most h w (noted h w r named code body ∷ [])
 note_is_taken_in hold most r h w named code body l settled held room =
     takes hold most (noted h w r named code body ∷ []) h w settled (noted_comes r h w named code body l settled held) room

@@ -1,10 +1,14 @@
 -- Subtrees stand together, what hangs on an element's left stands directly before it, ties go by identifier, and passages are never mixed.
-use Rattle.origin_model.proofs.Words.{All, AllByRecursion, Bool, Contains, Identifier, IsIn, Lawful, List, Op, Passes, Place, Some, [], ap, append-nil, append_assoc, append_cancel_left, arith, before, before_in, cases_id, chain_before, false, fork_before, has_left, holder, id_lt, index_of_origin, inl, inr, left_at, left_of, lefts, next_left, next_right, older_of, order, precedes, refl, right_at, right_of, rights, sibling, subst, sym, true, true≢false, ℕ, ◌++◌, ◌∙◌, ◌∷◌, ◌≡◌, ◌≢◌}
+use Rattle.origin_model.proofs.Words.{All, AllByRecursion, Bool, Contains, Identifier, IsIn, Lawful, List, Op, Passes, Place, Some, [], ap, append-nil, append_assoc}
+use Rattle.origin_model.proofs.Words.{append_cancel_left, arith, before, before_in, cases_id, chain_before, false, fork_before, has_left, holder, id_lt, index_of_origin, inl, inr}
+use Rattle.origin_model.proofs.Words.{left_at, left_of, lefts, next_left, next_right, older_of, order, precedes, refl, right_at, right_of, rights, sibling, subst, sym, true}
+use Rattle.origin_model.proofs.Words.{true≢false, ℕ, ◌++◌, ◌∙◌, ◌∷◌, ◌≡◌, ◌≢◌}
 use Rattle.std.proofs.lemmas.Bool.Decides.{nat_tests}
 use Rattle.std.proofs.lemmas.List.Elements.{All-from_recursion}
 use Rattle.origin_model.specs.sides.Slot.{slot_by}
 use Rattle.origin_model.specs.edits.Passages.{BeforeRight, ByIdentifier, GoesBackward, GoesForward, IsOnLeft, IsPassage, NeverMixed, Together}
-use Rattle.origin_model.proofs.order.{IsIn-held, before_in-irrefl, before_in-trans, chain_above, chain_before-fork, common, heads, left_at-is, lefts-above, lefts-prefix, parts, rights-at, same_chain, sibling-irrefl, sibling-trans, turns}
+use Rattle.origin_model.proofs.order.{IsIn-held, before_in-irrefl, before_in-trans, chain_above, chain_before-fork, common, heads, left_at-is, lefts-above, lefts-prefix, parts}
+use Rattle.origin_model.proofs.order.{rights-at, same_chain, sibling-irrefl, sibling-trans, turns}
 use Rattle.origin_model.proofs.operations.LookupLemmas.{IsHeld, found, right_by}
 use Rattle.origin_model.proofs.sides.SlotLemmas.{left_there, over, slot-yes, slot_by-over, under_left}
 use Rattle.origin_model.proofs.edits.LandsBehindLemmas.{has_left_from, cut_member}
@@ -111,7 +115,8 @@ module _ (p : Place) (h : List Op) (w : Lawful h) where
       rights_over z (IsIn-held p h z n) ∙ ap (λ r. over h (slot_by h (left_at h z) r) ++ z ∷ []) f ∙ ap (λ s. over h s ++ z ∷ []) (slot-yes h (left_at h z) y k)
 
   -- and those of a backward passage
-  backward : (x y : Identifier) (ys : List Identifier) (my : List Identifier) → IsIn p h y → left_at h y ≡ left_at h x → rights h y ≡ O x ++ x ∷ my → GoesBackward p h y ys → AllByRecursion (IsFrom x) ys
+  backward : (x y : Identifier) (ys : List Identifier) (my : List Identifier) → IsIn p h y → left_at h y ≡ left_at h x → rights h y ≡ O x ++ x ∷ my → GoesBackward p h y ys
+      → AllByRecursion (IsFrom x) ys
   backward x y [] my m e r g = tt
   backward x y (z ∷ zs) my m e r g =
       let lz : left_at h z ≡ left_at h x = g.1 ∙ e in
@@ -138,17 +143,20 @@ module _ (p : Place) (h : List Op) (w : Lawful h) where
       let lf : lefts h f ≡ chain_above next_left h (left_at h x) ++ b.top ∷ b.more = b.lefts_e ∙ ap (λ z. chain_above next_left h z ++ b.top ∷ b.more) (sym l) in
       let rf : rights h b.top ≡ O x ++ y ∷ b.ms = b.rights_top ∙ ap (λ z. z ++ y ∷ b.ms) oy in
       let d : a.top ≢ b.top = λ i. n (heads x y a.ms b.ms (append_cancel_left (O x) (x ∷ a.ms) (y ∷ b.ms) (sym a.rights_top ∙ ap (rights h) i ∙ rf))) in
-      (λ i. chain_before true S (a.lefts_e i) (lf i)) ∙ common true S (chain_above next_left h (left_at h x)) (a.top ∷ a.more) (b.top ∷ b.more) ∙ chain_before-fork true S a.top b.top a.more b.more d
+      (λ i. chain_before true S (a.lefts_e i) (lf i)) ∙ common true S (chain_above next_left h (left_at h x)) (a.top ∷ a.more) (b.top ∷ b.more)
+      ∙ chain_before-fork true S a.top b.top a.more b.more d
       ∙ (λ i. chain_before false F (a.rights_top i) (rf i)) ∙ common false F (O x) (x ∷ a.ms) (y ∷ b.ms) ∙ chain_before-fork false F x y a.ms b.ms n
       ∙ fork_by_id x y r
 
   -- for each of a list
-  each_apart : (x y e : Identifier) (fs : List Identifier) → x ≢ y → left_at h x ≡ left_at h y → right_at h x ≡ right_at h y → IsFrom x e → AllByRecursion (IsFrom y) fs → AllByRecursion (λ f. before p h e f ≡ id_lt x y) fs
+  each_apart : (x y e : Identifier) (fs : List Identifier) → x ≢ y → left_at h x ≡ left_at h y → right_at h x ≡ right_at h y → IsFrom x e → AllByRecursion (IsFrom y) fs
+      → AllByRecursion (λ f. before p h e f ≡ id_lt x y) fs
   each_apart x y e [] n l r a b = tt
   each_apart x y e (f ∷ fs) n l r a b = (is e f (id_lt x y) (from_apart x y e f n l r a b.0), each_apart x y e fs n l r a b.1)
 
   -- for each pair
-  all_apart : (x y : Identifier) (es fs : List Identifier) → x ≢ y → left_at h x ≡ left_at h y → right_at h x ≡ right_at h y → AllByRecursion (IsFrom x) es → AllByRecursion (IsFrom y) fs → AllByRecursion (λ e. AllByRecursion (λ f. before p h e f ≡ id_lt x y) fs) es
+  all_apart : (x y : Identifier) (es fs : List Identifier) → x ≢ y → left_at h x ≡ left_at h y → right_at h x ≡ right_at h y → AllByRecursion (IsFrom x) es
+      → AllByRecursion (IsFrom y) fs → AllByRecursion (λ e. AllByRecursion (λ f. before p h e f ≡ id_lt x y) fs) es
   all_apart x y [] fs n l r a b = tt
   all_apart x y (e ∷ es) fs n l r a b = (each_apart x y e fs n l r a.0 b, all_apart x y es fs n l r a.1 b)
 
@@ -173,9 +181,12 @@ module _ (p : Place) (h : List Op) (w : Lawful h) where
   last_before r e m g =
       let hr : IsHeld h r = IsIn-held p h r m in
       let lr : lefts h r ≡ chain_above next_left h (left_at h r) ++ r ∷ [] = lefts-above h r w hr in
-      let lt : lefts h g.top ≡ chain_above next_left h (left_at h r) ++ g.top ∷ [] = lefts-above h g.top w (IsIn-held p h g.top g.member) ∙ ap (λ l. chain_above next_left h l ++ g.top ∷ []) g.same_left in
-      let le : lefts h e ≡ chain_above next_left h (left_at h r) ++ g.top ∷ g.below.0 = g.below.1 ∙ ap (λ a. a ++ g.below.0) lt ∙ append_assoc (chain_above next_left h (left_at h r)) (g.top ∷ []) g.below.0 in
-      (λ i. chain_before true S (le i) (lr i)) ∙ common true S (chain_above next_left h (left_at h r)) (g.top ∷ g.below.0) (r ∷ []) ∙ chain_before-fork true S g.top r g.below.0 [] g.other
+      let lt : lefts h g.top ≡ chain_above next_left h (left_at h r) ++ g.top ∷ [] =
+      lefts-above h g.top w (IsIn-held p h g.top g.member) ∙ ap (λ l. chain_above next_left h l ++ g.top ∷ []) g.same_left in
+      let le : lefts h e ≡ chain_above next_left h (left_at h r) ++ g.top ∷ g.below.0 =
+      g.below.1 ∙ ap (λ a. a ++ g.below.0) lt ∙ append_assoc (chain_above next_left h (left_at h r)) (g.top ∷ []) g.below.0 in
+      (λ i. chain_before true S (le i) (lr i)) ∙ common true S (chain_above next_left h (left_at h r)) (g.top ∷ g.below.0) (r ∷ [])
+      ∙ chain_before-fork true S g.top r g.below.0 [] g.other
       ∙ top_before r g.top m g.member g.other g.through
 
   -- no element before r has a chain that passes r
@@ -211,7 +222,14 @@ module _ (p : Place) (h : List Op) (w : Lawful h) where
                 below = below;
               }
               | inr q ↦ elim (cases_id g.top u) [
-                | inl d ↦ record { top = g.top; member = g.member; other = g.other; same_left = g.same_left; through = g.through; below = subst (λ a. Passes (lefts h a) (lefts h z)) (sym d) below }
+                | inl d ↦ record {
+                  top = g.top;
+                  member = g.member;
+                  other = g.other;
+                  same_left = g.same_left;
+                  through = g.through;
+                  below = subst (λ a. Passes (lefts h a) (lefts h z)) (sym d) below;
+                }
                 | inr d ↦ absurd (no_loop_S r u
                     (sym (q g.through.0) ∙ ap (λ a. chain_before false F a (rights h u)) (sym g.through.1)
                     ∙ sym ((λ i. chain_before true S (le i) (t.2 i)) ∙ common true S A (g.top ∷ g.below.0) (u ∷ t.1) ∙ chain_before-fork true S g.top u g.below.0 t.1 d) ∙ k)
@@ -241,7 +259,8 @@ pub by_identifier : ByIdentifier
 by_identifier p h x y w t = is p h w x y (id_lt x y) (from_apart p h w x y x y t.apart t.same_left t.same_right (from_self p h w x t.first) (from_self p h w y t.second))
 
 -- what holds of each pair, by std's word
-all_pairs : (f : Identifier → Identifier → Type 0) (es fs : List Identifier) → AllByRecursion (λ e. AllByRecursion (λ g. f e g) fs) es → AllByRecursion (λ e. All (λ g. f e g) fs) es
+all_pairs : (f : Identifier → Identifier → Type 0) (es fs : List Identifier) → AllByRecursion (λ e. AllByRecursion (λ g. f e g) fs) es
+    → AllByRecursion (λ e. All (λ g. f e g) fs) es
 all_pairs f [] fs a = tt
 all_pairs f (e ∷ es) fs a = (All-from_recursion (λ g. f e g) fs a.0, all_pairs f es fs a.1)
 

@@ -1,5 +1,10 @@
--- Elements of a put, and a section that is added: each is Ready in its turn, and they land directly behind the left origin, in the order in which they are made.
-use Rattle.origin_model.proofs.Words.{All-append, names, All, All-cons, All-nil, AllPairs, Bool, Identifier, IsIn, Lawful, List, None, Op, Option, Place, Ready, Section, SectionRole, Some, Text, TextOf, [], ap, append-nil, append_assoc, arith, catalogue, contains_filter_from, drop, element_of, false, false_from_ne_true, filter, filter-append, given_as, has_op, holds, id_eq-refl, id_of, if◌then◌else◌, is_hidden, is_own, is_some, length, ne-id_eq, not, order, origin_eq, refl, shown, slice_get, subst, suc, sym, take, true, true≢false, verdict, within, ℕ, ◌++◌, ◌+◌, ◌∙◌, ◌∷◌, ◌≡◌, ◌≢◌, ◌≤◌}
+-- Elements of a put, and a section that is added: each is Ready in its turn, and they land directly behind the left
+-- origin, in the order in which they are made.
+use Rattle.origin_model.proofs.Words.{All-append, names, All, All-cons, All-nil, AllPairs, Bool, Identifier, IsIn, Lawful, List, None, Op, Option, Place, Ready, Section}
+use Rattle.origin_model.proofs.Words.{SectionRole, Some, Text, TextOf, [], ap, append-nil, append_assoc, arith, catalogue, contains_filter_from, drop, element_of, false}
+use Rattle.origin_model.proofs.Words.{false_from_ne_true, filter, filter-append, given_as, has_op, holds, id_eq-refl, id_of, if◌then◌else◌, is_hidden, is_own, is_some, length}
+use Rattle.origin_model.proofs.Words.{ne-id_eq, not, order, origin_eq, refl, shown, slice_get, subst, suc, sym, take, true, true≢false, verdict, within, ℕ, ◌++◌, ◌+◌, ◌∙◌, ◌∷◌}
+use Rattle.origin_model.proofs.Words.{◌≡◌, ◌≢◌, ◌≤◌}
 use Rattle.origin_model.proofs.operations.CauseLemmas.{becomes_ready}
 use Rattle.origin_model.proofs.operations.LookupLemmas.{Fits, all_fit, has-holder, holds-other, when_ready}
 use Rattle.origin_model.proofs.operations.ElementLemmas.{element_fits, none_elsewhere, role_in}
@@ -26,7 +31,8 @@ pub new_op : (h : List Op) (op : Op) (x : Identifier) → Lawful h → id_of op 
 new_op h op x w e o k = false_from_ne_true _ (λ t. true≢false (sym (ap is_some (has-holder h x op w t o)) ∙ k))
 
 -- a text between origins of its section is Ready
-text_ready : (h : List Op) (x s : Identifier) (l r : Option Identifier) (ch : ℕ) → Lawful h → holds h x ≡ false → IsIn catalogue h s → Stands l (order (within s) h) → Stands r (order (within s) h)
+text_ready : (h : List Op) (x s : Identifier) (l r : Option Identifier) (ch : ℕ) → Lawful h → holds h x ≡ false → IsIn catalogue h s → Stands l (order (within s) h)
+    → Stands r (order (within s) h)
     → verdict h (Text x s l r ch) ≡ Ready
 text_ready h x s l r ch w k m a b =
     let first = All-append (Fits h) ((s, SectionRole) ∷ []) (given_as (TextOf s) l) (one_fit catalogue h s m) (origin_fit (within s) h l w a) in
@@ -37,7 +43,8 @@ text_ready h x s l r ch w k m a b =
 section_ready : (h : List Op) (x : Identifier) (l r : Option Identifier) (t : List ℕ) → Lawful h → holds h x ≡ false → Stands l (order catalogue h) → Stands r (order catalogue h)
     → verdict h (Section x l r t) ≡ Ready
 section_ready h x l r t w k a b =
-    let f = all_fit h (names (Section x l r t)) (All-append (Fits h) (given_as SectionRole l) (given_as SectionRole r) (origin_fit catalogue h l w a) (origin_fit catalogue h r w b)) in
+    let f = all_fit h (names (Section x l r t))
+    (All-append (Fits h) (given_as SectionRole l) (given_as SectionRole r) (origin_fit catalogue h l w a) (origin_fit catalogue h r w b)) in
     becomes_ready h (Section x l r t) (new_op h (Section x l r t) x w refl (id_eq-refl x) k) k f.0 f.1
 
 -- what operations that are elements of one place do
@@ -63,7 +70,8 @@ none_next r c h op e none n k =
 typing : (chs : List ℕ) (r c : ℕ) (s : Identifier) (h : List Op) (left right : Option Identifier) (front back : List Identifier)
     → Lawful h → IsIn catalogue h s → NoneFrom r c h → order (within s) h ≡ front ++ back → left ≡ last_before front → right ≡ first_after back
     → Landed (within s) h (typed_texts r c s left right chs) (typed_ids r c chs) front back
-typing [] r c s h left right front back w m none o a b = record { ready = tt; lawful = w; after = o ∙ ap (λ f. f ++ back) (sym (append-nil front)); hidden = λ x. refl; elsewhere = λ q n. refl }
+typing [] r c s h left right front back w m none o a b =
+    record { ready = tt; lawful = w; after = o ∙ ap (λ f. f ++ back) (sym (append-nil front)); hidden = λ x. refl; elsewhere = λ q n. refl }
 typing (ch ∷ chs) r c s h left right front back w m none o a b =
     let p : Place = within s in
     let x : Identifier = id_at r c in
@@ -87,10 +95,12 @@ typing (ch ∷ chs) r c s h left right front back w m none o a b =
 typed_shown : (chs : List ℕ) (r c : ℕ) (h : List Op) → Lawful h → NoneFrom r c h → All (λ x. not (is_hidden h x) ≡ true) (typed_ids r c chs)
 typed_shown [] r c h w none = All-nil (λ x. not (is_hidden h x) ≡ true)
 typed_shown (ch ∷ chs) r c h w none =
-    All-cons (λ x. not (is_hidden h x) ≡ true) (id_at r c) (typed_ids r (suc c) chs) (ap not (not_hidden_before h (id_at r c) w (none c (omega arith)))) (typed_shown chs r (suc c) h w (λ n k. none n (omega (arith, k))))
+    All-cons (λ x. not (is_hidden h x) ≡ true) (id_at r c) (typed_ids r (suc c) chs) (ap not (not_hidden_before h (id_at r c) w (none c (omega arith))))
+    (typed_shown chs r (suc c) h w (λ n k. none n (omega (arith, k))))
 
 -- an edit whose elements land in the gap of the place `at`
-inserted : (p : Place) (h ops : List Op) (at : ℕ) (ids : List Identifier) (s : Split (is_shown h) (order p h) at) → All (λ x. is_shown h x ≡ true) ids → Landed p h ops ids s.front s.back → IsEdit p h ops at 0 ids × StandsBehind (left_for p h at) ids (order p h) (order p (history_with h ops))
+inserted : (p : Place) (h ops : List Op) (at : ℕ) (ids : List Identifier) (s : Split (is_shown h) (order p h) at) → All (λ x. is_shown h x ≡ true) ids
+    → Landed p h ops ids s.front s.back → IsEdit p h ops at 0 ids × StandsBehind (left_for p h at) ids (order p h) (order p (history_with h ops))
 inserted p h ops at ids s each l =
     let k : Identifier → Bool = is_shown h in
     let same : (q : Place) → shown q (history_with h ops) ≡ filter k (order q (history_with h ops)) = λ q. (λ i. filter (λ x. not (l.hidden x i)) (order q (history_with h ops))) in
@@ -128,7 +138,8 @@ shown_in p h k x w e = order-member p h x w (contains_filter_from (is_shown h) (
 
 -- a put in a section that is there
 put_in_lands : (r : ℕ) (h w : List Op) (s : Identifier) (at : ℕ) (new : List ℕ) → Lawful h → IsIn catalogue h s → at ≤ length (shown (within s) h)
-    → IsEdit (within s) h (put_in r h w s at new) at 0 (typed_ids r (next_counter r h w) new) × StandsBehind (left_for (within s) h at) (typed_ids r (next_counter r h w) new) (order (within s) h) (order (within s) (history_with h (put_in r h w s at new)))
+    → IsEdit (within s) h (put_in r h w s at new) at 0 (typed_ids r (next_counter r h w) new)
+    × StandsBehind (left_for (within s) h at) (typed_ids r (next_counter r h w) new) (order (within s) h) (order (within s) (history_with h (put_in r h w s at new)))
 put_in_lands r h w s at new v m l =
     let p : Place = within s in
     let c : ℕ = next_counter r h w in

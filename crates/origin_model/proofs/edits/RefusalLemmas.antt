@@ -1,10 +1,12 @@
 -- Edits: which are refused, and how those that are not land.
-use Rattle.origin_model.proofs.Words.{Bool, Identifier, Lawful, List, None, Op, Option, Place, Some, [], ap, arith, catalogue, false, if◌then◌else◌, length, order, refl, subst, sym, true, within, ℕ, ◌+◌, ◌≡◌, ◌≤◌}
+use Rattle.origin_model.proofs.Words.{Bool, Identifier, Lawful, List, None, Op, Option, Place, Some, [], ap, arith, catalogue, false, if◌then◌else◌, length, order, refl, subst}
+use Rattle.origin_model.proofs.Words.{sym, true, within, ℕ, ◌+◌, ◌≡◌, ◌≤◌}
 use Rattle.std.specs.Prelude.{nat_lt}
 use Rattle.std.proofs.lemmas.Bool.{ltb-false}
 use Rattle.origin_model.specs.edits.Edits.{Command, Put, Cut, Add, DropSection, IsEdit, ReadyInTurn, history_with, left_for}
 use Rattle.origin_model.specs.edits.Landing.{StandsBehind}
-use Rattle.origin_model.specs.edits.Refusal.{added_ids, held_count, in_range, in_section, made_by, put_ids, refusal_message, refused_elements, refused_ops, section_shown, shown_count}
+use Rattle.origin_model.specs.edits.Refusal.{added_ids, held_count, in_range, in_section, made_by, put_ids, refusal_message, refused_elements, refused_ops, section_shown}
+use Rattle.origin_model.specs.edits.Refusal.{shown_count}
 use Rattle.origin_model.specs.edits.Effect.{IsErased, IsInserted, IsSpliced, Lands, with_ops}
 use Rattle.origin_model.specs.edits.State.{State}
 use Rattle.origin_model.specs.declared.edit_fault.EditFault.{EditFault}
@@ -77,11 +79,13 @@ pub cut_count : (s : State) (k at n : ℕ) → refusal_message s (Cut k at n) �
 cut_count s k at n e = let m = may_cut s k at n e in cut_counted s.number s.held.history s.held.waiting k m.section at n m.there m.within_shown
 
 -- what is shown after an edit
-splices : (p : Place) (old new : State) (ops : List Op) (at n : ℕ) (ids : List Identifier) → new ≡ with_ops old ops → IsEdit p old.held.history ops at n ids → IsSpliced p old new at n ids
+splices : (p : Place) (old new : State) (ops : List Op) (at n : ℕ) (ids : List Identifier) → new ≡ with_ops old ops → IsEdit p old.held.history ops at n ids
+    → IsSpliced p old new at n ids
 splices p old new ops at n ids is e = subst (λ s. IsSpliced p old s at n ids) (sym is) (record { here = e.here; elsewhere = e.elsewhere })
 
 inserts : (p : Place) (old new : State) (ops : List Op) (at : ℕ) (ids : List Identifier) → new ≡ with_ops old ops
-    → IsEdit p old.held.history ops at 0 ids × StandsBehind (left_for p old.held.history at) ids (order p old.held.history) (order p (history_with old.held.history ops)) → IsInserted p old new at ids
+    → IsEdit p old.held.history ops at 0 ids × StandsBehind (left_for p old.held.history at) ids (order p old.held.history) (order p (history_with old.held.history ops))
+    → IsInserted p old new at ids
 inserts p old new ops at ids is lands =
     record {
       splices = splices p old new ops at 0 ids is lands.0;
@@ -97,7 +101,8 @@ erases p old new ops at n is takes =
     }
 
 -- an edit that is not refused lands where it was asked
-pub edit_lands : (command : Command) (old new : State) → Lawful old.held.history → refusal_message old command ≡ None → new ≡ with_ops old (made_by old command) → Lands old new command
+pub edit_lands : (command : Command) (old new : State) → Lawful old.held.history → refusal_message old command ≡ None → new ≡ with_ops old (made_by old command)
+    → Lands old new command
 edit_lands (Put k at text) old new w e is =
     let m = may_put old k at text e in (
       m.section,

@@ -1,5 +1,8 @@
 -- A run goes in whole: each of its Texts is Ready in its turn, decides nothing that waits, and lands behind the one before.
-use Rattle.origin_model.proofs.Words.{All, All-append, All-cons, All-head, All-nil, All-tail, All-weaker, Contains, Identifier, Lawful, List, Op, Option, Place, Ready, Role, SectionRole, Some, Text, TextOf, [], all_before, all_behind, all_from_contains, ap, append_assoc, arith, false, false_from_ne_true, flat_map, given_as, holder, holds, id_eq, id_eq-refl, is_own, is_some, left_of, length, map, names, nat_eq, ne-id_eq, ne_eqb, option_to_list, order, refl, right_of, subst, suc, sym, true, true≢false, verdict, within, zero, ℕ, ◌++◌, ◌+◌, ◌-◌, ◌<◌, ◌∙◌, ◌∷◌, ◌≡◌, ◌≢◌, ◌≤◌}
+use Rattle.origin_model.proofs.Words.{All, All-append, All-cons, All-head, All-nil, All-tail, All-weaker, Contains, Identifier, Lawful, List, Op, Option, Place, Ready, Role}
+use Rattle.origin_model.proofs.Words.{SectionRole, Some, Text, TextOf, [], all_before, all_behind, all_from_contains, ap, append_assoc, arith, false, false_from_ne_true, flat_map}
+use Rattle.origin_model.proofs.Words.{given_as, holder, holds, id_eq, id_eq-refl, is_own, is_some, left_of, length, map, names, nat_eq, ne-id_eq, ne_eqb, option_to_list, order}
+use Rattle.origin_model.proofs.Words.{refl, right_of, subst, suc, sym, true, true≢false, verdict, within, zero, ℕ, ◌++◌, ◌+◌, ◌-◌, ◌<◌, ◌∙◌, ◌∷◌, ◌≡◌, ◌≢◌, ◌≤◌}
 use Rattle.fugue_ids.specs.Runs.{id_behind, ids_in_a_row, in_a_row, left_behind, next_id, run_from, text_by}
 use Rattle.fugue_ids.specs.declared.run.RunStart.{RunStart}
 use Rattle.fugue_ids.proofs.RunLemmas.{left_one, length-typed, none_behind, one_behind}
@@ -31,7 +34,8 @@ within_extended h (op ∷ ops) w = within-older op h (history_with (op ∷ h) op
 
 -- Where the elements stand
 
-row_lands : (id s : Identifier) (l r : Option Identifier) (ch : ℕ) (text : List ℕ) (h : List Op) (front back : List Identifier) → Lawful (history_with h (in_a_row id s l r (ch ∷ text)))
+row_lands : (id s : Identifier) (l r : Option Identifier) (ch : ℕ) (text : List ℕ) (h : List Op) (front back : List Identifier)
+    → Lawful (history_with h (in_a_row id s l r (ch ∷ text)))
     → order (within s) (Text id s l r ch ∷ h) ≡ front ++ id ∷ back
     → order (within s) (history_with h (in_a_row id s l r (ch ∷ text))) ≡ front ++ ids_in_a_row id (ch ∷ text) ++ back
 row_lands id s l r ch [] h front back w whole = whole ∙ sym (append_assoc front (id ∷ []) back)
@@ -47,7 +51,8 @@ row_lands id s l r ch (next ∷ text) h front back w whole =
 pub run_lands : RunLands
 run_lands start ch text h front back w whole = row_lands start.id start.section start.left start.right ch text h front back w whole
 
-row_elsewhere : (id s : Identifier) (l r : Option Identifier) (text : List ℕ) (h : List Op) (p : Place) → p ≢ within s → order p (history_with h (in_a_row id s l r text)) ≡ order p h
+row_elsewhere : (id s : Identifier) (l r : Option Identifier) (text : List ℕ) (h : List Op) (p : Place) → p ≢ within s
+    → order p (history_with h (in_a_row id s l r text)) ≡ order p h
 row_elsewhere id s l r [] h p n = refl
 row_elsewhere id s l r (ch ∷ text) h p n =
     let first : Op = Text id s l r ch in
@@ -68,11 +73,14 @@ next_ready id s l r ch next h w free =
     let home : All (Fits g) ((s, SectionRole) ∷ []) = All-weaker (Fits h) (Fits g) older ((s, SectionRole) ∷ []) e.home in
     let left : All (Fits g) (given_as (TextOf s) (Some id)) = All-cons (Fits g) (id, TextOf s) [] (first, holder-own first h id (id_eq-refl id), id_eq-refl s) (All-nil (Fits g)) in
     let right : All (Fits g) (given_as (TextOf s) r) = All-weaker (Fits h) (Fits g) older (given_as (TextOf s) r) e.right in
-    let f = all_fit g (names second) (All-append (Fits g) ((s, SectionRole) ∷ given_as (TextOf s) (Some id)) (given_as (TextOf s) r) (All-append (Fits g) ((s, SectionRole) ∷ []) (given_as (TextOf s) (Some id)) home left) right) in
+    let f = all_fit g (names second)
+    (All-append (Fits g) ((s, SectionRole) ∷ given_as (TextOf s) (Some id)) (given_as (TextOf s) r)
+    (All-append (Fits g) ((s, SectionRole) ∷ []) (given_as (TextOf s) (Some id)) home left) right) in
     becomes_ready g second (new_op g second (next_id id) w refl (id_eq-refl (next_id id)) free) free f.0 f.1
 
 -- identifiers behind another are free once that is held
-free_behind : (id s : Identifier) (l r : Option Identifier) (ch : ℕ) (at : Identifier) (text : List ℕ) (h : List Op) → id.counter < at.counter → All (λ x. holds h x ≡ false) (ids_in_a_row at text)
+free_behind : (id s : Identifier) (l r : Option Identifier) (ch : ℕ) (at : Identifier) (text : List ℕ) (h : List Op) → id.counter < at.counter
+    → All (λ x. holds h x ≡ false) (ids_in_a_row at text)
     → All (λ x. holds (Text id s l r ch ∷ h) x ≡ false) (ids_in_a_row at text)
 free_behind id s l r ch at [] h less f = All-nil (λ x. holds (Text id s l r ch ∷ h) x ≡ false)
 free_behind id s l r ch at (c ∷ text) h less f =
@@ -81,7 +89,8 @@ free_behind id s l r ch at (c ∷ text) h less f =
     (holds-other (Text id s l r ch) h at (ne-id_eq id at apart) ∙ All-head (λ x. holds h x ≡ false) at (ids_in_a_row (next_id at) text) f)
     (free_behind id s l r ch (next_id at) text h (omega (arith, less)) (All-tail (λ x. holds h x ≡ false) at (ids_in_a_row (next_id at) text) f))
 
-row_ready : (id s : Identifier) (l r : Option Identifier) (ch : ℕ) (text : List ℕ) (h : List Op) → Lawful h → verdict h (Text id s l r ch) ≡ Ready → All (λ x. holds h x ≡ false) (ids_in_a_row (next_id id) text)
+row_ready : (id s : Identifier) (l r : Option Identifier) (ch : ℕ) (text : List ℕ) (h : List Op) → Lawful h → verdict h (Text id s l r ch) ≡ Ready
+    → All (λ x. holds h x ≡ false) (ids_in_a_row (next_id id) text)
     → ReadyInTurn h (in_a_row id s l r (ch ∷ text))
 row_ready id s l r ch [] h w ready f = (ready, tt)
 row_ready id s l r ch (next ∷ text) h w ready f =
@@ -106,7 +115,8 @@ unheld (o ∷ w) x a =
     All-head P x named (subst (λ z. All P (option_to_list z ++ named)) (own_id o x t) (all_before P (mentioned_ids o) (flat_map mentioned_ids w) a)))) in
     holds-other o w x own ∙ unheld w x (all_behind P (mentioned_ids o) (flat_map mentioned_ids w) a)
 
-row_unknown : (id s : Identifier) (l r : Option Identifier) (text : List ℕ) (w : List Op) → All (λ x. Contains (flat_map mentioned_ids w) x → ⊥) (ids_in_a_row id text) → All (IsUnknown w) (in_a_row id s l r text)
+row_unknown : (id s : Identifier) (l r : Option Identifier) (text : List ℕ) (w : List Op) → All (λ x. Contains (flat_map mentioned_ids w) x → ⊥) (ids_in_a_row id text)
+    → All (IsUnknown w) (in_a_row id s l r text)
 row_unknown id s l r [] w a = All-nil (IsUnknown w)
 row_unknown id s l r (ch ∷ text) w a =
     let P : Identifier → Type 0 = λ x. Contains (flat_map mentioned_ids w) x → ⊥ in
@@ -207,7 +217,8 @@ module _ (start : RunStart) (ch : ℕ) (text : List ℕ) (h : List Op) (w : Lawf
 pub runs_go_in_whole : RunsGoInWhole
 runs_go_in_whole hold most s start ch text can =
     let run : List Op = run_from start (ch ∷ text) in
-    let free : All (λ x. holds s.history x ≡ false) (ids_in_a_row (next_id start.id) text) = All-tail (λ x. holds s.history x ≡ false) start.id (ids_in_a_row (next_id start.id) text) can.free in
+    let free : All (λ x. holds s.history x ≡ false) (ids_in_a_row (next_id start.id) text) =
+    All-tail (λ x. holds s.history x ≡ false) start.id (ids_in_a_row (next_id start.id) text) can.free in
     let ready : ReadyInTurn s.history run = row_ready start.id start.section start.left start.right ch text s.history can.lawful can.ready free in
     let unknown : All (IsUnknown s.waiting) run = row_unknown start.id start.section start.left start.right (ch ∷ text) s.waiting can.unnamed in
     let lawful : Lawful (history_with s.history run) = ready_lawful s.history run can.lawful ready in

@@ -1,5 +1,8 @@
 -- A list cut in two at a place of what is kept of it.
-use Rattle.origin_model.proofs.Words.{All, All-contains, All-head, All-tail, AllPairs, Bool, Contains, Contains-append_left, Identifier, List, None, Op, Option, Some, [], all_pairs_head, all_pairs_tail, ap, arith, cases_Bool, cases_origin, contains_here, contains_middle, contains_there, drop, false, filter, id_eq, id_eq-refl, if◌then◌else◌, inl, inr, is_hidden, length, ne-id_eq, not, refl, slice_get, subst, suc, sym, take, true, zero, ℕ, ◌++◌, ◌∙◌, ◌∷◌, ◌≡◌, ◌≢◌, ◌≤◌}
+use Rattle.origin_model.proofs.Words.{All, All-contains, All-head, All-tail, AllPairs, Bool, Contains, Contains-append_left, Identifier, List, None, Op, Option, Some, []}
+use Rattle.origin_model.proofs.Words.{all_pairs_head, all_pairs_tail, ap, arith, cases_Bool, cases_origin, contains_here, contains_middle, contains_there, drop, false, filter}
+use Rattle.origin_model.proofs.Words.{id_eq, id_eq-refl, if◌then◌else◌, inl, inr, is_hidden, length, ne-id_eq, not, refl, slice_get, subst, suc, sym, take, true, zero, ℕ, ◌++◌}
+use Rattle.origin_model.proofs.Words.{◌∙◌, ◌∷◌, ◌≡◌, ◌≢◌, ◌≤◌}
 use Rattle.origin_model.proofs.order.{Stands, filter_no, filter_yes, no_member, not_nil}
 use Rattle.origin_model.specs.edits.Landing.{following, first_after}
 use Rattle.fugue_ids.specs.Listed.{last_before}
@@ -116,8 +119,10 @@ following_end (e ∷ f ∷ es) back d =
     elim (cases_origin (last_before rest)) [
       | inl n ↦ absurd (no_member rest f (end_none rest n) (contains_here f es))
       | inr m ↦
-          let apart : e ≢ m.0 = All-contains (λ y. e ≢ y) (rest ++ back) m.0 (all_pairs_head (λ x y. x ≢ y) e (rest ++ back) d) (Contains-append_left rest back m.0 (end_in rest m.0 m.1)) in
-          ap (following (e ∷ rest ++ back)) m.1 ∙ follow-other e m.0 (rest ++ back) (ne-id_eq e m.0 apart) ∙ ap (following (rest ++ back)) (sym m.1) ∙ following_end (f ∷ es) back (all_pairs_tail (λ x y. x ≢ y) e (rest ++ back) d)
+          let apart : e ≢ m.0 = All-contains (λ y. e ≢ y) (rest ++ back) m.0 (all_pairs_head (λ x y. x ≢ y) e (rest ++ back) d)
+          (Contains-append_left rest back m.0 (end_in rest m.0 m.1)) in
+          ap (following (e ∷ rest ++ back)) m.1 ∙ follow-other e m.0 (rest ++ back) (ne-id_eq e m.0 apart) ∙ ap (following (rest ++ back)) (sym m.1)
+          ∙ following_end (f ∷ es) back (all_pairs_tail (λ x y. x ≢ y) e (rest ++ back) d)
     ]
 
 -- an origin that stands in a list stands in a longer one

@@ -1,8 +1,12 @@
 -- The operations of an edit decide nothing that waits.
-use Rattle.origin_model.proofs.Words.{All, All-cons, All-head, All-nil, All-tail, Bool, Delete, Identifier, List, None, Op, Option, Role, Section, Some, Text, [], all_before, all_behind, all_from_contains, all_from_map, arith, catalogue, drop, false, false≢true, first_line, first_missing, first_stray, fits, flat_map, has_op, id_held, id_of, if◌then◌else◌, is_own, map, names, op_eq, option_to_list, or_right, refl, shown, slice_get, suc, take, true, verdict, within, ℕ, ◌∙◌, ◌∷◌, ◌≡◌, ◌≤◌}
+use Rattle.origin_model.proofs.Words.{All, All-cons, All-head, All-nil, All-tail, Bool, Delete, Identifier, List, None, Op, Option, Role, Section, Some, Text, [], all_before}
+use Rattle.origin_model.proofs.Words.{all_behind, all_from_contains, all_from_map, arith, catalogue, drop, false, false≢true, first_line, first_missing, first_stray, fits}
+use Rattle.origin_model.proofs.Words.{flat_map, has_op, id_held, id_of, if◌then◌else◌, is_own, map, names, op_eq, option_to_list, or_right, refl, shown, slice_get, suc, take, true}
+use Rattle.origin_model.proofs.Words.{verdict, within, ℕ, ◌∙◌, ◌∷◌, ◌≡◌, ◌≤◌}
 use Rattle.std.proofs.Math.Nat.{le_refl}
 use Rattle.std.proofs.lemmas.List.Elements.{All-map}
-use Rattle.origin_model.specs.edits.Edits.{Add, Command, Cut, DropSection, Put, cut_in, deletes_of, history_with, id_at, left_for, made, next_counter, put_in, right_for, typed_texts}
+use Rattle.origin_model.specs.edits.Edits.{Add, Command, Cut, DropSection, Put, cut_in, deletes_of, history_with, id_at, left_for, made, next_counter, put_in, right_for}
+use Rattle.origin_model.specs.edits.Edits.{typed_texts}
 use Rattle.origin_model.specs.operations.Counters.{mentioned_ids}
 use Rattle.origin_model.specs.taking.Taking.{IsSettled, decided_on, is_decided}
 use Rattle.origin_model.proofs.edits.FreshIdLemmas.{BelowAll, IsUnknown, delete_unknown, new_unknown, waiting_below}
@@ -27,7 +31,8 @@ missing_same op h (n ∷ ns) a =
     λ i. elim (holder-other op h n.0 (All-head (λ n. is_own n.0 op ≡ false) n ns a) i) [ None ↦ Some n.0 | Some o ↦ rest i ]
 
 -- an operation or an identifier that comes to be there decides nothing
-undecided_line : (b c d e : Bool) (s m : Option Identifier) → (b ≡ true → d ≡ true) → (c ≡ true → e ≡ true) → is_decided (first_line b c s m) ≡ false → is_decided (first_line d e s m) ≡ false
+undecided_line : (b c d e : Bool) (s m : Option Identifier) → (b ≡ true → d ≡ true) → (c ≡ true → e ≡ true) → is_decided (first_line b c s m) ≡ false
+    → is_decided (first_line d e s m) ≡ false
 undecided_line b c true e s m f g k = refl
 undecided_line b c false true s m f g k = refl
 undecided_line true c false false s m f g k = absurd (false≢true (f refl))
@@ -62,7 +67,8 @@ stays op h w u a = each w u.1 a
     each (o ∷ w) u a =
         let P : Identifier → Type 0 = λ i. is_own i op ≡ false in
         let rest = each w (all_behind P (mentioned_ids o) (flat_map mentioned_ids w) u) (All-tail (λ z. decided_on h z ≡ false) o w a) in
-        All-cons (λ z. decided_on (op ∷ h) z ≡ false) o w (undecided_one op h o (all_before P (mentioned_ids o) (flat_map mentioned_ids w) u) (All-head (λ z. decided_on h z ≡ false) o w a)) rest
+        All-cons (λ z. decided_on (op ∷ h) z ≡ false) o w
+        (undecided_one op h o (all_before P (mentioned_ids o) (flat_map mentioned_ids w) u) (All-head (λ z. decided_on h z ≡ false) o w a)) rest
 
 -- typed texts are unknown
 typed_unknown : (chs : List ℕ) (r c n : ℕ) (s : Identifier) (l q : Option Identifier) (w : List Op) → BelowAll r c w → c ≤ n → All (IsUnknown w) (typed_texts r n s l q chs)

@@ -1,11 +1,13 @@
 -- A file by its parts: a new one, one with a further batch, and one with other bytes behind its gate.
-use Rattle.origin_model.proofs.Words.{All, All-append, All-cons, All-nil, List, [], ap, append-nil, append_assoc, arith, drop, length, length-append, length-take-le, refl, suc, sym, take, take-append-drop, true, ℕ, ◌&&◌, ◌++◌, ◌+◌, ◌<◌, ◌^◌, ◌∙◌, ◌∷◌, ◌≡◌, ◌≢◌, ◌≤◌}
+use Rattle.origin_model.proofs.Words.{All, All-append, All-cons, All-nil, List, [], ap, append-nil, append_assoc, arith, drop, length, length-append, length-take-le, refl, suc}
+use Rattle.origin_model.proofs.Words.{sym, take, take-append-drop, true, ℕ, ◌&&◌, ◌++◌, ◌+◌, ◌<◌, ◌^◌, ◌∙◌, ◌∷◌, ◌≡◌, ◌≢◌, ◌≤◌}
 use Rattle.std.proofs.Common.{nat_le}
 use Rattle.std.proofs.Math.Seq.{drop-append_seam, take-append-add, take-append_seam}
 use Rattle.std.proofs.lemmas.Bool.{and_from, and_parts, le-leb, leb-true}
 use Rattle.std.proofs.lemmas.Nat.{from_be_bytes-to_be_bytes_4}
 use Rattle.fugue_ids.specs.declared.limits.TheConstants.{GREATEST_HOLD}
-use Rattle.origin_model.specs.files.Image.{Batch, Content, HasImage, Holds, IsBatch, batch_ops, content_of, header, header_of, is_header, last_slot, new_file, open_slot, open_slots, slots_of}
+use Rattle.origin_model.specs.files.Image.{Batch, Content, HasImage, Holds, IsBatch, batch_ops, content_of, header, header_of, is_header, last_slot, new_file, open_slot}
+use Rattle.origin_model.specs.files.Image.{open_slots, slots_of}
 use Rattle.origin_model.proofs.files.BatchLemmas.{ops-append, slots-append}
 
 -- a header, open slots, another gate than 1, and any bytes
@@ -74,7 +76,8 @@ with_gate bytes content p =
     (λ i. take (at i) (p.split i)) ∙ take-append-add p.head (slots ++ p.gate ∷ p.rest) (length slots + 1) ∙ ap (λ z. p.head ++ z) (take-append-add slots (p.gate ∷ p.rest) 1)
 
 -- bytes behind the gate count for nothing
-pub same_to_gate : (bytes other : List ℕ) (content : Content) → HasImage bytes (Holds content) → take (suc content.at) other ≡ take (suc content.at) bytes → HasImage other (Holds content)
+pub same_to_gate : (bytes other : List ℕ) (content : Content) → HasImage bytes (Holds content) → take (suc content.at) other ≡ take (suc content.at) bytes
+    → HasImage other (Holds content)
 same_to_gate bytes other content h e =
     let p = to_parts bytes content h in
     let more : List ℕ = drop (suc content.at) other in
@@ -111,7 +114,8 @@ batch_appended bytes content new gate rest h is few closed =
     let slots_before : content.slots ≡ length p.batches = ap (λ z. z.slots) p.content_is in
     let at : content.at + length (open_slot new) ≡ 13 + length (open_slots batches) =
     omega (arith, ap (λ z. z.at) p.content_is, ap length slots, length-append (open_slots p.batches) (open_slot new)) in
-    let all_ops : content.ops ++ new.ops ≡ batch_ops batches = ap (λ z. z.ops ++ new.ops) p.content_is ∙ ap (λ z. batch_ops p.batches ++ z) (sym (append-nil new.ops)) ∙ sym (ops-append p.batches (new ∷ [])) in
+    let all_ops : content.ops ++ new.ops ≡ batch_ops batches =
+    ap (λ z. z.ops ++ new.ops) p.content_is ∙ ap (λ z. batch_ops p.batches ++ z) (sym (append-nil new.ops)) ∙ sym (ops-append p.batches (new ∷ [])) in
     from_parts (take content.at bytes ++ (open_slot new ++ gate ∷ rest)) (with_batch content new) (record {
       head = p.head;
       batches = batches;
@@ -125,7 +129,13 @@ batch_appended bytes content new gate rest h is few closed =
       split =
           ap (λ z. z ++ (open_slot new ++ gate ∷ rest)) (before_gate bytes content p) ∙ append_assoc p.head (open_slots p.batches) (open_slot new ++ gate ∷ rest)
           ∙ ap (λ z. p.head ++ z) (sym (append_assoc (open_slots p.batches) (open_slot new) (gate ∷ rest)) ∙ ap (λ z. z ++ gate ∷ rest) (sym slots));
-      content_is = λ i. record { replica = (p.content_is i).replica; hold = (p.content_is i).hold; ops = all_ops i; at = at i; slots = (ap (λ n. n + 1) slots_before ∙ sym count) i };
+      content_is = λ i. record {
+        replica = (p.content_is i).replica;
+        hold = (p.content_is i).hold;
+        ops = all_ops i;
+        at = at i;
+        slots = (ap (λ n. n + 1) slots_before ∙ sym count) i;
+      };
     })
 
 -- a new file holds nothing
@@ -141,7 +151,8 @@ new_file_holds replica hold some fits held within =
       rest = [];
       long = refl;
       is_head = (λ i. nat_le 1 (r i) && nat_le 1 (n i) && nat_le (n i) GREATEST_HOLD)
-          ∙ and_from (nat_le 1 replica && nat_le 1 hold) (nat_le hold GREATEST_HOLD) (and_from (nat_le 1 replica) (nat_le 1 hold) (le-leb 1 replica some) (le-leb 1 hold held)) (le-leb hold GREATEST_HOLD within);
+          ∙ and_from (nat_le 1 replica && nat_le 1 hold) (nat_le hold GREATEST_HOLD) (and_from (nat_le 1 replica) (nat_le 1 hold) (le-leb 1 replica some) (le-leb 1 hold held))
+          (le-leb hold GREATEST_HOLD within);
       batches_are = All-nil IsBatch;
       few = omega arith;
       closed = λ e. omega (arith, e);

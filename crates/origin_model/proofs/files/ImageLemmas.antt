@@ -1,8 +1,11 @@
 -- The image of a file: one at most, told by its parts, and what a further batch makes of it.
-use Rattle.origin_model.proofs.Words.{AllByRecursion, List, Op, [], ap, append_assoc, arith, drop, false≢true, length, length-append, refl, subst, suc, sym, take, ℕ, ◌++◌, ◌+◌, ◌<◌, ◌∙◌, ◌∷◌, ◌≡◌, ◌≢◌, ◌≤◌}
+use Rattle.origin_model.proofs.Words.{AllByRecursion, List, Op, [], ap, append_assoc, arith, drop, false≢true, length, length-append, refl, subst, suc, sym, take, ℕ, ◌++◌, ◌+◌}
+use Rattle.origin_model.proofs.Words.{◌<◌, ◌∙◌, ◌∷◌, ◌≡◌, ◌≢◌, ◌≤◌}
 use Rattle.std.proofs.Math.Seq.{take-append_seam}
 use Rattle.std.proofs.lemmas.List.Elements.{recursion_from_All}
-use Rattle.origin_model.specs.files.Image.{BadBatch, Batch, Content, CutShort, EndsBadly, EndsWell, HasImage, Holds, Image, IsBatch, IsNoBatch, LastSlot, NoFrames, NoGate, NoTag, NoWord, NotReplica, OpenSlots, TooLong, content_of, header_of, last_slot, length_at, number_at, open_slot, open_slots, slots_of, word_tag}
+use Rattle.origin_model.specs.files.Image.{BadBatch, Batch, Content, CutShort, EndsBadly, EndsWell, HasImage, Holds, Image, IsBatch, IsNoBatch, LastSlot, NoFrames, NoGate, NoTag}
+use Rattle.origin_model.specs.files.Image.{NoWord, NotReplica, OpenSlots, TooLong, content_of, header_of, last_slot, length_at, number_at, open_slot, open_slots, slots_of}
+use Rattle.origin_model.specs.files.Image.{word_tag}
 use Rattle.origin_model.specs.declared.grammar.Grammar.{Grammar}
 use Rattle.origin_model.specs.frames.Frames.{Reads, Whole}
 use Rattle.origin_model.proofs.files.BatchLemmas.{behind_word, length_is, one_grammar, same_batch, word_is}
@@ -22,13 +25,17 @@ no_fault : (slot : ℕ) (b : Batch) (more bytes : List ℕ) → IsBatch b → mo
 no_fault slot b more bytes h n l e (NoWord k) = omega (arith, k, ap length e, length-append b.word (b.bytes ++ more), h.four_bytes)
 no_fault slot b more bytes h n l e (NoTag none) = none b.grammar (ap (λ z. word_tag (number_at 0 z)) e ∙ ap word_tag (word_is b (b.bytes ++ more) h) ∙ h.tagged)
 no_fault slot b more bytes h n l e (TooLong k) = omega (arith, k, h.short, ap (length_at 0) e ∙ length_is b (b.bytes ++ more) h)
-no_fault slot b more bytes h n l e (CutShort k) = omega (arith, k, ap (length_at 0) e ∙ length_is b (b.bytes ++ more) h, ap length (ap (drop 4) e ∙ behind_word b (b.bytes ++ more) h), length-append b.bytes more)
+no_fault slot b more bytes h n l e (CutShort k) =
+    omega (arith, k, ap (length_at 0) e ∙ length_is b (b.bytes ++ more) h, ap length (ap (drop 4) e ∙ behind_word b (b.bytes ++ more) h), length-append b.bytes more)
 no_fault slot b more bytes h n l e (NoFrames grammar tagged none) =
     let whole : take (length_at 0 bytes) (drop 4 bytes) ≡ b.bytes =
     (λ i. take ((ap (length_at 0) e ∙ length_is b (b.bytes ++ more) h) i) ((ap (drop 4) e ∙ behind_word b (b.bytes ++ more) h) i)) ∙ take-append_seam b.bytes more in
-    let same : b.grammar ≡ grammar = one_grammar b.grammar grammar (sym h.tagged ∙ sym (ap word_tag (word_is b (b.bytes ++ more) h)) ∙ sym (ap (λ z. word_tag (number_at 0 z)) e) ∙ tagged) in
+    let same : b.grammar ≡ grammar =
+    one_grammar b.grammar grammar (sym h.tagged ∙ sym (ap word_tag (word_is b (b.bytes ++ more) h)) ∙ sym (ap (λ z. word_tag (number_at 0 z)) e) ∙ tagged) in
     none b.ops (subst (λ g. Reads g (take (length_at 0 bytes) (drop 4 bytes)) b.ops Whole) same (subst (λ z. Reads b.grammar z b.ops Whole) (sym whole) h.reads))
-no_fault slot b more bytes h n l e (NoGate k) = n (nil_from_length more (omega (arith, k, ap (length_at 0) e ∙ length_is b (b.bytes ++ more) h, ap length (ap (drop 4) e ∙ behind_word b (b.bytes ++ more) h), length-append b.bytes more)))
+no_fault slot b more bytes h n l e (NoGate k) =
+    n (nil_from_length more
+    (omega (arith, k, ap (length_at 0) e ∙ length_is b (b.bytes ++ more) h, ap length (ap (drop 4) e ∙ behind_word b (b.bytes ++ more) h), length-append b.bytes more)))
 no_fault slot b more bytes h n l e (LastSlot k) = omega (arith, k, l)
 
 -- no open slot with a byte behind it stands where the open slots end
@@ -57,12 +64,14 @@ same_slots once k m n (c ∷ cs) [] r q a b e mk nk ml nl x y f g =
     absurd (no_open_slot n c (open_slots cs ++ r) q a.0 (slots_not_empty cs r f) (omega (arith, mk, nk, ml)) (sym e ∙ first_slot c cs r) y)
 same_slots once k m n (b ∷ bs) (c ∷ cs) r q x y e mk nk ml nl u v f g =
     let d : (b.word ++ b.bytes) ++ (open_slots bs ++ r) ≡ (c.word ++ c.bytes) ++ (open_slots cs ++ q) = cc (sym (first_slot b bs r) ∙ e ∙ first_slot c cs q) in
-    let s = same_batch once b c (open_slots bs ++ r) (open_slots cs ++ q) x.0 y.0 (sym (append_assoc b.word b.bytes (open_slots bs ++ r)) ∙ d ∙ append_assoc c.word c.bytes (open_slots cs ++ q)) in
+    let s = same_batch once b c (open_slots bs ++ r) (open_slots cs ++ q) x.0 y.0
+    (sym (append_assoc b.word b.bytes (open_slots bs ++ r)) ∙ d ∙ append_assoc c.word c.bytes (open_slots cs ++ q)) in
     let rest = same_slots once (suc k) m n bs cs r q x.1 y.1 s.1 (omega (arith, mk)) (omega (arith, nk)) ml nl u v f g in
     ((λ i. s.0 i ∷ rest.0 i), rest.1)
 
 -- the batches of two walks of the same bytes are the same
-same_walk : ReadOnce → (slots : List ℕ) (bs cs : List Batch) (r q : List ℕ) → OpenSlots slots bs r → OpenSlots slots cs q → Ends (length bs) r → Ends (length cs) q → (bs ≡ cs) × (r ≡ q)
+same_walk : ReadOnce → (slots : List ℕ) (bs cs : List Batch) (r q : List ℕ) → OpenSlots slots bs r → OpenSlots slots cs q → Ends (length bs) r → Ends (length cs) q
+    → (bs ≡ cs) × (r ≡ q)
 same_walk once slots bs cs r q f g x y =
     same_slots once 0 (length bs) (length cs) bs cs r q (recursion_from_All IsBatch bs f.batches_are) (recursion_from_All IsBatch cs g.batches_are) (sym f.split ∙ g.split)
     (omega arith) (omega arith) f.few g.few x y f.gate g.gate
@@ -90,10 +99,12 @@ image_once once bytes NotReplica (Holds content) x y = absurd (false≢true (sym
 image_once once bytes (BadBatch slot) NotReplica x y = absurd (false≢true (sym y ∙ x.0))
 image_once once bytes (Holds content) NotReplica x y = absurd (false≢true (sym y ∙ x.0))
 image_once once bytes (BadBatch slot) (BadBatch other) x y =
-    let w = same_walk once (slots_of bytes) x.1.batches y.1.batches (1 ∷ x.1.rest) (1 ∷ y.1.rest) x.1.found y.1.found (bad_end (slots_of bytes) slot x.1) (bad_end (slots_of bytes) other y.1) in
+    let w = same_walk once (slots_of bytes) x.1.batches y.1.batches (1 ∷ x.1.rest) (1 ∷ y.1.rest) x.1.found y.1.found (bad_end (slots_of bytes) slot x.1)
+    (bad_end (slots_of bytes) other y.1) in
     ap BadBatch (x.1.number ∙ ap length w.0 ∙ sym y.1.number)
 image_once once bytes (BadBatch slot) (Holds content) x y = absurd (not_both once bytes slot content x.1 y.1)
 image_once once bytes (Holds content) (BadBatch slot) x y = absurd (not_both once bytes slot content y.1 x.1)
 image_once once bytes (Holds content) (Holds other) x y =
-    let w = same_walk once (slots_of bytes) x.1.batches y.1.batches (x.1.gate ∷ x.1.rest) (y.1.gate ∷ y.1.rest) x.1.found y.1.found (good_end bytes content x.1) (good_end bytes other y.1) in
+    let w = same_walk once (slots_of bytes) x.1.batches y.1.batches (x.1.gate ∷ x.1.rest) (y.1.gate ∷ y.1.rest) x.1.found y.1.found (good_end bytes content x.1)
+    (good_end bytes other y.1) in
     ap Holds (x.1.content_is ∙ ap (content_of (header_of bytes)) w.0 ∙ sym y.1.content_is)

@@ -1,10 +1,12 @@
 -- Each list of bytes has an image: a walk of its open slots ends at a gate other than 1, or at an open slot that has no batch.
-use Rattle.origin_model.proofs.Words.{All, All-cons, All-nil, List, Op, [], ap, append_assoc, arith, cases_Bool, drop, inl, inr, length, length-append, length-take-le, refl, suc, sym, take, take-append-drop, true, zero, ℕ, ◌++◌, ◌+◌, ◌<◌, ◌∙◌, ◌∷◌, ◌≡◌, ◌≢◌, ◌≤◌, ◌⊎◌}
+use Rattle.origin_model.proofs.Words.{All, All-cons, All-nil, List, Op, [], ap, append_assoc, arith, cases_Bool, drop, inl, inr, length, length-append, length-take-le, refl, suc}
+use Rattle.origin_model.proofs.Words.{sym, take, take-append-drop, true, zero, ℕ, ◌++◌, ◌+◌, ◌<◌, ◌∙◌, ◌∷◌, ◌≡◌, ◌≢◌, ◌≤◌, ◌⊎◌}
 use Rattle.std.proofs.lemmas.Bool.{and_parts, cases_eq, cases_lt, leb-true}
 use Rattle.std.proofs.lemmas.List.{length-drop}
 use Rattle.std.specs.Prelude.{nat_le}
 use Rattle.origin_model.specs.declared.files.TheConstants.{LONGEST_BATCH}
-use Rattle.origin_model.specs.files.Image.{BadBatch, Batch, CutShort, HasImage, Holds, Image, IsBatch, IsNoBatch, LastSlot, NoFrames, NoGate, NoTag, NoWord, NotReplica, TooLong, content_of, has_header, header_of, is_header, last_slot, length_at, number_at, open_slot, open_slots, slots_of, tag_of, word_tag}
+use Rattle.origin_model.specs.files.Image.{BadBatch, Batch, CutShort, HasImage, Holds, Image, IsBatch, IsNoBatch, LastSlot, NoFrames, NoGate, NoTag, NoWord, NotReplica, TooLong}
+use Rattle.origin_model.specs.files.Image.{content_of, has_header, header_of, is_header, last_slot, length_at, number_at, open_slot, open_slots, slots_of, tag_of, word_tag}
 use Rattle.origin_model.specs.declared.grammar.Grammar.{Grammar}
 use Rattle.origin_model.specs.declared.grammar.Grammar.TheVariants.{Version1, Version2}
 use Rattle.origin_model.specs.frames.Frames.{Reads, Whole}
@@ -116,11 +118,30 @@ walk some (suc n) slot (gate ∷ bytes) l e f =
 image_of : (bytes rest : List ℕ) → has_header bytes ≡ true → (w : Walked 0 (slots_of bytes)) → Ends w.number rest → w.rest ≡ rest → (image : Image) × HasImage bytes image
 image_of bytes rest t w (Closed gate more e closed) same = (
   Holds (content_of (header_of bytes) w.batches),
-  (t, record { batches = w.batches; gate = gate; rest = more; found = record { batches_are = w.batches_are; few = omega (arith, w.few, w.number_is); split = w.split ∙ ap (λ z. open_slots w.batches ++ z) (same ∙ e); gate = λ d. cc d }; closed = closed; content_is = refl }),
+  (
+    t,
+    record {
+      batches = w.batches;
+      gate = gate;
+      rest = more;
+      found = record { batches_are = w.batches_are; few = omega (arith, w.few, w.number_is); split = w.split ∙ ap (λ z. open_slots w.batches ++ z) (same ∙ e); gate = λ d. cc d };
+      closed = closed;
+      content_is = refl;
+    },
+  ),
 )
 image_of bytes rest t w (Bad more e bad) same = (
   BadBatch w.number,
-  (t, record { batches = w.batches; rest = more; found = record { batches_are = w.batches_are; few = omega (arith, w.few, w.number_is); split = w.split ∙ ap (λ z. open_slots w.batches ++ z) (same ∙ e); gate = λ d. cc d }; number = omega (arith, w.number_is); bad = bad }),
+  (
+    t,
+    record {
+      batches = w.batches;
+      rest = more;
+      found = record { batches_are = w.batches_are; few = omega (arith, w.few, w.number_is); split = w.split ∙ ap (λ z. open_slots w.batches ++ z) (same ∙ e); gate = λ d. cc d };
+      number = omega (arith, w.number_is);
+      bad = bad;
+    },
+  ),
 )
 
 -- each list of bytes has an image

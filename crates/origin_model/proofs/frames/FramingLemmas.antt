@@ -1,10 +1,13 @@
 -- The framing that is written: each frame from the front stands for as many operations as one can, and it is the only such one.
-use Rattle.origin_model.proofs.Words.{All, All-cons, All-head, All-nil, All-push, All-tail, Bool, Delete, Note, Identifier, List, None, Op, Option, Section, Some, Text, [], ap, append-nil, append_assoc, arith, false, flat_map, if◌then◌else◌, inl, inr, length, length-append, map, op_eq, op_eq-refl, op_eq-true, refl, subst, sym, true, ℕ, ◌&&◌, ◌++◌, ◌+◌, ◌<◌, ◌∙◌, ◌∷◌, ◌≡◌, ◌≤◌}
+use Rattle.origin_model.proofs.Words.{All, All-cons, All-head, All-nil, All-push, All-tail, Bool, Delete, Note, Identifier, List, None, Op, Option, Section, Some, Text, [], ap}
+use Rattle.origin_model.proofs.Words.{append-nil, append_assoc, arith, false, flat_map, if◌then◌else◌, inl, inr, length, length-append, map, op_eq, op_eq-refl, op_eq-true, refl}
+use Rattle.origin_model.proofs.Words.{subst, sym, true, ℕ, ◌&&◌, ◌++◌, ◌+◌, ◌<◌, ◌∙◌, ◌∷◌, ◌≡◌, ◌≤◌}
 use Rattle.std.specs.Prelude.{nat_lt}
 use Rattle.std.specs.Char.{IsScalar}
 use Rattle.std.proofs.lemmas.Bool.{and_from, and_parts, cases_lt, lt-ltb, ltb-true}
 use Rattle.origin_model.specs.declared.grammar.Grammar.TheVariants.{Version2}
-use Rattle.origin_model.specs.frames.Frames.{Framed, HasFrame, HasRunFrame, IsFrame, IsIdentifier, IsItem, IsFrameOrigin, Item, Reads, Run, Single, Typed, Whole, item_bytes, item_ops, run_ops}
+use Rattle.origin_model.specs.frames.Frames.{Framed, HasFrame, HasRunFrame, IsFrame, IsIdentifier, IsItem, IsFrameOrigin, Item, Reads, Run, Single, Typed, Whole, item_bytes}
+use Rattle.origin_model.specs.frames.Frames.{item_ops, run_ops}
 use Rattle.origin_model.specs.frames.Framings.{AreLongest, IsFraming, IsLongest, IsWritten, item_with, frames, items, items_from, longer, next_text, run_more, scalar_in}
 use Rattle.origin_model.proofs.frames.ItemLemmas.{bytes_of, item_framed, item_is_framed, ops_of, same_parts}
 use Rattle.origin_model.proofs.frames.TypedLemmas.{goes_on, length-run, run_by_ops, typed_more}
@@ -58,7 +61,8 @@ longer_is run op more begun has e =
       text = record { some = omega (arith, long, begun.some); short = omega (arith, long, room); scalars = All-push IsScalar run.text (scalar_in op) begun.scalars next.4 };
       counters_fit = omega (arith, long, next.0.counter_fits);
     } in
-    subst (λ (i : Item). (IsItem Version2 i) × (item_ops i ≡ run_ops run ++ op ∷ [])) p.1 (item_with, typed_more run (scalar_in op) ∙ ap (λ (o : Op). run_ops run ++ o ∷ []) (sym is))
+    subst (λ (i : Item). (IsItem Version2 i) × (item_ops i ≡ run_ops run ++ op ∷ [])) p.1
+    (item_with, typed_more run (scalar_in op) ∙ ap (λ (o : Op). run_ops run ++ o ∷ []) (sym is))
 
 pub extends : (begun : Item) (op : Op) (more : Item) → IsItem Version2 begun → HasFrame op → item_with begun op ≡ Some more → Extends begun op more
 extends (Single (Section id left right title)) op more is has e = absurd (cc e)
@@ -82,21 +86,25 @@ not_longer run other op rest behind begun is none same = elim (cases_lt (length 
 ]
 
 -- the first of a run's operations is a Text
-no_section : (id : Identifier) (left right : Option Identifier) (title : List ℕ) (i s : Identifier) (l r : Option Identifier) (text : List ℕ) (rest behind : List Op) → 1 ≤ length text
+no_section : (id : Identifier) (left right : Option Identifier) (title : List ℕ) (i s : Identifier) (l r : Option Identifier) (text : List ℕ) (rest behind : List Op)
+    → 1 ≤ length text
     → Section id left right title ∷ rest ≡ in_a_row i s l r text ++ behind → ⊥
 no_section id left right title i s l r [] rest behind some same = omega (arith, some)
 no_section id left right title i s l r (c ∷ text) rest behind some same = cc same
 
-no_delete : (target : Identifier) (i s : Identifier) (l r : Option Identifier) (text : List ℕ) (rest behind : List Op) → 1 ≤ length text → Delete target ∷ rest ≡ in_a_row i s l r text ++ behind → ⊥
+no_delete : (target : Identifier) (i s : Identifier) (l r : Option Identifier) (text : List ℕ) (rest behind : List Op) → 1 ≤ length text
+    → Delete target ∷ rest ≡ in_a_row i s l r text ++ behind → ⊥
 no_delete target i s l r [] rest behind some same = omega (arith, some)
 no_delete target i s l r (c ∷ text) rest behind some same = cc same
 
-no_note : (id : Identifier) (named : List Identifier) (code : ℕ) (body : List ℕ) (i s : Identifier) (l r : Option Identifier) (text : List ℕ) (rest behind : List Op) → 1 ≤ length text
+no_note : (id : Identifier) (named : List Identifier) (code : ℕ) (body : List ℕ) (i s : Identifier) (l r : Option Identifier) (text : List ℕ) (rest behind : List Op)
+    → 1 ≤ length text
     → Note id named code body ∷ rest ≡ in_a_row i s l r text ++ behind → ⊥
 no_note id named code body i s l r [] rest behind some same = omega (arith, some)
 no_note id named code body i s l r (c ∷ text) rest behind some same = cc same
 
-no_longer : (begun other : Item) (op : Op) (rest behind : List Op) → IsItem Version2 begun → IsItem Version2 other → item_with begun op ≡ None → item_ops begun ++ op ∷ rest ≡ item_ops other ++ behind
+no_longer : (begun other : Item) (op : Op) (rest behind : List Op) → IsItem Version2 begun → IsItem Version2 other → item_with begun op ≡ None
+    → item_ops begun ++ op ∷ rest ≡ item_ops other ++ behind
     → length (item_ops other) ≤ length (item_ops begun)
 no_longer (Single a) (Single b) op rest behind is has none same = omega arith
 no_longer (Typed run) (Single b) op rest behind is has none same = omega (arith, length-run run, is.text.some)
@@ -139,7 +147,8 @@ none_left = record { are_frames = All-nil (IsFrame Version2); ops_are = refl; lo
 from_are : (begun : Item) (ops : List Op) → IsItem Version2 begun → All HasFrame ops → AreItems (map item_framed (items_from begun ops)) (item_ops begun ++ ops)
 from_are begun [] is all = one_before begun [] [] is (longest_at_end begun) none_left
 from_are begun (op ∷ ops) is all =
-    by_case (item_with begun op) refl (λ more allowed. from_are more ops allowed (All-tail HasFrame op ops all)) (from_are (Single op) ops (All-head HasFrame op ops all) (All-tail HasFrame op ops all))
+    by_case (item_with begun op) refl (λ more allowed. from_are more ops allowed (All-tail HasFrame op ops all))
+    (from_are (Single op) ops (All-head HasFrame op ops all) (All-tail HasFrame op ops all))
   where
     by_case : (o : Option Item) → item_with begun op ≡ o → ((more : Item) → IsItem Version2 more → AreItems (map item_framed (items_from more ops)) (item_ops more ++ ops))
         → AreItems (map item_framed (items_from (Single op) ops)) (op ∷ ops)

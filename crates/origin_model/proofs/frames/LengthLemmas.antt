@@ -1,5 +1,6 @@
 -- How long frames are: no framing is longer than the operations' own frames.
-use Rattle.origin_model.proofs.Words.{All, All-head, All-tail, Delete, Note, Identifier, List, None, Op, Option, Section, Some, Text, [], ap, arith, flat_map, length, length-append, refl, ℕ, ◌+◌, ◌∷◌, ◌≡◌, ◌≤◌}
+use Rattle.origin_model.proofs.Words.{All, All-head, All-tail, Delete, Note, Identifier, List, None, Op, Option, Section, Some, Text, [], ap, arith, flat_map, length}
+use Rattle.origin_model.proofs.Words.{length-append, refl, ℕ, ◌+◌, ◌∷◌, ◌≡◌, ◌≤◌}
 use Rattle.std.specs.Prelude.{◌*◌}
 use Rattle.std.proofs.lemmas.Grind.{flat_map-append}
 use Rattle.origin_model.specs.declared.grammar.Grammar.{Grammar}
@@ -27,7 +28,12 @@ text_long id s before r c = simp length-append (omega (arith, origin_some r))
 typed_long : (id s before : Identifier) (r : Option Identifier) (text : List ℕ) → 30 * length text ≤ length (single_frames (in_a_row id s (Some before) r text))
 typed_long id s before r [] = omega arith
 typed_long id s before r (c ∷ text) =
-    omega (arith, text_long id s before r c, typed_long (next_id id) s id r text, length-append (frame (Text id s (Some before) r c)) (single_frames (in_a_row (next_id id) s (Some id) r text)))
+    omega (
+      arith,
+      text_long id s before r c,
+      typed_long (next_id id) s id r text,
+      length-append (frame (Text id s (Some before) r c)) (single_frames (in_a_row (next_id id) s (Some id) r text)),
+    )
 
 first_long : (id s : Identifier) (l r : Option Identifier) (c : ℕ) → length (frame (Text id s l r c)) ≡ 20 + length (origin_bytes l) + length (origin_bytes r)
 first_long id s l r c = simp length-append (omega arith)

@@ -17,7 +17,8 @@ pub typed_more : (run : Run) (ch : ℕ) → run_ops (run_more run ch) ≡ run_op
 typed_more run ch = typed-append run.id run.section run.left run.right run.text (ch ∷ [])
 
 -- the operation behind Texts that a longer text has there
-next_is : (id s : Identifier) (l r : Option Identifier) (t u : List ℕ) (op : Op) (rest behind : List Op) → in_a_row id s l r t ++ op ∷ rest ≡ in_a_row id s l r u ++ behind → length t < length u
+next_is : (id s : Identifier) (l r : Option Identifier) (t u : List ℕ) (op : Op) (rest behind : List Op) → in_a_row id s l r t ++ op ∷ rest ≡ in_a_row id s l r u ++ behind
+    → length t < length u
     → (ch : ℕ) × (op ≡ Text (id_behind id (length t)) s (left_behind l id (length t)) r ch)
 next_is id s l r [] [] op rest behind same less = absurd (omega (arith, less))
 next_is id s l r (d ∷ t) [] op rest behind same less = absurd (omega (arith, less))
@@ -40,7 +41,8 @@ same_start : (v w : Run) (a b : List Op) → 1 ≤ length v.text → 1 ≤ lengt
 same_start v w a b p q same = go v.id v.section v.left v.right v.text w.id w.section w.left w.right w.text p q same
   where
     go : (i s : Identifier) (l r : Option Identifier) (t : List ℕ) (j z : Identifier) (m q : Option Identifier) (u : List ℕ) → 1 ≤ length t → 1 ≤ length u
-        → in_a_row i s l r t ++ a ≡ in_a_row j z m q u ++ b → SameStart (record { id = i; section = s; left = l; right = r; text = t }) (record { id = j; section = z; left = m; right = q; text = u })
+        → in_a_row i s l r t ++ a ≡ in_a_row j z m q u ++ b
+        → SameStart (record { id = i; section = s; left = l; right = r; text = t }) (record { id = j; section = z; left = m; right = q; text = u })
     go i s l r [] j z m q u p0 p1 same = absurd (omega (arith, p0))
     go i s l r (c ∷ t) j z m q [] p0 p1 same = absurd (omega (arith, p1))
     go i s l r (c ∷ t) j z m q (d ∷ u) p0 p1 same = record { id = cc same; section = cc same; left = cc same; right = cc same }

@@ -1,10 +1,13 @@
--- What the causes of an operation are to a longer history: those that are held and fit stay so, and one that is held and does not fit stays so, for good.
-use Rattle.origin_model.proofs.Words.{All-weaker, Bool, Identifier, List, None, Op, Option, Ready, Role, Some, Stray, [], cases_Bool, false, first_line, first_missing, first_stray, fits, has_op, holder, id_held, id_of, inl, inr, names, not_some, refl, sym, true, verdict, ◌∙◌, ◌∷◌, ◌≡◌}
+-- What the causes of an operation are to a longer history: those that are held and fit stay so, and one that is held
+-- and does not fit stays so, for good.
+use Rattle.origin_model.proofs.Words.{All-weaker, Bool, Identifier, List, None, Op, Option, Ready, Role, Some, Stray, [], cases_Bool, false, first_line, first_missing, first_stray}
+use Rattle.origin_model.proofs.Words.{fits, has_op, holder, id_held, id_of, inl, inr, names, not_some, refl, sym, true, verdict, ◌∙◌, ◌∷◌, ◌≡◌}
 use Rattle.origin_model.proofs.operations.LookupLemmas.{when_ready, Fits, all_fit, cases_held, fit_each, stray-fits, stray-gone, stray-not}
 use Rattle.origin_model.proofs.order.{Within}
 
 -- names that are held and fit stay so
-pub names_within : (s h : List Op) (ns : List (Identifier × Role)) → Within s h → first_stray s ns ≡ None → first_missing s ns ≡ None → (first_stray h ns ≡ None) × (first_missing h ns ≡ None)
+pub names_within : (s h : List Op) (ns : List (Identifier × Role)) → Within s h → first_stray s ns ≡ None → first_missing s ns ≡ None
+    → (first_stray h ns ≡ None) × (first_missing h ns ≡ None)
 names_within s h ns f a b = all_fit h ns (All-weaker (Fits s) (Fits h) (λ n k. (k.0, f n.0 k.0 k.1, k.2)) ns (fit_each s ns a b))
 
 -- where no name is Stray, none of the later ones is
@@ -57,6 +60,7 @@ pub ready_absent : (h : List Op) (op : Op) → verdict h op ≡ Ready → has_op
 ready_absent h op e = (when_ready h op e).absent
 
 -- an operation is Ready where it and its identifier are new, and its names are held and fit
-pub becomes_ready : (h : List Op) (op : Op) → has_op h op ≡ false → id_held h (id_of op) ≡ false → first_stray h (names op) ≡ None → first_missing h (names op) ≡ None → verdict h op ≡ Ready
+pub becomes_ready : (h : List Op) (op : Op) → has_op h op ≡ false → id_held h (id_of op) ≡ false → first_stray h (names op) ≡ None → first_missing h (names op) ≡ None
+    → verdict h op ≡ Ready
 unfolding verdict
 becomes_ready h op a b c d = λ i. first_line (a i) (b i) (c i) (d i)

@@ -1,5 +1,7 @@
 -- The elements that operations make: their identifiers, their places and what they name.
-use Rattle.origin_model.proofs.Words.{Identifier, List, None, Op, Option, Place, Role, Section, SectionRole, Some, Text, TextOf, Delete, Note, [], ap, cases_Bool, catalogue, element_of, false, false≢true, fits, given_as, id_eq-refl, id_eq-true, id_of, if◌then◌else◌, inl, inr, is_own, names, not_some, origin_eq, place_eq, refl, sym, true, within, ◌++◌, ◌∙◌, ◌∷◌, ◌≡◌, ◌≢◌}
+use Rattle.origin_model.proofs.Words.{Identifier, List, None, Op, Option, Place, Role, Section, SectionRole, Some, Text, TextOf, Delete, Note, [], ap, cases_Bool, catalogue}
+use Rattle.origin_model.proofs.Words.{element_of, false, false≢true, fits, given_as, id_eq-refl, id_eq-true, id_of, if◌then◌else◌, inl, inr, is_own, names, not_some, origin_eq}
+use Rattle.origin_model.proofs.Words.{place_eq, refl, sym, true, within, ◌++◌, ◌∙◌, ◌∷◌, ◌≡◌, ◌≢◌}
 use Rattle.origin_model.specs.declared.operations.node.Node.{Node}
 use Rattle.origin_model.specs.operations.History.{element, place, stands_at}
 

@@ -1,5 +1,7 @@
 -- What operations rest on is in the history before them.
-use Rattle.origin_model.proofs.Words.{All, All-head, is_some, Delete, Identifier, IsIn, Lawful, List, Op, Ready, SectionRole, Some, [], ap, cases_origin, catalogue, deletes, element_of, false, false_from_ne_true, holder, holds, id_eq-true, id_held, id_of, inl, inr, is_hidden, or_cases, refl, subst, sym, true, true≢false, verdict, within, ◌∙◌, ◌∷◌, ◌≡◌}
+use Rattle.origin_model.proofs.Words.{All, All-head, is_some, Delete, Identifier, IsIn, Lawful, List, Op, Ready, SectionRole, Some, [], ap, cases_origin, catalogue, deletes}
+use Rattle.origin_model.proofs.Words.{element_of, false, false_from_ne_true, holder, holds, id_eq-true, id_held, id_of, inl, inr, is_hidden, or_cases, refl, subst, sym, true}
+use Rattle.origin_model.proofs.Words.{true≢false, verdict, within, ◌∙◌, ◌∷◌, ◌≡◌}
 use Rattle.origin_model.specs.operations.History.{place}
 use Rattle.origin_model.specs.sides.Node.{AreNodes, as_ops, find_node, node_order, nodes}
 use Rattle.origin_model.specs.declared.operations.node.Node.{Node}

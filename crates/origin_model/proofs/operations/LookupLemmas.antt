@@ -1,5 +1,9 @@
 -- What a look-up in a history finds, and what one more operation changes in it; what a Ready operation names is held and fits.
-use Rattle.origin_model.proofs.Words.{All, All-cons, All-head, All-nil, All-tail, Bool, Identifier, Lawful, List, None, Op, Option, Place, Ready, Role, Some, [], all_before, all_behind, ap, cases_Bool, false, false_from_ne_true, false≢true, first_line, first_missing, first_stray, fits, given_as, has_op, holder, holds, id_held, id_of, if◌then◌else◌, inl, inr, is_own, is_some, left_of, names, not_some, older_of, op_eq, op_eq-refl, op_eq-true, or_cases, or_left, or_right, origin_eq-true, refl, reverse, reverse-append, right_at, right_of, subst, sym, true, true≢false, verdict, ◌++◌, ◌||◌, ◌∙◌, ◌∷◌, ◌≡◌, ◌⊎◌}
+use Rattle.origin_model.proofs.Words.{All, All-cons, All-head, All-nil, All-tail, Bool, Identifier, Lawful, List, None, Op, Option, Place, Ready, Role, Some, [], all_before}
+use Rattle.origin_model.proofs.Words.{all_behind, ap, cases_Bool, false, false_from_ne_true, false≢true, first_line, first_missing, first_stray, fits, given_as, has_op, holder}
+use Rattle.origin_model.proofs.Words.{holds, id_held, id_of, if◌then◌else◌, inl, inr, is_own, is_some, left_of, names, not_some, older_of, op_eq, op_eq-refl, op_eq-true, or_cases}
+use Rattle.origin_model.proofs.Words.{or_left, or_right, origin_eq-true, refl, reverse, reverse-append, right_at, right_of, subst, sym, true, true≢false, verdict, ◌++◌, ◌||◌, ◌∙◌}
+use Rattle.origin_model.proofs.Words.{◌∷◌, ◌≡◌, ◌⊎◌}
 use Rattle.origin_model.specs.declared.operations.node.Node.{Node}
 use Rattle.origin_model.specs.operations.History.{element, place}
 use Rattle.origin_model.proofs.operations.ElementLemmas.{element_names, home_names, role_in}
@@ -81,7 +85,8 @@ abbrev stray_on : List Op → Identifier × Role → List (Identifier × Role) �
 stray_on h n ns o = elim o [ None ↦ first_stray h ns | Some op ↦ if fits n.1 op then first_stray h ns else Some n.0 ]
 
 -- a name that fits is passed
-pub stray-fits : (h : List Op) (n : Identifier × Role) (ns : List (Identifier × Role)) (o : Op) → holder h n.0 ≡ Some o → fits n.1 o ≡ true → first_stray h (n ∷ ns) ≡ first_stray h ns
+pub stray-fits : (h : List Op) (n : Identifier × Role) (ns : List (Identifier × Role)) (o : Op) → holder h n.0 ≡ Some o → fits n.1 o ≡ true
+    → first_stray h (n ∷ ns) ≡ first_stray h ns
 stray-fits h n ns o e f = ap (stray_on h n ns) e ∙ ap (λ b. if b then first_stray h ns else Some n.0) f
 
 -- a name that is held and does not fit is the first Stray one
@@ -132,7 +137,8 @@ stray-push h (m ∷ ns) n =
     ]
 
 -- the first that is not held, of one name more
-pub missing-push : (h : List Op) (ns : List (Identifier × Role)) (n : Identifier × Role) → first_missing h (ns ++ n ∷ []) ≡ option_or (first_missing h ns) (first_missing h (n ∷ []))
+pub missing-push : (h : List Op) (ns : List (Identifier × Role)) (n : Identifier × Role)
+    → first_missing h (ns ++ n ∷ []) ≡ option_or (first_missing h ns) (first_missing h (n ∷ []))
 missing-push h [] n = refl
 missing-push h (m ∷ ns) n =
     elim (holder h m.0) as (λ o.

@@ -1,5 +1,6 @@
 -- What the holder of an operation's identifier tells of the operation, in a lawful history.
-use Rattle.origin_model.proofs.Words.{Bool, Identifier, Lawful, List, None, Op, Option, Some, ap, false, false_from_ne_true, has_op, holder, id_eq-refl, id_held, id_of, is_own, is_some, op_eq, op_eq-refl, op_eq-true, origin_eq, refl, subst, sym, true, ◌∙◌, ◌≡◌}
+use Rattle.origin_model.proofs.Words.{Bool, Identifier, Lawful, List, None, Op, Option, Some, ap, false, false_from_ne_true, has_op, holder, id_eq-refl, id_held, id_of, is_own}
+use Rattle.origin_model.proofs.Words.{is_some, op_eq, op_eq-refl, op_eq-true, origin_eq, refl, subst, sym, true, ◌∙◌, ◌≡◌}
 use Rattle.std.proofs.lemmas.Option.{none-some, same_Some}
 use Rattle.std.specs.Prelude.{option_map}
 use Rattle.origin_model.specs.declared.operations.named.Found.{Found}

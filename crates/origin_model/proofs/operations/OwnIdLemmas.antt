@@ -1,5 +1,6 @@
 -- No two operations of a lawful history have one identifier.
-use Rattle.origin_model.proofs.Words.{All, All-cons, All-nil, AllPairs, Identifier, Lawful, List, None, Op, Option, Some, [], all_pairs_nil, ap, holds, id_eq-refl, id_held, id_of, is_own, or_parts, origin_eq, refl, sym, true≢false, ◌∙◌, ◌∷◌, ◌≡◌, ◌≢◌, false}
+use Rattle.origin_model.proofs.Words.{All, All-cons, All-nil, AllPairs, Identifier, Lawful, List, None, Op, Option, Some, [], all_pairs_nil, ap, holds, id_eq-refl, id_held, id_of}
+use Rattle.origin_model.proofs.Words.{is_own, or_parts, origin_eq, refl, sym, true≢false, ◌∙◌, ◌∷◌, ◌≡◌, ◌≢◌, false}
 use Rattle.std.proofs.lemmas.List.Kept.{AllPairs-cons}
 use Rattle.origin_model.specs.operations.History.{HaveOtherIds}
 use Rattle.origin_model.proofs.operations.LookupLemmas.{holds-cons, when_ready}

@@ -1,5 +1,7 @@
 -- The fronts of chains of left and of right origins: each is the chain of its last member.
-use Rattle.origin_model.proofs.Words.{All, All-contains, All-push, Contains, Identifier, Lawful, List, None, Op, Option, Some, [], all_from_contains, ap, cases_Bool, chain, contains_middle, false≢true, has_left, holder, inl, inr, is_own, left_at, left_of, lefts, next_left, next_right, origin_eq-true, refl, right_of, rights, same_from_push, subst, sym, true, ◌++◌, ◌∙◌, ◌∷◌, ◌≡◌}
+use Rattle.origin_model.proofs.Words.{All, All-contains, All-push, Contains, Identifier, Lawful, List, None, Op, Option, Some, [], all_from_contains, ap, cases_Bool, chain}
+use Rattle.origin_model.proofs.Words.{contains_middle, false≢true, has_left, holder, inl, inr, is_own, left_at, left_of, lefts, next_left, next_right, origin_eq-true, refl}
+use Rattle.origin_model.proofs.Words.{right_of, rights, same_from_push, subst, sym, true, ◌++◌, ◌∙◌, ◌∷◌, ◌≡◌}
 use Rattle.origin_model.proofs.order.ListPartLemmas.{split_end}
 use Rattle.origin_model.proofs.operations.LookupLemmas.{IsHeld, found, held_not_own, holder-other, holder-own, holds-other, right_named, when_ready}
 use Rattle.origin_model.proofs.order.PartLemmas.{has_left_by, lefts-at, RestsOn, left_held, ready_rests, right_held}
@@ -76,5 +78,9 @@ rights-left (op ∷ older) u w p =
     ]
 
 -- each beginning of a chain of right origins is the chain of its last member, which has the same left origin
-pub rights-prefix : (h : List Op) (u z : Identifier) (c ws : List Identifier) → Lawful h → IsHeld h u → rights h u ≡ c ++ z ∷ ws → (rights h z ≡ c ++ z ∷ []) × (left_at h z ≡ left_at h u)
-rights-prefix h u z c ws w p q = (chain-prefix next_right right_held h u z c ws w p q, All-contains (λ y. left_at h y ≡ left_at h u) (rights h u) z (rights-left h u w p) (subst (λ l. Contains l z) (sym q) (contains_middle c z ws)))
+pub rights-prefix : (h : List Op) (u z : Identifier) (c ws : List Identifier) → Lawful h → IsHeld h u → rights h u ≡ c ++ z ∷ ws
+    → (rights h z ≡ c ++ z ∷ []) × (left_at h z ≡ left_at h u)
+rights-prefix h u z c ws w p q = (
+  chain-prefix next_right right_held h u z c ws w p q,
+  All-contains (λ y. left_at h y ≡ left_at h u) (rights h u) z (rights-left h u w p) (subst (λ l. Contains l z) (sym q) (contains_middle c z ws)),
+)

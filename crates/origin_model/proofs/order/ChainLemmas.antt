@@ -1,5 +1,6 @@
 -- Chains of origins: one more operation leaves those of older elements, each ends in its element, and its members are held.
-use Rattle.origin_model.proofs.Words.{All, All-nil, All-push, All-weaker, Identifier, List, None, Op, Option, Some, [], ap, cases_Bool, chain, false, false≢true, has_left, if◌then◌else◌, inl, inr, is_own, not_some, refl, right_beside, same_from_push, subst, sym, true, ◌++◌, ◌∙◌, ◌∷◌, ◌≡◌}
+use Rattle.origin_model.proofs.Words.{All, All-nil, All-push, All-weaker, Identifier, List, None, Op, Option, Some, [], ap, cases_Bool, chain, false, false≢true, has_left}
+use Rattle.origin_model.proofs.Words.{if◌then◌else◌, inl, inr, is_own, not_some, refl, right_beside, same_from_push, subst, sym, true, ◌++◌, ◌∙◌, ◌∷◌, ◌≡◌}
 use Rattle.origin_model.proofs.operations.LookupLemmas.{IsHeld, holds-older, holds-other, holds-own}
 use Rattle.origin_model.proofs.order.ListPartLemmas.{no_end, not_nil}
 
@@ -50,7 +51,8 @@ module _ (next : List Op → Op → Option Identifier) where
   never_none h x k e = let r = chain-ends h x k in no_end r.0 x (sym r.1 ∙ e)
 
   -- where a chain above has a member, it is that of the one that is next
-  pub above_some : (h : List Op) (o : Option Identifier) (c more : List Identifier) (u : Identifier) → chain_above h o ≡ c ++ u ∷ more → (y : Identifier) × (o ≡ Some y) × (chain next h y ≡ c ++ u ∷ more)
+  pub above_some : (h : List Op) (o : Option Identifier) (c more : List Identifier) (u : Identifier) → chain_above h o ≡ c ++ u ∷ more
+      → (y : Identifier) × (o ≡ Some y) × (chain next h y ≡ c ++ u ∷ more)
   above_some h None c more u e = absurd (not_nil c u more e)
   above_some h (Some y) c more u e = (y, refl, e)
 
@@ -72,7 +74,8 @@ module _ (next : List Op → Op → Option Identifier) where
       let h : List Op = op ∷ older in
       elim (cases_Bool (is_own x op)) [
         | inl e ↦ subst (All (IsHeld h)) (sym (chain-own op older x e))
-            (All-push (IsHeld h) (chain_above older (next older op)) x (above-all (IsHeld h) older (next older op) (λ y _. lifted op older (chain next older y) (chain-held older y))) (holds-own op older x e))
+            (All-push (IsHeld h) (chain_above older (next older op)) x
+            (above-all (IsHeld h) older (next older op) (λ y _. lifted op older (chain next older y) (chain-held older y))) (holds-own op older x e))
         | inr e ↦ subst (All (IsHeld h)) (sym (chain-other op older x e)) (lifted op older (chain next older x) (chain-held older x))
       ]
 

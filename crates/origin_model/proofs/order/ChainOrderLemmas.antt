@@ -1,5 +1,7 @@
--- The comparison of two chains at the first place where they differ is a strict order where the order at the fork is one, and total where that is total on the members.
-use Rattle.origin_model.proofs.Words.{All, All-head, All-tail, Bool, Identifier, List, [], ap, cases_id, chain_before, false, false≢true, id_eq, id_eq-refl, inl, inr, ne-id_eq, not, refl, subst, sym, true, true≢false, ◌∙◌, ◌∷◌, ◌≡◌, ◌≢◌}
+-- The comparison of two chains at the first place where they differ is a strict order where the order at the fork is
+-- one, and total where that is total on the members.
+use Rattle.origin_model.proofs.Words.{All, All-head, All-tail, Bool, Identifier, List, [], ap, cases_id, chain_before, false, false≢true, id_eq, id_eq-refl, inl, inr, ne-id_eq}
+use Rattle.origin_model.proofs.Words.{not, refl, subst, sym, true, true≢false, ◌∙◌, ◌∷◌, ◌≡◌, ◌≢◌}
 use Rattle.std.proofs.lemmas.Bool.{not-false}
 
 -- a test does not hold and fail

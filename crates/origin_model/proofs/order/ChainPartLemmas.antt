@@ -1,5 +1,6 @@
 -- How the comparison of two chains goes on where one of them begins with the other, or parts from it.
-use Rattle.origin_model.proofs.Words.{Bool, Contains, Identifier, List, Passes, [], ap, cases_id, chain_before, contains_middle, false, inl, inr, refl, subst, sym, true, ◌++◌, ◌∙◌, ◌∷◌, ◌≡◌, ◌≢◌, ◌⊎◌}
+use Rattle.origin_model.proofs.Words.{Bool, Contains, Identifier, List, Passes, [], ap, cases_id, chain_before, contains_middle, false, inl, inr, refl, subst, sym, true, ◌++◌, ◌∙◌}
+use Rattle.origin_model.proofs.Words.{◌∷◌, ◌≡◌, ◌≢◌, ◌⊎◌}
 use Rattle.origin_model.proofs.order.ChainOrderLemmas.{chain_before-fork, chain_before-same}
 
 -- the comparison, by the order R at the fork
@@ -46,7 +47,8 @@ module _ (f : Bool) (R : Identifier → Identifier → Bool) where
   -- so does what stands before a chain that ends in x
   pub turns_off : (es c : List Identifier) (x : Identifier) → chain_before f R es (c ++ x ∷ []) ≡ true → Turns es c x
   turns_off es c x h =
-      let at : (m ys : List Identifier) → es ≡ c ++ m → chain_before f R es (c ++ ys) ≡ chain_before f R m ys = λ m ys e. ap (λ l. chain_before f R l (c ++ ys)) e ∙ common c m ys in
+      let at : (m ys : List Identifier) → es ≡ c ++ m
+      → chain_before f R es (c ++ ys) ≡ chain_before f R m ys = λ m ys e. ap (λ l. chain_before f R l (c ++ ys)) e ∙ common c m ys in
       elim (parts_late c es) [
         | inr q ↦ inl (λ z zs. q (z ∷ zs) ∙ sym (q (x ∷ [])) ∙ h)
         | inl p ↦ (elim p.0 as (λ m. es ≡ c ++ m → Turns es c x) [

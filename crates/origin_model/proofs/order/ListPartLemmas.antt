@@ -1,5 +1,7 @@
 -- Lists and their parts: fronts and ends, and members of lists that are ordered.
-use Rattle.origin_model.proofs.Words.{All, All-contains, All-tail, All-weaker, Bool, Contains, Contains-append_cases, Identifier, IsOrderedBy, List, [], all_pairs_before, all_pairs_behind, all_pairs_head, all_pairs_tail, append-nil, contains_cases, contains_here, contains_middle_cases, contains_none, false, filter, inl, inr, refl, subst, sym, true, true≢false, ◌++◌, ◌∙◌, ◌∷◌, ◌≡◌, ◌≢◌, ◌⊎◌}
+use Rattle.origin_model.proofs.Words.{All, All-contains, All-tail, All-weaker, Bool, Contains, Contains-append_cases, Identifier, IsOrderedBy, List, [], all_pairs_before}
+use Rattle.origin_model.proofs.Words.{all_pairs_behind, all_pairs_head, all_pairs_tail, append-nil, contains_cases, contains_here, contains_middle_cases, contains_none, false}
+use Rattle.origin_model.proofs.Words.{filter, inl, inr, refl, subst, sym, true, true≢false, ◌++◌, ◌∙◌, ◌∷◌, ◌≡◌, ◌≢◌, ◌⊎◌}
 use Rattle.fugue_ids.proofs.ListLemmas.{all_pairs_across, all_pairs_append}
 
 -- a list with a member is not empty

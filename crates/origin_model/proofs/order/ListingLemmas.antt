@@ -1,5 +1,7 @@
 -- One list of the elements of all places, and one more element in it.
-use Rattle.origin_model.proofs.Words.{Option, Bool, Identifier, List, None, Op, Place, Some, [], ap, arith, before_in, cases_Bool, count_by, drop, drop_more, element_of, false, get_or, id_of, if◌then◌else◌, inl, inr, insert, length, length-append, min, older_of, order, place_eq, placed, refl, reverse, reverse-append, slice_get, sym, take, take-append-drop, true, ℕ, ◌++◌, ◌+◌, ◌-◌, ◌<◌, ◌∙◌, ◌∷◌, ◌≡◌}
+use Rattle.origin_model.proofs.Words.{Option, Bool, Identifier, List, None, Op, Place, Some, [], ap, arith, before_in, cases_Bool, count_by, drop, drop_more, element_of, false}
+use Rattle.origin_model.proofs.Words.{get_or, id_of, if◌then◌else◌, inl, inr, insert, length, length-append, min, older_of, order, place_eq, placed, refl, reverse, reverse-append}
+use Rattle.origin_model.proofs.Words.{slice_get, sym, take, take-append-drop, true, ℕ, ◌++◌, ◌+◌, ◌-◌, ◌<◌, ◌∙◌, ◌∷◌, ◌≡◌}
 use Rattle.std.proofs.lemmas.List.{take_more, take_at, drop_at}
 use Rattle.origin_model.specs.declared.operations.node.Node.{Node}
 use Rattle.origin_model.specs.operations.History.{element, stands_at}
@@ -24,23 +26,27 @@ elements_at-append p (x ∷ xs) ys =
     ]
 
 -- the steps of a count
-pub taken_yes : (p : Place) (xs : List Listed) (i : ℕ) (d : Listed) → i < length xs → place_eq (get_or xs i d).place p ≡ true → length (elements_at p (take (i + 1) xs)) ≡ length (elements_at p (take i xs)) + 1
+pub taken_yes : (p : Place) (xs : List Listed) (i : ℕ) (d : Listed) → i < length xs → place_eq (get_or xs i d).place p ≡ true
+    → length (elements_at p (take (i + 1) xs)) ≡ length (elements_at p (take i xs)) + 1
 taken_yes p xs i d l h =
     let e : Listed = get_or xs i d in
     ap (λ z. length (elements_at p z)) (take_more xs i d l) ∙ ap length (elements_at-append p (take i xs) (e ∷ []) ∙ ap (λ z. elements_at p (take i xs) ++ z) (at-yes p e [] h))
     ∙ length-append (elements_at p (take i xs)) (e.id ∷ [])
 
-pub taken_no : (p : Place) (xs : List Listed) (i : ℕ) (d : Listed) → i < length xs → place_eq (get_or xs i d).place p ≡ false → length (elements_at p (take (i + 1) xs)) ≡ length (elements_at p (take i xs))
+pub taken_no : (p : Place) (xs : List Listed) (i : ℕ) (d : Listed) → i < length xs → place_eq (get_or xs i d).place p ≡ false
+    → length (elements_at p (take (i + 1) xs)) ≡ length (elements_at p (take i xs))
 taken_no p xs i d l h =
     let e : Listed = get_or xs i d in
     ap (λ z. length (elements_at p z)) (take_more xs i d l) ∙ ap length (elements_at-append p (take i xs) (e ∷ []) ∙ ap (λ z. elements_at p (take i xs) ++ z) (at-no p e [] h))
     ∙ length-append (elements_at p (take i xs)) [] ∙ omega arith
 
-pub left_yes : (p : Place) (xs : List Listed) (i : ℕ) (d : Listed) → i < length xs → place_eq (get_or xs i d).place p ≡ true → length (elements_at p (drop i xs)) ≡ length (elements_at p (drop (i + 1) xs)) + 1
+pub left_yes : (p : Place) (xs : List Listed) (i : ℕ) (d : Listed) → i < length xs → place_eq (get_or xs i d).place p ≡ true
+    → length (elements_at p (drop i xs)) ≡ length (elements_at p (drop (i + 1) xs)) + 1
 left_yes p xs i d l h =
     ap (λ z. length (elements_at p z)) (drop_more xs i d l) ∙ ap length (at-yes p (get_or xs i d) (drop (i + 1) xs) h) ∙ omega arith
 
-pub left_no : (p : Place) (xs : List Listed) (i : ℕ) (d : Listed) → i < length xs → place_eq (get_or xs i d).place p ≡ false → length (elements_at p (drop i xs)) ≡ length (elements_at p (drop (i + 1) xs))
+pub left_no : (p : Place) (xs : List Listed) (i : ℕ) (d : Listed) → i < length xs → place_eq (get_or xs i d).place p ≡ false
+    → length (elements_at p (drop i xs)) ≡ length (elements_at p (drop (i + 1) xs))
 left_no p xs i d l h =
     ap (λ z. length (elements_at p z)) (drop_more xs i d l) ∙ ap length (at-no p (get_or xs i d) (drop (i + 1) xs) h)
 
@@ -103,7 +109,8 @@ listed-newest op older listed q node count i e f c l p =
 
 pub ruleset end_steps = (taken_yes, taken_no, left_yes, left_no)
 
-pub listed-kept : (ops : List Op) (op : Op) (listed : List Listed) → slice_get ops (length ops - 1) ≡ Some op → element op ≡ None → ListsAll (older_of (reverse ops)) listed → ListsAll (reverse ops) listed
+pub listed-kept : (ops : List Op) (op : Op) (listed : List Listed) → slice_get ops (length ops - 1) ≡ Some op → element op ≡ None → ListsAll (older_of (reverse ops)) listed
+    → ListsAll (reverse ops) listed
 listed-kept ops op listed e n f p =
     f p ∙ sym (order-none p op (older_of (reverse ops)) (ap (λ b. if b then id_of op else None) (ap (stands_by p) n))) ∙ ap (order p) (sym (newest_is ops op e))
 

@@ -1,5 +1,7 @@
 -- The laws of the order: it is total, later operations keep it, and it is fixed by the set of operations alone.
-use Rattle.origin_model.proofs.Words.{All-contains, Bool, Delete, Note, Identifier, IsIn, IsPartOf, Lawful, List, None, Op, Option, Place, SameOps, Section, Some, Text, [], ap, before, before_in, catalogue, codes, deletes, false, filter, flat_map, has_op, holder, is_hidden, manuscript, not, older_of, op_eq, order, refl, scalar_of, sym, title_of, true, true≢false, within, ℕ, ◌++◌, ◌||◌, ◌∙◌, ◌∷◌, ◌≡◌, ◌≢◌}
+use Rattle.origin_model.proofs.Words.{All-contains, Bool, Delete, Note, Identifier, IsIn, IsPartOf, Lawful, List, None, Op, Option, Place, SameOps, Section, Some, Text, [], ap}
+use Rattle.origin_model.proofs.Words.{before, before_in, catalogue, codes, deletes, false, filter, flat_map, has_op, holder, is_hidden, manuscript, not, older_of, op_eq, order}
+use Rattle.origin_model.proofs.Words.{refl, scalar_of, sym, title_of, true, true≢false, within, ℕ, ◌++◌, ◌||◌, ◌∙◌, ◌∷◌, ◌≡◌, ◌≢◌}
 use Rattle.std.specs.Str.{encode_utf8_all}
 use Rattle.origin_model.specs.order.Laws.{KeepsOrder, LaterOpsKeepOrder, OrderBySet, OrderTotal, PartsKeepOrder}
 use Rattle.origin_model.proofs.operations.LookupLemmas.{has-holder, holder-has, holder_owns}
@@ -41,7 +43,8 @@ hidden-has (op ∷ h) x = λ i. deletes-eq x op i || hidden-has h x i
 -- what is printed, by what is found, what is hidden, and the orders
 abbrev printed_from : (Identifier → Option Op) → (Identifier → Bool) → (Place → List Identifier) → List ℕ
 printed_from hold hid ord =
-    flat_map (λ s. codes "# " ++ encode_utf8_all (title_of (hold s)) ++ 10 ∷ encode_utf8_all (flat_map (λ x. scalar_of (hold x)) (filter (λ x. not (hid x)) (ord (within s)))) ++ 10 ∷ [])
+    flat_map (λ s. codes "# " ++ encode_utf8_all (title_of (hold s)) ++ 10 ∷ encode_utf8_all (flat_map (λ x. scalar_of (hold x)) (filter (λ x. not (hid x)) (ord (within s))))
+    ++ 10 ∷ [])
     (filter (λ x. not (hid x)) (ord catalogue))
 
 -- the manuscript, by these
@@ -94,6 +97,7 @@ order_total p h w =
           (λ k j. true≢false (sym (before_in-trans o h x y x k j) ∙ before_in-irrefl o h x));
       transitive = before_in-trans o h;
       lists = λ x. (order-has p h x, λ m. All-contains (IsIn p h) (order p h) x (order-in p h w) m);
-      once = all_pairs_weaker (λ x y. before_in o h x y ≡ true) (λ x y. x ≢ y) (λ x y k e. true≢false (sym k ∙ ap (before_in o h x) (sym e) ∙ before_in-irrefl o h x)) (order p h) (order-ordered p h w);
+      once = all_pairs_weaker (λ x y. before_in o h x y ≡ true) (λ x y. x ≢ y) (λ x y k e. true≢false (sym k ∙ ap (before_in o h x) (sym e) ∙ before_in-irrefl o h x)) (order p h)
+          (order-ordered p h w);
       agrees = order-ordered p h w;
     }

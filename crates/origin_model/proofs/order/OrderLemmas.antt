@@ -1,7 +1,13 @@
--- The order of a place: it agrees with the comparison of elements, older elements keep theirs as the history grows, and the order has exactly the elements of the place, whose origins and chains are of the same place.
-use Rattle.origin_model.proofs.Words.{All, All-contains, All-nil, All-push, All-weaker, Bool, Contains, Identifier, IsIn, IsOrderedBy, Lawful, List, None, Op, Option, Place, Some, [], all_insert, all_pairs_head, all_pairs_nil, all_pairs_tail, ap, arith, before_in, cases_Bool, cases_origin, chain, count_by, element_of, false, false_from_ne_true, fits, fork_before, get_or, id_eq-true, id_lt, id_of, index_of_origin, inl, inr, insert, is_own, is_some, left_of, lefts, length, next_left, next_right, older_of, order, origin_eq, placed, precedes, refl, right_at, right_of, rights, subst, suc, sym, true, true≢false, zero, ℕ, ◌&&◌, ◌<◌, ◌||◌, ◌∙◌, ◌∷◌, ◌≡◌, ◌≤◌, ◌⊎◌}
+-- The order of a place: it agrees with the comparison of elements, older elements keep theirs as the history grows, and
+-- the order has exactly the elements of the place, whose origins and chains are of the same place.
+use Rattle.origin_model.proofs.Words.{All, All-contains, All-nil, All-push, All-weaker, Bool, Contains, Identifier, IsIn, IsOrderedBy, Lawful, List, None, Op, Option, Place, Some}
+use Rattle.origin_model.proofs.Words.{[], all_insert, all_pairs_head, all_pairs_nil, all_pairs_tail, ap, arith, before_in, cases_Bool, cases_origin, chain, count_by, element_of}
+use Rattle.origin_model.proofs.Words.{false, false_from_ne_true, fits, fork_before, get_or, id_eq-true, id_lt, id_of, index_of_origin, inl, inr, insert, is_own, is_some, left_of}
+use Rattle.origin_model.proofs.Words.{lefts, length, next_left, next_right, older_of, order, origin_eq, placed, precedes, refl, right_at, right_of, rights, subst, suc, sym, true}
+use Rattle.origin_model.proofs.Words.{true≢false, zero, ℕ, ◌&&◌, ◌<◌, ◌||◌, ◌∙◌, ◌∷◌, ◌≡◌, ◌≤◌, ◌⊎◌}
 use Rattle.fugue_ids.proofs.ListLemmas.{contains_insert, contains_inserted}
-use Rattle.origin_model.proofs.operations.LookupLemmas.{Fits, IsHeld, IsReady, held_not_own, holder-other, holder-own, holder_owns, holds-older, holds-own, left_fits, origin_role, own_id, role_by, right_at_held, right_by, right_fits, when_ready}
+use Rattle.origin_model.proofs.operations.LookupLemmas.{Fits, IsHeld, IsReady, held_not_own, holder-other, holder-own, holder_owns, holds-older, holds-own, left_fits, origin_role}
+use Rattle.origin_model.proofs.operations.LookupLemmas.{own_id, role_by, right_at_held, right_by, right_fits, when_ready}
 use Rattle.origin_model.proofs.operations.ElementLemmas.{element_own, element_stands, fits_element, role_in}
 use Rattle.origin_model.proofs.order.ChainLemmas.{above-all, beside_is, chain-held, chain-other, chain-own, chain_above}
 use Rattle.origin_model.proofs.order.OrderedListLemmas.{Ordered-agree, count-yes, none_before, none_pass, placed-ordered}
@@ -16,7 +22,8 @@ unfolding order
 order-none p op older e = rw (e, order)
 
 -- an element of the place goes in behind those that stand before it
-pub order-some : (p : Place) (op : Op) (older : List Op) (x : Identifier) → element_of p op ≡ Some x → order p (op ∷ older) ≡ placed (λ e. before_in (order p older) (op ∷ older) e x) (order p older) x
+pub order-some : (p : Place) (op : Op) (older : List Op) (x : Identifier) → element_of p op ≡ Some x
+    → order p (op ∷ older) ≡ placed (λ e. before_in (order p older) (op ∷ older) e x) (order p older) x
 unfolding order
 order-some p op older x e = rw (e, order)
 
@@ -57,11 +64,14 @@ fork_moved p (op ∷ older) c d w =
           let q : Identifier → Bool = λ e. before_in o h e f.0 in
           let n : ℕ = count_by q o in
           let own : is_own f.0 op ≡ true = element_own p op f.0 f.1 in
-          let here : index_of_origin (insert o n f.0) (right_at h c) ≡ shifted n (index_of_origin o (right_at h c)) = index-insert o n f.0 (right_at h c) (count_by-le-length q o) (right_not_newest op older f.0 c w own) in
-          let there : index_of_origin (insert o n f.0) (right_at h d) ≡ shifted n (index_of_origin o (right_at h d)) = index-insert o n f.0 (right_at h d) (count_by-le-length q o) (right_not_newest op older f.0 d w own) in
+          let here : index_of_origin (insert o n f.0) (right_at h c) ≡ shifted n (index_of_origin o (right_at h c)) =
+          index-insert o n f.0 (right_at h c) (count_by-le-length q o) (right_not_newest op older f.0 c w own) in
+          let there : index_of_origin (insert o n f.0) (right_at h d) ≡ shifted n (index_of_origin o (right_at h d)) =
+          index-insert o n f.0 (right_at h d) (count_by-le-length q o) (right_not_newest op older f.0 d w own) in
           ap (λ o. fork_before o h c d) (order-some p op older f.0 f.1)
           ∙ (λ i. precedes (here i) (there i) c d)
-          ∙ (λ i. shifted-lt n (index_of_origin o (right_at h d)) (index_of_origin o (right_at h c)) i || (shifted-eq n (index_of_origin o (right_at h d)) (index_of_origin o (right_at h c)) i && id_lt c d))
+          ∙ (λ i. shifted-lt n (index_of_origin o (right_at h d)) (index_of_origin o (right_at h c)) i
+          || (shifted-eq n (index_of_origin o (right_at h d)) (index_of_origin o (right_at h c)) i && id_lt c d))
     ]
 
 -- one more operation leaves the comparison of held elements
@@ -101,9 +111,11 @@ order-held p (op ∷ older) =
     ]
 
 -- older elements stay in order beside a newest operation
-pub stay_ordered : (p : Place) (op : Op) (older : List Op) → Lawful (op ∷ older) → IsOrderedBy (before_in (order p (older_of older)) older) (order p older) → IsOrderedBy (before_in (order p older) (op ∷ older)) (order p older)
+pub stay_ordered : (p : Place) (op : Op) (older : List Op) → Lawful (op ∷ older) → IsOrderedBy (before_in (order p (older_of older)) older) (order p older)
+    → IsOrderedBy (before_in (order p older) (op ∷ older)) (order p older)
 stay_ordered p op older w =
-    Ordered-agree (before_in (order p (older_of older)) older) (before_in (order p older) (op ∷ older)) (IsHeld older) (λ a b k l. sym (before_in-older p op older w a b k l)) (order p older) (order-held p older)
+    Ordered-agree (before_in (order p (older_of older)) older) (before_in (order p older) (op ∷ older)) (IsHeld older) (λ a b k l. sym (before_in-older p op older w a b k l))
+    (order p older) (order-held p older)
 
 -- the order agrees with the comparison
 pub order-ordered : (p : Place) (h : List Op) → Lawful h → IsOrderedBy (before_in (order p (older_of h)) h) (order p h)
@@ -184,7 +196,8 @@ stay_in : (p : Place) (op : Op) (older : List Op) → IsReady older op → (xs :
 stay_in p op older ready = All-weaker (IsIn p older) (IsIn p (op ∷ older)) (λ y. IsIn-older p op older y ready)
 
 -- chains of members that are in the place when the next one comes
-module _ (p : Place) (next : List Op → Op → Option Identifier) (inside : (op : Op) (older : List Op) (x y : Identifier) → IsReady older op → element_of p op ≡ Some x → next older op ≡ Some y → IsIn p older y) where
+module _ (p : Place) (next : List Op → Op → Option Identifier)
+    (inside : (op : Op) (older : List Op) (x y : Identifier) → IsReady older op → element_of p op ≡ Some x → next older op ≡ Some y → IsIn p older y) where
   -- the chain stays in its place
   chain-in : (h : List Op) (x : Identifier) → Lawful h → IsIn p h x → All (IsIn p h) (chain next h x)
   chain-in [] x w m = cc (m.held)
@@ -193,8 +206,10 @@ module _ (p : Place) (next : List Op → Op → Option Identifier) (inside : (op
       let P : Identifier → Type 0 = IsIn p (op ∷ older) in
       elim (IsIn-split p op older x m) [
         | inl k ↦ subst (All P) (sym (chain-own next op older x (element_own p op x k)))
-            (All-push P (chain_above next older (next older op)) x (above-all next P older (next older op) (λ y f. stay_in p op older ready (chain next older y) (chain-in older y w.1 (inside op older x y ready k f)))) m)
-        | inr k ↦ subst (All P) (sym (chain-other next op older x (held_not_own op older x ready (IsIn-held p older x k)))) (stay_in p op older ready (chain next older x) (chain-in older x w.1 k))
+            (All-push P (chain_above next older (next older op)) x
+            (above-all next P older (next older op) (λ y f. stay_in p op older ready (chain next older y) (chain-in older y w.1 (inside op older x y ready k f)))) m)
+        | inr k ↦ subst (All P) (sym (chain-other next op older x (held_not_own op older x ready (IsIn-held p older x k))))
+            (stay_in p op older ready (chain next older x) (chain-in older x w.1 k))
       ]
 
 -- a chain of left origins stays in its place
@@ -210,10 +225,12 @@ pub order-has : (p : Place) (h : List Op) (x : Identifier) → IsIn p h x → Co
 order-has p [] x m = cc (m.held)
 order-has p (op ∷ older) x m =
     elim (IsIn-split p op older x m) [
-      | inl k ↦ subst (λ l. Contains l x) (sym (order-some p op older x k)) (contains_inserted (order p older) (count_by (λ e. before_in (order p older) (op ∷ older) e x) (order p older)) x)
+      | inl k ↦ subst (λ l. Contains l x) (sym (order-some p op older x k))
+          (contains_inserted (order p older) (count_by (λ e. before_in (order p older) (op ∷ older) e x) (order p older)) x)
       | inr k ↦ elim (cases_origin (element_of p op)) [
         | inl f ↦ subst (λ l. Contains l x) (sym (order-none p op older f)) (order-has p older x k)
-        | inr f ↦ subst (λ l. Contains l x) (sym (order-some p op older f.0 f.1)) (contains_insert (order p older) (count_by (λ e. before_in (order p older) (op ∷ older) e f.0) (order p older)) f.0 x (order-has p older x k))
+        | inr f ↦ subst (λ l. Contains l x) (sym (order-some p op older f.0 f.1))
+            (contains_insert (order p older) (count_by (λ e. before_in (order p older) (op ∷ older) e f.0) (order p older)) f.0 x (order-has p older x k))
       ]
     ]
 

@@ -1,5 +1,8 @@
--- Lists whose members stand in a transitive order: one more member goes in behind those that stand before it, and two such lists with the same members are equal.
-use Rattle.origin_model.proofs.Words.{All, All-cons, All-head, All-nil, All-tail, All-weaker, Bool, Contains, Identifier, IsOrderedBy, List, [], all_insert, all_pairs_head, all_pairs_nil, all_pairs_tail, ap, arith, cases_Bool, cond, contains_cases, contains_here, contains_none, contains_there, count_by, drop, false, false_from_ne_true, inl, inr, placed, refl, subst, suc, sym, take, true, true≢false, ◌++◌, ◌+◌, ◌∙◌, ◌∷◌, ◌≡◌, ◌≢◌}
+-- Lists whose members stand in a transitive order: one more member goes in behind those that stand before it, and two
+-- such lists with the same members are equal.
+use Rattle.origin_model.proofs.Words.{All, All-cons, All-head, All-nil, All-tail, All-weaker, Bool, Contains, Identifier, IsOrderedBy, List, [], all_insert, all_pairs_head}
+use Rattle.origin_model.proofs.Words.{all_pairs_nil, all_pairs_tail, ap, arith, cases_Bool, cond, contains_cases, contains_here, contains_none, contains_there, count_by, drop}
+use Rattle.origin_model.proofs.Words.{false, false_from_ne_true, inl, inr, placed, refl, subst, suc, sym, take, true, true≢false, ◌++◌, ◌+◌, ◌∙◌, ◌∷◌, ◌≡◌, ◌≢◌}
 use Rattle.std.proofs.lemmas.List.Kept.{AllPairs-cons}
 use Rattle.std.proofs.lemmas.List.Sums.{sum_by-cons}
 use Rattle.origin_model.proofs.order.ListPartLemmas.{first_before, in_rest}
@@ -45,7 +48,8 @@ module _ (R : Identifier → Identifier → Bool) (trans : (a b c : Identifier) 
       let Before : Identifier → Type 0 = λ e. R e x ≡ false → R x e ≡ true in
       elim (cases_Bool (R e x)) [
         | inl h ↦ subst (IsOrderedBy R) (sym (placed-behind (λ y. R y x) e es x h))
-            (AllPairs-cons T e (placed (λ y. R y x) es x) (all_insert (T e) es (count_by (λ y. R y x) es) x h first) (placed-ordered x es (All-tail Before e es t) (all_pairs_tail T e es o)))
+            (AllPairs-cons T e (placed (λ y. R y x) es x) (all_insert (T e) es (count_by (λ y. R y x) es) x h first)
+            (placed-ordered x es (All-tail Before e es t) (all_pairs_tail T e es o)))
         | inr h ↦
             let xe : R x e ≡ true = All-head Before e es t h in
             subst (IsOrderedBy R) (sym (placed-first (λ y. R y x) (e ∷ es) x (none_before x e es h o)))
@@ -76,7 +80,8 @@ module _ (R : Identifier → Identifier → Bool) (irrefl : (a : Identifier) →
       ]
 
   -- two lists in a strict order with the same members are equal
-  pub same_ordered : (xs ys : List Identifier) → IsOrderedBy R xs → IsOrderedBy R ys → ((x : Identifier) → Contains xs x → Contains ys x) → ((x : Identifier) → Contains ys x → Contains xs x) → xs ≡ ys
+  pub same_ordered : (xs ys : List Identifier) → IsOrderedBy R xs → IsOrderedBy R ys → ((x : Identifier) → Contains xs x → Contains ys x)
+      → ((x : Identifier) → Contains ys x → Contains xs x) → xs ≡ ys
   same_ordered [] [] v w f g = refl
   same_ordered [] (y ∷ ys) v w f g = absurd (contains_none y (g y (contains_here y ys)))
   same_ordered (x ∷ xs) [] v w f g = absurd (contains_none x (f x (contains_here x xs)))

@@ -1,5 +1,7 @@
 -- The order of a part of a history is that of the whole with the elements that the part lacks left out, where both are lawful.
-use Rattle.origin_model.proofs.Words.{Bool, Identifier, IsIn, Lawful, List, None, Op, Option, Place, Some, [], ap, before_in, cases_Bool, cases_origin, chain, contains_filter_from, element_of, false, false≢true, filter, fork_before, holder, holds, id_lt, inl, inr, is_own, is_some, left_of, lefts, next_left, next_right, older_of, order, origin_eq, refl, right_at, right_of, rights, subst, sym, true, ◌&&◌, ◌++◌, ◌||◌, ◌∙◌, ◌∷◌, ◌≡◌}
+use Rattle.origin_model.proofs.Words.{Bool, Identifier, IsIn, Lawful, List, None, Op, Option, Place, Some, [], ap, before_in, cases_Bool, cases_origin, chain, contains_filter_from}
+use Rattle.origin_model.proofs.Words.{element_of, false, false≢true, filter, fork_before, holder, holds, id_lt, inl, inr, is_own, is_some, left_of, lefts, next_left, next_right}
+use Rattle.origin_model.proofs.Words.{older_of, order, origin_eq, refl, right_at, right_of, rights, subst, sym, true, ◌&&◌, ◌++◌, ◌||◌, ◌∙◌, ◌∷◌, ◌≡◌}
 use Rattle.origin_model.proofs.order.OrderedListLemmas.{Ordered-agree, same_ordered}
 use Rattle.origin_model.proofs.order.PositionLemmas.{Stands, origin_before, origin_lt, origin_same}
 use Rattle.origin_model.proofs.operations.LookupLemmas.{IsHeld, IsReady, found, held_not_own, holder-other, holder-own, holds-older, left_named, right_by, right_named, when_ready}
@@ -67,8 +69,10 @@ module _ (next : List Op → Op → Option Identifier) (held : (h : List Op) (op
       (above-same next older h (next older a) (λ y f. sym (chain-other next o older y (held_not_own o older y ready (held older a y r f))))
       ∙ ap (chain_above next h) (kept older h a r (λ i b k. holder-other o older i (held_not_own o older i ready (ap is_some k)) ∙ k))) in
       elim (cases_Bool (is_own x o)) [
-        | inl k ↦ let d : o ≡ op = cc (holder-own o older x k, e) in chain-own next o older x k ∙ grown o (ready_rests older o ready) ∙ ap (λ a. chain_above next h (next h a) ++ x ∷ []) d
-        | inr k ↦ let g : holder older x ≡ Some op = sym (holder-other o older x k) ∙ e in chain-other next o older x k ∙ chain-at older x op w.1 g ∙ grown op (held_rests older x op w.1 g)
+        | inl k ↦ let d : o ≡ op =
+            cc (holder-own o older x k, e) in chain-own next o older x k ∙ grown o (ready_rests older o ready) ∙ ap (λ a. chain_above next h (next h a) ++ x ∷ []) d
+        | inr k ↦ let g : holder older x ≡ Some op =
+            sym (holder-other o older x k) ∙ e in chain-other next o older x k ∙ chain-at older x op w.1 g ∙ grown op (held_rests older x op w.1 g)
       ]
 
   -- an element of the part has the same chain in the whole
@@ -136,16 +140,19 @@ abbrev pub fork_by : (Identifier → Identifier → Bool) → Option Identifier 
 fork_by R a b c d = origin_before R b a || (origin_eq b a && id_lt c d)
 
 -- positions compare at a fork as the order does
-pub fork-by : (p : Place) (h : List Op) (c d : Identifier) → Lawful h → IsIn p h c → IsIn p h d → fork_before (order p (older_of h)) h c d ≡ fork_by (before_at p (older_of h)) (right_at h c) (right_at h d) c d
+pub fork-by : (p : Place) (h : List Op) (c d : Identifier) → Lawful h → IsIn p h c → IsIn p h d
+    → fork_before (order p (older_of h)) h c d ≡ fork_by (before_at p (older_of h)) (right_at h c) (right_at h d) c d
 fork-by p h c d w m n =
     let o : List Identifier = order p (older_of h) in
     let g : List Op = older_of h in
-    let lt = origin_lt (before_at p g) (before_in-irrefl (order p (older_of g)) g) (before_in-trans (order p (older_of g)) g) o (right_at h d) (right_at h c) (order-ordered p g (older_lawful h w)) (right_stands p h d w n) (right_stands p h c w m) in
+    let lt = origin_lt (before_at p g) (before_in-irrefl (order p (older_of g)) g) (before_in-trans (order p (older_of g)) g) o (right_at h d) (right_at h c)
+    (order-ordered p g (older_lawful h w)) (right_stands p h d w n) (right_stands p h c w m) in
     let eq = origin_same o (right_at h d) (right_at h c) (right_stands p h d w n) (right_stands p h c w m) in
     λ i. lt i || (eq i && id_lt c d)
 
 -- orders that agree on two origins say alike which stands first
-origin_before-same : (R S : Identifier → Identifier → Bool) (a b : Option Identifier) → ((x y : Identifier) → a ≡ Some x → b ≡ Some y → R x y ≡ S x y) → origin_before R a b ≡ origin_before S a b
+origin_before-same : (R S : Identifier → Identifier → Bool) (a b : Option Identifier) → ((x y : Identifier) → a ≡ Some x → b ≡ Some y → R x y ≡ S x y)
+    → origin_before R a b ≡ origin_before S a b
 origin_before-same R S None b f = refl
 origin_before-same R S (Some x) None f = refl
 origin_before-same R S (Some x) (Some y) f = f x y refl refl

@@ -1,5 +1,8 @@
--- Indexes of origins in a list: as the list gains a member they keep their order, and in an ordered list they say which origin stands first.
-use Rattle.origin_model.proofs.Words.{Bool, Contains, Identifier, IsOrderedBy, List, None, Option, Some, [], ap, arith, cases_Bool, cases_id, cond, eq-eqb, eq-id_eq, false, false_from_ne_true, index_of_origin, inl, inr, insert, length, nat_eq, ne-id_eq, ne_eqb, origin_eq, refl, suc, sym, true, true≢false, zero, ℕ, ◌<◌, ◌∙◌, ◌∷◌, ◌≡◌, ◌≤◌}
+-- Indexes of origins in a list: as the list gains a member they keep their order, and in an ordered list they say which
+-- origin stands first.
+use Rattle.origin_model.proofs.Words.{Bool, Contains, Identifier, IsOrderedBy, List, None, Option, Some, [], ap, arith, cases_Bool, cases_id, cond, eq-eqb, eq-id_eq, false}
+use Rattle.origin_model.proofs.Words.{false_from_ne_true, index_of_origin, inl, inr, insert, length, nat_eq, ne-id_eq, ne_eqb, origin_eq, refl, suc, sym, true, true≢false, zero, ℕ}
+use Rattle.origin_model.proofs.Words.{◌<◌, ◌∙◌, ◌∷◌, ◌≡◌, ◌≤◌}
 use Rattle.std.proofs.Common.{nat_lt}
 use Rattle.std.proofs.lemmas.Bool.{le-ltb, lt-ltb, ltb-true}
 use Rattle.std.proofs.lemmas.Bool.Decides.{nat_tests}
@@ -39,13 +42,15 @@ index-other : (e : Identifier) (es : List Identifier) (r : Option Identifier) �
 index-other e es r h = rw h (omega arith)
 
 -- the indexes of the other origins, as a member goes in at n
-pub index-insert : (o : List Identifier) (n : ℕ) (x : Identifier) (r : Option Identifier) → n ≤ length o → origin_eq r (Some x) ≡ false → index_of_origin (insert o n x) r ≡ shifted n (index_of_origin o r)
+pub index-insert : (o : List Identifier) (n : ℕ) (x : Identifier) (r : Option Identifier) → n ≤ length o → origin_eq r (Some x) ≡ false
+    → index_of_origin (insert o n x) r ≡ shifted n (index_of_origin o r)
 index-insert o zero x r l h = index-other x o r h ∙ shifted-zero (index_of_origin o r)
 index-insert [] (suc n) x r l h = absurd (omega arith)
 index-insert (e ∷ es) (suc n) x r l h =
     elim (cases_Bool (origin_eq r (Some e))) [
       | inl k ↦ index-own e (insert es n x) r k ∙ shifted_none n ∙ ap (shifted (suc n)) (sym (index-own e es r k))
-      | inr k ↦ index-other e (insert es n x) r k ∙ ap suc (index-insert es n x r (omega arith) h) ∙ shifted-suc n (index_of_origin es r) ∙ ap (shifted (suc n)) (sym (index-other e es r k))
+      | inr k ↦ index-other e (insert es n x) r k ∙ ap suc (index-insert es n x r (omega arith) h) ∙ shifted-suc n (index_of_origin es r)
+          ∙ ap (shifted (suc n)) (sym (index-other e es r k))
     ]
 
 -- which of two origins stands first, where elements stand by R and the end stands last
@@ -86,7 +91,8 @@ module _ (R : Identifier → Identifier → Bool) (irrefl : (a : Identifier) →
       ]
 
   -- the indexes of two origins are in the order of the origins
-  pub origin_lt : (o : List Identifier) (a b : Option Identifier) → IsOrderedBy R o → Stands a o → Stands b o → nat_lt (index_of_origin o a) (index_of_origin o b) ≡ origin_before R a b
+  pub origin_lt : (o : List Identifier) (a b : Option Identifier) → IsOrderedBy R o → Stands a o → Stands b o
+      → nat_lt (index_of_origin o a) (index_of_origin o b) ≡ origin_before R a b
   origin_lt o None None w p q = grind (arith, nat_tests)
   origin_lt o None (Some r) w p q = le-ltb (index_of_origin o None) (index_of o r) (omega (arith, index_end o, contains-below o r q))
   origin_lt o (Some s) None w p q = lt-ltb (index_of o s) (index_of_origin o None) (omega (arith, index_end o, contains-below o s p))

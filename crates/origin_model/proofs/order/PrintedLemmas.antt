@@ -1,5 +1,6 @@
 -- What is printed, by the parts that the elements of the list add.
-use Rattle.origin_model.proofs.Words.{Bool, Identifier, List, Op, Place, [], ap, append_assoc, catalogue, codes, cond, false, filter, flat_map, holder, if◌then◌else◌, is_hidden, manuscript, not, place_eq, printed_section, refl, scalar_of, shown, sym, text, true, within, ℕ, ◌&&◌, ◌++◌, ◌∙◌, ◌∷◌, ◌≡◌}
+use Rattle.origin_model.proofs.Words.{Bool, Identifier, List, Op, Place, [], ap, append_assoc, catalogue, codes, cond, false, filter, flat_map, holder, if◌then◌else◌, is_hidden}
+use Rattle.origin_model.proofs.Words.{manuscript, not, place_eq, printed_section, refl, scalar_of, shown, sym, text, true, within, ℕ, ◌&&◌, ◌++◌, ◌∙◌, ◌∷◌, ◌≡◌}
 use Rattle.std.specs.Str.{encode_utf8_all}
 use Rattle.fugue_ids.proofs.TextLemmas.{encode-parts}
 use Rattle.origin_model.specs.declared.order.listing.Listed.{Listed}

@@ -1,5 +1,6 @@
 -- For any history and any finished list, the comparison of elements is a strict order, and total on the elements that are held.
-use Rattle.origin_model.proofs.Words.{arith, id_eq, precedes, All, chain_before, ◌∙◌, Identifier, List, Op, before_in, false, fork_before, index_of_origin, lefts, ne-id_eq, next_left, next_right, right_at, rights, sibling, true, ℕ, ◌≡◌, ◌≢◌}
+use Rattle.origin_model.proofs.Words.{arith, id_eq, precedes, All, chain_before, ◌∙◌, Identifier, List, Op, before_in, false, fork_before, index_of_origin, lefts, ne-id_eq}
+use Rattle.origin_model.proofs.Words.{next_left, next_right, right_at, rights, sibling, true, ℕ, ◌≡◌, ◌≢◌}
 use Rattle.std.proofs.lemmas.Bool.Decides.{nat_tests}
 use Rattle.origin_model.proofs.order.ChainOrderLemmas.{chain_before-agree, chain_before-irrefl, chain_before-total, chain_before-trans}
 use Rattle.origin_model.proofs.operations.LookupLemmas.{IsHeld}
@@ -46,7 +47,8 @@ module _ (o : List Identifier) (h : List Op) where
   -- of two siblings one stands before the other
   pub sibling-total : (a b : Identifier) → IsHeld h a → IsHeld h b → a ≢ b → sibling o h a b ≡ false → sibling o h b a ≡ true
   sibling-total a b p q n =
-      chain_before-total false (fork_before o h) (IsHeld h) (λ c d _ _. fork-total c d) (rights h a) (rights h b) (chain-held next_right h a) (chain-held next_right h b) (λ e. n (same_chain next_right h a b p q e))
+      chain_before-total false (fork_before o h) (IsHeld h) (λ c d _ _. fork-total c d) (rights h a) (rights h b) (chain-held next_right h a) (chain-held next_right h b)
+      (λ e. n (same_chain next_right h a b p q e))
 
   -- no element stands before itself
   pub before_in-irrefl : (x : Identifier) → before_in o h x x ≡ false
@@ -59,7 +61,8 @@ module _ (o : List Identifier) (h : List Op) where
   -- of two held elements one stands before the other
   pub before_in-total : (x y : Identifier) → IsHeld h x → IsHeld h y → x ≢ y → before_in o h x y ≡ false → before_in o h y x ≡ true
   before_in-total x y p q n =
-      chain_before-total true (sibling o h) (IsHeld h) sibling-total (lefts h x) (lefts h y) (chain-held next_left h x) (chain-held next_left h y) (λ e. n (same_chain next_left h x y p q e))
+      chain_before-total true (sibling o h) (IsHeld h) sibling-total (lefts h x) (lefts h y) (chain-held next_left h x) (chain-held next_left h y)
+      (λ e. n (same_chain next_left h x y p q e))
 
 -- two histories with their finished lists, and elements that have the same chains in both and compare alike at a fork
 module _ (o q : List Identifier) (s h : List Op) (P : Identifier → Type 0) (fork : (a b : Identifier) → P a → P b → fork_before o s a b ≡ fork_before q h a b)

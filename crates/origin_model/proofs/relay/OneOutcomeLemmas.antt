@@ -1,5 +1,7 @@
--- The definitions leave nothing open: bytes are of one kind, and so events leave a relay in one state, with the same replies; where bytes are of some kind, events leave it in some state.
-use Rattle.origin_model.proofs.Words.{Delete, Note, List, None, Op, Option, Section, Some, Text, [], ap, append-nil, arith, get_or, length, refl, subst, sym, ℕ, ◌++◌, ◌<◌, ◌∙◌, ◌∷◌, ◌≡◌}
+-- The definitions leave nothing open: bytes are of one kind, and so events leave a relay in one state, with the same
+-- replies; where bytes are of some kind, events leave it in some state.
+use Rattle.origin_model.proofs.Words.{Delete, Note, List, None, Op, Option, Section, Some, Text, [], ap, append-nil, arith, get_or, length, refl, subst, sym, ℕ, ◌++◌, ◌<◌, ◌∙◌}
+use Rattle.origin_model.proofs.Words.{◌∷◌, ◌≡◌}
 use Rattle.std.specs.FinMap as finite
 use Rattle.origin_model.specs.declared.relay.Event.{Event}
 use Rattle.origin_model.specs.declared.relay.Event.TheVariants.{Gone, Opened, Piece}
@@ -7,7 +9,8 @@ use Rattle.origin_model.specs.declared.relay.Reply.{Reply}
 use Rattle.origin_model.specs.declared.grammar.Grammar.TheVariants.{Version2}
 use Rattle.origin_model.specs.frames.Frames.{Framed, IsFrame, IsPartial, Item, Single, Typed, item_bytes}
 use Rattle.origin_model.specs.relay.Relay.{Relay, RelayRuns, RelaySteps, StepsPiece, session_opened, reply_of, sessions_after}
-use Rattle.origin_model.specs.relay.Session.{Closes, Closing, Frame, Front, Goes, IsKind, Kind, Neither, Next, SessionReading, Taken, TakesAll, TakesByte, TakesOne, closing, greeting_read, told}
+use Rattle.origin_model.specs.relay.Session.{Closes, Closing, Frame, Front, Goes, IsKind, Kind, Neither, Next, SessionReading, Taken, TakesAll, TakesByte, TakesOne, closing}
+use Rattle.origin_model.specs.relay.Session.{greeting_read, told}
 
 -- of frames at the front of the same bytes there is one
 abbrev pub FramesOnce : Type 0
@@ -66,7 +69,8 @@ one_kind one bytes Neither Front h i = absurd (h.1 i)
 one_kind one bytes Neither Neither h i = refl
 
 -- one byte has one outcome
-byte_once : FramesOnce → (limit : ℕ) (log : List (List ℕ)) (cursor : Option ℕ) (bytes : List ℕ) (a b : Taken) → TakesByte limit log cursor bytes a → TakesByte limit log cursor bytes b → a ≡ b
+byte_once : FramesOnce → (limit : ℕ) (log : List (List ℕ)) (cursor : Option ℕ) (bytes : List ℕ) (a b : Taken) → TakesByte limit log cursor bytes a
+    → TakesByte limit log cursor bytes b → a ≡ b
 byte_once one limit log None bytes a b h i = h ∙ sym i
 byte_once one limit log (Some cursor) bytes a b h i =
     h.2 ∙ ap (λ (k : Kind). told k limit log cursor bytes) (one_kind one bytes h.0 i.0 h.1 i.1) ∙ sym i.2
@@ -84,7 +88,8 @@ all_once one limit (byte ∷ bytes) start a b h i =
     all_once one limit bytes i.0 a b (subst (λ (t : Taken). TakesAll limit bytes t a) middle h.2) i.2
 
 -- a piece has one outcome
-piece_once : FramesOnce → (old : Relay) (n : ℕ) (found : Option SessionReading) (bytes : List ℕ) (a b : Relay) (x y : Option Reply) → StepsPiece old n found bytes a x → StepsPiece old n found bytes b y → (a ≡ b) × (x ≡ y)
+piece_once : FramesOnce → (old : Relay) (n : ℕ) (found : Option SessionReading) (bytes : List ℕ) (a b : Relay) (x y : Option Reply) → StepsPiece old n found bytes a x
+    → StepsPiece old n found bytes b y → (a ≡ b) × (x ≡ y)
 piece_once one old n None bytes a b x y h i = (h.0 ∙ sym i.0, h.1 ∙ sym i.1)
 piece_once one old n (Some reading) bytes a b x y h i =
     let same : h.taken ≡ i.taken = all_once one old.limit bytes (record { log = old.log; next = Goes reading }) h.taken i.taken h.takes i.takes in (
@@ -99,7 +104,8 @@ step_once one old (Piece n bytes) a b x y h i = piece_once one old n (finite.get
 step_once one old (Gone n) a b x y h i = (h.0 ∙ sym i.0, h.1 ∙ sym i.1)
 
 -- a run of events ends in one state, with the same replies
-pub run_once : FramesOnce → (events : List Event) (start a b : Relay) (as' bs : List (Option Reply)) → RelayRuns start events a as' → RelayRuns start events b bs → (a ≡ b) × (as' ≡ bs)
+pub run_once : FramesOnce → (events : List Event) (start a b : Relay) (as' bs : List (Option Reply)) → RelayRuns start events a as' → RelayRuns start events b bs
+    → (a ≡ b) × (as' ≡ bs)
 run_once one [] start a b as' bs h i = (h.0 ∙ sym i.0, h.1 ∙ sym i.1)
 run_once one (event ∷ events) start a b as' bs h i =
     let both = step_once one start event h.0 i.0 h.1 i.1 h.3 i.3 in
@@ -132,8 +138,11 @@ all_some some limit (byte ∷ bytes) start =
 piece_some : SomeKind → (old : Relay) (n : ℕ) (found : Option SessionReading) (bytes : List ℕ) → (new : Relay) × (reply : Option Reply) × StepsPiece old n found bytes new reply
 piece_some some old n None bytes = (old, None, (refl, refl))
 piece_some some old n (Some reading) bytes =
-    let t = all_some some old.limit bytes (record { log = old.log; next = Goes reading }) in
-    (record { limit = old.limit; log = t.0.log; sessions = sessions_after n old.sessions t.0.next }, reply_of n t.0.next, record { taken = t.0; takes = t.1; new_is = refl; reply_is = refl })
+    let t = all_some some old.limit bytes (record { log = old.log; next = Goes reading }) in (
+      record { limit = old.limit; log = t.0.log; sessions = sessions_after n old.sessions t.0.next },
+      reply_of n t.0.next,
+      record { taken = t.0; takes = t.1; new_is = refl; reply_is = refl },
+    )
 
 -- an event has an outcome
 pub step_some : SomeKind → (old : Relay) (event : Event) → (new : Relay) × (reply : Option Reply) × RelaySteps old event new reply

@@ -1,5 +1,7 @@
--- Small runs of a relay: the frames of a section S and of a text A come in two sessions, and others are refused, each at the byte that shows it.
-use Rattle.origin_model.proofs.Words.{◌<◌, All-cons, All-nil, Delete, Note, Identifier, List, None, Op, Option, Section, Some, Text, [], ap, append-nil, arith, codes, drop, length, refl, sym, take, true, ℕ, ◌++◌, ◌∙◌, ◌∷◌, ◌≡◌, ◌≢◌}
+-- Small runs of a relay: the frames of a section S and of a text A come in two sessions, and others are refused, each
+-- at the byte that shows it.
+use Rattle.origin_model.proofs.Words.{◌<◌, All-cons, All-nil, Delete, Note, Identifier, List, None, Op, Option, Section, Some, Text, [], ap, append-nil, arith, codes, drop, length}
+use Rattle.origin_model.proofs.Words.{refl, sym, take, true, ℕ, ◌++◌, ◌∙◌, ◌∷◌, ◌≡◌, ◌≢◌}
 use Rattle.std.specs.Char.{IsScalar}
 use Rattle.std.specs.Int.{from_be_bytes, w32}
 use lib.Utf8.{encode}
@@ -13,7 +15,8 @@ use Rattle.origin_model.specs.declared.grammar.Grammar.TheVariants.{Version2}
 use Rattle.origin_model.specs.frames.Frames.{Framed, HasFrame, IsFrame, IsItem, Item, Run, Single, Typed, frame, item_bytes, run_frame, run_ops}
 use Rattle.origin_model.proofs.frames.SingleLemmas.{framed_is, framed_of}
 use Rattle.origin_model.specs.relay.Relay.{Relay, RelayRuns, Sessions, RelaySteps, new_relay, reply_of}
-use Rattle.origin_model.specs.relay.Session.{reply_from, Closes, Goes, SessionReading, IsKind, Neither, Taken, TakesAll, closing, session_goes_on, greeting_read, refusal_message, session_refused, unread}
+use Rattle.origin_model.specs.relay.Session.{reply_from, Closes, Goes, SessionReading, IsKind, Neither, Taken, TakesAll, closing, session_goes_on, greeting_read, refusal_message}
+use Rattle.origin_model.specs.relay.Session.{session_refused, unread}
 use Rattle.origin_model.proofs.relay.OneOutcomeLemmas.{begins_low, first}
 use Rattle.origin_model.proofs.relay.RunLemmas.{after_piece, open_stays, opened_steps, unknown_steps, piece_steps, follows_runs}
 use Rattle.origin_model.proofs.relay.TextLemmas.{closing_takes, hello, hello_takes, closed_takes, frame_takes, front_takes, partly, takes-append}
@@ -86,17 +89,20 @@ two_sessions_run =
     let e : Sessions = finite.insert d 0 (behind 0) in
     let f : Sessions = finite.remove e 1 in
     let hello_0 = hello_takes many [] 0 (omega arith) in
-    let hello_1 = takes-append many (hello 0) (frame A) (record { log = []; next = Goes unread }) (session_goes_on [] 0) (session_goes_on (frame A ∷ []) 0) hello_0 (frame_takes (framed_of A) (framed_is Version2 A A_has) many 0 []) in
+    let hello_1 = takes-append many (hello 0) (frame A) (record { log = []; next = Goes unread }) (session_goes_on [] 0) (session_goes_on (frame A ∷ []) 0) hello_0
+    (frame_takes (framed_of A) (framed_is Version2 A A_has) many 0 []) in
     let closes : Taken = record { log = both; next = Closes (reply_from both 0) } in
     let s = opened_steps (new_relay many) 0 (simp gets refl) in
     let t = opened_steps (relay [] a) 1 (simp gets refl) in
     let u = piece_steps (relay [] b) 0 unread (hello 0) (session_goes_on [] 0) (simp gets refl) hello_0 in
     let v = piece_steps (relay [] c) 1 unread (hello 0 ++ frame A) (session_goes_on (frame A ∷ []) 0) (simp gets refl) hello_1 in
-    let w = piece_steps (relay (frame A ∷ []) d) 0 (behind 0) (frame S) (session_goes_on both 0) (simp gets refl) (frame_takes (framed_of S) (framed_is Version2 S S_has) many 0 (frame A ∷ [])) in
+    let w = piece_steps (relay (frame A ∷ []) d) 0 (behind 0) (frame S) (session_goes_on both 0) (simp gets refl)
+    (frame_takes (framed_of S) (framed_is Version2 S S_has) many 0 (frame A ∷ [])) in
     let x = piece_steps (relay both e) 1 (behind 0) closing closes (simp gets refl) (closing_takes many 0 both) in
     let y = piece_steps (relay both f) 0 (behind 0) closing closes (simp gets refl) (closing_takes many 0 both) in
     follows_runs (new_relay many)
-    ((Opened 0, relay [] a, None) ∷ (Opened 1, relay [] b, None) ∷ (Piece 0 (hello 0), relay [] c, None) ∷ (Piece 1 (hello 0 ++ frame A), relay (frame A ∷ []) d, None) ∷ (Piece 0 (frame S), relay both e, None)
+    ((Opened 0, relay [] a, None) ∷ (Opened 1, relay [] b, None) ∷ (Piece 0 (hello 0), relay [] c, None) ∷ (Piece 1 (hello 0 ++ frame A), relay (frame A ∷ []) d, None)
+    ∷ (Piece 0 (frame S), relay both e, None)
     ∷ (Piece 1 closing, relay both f, reply 1 all_frames) ∷ (Piece 0 closing, relay both both_closed, reply 0 all_frames) ∷ [])
     (s, (t, (u, (v, (w, (x, (y, tt)))))))
 
@@ -123,7 +129,8 @@ module _ (others : Sessions) where
   abbrev closed_2 : Sessions
   closed_2 = finite.remove (finite.insert greeted_2 2 (behind 1)) 2
 
-  byte_by_byte_run : finite.get others 2 ≡ Some unread → RelayRuns (relay both others) byte_by_byte (relay both closed_2) (None ∷ None ∷ None ∷ None ∷ None ∷ reply 2 second_frame ∷ [])
+  byte_by_byte_run : finite.get others 2 ≡ Some unread
+      → RelayRuns (relay both others) byte_by_byte (relay both closed_2) (None ∷ None ∷ None ∷ None ∷ None ∷ reply 2 second_frame ∷ [])
   unfolding encode
   byte_by_byte_run found =
       let a : Sessions = finite.insert others 2 (greets (0x48 ∷ [])) in
@@ -131,7 +138,9 @@ module _ (others : Sessions) where
       let c : Sessions = finite.insert b 2 (greets (0x48 ∷ 0 ∷ 0 ∷ [])) in
       let d : Sessions = finite.insert c 2 (greets (0x48 ∷ 0 ∷ 0 ∷ 0 ∷ [])) in
       let e : Sessions = finite.insert d 2 (behind 1) in
-      let more : (old : Sessions) (bytes : List ℕ) (byte : ℕ) → finite.get old 2 ≡ Some (greets bytes) → RelaySteps (relay both old) (Piece 2 (byte ∷ [])) (after_piece (relay both old) 2 (greeting_read both (bytes ++ byte ∷ []))) (reply_of 2 (greeting_read both (bytes ++ byte ∷ [])).next) = λ old bytes byte g.
+      let more : (old : Sessions) (bytes : List ℕ) (byte : ℕ) → finite.get old 2 ≡ Some (greets bytes)
+      → RelaySteps (relay both old) (Piece 2 (byte ∷ [])) (after_piece (relay both old) 2 (greeting_read both (bytes ++ byte ∷ [])))
+      (reply_of 2 (greeting_read both (bytes ++ byte ∷ [])).next) = λ old bytes byte g.
       piece_steps (relay both old) 2 (greets bytes) (byte ∷ []) (greeting_read both (bytes ++ byte ∷ [])) g (greeting_read both (bytes ++ byte ∷ []), refl, refl) in
       let s = more others [] 0x48 found in
       let t = more a (0x48 ∷ []) 0 (simp gets refl) in
@@ -148,18 +157,24 @@ answers_have_41_and_19_bytes : (length all_frames ≡ 41) × (length second_fram
 unfolding encode
 answers_have_41_and_19_bytes = (refl, refl)
 
--- a cursor of 3 is beyond a log of two frames: the session is refused at the fourth byte of the cursor, and what the piece brings behind it counts for nothing
+-- a cursor of 3 is beyond a log of two frames: the session is refused at the fourth byte of the cursor, and what the
+-- piece brings behind it counts for nothing
 cursor_beyond : TakesAll many (hello 3 ++ frame A) (record { log = both; next = Goes unread }) (session_refused both 3)
-cursor_beyond = takes-append many (hello 3) (frame A) (record { log = both; next = Goes unread }) (session_refused both 3) (session_refused both 3) (hello_takes many both 3 (omega arith)) (closed_takes many (frame A) both (refusal_message 3))
+cursor_beyond = takes-append many (hello 3) (frame A) (record { log = both; next = Goes unread }) (session_refused both 3) (session_refused both 3)
+    (hello_takes many both 3 (omega arith)) (closed_takes many (frame A) both (refusal_message 3))
 
 -- a log of one frame that may have no more takes that frame again, and refuses another at its last byte; the log stays
 full_log : TakesAll 1 (hello 0 ++ (frame S ++ (frame S ++ (frame A ++ closing)))) (record { log = []; next = Goes unread }) (session_refused (frame S ∷ []) 2)
 unfolding encode
 full_log =
-    takes-append 1 (hello 0) (frame S ++ (frame S ++ (frame A ++ closing))) (record { log = []; next = Goes unread }) (session_goes_on [] 0) (session_refused (frame S ∷ []) 2) (hello_takes 1 [] 0 (omega arith))
-    (takes-append 1 (frame S) (frame S ++ (frame A ++ closing)) (session_goes_on [] 0) (session_goes_on (frame S ∷ []) 0) (session_refused (frame S ∷ []) 2) (frame_takes (framed_of S) (framed_is Version2 S S_has) 1 0 [])
-    (takes-append 1 (frame S) (frame A ++ closing) (session_goes_on (frame S ∷ []) 0) (session_goes_on (frame S ∷ []) 0) (session_refused (frame S ∷ []) 2) (frame_takes (framed_of S) (framed_is Version2 S S_has) 1 0 (frame S ∷ []))
-    (takes-append 1 (frame A) closing (session_goes_on (frame S ∷ []) 0) (session_refused (frame S ∷ []) 2) (session_refused (frame S ∷ []) 2) (frame_takes (framed_of A) (framed_is Version2 A A_has) 1 0 (frame S ∷ []))
+    takes-append 1 (hello 0) (frame S ++ (frame S ++ (frame A ++ closing))) (record { log = []; next = Goes unread }) (session_goes_on [] 0) (session_refused (frame S ∷ []) 2)
+    (hello_takes 1 [] 0 (omega arith))
+    (takes-append 1 (frame S) (frame S ++ (frame A ++ closing)) (session_goes_on [] 0) (session_goes_on (frame S ∷ []) 0) (session_refused (frame S ∷ []) 2)
+    (frame_takes (framed_of S) (framed_is Version2 S S_has) 1 0 [])
+    (takes-append 1 (frame S) (frame A ++ closing) (session_goes_on (frame S ∷ []) 0) (session_goes_on (frame S ∷ []) 0) (session_refused (frame S ∷ []) 2)
+    (frame_takes (framed_of S) (framed_is Version2 S S_has) 1 0 (frame S ∷ []))
+    (takes-append 1 (frame A) closing (session_goes_on (frame S ∷ []) 0) (session_refused (frame S ∷ []) 2) (session_refused (frame S ∷ []) 2)
+    (frame_takes (framed_of A) (framed_is Version2 A A_has) 1 0 (frame S ∷ []))
     (closed_takes 1 closing (frame S ∷ []) (refusal_message 2)))))
 
 -- three letters typed in a row, as a run
@@ -177,7 +192,11 @@ abc_is = record {
     section = A_has.1;
     left = tt;
     right = tt;
-    text = record { some = omega arith; short = omega arith; scalars = All-cons IsScalar 97 (98 ∷ 99 ∷ []) refl (All-cons IsScalar 98 (99 ∷ []) refl (All-cons IsScalar 99 [] refl (All-nil IsScalar))) };
+    text = record {
+      some = omega arith;
+      short = omega arith;
+      scalars = All-cons IsScalar 97 (98 ∷ 99 ∷ []) refl (All-cons IsScalar 98 (99 ∷ []) refl (All-cons IsScalar 99 [] refl (All-nil IsScalar)));
+    };
     counters_fit = omega arith;
   };
   bytes_are = refl;
@@ -188,15 +207,20 @@ abc_is = record {
 run_in_full_log : TakesAll 2 (hello 0 ++ (frame S ++ (run_frame abc ++ closing))) (record { log = []; next = Goes unread }) (session_refused (frame S ∷ frame A ∷ []) 2)
 unfolding encode
 run_in_full_log =
-    takes-append 2 (hello 0) (frame S ++ (run_frame abc ++ closing)) (record { log = []; next = Goes unread }) (session_goes_on [] 0) (session_refused (frame S ∷ frame A ∷ []) 2) (hello_takes 2 [] 0 (omega arith))
+    takes-append 2 (hello 0) (frame S ++ (run_frame abc ++ closing)) (record { log = []; next = Goes unread }) (session_goes_on [] 0) (session_refused (frame S ∷ frame A ∷ []) 2)
+    (hello_takes 2 [] 0 (omega arith))
     (takes-append 2 (frame S) (run_frame abc ++ closing) (session_goes_on [] 0) (session_goes_on (frame S ∷ []) 0) (session_refused (frame S ∷ frame A ∷ []) 2)
     (frame_takes (framed_of S) (framed_is Version2 S S_has) 2 0 [])
     (takes-append 2 (run_frame abc) closing (session_goes_on (frame S ∷ []) 0) (session_refused (frame S ∷ frame A ∷ []) 2) (session_refused (frame S ∷ frame A ∷ []) 2)
     (frame_takes abc_framed abc_is 2 0 (frame S ∷ [])) (closed_takes 2 closing (frame S ∷ frame A ∷ []) (refusal_message 2))))
 
 -- a text that does not begin with 48 is refused at its first byte, also one that begins with the closing byte
-no_greeting : TakesAll many (0x47 ∷ 0x48 ∷ []) (record { log = []; next = Goes unread }) (session_refused [] 1) × TakesAll many (0x44 ∷ 0x48 ∷ []) (record { log = []; next = Goes unread }) (session_refused [] 1)
-no_greeting = ((session_refused [] 1, refl, closed_takes many (0x48 ∷ []) [] (refusal_message 1)), (session_refused [] 1, refl, closed_takes many (0x48 ∷ []) [] (refusal_message 1)))
+no_greeting : TakesAll many (0x47 ∷ 0x48 ∷ []) (record { log = []; next = Goes unread }) (session_refused [] 1)
+    × TakesAll many (0x44 ∷ 0x48 ∷ []) (record { log = []; next = Goes unread }) (session_refused [] 1)
+no_greeting = (
+  (session_refused [] 1, refl, closed_takes many (0x48 ∷ []) [] (refusal_message 1)),
+  (session_refused [] 1, refl, closed_takes many (0x48 ∷ []) [] (refusal_message 1)),
+)
 
 -- the four bytes behind the first
 next_four : List ℕ → List ℕ
@@ -246,13 +270,16 @@ opened_anew =
     let gone = finite.remove (finite.insert (finite.insert (finite.insert finite.empty 1 unread) 1 (greets (0x48 ∷ []))) 1 (greets (0x48 ∷ 0 ∷ []))) 1 in
     finite.insert (finite.remove gone 1) 1 unread
 
-reopened_run : RelayRuns (new_relay many) reopened (relay [] (finite.remove opened_anew 1)) (None ∷ None ∷ None ∷ None ∷ None ∷ None ∷ None ∷ None ∷ reply 1 (refusal_message 1) ∷ [])
+reopened_run : RelayRuns (new_relay many) reopened (relay [] (finite.remove opened_anew 1))
+    (None ∷ None ∷ None ∷ None ∷ None ∷ None ∷ None ∷ None ∷ reply 1 (refusal_message 1) ∷ [])
 reopened_run =
     let a : Sessions = finite.insert finite.empty 1 unread in
     let b : Sessions = finite.insert a 1 (greets (0x48 ∷ [])) in
     let c : Sessions = finite.insert b 1 (greets (0x48 ∷ 0 ∷ [])) in
     let gone : Sessions = finite.remove c 1 in
-    let more : (old : Sessions) (bytes : List ℕ) (byte : ℕ) → finite.get old 1 ≡ Some (greets bytes) → RelaySteps (relay [] old) (Piece 1 (byte ∷ [])) (after_piece (relay [] old) 1 (greeting_read [] (bytes ++ byte ∷ []))) (reply_of 1 (greeting_read [] (bytes ++ byte ∷ [])).next) = λ old bytes byte g.
+    let more : (old : Sessions) (bytes : List ℕ) (byte : ℕ) → finite.get old 1 ≡ Some (greets bytes)
+    → RelaySteps (relay [] old) (Piece 1 (byte ∷ [])) (after_piece (relay [] old) 1 (greeting_read [] (bytes ++ byte ∷ [])))
+    (reply_of 1 (greeting_read [] (bytes ++ byte ∷ [])).next) = λ old bytes byte g.
     piece_steps (relay [] old) 1 (greets bytes) (byte ∷ []) (greeting_read [] (bytes ++ byte ∷ [])) g (greeting_read [] (bytes ++ byte ∷ []), refl, refl) in
     let n = opened_steps (new_relay many) 1 (simp gets refl) in
     let o = more a [] 0x48 (simp gets refl) in
@@ -260,8 +287,11 @@ reopened_run =
     let q = more b (0x48 ∷ []) 0 (simp gets refl) in
     let r = unknown_steps (relay [] gone) 1 (5 ∷ []) (simp gets refl) in
     let s = opened_steps (relay [] (finite.remove gone 1)) 1 (simp gets refl) in
-    let t = piece_steps (relay [] opened_anew) 1 unread (0 ∷ 0x48 ∷ []) (session_refused [] 1) (simp gets refl) (session_refused [] 1, refl, closed_takes many (0x48 ∷ []) [] (refusal_message 1)) in
+    let t = piece_steps (relay [] opened_anew) 1 unread (0 ∷ 0x48 ∷ []) (session_refused [] 1) (simp gets refl)
+    (session_refused [] 1, refl, closed_takes many (0x48 ∷ []) [] (refusal_message 1)) in
     follows_runs (new_relay many)
-    ((Opened 1, relay [] a, None) ∷ (Piece 1 (0x48 ∷ []), relay [] b, None) ∷ (Opened 1, relay [] b, None) ∷ (Piece 1 (0 ∷ []), relay [] c, None) ∷ (Gone 1, relay [] gone, None) ∷ (Piece 1 (5 ∷ []), relay [] gone, None)
-    ∷ (Gone 1, relay [] (finite.remove gone 1), None) ∷ (Opened 1, relay [] opened_anew, None) ∷ (Piece 1 (0 ∷ 0x48 ∷ []), relay [] (finite.remove opened_anew 1), reply 1 (refusal_message 1)) ∷ [])
+    ((Opened 1, relay [] a, None) ∷ (Piece 1 (0x48 ∷ []), relay [] b, None) ∷ (Opened 1, relay [] b, None) ∷ (Piece 1 (0 ∷ []), relay [] c, None) ∷ (Gone 1, relay [] gone, None)
+    ∷ (Piece 1 (5 ∷ []), relay [] gone, None)
+    ∷ (Gone 1, relay [] (finite.remove gone 1), None) ∷ (Opened 1, relay [] opened_anew, None)
+    ∷ (Piece 1 (0 ∷ 0x48 ∷ []), relay [] (finite.remove opened_anew 1), reply 1 (refusal_message 1)) ∷ [])
     (n, (o, (p, (q, ((refl, refl), (r, ((refl, refl), (s, (t, tt)))))))))

@@ -17,7 +17,8 @@ pub step_runs : (event : Event) (a b : Relay) (reply : Option Reply) → RelaySt
 step_runs event a b reply h = (b, reply, [], h, (refl, refl), refl)
 
 -- the state after events and one more
-pub state_after : (limit : ℕ) (events : List Event) (old new : Relay) (event : Event) (reply : Option Reply) → IsRelayState limit events old → RelaySteps old event new reply → IsRelayState limit (events ++ event ∷ []) new
+pub state_after : (limit : ℕ) (events : List Event) (old new : Relay) (event : Event) (reply : Option Reply) → IsRelayState limit events old → RelaySteps old event new reply
+    → IsRelayState limit (events ++ event ∷ []) new
 state_after limit events old new event reply h i =
     record { replies = h.replies ++ reply ∷ []; runs = runs-append events (event ∷ []) (new_relay limit) old new h.replies (reply ∷ []) h.runs (step_runs event old new reply i) }
 
@@ -53,7 +54,8 @@ pub unknown_steps : (old : Relay) (n : ℕ) (bytes : List ℕ) → finite.get ol
 unknown_steps old n bytes none = subst (λ o. StepsPiece old n o bytes old None) (sym none) (refl, refl)
 
 -- a number that is not open begins an empty text
-pub opened_steps : (old : Relay) (n : ℕ) → finite.get old.sessions n ≡ None → RelaySteps old (Opened n) (record { limit = old.limit; log = old.log; sessions = finite.insert old.sessions n unread }) None
+pub opened_steps : (old : Relay) (n : ℕ) → finite.get old.sessions n ≡ None
+    → RelaySteps old (Opened n) (record { limit = old.limit; log = old.log; sessions = finite.insert old.sessions n unread }) None
 opened_steps old n none =
     (ap (λ o. record { limit = old.limit; log = old.log; sessions = if is_some o then old.sessions else finite.insert old.sessions n unread }) (sym none), refl)
 

@@ -1,4 +1,5 @@
--- Texts: pieces are read as their bytes joined, a frame is taken at its last byte, and bytes behind the one that closes a session count for nothing.
+-- Texts: pieces are read as their bytes joined, a frame is taken at its last byte, and bytes behind the one that closes
+-- a session count for nothing.
 use Rattle.origin_model.proofs.Words.{List, Some, [], ap, append-nil, append_assoc, arith, length, refl, subst, sym, ℕ, ◌++◌, ◌<◌, ◌^◌, ◌∙◌, ◌∷◌, ◌≡◌}
 use Rattle.std.proofs.lemmas.Nat.{from_be_bytes-to_be_bytes_4}
 use Rattle.std.specs.Int.{byte_at, to_be_bytes, w32}
@@ -13,7 +14,8 @@ takes-append limit [] ys a b c h i = subst (λ t. TakesAll limit ys t c) h i
 takes-append limit (x ∷ xs) ys a b c h i = (h.0, h.1, takes-append limit xs ys h.0 b c h.2 i)
 
 -- bytes of a closed session count for nothing
-pub closed_takes : (limit : ℕ) (bytes : List ℕ) (log : List (List ℕ)) (reply : List ℕ) → TakesAll limit bytes (record { log = log; next = Closes reply }) (record { log = log; next = Closes reply })
+pub closed_takes : (limit : ℕ) (bytes : List ℕ) (log : List (List ℕ)) (reply : List ℕ)
+    → TakesAll limit bytes (record { log = log; next = Closes reply }) (record { log = log; next = Closes reply })
 closed_takes limit [] log reply = refl
 closed_takes limit (byte ∷ bytes) log reply = (record { log = log; next = Closes reply }, refl, closed_takes limit bytes log reply)
 
@@ -43,8 +45,11 @@ module _ (framed : Framed) (is : IsFrame Version2 framed) where
 
     -- the bytes y and ys, behind the bytes xs of a frame, end it
     pub rest_takes : (ys xs : List ℕ) (y : ℕ) → framed.bytes ≡ xs ++ y ∷ ys → TakesAll limit (y ∷ ys) (partly log cursor xs) (log_joined limit log cursor framed.ops)
-    rest_takes [] xs y e =
-        (log_joined limit log cursor framed.ops, (Frame framed.ops, record { item = is.item; is_item = is.is_item; bytes_are = sym e ∙ is.bytes_are; ops_are = is.ops_are }, refl), refl)
+    rest_takes [] xs y e = (
+      log_joined limit log cursor framed.ops,
+      (Frame framed.ops, record { item = is.item; is_item = is.is_item; bytes_are = sym e ∙ is.bytes_are; ops_are = is.ops_are }, refl),
+      refl,
+    )
     rest_takes (z ∷ zs) xs y e =
         let split : framed.bytes ≡ (xs ++ y ∷ []) ++ z ∷ zs = e ∙ sym (append_assoc xs (y ∷ []) (z ∷ zs)) in
         (partly log cursor (xs ++ y ∷ []), (Front, front_of (xs ++ y ∷ []) z zs split, refl), rest_takes zs (xs ++ y ∷ []) z split)

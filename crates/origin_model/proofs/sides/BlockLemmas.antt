@@ -1,12 +1,15 @@
 -- The ends of a block, by the keys of the elements around it.
-use Rattle.origin_model.proofs.Words.{All-contains, Bool, Contains, Identifier, IsIn, Lawful, List, None, Op, Option, Passes, Place, Some, [], ap, append-nil, append_assoc, arith, chain_before, contains_middle, false, false≢true, fork_before, inl, inr, left_at, lefts, next_left, next_right, older_of, order, refl, rights, same_from_push, sibling, subst, suc, sym, true, true≢false, ℕ, ◌++◌, ◌<◌, ◌∙◌, ◌∷◌, ◌≡◌, ◌≢◌, ◌⊎◌}
+use Rattle.origin_model.proofs.Words.{All-contains, Bool, Contains, Identifier, IsIn, Lawful, List, None, Op, Option, Passes, Place, Some, [], ap, append-nil, append_assoc, arith}
+use Rattle.origin_model.proofs.Words.{chain_before, contains_middle, false, false≢true, fork_before, inl, inr, left_at, lefts, next_left, next_right, older_of, order, refl, rights}
+use Rattle.origin_model.proofs.Words.{same_from_push, sibling, subst, suc, sym, true, true≢false, ℕ, ◌++◌, ◌<◌, ◌∙◌, ◌∷◌, ◌≡◌, ◌≢◌, ◌⊎◌}
 use Rattle.std.proofs.lemmas.Bool.Decides.{nat_tests}
 use Rattle.fugue_ids.specs.Keys.{key_lt}
 use Rattle.fugue_ids.specs.declared.key.Key.{Key}
 use Rattle.origin_model.specs.declared.sides.Slot.TheVariants.{RightOf}
 use Rattle.origin_model.specs.sides.Keys.{depth_of, forest_of, search_key_of, keyed_as}
 use Rattle.origin_model.proofs.operations.LookupLemmas.{IsHeld}
-use Rattle.origin_model.proofs.order.{IsIn-held, before_at, before_in-irrefl, before_in-trans, chain-ends, chain_above, chain_before-fork, common, lefts-above, lefts-in, lefts-prefix, order-has, parts, parts_late, rights-in, rights-prefix, same_chain, sibling-irrefl, sibling-trans}
+use Rattle.origin_model.proofs.order.{IsIn-held, before_at, before_in-irrefl, before_in-trans, chain-ends, chain_above, chain_before-fork, common, lefts-above, lefts-in}
+use Rattle.origin_model.proofs.order.{lefts-prefix, order-has, parts, parts_late, rights-in, rights-prefix, same_chain, sibling-irrefl, sibling-trans}
 use Rattle.origin_model.proofs.sides.ChainLengthLemmas.{cut, forest-rights, len, len-append, more, same_front}
 use Rattle.origin_model.proofs.sides.KeyedListLemmas.{is_deep}
 use Rattle.origin_model.proofs.sides.SlotLemmas.{IsThere, left_there}
@@ -153,7 +156,8 @@ module _ (p : Place) (h : List Op) (w : Lawful h) where
     flat_y = let d : depth_of h y ≡ depth_of h q = depth_like y f.same_left in grind (arith, nat_tests)
 
     -- what stands in the forest below q has a greater key
-    over_forest : (e : Identifier) (m : List Identifier) → IsHeld h e → lefts h e ≡ A ++ e ∷ [] → rights h e ≡ rights h q ++ m → e ≢ q → key_lt (search_key_of h q) (search_key_of h e) ≡ true
+    over_forest : (e : Identifier) (m : List Identifier) → IsHeld h e → lefts h e ≡ A ++ e ∷ [] → rights h e ≡ rights h q ++ m → e ≢ q
+        → key_lt (search_key_of h q) (search_key_of h e) ≡ true
     over_forest e [] k i j n = absurd (n (same_chain next_right h e q k held_q (j ∙ append-nil (rights h q))))
     over_forest e (x ∷ xs) k i j n =
         let d : depth_of h e ≡ depth_of h q = depth_like e i in
@@ -170,14 +174,16 @@ module _ (p : Place) (h : List Op) (w : Lawful h) where
     in_forest e m (inl d) j = inr (subst (λ z. lefts h z ≡ A ++ z ∷ []) d f.same_left, (my, ap (rights h) (sym d) ∙ f.under.1))
     in_forest e m (inr k) j =
         elim (parts true S A (lefts h e)) [
-          | inr g ↦ absurd (loop e q j (ap (λ c. chain_before true S c (lefts h e)) lq ∙ g (q ∷ []) ∙ sym (g (y ∷ [])) ∙ ap (λ c. chain_before true S c (lefts h e)) (sym f.same_left) ∙ k))
+          | inr g ↦ absurd (loop e q j (ap (λ c. chain_before true S c (lefts h e)) lq ∙ g (q ∷ []) ∙ sym (g (y ∷ []))
+              ∙ ap (λ c. chain_before true S c (lefts h e)) (sym f.same_left) ∙ k))
           | inl c ↦ (elim c.0 as (λ o. lefts h e ≡ A ++ o → (depth_of h q < depth_of h e) ⊎ ((lefts h e ≡ A ++ e ∷ []) × Passes (rights h q) (rights h e))) [
             | [] ↦ (λ i. absurd (false≢true (sym ((λ z. chain_before true S (f.same_left z) (i z)) ∙ common true S A (y ∷ []) []) ∙ k)))
             | u ∷ us ↦ (λ i. forest_by u us i)
           ]) c.1
         ]
       where
-        forest_by : (u : Identifier) (us : List Identifier) → lefts h e ≡ A ++ u ∷ us → (depth_of h q < depth_of h e) ⊎ ((lefts h e ≡ A ++ e ∷ []) × Passes (rights h q) (rights h e))
+        forest_by : (u : Identifier) (us : List Identifier) → lefts h e ≡ A ++ u ∷ us
+            → (depth_of h q < depth_of h e) ⊎ ((lefts h e ≡ A ++ e ∷ []) × Passes (rights h q) (rights h e))
         forest_by u [] i =
             let r = chain-ends next_left h e (IsIn-held p h e m) in
             let d : e ≡ u = (same_from_push r.0 A e u (sym r.1 ∙ i)).1 in
@@ -188,7 +194,9 @@ module _ (p : Place) (h : List Op) (w : Lawful h) where
             let seq : S e q ≡ true = sym ((λ z. chain_before true S (le z) (lq z)) ∙ common true S A (e ∷ []) (q ∷ []) ∙ chain_before-fork true S e q [] [] ne) ∙ j in
             elim (parts false F (rights h q) (rights h e)) [
               | inr g ↦
-                  let sqe : S q e ≡ true = ap (λ c. chain_before false F c (rights h e)) (sym (append-nil (rights h q))) ∙ g [] ∙ sym (g my) ∙ ap (λ c. chain_before false F c (rights h e)) (sym f.under.1) ∙ sye in
+                  let sqe : S q e ≡ true =
+                  ap (λ c. chain_before false F c (rights h e)) (sym (append-nil (rights h q))) ∙ g [] ∙ sym (g my)
+                  ∙ ap (λ c. chain_before false F c (rights h e)) (sym f.under.1) ∙ sye in
                   absurd (true≢false (sym (sibling-trans (order p (older_of h)) h e q e seq sqe) ∙ sibling-irrefl (order p (older_of h)) h e))
               | inl c ↦ inr (le, c)
             ]
@@ -214,7 +222,9 @@ module _ (p : Place) (h : List Op) (w : Lawful h) where
     left_in l i =
         let there = subst (λ o. IsThere h (RightOf o)) i (left_there p h q w mq) in
         let r = chain-ends next_left h l there in
-        All-contains (IsIn p h) (lefts h q) l (lefts-in p h q w mq) (subst (λ t. Contains t l) (sym (lq ∙ ap (λ o. chain_above next_left h o ++ q ∷ []) i ∙ ap (λ c. c ++ q ∷ []) r.1 ∙ append_assoc r.0 (l ∷ []) (q ∷ []))) (contains_middle r.0 l (q ∷ [])))
+        All-contains (IsIn p h) (lefts h q) l (lefts-in p h q w mq)
+        (subst (λ t. Contains t l) (sym (lq ∙ ap (λ o. chain_above next_left h o ++ q ∷ []) i ∙ ap (λ c. c ++ q ∷ []) r.1 ∙ append_assoc r.0 (l ∷ []) (q ∷ [])))
+        (contains_middle r.0 l (q ∷ [])))
 
     -- what stands before the block and not behind the left origin of q stands before that left origin
     below_left : (e : Identifier) → R e y ≡ true → ((zs : List Identifier) → chain_before true S (lefts h e) (A ++ zs) ≡ chain_before true S (lefts h e) A)
@@ -272,7 +282,8 @@ module _ (p : Place) (h : List Op) (w : Lawful h) where
         let sey : S e y ≡ true = sym ((λ z. chain_before true S (le z) (f.same_left z)) ∙ common true S A (e ∷ []) (y ∷ []) ∙ chain_before-fork true S e y [] [] ne) ∙ k in
         let suy : S u y ≡ true = elim (parts false F (rights h u) (rights h y)) [
           | inl r ↦ absurd (same (same_front (rights h u) (rights h q) r.0 my size (sym r.1 ∙ f.under.1)))
-          | inr g ↦ ap (λ t. chain_before false F t (rights h y)) (sym (append-nil (rights h u))) ∙ g [] ∙ sym (g c.more) ∙ ap (λ t. chain_before false F t (rights h y)) (sym whole) ∙ sey
+          | inr g ↦ ap (λ t. chain_before false F t (rights h y)) (sym (append-nil (rights h u))) ∙ g [] ∙ sym (g c.more)
+              ∙ ap (λ t. chain_before false F t (rights h y)) (sym whole) ∙ sey
         ] in
         let neu : e ≢ u = λ d. true≢false (sym seu ∙ ap (λ z. S z u) d ∙ sibling-irrefl (order p (older_of h)) h u) in
         let nuy : u ≢ y = λ d. true≢false (sym suy ∙ ap (λ z. S z y) d ∙ sibling-irrefl (order p (older_of h)) h y) in

@@ -1,5 +1,6 @@
 -- The lengths of the chains of origins, which keys tell, and chains that are cut at a given length.
-use Rattle.origin_model.proofs.Words.{Identifier, List, Op, Option, [], ap, append-nil, arith, cases_Bool, chain, inl, inr, is_own, length, length-append, next_right, None, Some, refl, rights, same_from_push, suc, sym, zero, ℕ, ◌++◌, ◌+◌, ◌-◌, ◌<◌, ◌∙◌, ◌∷◌, ◌≡◌, ◌≤◌}
+use Rattle.origin_model.proofs.Words.{Identifier, List, Op, Option, [], ap, append-nil, arith, cases_Bool, chain, inl, inr, is_own, length, length-append, next_right, None, Some}
+use Rattle.origin_model.proofs.Words.{refl, rights, same_from_push, suc, sym, zero, ℕ, ◌++◌, ◌+◌, ◌-◌, ◌<◌, ◌∙◌, ◌∷◌, ◌≡◌, ◌≤◌}
 use Rattle.origin_model.specs.order.Order.{Passes}
 use Rattle.origin_model.specs.sides.Keys.{forest_of}
 use Rattle.origin_model.proofs.operations.LookupLemmas.{IsHeld}

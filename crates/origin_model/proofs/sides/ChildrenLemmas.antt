@@ -1,5 +1,8 @@
 -- The children of the slots, sorted, are a table of the place.
-use Rattle.origin_model.proofs.Words.{All, All-contains, AllPairs, Bool, Contains, Contains-append_right, Identifier, IsIn, IsOrderedBy, Lawful, List, None, Op, Option, Place, Some, [], all_from_contains, all_pairs_head, all_pairs_nil, all_pairs_tail, ap, arith, contains_cases, contains_filter_from, contains_here, contains_none, contains_there, count_by, element_of, false, filter, fork_before, id_lt, index_of_origin, inl, inr, is_own, left_of, ne-id_eq, older_of, option_to_list, order, precedes, refl, right_at, right_of, subst, sym, true, true≢false, ℕ, ◌++◌, ◌∙◌, ◌∷◌, ◌≡◌, ◌≢◌, ◌⊎◌}
+use Rattle.origin_model.proofs.Words.{All, All-contains, AllPairs, Bool, Contains, Contains-append_right, Identifier, IsIn, IsOrderedBy, Lawful, List, None, Op, Option, Place}
+use Rattle.origin_model.proofs.Words.{Some, [], all_from_contains, all_pairs_head, all_pairs_nil, all_pairs_tail, ap, arith, contains_cases, contains_filter_from, contains_here}
+use Rattle.origin_model.proofs.Words.{contains_none, contains_there, count_by, element_of, false, filter, fork_before, id_lt, index_of_origin, inl, inr, is_own, left_of, ne-id_eq}
+use Rattle.origin_model.proofs.Words.{older_of, option_to_list, order, precedes, refl, right_at, right_of, subst, sym, true, true≢false, ℕ, ◌++◌, ◌∙◌, ◌∷◌, ◌≡◌, ◌≢◌, ◌⊎◌}
 use Rattle.origin_model.proofs.order.{IsIn-held, IsIn-older, IsIn-own, IsIn-split, Ordered-agree, fork-total, fork-trans, fork_moved}
 use Rattle.origin_model.proofs.order.OrderedListLemmas.{placed-ordered}
 use Rattle.origin_model.proofs.order.StrictOrderLemmas.{ranked-total, ranked-trans}

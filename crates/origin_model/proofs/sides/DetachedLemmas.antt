@@ -1,5 +1,6 @@
 -- A node that is no origin taken out: the others are nodes still.
-use Rattle.origin_model.proofs.Words.{Identifier, List, None, Option, Some, [], ap, cases_id, eq-id_eq, false, filter, id_eq, if◌then◌else◌, inl, inr, is_some, ne-id_eq, not, refl, subst, sym, true, true≢false, ◌∙◌, ◌∷◌, ◌≡◌, ◌≢◌}
+use Rattle.origin_model.proofs.Words.{Identifier, List, None, Option, Some, [], ap, cases_id, eq-id_eq, false, filter, id_eq, if◌then◌else◌, inl, inr, is_some, ne-id_eq, not, refl}
+use Rattle.origin_model.proofs.Words.{subst, sym, true, true≢false, ◌∙◌, ◌∷◌, ◌≡◌, ◌≢◌}
 use Rattle.origin_model.specs.sides.Detached.{NoOrigin, without}
 use Rattle.origin_model.specs.sides.Node.{AreNodes, IsNew, find_node, has_node, has_origin}
 use Rattle.origin_model.specs.declared.operations.node.Node.{Node}

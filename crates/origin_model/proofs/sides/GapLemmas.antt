@@ -1,5 +1,7 @@
 -- An element placed in an ordered list stands in the gap that its neighbour tells.
-use Rattle.origin_model.proofs.Words.{Bool, Contains, Identifier, IsOrderedBy, List, [], all_from_contains, all_pairs_tail, ap, cases_Bool, cases_id, contains_cases, contains_here, contains_none, contains_there, eq-id_eq, false, false_from_ne_true, if◌then◌else◌, inl, inr, ne-id_eq, placed, sym, true, true≢false, ◌∙◌, ◌∷◌, ◌≡◌, ◌⊎◌}
+use Rattle.origin_model.proofs.Words.{Bool, Contains, Identifier, IsOrderedBy, List, [], all_from_contains, all_pairs_tail, ap, cases_Bool, cases_id, contains_cases, contains_here}
+use Rattle.origin_model.proofs.Words.{contains_none, contains_there, eq-id_eq, false, false_from_ne_true, if◌then◌else◌, inl, inr, ne-id_eq, placed, sym, true, true≢false, ◌∙◌}
+use Rattle.origin_model.proofs.Words.{◌∷◌, ◌≡◌, ◌⊎◌}
 use Rattle.origin_model.specs.sides.Slot.{inserted_before, inserted_behind}
 use Rattle.origin_model.proofs.order.{first_before, in_rest, no_loop, placed-behind, placed-first}
 

@@ -1,5 +1,7 @@
 -- Blocks in the order: the list falls into parts at the two ends of a block, and the searches by keys end there.
-use Rattle.origin_model.proofs.Words.{All-contains, Contains, Contains-append_cases, Contains-append_left, Contains-append_right, Identifier, IsIn, IsOrderedBy, Lawful, List, Op, Place, Some, [], all_pairs_before, all_pairs_behind, ap, append-nil, append_assoc, cases_Bool, contains_here, contains_middle, contains_none, contains_there, false, false_from_ne_true, inl, inr, not, order, refl, subst, sym, true, true≢false, ◌++◌, ◌∙◌, ◌∷◌, ◌≡◌}
+use Rattle.origin_model.proofs.Words.{All-contains, Contains, Contains-append_cases, Contains-append_left, Contains-append_right, Identifier, IsIn, IsOrderedBy, Lawful, List, Op}
+use Rattle.origin_model.proofs.Words.{Place, Some, [], all_pairs_before, all_pairs_behind, ap, append-nil, append_assoc, cases_Bool, contains_here, contains_middle, contains_none}
+use Rattle.origin_model.proofs.Words.{contains_there, false, false_from_ne_true, inl, inr, not, order, refl, subst, sym, true, true≢false, ◌++◌, ◌∙◌, ◌∷◌, ◌≡◌}
 use Rattle.std.specs.Prelude.{unwrap_or}
 use Rattle.std.proofs.lemmas.List.{map-append}
 use Rattle.fugue_ids.proofs.ListLemmas.{all_from_map}
@@ -14,7 +16,8 @@ use Rattle.origin_model.specs.sides.Keys.{depth_of, search_key_of, with_keys, ke
 use Rattle.origin_model.proofs.edits.LandsBehindLemmas.{cut_member}
 use Rattle.origin_model.proofs.order.{before_at, first_before, first_of, front_before, last_of, order-has, order-member, order-ordered}
 use Rattle.origin_model.proofs.sides.BlockLemmas.{To, deep_block, flat_y, from_s, irrefl, loop, lower_block, next_block, no_turn, over_block, to_q}
-use Rattle.origin_model.proofs.sides.KeyedListLemmas.{deep_high, first_head, flat_low, front_head, front_ids, is_deep, last_high, last_parted, parted_low, rest_end, rest_ids, PartedLow}
+use Rattle.origin_model.proofs.sides.KeyedListLemmas.{deep_high, first_head, flat_low, front_head, front_ids, is_deep, last_high, last_parted, parted_low, rest_end, rest_ids}
+use Rattle.origin_model.proofs.sides.KeyedListLemmas.{PartedLow}
 use Rattle.origin_model.proofs.sides.SpineLemmas.{IsFirstIn, IsLastIn}
 
 -- a member with what stands before it and behind it
@@ -145,13 +148,17 @@ module _ (p : Place) (h : List Op) (w : Lawful h) where
     fits_at x m = All-contains (λ z. IsFit (keyed_as h z)) o x (all_from_map (keyed_as h) IsFit o fit) m
 
     -- what stands behind s and no deeper begins behind its block
-    pub end_low : (s y : Identifier) (ms : IsIn p h s) (l : IsLastIn p h s y) (r : EndParts s y) → first_low (widest (depth_of h s)) (rest_of (Some s) (with_keys h o)) ≡ first_after r.after
+    pub end_low : (s y : Identifier) (ms : IsIn p h s) (l : IsLastIn p h s y) (r : EndParts s y)
+        → first_low (widest (depth_of h s)) (rest_of (Some s) (with_keys h o)) ≡ first_after r.after
     end_low s y ms l r =
         let whole : o ≡ r.front ++ (s ∷ (r.back ++ r.after)) = r.whole ∙ append_assoc r.front (s ∷ r.back) r.after in
-        ap (first_low (widest (depth_of h s))) (ap (λ t. rest_of (Some s) (with_keys h t)) whole ∙ rest_ids h (before_at p h) (irrefl p h w) r.front (r.back ++ r.after) s (subst (IsOrderedBy (before_at p h)) whole sorted))
+        ap (first_low (widest (depth_of h s))) (ap (λ t. rest_of (Some s) (with_keys h t)) whole
+        ∙ rest_ids h (before_at p h) (irrefl p h w) r.front (r.back ++ r.after) s (subst (IsOrderedBy (before_at p h)) whole sorted))
         ∙ first_head h (widest (depth_of h s)) r.back r.after
         (λ x m. let i = r.inside x m in deep_high (depth_of h s) (keyed_as h x) (deep_block p h w s y ms l x i.0 i.1))
-        (λ c cs e. flat_low (depth_of h s) (keyed_as h c) (fits_at c (subst (λ t. Contains t c) (sym (r.whole ∙ ap (λ t. (r.front ++ s ∷ r.back) ++ t) e)) (Contains-append_right (r.front ++ s ∷ r.back) (c ∷ cs) c (contains_here c cs)))) (r.stop c cs e))
+        (λ c cs e. flat_low (depth_of h s) (keyed_as h c)
+        (fits_at c (subst (λ t. Contains t c) (sym (r.whole ∙ ap (λ t. (r.front ++ s ∷ r.back) ++ t) e))
+        (Contains-append_right (r.front ++ s ∷ r.back) (c ∷ cs) c (contains_here c cs)))) (r.stop c cs e))
 
     -- the search by the depth ends at the last of the block
     pub end_found : (s y : Identifier) → IsIn p h s → IsLastIn p h s y → block_end (with_keys h o) (depth_of h s) s ≡ y
@@ -159,7 +166,8 @@ module _ (p : Place) (h : List Op) (w : Lawful h) where
         let r = end_parts s y ms l in
         let Z : List Identifier = r.front ++ s ∷ r.back in
         ap (λ t. unwrap_or (last_id (front_of t (with_keys h o))) s) (end_low s y ms l r)
-        ∙ ap (λ t. unwrap_or (last_id t) s) (ap (λ t. front_of (first_after r.after) (with_keys h t)) r.whole ∙ front_head h (before_at p h) (irrefl p h w) Z r.after (subst (IsOrderedBy (before_at p h)) r.whole sorted))
+        ∙ ap (λ t. unwrap_or (last_id t) s) (ap (λ t. front_of (first_after r.after) (with_keys h t)) r.whole
+        ∙ front_head h (before_at p h) (irrefl p h w) Z r.after (subst (IsOrderedBy (before_at p h)) r.whole sorted))
         ∙ ap (λ t. unwrap_or (last_id t) s) (ap (with_keys h) r.last.1 ∙ map-append (keyed_as h) r.last.0 (y ∷ []))
         ∙ ap (λ t. unwrap_or t s) (last_push (with_keys h r.last.0) (keyed_as h y))
 
@@ -178,7 +186,8 @@ module _ (p : Place) (h : List Op) (w : Lawful h) where
       -- the last before q whose key is no greater
       pub start_low : last_low k (front_of (Some q) (with_keys h o)) ≡ last_before b.front
       start_low =
-          ap (last_low k) (ap (λ t. front_of (Some q) (with_keys h t)) r.whole ∙ front_ids h (before_at p h) (irrefl p h w) (r.front ++ r.inner) r.back q (subst (IsOrderedBy (before_at p h)) r.whole sorted))
+          ap (last_low k) (ap (λ t. front_of (Some q) (with_keys h t)) r.whole
+          ∙ front_ids h (before_at p h) (irrefl p h w) (r.front ++ r.inner) r.back q (subst (IsOrderedBy (before_at p h)) r.whole sorted))
           ∙ last_high h k r.front r.inner (λ e m. over_high k (keyed_as h e) (inner_over e m))
           ∙ last_parted h k r.front b
 
@@ -210,7 +219,8 @@ module _ (p : Place) (h : List Op) (w : Lawful h) where
                 let xy : T x y = front_before (before_at p h) r.front (y ∷ r.first.0) x y wo xf (contains_here y r.first.0) in
                 let l = lower_block p h w q y mq f x mx xy j (high_over k (keyed_as h x) (b.high x m)) in
                 absurd (elim (Contains-append_cases r.front (y ∷ r.first.0) l.middle (subst (λ t. Contains t l.middle) whole l.member)) [
-                  | inr n ↦ no_turn p h w y l.middle (elim (first_of (before_at p h) y l.middle r.first.0 (all_pairs_behind T r.front (y ∷ r.first.0) wo) n) [ inl i ↦ inl (sym i) | inr i ↦ inr i ]) l.before
+                  | inr n ↦ no_turn p h w y l.middle
+                      (elim (first_of (before_at p h) y l.middle r.first.0 (all_pairs_behind T r.front (y ∷ r.first.0) wo) n) [ inl i ↦ inl (sym i) | inr i ↦ inr i ]) l.before
                   | inl n ↦ elim (Contains-append_cases b.front b.back l.middle (subst (λ t. Contains t l.middle) b.whole n)) [
                     | inr i ↦ true≢false (sym (high_over k (keyed_as h l.middle) (b.high l.middle i)) ∙ l.low)
                     | inl i ↦
@@ -227,7 +237,8 @@ module _ (p : Place) (h : List Op) (w : Lawful h) where
           ap (λ t. unwrap_or (first_low (widest k.depth) t) q) (start_rest ∙ ap (with_keys h) whole)
           ∙ ap (λ t. unwrap_or t q) (first_head h (widest k.depth) b.back (y ∷ r.first.0)
           (λ x m. deep_high k.depth (keyed_as h x) (deep_between x m))
-          (λ c cs e. let d : y ≡ c = cc in subst (λ z. is_low (widest k.depth) (keyed_as h z) ≡ true) d (flat_low k.depth (keyed_as h y) (fits_at y (order-has p h y f.member)) (flat_y p h w q y mq f))))
+          (λ c cs e. let d : y ≡ c = cc in subst (λ z. is_low (widest k.depth) (keyed_as h z) ≡ true) d
+          (flat_low k.depth (keyed_as h y) (fits_at y (order-has p h y f.member)) (flat_y p h w q y mq f))))
 
     pub start_found : (q y : Identifier) → IsIn p h q → IsFirstIn p h q y → block_start (with_keys h o) (search_key_of h q) q ≡ y
     start_found q y mq f = let r = start_parts q y mq f in start_at q y mq f r (parted_low h (search_key_of h q) r.front)

@@ -1,5 +1,7 @@
 -- The gap that is found by keys is the one that the sided tree has, and so the place of the new element.
-use Rattle.origin_model.proofs.Words.{Bool, Contains, Contains-append_left, Identifier, IsIn, IsOrderedBy, Lawful, List, None, Op, Place, Some, [], ap, cases_id, cases_origin, chain_before, contains_cases, contains_here, contains_middle, element_of, false, fork_before, index_of_origin, inl, inr, left_at, left_of, lefts, next_left, older_of, order, refl, right_at, right_of, rights, sibling, subst, sym, true, ◌++◌, ◌∙◌, ◌∷◌, ◌≡◌, ◌≢◌, ◌⊎◌}
+use Rattle.origin_model.proofs.Words.{Bool, Contains, Contains-append_left, Identifier, IsIn, IsOrderedBy, Lawful, List, None, Op, Place, Some, [], ap, cases_id, cases_origin}
+use Rattle.origin_model.proofs.Words.{chain_before, contains_cases, contains_here, contains_middle, element_of, false, fork_before, index_of_origin, inl, inr, left_at, left_of}
+use Rattle.origin_model.proofs.Words.{lefts, next_left, older_of, order, refl, right_at, right_of, rights, sibling, subst, sym, true, ◌++◌, ◌∙◌, ◌∷◌, ◌≡◌, ◌≢◌, ◌⊎◌}
 use Rattle.fugue_ids.proofs.ListLemmas.{all_pairs_weaker}
 use Rattle.fugue_ids.specs.Keys.{Keyed, first_id}
 use Rattle.fugue_ids.specs.Listed.{last_before}
@@ -13,7 +15,8 @@ use Rattle.origin_model.specs.sides.Keys.{with_keys}
 use Rattle.origin_model.specs.sides.Slot.{BeforeBlock, HasElder, IsChild, IsGap, NoElder, goes_before, slot_of}
 use Rattle.origin_model.proofs.edits.SplitLemmas.{end_none, end_split}
 use Rattle.origin_model.proofs.operations.LookupLemmas.{when_ready}
-use Rattle.origin_model.proofs.order.{IsIn-held, before_at, chain_above, chain_before-fork, first_before, first_of, fork_moved, heads, left_in, never_none, no_member, order-has, order-member, order-ordered, right_in}
+use Rattle.origin_model.proofs.order.{IsIn-held, before_at, chain_above, chain_before-fork, first_before, first_of, fork_moved, heads, left_in, never_none, no_member, order-has}
+use Rattle.origin_model.proofs.order.{order-member, order-ordered, right_in}
 use Rattle.origin_model.proofs.order.StrictOrderLemmas.{ranked-trans}
 use Rattle.origin_model.proofs.sides.BlockLemmas.{To, loop}
 use Rattle.origin_model.proofs.sides.KeyedBlockLemmas.{end_found, start_found}
@@ -63,10 +66,12 @@ module _ (p : Place) (h : List Op) (w : Lawful h) (fit : AllFit p h) where
             let d = under_left p h None e u more w tt m i in
             let r = rooted p h None u w tt d.member d.left_u in
             elim (cases_id r.root v) [
-              | inl q ↦ turned (f.first e u more r.below m (i ∙ ap (λ l. chain_above next_left h l ++ u ∷ more) (sym lv)) (r.path ∙ ap (λ a. a ∷ r.below) q ∙ ap (λ a. a ++ r.below) (sym rv)))
+              | inl q ↦ turned (f.first e u more r.below m (i ∙ ap (λ l. chain_above next_left h l ++ u ∷ more) (sym lv))
+                  (r.path ∙ ap (λ a. a ∷ r.below) q ∙ ap (λ a. a ++ r.below) (sym rv)))
               | inr q ↦
                   let fv : F v r.root ≡ true = sym (fork_moved p h v r.root w)
-                  ∙ elim (first_of (fork_before (order p h) h) v r.root rest (subst (IsOrderedBy (fork_before (order p h) h)) c (t.sorted (RightOf None))) (subst (λ l. Contains l r.root) c (t.full (RightOf None) r.root r.is_child))) [
+                  ∙ elim (first_of (fork_before (order p h) h) v r.root rest (subst (IsOrderedBy (fork_before (order p h) h)) c (t.sorted (RightOf None)))
+                  (subst (λ l. Contains l r.root) c (t.full (RightOf None) r.root r.is_child))) [
                     | inl z ↦ absurd (q z)
                     | inr z ↦ z
                   ] in
@@ -101,7 +106,8 @@ module _ (p : Place) (h : List Op) (w : Lawful h) (fit : AllFit p h) where
   at_start [] c =
       elim (first_split (children (RightOf None))) [
         | inl e ↦ e
-        | inr r ↦ absurd (no_member (order p h) r.0 c (order-has p h r.0 (child-in p h (RightOf None) r.0 ((has_table p h w).sound (RightOf None) r.0 (subst (λ l. Contains l r.0) (sym r.2) (contains_here r.0 r.1))))))
+        | inr r ↦ absurd (no_member (order p h) r.0 c
+            (order-has p h r.0 (child-in p h (RightOf None) r.0 ((has_table p h w).sound (RightOf None) r.0 (subst (λ l. Contains l r.0) (sym r.2) (contains_here r.0 r.1))))))
       ]
   at_start (e ∷ es) c =
       let me : IsIn p h e = order-member p h e w (subst (λ l. Contains l e) (sym c) (contains_here e es)) in
@@ -162,7 +168,8 @@ pub slot_stands : (p : Place) (op : Op) (older : List Op) (x : Identifier) → L
 slot_stands p op older = slot_stands_by p older op older
 
 -- siblings that go before the new element stand before those that do not
-goes_up : (o : List Identifier) (older : List Op) (op : Op) (x a b : Identifier) → fork_before o older a b ≡ true → goes_before o older op x b ≡ true → goes_before o older op x a ≡ true
+goes_up : (o : List Identifier) (older : List Op) (op : Op) (x a b : Identifier) → fork_before o older a b ≡ true → goes_before o older op x b ≡ true
+    → goes_before o older op x a ≡ true
 goes_up o older op x a b k j = ranked-trans (index_of_origin o (right_at older a)) (index_of_origin o (right_at older b)) (index_of_origin o (right_of op)) a b x k j
 
 -- so the siblings of a new element fall
@@ -189,4 +196,5 @@ gap_by_keys_is_place p op older x w at fit =
     let whole : table_of p older s ≡ r.elders ++ r.youngers = sym same ∙ r.whole in
     gap_is_place p op older x (table_of p older) r.elders r.youngers (gap_by_keys (with_keys older o) s (slot_key older s) g) w at t
     (record { whole = whole; elder = r.elder; younger = r.younger })
-    (subst (λ e. IsGap (table_of p older) s r.elders r.youngers (gap_behind (with_keys older o) s (slot_key older s) e)) (sym r.last) (gap_by p older w.1 fit s m r.elders r.youngers whole))
+    (subst (λ e. IsGap (table_of p older) s r.elders r.youngers (gap_behind (with_keys older o) s (slot_key older s) e)) (sym r.last)
+    (gap_by p older w.1 fit s m r.elders r.youngers whole))

@@ -1,5 +1,7 @@
 -- Lists of elements with their keys, in parts, and what searches by keys find in them.
-use Rattle.origin_model.proofs.Words.{All, All-head, All-tail, Bool, Contains, Identifier, IsOrderedBy, List, None, Op, Some, [], all_from_contains, ap, append-nil, append_assoc, arith, cases_Bool, cases_origin, contains_cases, contains_here, contains_none, false, filter, filter-append, inl, inr, refl, subst, sym, true, true≢false, ℕ, ◌++◌, ◌∙◌, ◌∷◌, ◌≡◌, ◌≢◌, ◌⊎◌}
+use Rattle.origin_model.proofs.Words.{All, All-head, All-tail, Bool, Contains, Identifier, IsOrderedBy, List, None, Op, Some, [], all_from_contains, ap, append-nil, append_assoc}
+use Rattle.origin_model.proofs.Words.{arith, cases_Bool, cases_origin, contains_cases, contains_here, contains_none, false, filter, filter-append, inl, inr, refl, subst, sym, true}
+use Rattle.origin_model.proofs.Words.{true≢false, ℕ, ◌++◌, ◌∙◌, ◌∷◌, ◌≡◌, ◌≢◌, ◌⊎◌}
 use Rattle.std.specs.Prelude.{nat_lt}
 use Rattle.std.proofs.lemmas.List.{map-append}
 use Rattle.std.proofs.lemmas.List.Elements.{All-map}
@@ -68,7 +70,8 @@ all_keyed h P xs f = All-map P (keyed_as h) xs (all_from_contains (λ x. P (keye
 -- elements of a history with their keys
 module _ (h : List Op) where
   -- the last whose key is at most k stands before those whose keys are greater
-  pub last_high : (k : Key) (xs ys : List Identifier) → ((y : Identifier) → Contains ys y → is_low k (keyed_as h y) ≡ false) → last_low k (with_keys h (xs ++ ys)) ≡ last_low k (with_keys h xs)
+  pub last_high : (k : Key) (xs ys : List Identifier) → ((y : Identifier) → Contains ys y → is_low k (keyed_as h y) ≡ false)
+      → last_low k (with_keys h (xs ++ ys)) ≡ last_low k (with_keys h xs)
   last_high k xs ys f =
       ap last_id (
       ap (filter (is_low k)) (map-append (keyed_as h) xs ys)
@@ -129,7 +132,8 @@ module _ (h : List Op) where
   first_head k xs [] f g =
       ap (λ t. first_low k (with_keys h t)) (append-nil xs) ∙ first_none k (with_keys h xs) (all_keyed h (λ z. is_low k z ≡ false) xs f)
   first_head k xs (y ∷ ys) f g =
-      ap (first_low k) (map-append (keyed_as h) xs (y ∷ ys)) ∙ first_found k (with_keys h xs) (with_keys h ys) (keyed_as h y) (all_keyed h (λ z. is_low k z ≡ false) xs f) (g y ys refl)
+      ap (first_low k) (map-append (keyed_as h) xs (y ∷ ys))
+      ∙ first_found k (with_keys h xs) (with_keys h ys) (keyed_as h y) (all_keyed h (λ z. is_low k z ≡ false) xs f) (g y ys refl)
 
   -- a list in a strict order, in parts
   module _ (R : Identifier → Identifier → Bool) (irrefl : (a : Identifier) → R a a ≡ false) where

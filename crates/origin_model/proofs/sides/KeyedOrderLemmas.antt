@@ -1,5 +1,8 @@
 -- The order of nodes with their keys: look-ups in it, one more node, and its gap.
-use Rattle.origin_model.proofs.Words.{All, AllPairs, Bool, Contains, Identifier, Lawful, List, None, Op, Option, Some, [], all_pairs_head, all_pairs_tail, All-contains, ap, append_assoc, arith, before_in, catalogue, cases_id, cases_origin, contains_cases, contains_here, contains_middle, contains_none, count_by, eq-id_eq, false, id_eq, if◌then◌else◌, inl, inr, insert, length, ne-id_eq, refl, subst, suc, sym, true, true≢false, zero, ℕ, ◌++◌, ◌<◌, ◌^◌, ◌∙◌, ◌∷◌, ◌≡◌, ◌≢◌, ◌≤◌, ◌⊎◌}
+use Rattle.origin_model.proofs.Words.{All, AllPairs, Bool, Contains, Identifier, Lawful, List, None, Op, Option, Some, [], all_pairs_head, all_pairs_tail, All-contains, ap}
+use Rattle.origin_model.proofs.Words.{append_assoc, arith, before_in, catalogue, cases_id, cases_origin, contains_cases, contains_here, contains_middle, contains_none, count_by}
+use Rattle.origin_model.proofs.Words.{eq-id_eq, false, id_eq, if◌then◌else◌, inl, inr, insert, length, ne-id_eq, refl, subst, suc, sym, true, true≢false, zero, ℕ, ◌++◌, ◌<◌, ◌^◌}
+use Rattle.origin_model.proofs.Words.{◌∙◌, ◌∷◌, ◌≡◌, ◌≢◌, ◌≤◌, ◌⊎◌}
 use Rattle.std.specs.Prelude.{IfSome}
 use Rattle.std.proofs.lemmas.List.Sums.{count_by-le-length}
 use Rattle.fugue_ids.specs.Keys.{HasKey, IsFit, first_id, ids, key_lt, low_ids, rest_of}
@@ -158,11 +161,14 @@ module _ (n : Node) (ns : List Node) (a : AreNodes (n ∷ ns)) where
 
   pub keyed_joins : keyed_order (n ∷ ns) ≡ insert (keyed_order ns) (index_of (node_order (n ∷ ns)) n.id) (new_keyed ns n)
   keyed_joins =
-      let at : index_of (node_order (n ∷ ns)) n.id ≡ count = ap (λ t. index_of t n.id) placed_at ∙ index_of-insert (node_order ns) count n.id (count_by-le-length (λ e. before_in (node_order ns) (as_op n ∷ h) e n.id) (node_order ns)) fresh in
+      let at : index_of (node_order (n ∷ ns)) n.id ≡ count =
+      ap (λ t. index_of t n.id) placed_at ∙ index_of-insert (node_order ns) count n.id
+      (count_by-le-length (λ e. before_in (node_order ns) (as_op n ∷ h) e n.id) (node_order ns)) fresh in
       joins_at count placed_at ∙ ap (λ i. insert (keyed_order ns) i (new_keyed ns n)) (sym at)
 
   -- and the gap tells where
-  pub keyed_at_gap : (gap : Gap) → IsPlace gap n.id (node_order ns) (node_order (n ∷ ns)) → keyed_order (n ∷ ns) ≡ insert (keyed_order ns) (gap_index gap (node_order ns)) (new_keyed ns n)
+  pub keyed_at_gap : (gap : Gap) → IsPlace gap n.id (node_order ns) (node_order (n ∷ ns))
+      → keyed_order (n ∷ ns) ≡ insert (keyed_order ns) (gap_index gap (node_order ns)) (new_keyed ns n)
   keyed_at_gap gap k = joins_at (gap_index gap (node_order ns)) (k.place ∙ gap_at gap n.id (node_order ns) k.beside)
 
   -- its key is that of the children of its slot
@@ -236,7 +242,8 @@ module _ (n : Node) (ns : List Node) (a : AreNodes (n ∷ ns)) where
   }
 
   -- behind a member
-  behind_place : (x l : Identifier) (front back xs longer : List Identifier) → AllPairs (λ x y. x ≢ y) xs → xs ≡ front ++ l ∷ back → longer ≡ front ++ l ∷ x ∷ back → IsPlace (After l) x xs longer
+  behind_place : (x l : Identifier) (front back xs longer : List Identifier) → AllPairs (λ x y. x ≢ y) xs → xs ≡ front ++ l ∷ back → longer ≡ front ++ l ∷ x ∷ back
+      → IsPlace (After l) x xs longer
   behind_place x l front back xs longer d e f =
       let m : Contains xs l = subst (λ t. Contains t l) (sym e) (contains_middle front l back) in
       record {
@@ -258,7 +265,8 @@ module _ (n : Node) (ns : List Node) (a : AreNodes (n ∷ ns)) where
       let r = lands_behind_origin catalogue (as_op n) h n.id w refl (origin_member n.left a.0.left) right in
       by r (cases_origin n.left) right
     where
-      by : (r : StandsBehind n.left (n.id ∷ []) (node_order ns) (node_order (n ∷ ns))) → (n.left ≡ None) ⊎ ((l : Identifier) × (n.left ≡ Some l)) → n.right ≡ following (node_order ns) n.left
+      by : (r : StandsBehind n.left (n.id ∷ []) (node_order ns) (node_order (n ∷ ns))) → (n.left ≡ None) ⊎ ((l : Identifier) × (n.left ≡ Some l))
+          → n.right ≡ following (node_order ns) n.left
           → IsPlace (gap_between n.left n.right) n.id (node_order ns) (node_order (n ∷ ns))
       by r (inl d) right =
           let none : r.front ≡ [] = end_none r.front (r.origin ∙ d) in

@@ -1,5 +1,8 @@
 -- The part of the list in which the children of a slot stand: they are its elements with the least key.
-use Rattle.origin_model.proofs.Words.{Contains, Contains-append_cases, Contains-append_left, Contains-append_right, Identifier, IsIn, IsOrderedBy, Lawful, List, None, Op, Passes, Place, Some, [], all_pairs_before, all_pairs_behind, ap, append-nil, append_assoc, arith, chain_before, contains_cases, contains_filter_from, contains_here, contains_middle, contains_there, false, filter, fork_before, inl, inr, left_at, lefts, next_left, next_right, older_of, order, refl, rights, sibling, subst, suc, sym, true, true≢false, Bool, ℕ, ◌++◌, ◌∙◌, ◌∷◌, ◌≡◌, ◌≢◌}
+use Rattle.origin_model.proofs.Words.{Contains, Contains-append_cases, Contains-append_left, Contains-append_right, Identifier, IsIn, IsOrderedBy, Lawful, List, None, Op, Passes}
+use Rattle.origin_model.proofs.Words.{Place, Some, [], all_pairs_before, all_pairs_behind, ap, append-nil, append_assoc, arith, chain_before, contains_cases, contains_filter_from}
+use Rattle.origin_model.proofs.Words.{contains_here, contains_middle, contains_there, false, filter, fork_before, inl, inr, left_at, lefts, next_left, next_right, older_of, order}
+use Rattle.origin_model.proofs.Words.{refl, rights, sibling, subst, suc, sym, true, true≢false, Bool, ℕ, ◌++◌, ◌∙◌, ◌∷◌, ◌≡◌, ◌≢◌}
 use Rattle.std.proofs.lemmas.Bool.Decides.{nat_tests}
 use Rattle.std.proofs.lemmas.List.Kept.{AllPairs-filter}
 use Rattle.fugue_ids.proofs.ListLemmas.{contains_filter}
@@ -14,7 +17,8 @@ use Rattle.origin_model.specs.sides.KeyedGap.{child_key, part_from, part_to, sib
 use Rattle.origin_model.specs.sides.Keys.{depth_of, forest_of, search_key_of, with_keys, keyed_as}
 use Rattle.origin_model.specs.sides.Slot.{IsChild}
 use Rattle.origin_model.proofs.edits.SplitLemmas.{end_push}
-use Rattle.origin_model.proofs.order.{IsIn-held, before_at, chain-ends, chain_above, chain_before-fork, common, first_before, fork-irrefl, fork-trans, front_before, lefts-above, order-has, order-member}
+use Rattle.origin_model.proofs.order.{IsIn-held, before_at, chain-ends, chain_above, chain_before-fork, common, first_before, fork-irrefl, fork-trans, front_before, lefts-above}
+use Rattle.origin_model.proofs.order.{order-has, order-member}
 use Rattle.origin_model.proofs.order.OrderedListLemmas.{same_ordered}
 use Rattle.origin_model.proofs.sides.BlockLemmas.{To, in_block, deep_block, in_forest, irrefl, loop, no_turn}
 use Rattle.origin_model.proofs.sides.ChainLengthLemmas.{forest-rights, len, more, pass_one}
@@ -182,14 +186,16 @@ module _ (p : Place) (h : List Op) (w : Lawful h) (fit : AllFit p h) where
       let so : IsOrderedBy (before_at p h) (front ++ (l ∷ (r.back ++ r.after))) = subst (IsOrderedBy (before_at p h)) whole (sorted p h w) in
       let lo : IsOrderedBy (before_at p h) (l ∷ (r.back ++ r.after)) = all_pairs_behind T front (l ∷ (r.back ++ r.after)) so in
       let bo : IsOrderedBy (before_at p h) (r.back ++ r.after) = all_pairs_behind T (l ∷ []) (r.back ++ r.after) lo in
-      let rest : rest_of (Some l) (with_keys h o) ≡ with_keys h (r.back ++ r.after) = ap (λ t. rest_of (Some l) (with_keys h t)) whole ∙ rest_ids h (before_at p h) (irrefl p h w) front (r.back ++ r.after) l so in
+      let rest : rest_of (Some l) (with_keys h o) ≡ with_keys h (r.back ++ r.after) =
+      ap (λ t. rest_of (Some l) (with_keys h t)) whole ∙ rest_ids h (before_at p h) (irrefl p h w) front (r.back ++ r.after) l so in
       let to : part_to (with_keys h o) s (slot_key h s) ≡ first_after r.after = end_low p h w fit l b.0 m b.1 r in
       let in_back : (v : Identifier) → Contains r.back v → Contains o v = λ v n.
       subst (λ t. Contains t v) (sym r.whole) (Contains-append_left (front ++ l ∷ r.back) r.after v (Contains-append_right front (l ∷ r.back) v (contains_there l r.back v n))) in
       let deep : (v : Identifier) → Contains r.back v → is_deep (depth_of h l) (keyed_as h v) ≡ true = λ v n. let i = r.inside v n in deep_block p h w l b.0 m b.1 v i.0 i.1 in (
         r.back,
         record {
-          is_part = ap (front_of (part_to (with_keys h o) s (slot_key h s))) rest ∙ ap (λ t. front_of t (with_keys h (r.back ++ r.after))) to ∙ front_head h (before_at p h) (irrefl p h w) r.back r.after bo;
+          is_part = ap (front_of (part_to (with_keys h o) s (slot_key h s))) rest ∙ ap (λ t. front_of t (with_keys h (r.back ++ r.after))) to
+              ∙ front_head h (before_at p h) (irrefl p h w) r.back r.after bo;
           in_order = all_pairs_before T r.back r.after bo;
           inside = in_back;
           least = λ v n. deep_least (depth_of h l) (keyed_as h v) (deep v n);
@@ -200,7 +206,8 @@ module _ (p : Place) (h : List Op) (w : Lawful h) (fit : AllFit p h) where
           full = λ v k.
               let lv : lefts h v ≡ lefts h l ++ v ∷ [] = child-lefts p h s v w k in
               let mv = child-in p h s v k in
-              let lr : T l v = (λ i. chain_before true (sibling (order p (older_of h)) h) (sym (append-nil (lefts h l)) i) (lv i)) ∙ common true (sibling (order p (older_of h)) h) (lefts h l) [] (v ∷ []) in
+              let lr : T l v = (λ i. chain_before true (sibling (order p (older_of h)) h) (sym (append-nil (lefts h l)) i) (lv i))
+              ∙ common true (sibling (order p (older_of h)) h) (lefts h l) [] (v ∷ []) in
               let up : To p h w v b.0 = b.1.last v mv (v ∷ [], lv) in
               let zo : IsOrderedBy (before_at p h) ((front ++ l ∷ r.back) ++ r.after) = subst (IsOrderedBy (before_at p h)) r.whole (sorted p h w) in
               elim (Contains-append_cases (front ++ l ∷ r.back) r.after v (subst (λ t. Contains t v) r.whole (order-has p h v mv))) [
@@ -287,18 +294,21 @@ module _ (p : Place) (h : List Op) (w : Lawful h) (fit : AllFit p h) where
                 | inl i ↦ elim (Contains-append_cases r.front r.inner v i) [
                   | inr j ↦ Contains-append_right z.back r.inner v j
                   | inl j ↦
-                      let yo : IsOrderedBy (before_at p h) (r.front ++ b.0 ∷ r.first.0) = subst (IsOrderedBy (before_at p h)) (append_assoc r.front r.inner (q ∷ r.back) ∙ ap (λ t. r.front ++ t) r.first.1) ro in
+                      let yo : IsOrderedBy (before_at p h) (r.front ++ b.0 ∷ r.first.0) =
+                      subst (IsOrderedBy (before_at p h)) (append_assoc r.front r.inner (q ∷ r.back) ∙ ap (λ t. r.front ++ t) r.first.1) ro in
                       absurd (no_turn p h w b.0 v up (front_before (before_at p h) r.front (b.0 ∷ r.first.0) v b.0 yo j (contains_here b.0 r.first.0)))
                 ]
               ];
           from = subst (HoldsOrigin (low_ids (ck s) (with_keys h o))) (sym (start_low p h w fit q b.0 m b.1 r z)) (elim z.low [
             | inl n ↦ subst (λ t. HoldsOrigin (low_ids (ck s) (with_keys h o)) (last_before t)) (sym n) tt
             | inr n ↦ subst (HoldsOrigin (low_ids (ck s) (with_keys h o))) (sym (ap last_before n.2 ∙ end_push n.0 n.1))
-                (low_in (ck s) o n.1 (subst (λ t. Contains t n.1) (sym whole) (Contains-append_left z.front (part ++ q ∷ r.back) n.1 (subst (λ t. Contains t n.1) (sym n.2) (contains_middle n.0 n.1 []))))
+                (low_in (ck s) o n.1 (subst (λ t. Contains t n.1) (sym whole)
+                (Contains-append_left z.front (part ++ q ∷ r.back) n.1 (subst (λ t. Contains t n.1) (sym n.2) (contains_middle n.0 n.1 []))))
                 (low_next (search_key_of h q) (keyed_as h n.1) n.3))
           ]);
           to = subst (λ t. Contains (low_ids (ck s) t) q) (sym rest)
-              (low_in (ck s) (part ++ q ∷ r.back) q (contains_middle part q r.back) (low_next (search_key_of h q) (keyed_as h q) (is_low_by (search_key_of h q) (keyed_as h q) refl refl)));
+              (low_in (ck s) (part ++ q ∷ r.back) q (contains_middle part q r.back)
+              (low_next (search_key_of h q) (keyed_as h q) (is_low_by (search_key_of h q) (keyed_as h q) refl refl)));
         },
       )
 

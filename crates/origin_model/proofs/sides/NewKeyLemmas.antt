@@ -1,5 +1,7 @@
 -- The key of a new element, and that later ones leave it.
-use Rattle.origin_model.proofs.Words.{All, All-head, All-tail, Identifier, Lawful, List, None, Op, Option, Some, [], ap, arith, cases_Bool, cases_origin, false, false≢true, has_left, holder, if◌then◌else◌, inl, inr, is_own, is_some, left_at, left_of, lefts, next_left, next_right, order, refl, right_of, rights, suc, sym, true, true≢false, ◌++◌, ◌-◌, ◌∙◌, ◌∷◌, ◌≡◌}
+use Rattle.origin_model.proofs.Words.{All, All-head, All-tail, Identifier, Lawful, List, None, Op, Option, Some, [], ap, arith, cases_Bool, cases_origin, false, false≢true}
+use Rattle.origin_model.proofs.Words.{has_left, holder, if◌then◌else◌, inl, inr, is_own, is_some, left_at, left_of, lefts, next_left, next_right, order, refl, right_of, rights}
+use Rattle.origin_model.proofs.Words.{suc, sym, true, true≢false, ◌++◌, ◌-◌, ◌∙◌, ◌∷◌, ◌≡◌}
 use Rattle.origin_model.specs.sides.KeyLaws.{KeyBound, KeysStay, NewKey, RunKey}
 use Rattle.origin_model.specs.declared.sides.Slot.TheVariants.{RightOf}
 use Rattle.origin_model.specs.sides.KeyedGap.{child_key, slot_key}
@@ -7,7 +9,8 @@ use Rattle.origin_model.specs.sides.Keys.{depth_above, depth_of, forest_above, f
 use Rattle.origin_model.specs.sides.Slot.{slot_by}
 use Rattle.origin_model.proofs.operations.LookupLemmas.{IsHeld, found, held_not_own, holder-other, holder-own, right_named, when_ready}
 use Rattle.origin_model.proofs.operations.ElementLemmas.{element_own}
-use Rattle.origin_model.proofs.order.{beside_is, chain-other, chain-own, chain_above, has_left-at, left_at-is, left_origin_held, lefts-above, lefts-at, right_origin_held, rights-at}
+use Rattle.origin_model.proofs.order.{beside_is, chain-other, chain-own, chain_above, has_left-at, left_at-is, left_origin_held, lefts-above, lefts-at, right_origin_held}
+use Rattle.origin_model.proofs.order.{rights-at}
 use Rattle.origin_model.proofs.order.OrderLemmas.{order-held}
 use Rattle.origin_model.proofs.order.PartLemmas.{has_left_by}
 use Rattle.origin_model.proofs.sides.ChainLengthLemmas.{chain-bound, forest-rights, len, more}
@@ -36,8 +39,10 @@ forest-above h (Some r) f = forest-rights h r (f r refl)
 pub newest_key : (op : Op) (older : List Op) (x : Identifier) → is_own x op ≡ true → search_key_of (op ∷ older) x ≡ new_key older (left_of op) (right_of op)
 newest_key op older x own =
     let h : List Op = op ∷ older in
-    let l : len (lefts h x) ≡ suc (len (chain_above next_left older (left_of op))) = ap len (chain-own next_left op older x own) ∙ more (chain_above next_left older (left_of op)) x in
-    let r : len (rights h x) ≡ suc (len (chain_above next_right older (next_right older op))) = ap len (chain-own next_right op older x own) ∙ more (chain_above next_right older (next_right older op)) x in
+    let l : len (lefts h x) ≡ suc (len (chain_above next_left older (left_of op))) =
+    ap len (chain-own next_left op older x own) ∙ more (chain_above next_left older (left_of op)) x in
+    let r : len (rights h x) ≡ suc (len (chain_above next_right older (next_right older op))) =
+    ap len (chain-own next_right op older x own) ∙ more (chain_above next_right older (next_right older op)) x in
     let d : depth_of h x ≡ suc (depth_above older (left_of op)) = l ∙ ap suc (sym (depth-above older (left_of op))) in
     let f : forest_of h x ≡ len (chain_above next_right older (next_right older op)) = omega (arith, r) in
     let g : forest_of h x ≡ forest_above older (next_right older op) =
@@ -116,7 +121,8 @@ key_of_child h l (Some q) w =
       | inl k ↦
           let held : IsHeld h q = left_is_held h q l k in
           let d : depth_of h q ≡ suc (depth_above h l) =
-          ap len (lefts-above h q w held) ∙ more (chain_above next_left h (left_at h q)) q ∙ ap (λ o. suc (len (chain_above next_left h o))) (has_left-at h q l k) ∙ ap suc (sym (depth-above h l)) in
+          ap len (lefts-above h q w held) ∙ more (chain_above next_left h (left_at h q)) q ∙ ap (λ o. suc (len (chain_above next_left h o))) (has_left-at h q l k)
+          ∙ ap suc (sym (depth-above h l)) in
           ap (λ b. record { depth = suc (depth_above h l); forest = forest_above h (if b then Some q else None) }) k
           ∙ ap (λ m. record { depth = m; forest = suc (forest_of h q) }) (sym d)
           ∙ ap (λ s. child_key s (slot_key h s)) (sym (slot-yes h l q k))

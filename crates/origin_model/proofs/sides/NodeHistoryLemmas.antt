@@ -1,5 +1,7 @@
 -- Nodes are a lawful history exactly where each was new, and its origins were there, when it came.
-use Rattle.origin_model.proofs.Words.{All, All-append, All-cons, All-nil, Identifier, Lawful, List, None, Op, Option, Ready, SectionRole, Some, [], ap, false, false_from_ne_true, false≢true, given_as, has_op, holder, holds, id_eq, id_eq-refl, if◌then◌else◌, is_some, names, refl, sym, true, true≢false, verdict, ◌↔◌, ◌∙◌, ◌∷◌, ◌≡◌}
+use Rattle.origin_model.proofs.Words.{All, All-append, All-cons, All-nil, Identifier, Lawful, List, None, Op, Option, Ready, SectionRole, Some, [], ap, false, false_from_ne_true}
+use Rattle.origin_model.proofs.Words.{false≢true, given_as, has_op, holder, holds, id_eq, id_eq-refl, if◌then◌else◌, is_some, names, refl, sym, true, true≢false, verdict, ◌↔◌, ◌∙◌}
+use Rattle.origin_model.proofs.Words.{◌∷◌, ◌≡◌}
 use Rattle.origin_model.specs.sides.Node.{AreNodes, IsNew, as_op, as_ops, find_node, has_node, has_origin}
 use Rattle.origin_model.specs.declared.operations.node.Node.{Node}
 use Rattle.origin_model.proofs.operations.LookupLemmas.{Fits, IsHeld, all_fit, has-holder, left_named, right_named, when_ready}
@@ -37,7 +39,8 @@ has_origin-by ns (Some x) f = f x refl
 origin_there : (ns : List Node) (o : Option Identifier) → has_origin ns o ≡ true → All (Fits (as_ops ns)) (given_as SectionRole o)
 origin_there ns None k = All-nil (Fits (as_ops ns))
 origin_there ns (Some x) k =
-    let node : (o : Option Node) → find_node ns x ≡ o → is_some o ≡ true → Fits (as_ops ns) (x, SectionRole) = λ o. elim o as (λ o. find_node ns x ≡ o → is_some o ≡ true → Fits (as_ops ns) (x, SectionRole)) [
+    let node : (o : Option Node) → find_node ns x ≡ o → is_some o ≡ true
+    → Fits (as_ops ns) (x, SectionRole) = λ o. elim o as (λ o. find_node ns x ≡ o → is_some o ≡ true → Fits (as_ops ns) (x, SectionRole)) [
       | None ↦ (λ e j. absurd (false≢true j))
       | Some n ↦ (λ e j. (as_op n, holder-nodes ns x ∙ ap op_of e, refl))
     ] in
@@ -49,7 +52,8 @@ new_ready ns n w k =
     let h : List Op = as_ops ns in
     let taken : holds h n.id ≡ false = holds-nodes ns n.id ∙ k.fresh in
     let new : has_op h (as_op n) ≡ false = false_from_ne_true _ (λ e. true≢false (sym (ap is_some (has-holder h n.id (as_op n) w e (id_eq-refl n.id))) ∙ taken)) in
-    let f = all_fit h (names (as_op n)) (All-append (Fits h) (given_as SectionRole n.left) (given_as SectionRole n.right) (origin_there ns n.left k.left) (origin_there ns n.right k.right)) in
+    let f = all_fit h (names (as_op n))
+    (All-append (Fits h) (given_as SectionRole n.left) (given_as SectionRole n.right) (origin_there ns n.left k.left) (origin_there ns n.right k.right)) in
     becomes_ready h (as_op n) new taken f.0 f.1
 
 -- a Ready node is new, and its origins are there

@@ -1,8 +1,12 @@
 -- The order of a place depends on its nodes alone: they have the chains of its elements, and so compare alike.
-use Rattle.origin_model.proofs.Words.{All, All-contains, All-head, All-tail, Bool, Contains, Identifier, IsIn, Lawful, List, None, Op, Option, Place, Some, [], all_from_contains, ap, before_in, cases_Bool, cases_id, cases_origin, catalogue, count_by, drop, element_of, false, false_from_ne_true, false≢true, fork_before, holder, id_eq-refl, id_eq-true, if◌then◌else◌, index_of_origin, inl, inr, is_own, is_some, left_of, lefts, ne-id_eq, next_left, next_right, order, placed, precedes, refl, right_at, right_of, rights, subst, suc, sym, take, true, true≢false, ◌++◌, ◌↔◌, ◌∙◌, ◌∷◌, ◌≡◌}
+use Rattle.origin_model.proofs.Words.{All, All-contains, All-head, All-tail, Bool, Contains, Identifier, IsIn, Lawful, List, None, Op, Option, Place, Some, [], all_from_contains}
+use Rattle.origin_model.proofs.Words.{ap, before_in, cases_Bool, cases_id, cases_origin, catalogue, count_by, drop, element_of, false, false_from_ne_true, false≢true, fork_before}
+use Rattle.origin_model.proofs.Words.{holder, id_eq-refl, id_eq-true, if◌then◌else◌, index_of_origin, inl, inr, is_own, is_some, left_of, lefts, ne-id_eq, next_left, next_right}
+use Rattle.origin_model.proofs.Words.{order, placed, precedes, refl, right_at, right_of, rights, subst, suc, sym, take, true, true≢false, ◌++◌, ◌↔◌, ◌∙◌, ◌∷◌, ◌≡◌}
 use Rattle.origin_model.specs.sides.Node.{AreNodes, IsNew, as_op, as_ops, find_node, has_node, node_order, nodes, with_node}
 use Rattle.origin_model.specs.declared.operations.node.Node.{Node}
-use Rattle.origin_model.proofs.order.{IsIn-held, IsIn-older, IsIn-own, IsIn-split, above-same, before_agree, beside-same, beside_is, chain-other, chain-own, chain_above, count-no, count-yes, has_left_by, left_in, lefts-in, order-has, order-in, order-member, order-none, order-some, right_in, rights-in}
+use Rattle.origin_model.proofs.order.{IsIn-held, IsIn-older, IsIn-own, IsIn-split, above-same, before_agree, beside-same, beside_is, chain-other, chain-own, chain_above, count-no}
+use Rattle.origin_model.proofs.order.{count-yes, has_left_by, left_in, lefts-in, order-has, order-in, order-member, order-none, order-some, right_in, rights-in}
 use Rattle.origin_model.proofs.operations.LookupLemmas.{held_not_own, holder-other, holder-own, holder_owns, right_by, when_ready}
 use Rattle.origin_model.proofs.operations.ElementLemmas.{element_own}
 use Rattle.origin_model.proofs.sides.NodeHistoryLemmas.{has_origin-by, holder-nodes, holds-nodes, nodes-lawful, op_of}
@@ -68,7 +72,8 @@ same p (op ∷ older) x w m =
       | inr k ↦
           let s = same p older x w.1 k in
           let no : is_own x op ≡ false = held_not_own op older x rd (IsIn-held p older x k) in
-          let from : (g : List Op) → node_ops p h ≡ g → (holder g x ≡ holder (node_ops p older) x) → (lefts g x ≡ lefts (node_ops p older) x) → (rights g x ≡ rights (node_ops p older) x) → Same p h x = λ g t a b c.
+          let from : (g : List Op) → node_ops p h ≡ g → (holder g x ≡ holder (node_ops p older) x) → (lefts g x ≡ lefts (node_ops p older) x)
+          → (rights g x ≡ rights (node_ops p older) x) → Same p h x = λ g t a b c.
           record {
             op = s.op;
             held = holder-other op older x no ∙ s.held;
@@ -81,7 +86,8 @@ same p (op ∷ older) x w m =
             | inr f ↦
                 let n : is_own x (bare f.0 op) ≡ false = ne-id_eq f.0 x (λ d. true≢false (sym (element_own p op f.0 f.1) ∙ ap (λ z. is_own z op) d ∙ no)) in
                 from (bare f.0 op ∷ node_ops p older) (node_ops-some p op older f.0 f.1)
-                (holder-other (bare f.0 op) (node_ops p older) x n) (chain-other next_left (bare f.0 op) (node_ops p older) x n) (chain-other next_right (bare f.0 op) (node_ops p older) x n)
+                (holder-other (bare f.0 op) (node_ops p older) x n) (chain-other next_left (bare f.0 op) (node_ops p older) x n)
+                (chain-other next_right (bare f.0 op) (node_ops p older) x n)
           ]
     ]
 
@@ -156,7 +162,8 @@ node_element p (op ∷ older) x w k =
           elim (cases_id f.0 x) [
             | inl d ↦ IsIn-own p op older x (f.1 ∙ ap Some d)
             | inr n ↦
-                let other : has_node (node_of f.0 op ∷ nodes p older) x ≡ has_node (nodes p older) x = ap (λ b. is_some (if b then Some (node_of f.0 op) else find_node (nodes p older) x)) (ne-id_eq f.0 x n) in
+                let other : has_node (node_of f.0 op ∷ nodes p older) x ≡ has_node (nodes p older) x =
+                ap (λ b. is_some (if b then Some (node_of f.0 op) else find_node (nodes p older) x)) (ne-id_eq f.0 x n) in
                 further (sym other ∙ ap (λ ns. has_node ns x) (sym (nodes-some p op older f.0 f.1)) ∙ k)
           ]
     ]
@@ -198,7 +205,8 @@ found_id ns x n e = id_eq-true n.id x (holder_owns (as_ops ns) x (as_op n) (hold
 -- a node is an element of the catalogue
 node_in : (ns : List Node) (x : Identifier) → has_node ns x ≡ true → IsIn catalogue (as_ops ns) x
 node_in ns x k =
-    let from : (o : Option Node) → find_node ns x ≡ o → is_some o ≡ true → IsIn catalogue (as_ops ns) x = λ o. elim o as (λ o. find_node ns x ≡ o → is_some o ≡ true → IsIn catalogue (as_ops ns) x) [
+    let from : (o : Option Node) → find_node ns x ≡ o → is_some o ≡ true
+    → IsIn catalogue (as_ops ns) x = λ o. elim o as (λ o. find_node ns x ≡ o → is_some o ≡ true → IsIn catalogue (as_ops ns) x) [
       | None ↦ (λ e j. absurd (false≢true j))
       | Some n ↦ (λ e j. record { op = as_op n; held = holder-nodes ns x ∙ ap op_of e; place = ap Some (found_id ns x n e) })
     ] in

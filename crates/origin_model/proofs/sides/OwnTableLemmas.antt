@@ -1,5 +1,9 @@
--- Each lawful history has tables of children: those of a slot are the elements of the order that hang there. In them each walk down ends, since chains get longer on the way.
-use Rattle.origin_model.proofs.Words.{Bool, Contains, Identifier, IsIn, IsOrderedBy, Lawful, List, Op, Place, Some, [], all_from_contains, ap, arith, cases_id, chain_before, contains_filter_from, contains_here, contains_middle, false, false≢true, filter, fork_before, id_eq-refl, id_eq-true, inl, inr, lefts, length, next_left, next_right, older_of, order, origin_eq-true, refl, rights, sibling, subst, suc, sym, true, zero, ℕ, ◌++◌, ◌+◌, ◌∙◌, ◌∷◌, ◌≡◌, ◌≤◌, ◌⊎◌}
+-- Each lawful history has tables of children: those of a slot are the elements of the order that hang there. In them
+-- each walk down ends, since chains get longer on the way.
+use Rattle.origin_model.proofs.Words.{Bool, Contains, Identifier, IsIn, IsOrderedBy, Lawful, List, Op, Place, Some, [], all_from_contains, ap, arith, cases_id, chain_before}
+use Rattle.origin_model.proofs.Words.{contains_filter_from, contains_here, contains_middle, false, false≢true, filter, fork_before, id_eq-refl, id_eq-true, inl, inr, lefts, length}
+use Rattle.origin_model.proofs.Words.{next_left, next_right, older_of, order, origin_eq-true, refl, rights, sibling, subst, suc, sym, true, zero, ℕ, ◌++◌, ◌+◌, ◌∙◌, ◌∷◌, ◌≡◌, ◌≤◌}
+use Rattle.origin_model.proofs.Words.{◌⊎◌}
 use Rattle.std.proofs.lemmas.List.Kept.{AllPairs-filter}
 use Rattle.fugue_ids.proofs.IdentifierLemmas.{origin_eq-refl}
 use Rattle.fugue_ids.proofs.ListLemmas.{contains_filter}
@@ -8,7 +12,8 @@ use Rattle.origin_model.specs.declared.sides.Slot.TheVariants.{LeftOf, RightOf}
 use Rattle.origin_model.specs.sides.KeyLaws.{EndsBlock}
 use Rattle.origin_model.specs.sides.Slot.{BeforeBlock, IsChild, IsTable, slot_of}
 use Rattle.origin_model.specs.sides.Walk.{hangs, hangs_by, slot_eq}
-use Rattle.origin_model.proofs.order.{Ordered-agree, before_at, before_in-irrefl, chain_above, chain_before-fork, common, fork-irrefl, fork_moved, order-has, order-member, order-ordered}
+use Rattle.origin_model.proofs.order.{Ordered-agree, before_at, before_in-irrefl, chain_above, chain_before-fork, common, fork-irrefl, fork_moved, order-has, order-member}
+use Rattle.origin_model.proofs.order.{order-ordered}
 use Rattle.origin_model.proofs.sides.ChainLengthLemmas.{chain-bound, len, more}
 use Rattle.origin_model.proofs.sides.SlotLemmas.{child-in, child-lefts, child-rights, over, slot_left}
 
@@ -49,12 +54,14 @@ module _ (p : Place) (h : List Op) (w : Lawful h) where
         | inl d ↦ ap (before_at p h u) (sym d) ∙ before_in-irrefl (order p (older_of h)) h u ∙ sym (fork-irrefl (order p h) h u) ∙ ap (fork_before (order p h) h u) d
         | inr n ↦
             (λ i. chain_before true S (child-lefts p h s u w k i) (child-lefts p h s v w j i)) ∙ common true S A (u ∷ []) (v ∷ []) ∙ chain_before-fork true S u v [] [] n
-            ∙ (λ i. chain_before false F (child-rights p h s u w k i) (child-rights p h s v w j i)) ∙ common false F (over h s) (u ∷ []) (v ∷ []) ∙ chain_before-fork false F u v [] [] n
+            ∙ (λ i. chain_before false F (child-rights p h s u w k i) (child-rights p h s v w j i)) ∙ common false F (over h s) (u ∷ []) (v ∷ [])
+            ∙ chain_before-fork false F u v [] [] n
             ∙ sym (fork_moved p h u v w)
       ]
 
   -- a list of children of one slot that is in order is so as at forks
-  pub children-sorted : (s : Slot) (xs : List Identifier) → ((v : Identifier) → Contains xs v → IsChild p h s v) → IsOrderedBy (before_at p h) xs → IsOrderedBy (fork_before (order p h) h) xs
+  pub children-sorted : (s : Slot) (xs : List Identifier) → ((v : Identifier) → Contains xs v → IsChild p h s v) → IsOrderedBy (before_at p h) xs
+      → IsOrderedBy (fork_before (order p h) h) xs
   children-sorted s xs f o = Ordered-agree (before_at p h) (fork_before (order p h) h) (IsChild p h s) (child-ahead s) xs (all_from_contains (IsChild p h s) xs f) o
 
   -- a member of the table is a child

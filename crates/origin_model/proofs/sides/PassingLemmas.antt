@@ -1,5 +1,6 @@
 -- A list in which those that pass a test stand first, parted where they end.
-use Rattle.origin_model.proofs.Words.{All, All-cons, All-nil, Bool, Identifier, List, [], all_pairs_tail, ap, append-nil, cases_Bool, false, filter, filter-append, inl, inr, refl, true, ◌++◌, ◌∙◌, ◌∷◌, ◌≡◌}
+use Rattle.origin_model.proofs.Words.{All, All-cons, All-nil, Bool, Identifier, List, [], all_pairs_tail, ap, append-nil, cases_Bool, false, filter, filter-append, inl, inr, refl}
+use Rattle.origin_model.proofs.Words.{true, ◌++◌, ◌∙◌, ◌∷◌, ◌≡◌}
 use Rattle.fugue_ids.specs.Listed.{last_before}
 use Rattle.fugue_ids.specs.Passing.{Falls, last_passing}
 use Rattle.fugue_ids.proofs.PassingLemmas.{Fall, all_fail, none_pass}

@@ -1,5 +1,7 @@
 -- The siblings of a new element compare with it as at a fork of two chains.
-use Rattle.origin_model.proofs.Words.{All, All-contains, Bool, Contains, Contains-append_left, Contains-append_right, Identifier, Lawful, List, Op, Place, Some, all_from_contains, ap, element_of, false, fork_before, index_of_origin, is_own, order, precedes, right_at, right_of, subst, sym, true, true≢false, ◌∙◌, ◌∷◌, ◌≡◌, ◌≢◌}
+use Rattle.origin_model.proofs.Words.{All, All-contains, Bool, Contains, Contains-append_left, Contains-append_right, Identifier, Lawful, List, Op, Place, Some, all_from_contains}
+use Rattle.origin_model.proofs.Words.{ap, element_of, false, fork_before, index_of_origin, is_own, order, precedes, right_at, right_of, subst, sym, true, true≢false, ◌∙◌, ◌∷◌, ◌≡◌}
+use Rattle.origin_model.proofs.Words.{◌≢◌}
 use Rattle.origin_model.specs.sides.Slot.{IsParted, goes_before}
 use Rattle.origin_model.proofs.operations.LookupLemmas.{IsHeld, held_not_own, holder-own, right_by, when_ready}
 use Rattle.origin_model.proofs.operations.ElementLemmas.{element_own}
@@ -22,7 +24,8 @@ module _ (p : Place) (op : Op) (older : List Op) (x : Identifier) (w : Lawful (o
   held_apart v k d = true≢false (sym (element_own p op x at) ∙ ap (λ z. is_own z op) (sym d) ∙ held_not_own op older v (when_ready older op w.0) k)
 
   -- siblings that are held, parted where x goes in
-  module _ (children elders youngers : List Identifier) (held : (v : Identifier) → Contains children v → IsHeld older v) (c : IsParted (order p older) older op x children elders youngers) where
+  module _ (children elders youngers : List Identifier) (held : (v : Identifier) → Contains children v → IsHeld older v)
+      (c : IsParted (order p older) older op x children elders youngers) where
     -- the elder ones are held
     elder_held : (v : Identifier) → Contains elders v → IsHeld older v
     elder_held v m = held v (subst (λ l. Contains l v) (sym c.whole) (Contains-append_left elders youngers v m))
@@ -34,11 +37,13 @@ module _ (p : Place) (op : Op) (older : List Op) (x : Identifier) (w : Lawful (o
     -- the elder ones go before x
     pub elders_first : All (λ v. fork v x ≡ true) elders
     elders_first =
-        all_from_contains (λ v. fork v x ≡ true) elders (λ v m. sym (goes-fork v (elder_held v m)) ∙ All-contains (λ z. goes_before (order p older) older op x z ≡ true) elders v c.elder m)
+        all_from_contains (λ v. fork v x ≡ true) elders
+        (λ v m. sym (goes-fork v (elder_held v m)) ∙ All-contains (λ z. goes_before (order p older) older op x z ≡ true) elders v c.elder m)
 
     -- x goes before the younger ones
     pub youngers_last : All (λ v. fork x v ≡ true) youngers
     youngers_last =
         all_from_contains (λ v. fork x v ≡ true) youngers (λ v m.
         let k = younger_held v m in
-        fork-total (order p older) (op ∷ older) v x (held_apart v k) (sym (goes-fork v k) ∙ All-contains (λ z. goes_before (order p older) older op x z ≡ false) youngers v c.younger m))
+        fork-total (order p older) (op ∷ older) v x (held_apart v k)
+        (sym (goes-fork v k) ∙ All-contains (λ z. goes_before (order p older) older op x z ≡ false) youngers v c.younger m))

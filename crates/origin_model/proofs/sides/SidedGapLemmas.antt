@@ -1,16 +1,26 @@
--- The gap that the sided tree gives is the place of the new element: what stands before it there stands before it by the chains, and what stands behind it stands behind it.
-use Rattle.origin_model.proofs.Words.{All-contains, Bool, Contains, Contains-append_cases, Contains-append_left, Identifier, IsIn, IsOrderedBy, Lawful, List, None, Op, Option, Place, Some, [], all_pairs_before, ap, append-nil, append_assoc, append_cancel_left, before_in, cases_Bool, cases_id, chain_before, contains_here, contains_middle, element_of, false, false≢true, fork_before, has_left, index_of_origin, inl, inr, is_own, left_at, left_of, lefts, next_left, next_right, order, placed, precedes, refl, right_of, rights, same_from_push, sibling, subst, sym, true, true≢false, ◌++◌, ◌∙◌, ◌∷◌, ◌≡◌, ◌≢◌, ◌⊎◌}
+-- The gap that the sided tree gives is the place of the new element: what stands before it there stands before it by
+-- the chains, and what stands behind it stands behind it.
+use Rattle.origin_model.proofs.Words.{All-contains, Bool, Contains, Contains-append_cases, Contains-append_left, Identifier, IsIn, IsOrderedBy, Lawful, List, None, Op, Option}
+use Rattle.origin_model.proofs.Words.{Place, Some, [], all_pairs_before, ap, append-nil, append_assoc, append_cancel_left, before_in, cases_Bool, cases_id, chain_before}
+use Rattle.origin_model.proofs.Words.{contains_here, contains_middle, element_of, false, false≢true, fork_before, has_left, index_of_origin, inl, inr, is_own, left_at, left_of}
+use Rattle.origin_model.proofs.Words.{lefts, next_left, next_right, order, placed, precedes, refl, right_of, rights, same_from_push, sibling, subst, sym, true, true≢false, ◌++◌}
+use Rattle.origin_model.proofs.Words.{◌∙◌, ◌∷◌, ◌≡◌, ◌≢◌, ◌⊎◌}
 use Rattle.fugue_ids.specs.declared.key.Gap.{Gap}
 use Rattle.fugue_ids.specs.declared.key.Gap.TheVariants.{After, Alone, Before}
-use Rattle.origin_model.specs.sides.Slot.{BeforeBlock, BeforeFirst, BehindElder, FirstBelow, HasElder, IsBeside, IsChild, IsGap, IsParted, IsPlace, IsTable, NoElder, at_gap, slot_by, slot_of}
+use Rattle.origin_model.specs.sides.Slot.{BeforeBlock, BeforeFirst, BehindElder, FirstBelow, HasElder, IsBeside, IsChild, IsGap, IsParted, IsPlace, IsTable, NoElder, at_gap}
+use Rattle.origin_model.specs.sides.Slot.{slot_by, slot_of}
 use Rattle.origin_model.specs.declared.sides.Slot.{Slot}
 use Rattle.origin_model.specs.declared.sides.Slot.TheVariants.{LeftOf, RightOf}
-use Rattle.origin_model.proofs.order.{IsIn-held, before_at, before_in-irrefl, before_in-older, before_in-total, before_in-trans, chain-ends, chain-held, chain-other, chain-own, chain_above, chain_before-fork, chain_before-same, common, empty_from, first_of, fork-irrefl, fork-trans, has_left-at, heads, last_of, left_in, longer, never_none, no_member, order-has, order-in, order-ordered, order-some, parts, parts_late, right-older, right_in, same_chain, stay_ordered, turns, turns_off}
+use Rattle.origin_model.proofs.order.{IsIn-held, before_at, before_in-irrefl, before_in-older, before_in-total, before_in-trans, chain-ends, chain-held, chain-other, chain-own}
+use Rattle.origin_model.proofs.order.{chain_above, chain_before-fork, chain_before-same, common, empty_from, first_of, fork-irrefl, fork-trans, has_left-at, heads, last_of}
+use Rattle.origin_model.proofs.order.{left_in, longer, never_none, no_member, order-has, order-in, order-ordered, order-some, parts, parts_late, right-older, right_in, same_chain}
+use Rattle.origin_model.proofs.order.{stay_ordered, turns, turns_off}
 use Rattle.origin_model.proofs.sides.GapLemmas.{placed-after, placed-before}
 use Rattle.origin_model.proofs.operations.LookupLemmas.{IsHeld, held_not_own, holds-older, holds-own, left_named, right_named, when_ready}
 use Rattle.origin_model.proofs.operations.ElementLemmas.{element_own}
 use Rattle.origin_model.proofs.sides.SiblingLemmas.{elders_first, youngers_last}
-use Rattle.origin_model.proofs.sides.SlotLemmas.{IsThere, Under, child-held, child-in, child-left, child-lefts, child-rights, child_under, over, rooted, slot-no, slot-yes, slot_by-left, slot_by-over, slot_left, there, under_left}
+use Rattle.origin_model.proofs.sides.SlotLemmas.{IsThere, Under, child-held, child-in, child-left, child-lefts, child-rights, child_under, over, rooted, slot-no, slot-yes}
+use Rattle.origin_model.proofs.sides.SlotLemmas.{slot_by-left, slot_by-over, slot_left, there, under_left}
 use Rattle.origin_model.proofs.sides.SpineLemmas.{first_child, spine_first, spine_last}
 
 -- the parent of a left child is its right origin, and has the same left origin
@@ -23,7 +33,8 @@ left_parent h l (Some a) q e =
     ]
 
 -- the block of a node begins at the node, or below a left child of it
-block_starts : (p : Place) (h : List Op) (children : Slot → List Identifier) (w : Lawful h) (t : IsTable p h children) (path : List Identifier) (q y : Identifier) (my : List Identifier)
+block_starts : (p : Place) (h : List Op) (children : Slot → List Identifier) (w : Lawful h) (t : IsTable p h children) (path : List Identifier) (q y : Identifier)
+    (my : List Identifier)
     → IsIn p h q → FirstBelow children path q y → rights h y ≡ rights h q ++ my → (my ≡ []) ⊎ ((v : Identifier) × (m : List Identifier) × (my ≡ v ∷ m) × IsChild p h (LeftOf q) v)
 block_starts p h children w t [] q y my mq k e =
     inl (append_cancel_left (rights h q) my [] (sym e ∙ ap (rights h) (sym k.1) ∙ sym (append-nil (rights h q))))
@@ -33,12 +44,14 @@ block_starts p h children w t (v ∷ vs) q y my mq k e =
     inr (
       v,
       f.under.0,
-      append_cancel_left (rights h q) my (v ∷ f.under.0) (sym e ∙ f.under.1 ∙ ap (λ a. a ++ f.under.0) (child-rights p h (LeftOf q) v w kv) ∙ append_assoc (rights h q) (v ∷ []) f.under.0),
+      append_cancel_left (rights h q) my (v ∷ f.under.0)
+          (sym e ∙ f.under.1 ∙ ap (λ a. a ++ f.under.0) (child-rights p h (LeftOf q) v w kv) ∙ append_assoc (rights h q) (v ∷ []) f.under.0),
       kv,
     )
 
 -- a new element x of the place, the tables of the older history, and the siblings of x, parted where x goes in
-module _ (p : Place) (op : Op) (older : List Op) (x : Identifier) (w : Lawful (op ∷ older)) (at : element_of p op ≡ Some x) (children : Slot → List Identifier) (t : IsTable p older children)
+module _ (p : Place) (op : Op) (older : List Op) (x : Identifier) (w : Lawful (op ∷ older)) (at : element_of p op ≡ Some x) (children : Slot → List Identifier)
+    (t : IsTable p older children)
     (elders youngers : List Identifier) (c : IsParted (order p older) older op x (children (slot_of older op)) elders youngers) where
   -- the longer history
   abbrev h : List Op
@@ -192,7 +205,8 @@ module _ (p : Place) (op : Op) (older : List Op) (x : Identifier) (w : Lawful (o
       ]
 
   -- what goes before x among the elements of its left origin goes before the last elder sibling, or is it
-  sibs : (front : List Identifier) (s u : Identifier) → elders ≡ front ++ s ∷ [] → IsChild p older slot s → IsIn p older u → left_at older u ≡ left_of op → u ≢ s → S u x ≡ true → S u s ≡ true
+  sibs : (front : List Identifier) (s u : Identifier) → elders ≡ front ++ s ∷ [] → IsChild p older slot s → IsIn p older u → left_at older u ≡ left_of op → u ≢ s → S u x ≡ true
+      → S u s ≡ true
   sibs front s u g ks m lu n k =
       let rs : rights h s ≡ O ++ s ∷ [] = child_rights s ks in
       elim (turns_off false F (rights h u) O x (ap (chain_before false F (rights h u)) (sym rx) ∙ k)) [
@@ -238,7 +252,8 @@ module _ (p : Place) (op : Op) (older : List Op) (x : Identifier) (w : Lawful (o
                   | inl i ↦ inl i
                   | inr i ↦ inr (be e y n l.member ∙ i)
                 ]
-                | inr q ↦ inr ((λ i. chain_before true S (z.2 i) (ly i)) ∙ common true S A (z.0 ∷ z.1) (s ∷ m) ∙ chain_before-fork true S z.0 s z.1 m q ∙ sibs b.front s z.0 b.is_last ks d.member d.left_u q z.3)
+                | inr q ↦ inr ((λ i. chain_before true S (z.2 i) (ly i)) ∙ common true S A (z.0 ∷ z.1) (s ∷ m) ∙ chain_before-fork true S z.0 s z.1 m q
+                    ∙ sibs b.front s z.0 b.is_last ks d.member d.left_u q z.3)
               ]
         ];
       }
@@ -267,8 +282,10 @@ module _ (p : Place) (op : Op) (older : List Op) (x : Identifier) (w : Lawful (o
         member = f.member;
         goes = (λ i. chain_before true S (lx i) (ly i)) ∙ common true S A (x ∷ []) (y ∷ []) ∙ chain_before-fork true S x y [] [] ny ∙ sxy;
         first = λ e n k.
-            let inside : (u : Identifier) (more ms : List Identifier) → lefts h e ≡ A ++ u ∷ more → rights older u ≡ rights older q ++ ms → (e ≡ y) ⊎ (B y e ≡ true) = λ u more ms z j.
-            elim (f.first e u more ms n (sym (le e n) ∙ z ∙ ap (λ l. chain_above next_left older l ++ u ∷ more) (sym lq)) j) [ inl d ↦ inl d | inr d ↦ inr (be y e f.member n ∙ d) ] in
+            let inside : (u : Identifier) (more ms : List Identifier) → lefts h e ≡ A ++ u ∷ more → rights older u ≡ rights older q ++ ms
+            → (e ≡ y) ⊎ (B y e ≡ true) = λ u more ms z j.
+            elim (f.first e u more ms n (sym (le e n) ∙ z ∙ ap (λ l. chain_above next_left older l ++ u ∷ more) (sym lq)) j)
+            [ inl d ↦ inl d | inr d ↦ inr (be y e f.member n ∙ d) ] in
             elim (parts true S A (lefts h e)) [
               | inr z ↦ inr (ap (λ l. chain_before true S l (lefts h e)) ly ∙ z (y ∷ []) ∙ sym (z (x ∷ [])) ∙ ap (λ l. chain_before true S l (lefts h e)) (sym lx) ∙ k)
               | inl z ↦ (elim z.0 as (λ m. lefts h e ≡ A ++ m → (e ≡ y) ⊎ (B y e ≡ true)) [
@@ -319,7 +336,8 @@ module _ (p : Place) (op : Op) (older : List Op) (x : Identifier) (w : Lawful (o
       let ry : rights h y ≡ v ∷ f.under.0 = re y f.member ∙ f.under.1 ∙ ap (λ a. a ++ f.under.0) rv in
       let lx0 : lefts h x ≡ x ∷ [] = lx ∙ ap (λ a. a ++ x ∷ []) a0 in
       let rx0 : rights h x ≡ x ∷ [] = rx ∙ ap (λ a. a ++ x ∷ []) o0 in
-      let sxy : S x y ≡ true = (λ i. chain_before false F (rx0 i) (ry i)) ∙ chain_before-fork false F x v [] f.under.0 (λ d. is_old v (child-held p older slot v kv) (sym d)) ∙ no_elder none v kv in
+      let sxy : S x y ≡ true =
+      (λ i. chain_before false F (rx0 i) (ry i)) ∙ chain_before-fork false F x v [] f.under.0 (λ d. is_old v (child-held p older slot v kv) (sym d)) ∙ no_elder none v kv in
       record {
         member = f.member;
         goes = (λ i. chain_before true S (lx0 i) (ly i)) ∙ chain_before-fork true S x y [] [] (λ d. is_old y (IsIn-held p older y f.member) (sym d)) ∙ sxy;
@@ -329,14 +347,16 @@ module _ (p : Place) (op : Op) (older : List Op) (x : Identifier) (w : Lawful (o
             let r = rooted p older None z.0 w.1 tt d.member d.left_u in
             let kr : IsChild p older slot r.root = subst (λ s. IsChild p older s r.root) (sym es) r.is_child in
             elim (cases_id r.root v) [
-              | inl q ↦ elim (f.first e z.0 z.1 r.below n (z.2 ∙ ap (λ l. chain_above next_left older l ++ z.0 ∷ z.1) (sym lv)) (r.path ∙ ap (λ a. a ∷ r.below) q ∙ ap (λ a. a ++ r.below) (sym rv))) [
-                | inl i ↦ inl i
-                | inr i ↦ inr (be y e f.member n ∙ i)
-              ]
+              | inl q ↦ elim (f.first e z.0 z.1 r.below n (z.2 ∙ ap (λ l. chain_above next_left older l ++ z.0 ∷ z.1) (sym lv))
+                  (r.path ∙ ap (λ a. a ∷ r.below) q ∙ ap (λ a. a ++ r.below) (sym rv))) [
+                    | inl i ↦ inl i
+                    | inr i ↦ inr (be y e f.member n ∙ i)
+                  ]
               | inr q ↦
                   let ru : rights h z.0 ≡ r.root ∷ r.below = re z.0 d.member ∙ r.path in
                   let fv : F v r.root ≡ true = fork-old v r.root (child-held p older slot v kv) (child-held p older slot r.root kr)
-                  ∙ elim (first_of (fork_before (order p older) older) v r.root b.rest (subst (IsOrderedBy (fork_before (order p older) older)) whole (t.sorted slot)) (subst (λ l. Contains l r.root) whole (t.full slot r.root kr))) [
+                  ∙ elim (first_of (fork_before (order p older) older) v r.root b.rest (subst (IsOrderedBy (fork_before (order p older) older)) whole (t.sorted slot))
+                  (subst (λ l. Contains l r.root) whole (t.full slot r.root kr))) [
                     | inl i ↦ absurd (q i)
                     | inr i ↦ i
                   ] in
@@ -368,7 +388,9 @@ module _ (p : Place) (op : Op) (older : List Op) (x : Identifier) (w : Lawful (o
                 let r = rooted p older (left_of op) u w.1 left_there d.member d.left_u in
                 let kr : IsChild p older slot r.root = subst (λ s. IsChild p older s r.root) (ap RightOf l0 ∙ sym es) r.is_child in
                 let sux : S u x ≡ true = sym ((λ i. chain_before true S (j i) (lx i)) ∙ common true S A (u ∷ more) (x ∷ []) ∙ chain_before-fork true S u x more [] nu) ∙ k in
-                let frx : F r.root x ≡ true = sym ((λ i. chain_before false F ((re u d.member ∙ r.path) i) (rx0 i)) ∙ chain_before-fork false F r.root x r.below [] (is_old r.root (child-held p older slot r.root kr))) ∙ sux in
+                let frx : F r.root x ≡ true =
+                sym ((λ i. chain_before false F ((re u d.member ∙ r.path) i) (rx0 i))
+                ∙ chain_before-fork false F r.root x r.below [] (is_old r.root (child-held p older slot r.root kr))) ∙ sux in
                 absurd (loop r.root x frx (no_elder none r.root kr)))
           ]) z.1
         ];
@@ -394,7 +416,8 @@ module _ (p : Place) (op : Op) (older : List Op) (x : Identifier) (w : Lawful (o
   old_in e m = All-contains (IsIn p older) (order p older) e (order-in p older w.1) m
 
   -- x stands in a gap beside an element y
-  beside_element : (g : Gap) (y : Identifier) → (g ≡ Alone → ⊥) → IsIn p older y → IsBeside g (order p older) → order p h ≡ at_gap g x (order p older) → IsPlace g x (order p older) (order p h)
+  beside_element : (g : Gap) (y : Identifier) → (g ≡ Alone → ⊥) → IsIn p older y → IsBeside g (order p older) → order p h ≡ at_gap g x (order p older)
+      → IsPlace g x (order p older) (order p h)
   beside_element g y n m s e = record {
     place = e;
     beside = s;
@@ -420,7 +443,11 @@ module _ (p : Place) (op : Op) (older : List Op) (x : Identifier) (w : Lawful (o
 
   -- x stands alone
   place_alone : order p older ≡ [] → IsPlace Alone x (order p older) (order p h)
-  place_alone e = record { place = order-some p op older x at ∙ ap (λ o. placed (λ e. before_in (order p older) h e x) o x) e ∙ ap (λ o. x ∷ o) (sym e); beside = tt; alone = ((λ d. e), (λ d. refl)) }
+  place_alone e = record {
+    place = order-some p op older x at ∙ ap (λ o. placed (λ e. before_in (order p older) h e x) o x) e ∙ ap (λ o. x ∷ o) (sym e);
+    beside = tt;
+    alone = ((λ d. e), (λ d. refl));
+  }
 
   -- the gap without an elder sibling
   no_elder_gap : (s : Slot) (g : Gap) → slot ≡ s → elders ≡ [] → NoElder children s youngers g → IsPlace g x (order p older) (order p h)

@@ -1,9 +1,12 @@
 -- Slots of the sided tree: the chains of the children of a slot, and which slot an element of a chain hangs in.
-use Rattle.origin_model.proofs.Words.{All-contains, Contains, Identifier, IsIn, Lawful, List, None, Op, Option, Place, Some, [], ap, cases_Bool, contains_middle, false, has_left, holder, if◌then◌else◌, inl, inr, is_some, left_at, left_of, lefts, next_left, next_right, refl, right_beside, right_of, rights, same_from_push, subst, sym, true, ◌++◌, ◌∙◌, ◌∷◌, ◌≡◌}
+use Rattle.origin_model.proofs.Words.{All-contains, Contains, Identifier, IsIn, Lawful, List, None, Op, Option, Place, Some, [], ap, cases_Bool, contains_middle, false, has_left}
+use Rattle.origin_model.proofs.Words.{holder, if◌then◌else◌, inl, inr, is_some, left_at, left_of, lefts, next_left, next_right, refl, right_beside, right_of, rights}
+use Rattle.origin_model.proofs.Words.{same_from_push, subst, sym, true, ◌++◌, ◌∙◌, ◌∷◌, ◌≡◌}
 use Rattle.origin_model.specs.sides.Slot.{IsChild, slot_by, slot_of}
 use Rattle.origin_model.specs.declared.sides.Slot.{Slot}
 use Rattle.origin_model.specs.declared.sides.Slot.TheVariants.{LeftOf, RightOf}
-use Rattle.origin_model.proofs.order.{IsIn-held, chain-ends, chain_above, has_left-at, left_at-is, left_origin_held, lefts-above, lefts-at, lefts-in, lefts-prefix, never_none, only_one, right_origin_held, rights-at, rights-in, rights-prefix, same_chain}
+use Rattle.origin_model.proofs.order.{IsIn-held, chain-ends, chain_above, has_left-at, left_at-is, left_origin_held, lefts-above, lefts-at, lefts-in, lefts-prefix, never_none}
+use Rattle.origin_model.proofs.order.{only_one, right_origin_held, rights-at, rights-in, rights-prefix, same_chain}
 use Rattle.origin_model.proofs.operations.LookupLemmas.{IsHeld, found}
 
 -- the left origin that the children of a slot have
@@ -43,7 +46,8 @@ slot_by-left h l (Some q) =
 pub slot_by-over : (h : List Op) (v : Identifier) (l r : Option Identifier) → chain_above next_right h (right_beside h l r) ++ v ∷ [] ≡ over h (slot_by h l r) ++ v ∷ []
 slot_by-over h v l None = refl
 slot_by-over h v l (Some q) =
-    elim (has_left h q l) as (λ b. chain_above next_right h (if b then Some q else None) ++ v ∷ [] ≡ over h (if b then LeftOf q else RightOf l) ++ v ∷ []) [ true ↦ refl | false ↦ refl ]
+    elim (has_left h q l) as (λ b. chain_above next_right h (if b then Some q else None) ++ v ∷ [] ≡ over h (if b then LeftOf q else RightOf l) ++ v ∷ [])
+    [ true ↦ refl | false ↦ refl ]
 
 -- a child has the left origin of its slot
 pub child-left : (p : Place) (h : List Op) (s : Slot) (v : Identifier) → IsChild p h s v → left_at h v ≡ slot_left h s
@@ -66,7 +70,8 @@ pub child-rights : (p : Place) (h : List Op) (s : Slot) (v : Identifier) → Law
 child-rights p h s v w k = rights-at h v k.op w k.held ∙ slot_by-over h v (left_of k.op) (right_of k.op) ∙ ap (λ s. over h s ++ v ∷ []) k.slot
 
 -- a slot is told by the left origin and the right origins above
-same_slot : (h : List Op) (s : Slot) (l r : Option Identifier) → IsThere h s → l ≡ slot_left h s → ((q : Identifier) → r ≡ Some q → IsHeld h q) → over h (slot_by h l r) ≡ over h s → slot_by h l r ≡ s
+same_slot : (h : List Op) (s : Slot) (l r : Option Identifier) → IsThere h s → l ≡ slot_left h s → ((q : Identifier) → r ≡ Some q → IsHeld h q) → over h (slot_by h l r) ≡ over h s
+    → slot_by h l r ≡ s
 same_slot h (RightOf m) l None t e f o = ap RightOf e
 same_slot h (LeftOf q) l None t e f o = absurd (never_none next_right h q t (sym o))
 same_slot h (RightOf m) l (Some z) t e f o =
@@ -81,14 +86,16 @@ same_slot h (LeftOf q) l (Some z) t e f o =
     ]
 
 -- an origin is told by the chain above
-pub same_above : (h : List Op) (l m : Option Identifier) → ((r : Identifier) → l ≡ Some r → IsHeld h r) → IsThere h (RightOf m) → chain_above next_left h l ≡ chain_above next_left h m → l ≡ m
+pub same_above : (h : List Op) (l m : Option Identifier) → ((r : Identifier) → l ≡ Some r → IsHeld h r) → IsThere h (RightOf m)
+    → chain_above next_left h l ≡ chain_above next_left h m → l ≡ m
 same_above h None None f t e = refl
 same_above h None (Some b) f t e = absurd (never_none next_left h b t (sym e))
 same_above h (Some a) None f t e = absurd (never_none next_left h a (f a refl) e)
 same_above h (Some a) (Some b) f t e = ap Some (same_chain next_left h a b (f a refl) t e)
 
 -- the last but one of a chain of left origins is the left origin
-pub left_from : (h : List Op) (u : Identifier) (l : Option Identifier) → Lawful h → IsHeld h u → IsThere h (RightOf l) → lefts h u ≡ chain_above next_left h l ++ u ∷ [] → left_at h u ≡ l
+pub left_from : (h : List Op) (u : Identifier) (l : Option Identifier) → Lawful h → IsHeld h u → IsThere h (RightOf l) → lefts h u ≡ chain_above next_left h l ++ u ∷ []
+    → left_at h u ≡ l
 left_from h u l w k t e =
     let o = found (holder h u) k in
     left_at-is h u o.0 o.1
@@ -96,7 +103,8 @@ left_from h u l w k t e =
     (same_from_push (chain_above next_left h (left_of o.0)) (chain_above next_left h l) u u (sym (lefts-at h u o.0 w o.1) ∙ e)).0
 
 -- the first behind a slot in a chain of right origins is a child of the slot
-pub child_under : (p : Place) (h : List Op) (s : Slot) (u z : Identifier) (ws : List Identifier) → Lawful h → IsThere h s → IsIn p h u → left_at h u ≡ slot_left h s → rights h u ≡ over h s ++ z ∷ ws → IsChild p h s z
+pub child_under : (p : Place) (h : List Op) (s : Slot) (u z : Identifier) (ws : List Identifier) → Lawful h → IsThere h s → IsIn p h u → left_at h u ≡ slot_left h s
+    → rights h u ≡ over h s ++ z ∷ ws → IsChild p h s z
 child_under p h s u z ws w t m l q =
     let i = rights-prefix h u z (over h s) ws w (IsIn-held p h u m) q in
     let mz : IsIn p h z = All-contains (IsIn p h) (rights h u) z (rights-in p h u w m) (subst (λ l. Contains l z) (sym q) (contains_middle (over h s) z ws)) in
@@ -106,7 +114,8 @@ child_under p h s u z ws w t m l q =
       op = mz.op;
       held = mz.held;
       place = mz.place;
-      slot = same_slot h s (left_of mz.op) (right_of mz.op) t lz (λ r e. right_origin_held h z mz.op r w mz.held e) (same_from_push (over h (slot_of h mz.op)) (over h s) z z path).0;
+      slot = same_slot h s (left_of mz.op) (right_of mz.op) t lz (λ r e. right_origin_held h z mz.op r w mz.held e)
+          (same_from_push (over h (slot_of h mz.op)) (over h s) z z path).0;
     }
 
 -- u has the left origin l
@@ -116,7 +125,8 @@ pub record Under (p : Place) (h : List Op) (l : Option Identifier) (u : Identifi
   pub left_u : left_at h u ≡ l
 
 -- the first behind l in a chain of left origins has the left origin l
-pub under_left : (p : Place) (h : List Op) (l : Option Identifier) (e u : Identifier) (more : List Identifier) → Lawful h → IsThere h (RightOf l) → IsIn p h e → lefts h e ≡ chain_above next_left h l ++ u ∷ more → Under p h l u
+pub under_left : (p : Place) (h : List Op) (l : Option Identifier) (e u : Identifier) (more : List Identifier) → Lawful h → IsThere h (RightOf l) → IsIn p h e
+    → lefts h e ≡ chain_above next_left h l ++ u ∷ more → Under p h l u
 under_left p h l e u more w t m q =
     let mu : IsIn p h u = All-contains (IsIn p h) (lefts h e) u (lefts-in p h e w m) (subst (λ l. Contains l u) (sym q) (contains_middle (chain_above next_left h l) u more)) in
     let lu = lefts-prefix h e u (chain_above next_left h l) more w (IsIn-held p h e m) q in

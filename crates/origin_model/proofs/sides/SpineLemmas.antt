@@ -1,9 +1,12 @@
 -- The first and the last node below a node, found by first left and by last right children, are the first and the last by the order.
-use Rattle.origin_model.proofs.Words.{Bool, Contains, Identifier, IsIn, IsOrderedBy, Lawful, List, Op, Passes, Place, Some, [], ap, append-nil, append_assoc, append_cancel_left, cases_id, chain_before, contains_here, contains_middle, false, fork_before, inl, inr, left_at, lefts, next_left, next_right, older_of, order, rights, sibling, subst, sym, true, ◌++◌, ◌∙◌, ◌∷◌, ◌≡◌, ◌≢◌, ◌⊎◌}
+use Rattle.origin_model.proofs.Words.{Bool, Contains, Identifier, IsIn, IsOrderedBy, Lawful, List, Op, Passes, Place, Some, [], ap, append-nil, append_assoc, append_cancel_left}
+use Rattle.origin_model.proofs.Words.{cases_id, chain_before, contains_here, contains_middle, false, fork_before, inl, inr, left_at, lefts, next_left, next_right, older_of, order}
+use Rattle.origin_model.proofs.Words.{rights, sibling, subst, sym, true, ◌++◌, ◌∙◌, ◌∷◌, ◌≡◌, ◌≢◌, ◌⊎◌}
 use Rattle.origin_model.specs.sides.Slot.{FirstBelow, IsChild, IsTable, LastBelow}
 use Rattle.origin_model.specs.declared.sides.Slot.{Slot}
 use Rattle.origin_model.specs.declared.sides.Slot.TheVariants.{LeftOf, RightOf}
-use Rattle.origin_model.proofs.order.{IsIn-held, before_at, chain_above, chain_before-fork, chain_before-same, common, first_of, fork_moved, heads, last_of, lefts-above, longer, no_member, not_longer, same_chain}
+use Rattle.origin_model.proofs.order.{IsIn-held, before_at, chain_above, chain_before-fork, chain_before-same, common, first_of, fork_moved, heads, last_of, lefts-above, longer}
+use Rattle.origin_model.proofs.order.{no_member, not_longer, same_chain}
 use Rattle.origin_model.proofs.operations.LookupLemmas.{IsHeld}
 use Rattle.origin_model.proofs.sides.SlotLemmas.{child-in, child-left, child-lefts, child-rights, child_under, left_there, rooted, under_left}
 
@@ -22,7 +25,8 @@ pub record IsFirstIn (p : Place) (h : List Op) (q y : Identifier) : Type 0 where
   pub member : IsIn p h y
   pub same_left : lefts h y ≡ chain_above next_left h (left_at h q) ++ y ∷ []
   pub under : Passes (rights h q) (rights h y)
-  pub first : (e u : Identifier) (more ms : List Identifier) → IsIn p h e → lefts h e ≡ chain_above next_left h (left_at h q) ++ u ∷ more → rights h u ≡ rights h q ++ ms → (e ≡ y) ⊎ (before_at p h y e ≡ true)
+  pub first : (e u : Identifier) (more ms : List Identifier) → IsIn p h e → lefts h e ≡ chain_above next_left h (left_at h q) ++ u ∷ more → rights h u ≡ rights h q ++ ms
+      → (e ≡ y) ⊎ (before_at p h y e ≡ true)
 
 -- the tables of a lawful history
 module _ (p : Place) (h : List Op) (w : Lawful h) (children : Slot → List Identifier) (t : IsTable p h children) where
@@ -94,7 +98,8 @@ module _ (p : Place) (h : List Op) (w : Lawful h) (children : Slot → List Iden
                 let b = under_left p h (Some s) e u ms w (IsIn-held p h s m) n j in
                 let r = rooted p h (Some s) u w (IsIn-held p h s m) b.member b.left_u in
                 let suv : S u v ≡ true = elim (cases_id r.root v) [
-                  | inl c ↦ (λ i. chain_before false F ((r.path ∙ ap (λ z. z ∷ r.below) c) i) (rv i)) ∙ chain_before-same false F v r.below [] ∙ longer F r.below (λ z. d (r.own z ∙ c))
+                  | inl c ↦ (λ i. chain_before false F ((r.path ∙ ap (λ z. z ∷ r.below) c) i) (rv i)) ∙ chain_before-same false F v r.below []
+                      ∙ longer F r.below (λ z. d (r.own z ∙ c))
                   | inr c ↦ (λ i. chain_before false F (r.path i) (rv i)) ∙ chain_before-fork false F r.root v r.below [] c
                       ∙ elim (last_is (RightOf (Some s)) k.0.0 v r.root k.0.1 (t.full (RightOf (Some s)) r.root r.is_child)) [ inl z ↦ absurd (c z) | inr z ↦ z ]
                 ] in
@@ -121,7 +126,8 @@ module _ (p : Place) (h : List Op) (w : Lawful h) (children : Slot → List Iden
                   let d : u ≡ q = same_chain next_right h u q (IsIn-held p h u b.member) hq (z ∙ append-nil (rights h q)) in
                   (elim more as (λ more. lefts h e ≡ A ++ u ∷ more → (e ≡ q) ⊎ (before_at p h q e ≡ true)) [
                     | [] ↦ (λ f. inl (same_chain next_left h e q (IsIn-held p h e n) hq (f ∙ ap (λ x. A ++ x ∷ []) d ∙ sym lq)))
-                    | x ∷ xs ↦ (λ f. inr ((λ i. chain_before true S (lq i) ((f ∙ ap (λ y. A ++ y ∷ x ∷ xs) d) i)) ∙ common true S A (q ∷ []) (q ∷ x ∷ xs) ∙ chain_before-same true S q [] (x ∷ xs)))
+                    | x ∷ xs ↦ (λ f. inr ((λ i. chain_before true S (lq i) ((f ∙ ap (λ y. A ++ y ∷ x ∷ xs) d) i)) ∙ common true S A (q ∷ []) (q ∷ x ∷ xs)
+                        ∙ chain_before-same true S q [] (x ∷ xs)))
                   ]) j)
               | x ∷ xs ↦ (λ z. absurd (no_member (children (LeftOf q)) x k.0 (t.full (LeftOf q) x (child_under p h (LeftOf q) u x xs w hq b.member b.left_u z))))
             ]) i;
@@ -141,18 +147,21 @@ module _ (p : Place) (h : List Op) (w : Lawful h) (children : Slot → List Iden
         under = (v ∷ f.under.0, ry);
         first = λ e u more ms n j i.
             let b = under_left p h (left_at h q) e u more w (left_there p h q w m) n j in
-            let turn : y ≢ u → S y u ≡ true → before_at p h y e ≡ true = λ d s. (λ i. chain_before true S (ly i) (j i)) ∙ common true S A (y ∷ []) (u ∷ more) ∙ chain_before-fork true S y u [] more d ∙ s in
+            let turn : y ≢ u → S y u ≡ true → before_at p h y e ≡ true =
+            λ d s. (λ i. chain_before true S (ly i) (j i)) ∙ common true S A (y ∷ []) (u ∷ more) ∙ chain_before-fork true S y u [] more d ∙ s in
             (elim ms as (λ ms. rights h u ≡ rights h q ++ ms → (e ≡ y) ⊎ (before_at p h y e ≡ true)) [
               | [] ↦ (λ z.
                   inr (turn (λ d. not_longer (rights h q) v f.under.0 (sym (append-nil (rights h q)) ∙ sym z ∙ ap (rights h) (sym d) ∙ ry))
                   ((λ i. chain_before false F (ry i) (z i)) ∙ common false F (rights h q) (v ∷ f.under.0) [])))
               | x ∷ xs ↦ (λ z. elim (cases_id x v) [
-                | inl d ↦ f.first e u more xs n (j ∙ ap (λ l. chain_above next_left h l ++ u ∷ more) (sym lv)) (z ∙ ap (λ c. rights h q ++ c ∷ xs) d ∙ sym (append_assoc (rights h q) (v ∷ []) xs) ∙ ap (λ a. a ++ xs) (sym rv))
+                | inl d ↦ f.first e u more xs n (j ∙ ap (λ l. chain_above next_left h l ++ u ∷ more) (sym lv))
+                    (z ∙ ap (λ c. rights h q ++ c ∷ xs) d ∙ sym (append_assoc (rights h q) (v ∷ []) xs) ∙ ap (λ a. a ++ xs) (sym rv))
                 | inr d ↦
                     let kx = child_under p h (LeftOf q) u x xs w hq b.member b.left_u z in
                     let vx : F v x ≡ true = elim (first_is (LeftOf q) v x k.0.0 k.0.1 (t.full (LeftOf q) x kx)) [ inl c ↦ absurd (d c) | inr c ↦ c ] in
                     inr (turn (λ c. d (sym (heads v x f.under.0 xs (append_cancel_left (rights h q) (v ∷ f.under.0) (x ∷ xs) (sym ry ∙ ap (rights h) c ∙ z)))))
-                    ((λ i. chain_before false F (ry i) (z i)) ∙ common false F (rights h q) (v ∷ f.under.0) (x ∷ xs) ∙ chain_before-fork false F v x f.under.0 xs (λ c. d (sym c)) ∙ vx))
+                    ((λ i. chain_before false F (ry i) (z i)) ∙ common false F (rights h q) (v ∷ f.under.0) (x ∷ xs) ∙ chain_before-fork false F v x f.under.0 xs (λ c. d (sym c))
+                    ∙ vx))
               ])
             ]) i;
       }

@@ -1,6 +1,11 @@
 -- The walk of the tree of sides lists the order: it lists each element, and they stand in it as their chains tell.
-use Rattle.origin_model.proofs.Words.{All, All-cons, All-contains, All-head, All-tail, Bool, Contains, Contains-append_cases, Contains-append_left, Contains-append_right, Identifier, IsIn, IsOrderedBy, Lawful, List, None, Op, Place, Some, [], all_from_contains, all_pairs_nil, all_pairs_tail, ap, append-nil, append_assoc, append_cancel_left, arith, chain_before, contains_cases, contains_here, contains_middle, contains_none, contains_there, false, flat_map, fork_before, inl, inr, is_some, lefts, length, next_left, older_of, order, refl, rights, sibling, subst, suc, sym, true, true≢false, zero, ℕ, ◌++◌, ◌+◌, ◌-◌, ◌∙◌, ◌∷◌, ◌≡◌, ◌≢◌, ◌≤◌}
-use Rattle.origin_model.proofs.order.{IsIn-split, Ordered-agree, Within, before_at, before_in-irrefl, before_in-trans, chain_above, chain_before-fork, common, first_before, fork-irrefl, fork_moved, heads, lefts-above, not_longer, order-has, order-member, order-ordered}
+use Rattle.origin_model.proofs.Words.{All, All-cons, All-contains, All-head, All-tail, Bool, Contains, Contains-append_cases, Contains-append_left, Contains-append_right}
+use Rattle.origin_model.proofs.Words.{Identifier, IsIn, IsOrderedBy, Lawful, List, None, Op, Place, Some, [], all_from_contains, all_pairs_nil, all_pairs_tail, ap, append-nil}
+use Rattle.origin_model.proofs.Words.{append_assoc, append_cancel_left, arith, chain_before, contains_cases, contains_here, contains_middle, contains_none, contains_there, false}
+use Rattle.origin_model.proofs.Words.{flat_map, fork_before, inl, inr, is_some, lefts, length, next_left, older_of, order, refl, rights, sibling, subst, suc, sym, true, true≢false}
+use Rattle.origin_model.proofs.Words.{zero, ℕ, ◌++◌, ◌+◌, ◌-◌, ◌∙◌, ◌∷◌, ◌≡◌, ◌≢◌, ◌≤◌}
+use Rattle.origin_model.proofs.order.{IsIn-split, Ordered-agree, Within, before_at, before_in-irrefl, before_in-trans, chain_above, chain_before-fork, common, first_before}
+use Rattle.origin_model.proofs.order.{fork-irrefl, fork_moved, heads, lefts-above, not_longer, order-has, order-member, order-ordered}
 use Rattle.origin_model.proofs.order.OrderedListLemmas.{same_ordered}
 use Rattle.origin_model.proofs.order.PartLemmas.{older_lawful}
 use Rattle.origin_model.proofs.operations.LookupLemmas.{IsHeld, held_not_own, holder-other, holder-own, when_ready}

@@ -1,6 +1,9 @@
--- The accepted set does not depend on the order of arrival: it is the closure of what was taken in, and replicas that exchange what they kept come to the same.
-use Rattle.origin_model.proofs.Words.{All-append, IsPartOf, List, Op, SameOps, [], accepted, ap, append-nil, cases_Bool, false, false_from_ne_true, false≢true, has_op, inl, inr, or_cases, or_left, or_parts, or_right, subst, sym, true, true≢false, ℕ, ◌++◌, ◌||◌, ◌∙◌, ◌∷◌, ◌≡◌, ◌≢◌}
-use Rattle.origin_model.specs.taking.Closure.{IsClosed, answers, ClosureBySet, ClosureOfMerge, ClosureOfSet, ClosureOfUnion, Consistent, WithinLimits, SameSetConverges, Taker, given_by, given_by_all, kept_by, kept_by_all, taker_state}
+-- The accepted set does not depend on the order of arrival: it is the closure of what was taken in, and replicas that
+-- exchange what they kept come to the same.
+use Rattle.origin_model.proofs.Words.{All-append, IsPartOf, List, Op, SameOps, [], accepted, ap, append-nil, cases_Bool, false, false_from_ne_true, false≢true, has_op, inl, inr}
+use Rattle.origin_model.proofs.Words.{or_cases, or_left, or_parts, or_right, subst, sym, true, true≢false, ℕ, ◌++◌, ◌||◌, ◌∙◌, ◌∷◌, ◌≡◌, ◌≢◌}
+use Rattle.origin_model.specs.taking.Closure.{IsClosed, answers, ClosureBySet, ClosureOfMerge, ClosureOfSet, ClosureOfUnion, Consistent, WithinLimits, SameSetConverges, Taker}
+use Rattle.origin_model.specs.taking.Closure.{given_by, given_by_all, kept_by, kept_by_all, taker_state}
 use Rattle.origin_model.specs.taking.Taking.{Full, Held, IsSettled, TooMany, answers_from, closure, held, held_from, is_decided, is_again, nothing_held}
 use Rattle.origin_model.proofs.operations.LookupLemmas.{has-append, has-reverse, when_ready}
 use Rattle.origin_model.proofs.order.{Within-part, order_by_set, same-part}
@@ -70,7 +73,8 @@ more_closed r ops k n =
     let later : WithinLimits (answers_from r.hold r.most (held r.hold r.most mine) ops) =
     subst (λ s. WithinLimits (answers_from r.hold r.most s ops)) (sym alone.same_state) n in
     let both : WithinLimits (answers r.hold r.most (mine ++ ops)) =
-    subst WithinLimits (sym (answers-append r.hold r.most nothing_held mine ops)) (All-append (λ a. (a ≢ Full) × (a ≢ TooMany)) (answers r.hold r.most mine) (answers_from r.hold r.most (held r.hold r.most mine) ops) alone.within_limits later) in
+    subst WithinLimits (sym (answers-append r.hold r.most nothing_held mine ops))
+    (All-append (λ a. (a ≢ Full) × (a ≢ TooMany)) (answers r.hold r.most mine) (answers_from r.hold r.most (held r.hold r.most mine) ops) alone.within_limits later) in
     subst (λ (s : Held). IsClosed (mine ++ ops) s.history) (sym (held-append r.hold r.most nothing_held mine ops) ∙ after) (held_closed r.hold r.most (mine ++ ops) k both)
 
 -- a front of two lists, the second of which is part of another
@@ -164,7 +168,9 @@ given_suffices front ops h replicas f g k d =
         | inl t ↦ d.saturated x t n v
         | inr t ↦
             let out = or_parts (has_op front x) (has_op ops x) (sym (has-append front ops x) ∙ t) in
-            let there : has_op (kept_by_all replicas) x ≡ true = elim (or_cases (has_op front x) (has_op (kept_by_all replicas) x) (sym (has-append front (kept_by_all replicas) x) ∙ m)) [ inl j ↦ absurd (true≢false (sym j ∙ out.0)) | inr j ↦ j ] in
+            let there : has_op (kept_by_all replicas) x ≡ true =
+            elim (or_cases (has_op front x) (has_op (kept_by_all replicas) x) (sym (has-append front (kept_by_all replicas) x) ∙ m))
+            [ inl j ↦ absurd (true≢false (sym j ∙ out.0)) | inr j ↦ j ] in
             let w : Keeper replicas x = find_keeper replicas x there in
             not_given w.keeper (front ++ ops) h x
             (consistent_part (kept_by w.keeper) all (λ y j. part_at_end front (kept_by_all replicas) y (w.kept y j)) k)

@@ -1,5 +1,7 @@
 -- The closure of a list is a lawful part of it to which no more of it can be added, and every such history has the same operations.
-use Rattle.origin_model.proofs.Words.{Bool, Identifier, IsPartOf, Lawful, List, None, Op, Option, Ready, SameOps, Some, Verdict, [], ap, arith, cases_Bool, cond, count_by, false, false_from_ne_true, false≢true, has_op, holder, id_held, id_of, inl, inr, length, names, not, op_eq, op_eq-refl, op_eq-true, or_cases, or_left, or_right, refl, subst, sym, true, true≢false, verdict, ℕ, ◌+◌, ◌||◌, ◌∙◌, ◌∷◌, ◌≡◌, ◌≤◌}
+use Rattle.origin_model.proofs.Words.{Bool, Identifier, IsPartOf, Lawful, List, None, Op, Option, Ready, SameOps, Some, Verdict, [], ap, arith, cases_Bool, cond, count_by, false}
+use Rattle.origin_model.proofs.Words.{false_from_ne_true, false≢true, has_op, holder, id_held, id_of, inl, inr, length, names, not, op_eq, op_eq-refl, op_eq-true, or_cases}
+use Rattle.origin_model.proofs.Words.{or_left, or_right, refl, subst, sym, true, true≢false, verdict, ℕ, ◌+◌, ◌||◌, ◌∙◌, ◌∷◌, ◌≡◌, ◌≤◌}
 use Rattle.std.proofs.lemmas.List.Sums.{count_by-le-length, sum_by-cons}
 use Rattle.origin_model.specs.taking.Closure.{ClosureIsClosed, Consistent, IsClosed, Saturated}
 use Rattle.origin_model.specs.taking.Taking.{closed_within, closure, first_ready}

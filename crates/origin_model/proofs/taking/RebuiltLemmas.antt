@@ -1,11 +1,15 @@
 -- What a replica holds, taken in again: by itself it changes nothing, and from nothing it leads to the same.
-use Rattle.origin_model.proofs.Words.{All, All-head, All-nil, All-tail, All-weaker, AllPairs, Identifier, Lawful, List, None, Op, Option, Ready, Some, Verdict, [], accepted, all_before, all_behind, ap, append-nil, append_assoc, arith, false, false_from_ne_true, has_op, holds, id_held, id_of, if◌then◌else◌, is_own, length, length-append, nat_eq, ne_eqb, op_eq, op_eq-true, refl, reverse-append, subst, sym, true, true≢false, verdict, ℕ, ◌++◌, ◌+◌, ◌∙◌, ◌∷◌, ◌≡◌, ◌≢◌, ◌≤◌}
+use Rattle.origin_model.proofs.Words.{All, All-head, All-nil, All-tail, All-weaker, AllPairs, Identifier, Lawful, List, None, Op, Option, Ready, Some, Verdict, [], accepted}
+use Rattle.origin_model.proofs.Words.{all_before, all_behind, ap, append-nil, append_assoc, arith, false, false_from_ne_true, has_op, holds, id_held, id_of, if◌then◌else◌, is_own}
+use Rattle.origin_model.proofs.Words.{length, length-append, nat_eq, ne_eqb, op_eq, op_eq-true, refl, reverse-append, subst, sym, true, true≢false, verdict, ℕ, ◌++◌, ◌+◌, ◌∙◌, ◌∷◌}
+use Rattle.origin_model.proofs.Words.{◌≡◌, ◌≢◌, ◌≤◌}
 use Rattle.std.proofs.lemmas.Bool.{or_from}
 use Rattle.fugue_ids.proofs.ListLemmas.{all_pairs_across}
 use Rattle.origin_model.specs.declared.operations.Verdict.TheVariants.{Stray}
 use Rattle.origin_model.specs.operations.History.{HaveOtherIds}
 use Rattle.origin_model.specs.taking.Repeats.{RepeatsChangeNothing, ReplicaIsRebuilt}
-use Rattle.origin_model.specs.taking.Taking.{Accepted, Again as AnsweredAgain, Conflict as AnsweredConflict, Held, Waits, answer, answer_by, decided_on, held, held_from, intake, is_again, is_decided, is_taken, nothing_held, settle, held_after}
+use Rattle.origin_model.specs.taking.Taking.{Accepted, Again as AnsweredAgain, Conflict as AnsweredConflict, Held, Waits, answer, answer_by, decided_on, held, held_from, intake}
+use Rattle.origin_model.specs.taking.Taking.{is_again, is_decided, is_taken, nothing_held, settle, held_after}
 use Rattle.origin_model.proofs.operations.LookupLemmas.{holds-cons, own_id, when_ready}
 use Rattle.origin_model.proofs.taking.KeptLemmas.{held-append}
 use Rattle.origin_model.proofs.taking.SettlingLemmas.{settle-settled}
@@ -16,7 +20,8 @@ repeats_change_nothing hold most s [] z there = refl
 repeats_change_nothing hold most s (op ∷ ops) z there =
     let again : is_again s op ≡ true = All-head (λ o. is_again s o ≡ true) op ops there in
     let is : answer hold most s op ≡ AnsweredAgain =
-    λ i. if again i then AnsweredAgain else if is_taken s op then AnsweredConflict else answer_by (nat_eq (length s.history + length s.waiting) most) (nat_eq (length s.waiting) hold) (verdict s.history op) in
+    λ i. if again i then AnsweredAgain else if is_taken s op then AnsweredConflict else
+    answer_by (nat_eq (length s.history + length s.waiting) most) (nat_eq (length s.waiting) hold) (verdict s.history op) in
     let stays : intake hold most s op ≡ s = ap (λ r. settle (held_after r s op)) is ∙ settle-settled s z in
     ap (λ u. held_from hold most u ops) stays ∙ repeats_change_nothing hold most s ops z (All-tail (λ o. is_again s o ≡ true) op ops there)
 

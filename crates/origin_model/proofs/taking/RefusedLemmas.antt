@@ -23,7 +23,8 @@ module _ (hold most : ℕ) where
   places-one start op other = All-cons (λ (x : Answer). x ≢ TooMany) (answer hold most start op) [] other (places-none start)
 
   -- all find their place, one list behind the other
-  pub places-append : (start : Held) (a b : List Op) → MeetsNoLimit hold most start a → MeetsNoLimit hold most (held_from hold most start a) b → MeetsNoLimit hold most start (a ++ b)
+  pub places-append : (start : Held) (a b : List Op) → MeetsNoLimit hold most start a → MeetsNoLimit hold most (held_from hold most start a) b
+      → MeetsNoLimit hold most start (a ++ b)
   places-append start a b p q =
       All-same (λ (x : Answer). x ≢ TooMany) _ _ (answers-append hold most start a b)
       (All-append (λ (x : Answer). x ≢ TooMany) (answers_from hold most start a) (answers_from hold most (held_from hold most start a) b) p q)

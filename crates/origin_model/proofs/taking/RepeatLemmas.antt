@@ -1,10 +1,14 @@
--- The closure is the greatest lawful part of a list, whatever is accepted is in it, and a pass that accepts nothing finds all of it accepted.
-use Rattle.origin_model.proofs.Words.{All-head, All-tail, IsPartOf, List, Op, Ready, [], ap, arith, cases_Bool, false, false≢true, has_op, if◌then◌else◌, inl, inr, length, length-append, nat_eq, op_eq, op_eq-refl, op_eq-true, or_cases, or_left, or_right, refl, subst, sym, true, true≢false, verdict, ℕ, ◌++◌, ◌+◌, ◌∙◌, ◌∷◌, ◌≡◌, ◌≢◌, ◌⊎◌, Bool}
+-- The closure is the greatest lawful part of a list, whatever is accepted is in it, and a pass that accepts nothing
+-- finds all of it accepted.
+use Rattle.origin_model.proofs.Words.{All-head, All-tail, IsPartOf, List, Op, Ready, [], ap, arith, cases_Bool, false, false≢true, has_op, if◌then◌else◌, inl, inr, length}
+use Rattle.origin_model.proofs.Words.{length-append, nat_eq, op_eq, op_eq-refl, op_eq-true, or_cases, or_left, or_right, refl, subst, sym, true, true≢false, verdict, ℕ, ◌++◌, ◌+◌}
+use Rattle.origin_model.proofs.Words.{◌∙◌, ◌∷◌, ◌≡◌, ◌≢◌, ◌⊎◌, Bool}
 use Rattle.std.proofs.lemmas.Bool.{or_from}
 use Rattle.std.proofs.lemmas.List.{nil_from_length}
 use Rattle.origin_model.specs.taking.Closure.{Consistent}
 use Rattle.origin_model.specs.taking.Repeats.{AcceptedIsInClosure, ClosureIsGreatest, ClosureIsMonotone, QuietPassIsLast}
-use Rattle.origin_model.specs.taking.Taking.{Accepted, Again as AnsweredAgain, Answer, Conflict as AnsweredConflict, MeetsNoLimit, Held, IsSettled, TooMany, answer, answer_by, answers_from, closure, held, held_from, intake, is_decided, is_kept, kept, kept_from, nothing_held, settle, held_after}
+use Rattle.origin_model.specs.taking.Taking.{Accepted, Again as AnsweredAgain, Answer, Conflict as AnsweredConflict, MeetsNoLimit, Held, IsSettled, TooMany, answer, answer_by}
+use Rattle.origin_model.specs.taking.Taking.{answers_from, closure, held, held_from, intake, is_decided, is_kept, kept, kept_from, nothing_held, settle, held_after}
 use Rattle.origin_model.proofs.operations.LookupLemmas.{has-append, when_ready}
 use Rattle.origin_model.proofs.taking.AcceptedFrontLemmas.{EndsIn, hears_on, settling}
 use Rattle.origin_model.proofs.taking.ClosureLawLemmas.{consistent_part, state_covers}
@@ -82,7 +86,8 @@ ready_answer hold most all s op k f g m z v =
       | inr w ↦
           let again = or_from (has_op s.history op) (has_op s.waiting op) gone w in
           let free = or_from _ _ (no_conflict all s.history op k f m gone) (no_conflict all s.waiting op k g m w) in
-          let is : answer hold most s op ≡ answer_by full no_room Ready = λ i. if again i then AnsweredAgain else if free i then AnsweredConflict else answer_by full no_room (v i) in
+          let is : answer hold most s op ≡ answer_by full no_room Ready =
+          λ i. if again i then AnsweredAgain else if free i then AnsweredConflict else answer_by full no_room (v i) in
           elim (by_room full no_room) [ inl a ↦ inl (is ∙ a) | inr a ↦ inr (is ∙ a) ]
     ]
 

@@ -1,5 +1,6 @@
 -- An operation that names its own identifier: Ready asks that this identifier is not held, and that each named one is.
-use Rattle.origin_model.proofs.Words.{All-contains, Lawful, List, Op, Ready, [], ap, false, false_from_ne_true, has_op, holds, id_held, inl, inr, is_some, names, op_eq, op_eq-true, or_cases, refl, sym, true≢false, verdict, ◌∙◌, ◌∷◌, ◌≡◌, ◌≢◌}
+use Rattle.origin_model.proofs.Words.{All-contains, Lawful, List, Op, Ready, [], ap, false, false_from_ne_true, has_op, holds, id_held, inl, inr, is_some, names, op_eq, op_eq-true}
+use Rattle.origin_model.proofs.Words.{or_cases, refl, sym, true≢false, verdict, ◌∙◌, ◌∷◌, ◌≡◌, ◌≢◌}
 use Rattle.fugue_ids.proofs.ListLemmas.{contains_map_from}
 use Rattle.origin_model.specs.taking.Closure.{NamesItself, SelfNamedNeverAccepted}
 use Rattle.origin_model.proofs.operations.LookupLemmas.{Fits, IsHeld, ready_fits, when_ready}

@@ -1,5 +1,7 @@
--- Settling takes the earliest decided operation out of those that wait, one at a time, and ends where none is decided. A settled state stays as it is.
-use Rattle.origin_model.proofs.Words.{All, All-cons, All-head, All-nil, All-tail, List, None, Op, Option, Some, [], ap, arith, cases_Bool, false, false≢true, has_op, inl, inr, length, op_eq, op_eq-refl, op_eq-true, or_cases, or_left, refl, subst, suc, sym, true, true≢false, verdict, ◌||◌, ◌∙◌, ◌∷◌, ◌≡◌, ◌≤◌, ◌⊎◌}
+-- Settling takes the earliest decided operation out of those that wait, one at a time, and ends where none is decided.
+-- A settled state stays as it is.
+use Rattle.origin_model.proofs.Words.{All, All-cons, All-head, All-nil, All-tail, List, None, Op, Option, Some, [], ap, arith, cases_Bool, false, false≢true, has_op, inl, inr}
+use Rattle.origin_model.proofs.Words.{length, op_eq, op_eq-refl, op_eq-true, or_cases, or_left, refl, subst, suc, sym, true, true≢false, verdict, ◌||◌, ◌∙◌, ◌∷◌, ◌≡◌, ◌≤◌, ◌⊎◌}
 use Rattle.std.proofs.lemmas.List.{nil_from_length}
 use Rattle.origin_model.specs.taking.Taking.{Held, IsSettled, decided_on, earliest, joined, settle, settle_step, settled_within}
 use Rattle.origin_model.specs.taking.Closure.{SettlingEnds}
@@ -88,7 +90,8 @@ stays_within [] s z = refl
 stays_within (o ∷ room) s z =
     elim (earliest_found s.history s.waiting) [
       | inl k ↦ within-none o room s k.0
-      | inr k ↦ absurd (true≢false (sym k.2.ready ∙ undecided_found s.history s.waiting z k.0.0 (k.2.same k.0.0 ∙ or_left (op_eq k.0.0 k.0.0) (has_op k.0.1 k.0.0) (op_eq-refl k.0.0))))
+      | inr k ↦ absurd (true≢false (sym k.2.ready
+          ∙ undecided_found s.history s.waiting z k.0.0 (k.2.same k.0.0 ∙ or_left (op_eq k.0.0 k.0.0) (has_op k.0.1 k.0.0) (op_eq-refl k.0.0))))
     ]
 
 -- a settled state stays as it is

@@ -1,8 +1,12 @@
--- What holds of the state that taking in leads to: each operation that was taken in is accepted, waits, or names one that is held and does not fit.
-use Rattle.origin_model.proofs.Words.{All-head, All-tail, Bool, Identifier, IsPartOf, Lawful, List, Op, Ready, SameOps, Stray, Verdict, [], ap, cases_Bool, false, false≢true, has_op, if◌then◌else◌, inl, inr, length, nat_eq, op_eq, op_eq-refl, op_eq-true, or_cases, or_left, or_parts, or_right, refl, subst, sym, true, true≢false, verdict, ℕ, ◌++◌, ◌+◌, ◌||◌, ◌∙◌, ◌∷◌, ◌≡◌, ◌≢◌, ◌⊎◌}
+-- What holds of the state that taking in leads to: each operation that was taken in is accepted, waits, or names one
+-- that is held and does not fit.
+use Rattle.origin_model.proofs.Words.{All-head, All-tail, Bool, Identifier, IsPartOf, Lawful, List, Op, Ready, SameOps, Stray, Verdict, [], ap, cases_Bool, false, false≢true}
+use Rattle.origin_model.proofs.Words.{has_op, if◌then◌else◌, inl, inr, length, nat_eq, op_eq, op_eq-refl, op_eq-true, or_cases, or_left, or_parts, or_right, refl, subst, sym, true}
+use Rattle.origin_model.proofs.Words.{true≢false, verdict, ℕ, ◌++◌, ◌+◌, ◌||◌, ◌∙◌, ◌∷◌, ◌≡◌, ◌≢◌, ◌⊎◌}
 use Rattle.std.proofs.lemmas.Bool.{or_from}
 use Rattle.origin_model.specs.taking.Closure.{Consistent, WithinLimits}
-use Rattle.origin_model.specs.taking.Taking.{Held, Answer, Accepted, Again as AnsweredAgain, Conflict as AnsweredConflict, Full, Stray as AnsweredStray, TooMany, Waits, answer, answer_by, answers_from, held_from, intake, is_again, is_decided, is_taken, joined, settle, settled_within, held_after}
+use Rattle.origin_model.specs.taking.Taking.{Held, Answer, Accepted, Again as AnsweredAgain, Conflict as AnsweredConflict, Full, Stray as AnsweredStray, TooMany, Waits, answer}
+use Rattle.origin_model.specs.taking.Taking.{answer_by, answers_from, held_from, intake, is_again, is_decided, is_taken, joined, settle, settled_within, held_after}
 use Rattle.origin_model.proofs.order.{Within-append}
 use Rattle.origin_model.proofs.operations.CauseLemmas.{Dead, dead_within, stray_dead}
 use Rattle.origin_model.proofs.operations.LookupLemmas.{has-append, swap_or}
@@ -125,12 +129,14 @@ grow done s op c d =
     }
 
 -- it stays so where a Ready operation is accepted
-pub accept_covers : (done : List Op) (s : Held) (op : Op) → Covers done s → verdict s.history op ≡ Ready → Covers (op ∷ done) (record { history = op ∷ s.history; waiting = s.waiting })
+pub accept_covers : (done : List Op) (s : Held) (op : Op) → Covers done s → verdict s.history op ≡ Ready
+    → Covers (op ∷ done) (record { history = op ∷ s.history; waiting = s.waiting })
 accept_covers done s op c v =
     let w : Lawful (op ∷ s.history) = (v, c.lawful) in
     record {
       lawful = w;
-      history_part = λ x m. elim (or_cases (op_eq op x) (has_op s.history x) m) [ inl q ↦ or_left (op_eq op x) (has_op done x) q | inr j ↦ or_right (op_eq op x) (has_op done x) (c.history_part x j) ];
+      history_part = λ x m. elim (or_cases (op_eq op x) (has_op s.history x) m)
+          [ inl q ↦ or_left (op_eq op x) (has_op done x) q | inr j ↦ or_right (op_eq op x) (has_op done x) (c.history_part x j) ];
       waiting_part = λ x m. or_right (op_eq op x) (has_op done x) (c.waiting_part x m);
       decided = λ x m n o.
           let p = or_parts (op_eq op x) (has_op s.history x) n in
@@ -163,7 +169,8 @@ taken_covers hold most all done s op k f m c n =
     let G : Answer → Type 0 = λ a. Covers (op ∷ done) (held_after a s op) in
     let a : Answer = answer_by (nat_eq (length s.history + length s.waiting) most) (nat_eq (length s.waiting) hold) (verdict s.history op) in
     elim (cases_Bool (has_op s.history op || has_op s.waiting op)) [
-      | inl t ↦ subst G (sym (λ i. if t i then AnsweredAgain else if is_taken s op then AnsweredConflict else a)) (grow done s op c (λ x y. absurd (true≢false (sym t ∙ or_from (has_op s.history op) (has_op s.waiting op) x y))))
+      | inl t ↦ subst G (sym (λ i. if t i then AnsweredAgain else if is_taken s op then AnsweredConflict else a))
+          (grow done s op c (λ x y. absurd (true≢false (sym t ∙ or_from (has_op s.history op) (has_op s.waiting op) x y))))
       | inr t ↦
           let p = or_parts (has_op s.history op) (has_op s.waiting op) t in
           let free = or_from _ _
@@ -199,7 +206,8 @@ fold_covers hold most all (op ∷ ops) done s k f c n =
     let m : has_op all op ≡ true = f op (or_left (op_eq op op) (has_op (ops ++ done) op) (op_eq-refl op)) in
     let Within : Answer → Type 0 = λ a. (a ≢ Full) × (a ≢ TooMany) in
     let rest = answers_from hold most (intake hold most s op) ops in
-    let t = taken_covers hold most all done s op k (λ x j. f x (has-append (op ∷ ops) done x ∙ or_right (has_op (op ∷ ops) x) (has_op done x) j)) m c (All-head Within (answer hold most s op) rest n) in
+    let t = taken_covers hold most all done s op k (λ x j. f x (has-append (op ∷ ops) done x ∙ or_right (has_op (op ∷ ops) x) (has_op done x) j)) m c
+    (All-head Within (answer hold most s op) rest n) in
     Covers-same (ops ++ op ∷ done) (op ∷ (ops ++ done)) (held_from hold most (intake hold most s op) ops) (has-moved op ops done)
     (fold_covers hold most all ops (op ∷ done) (intake hold most s op) k
     (λ x j. f x (sym (has-moved op ops done x) ∙ j))

@@ -1,4 +1,5 @@
--- The edits of a replica. A history is newest first; what waits stands in order of arrival; the operations of an edit stand in the order in which they are made.
+-- The edits of a replica. A history is newest first; what waits stands in order of arrival; the operations of an edit
+-- stand in the order in which they are made.
 use Rattle.std.specs.Prelude.{◌≡◌, ◌≢◌, ℕ, zero, suc, ◌+◌, max, Option, Some, None, List, [], ◌∷◌, ◌++◌, map, take, drop, slice_get}
 use Rattle.fugue_ids.specs.Identifiers.{Identifier}
 use Rattle.fugue_ids.specs.declared.op.Op.{Op}
@@ -26,7 +27,8 @@ abbrev pub above_all : List ℕ → ℕ
 above_all [] = 0
 above_all (n ∷ ns) = max (suc n) (above_all ns)
 
--- one more than the greatest counter that the replica has among the identifiers that accepted or waiting operations have or name; 0 where it has none
+-- one more than the greatest counter that the replica has among the identifiers that accepted or waiting operations
+-- have or name; 0 where it has none
 abbrev pub next_counter : ℕ → (history waiting : List Op) → ℕ
 next_counter replica history waiting = above_all (counters replica (history ++ waiting))
 

@@ -44,7 +44,8 @@ pub record IsSpliced (p : Place) (old new : State) (at n : ℕ) (ids : List Iden
   pub here : shown p new.held.history ≡ splice (shown p old.held.history) at n ids
   pub elsewhere : (q : Place) → q ≢ p → shown q new.held.history ≡ shown q old.held.history
 
--- new elements came to what a place shows, at the position `at`; among all of its elements they stand directly behind their left origin, in their order
+-- new elements came to what a place shows, at the position `at`; among all of its elements they stand directly behind
+-- their left origin, in their order
 pub record IsInserted (p : Place) (old new : State) (at : ℕ) (ids : List Identifier) : Type 0 where
   pub splices : IsSpliced p old new at 0 ids
   pub behind : StandsBehind (left_for p old.held.history at) ids (order p old.held.history) (order p new.held.history)
@@ -58,7 +59,8 @@ pub record IsErased (p : Place) (old new : State) (at n : ℕ) : Type 0 where
 abbrev pub OfSection : State → ℕ → (Identifier → Type 0) → Type 0
 OfSection s k P = (x : Identifier) × (section_shown s k ≡ Some x) × P x
 
--- where an edit lands: the new elements stand where they were asked for in what is shown, and directly behind their left origin among all, in their order; what is taken away is what was asked for; other places show what they showed
+-- where an edit lands: the new elements stand where they were asked for in what is shown, and directly behind their
+-- left origin among all, in their order; what is taken away is what was asked for; other places show what they showed
 abbrev pub Lands : (old new : State) → Command → Type 0
 Lands old new (Put k at text) = OfSection old k (λ x. IsInserted (within x) old new at (put_ids old text))
 Lands old new (Cut k at n) = OfSection old k (λ x. IsErased (within x) old new at n)

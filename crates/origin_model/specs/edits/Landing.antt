@@ -48,13 +48,15 @@ IsLeaf h l = (u : Identifier) → left_at h u ≡ Some l → ⊥
 -- an element whose left origin is no other element's lands directly behind that, wherever its right origin stands
 abbrev pub LandsBehindLeaf : Type 0
 LandsBehindLeaf =
-    (p : Place) (op : Op) (older : List Op) (x l : Identifier) (front back : List Identifier) → Lawful (op ∷ older) → element_of p op ≡ Some x
+    (p : Place) (op : Op) (older : List Op) (x l : Identifier) (front back : List Identifier) → Lawful (op ∷ older)
+    → element_of p op ≡ Some x
     → left_of op ≡ Some l → IsLeaf older l → order p older ≡ front ++ l ∷ back
     → order p (op ∷ older) ≡ front ++ l ∷ x ∷ back
 
 -- an element that was accepted directly after its left origin lands directly behind it
 abbrev pub LandsBehindNewest : Type 0
 LandsBehindNewest =
-    (p : Place) (next op : Op) (older : List Op) (x l : Identifier) (front back : List Identifier) → Lawful (next ∷ op ∷ older) → element_of p op ≡ Some l
+    (p : Place) (next op : Op) (older : List Op) (x l : Identifier) (front back : List Identifier) → Lawful (next ∷ op ∷ older)
+    → element_of p op ≡ Some l
     → element_of p next ≡ Some x → left_of next ≡ Some l → order p (op ∷ older) ≡ front ++ l ∷ back
     → order p (next ∷ op ∷ older) ≡ front ++ l ∷ x ∷ back

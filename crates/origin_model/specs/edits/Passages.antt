@@ -14,17 +14,19 @@ Relation = Identifier → Identifier → Bool
 -- by a relation, an element and all whose chains of left origins pass it stand without a gap, the element first
 pub record GoTogether (p : Place) (h : List Op) (R : Relation) (x : Identifier) : Type 0 where
   pub first : (e : Identifier) → IsIn p h e → e ≢ x → Passes (lefts h x) (lefts h e) → R x e ≡ true
-  pub no_gap : (z e : Identifier) → IsIn p h z → IsIn p h e → Passes (lefts h x) (lefts h e) → R x z ≡ true → R z e ≡ true → Passes (lefts h x) (lefts h z)
+  pub no_gap : (z e : Identifier) → IsIn p h z → IsIn p h e → Passes (lefts h x) (lefts h e) → R x z ≡ true → R z e ≡ true
+      → Passes (lefts h x) (lefts h z)
 
 -- so they stand in the order of their place
 abbrev pub StandsTogether : (p : Place) → (h : List Op) → (x : Identifier) → Type 0
 StandsTogether p h x = GoTogether p h (before p h) x
 
--- what leans on an element stands next to it, without a gap
+-- an element and all whose chains of left origins pass it stand without a gap, it first
 abbrev pub Together : Type 0
 Together = (p : Place) (h : List Op) (x : Identifier) → Lawful h → IsIn p h x → StandsTogether p h x
 
--- e is another element with r's left origin whose chain of right origins passes r, or one whose chain of left origins passes such an element
+-- e is another element with r's left origin whose chain of right origins passes r, or one whose chain of left origins
+-- passes such an element
 pub record IsOnLeft (p : Place) (h : List Op) (r e : Identifier) : Type 0 where
   pub top : Identifier
   pub member : IsIn p h top
@@ -42,7 +44,7 @@ pub record GoBefore (p : Place) (h : List Op) (R : Relation) (r : Identifier) : 
 abbrev pub StandsBefore : (p : Place) → (h : List Op) → (r : Identifier) → Type 0
 StandsBefore p h r = GoBefore p h (before p h) r
 
--- what has a right origin stands before it
+-- what was put on an element's left stands without a gap directly before it
 abbrev pub BeforeRight : Type 0
 BeforeRight = (p : Place) (h : List Op) (r : Identifier) → Lawful h → IsIn p h r → StandsBefore p h r
 
@@ -72,8 +74,10 @@ GoesBackward p h x (y ∷ ys) = IsIn p h y × (left_at h y ≡ left_at h x) × (
 abbrev pub IsPassage : Place → List Op → Identifier → List Identifier → Type 0
 IsPassage p h x xs = GoesForward p h x xs ⊎ GoesBackward p h x xs
 
--- two passages from distinct elements with the same origins are never mixed: all of one stands before all of the other, by the identifiers of the first elements
+-- two passages from distinct elements with the same origins are never mixed: all of one stands before all of the other,
+-- by the identifiers of the first elements
 abbrev pub NeverMixed : Type 0
 NeverMixed =
-    (p : Place) (h : List Op) (x y : Identifier) (xs ys : List Identifier) → Lawful h → IsTie p h x y → IsPassage p h x xs → IsPassage p h y ys
+    (p : Place) (h : List Op) (x y : Identifier) (xs ys : List Identifier) → Lawful h → IsTie p h x y → IsPassage p h x xs
+    → IsPassage p h y ys
     → All (λ e. All (λ f. before p h e f ≡ id_lt x y) (y ∷ ys)) (x ∷ xs)

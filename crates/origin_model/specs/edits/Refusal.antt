@@ -1,5 +1,6 @@
 -- Which edits a replica refuses, and the operations of the others.
-use Rattle.std.specs.Prelude.{◌≡◌, ◌≢◌, ◌↔◌, ℕ, ◌+◌, ◌-◌, ◌^◌, ◌&&◌, nat_lt, if◌then◌else◌, Option, Some, None, Result, Err, List, [], ◌∷◌, length, slice_get}
+use Rattle.std.specs.Prelude.{◌≡◌, ◌≢◌, ◌↔◌, ℕ, ◌+◌, ◌-◌, ◌^◌, ◌&&◌, nat_lt, if◌then◌else◌, Option, Some, None, Result, Err, List, [], ◌∷◌}
+use Rattle.std.specs.Prelude.{length, slice_get}
 use Rattle.fugue_ids.specs.Identifiers.{Identifier}
 use Rattle.fugue_ids.specs.declared.op.Op.{Op}
 use Rattle.origin_model.specs.order.Printed.{shown}
@@ -42,7 +43,8 @@ added_ids s = id_at s.number (next_of_own s) ∷ []
 abbrev pub refused_ops : State → ℕ → Option EditFault
 refused_ops s n = if nat_lt s.most (held_count s + n) then Some (TooMany (held_count s)) else None
 
--- why n elements more do not come: their counters would pass the greatest number there is, or the operations would be too many. The first carries the greatest counter so far, or 0.
+-- why n elements more do not come: their counters would pass the greatest number there is, or the operations would be
+-- too many. The first carries the greatest counter so far, or 0.
 abbrev pub refused_elements : State → ℕ → Option EditFault
 refused_elements s n = if nat_lt 0 n && nat_lt (2 ^ 32) (next_of_own s + n) then Some (IdsSpent (next_of_own s - 1)) else refused_ops s n
 
@@ -57,7 +59,8 @@ in_range position count cause = if nat_lt count position then Some OutOfRange el
 
 -- why an edit is refused, by the first cause that there is
 abbrev pub refusal_message : State → Command → Option EditFault
-refusal_message s (Put k at new) = in_section (section_shown s k) (λ x. in_range at (shown_count s (within x)) (refused_elements s (length new)))
+refusal_message s (Put k at new) =
+    in_section (section_shown s k) (λ x. in_range at (shown_count s (within x)) (refused_elements s (length new)))
 refusal_message s (Cut k at n) = in_section (section_shown s k) (λ x. in_range (at + n) (shown_count s (within x)) (refused_ops s n))
 refusal_message s (Add at title) = in_range at (shown_count s catalogue) (refused_elements s 1)
 refusal_message s (DropSection k) = in_section (section_shown s k) (λ x. refused_ops s 1)

@@ -20,7 +20,8 @@ use Rattle.origin_model.specs.taking.Taking.{Held, IsSettled, held_from, kept_fr
 -- a run that was accepted in a row stands as one piece, where its first element stood when it came
 abbrev pub RunLands : Type 0
 RunLands =
-    (start : RunStart) (ch : ℕ) (text : List ℕ) (h : List Op) (front back : List Identifier) → Lawful (history_with h (run_from start (ch ∷ text)))
+    (start : RunStart) (ch : ℕ) (text : List ℕ) (h : List Op) (front back : List Identifier)
+    → Lawful (history_with h (run_from start (ch ∷ text)))
     → order (within start.section) (text_by start ch ∷ h) ≡ front ++ start.id ∷ back
     → order (within start.section) (history_with h (run_from start (ch ∷ text))) ≡ front ++ ids_in_a_row start.id (ch ∷ text) ++ back
 
@@ -38,13 +39,16 @@ pub record CanGoIn (most : ℕ) (s : Held) (start : RunStart) (ch : ℕ) (text :
 -- known, and its elements stand as one piece with keys that are known.
 pub record GoesIn (hold most : ℕ) (s : Held) (start : RunStart) (ch : ℕ) (text : List ℕ) : Type 0 where
   pub ready : ReadyInTurn s.history (run_from start (ch ∷ text))
-  pub held : held_from hold most s (run_from start (ch ∷ text)) ≡ record { history = history_with s.history (run_from start (ch ∷ text)); waiting = s.waiting }
+  pub held : held_from hold most s (run_from start (ch ∷ text))
+      ≡ record { history = history_with s.history (run_from start (ch ∷ text)); waiting = s.waiting }
   pub settled : IsSettled (held_from hold most s (run_from start (ch ∷ text)))
   pub kept : kept_from hold most s (run_from start (ch ∷ text)) ≡ run_from start (ch ∷ text)
-  pub counted : (t : Tally) → tally_from hold most s (run_from start (ch ∷ text)) t ≡ record t { accepted = t.accepted + length (ch ∷ text) }
+  pub counted : (t : Tally) → tally_from hold most s
+      (run_from start (ch ∷ text)) t ≡ record t { accepted = t.accepted + length (ch ∷ text) }
   -- the elements stand where the first one stands when it comes
   pub lands : (front back : List Identifier) → order (within start.section) (text_by start ch ∷ s.history) ≡ front ++ start.id ∷ back
-      → order (within start.section) (history_with s.history (run_from start (ch ∷ text))) ≡ front ++ ids_in_a_row start.id (ch ∷ text) ++ back
+      → order (within start.section) (history_with s.history (run_from start (ch ∷ text))) ≡ front ++ ids_in_a_row start.id (ch ∷ text)
+      ++ back
   pub elsewhere : (p : Place) → p ≢ within start.section → order p (history_with s.history (run_from start (ch ∷ text))) ≡ order p s.history
   -- the first has the key of its origins; each other one is deeper by one than the one before it, and its forest is 0
   pub first_key : search_key_of (history_with s.history (run_from start (ch ∷ text))) start.id ≡ new_key s.history start.left start.right
@@ -54,7 +58,8 @@ pub record GoesIn (hold most : ℕ) (s : Held) (start : RunStart) (ch : ℕ) (te
 
 -- where it can, it does
 abbrev pub RunsGoInWhole : Type 0
-RunsGoInWhole = (hold most : ℕ) (s : Held) (start : RunStart) (ch : ℕ) (text : List ℕ) → CanGoIn most s start ch text → GoesIn hold most s start ch text
+RunsGoInWhole = (hold most : ℕ) (s : Held) (start : RunStart) (ch : ℕ) (text : List ℕ) → CanGoIn most s start ch text
+    → GoesIn hold most s start ch text
 
 -- what an edit types is a run
 abbrev pub TypedIsRun : Type 0

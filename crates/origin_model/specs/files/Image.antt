@@ -1,5 +1,7 @@
--- What the bytes of a file mean: a header, and then slots, numbered from 0, each of which begins with its gate. A slot whose gate is 1 is open; any other gate ends the meaning. Numbers are big-endian.
-use Rattle.std.specs.Prelude.{◌≡◌, ◌≢◌, ℕ, ◌+◌, ◌*◌, ◌/◌, ◌%◌, ◌<◌, ◌≤◌, nat_le, nat_eq, Bool, true, false, ◌&&◌, List, [], ◌∷◌, ◌++◌, length, take, drop, slice_index_or, flat_map, All, codes}
+-- What the bytes of a file mean: a header, and then slots, numbered from 0, each of which begins with its gate. A slot
+-- whose gate is 1 is open; any other gate ends the meaning. Numbers are big-endian.
+use Rattle.std.specs.Prelude.{◌≡◌, ◌≢◌, ℕ, ◌+◌, ◌*◌, ◌/◌, ◌%◌, ◌<◌, ◌≤◌, nat_le, nat_eq, Bool, true, false, ◌&&◌, List, [], ◌∷◌, ◌++◌}
+use Rattle.std.specs.Prelude.{length, take, drop, slice_index_or, flat_map, All, codes}
 use Rattle.std.specs.Cmp.Lexicographic.{pointwise}
 use Rattle.std.specs.Int.{from_be_bytes, to_be_bytes, w32}
 use Rattle.fugue_ids.specs.declared.limits.TheConstants.{GREATEST_HOLD, MOST_OPERATIONS}
@@ -26,7 +28,7 @@ number_at offset bytes = from_be_bytes w32 (take 4 (drop offset bytes))
 abbrev pub word_tag : ℕ → ℕ
 word_tag word = word / TAG_UNIT
 
--- the length in a word of a gate
+-- the length in a slot's word
 abbrev pub word_length : ℕ → ℕ
 word_length word = word % TAG_UNIT
 
@@ -46,10 +48,11 @@ length_at offset bytes = word_length (number_at offset bytes)
 -- 13 bytes are a header: the mark, version 1 or 2, a replica other than 0, and a hold within its limits
 abbrev pub is_header : List ℕ → Bool
 is_header bytes =
-    pointwise nat_eq (take 4 bytes) (codes "FGMX") && nat_le 1 (slice_index_or bytes 4 0) && nat_le (slice_index_or bytes 4 0) 2 && nat_le 1 (number_at 5 bytes)
+    pointwise nat_eq (take 4 bytes) (codes "FGMX") && nat_le 1 (slice_index_or bytes 4 0) && nat_le (slice_index_or bytes 4 0) 2
+    && nat_le 1 (number_at 5 bytes)
     && nat_le 1 (number_at 9 bytes) && nat_le (number_at 9 bytes) GREATEST_HOLD
 
--- the first 13 bytes, and those behind them
+-- the first 13 bytes of a file
 abbrev pub header_of : List ℕ → List ℕ
 header_of bytes = take 13 bytes
 
@@ -80,7 +83,7 @@ pub record IsBatch (batch : Batch) : Type 0 where
 abbrev pub open_slot : Batch → List ℕ
 open_slot batch = 1 ∷ batch.word ++ batch.bytes
 
--- the slots of batches that are still open
+-- the bytes of the open slots of batches
 abbrev pub open_slots : List Batch → List ℕ
 open_slots batches = flat_map open_slot batches
 
@@ -109,13 +112,15 @@ pub data IsNoBatch (slot : ℕ) (bytes : List ℕ) : Type 0 where
   TooLong : LONGEST_BATCH < length_at 0 bytes → IsNoBatch slot bytes
   CutShort : length (drop 4 bytes) < length_at 0 bytes → IsNoBatch slot bytes
   -- the bytes are not whole frames of the tag's grammar
-  NoFrames : (grammar : Grammar) → word_tag (number_at 0 bytes) ≡ tag_of grammar → ((ops : List Op) → Reads grammar (take (length_at 0 bytes) (drop 4 bytes)) ops Whole → ⊥) → IsNoBatch slot bytes
+  NoFrames : (grammar : Grammar) → word_tag (number_at 0 bytes) ≡ tag_of grammar
+      → ((ops : List Op) → Reads grammar (take (length_at 0 bytes) (drop 4 bytes)) ops Whole → ⊥) → IsNoBatch slot bytes
   -- no byte stands behind the bytes of the slot
   NoGate : length (drop 4 bytes) ≡ length_at 0 bytes → IsNoBatch slot bytes
   -- the slot has the last number
   LastSlot : slot ≡ last_slot → IsNoBatch slot bytes
 
--- what a replica's file holds: its replica, its hold, the operations of the open slots in order, the offset of the gate that ends the meaning, and the number of open slots before it
+-- what a replica's file holds: its replica, its hold, the operations of the open slots in order, the offset of the gate
+-- that ends the meaning, and the number of open slots before it
 pub record Content : Type 0 where
   pub replica : ℕ
   pub hold : ℕ

@@ -41,7 +41,8 @@ body_bytes body = to_be_bytes w16 (length body) ++ body
 -- the bytes of one operation's own frame
 abbrev pub frame : Op → List ℕ
 frame (Section id left right title) = 1 ∷ [] ++ id_bytes id ++ origin_bytes left ++ origin_bytes right ++ title_bytes title
-frame (Text id section left right ch) = 2 ∷ [] ++ id_bytes id ++ id_bytes section ++ origin_bytes left ++ origin_bytes right ++ scalar_bytes ch
+frame (Text id section left right ch) =
+    2 ∷ [] ++ id_bytes id ++ id_bytes section ++ origin_bytes left ++ origin_bytes right ++ scalar_bytes ch
 frame (Delete target) = 3 ∷ [] ++ id_bytes target
 frame (Note id named code body) = 5 ∷ [] ++ id_bytes id ++ names_bytes named ++ code ∷ [] ++ body_bytes body
 

@@ -17,7 +17,8 @@ pub record IsFraming (ops : List Op) (bytes : List ℕ) : Type 0 where
 
 -- the frame's operations are the first ones, and no frame stands for more of these
 abbrev pub IsLongest : Framed → List Op → Type 0
-IsLongest framed ops = (other : Framed) (behind : List Op) → IsFrame Version2 other → ops ≡ other.ops ++ behind → length other.ops ≤ length framed.ops
+IsLongest framed ops = (other : Framed) (behind : List Op) → IsFrame Version2 other → ops ≡ other.ops ++ behind
+    → length other.ops ≤ length framed.ops
 
 -- each frame stands for as many of the operations as one can
 abbrev pub AreLongest : List Framed → Type 0
@@ -49,12 +50,14 @@ run_more run ch = record { id = run.id; section = run.section; left = run.left; 
 
 -- the run with the operation behind it, where it has room and the operation is the next one
 abbrev pub longer : Run → Op → Option Item
-longer run op = if nat_lt (length run.text) 1024 && op_eq op (next_text run (scalar_in op)) then Some (Typed (run_more run (scalar_in op))) else None
+longer run op = if nat_lt (length run.text) 1024
+    && op_eq op (next_text run (scalar_in op)) then Some (Typed (run_more run (scalar_in op))) else None
 
 -- one item that stands for those of an item and one operation more
 abbrev pub item_with : Item → Op → Option Item
 item_with (Single (Section id left right title)) op = None
-item_with (Single (Text id section left right ch)) op = longer (record { id = id; section = section; left = left; right = right; text = ch ∷ [] }) op
+item_with (Single (Text id section left right ch)) op =
+    longer (record { id = id; section = section; left = left; right = right; text = ch ∷ [] }) op
 item_with (Single (Delete target)) op = None
 item_with (Single (Note id named code body)) op = None
 item_with (Typed run) op = longer run op

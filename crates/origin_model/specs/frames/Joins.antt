@@ -13,5 +13,6 @@ end_further n (BadFrame k) = BadFrame (n + k)
 -- a whole stream and another one behind it read as the operations of the first and then those of the second, and end as the second does
 abbrev pub StreamsJoin : Type 0
 StreamsJoin =
-    (grammar : Grammar) (first second : List ℕ) (ops more : List Op) (end : End) → Reads grammar first ops Whole → Reads grammar second more end
+    (grammar : Grammar) (first second : List ℕ) (ops more : List Op) (end : End) → Reads grammar first ops Whole
+    → Reads grammar second more end
     → Reads grammar (first ++ second) (ops ++ more) (end_further (length first) end)

@@ -1,5 +1,6 @@
 -- The counters that operations mention.
-use Rattle.std.specs.Prelude.{◌≡◌, ℕ, ◌≤◌, nat_eq, Option, List, [], ◌++◌, map, filter, flat_map, All, Contains, IsNone, IfSome, ◌↔◌, option_to_list}
+use Rattle.std.specs.Prelude.{◌≡◌, ℕ, ◌≤◌, nat_eq, Option, List, [], ◌++◌, map, filter, flat_map, All, Contains, IsNone, IfSome, ◌↔◌}
+use Rattle.std.specs.Prelude.{option_to_list}
 use Rattle.fugue_ids.specs.Identifiers.{Identifier}
 use Rattle.fugue_ids.specs.Ops.{id_of}
 use Rattle.fugue_ids.specs.declared.op.Op.{Op}

@@ -1,6 +1,7 @@
 -- The order of the elements of one place, by their origins alone: Weidner and Kleppmann, "The Art of the Fugue", without sides.
 -- Each `history` is newest first.
-use Rattle.std.specs.Prelude.{Option, Some, None, Bool, true, false, not, ◌&&◌, ◌||◌, if◌then◌else◌, nat_eq, nat_lt, List, [], ◌∷◌, ◌++◌, ℕ, ◌≡◌, count_by}
+use Rattle.std.specs.Prelude.{Option, Some, None, Bool, true, false, not, ◌&&◌, ◌||◌, if◌then◌else◌, nat_eq, nat_lt, List, [], ◌∷◌, ◌++◌, ℕ}
+use Rattle.std.specs.Prelude.{◌≡◌, count_by}
 use Rattle.std.specs.List.{AllPairs, insert, position_or_len}
 use Rattle.fugue_ids.specs.Identifiers.{Identifier, id_eq, id_lt, origin_eq}
 use Rattle.fugue_ids.specs.declared.op.Op.{Op}
@@ -21,11 +22,11 @@ chain next (op ∷ older) x =
       | false ↦ chain next older x
     ]
 
--- the chain of left origins down to x, from the one whose left origin is the start
+-- the left origin of an operation, by which a chain of left origins goes on
 abbrev pub next_left : List Op → Op → Option Identifier
 next_left older op = left_of op
 
--- the left origins of an element, from one to the next
+-- the chain of left origins down to an element, which is its last member
 abbrev pub lefts : List Op → Identifier → List Identifier
 lefts history x = chain next_left history x
 
@@ -38,15 +39,16 @@ abbrev pub right_beside : List Op → (left right : Option Identifier) → Optio
 right_beside history left None = None
 right_beside history left (Some r) = if has_left history r left then Some r else None
 
--- the chain of right origins down to x, as long as they have the left origin of x
+-- the right origin of an operation, where it has the same left origin: by it a chain of right origins goes on
 abbrev pub next_right : List Op → Op → Option Identifier
 next_right older op = right_beside older (left_of op) (right_of op)
 
--- the right origins of an element, from one to the next
+-- the chain of right origins with the element's left origin, down to the element itself
 abbrev pub rights : List Op → Identifier → List Identifier
 rights history x = chain next_right history x
 
--- two chains compared at the first place where they differ; where one is a proper prefix of the other, `prefix_first` says whether the prefix goes first
+-- two chains compared at the first place where they differ; where one is a proper prefix of the other, `prefix_first`
+-- says whether the prefix goes first
 abbrev pub chain_before : Bool → (Identifier → Identifier → Bool) → List Identifier → List Identifier → Bool
 chain_before prefix_first at_fork [] [] = false
 chain_before prefix_first at_fork [] (b ∷ bs) = prefix_first
@@ -57,7 +59,8 @@ chain_before prefix_first at_fork (a ∷ as') (b ∷ bs) = if id_eq a b then cha
 abbrev pub index_of_origin : List Identifier → Option Identifier → ℕ
 index_of_origin finished r = position_or_len (λ e. origin_eq r (Some e)) finished
 
--- a goes before b, whose right origins have these indexes in a finished list: its right origin is later there, or it is the same one and a's identifier is smaller
+-- a goes before b, whose right origins have these indexes in a finished list: its right origin is later there, or it is
+-- the same one and a's identifier is smaller
 abbrev pub precedes : (here there : ℕ) → Identifier → Identifier → Bool
 precedes here there a b = nat_lt there here || (nat_eq there here && id_lt a b)
 
@@ -71,7 +74,8 @@ right_at history x = elim (holder history x) [ None ↦ None | Some op ↦ right
 
 -- a goes before b, which has the same left origin, by their right origins
 abbrev pub fork_before : List Identifier → List Op → Identifier → Identifier → Bool
-fork_before finished history a b = precedes (index_of_origin finished (right_at history a)) (index_of_origin finished (right_at history b)) a b
+fork_before finished history a b =
+    precedes (index_of_origin finished (right_at history a)) (index_of_origin finished (right_at history b)) a b
 
 -- u stands before v, which has the same left origin
 abbrev pub sibling : List Identifier → List Op → Identifier → Identifier → Bool

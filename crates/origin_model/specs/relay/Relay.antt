@@ -49,15 +49,18 @@ StepsPiece old n (Some reading) bytes new reply = TakesPiece old n reading bytes
 
 -- what an event does, and the reply to it
 abbrev pub RelaySteps : (old : Relay) → Event → (new : Relay) → Option Reply → Type 0
-RelaySteps old (Opened n) new reply = (new ≡ record { limit = old.limit; log = old.log; sessions = session_opened n old.sessions }) × (reply ≡ None)
+RelaySteps old (Opened n) new reply =
+    (new ≡ record { limit = old.limit; log = old.log; sessions = session_opened n old.sessions }) × (reply ≡ None)
 RelaySteps old (Piece n bytes) new reply = StepsPiece old n (finite.get old.sessions n) bytes new reply
-RelaySteps old (Gone n) new reply = (new ≡ record { limit = old.limit; log = old.log; sessions = finite.remove old.sessions n }) × (reply ≡ None)
+RelaySteps old (Gone n) new reply =
+    (new ≡ record { limit = old.limit; log = old.log; sessions = finite.remove old.sessions n }) × (reply ≡ None)
 
 -- events one after another, and the reply to each, where there is one
 abbrev pub RelayRuns : (old : Relay) → List Event → (new : Relay) → List (Option Reply) → Type 0
 RelayRuns old [] new replies = (new ≡ old) × (replies ≡ [])
 RelayRuns old (event ∷ events) new replies =
-    (middle : Relay) × (reply : Option Reply) × (rest : List (Option Reply)) × RelaySteps old event middle reply × RelayRuns middle events new rest × (replies ≡ reply ∷ rest)
+    (middle : Relay) × (reply : Option Reply) × (rest : List (Option Reply)) × RelaySteps old event middle reply
+    × RelayRuns middle events new rest × (replies ≡ reply ∷ rest)
 
 -- the relay is as these events leave a new one
 pub record IsRelayState (limit : ℕ) (events : List Event) (relay : Relay) : Type 0 where

@@ -1,5 +1,6 @@
 -- How the text of a session is read, byte by byte: 48 and a cursor, then frames, then 44. Numbers are big-endian.
-use Rattle.std.specs.Prelude.{◌≡◌, ◌≢◌, ℕ, nat_eq, nat_lt, Bool, Option, Some, None, List, [], ◌∷◌, ◌++◌, length, drop, flat_map, if◌then◌else◌}
+use Rattle.std.specs.Prelude.{◌≡◌, ◌≢◌, ℕ, nat_eq, nat_lt, Bool, Option, Some, None, List, [], ◌∷◌, ◌++◌, length, drop, flat_map}
+use Rattle.std.specs.Prelude.{if◌then◌else◌}
 use Rattle.std.specs.List.{list_any}
 use Rattle.std.specs.Cmp.Lexicographic.{pointwise}
 use Rattle.std.specs.Int.{from_be_bytes, to_be_bytes, w32}
@@ -63,28 +64,32 @@ abbrev pub greeting_read : List (List ℕ) → List ℕ → Taken
 greeting_read log [] = record { log = log; next = Goes unread }
 greeting_read log (first ∷ number) =
     if nat_eq first greeting
-    then if nat_lt (length number) 4 then record { log = log; next = Goes (record { cursor = None; rest = first ∷ number }) } else at_cursor log (from_be_bytes w32 number)
+    then if nat_lt (length number) 4 then record { log = log; next = Goes (record { cursor = None; rest = first ∷ number }) } else
+    at_cursor log (from_be_bytes w32 number)
     else session_refused log 1
 
 -- operations join the log in order, each once; at the first one that the log lacks and is too full for the session is refused
 abbrev pub log_joined : (limit : ℕ) → List (List ℕ) → (cursor : ℕ) → List Op → Taken
 log_joined limit log cursor [] = session_goes_on log cursor
 log_joined limit log cursor (op ∷ ops) =
-    if is_logged log (frame op) then log_joined limit log cursor ops else if nat_eq (length log) limit then session_refused log 2 else log_joined limit (log ++ frame op ∷ []) cursor ops
+    if is_logged log (frame op) then log_joined limit log cursor ops else if nat_eq (length log) limit then session_refused log 2 else
+    log_joined limit (log ++ frame op ∷ []) cursor ops
 
--- what the bytes since the last whole message are: a frame of these operations, the closing byte, a proper front of a frame, or none of them
+-- what the bytes since the last whole message are: a frame of these operations, the closing byte, a proper front of a
+-- frame, or none of them
 pub data Kind : Type 0 where
   Frame : List Op → Kind
   Closing : Kind
   Front : Kind
   Neither : Kind
 
--- what the front of a session's bytes is
+-- what the bytes since the last whole message of a session are
 abbrev pub IsKind : Kind → List ℕ → Type 0
 IsKind (Frame ops) bytes = IsFrame Version2 (record { bytes = bytes; ops = ops })
 IsKind Closing bytes = bytes ≡ closing
 IsKind Front bytes = IsPartial Version2 bytes
-IsKind Neither bytes = ((ops : List Op) → IsFrame Version2 (record { bytes = bytes; ops = ops }) → ⊥) × (IsPartial Version2 bytes → ⊥) × (bytes ≢ closing)
+IsKind Neither bytes = ((ops : List Op) → IsFrame Version2 (record { bytes = bytes; ops = ops }) → ⊥) × (IsPartial Version2 bytes → ⊥)
+    × (bytes ≢ closing)
 
 -- and what they do
 abbrev pub told : Kind → (limit : ℕ) → List (List ℕ) → (cursor : ℕ) → List ℕ → Taken
@@ -106,4 +111,5 @@ TakesOne limit byte log (Closes reply) after = after ≡ record { log = log; nex
 -- bytes of a text, one after another
 abbrev pub TakesAll : (limit : ℕ) → List ℕ → Taken → Taken → Type 0
 TakesAll limit [] before after = after ≡ before
-TakesAll limit (byte ∷ bytes) before after = (middle : Taken) × TakesOne limit byte before.log before.next middle × TakesAll limit bytes middle after
+TakesAll limit (byte ∷ bytes) before after =
+    (middle : Taken) × TakesOne limit byte before.log before.next middle × TakesAll limit bytes middle after

@@ -45,13 +45,15 @@ pub record EndsBlock (children : Slot → List Identifier) (s y : Identifier) : 
 -- the last node below s is found by the depth of s
 abbrev pub BlockEndByKeys : Type 0
 BlockEndByKeys =
-    (p : Place) (h : List Op) (children : Slot → List Identifier) (s : Identifier) → Lawful h → AllFit p h → IsTable p h children → IsIn p h s
+    (p : Place) (h : List Op) (children : Slot → List Identifier) (s : Identifier) → Lawful h → AllFit p h → IsTable p h children
+    → IsIn p h s
     → EndsBlock children s (block_end (with_keys h (order p h)) (depth_of h s) s)
 
 -- the first node below q is found by the key of q
 abbrev pub BlockStartByKeys : Type 0
 BlockStartByKeys =
-    (p : Place) (h : List Op) (children : Slot → List Identifier) (q : Identifier) → Lawful h → AllFit p h → IsTable p h children → IsIn p h q
+    (p : Place) (h : List Op) (children : Slot → List Identifier) (q : Identifier) → Lawful h → AllFit p h → IsTable p h children
+    → IsIn p h q
     → BeforeBlock children q (block_start (with_keys h (order p h)) (search_key_of h q) q)
 
 -- the siblings found by keys are the children of the slot, in order
@@ -65,7 +67,8 @@ abbrev pub GapByKeys : Type 0
 GapByKeys =
     (p : Place) (op : Op) (older : List Op) (x : Identifier) → Lawful (op ∷ older) → element_of p op ≡ Some x → AllFit p older
     → let s = slot_of older op in
-    IsPlace (gap_by_keys (with_keys older (order p older)) s (slot_key older s) (goes_before (order p older) older op x)) x (order p older) (order p (op ∷ older))
+    IsPlace (gap_by_keys (with_keys older (order p older)) s (slot_key older s) (goes_before (order p older) older op x)) x (order p older)
+    (order p (op ∷ older))
 
 -- the key of a new element is known from those of its origins
 abbrev pub NewKey : Type 0
@@ -75,7 +78,8 @@ NewKey =
 
 -- a later operation leaves the keys of what is there
 abbrev pub KeysStay : Type 0
-KeysStay = (p : Place) (op : Op) (older : List Op) → Lawful (op ∷ older) → with_keys (op ∷ older) (order p older) ≡ with_keys older (order p older)
+KeysStay = (p : Place) (op : Op) (older : List Op) → Lawful (op ∷ older)
+    → with_keys (op ∷ older) (order p older) ≡ with_keys older (order p older)
 
 -- an element behind its left origin, with the same right origin, as in a passage that is typed, is deeper by one, and its forest is 0
 abbrev pub RunKey : Type 0

@@ -1,5 +1,5 @@
--- The gap of a new element, found by keys: by searches for the next or the last element whose key is at most a given one. There is no table of
--- children: those of a slot are the elements of one key in a part of the list.
+-- The gap of a new element, found by keys: by searches for the next or the last element whose key is at most a given
+-- one. There is no table of children: those of a slot are the elements of one key in a part of the list.
 use Rattle.std.specs.Prelude.{ℕ, suc, ◌-◌, ◌^◌, Option, Some, None, unwrap_or, Bool, List}
 use Rattle.fugue_ids.specs.Identifiers.{Identifier}
 use Rattle.fugue_ids.specs.Keys.{Keyed, between, first_id, first_low, front_of, last_id, last_low, low_ids, rest_of}
@@ -21,8 +21,8 @@ widest d = record { depth = d; forest = 2 ^ 32 - 1 }
 abbrev pub block_end : List Keyed → ℕ → Identifier → Identifier
 block_end es d s = unwrap_or (last_id (front_of (first_low (widest d) (rest_of (Some s) es)) es)) s
 
--- the first of the block of q, which has key k: behind the last one before q whose key is at most k, or behind the beginning, the next that is no
--- deeper than q
+-- the first of the block of q, which has key k: behind the last one before q whose key is at most k, or behind the
+-- beginning, the next that is no deeper than q
 abbrev pub block_start : List Keyed → Key → Identifier → Identifier
 block_start es k q = unwrap_or (first_low (widest k.depth) (rest_of (last_low k (front_of (Some q) es)) es)) q
 
@@ -37,8 +37,8 @@ abbrev pub child_key : Slot → Key → Key
 child_key (RightOf l) k = record { depth = suc k.depth; forest = 0 }
 child_key (LeftOf q) k = record { depth = k.depth; forest = suc k.forest }
 
--- what stands directly before the part of the list in which the children of a slot stand, whose element has key k: the beginning, an element of a
--- lesser key, or the slot's own
+-- what stands directly before the part of the list in which the children of a slot stand, whose element has key k: the
+-- beginning, an element of a lesser key, or the slot's own
 abbrev pub part_from : List Keyed → Slot → Key → Option Identifier
 part_from es (RightOf l) k = l
 part_from es (LeftOf q) k = last_low k (front_of (Some q) es)
@@ -62,7 +62,8 @@ abbrev pub before_all : Option Identifier → Gap
 before_all None = Alone
 before_all (Some x) = Before x
 
--- the gap without an elder sibling: before all at the start, behind the parent of right children, and before the block of the parent of left ones
+-- the gap without an elder sibling: before all at the start, behind the parent of right children, and before the block
+-- of the parent of left ones
 abbrev pub no_elder_gap : List Keyed → Slot → Key → Gap
 no_elder_gap es (RightOf None) k = before_all (first_id es)
 no_elder_gap es (RightOf (Some l)) k = After l

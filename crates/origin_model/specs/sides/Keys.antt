@@ -16,7 +16,7 @@ depth_of h x = length (lefts h x)
 abbrev pub forest_of : List Op → Identifier → ℕ
 forest_of h x = length (rights h x) - 1
 
--- the key by which an element is found among its siblings
+-- the key, depth and forest, by which searches find an element of a place
 abbrev pub search_key_of : List Op → Identifier → Key
 search_key_of h x = record { depth = depth_of h x; forest = forest_of h x }
 
@@ -42,8 +42,8 @@ abbrev pub forest_above : List Op → Option Identifier → ℕ
 forest_above h None = 0
 forest_above h (Some r) = suc (forest_of h r)
 
--- the key of a new element with these origins: it is deeper by one than its left origin, and its forest is greater by one than that of its right
--- origin, where that has the same left origin, and otherwise 0
+-- the key of a new element with these origins: it is deeper by one than its left origin, and its forest is greater by
+-- one than that of its right origin, where that has the same left origin, and otherwise 0
 abbrev pub new_key : List Op → (left right : Option Identifier) → Key
 new_key h left right = record { depth = suc (depth_above h left); forest = forest_above h (right_beside h left right) }
 

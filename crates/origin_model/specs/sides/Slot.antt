@@ -49,7 +49,8 @@ abbrev pub goes_before : List Identifier → List Op → Op → Identifier → I
 goes_before finished older op x v = precedes (index_of_origin finished (right_at older v)) (index_of_origin finished (right_of op)) v x
 
 -- the children of a slot, parted where the new element x of the operation goes in
-pub record IsParted (finished : List Identifier) (older : List Op) (op : Op) (x : Identifier) (children elders youngers : List Identifier) : Type 0 where
+pub record IsParted (finished : List Identifier) (older : List Op) (op : Op) (x : Identifier)
+    (children elders youngers : List Identifier) : Type 0 where
   pub whole : children ≡ elders ++ youngers
   pub elder : All (λ v. goes_before finished older op x v ≡ true) elders
   pub younger : All (λ v. goes_before finished older op x v ≡ false) youngers

@@ -5,7 +5,8 @@ use Rattle.fugue_ids.specs.Ops.{id_of}
 use Rattle.fugue_ids.specs.declared.op.Op.{Op}
 use Rattle.origin_model.specs.operations.History.{has_op, accepted}
 use Rattle.origin_model.specs.order.Laws.{IsPartOf, SameOps, IsSameText}
-use Rattle.origin_model.specs.taking.Taking.{Held, MeetsNoLimit, nothing_held, Answer, TooMany, Full, held, held_from, kept, kept_from, answers_from, is_kept, IsSettled, settle, closure}
+use Rattle.origin_model.specs.taking.Taking.{Held, MeetsNoLimit, nothing_held, Answer, TooMany, Full, held, held_from, kept, kept_from}
+use Rattle.origin_model.specs.taking.Taking.{answers_from, is_kept, IsSettled, settle, closure}
 use Rattle.origin_model.specs.operations.Verdict.{names, verdict, Lawful}
 use Rattle.origin_model.specs.declared.operations.Verdict.TheVariants.{Ready}
 
@@ -83,7 +84,8 @@ kept_by_all replicas = flat_map kept_by replicas
 abbrev pub given_by_all : List Taker → List Op
 given_by_all replicas = flat_map given_by replicas
 
--- a replica that takes in all that others give, and besides it only what they kept, in any order, grouping and repetition, accepts the closure of the union of what all of them kept
+-- a replica that takes in all that others give, and besides it only what they kept, in any order, grouping and
+-- repetition, accepts the closure of the union of what all of them kept
 abbrev pub ClosureOfUnion : Type 0
 ClosureOfUnion =
     (r : Taker) (others : List Taker) (ops : List Op) → IsPartOf (given_by_all others) ops → IsPartOf ops (kept_by_all others)
@@ -124,8 +126,10 @@ StaysSettled = (hold most : ℕ) (s : Held) (ops : List Op) → IsSettled s → 
 -- a file's operations, with those behind them that a replica of that file kept of a list
 pub record IsSaved (hold most : ℕ) (file ops : List Op) : Type 0 where
   pub same_state : held hold most (file ++ kept_from hold most (held hold most file) ops) ≡ held_from hold most (held hold most file) ops
-  pub within_limits : WithinLimits (answers hold most file) → WithinLimits (answers hold most (file ++ kept_from hold most (held hold most file) ops))
-  pub has_place : MeetsNoLimit hold most nothing_held file → MeetsNoLimit hold most nothing_held (file ++ kept_from hold most (held hold most file) ops)
+  pub within_limits : WithinLimits (answers hold most file)
+      → WithinLimits (answers hold most (file ++ kept_from hold most (held hold most file) ops))
+  pub has_place : MeetsNoLimit hold most nothing_held file
+      → MeetsNoLimit hold most nothing_held (file ++ kept_from hold most (held hold most file) ops)
 
 -- saving the kept operations behind those of the file saves the state, and the file meets no limit that it did not meet before;
 -- where nothing was refused for want of a place, nothing is, even if something was Full

@@ -20,17 +20,21 @@ ClosureIsMonotone = (a b : List Op) → Consistent b → IsPartOf a b → IsPart
 abbrev pub AcceptedIsInClosure : Type 0
 AcceptedIsInClosure = (hold most : ℕ) (ops : List Op) → Consistent ops → IsPartOf (held hold most ops).history (closure ops)
 
--- a list is taken in after operations of which each is one of the list. Where no answer is TooMany, and nothing is accepted, all of the closure had been accepted
+-- a list is taken in after operations of which each is one of the list. Where no answer is TooMany, and nothing is
+-- accepted, all of the closure had been accepted
 abbrev pub QuietPassIsLast : Type 0
 QuietPassIsLast =
     (hold most : ℕ) (before ops : List Op) → Consistent ops → IsPartOf before ops → MeetsNoLimit hold most (held hold most before) ops
-    → (held_from hold most (held hold most before) ops).history ≡ (held hold most before).history → SameOps (held hold most before).history (closure ops)
+    → (held_from hold most (held hold most before) ops).history ≡ (held hold most before).history
+    → SameOps (held hold most before).history (closure ops)
 
 -- operations that are accepted already, or wait, change nothing when they are taken in again
 abbrev pub RepeatsChangeNothing : Type 0
-RepeatsChangeNothing = (hold most : ℕ) (s : Held) (ops : List Op) → IsSettled s → All (λ op. is_again s op ≡ true) ops → held_from hold most s ops ≡ s
+RepeatsChangeNothing = (hold most : ℕ) (s : Held) (ops : List Op) → IsSettled s → All (λ op. is_again s op ≡ true) ops
+    → held_from hold most s ops ≡ s
 
--- what a settled replica gives, its accepted operations and then those that wait, each in their order, leads from nothing to what it holds, where the limits are no less than its own
+-- what a settled replica gives, its accepted operations and then those that wait, each in their order, leads from
+-- nothing to what it holds, where the limits are no less than its own
 abbrev pub ReplicaIsRebuilt : Type 0
 ReplicaIsRebuilt =
     (s : State) (hold most : ℕ) → IsSound s → IsSettled s.held → s.hold ≤ hold → s.most ≤ most

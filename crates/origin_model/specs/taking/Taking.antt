@@ -1,5 +1,6 @@
 -- Taking operations in. A history is newest first; what waits stands in order of arrival.
-use Rattle.std.specs.Prelude.{◌≡◌, ◌≢◌, All, Option, Some, None, Bool, true, false, if◌then◌else◌, ◌||◌, List, [], ◌∷◌, ◌++◌, ℕ, ◌+◌, ◌-◌, nat_eq, length}
+use Rattle.std.specs.Prelude.{◌≡◌, ◌≢◌, All, Option, Some, None, Bool, true, false, if◌then◌else◌, ◌||◌, List, [], ◌∷◌, ◌++◌, ℕ, ◌+◌, ◌-◌}
+use Rattle.std.specs.Prelude.{nat_eq, length}
 use Rattle.fugue_ids.specs.Identifiers.{Identifier}
 use Rattle.fugue_ids.specs.Ops.{id_of}
 use Rattle.fugue_ids.specs.declared.op.Op.{Op}
@@ -95,7 +96,7 @@ abbrev pub settled_within : List Op → Held → Held
 settled_within [] s = s
 settled_within (op ∷ room) s = elim (settle_step s) [ None ↦ s | Some t ↦ settled_within room t ]
 
--- settling to its end
+-- what is held once all that became Ready or Stray has left the waiting operations
 unfoldable pub settle : Held → Held
 settle s = settled_within s.waiting s
 

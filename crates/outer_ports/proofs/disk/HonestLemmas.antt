@@ -2,7 +2,7 @@
 use Rattle.std.proofs.Common.{◌≡◌, inl, inr, ℕ, length, sym, subst}
 use Rattle.std.specs.Prelude.{Option, Some, None, IfSome, Ok, Err}
 use Rattle.outer_ports.specs.disk.States.{DiskState, IsHonest}
-use Rattle.outer_ports.specs.disk.Moments.{History, after_moment, MayHaveWritten}
+use Rattle.outer_ports.specs.disk.Moments.{History, past_after_step, MayHaveWritten}
 use Rattle.outer_ports.specs.disk.Laws.{ReadsStayHonest, SizesStayHonest, SyncsStayHonest, WritesStayHonest}
 use Rattle.outer_ports.proofs.disk.ImagesLemmas.{honest_at_rest, honest_torn, honest_wrote}
 
@@ -12,7 +12,7 @@ IsHonestPast past = IfSome past (λ h. IsHonest h.last)
 same_honest : (old new : Option History) → new ≡ old → IsHonestPast old → IsHonestPast new
 same_honest old new same honest = subst IsHonestPast (sym same) honest
 
-after_honest : (f : DiskState → DiskState) (old new : Option History) → new ≡ after_moment f old → IfSome old (λ h. IsHonest (f h.last)) → IsHonestPast new
+after_honest : (f : DiskState → DiskState) (old new : Option History) → new ≡ past_after_step f old → IfSome old (λ h. IsHonest (f h.last)) → IsHonestPast new
 after_honest f None new is honest = subst IsHonestPast (sym is) tt
 after_honest f (Some h) new is honest = subst IsHonestPast (sym is) honest
 

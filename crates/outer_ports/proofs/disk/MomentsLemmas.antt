@@ -37,7 +37,8 @@ since_leaves_only old new P image leaves left =
     let long : length (moments new) ≡ length leaves.recent + length (moments old) = ap length leaves.grows ∙ length-append leaves.recent (moments old) in
     let below : moment_number new - left.m < length leaves.recent = omega (arith, long, left.since, left.until) in
     let is : state_at new left.m ≡ get_or leaves.recent (moment_number new - left.m) new.last
-    = ap (λ (l : List DiskState). get_or l (moment_number new - left.m) new.last) leaves.grows ∙ get_or_append_left leaves.recent (moments old) new.last (moment_number new - left.m) below in
+    = ap (λ (l : List DiskState). get_or l (moment_number new - left.m) new.last) leaves.grows
+    ∙ get_or_append_left leaves.recent (moments old) new.last (moment_number new - left.m) below in
     leaves.each (moment_number new - left.m) new.last below image (subst (λ s. IsCrashImage s image) is left.left)
 
 -- what has P leaves nothing but what has Q
@@ -73,7 +74,8 @@ module _ (P : List ℕ → Type 0) where
   }
 
   -- the state that stands leaves nothing but what has P, if each that came does, and the one before them did
-  pub last_leaves : (old new : History) → LeavesOnly old new P → ((image : List ℕ) → IsCrashImage old.last image → P image) → (image : List ℕ) → IsCrashImage new.last image → P image
+  pub last_leaves : (old new : History) → LeavesOnly old new P → ((image : List ℕ) → IsCrashImage old.last image → P image) → (image : List ℕ) → IsCrashImage new.last image
+      → P image
   last_leaves old new leaves first = by_recent leaves.recent leaves.grows leaves.each
     where
       by_recent : (recent : List DiskState) → moments new ≡ recent ++ moments old → All HasOnly recent → HasOnly new.last

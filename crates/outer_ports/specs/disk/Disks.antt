@@ -1,10 +1,11 @@
 -- A disk, as contracts see it, and what each call does to it.
-use Rattle.std.specs.Prelude.{◌≡◌, ℕ, ◌+◌, ◌-◌, ◌^◌, ◌<◌, ◌≤◌, min, max, List, length, take, drop, Option, Some, None, Result, IfSome, IfOk, IsSome, OnOk, OnErr, option_map}
+use Rattle.std.specs.Prelude.{◌≡◌, ℕ, ◌+◌, ◌-◌, ◌^◌, ◌<◌, ◌≤◌, min, max, List, length, take, drop, Option, Some, None, Result, IfSome, IfOk}
+use Rattle.std.specs.Prelude.{IsSome, OnOk, OnErr, option_map}
 use Rattle.fugue_ids.specs.Causes.{HasCause}
 use Rattle.outer_ports.specs.Calls.{risen}
 use Rattle.outer_ports.specs.Counts.{FailsOnlyFor}
 use Rattle.outer_ports.specs.disk.States.{IsHonest, wrote, durable}
-use Rattle.outer_ports.specs.disk.Moments.{History, after_moment, MayHaveWritten}
+use Rattle.outer_ports.specs.disk.Moments.{History, past_after_step, MayHaveWritten}
 
 -- what all later calls together may use
 pub record RoomView : Type 0 where
@@ -31,9 +32,9 @@ abbrev pub DiskTells : DiskView → Type 0
 DiskTells disk = IsSome disk.past
 
 -- the room that a call leaves which writes n bytes
-abbrev pub spent_by_write : ℕ → Option RoomView → Option RoomView
-spent_by_write n None = None
-spent_by_write n (Some room) = Some (record { bytes = room.bytes - n; calls = room.calls - 1 })
+abbrev pub room_after_write : ℕ → Option RoomView → Option RoomView
+room_after_write n None = None
+room_after_write n (Some room) = Some (record { bytes = room.bytes - n; calls = room.calls - 1 })
 
 -- how far it was read once n bytes were asked for from an offset on, up to the greatest number
 abbrev pub reach_after : (at n before : ℕ) → ℕ
@@ -44,8 +45,8 @@ pub record IsUnread (old new : DiskView) : Type 0 where
   pub sizes : new.sizes ≡ old.sizes
   pub reach : new.reach ≡ old.reach
 
--- A call that only looks: it changes nothing but the count, and what was asked for, and is sure where calls are. Here and below, where the disk
--- tells, the count rises only with an error.
+-- A call that only looks: it changes nothing but the count, and what was asked for, and is sure where calls are. Here
+-- and below, where the disk tells, the count rises only with an error.
 pub record Looks {E T : Type 0} (old new : DiskView) (result : Result T E) : Type 0 where
   pub past : new.past ≡ old.past
   pub room : new.room ≡ old.room
@@ -84,9 +85,9 @@ pub record ReadsAt {E : Type 0} (old new : DiskView) (result : Result ℕ E) (at
 
 -- all bytes are written; where the call failed, their range may hold anything after a crash
 pub record WritesAt {E T : Type 0} (old new : DiskView) (result : Result T E) (at : ℕ) (bytes : List ℕ) : Type 0 where
-  pub wrote : OnOk result (new.past ≡ after_moment (wrote at bytes) old.past)
+  pub wrote : OnOk result (new.past ≡ past_after_step (wrote at bytes) old.past)
   pub torn : OnErr result (MayHaveWritten at (length bytes) old.past new.past)
-  pub room : OnOk result (new.room ≡ spent_by_write (length bytes) old.room)
+  pub room : OnOk result (new.room ≡ room_after_write (length bytes) old.room)
   pub same_room : OnErr result (new.room ≡ old.room)
   pub unread : IsUnread old new
   pub cause : HasCause old.faults new.faults result
@@ -96,9 +97,9 @@ pub record WritesAt {E T : Type 0} (old new : DiskView) (result : Result T E) (a
 -- what a read gives was one of the images, and is now the only one
 pub record Syncs {E T : Type 0} (old new : DiskView) (result : Result T E) : Type 0 where
   pub honest : OnOk result (IfSome old.past (λ h. IsHonest h.last))
-  pub settled : OnOk result (new.past ≡ after_moment durable old.past)
+  pub settled : OnOk result (new.past ≡ past_after_step durable old.past)
   pub past : OnErr result (new.past ≡ old.past)
-  pub room : OnOk result (new.room ≡ spent_by_write 0 old.room)
+  pub room : OnOk result (new.room ≡ room_after_write 0 old.room)
   pub same_room : OnErr result (new.room ≡ old.room)
   pub unread : IsUnread old new
   pub cause : HasCause old.faults new.faults result

@@ -31,7 +31,8 @@ SizesStayHonest = (old new : DiskView) (result : Result ℕ Failed) → Sizes ol
 
 -- So does one that is read.
 abbrev pub ReadsStayHonest : Type 0
-ReadsStayHonest = (old new : DiskView) (result : Result ℕ Failed) (at : ℕ) (buf : List ℕ) → ReadsAt old new result at buf → IsHonestDisk old → IsHonestDisk new
+ReadsStayHonest = (old new : DiskView) (result : Result ℕ Failed) (at : ℕ) (buf : List ℕ) → ReadsAt old new result at buf
+    → IsHonestDisk old → IsHonestDisk new
 
 -- So does one that is written to, also where the write failed and left its range torn.
 abbrev pub WritesStayHonest : Type 0

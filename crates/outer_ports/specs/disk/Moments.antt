@@ -24,9 +24,9 @@ abbrev pub history_after_step : (DiskState → DiskState) → History → Histor
 history_after_step f h = record { last = f h.last; before = h.last ∷ h.before }
 
 -- a disk's states with one more, where they are told
-abbrev pub after_moment : (DiskState → DiskState) → Option History → Option History
-after_moment f None = None
-after_moment f (Some h) = Some (history_after_step f h)
+abbrev pub past_after_step : (DiskState → DiskState) → Option History → Option History
+past_after_step f None = None
+past_after_step f (Some h) = Some (history_after_step f h)
 
 -- a crash may leave it now
 abbrev pub MayLeave : History → List ℕ → Type 0
@@ -62,4 +62,4 @@ LeavesOnlyTo old (Some new) P = LeavesOnly old new P
 -- a write that failed: nothing was done, or n bytes from an offset on may be anything
 abbrev pub MayHaveWritten : ℕ → ℕ → Option History → Option History → Type 0
 MayHaveWritten at n old new = (new ≡ old)
-    ⊎ ((seen : List ℕ) × (new ≡ after_moment (torn_state at n seen) old) × IfSome old (λ h. SameOutside at n h.last.seen seen))
+    ⊎ ((seen : List ℕ) × (new ≡ past_after_step (torn_state at n seen) old) × IfSome old (λ h. SameOutside at n h.last.seen seen))

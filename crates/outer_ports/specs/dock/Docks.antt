@@ -1,5 +1,6 @@
 -- A dock, as contracts see it, and what each call does to it.
-use Rattle.std.specs.Prelude.{◌≡◌, ◌≢◌, ℕ, ◌-◌, ◌<◌, List, [], ◌∷◌, ◌++◌, length, Option, Some, None, Result, IfSome, IfOk, IsSome, OnOk, OnErr, option_map}
+use Rattle.std.specs.Prelude.{◌≡◌, ◌≢◌, ℕ, ◌-◌, ◌<◌, List, [], ◌∷◌, ◌++◌, length, Option, Some, None, Result, IfSome, IfOk, IsSome, OnOk}
+use Rattle.std.specs.Prelude.{OnErr, option_map}
 use Rattle.std.specs.Io.KnownBytes.{append_known}
 use Rattle.fugue_ids.specs.Outs.{OutView, WritesSome}
 use Rattle.outer_ports.specs.Counts.{FailsOnlyFor}

@@ -1,5 +1,6 @@
 -- The steps of a dock: what a call gave, and what is left of the steps to come.
-use Rattle.std.specs.Prelude.{◌≡◌, ℕ, ◌+◌, ◌-◌, ◌^◌, ◌<◌, ◌≤◌, min, Bool, true, false, List, [], ◌∷◌, ◌++◌, length, take, drop, nat_eq, nat_lt, if◌then◌else◌, Option, Some, None, ⊤}
+use Rattle.std.specs.Prelude.{◌≡◌, ℕ, ◌+◌, ◌-◌, ◌^◌, ◌<◌, ◌≤◌, min, Bool, true, false, List, [], ◌∷◌, ◌++◌, length, take, drop, nat_eq}
+use Rattle.std.specs.Prelude.{nat_lt, if◌then◌else◌, Option, Some, None, ⊤}
 use Rattle.std.specs.List.{list_any, sum_by}
 use Rattle.outer_ports.specs.declared.dock.DockStep.{DockStep}
 use Rattle.outer_ports.specs.declared.dock.DockStep.TheVariants as given
@@ -20,9 +21,12 @@ pub record Turn : Type 0 where
 
 -- sessions come one after another, each with the next number
 abbrev pub InTurn : DockStep → Turn → Turn → Type 0
-InTurn (given.Opened session) old new = (old ≡ record old { is_open = false; session = session }) × (new ≡ record { is_open = true; is_ended = false; session = session })
+InTurn (given.Opened session) old new =
+    (old ≡ record old { is_open = false; session = session }) × (new ≡ record { is_open = true; is_ended = false; session = session })
 InTurn (given.Bytes session count) old new = (old ≡ record old { is_open = true; session = session }) × (new ≡ old)
-InTurn (given.Gone session) old new = (old ≡ record old { is_open = true; session = session }) × (new ≡ record old { is_open = false; session = min (session + 1) (2 ^ 32 - 1) })
+InTurn (given.Gone session) old new =
+    (old ≡ record old { is_open = true; session = session })
+    × (new ≡ record old { is_open = false; session = min (session + 1) (2 ^ 32 - 1) })
 
 -- a step that was given, with its bytes
 abbrev pub with_bytes : DockStep → List ℕ → MemStep

@@ -8,7 +8,7 @@ ghost use Rattle.origin_model.specs.edits.Refusal.{made_by, refusal_message};
 ghost use Rattle.replica_core.specs.Deleting.{AreWithin};
 ghost use Rattle.replica_core.specs.Edits.{IsCauseOf, typed_at};
 ghost use Rattle.origin_model.specs.edits.State.{IsSound};
-ghost use Rattle.section_list.specs.Cells.{section_cell_ids, section_cells_shown};
+ghost use Rattle.run_store.specs.Cells.{cell_ids, cells_shown};
 ghost use Rattle.origin_model.specs.edits.Landing.{following};
 
 use crate::{EditFault, Replica};
@@ -163,9 +163,9 @@ pub(crate) fn shown_part(
     at: usize,
     n: usize,
 ) -> Result<Vec<ElementId>, NoMemory>
-    requires { at + n ≤ length (section_cells_shown place.now.cells) }
+    requires { at + n ≤ length (cells_shown place.now.cells) }
     ensures part { IfOk result
-        (λ part. part.items ≡ take n (drop at (section_cell_ids (section_cells_shown place.now.cells)))) }
+        (λ part. part.items ≡ take n (drop at (cell_ids (cells_shown place.now.cells)))) }
     ensures some { OnErr result (0 < n) }
 {
     gather(alloc, &mut place.shown_from(at), n)
@@ -194,10 +194,10 @@ pub(crate) struct Origins {
 /// The origins of an element that comes before the shown one at the position, or behind all of them: the right one is
 /// the next of all elements, hidden or not. There are none for a position behind the end.
 pub(crate) fn origins_at(place: &SectionList, at: usize) -> Option<Origins>
-    ensures behind { result ≡ None → length (section_cells_shown place.now.cells) < at }
-    ensures inside { IfSome result (λ o. at ≤ length (section_cells_shown place.now.cells)) }
-    ensures left { IfSome result (λ o. o.left ≡ in_front (section_cell_ids (section_cells_shown place.now.cells)) at) }
-    ensures right { IfSome result (λ o. o.right ≡ following (section_cell_ids place.now.cells) o.left) }
+    ensures behind { result ≡ None → length (cells_shown place.now.cells) < at }
+    ensures inside { IfSome result (λ o. at ≤ length (cells_shown place.now.cells)) }
+    ensures left { IfSome result (λ o. o.left ≡ in_front (cell_ids (cells_shown place.now.cells)) at) }
+    ensures right { IfSome result (λ o. o.right ≡ following (cell_ids place.now.cells) o.left) }
 {
     if at > place.visible_count() {
         return None;
@@ -209,7 +209,7 @@ pub(crate) fn origins_at(place: &SectionList, at: usize) -> Option<Origins>
 
 /// The shown element in front of the position.
 fn left_of(place: &SectionList, at: usize) -> Option<ElementId>
-    ensures { result ≡ in_front (section_cell_ids (section_cells_shown place.now.cells)) at }
+    ensures { result ≡ in_front (cell_ids (cells_shown place.now.cells)) at }
 {
     match at.checked_sub(1) {
         Some(last) => place.nth_visible(last),
@@ -219,7 +219,7 @@ fn left_of(place: &SectionList, at: usize) -> Option<ElementId>
 
 /// The element behind the left origin.
 fn right_of(place: &SectionList, left: &Option<ElementId>) -> Option<ElementId>
-    ensures { result ≡ following (section_cell_ids place.now.cells) left.now }
+    ensures { result ≡ following (cell_ids place.now.cells) left.now }
 {
     place.after(*left)
 }

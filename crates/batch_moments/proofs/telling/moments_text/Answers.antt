@@ -20,7 +20,8 @@ moments-preserved c =
     let came : take c.saturating_sub.result c.moments.rest ≡ ops_between c.moments.from moment ops = λ k. take (c.saturating_sub.ensures k) (c.moments.invariant.rest k) in
     record {
       left =
-          ap (λ t. t ++ rest) (c.in_ok-put_line.ensures.line ∙ ap (λ (l : List Op). text ++ line_text (record { moment = moment; parts = told_parts l })) came) ∙ append_assoc text line rest
+          ap (λ t. t ++ rest) (c.in_ok-put_line.ensures.line ∙ ap (λ (l : List Op). text ++ line_text (record { moment = moment; parts = told_parts l })) came)
+          ∙ append_assoc text line rest
           ∙ ap (λ l. text ++ flat_map line_text l) (sym (lines_next moments i moment below refl c.moments.from ops)) ∙ c.moments.invariant.left;
       rest = c.behind_moment-rest.ensures;
     }

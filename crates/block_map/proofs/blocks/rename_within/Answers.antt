@@ -28,7 +28,8 @@ returns-in-Some-clause-blocks g c =
     let to = c.place_of-to_key in
     let same = same_key key to.result.0 c.ne.result c.ne.ensures c.if-ne.false in
     let change = block_replaced c.args.blocks.now (c.get_mut.follows.lender d) key (Some d) ((c.get_mut.follows.holds d).3 (ap is_some there)) in
-    let own = block_either key d was (c.requires.blocks key was there) c.rename.ensures.length c.place_of-key.result.1 to.result.1 (key_step c.args.to key to.result.1 (same ∙ to.ensures.key) to.ensures.counter)
+    let own = block_either key d was (c.requires.blocks key was there) c.rename.ensures.length c.place_of-key.result.1 to.result.1
+    (key_step c.args.to key to.result.1 (same ∙ to.ensures.key) to.ensures.counter)
     c.rename.result c.rename.ensures.renamed c.rename.ensures.refused in
     blocks_changed c.args.blocks.now (c.get_mut.follows.lender d) key (Some d) change c.requires.blocks (λ b f. that_block (IsBlockAt key) d b own f)
 
@@ -41,7 +42,8 @@ returns-in-Some-clause-renamed g c t =
     let there = sym c.in-Some.ensures.value in
     let same = same_key key to.result.0 c.ne.result c.ne.ensures c.if-ne.false in
     let change = block_replaced c.args.blocks.now (c.get_mut.follows.lender d) key (Some d) ((c.get_mut.follows.holds d).3 (ap is_some there)) in
-    renamed_in_block c.args.blocks.now (c.get_mut.follows.lender d) key (Some d) change c.args.from c.args.to (sym from.ensures.key) (sym (same ∙ to.ensures.key)) from.result.1 to.result.1 from.ensures.counter to.ensures.counter
+    renamed_in_block c.args.blocks.now (c.get_mut.follows.lender d) key (Some d) change c.args.from c.args.to (sym from.ensures.key)
+    (sym (same ∙ to.ensures.key)) from.result.1 to.result.1 from.ensures.counter to.ensures.counter
     (subst (λ (o : Option (Block g.row.V.Denot)). IsRenamed (value_within o) (value_at d) from.result.1 to.result.1) (sym there) (c.rename.ensures.renamed t))
 
 pub returns-in-Some-clause-refused : goal.returns-in-Some-clause-refused

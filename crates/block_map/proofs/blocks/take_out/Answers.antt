@@ -44,7 +44,8 @@ returns-else-is_empty-clause-blocks g c =
     let mid = c.get_mut.follows.lender d in
     let there = sym c.in-Some.ensures.value in
     let change = block_replaced m mid key (Some d) ((c.get_mut.follows.holds d).3 (ap is_some there)) in
-    let own = block_after key d (value_at was) place.result.1 None c.remove.ensures (some_length (length d.counters.items) c.if-is_empty.ensures.1) (key_step c.args.id key place.result.1 place.ensures.key place.ensures.counter)
+    let own = block_after key d (value_at was) place.result.1 None c.remove.ensures (some_length (length d.counters.items) c.if-is_empty.ensures.1)
+    (key_step c.args.id key place.result.1 place.ensures.key place.ensures.counter)
     (c.requires key was there).belongs in
     blocks_changed m mid key (Some d) change c.requires (λ b e. that_block (IsBlockAt key) d b own e)
 

@@ -26,7 +26,8 @@ heard-preserved c =
         held = sym (ap (λ (r : State). r.held) one.heard) i;
       });
       leads = (λ i. held_from start.hold start.most (ap (λ (r : State). r.held) one.heard i) (take (c.heard.left - 1) c.next_op.new.self))
-          ∙ (λ i. held_from start.hold start.most (intake (ap (λ (r : State). r.hold) inv.others i) (ap (λ (r : State). r.most) inv.others i) c.heard.replica.held op) (take (c.heard.left - 1) c.next_op.new.self))
+          ∙ (λ i. held_from start.hold start.most (intake (ap (λ (r : State). r.hold) inv.others i) (ap (λ (r : State). r.most) inv.others i) c.heard.replica.held op)
+          (take (c.heard.left - 1) c.next_op.new.self))
           ∙ hears_next start.hold start.most c.heard.replica.held op c.heard.rest c.next_op.new.self c.heard.left c.heard-test.true c.in-Some.ensures.taken
           ∙ inv.leads;
       settled = one.settled;

@@ -6,7 +6,8 @@ use Rattle.bulk_world.proofs.making.hear.Given as goal
 abbrev pub invariant-heard : goal.invariant-heard
 invariant-heard l = record {
   others : l.replica ≡ record l.fn.replica { held = l.replica.held };
-  leads : held_from l.fn.replica.hold l.fn.replica.most l.replica.held (take l.left l.rest) ≡ held_from l.fn.replica.hold l.fn.replica.most l.fn.replica.held (take l.fn.count l.fn.ops);
+  leads : held_from l.fn.replica.hold l.fn.replica.most l.replica.held (take l.left l.rest) ≡ held_from l.fn.replica.hold l.fn.replica.most l.fn.replica.held
+      (take l.fn.count l.fn.ops);
   settled : IsSettled l.replica.held;
 }
 

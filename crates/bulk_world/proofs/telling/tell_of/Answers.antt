@@ -6,9 +6,11 @@ use Rattle.bulk_world.proofs.telling.tell_of.Goals as goal
 pub returns-in-Some : goal.returns-in-Some
 returns-in-Some c =
     let bytes = ap Some c.as_str.ensures.value ∙ sym (ap (option_map string_bytes) c.in-Some.is) ∙ c.in_ok-text.ensures.text in
-    told_by c.args.first.now c.args.second.now _ _ _ _ c.summary_by.ensures (c.len-operations.ensures ∙ ap length c.accepted.ensures.accepted) (some_text c.args.first.now _ bytes c.as_str.utf8) c.in_ok-is_equal.ensures
+    told_by c.args.first.now c.args.second.now _ _ _ _ c.summary_by.ensures (c.len-operations.ensures ∙ ap length c.accepted.ensures.accepted)
+    (some_text c.args.first.now _ bytes c.as_str.utf8) c.in_ok-is_equal.ensures
 
 pub returns-in-None : goal.returns-in-None
 returns-in-None c =
-    told_by c.args.first.now c.args.second.now _ _ _ _ c.summary_by-in-None.ensures (c.len-operations.ensures ∙ ap length c.accepted.ensures.accepted) (no_text c.args.first.now (sym (ap (option_map string_bytes) c.in-None.is) ∙ c.in_ok-text.ensures.text))
+    told_by c.args.first.now c.args.second.now _ _ _ _ c.summary_by-in-None.ensures (c.len-operations.ensures ∙ ap length c.accepted.ensures.accepted)
+    (no_text c.args.first.now (sym (ap (option_map string_bytes) c.in-None.is) ∙ c.in_ok-text.ensures.text))
     c.in_ok-is_equal.ensures

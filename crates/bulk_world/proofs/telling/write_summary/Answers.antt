@@ -3,4 +3,10 @@ use Rattle.bulk_world.proofs.telling.write_summary.Goals as goal
 
 pub returns : goal.returns
 returns g c =
-    rw (c.as_bytes.ensures.value ∙ c.format.ensures.text, c.as_bytes-2.ensures.value ∙ c.format-2.ensures.text, c.as_bytes-3.ensures.value ∙ c.format-3.ensures.text, c.verdict_word.ensures) at c.write_pieces.ensures
+    rw (
+      c.as_bytes.ensures.value ∙ c.format.ensures.text,
+      c.as_bytes-2.ensures.value ∙ c.format-2.ensures.text,
+      c.as_bytes-3.ensures.value
+          ∙ c.format-3.ensures.text,
+      c.verdict_word.ensures,
+    ) at c.write_pieces.ensures

@@ -27,4 +27,5 @@ turns-preserved c =
 
 pub returns-clause-leads : goal.returns-clause-leads
 returns-clause-leads c =
-    none_left (TurnsLead c.args.count 1 c.args.seed c.args.first.now c.args.second.now) c.args.count c.turns.done c.turns.x c.turns.first c.turns.second c.turns-test.false c.turns.invariant.leads
+    none_left (TurnsLead c.args.count 1 c.args.seed c.args.first.now c.args.second.now) c.args.count c.turns.done c.turns.x c.turns.first c.turns.second c.turns-test.false
+    c.turns.invariant.leads

@@ -10,7 +10,8 @@ pub returns-in-Some : goal.returns-in-Some
 returns-in-Some c =
     let h = c.args.replica.now.held.history in
     let ns = c.args.list.now.nodes in
-    c.lift_of.ensures ∙ ap (option_and_then (lift_by (is_section h) ns)) c.in-Some.ensures.found ∙ read_at (lift_by (is_section h) ns) (nothing_lifted (is_section h) ns) (reverse h) c.args.at
+    c.lift_of.ensures ∙ ap (option_and_then (lift_by (is_section h) ns)) c.in-Some.ensures.found
+    ∙ read_at (lift_by (is_section h) ns) (nothing_lifted (is_section h) ns) (reverse h) c.args.at
 
 pub returns-in-None : goal.returns-in-None
 returns-in-None c =

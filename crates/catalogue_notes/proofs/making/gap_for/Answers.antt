@@ -21,7 +21,8 @@ pub returns : goal.returns
 returns c = λ h a.
     let at : Identifier → Identifier = position_in (get id_cmp c.args.arrangement.now.winners) in
     let left : c.left_for-left.result ≡ left_of_move h c.args.k c.args.j =
-    c.left_for-left.ensures ∙ mapped at (position h) a.positions (in_front (without_member c.args.arrangement.now.sections.items c.args.k) c.args.j) ∙ ap (λ z. option_map (position h) (in_front (without_member z c.args.k) c.args.j)) a.sections in
+    c.left_for-left.ensures ∙ mapped at (position h) a.positions (in_front (without_member c.args.arrangement.now.sections.items c.args.k) c.args.j)
+    ∙ ap (λ z. option_map (position h) (in_front (without_member z c.args.k) c.args.j)) a.sections in
     let right : c.right_for-right.result ≡ following (order catalogue (lift h)) (left_of_move h c.args.k c.args.j) =
     c.right_for-right.ensures ∙ (λ i. following (a.lifted.all i) (left i)) in
     λ i. record { left = left i; right = right i }

@@ -5,30 +5,32 @@ use Rattle.std.proofs.lemmas.Result.{err_from_is_err_and}
 use Rattle.fugue_ids.specs.Gathers.{GathersText}
 use Rattle.fugue_ids.proofs.GatherLemmas.{gathers_join, gathers_stop}
 use Rattle.origin_model.proofs.SharedLemmas.{section_joins}
-use Rattle.section_list.specs.Cells.{section_text}
+use Rattle.run_store.specs.Cells.{cell_text}
 use Rattle.catalogue_notes.proofs.printing.put_page.Goals as goal
 
 pub returns-in_err-put_heading : goal.returns-in_err-put_heading
 returns-in_err-put_heading g c =
     let title = c.args.title.now in
-    let body = encode_utf8_all (section_text c.args.text.now.cells) in
+    let body = encode_utf8_all (cell_text c.args.text.now.cells) in
     let p = err_from_is_err_and c.from_residual.result c.from_residual.ensures.1 in
-    rw p.1 (subst (GathersText {T = Unit {0}} (g.O.Out.seen c.args.output.now) (g.O.Out.seen c.put_heading.new.output) c.args.gather.now c.put_heading.new.gather (Err (record {}))) (section_joins title body)
+    rw p.1 (subst (GathersText {T = Unit {0}} (g.O.Out.seen c.args.output.now) (g.O.Out.seen c.put_heading.new.output) c.args.gather.now c.put_heading.new.gather
+    (Err (record {}))) (section_joins title body)
     (gathers_stop {T = Unit {0}} {S = Unit {0}} _ _ _ _ (codes "# " ++ title ++ 10 ∷ []) (body ++ 10 ∷ []) c.in_err-put_heading.ensures))
 
 pub returns-in_err-put_text : goal.returns-in_err-put_text
 returns-in_err-put_text g c =
     let title = c.args.title.now in
-    let body = encode_utf8_all (section_text c.args.text.now.cells) in
+    let body = encode_utf8_all (cell_text c.args.text.now.cells) in
     let p = err_from_is_err_and c.from_residual-in_err-put_text.result c.from_residual-in_err-put_text.ensures.1 in
-    rw p.1 (subst (GathersText {T = Unit {0}} (g.O.Out.seen c.args.output.now) (g.O.Out.seen c.put_text.new.output) c.args.gather.now c.put_text.new.gather (Err (record {}))) (section_joins title body)
+    rw p.1 (subst (GathersText {T = Unit {0}} (g.O.Out.seen c.args.output.now) (g.O.Out.seen c.put_text.new.output) c.args.gather.now c.put_text.new.gather (Err (record {})))
+    (section_joins title body)
     (gathers_join {T = Unit {0}} {S = Unit {0}} tt (Err (record {})) _ _ _ _ _ _ (codes "# " ++ title ++ 10 ∷ []) (body ++ 10 ∷ []) c.in_ok-put_heading.ensures
     (gathers_stop {T = Unit {0}} {S = Unit {0}} _ _ _ _ body (10 ∷ []) c.in_err-put_text.ensures)))
 
 pub returns : goal.returns
 returns g c =
     let title = c.args.title.now in
-    let body = encode_utf8_all (section_text c.args.text.now.cells) in
+    let body = encode_utf8_all (cell_text c.args.text.now.cells) in
     subst (GathersText {T = Unit {0}} (g.O.Out.seen c.args.output.now) (g.O.Out.seen c.put.new.out) c.args.gather.now c.put.new.self c.put.result) (section_joins title body)
     (gathers_join {T = Unit {0}} {S = Unit {0}} tt c.put.result _ _ _ _ _ _ (codes "# " ++ title ++ 10 ∷ []) (body ++ 10 ∷ []) c.in_ok-put_heading.ensures
     (gathers_join {T = Unit {0}} {S = Unit {0}} tt c.put.result _ _ _ _ _ _ body (10 ∷ []) c.in_ok-put_text.ensures c.put.ensures))

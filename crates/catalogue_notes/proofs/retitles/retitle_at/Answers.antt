@@ -9,7 +9,8 @@ use Rattle.catalogue_notes.proofs.retitles.retitle_at.Goals as goal
 pub returns-in-Some : goal.returns-in-Some
 returns-in-Some c =
     let h = c.args.replica.now.held.history in
-    c.valid_retitle.ensures ∙ ap (option_and_then (known_retitle (is_section h))) c.in-Some.ensures.found ∙ read_at (known_retitle (is_section h)) (not_retitled (is_section h)) (reverse h) c.args.at
+    c.valid_retitle.ensures ∙ ap (option_and_then (known_retitle (is_section h))) c.in-Some.ensures.found
+    ∙ read_at (known_retitle (is_section h)) (not_retitled (is_section h)) (reverse h) c.args.at
 
 pub returns-in-None : goal.returns-in-None
 returns-in-None c =

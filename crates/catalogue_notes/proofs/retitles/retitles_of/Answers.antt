@@ -19,7 +19,8 @@ P ops bids i = reverse bids ≡ map bid_of (retitles (Passed ops i))
 
 pub walk-init : goal.walk-init
 walk-init c =
-    walk_begins (P (reverse c.args.replica.now.held.history) c.new-bids.result.items) c.args.replica.now.held.history (reverse c.args.replica.now.held.history) c.sections_and_notes-at-items.result.now refl c.sections_and_notes-at-items.ensures.positions
+    walk_begins (P (reverse c.args.replica.now.held.history) c.new-bids.result.items) c.args.replica.now.held.history
+    (reverse c.args.replica.now.held.history) c.sections_and_notes-at-items.result.now refl c.sections_and_notes-at-items.ensures.positions
     (ap reverse c.new-bids.ensures.items ∙ sym (ap (map bid_of) no_retitles))
 
 pub walk-preserved : goal.walk-preserved
@@ -33,7 +34,8 @@ walk-preserved c =
     let e : reverse ops ≡ h = reverse-reverse h in
     let old : List Bid = c.walk.bids.items in
     let at = walk_comes (P ops old) ops (retitled_between ops old) positions k c.walk-test.true c.walk.invariant in
-    let adds = retitled_more ops p at.op (is_section h) (subst Lawful (sym e) c.sections_and_notes-at-items.ensures.stands.lawful) (λ (s : Identifier). ap (λ z. is_section z s) (sym e)) at.below at.is in
+    let adds = retitled_more ops p at.op (is_section h) (subst Lawful (sym e) c.sections_and_notes-at-items.ensures.stands.lawful)
+    (λ (s : Identifier). ap (λ z. is_section z s) (sym e)) at.below at.is in
     let read = read_there (known_retitle (is_section h)) ops p at.op c.retitle_at.result at.there c.retitle_at.ensures in
     let goes = λ (bids : List Bid). λ (holds : reverse bids ≡ map bid_of (retitles (at.op ∷ passed))).
     walk_goes_on (P ops old) (P ops bids) ops positions k p at (passed_step (λ z. reverse bids ≡ map bid_of (retitles z)) ops p at.op at.below at.is holds) in
@@ -55,4 +57,5 @@ returns-clause-retitles c =
     let h : List Op = c.args.replica.now.held.history in
     let ops : List Op = reverse h in
     subst (λ z. reverse c.walk.bids.items ≡ map bid_of (retitles z)) (passed_all ops (length ops) (omega arith) ∙ reverse-reverse h)
-    (walk_ends (P ops c.walk.bids.items) ops (retitled_between ops c.walk.bids.items) c.sections_and_notes-at-items.result.now c.walk.at-index (omega (arith, c.walk-test.false)) c.walk.invariant)
+    (walk_ends (P ops c.walk.bids.items) ops (retitled_between ops c.walk.bids.items) c.sections_and_notes-at-items.result.now c.walk.at-index
+    (omega (arith, c.walk-test.false)) c.walk.invariant)

@@ -7,4 +7,9 @@ use Rattle.catalogue_notes.proofs.winning.take_bid.Goals as goal
 pub returns : goal.returns
 returns c =
     let u = c.in_ok-insert.ensures.updates in
-    record { ok = record { here = u.1 ∙ ap Some (c.better-best.ensures ∙ ap (better_bid c.args.bid) c.get.ensures.value); others = λ y d. u.2 y (id_at-other c.args.bid.section y d) } }
+    record {
+      ok = record {
+        here = u.1 ∙ ap Some (c.better-best.ensures ∙ ap (better_bid c.args.bid) c.get.ensures.value);
+        others = λ y d. u.2 y (id_at-other c.args.bid.section y d);
+      };
+    }

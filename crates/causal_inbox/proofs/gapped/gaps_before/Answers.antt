@@ -24,7 +24,11 @@ halves-preserved-then-gaps-middle c =
     record {
       order = omega (arith, c.halves-test.true);
       within = c.halves.invariant.within;
-      least = omega (arith, is_passed c.requires.from c.args.gaps.now c.requires.end c.args.place middle c.requires.in_order in_list (omega (arith, c.if-gaps-middle.true, behind)));
+      least = omega (
+        arith,
+        is_passed c.requires.from c.args.gaps.now c.requires.end c.args.place middle c.requires.in_order in_list
+            (omega (arith, c.if-gaps-middle.true, behind)),
+      );
       most = c.halves.invariant.most;
     }
 

@@ -29,7 +29,8 @@ gaps-preserved g c =
     let size : ℕ = c.gaps.size in
     let gap : ℕ = get_or c.args.gaps.now c.gaps.gap-index 0 in
     let others : List ℕ = drop (c.gaps.gap-index + 1) c.args.gaps.now in
-    let next : AreGaps (at + size) (gap ∷ others) (length c.gaps.items) = next_gap (at + size) c.args.gaps.now c.gaps.gap-index (length c.gaps.items) c.gaps-test.true c.gaps.invariant.in_order in
+    let next : AreGaps (at + size) (gap ∷ others) (length c.gaps.items) =
+    next_gap (at + size) c.args.gaps.now c.gaps.gap-index (length c.gaps.items) c.gaps-test.true c.gaps.invariant.in_order in
     let on : gap + 1 ≡ gap - size + (size + 1) = omega (arith, next.0) in
     record {
       size = omega (arith, c.gaps.invariant.size);

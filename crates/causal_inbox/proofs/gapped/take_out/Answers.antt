@@ -27,7 +27,8 @@ returns-clause-rest g c =
     let before : at - c.args.gone - c.args.position ≡ gaps_before gaps place = omega (arith, there) in
     (λ i. between_gaps (set items at (c.replace-item.ensures.after i)) c.args.gone (c.note_gap.ensures.gaps i))
     ∙ ap (λ k. between_gaps (set items at c.args.filler) c.args.gone (insert gaps k at)) before
-    ∙ item_gone items c.args.gone gaps c.args.position at c.index-items-at.result c.args.filler (lies_at items c.args.gone gaps c.args.position at c.requires.in_order c.requires.within there) c.index-items-at.is
+    ∙ item_gone items c.args.gone gaps c.args.position at c.index-items-at.result c.args.filler
+    (lies_at items c.args.gone gaps c.args.position at c.requires.in_order c.requires.within there) c.index-items-at.is
 
 pub returns-clause-in_order : goal.returns-clause-in_order
 returns-clause-in_order g c =
@@ -40,4 +41,5 @@ returns-clause-in_order g c =
     let long : length (set items at c.replace-item.new.dest) ≡ length items = length-set items at c.replace-item.new.dest in
     let noted : c.note_gap.new.gaps.items ≡ insert gaps (gaps_before gaps place) at = c.note_gap.ensures.gaps ∙ ap (λ k. insert gaps k at) before in
     subst (λ l. AreGaps c.args.gone l (length (set items at c.replace-item.new.dest))) (sym noted)
-    (subst (AreGaps c.args.gone (insert gaps (gaps_before gaps place) at)) (sym long) (lies_at items c.args.gone gaps c.args.position at c.requires.in_order c.requires.within there).in_order)
+    (subst (AreGaps c.args.gone (insert gaps (gaps_before gaps place) at)) (sym long)
+    (lies_at items c.args.gone gaps c.args.position at c.requires.in_order c.requires.within there).in_order)

@@ -9,7 +9,9 @@ pub returns-in-Some : goal.returns-in-Some
 returns-in-Some c =
     let range = c.range.ensures.in_range c.new.ensures.exhausted in
     let entry = range.3 _ _ c.in-Some.ensures.steps in (
-      λ yes. from_entry c.args.lists.now c.args.first c.args.count _ _ _ c.requires.some (c.new.ensures.start ∙ c.own_key.ensures) (c.new.ensures.end ∙ c.named_key.ensures ∙ ap (λ (x : Identifier). key_of_naming (record { replica = x.replica; counter = x.counter + (c.args.count - 1) })) c.first.view_is)
+      λ yes. from_entry c.args.lists.now c.args.first c.args.count _ _ _ c.requires.some (c.new.ensures.start ∙ c.own_key.ensures)
+          (c.new.ensures.end ∙ c.named_key.ensures ∙ ap
+          (λ (x : Identifier). key_of_naming (record { replica = x.replica; counter = x.counter + (c.args.count - 1) })) c.first.view_is)
           entry.0.0 entry.0.1 (ap is_some entry.1),
       λ l. refl,
     )
@@ -18,6 +20,8 @@ pub returns-in-None : goal.returns-in-None
 returns-in-None c =
     let range = c.range.ensures.in_range c.new.ensures.exhausted in (
       λ e. cc,
-      λ l. absurd (no_entry_from c.args.lists.now c.args.first c.args.count _ _ c.requires.some (c.new.ensures.start ∙ c.own_key.ensures) (c.new.ensures.end ∙ c.named_key.ensures ∙ ap (λ (x : Identifier). key_of_naming (record { replica = x.replica; counter = x.counter + (c.args.count - 1) })) c.first.view_is)
+      λ l. absurd (no_entry_from c.args.lists.now c.args.first c.args.count _ _ c.requires.some (c.new.ensures.start ∙ c.own_key.ensures)
+          (c.new.ensures.end ∙ c.named_key.ensures ∙ ap
+          (λ (x : Identifier). key_of_naming (record { replica = x.replica; counter = x.counter + (c.args.count - 1) })) c.first.view_is)
           (range.5 c.in-None.ensures.steps.0) l),
     )

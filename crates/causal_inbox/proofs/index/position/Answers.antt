@@ -15,6 +15,7 @@ pub returns : goal.returns
 returns c =
     let ages = c.args.ages.now.items in
     c.len-2.ensures ∙ sym (position_none ages c.args.age c.first_from-first.result c.requires c.first_from-first.ensures (elim c.else-first-len.branch [
-      | else-first-len-via-then-first-len+else-get-age w ↦ λ l e. w.if-get-age.false (sym (get_or_from_slice_get ages c.first_from-first.result w.get.result.now 0 w.get.ensures) ∙ e)
+      | else-first-len-via-then-first-len+else-get-age w ↦
+          λ l e. w.if-get-age.false (sym (get_or_from_slice_get ages c.first_from-first.result w.get.result.now 0 w.get.ensures) ∙ e)
       | else-first-len-via-else-first-len w ↦ λ l e. omega (arith, l, w.if-first-len.false, c.len.ensures)
     ]))

@@ -17,5 +17,6 @@ pub returns : goal.returns
 returns g c =
     let lines = flat_map author_line (passages c.args.replica.now.held.history c.args.section) in
     gathers_join {T = Unit {0}} {S = Unit {0}} tt c.put_passages.result _ _ _ _ _ _ (section_line c.args.place c.args.section) lines c.in_ok-put_section_line.ensures
-    (subst (GathersText {T = Unit {0}} (g.O.Out.seen c.put_section_line.new.output) (g.O.Out.seen c.put_passages.new.output) c.put_section_line.new.gather c.put_passages.new.gather c.put_passages.result)
+    (subst (GathersText {T = Unit {0}} (g.O.Out.seen c.put_section_line.new.output)
+    (g.O.Out.seen c.put_passages.new.output) c.put_section_line.new.gather c.put_passages.new.gather c.put_passages.result)
     (ap (λ ids. flat_map author_line (by_replica ids)) c.elements_of-list.ensures.shown) c.put_passages.ensures)

@@ -9,5 +9,6 @@ pub returns : goal.returns
 returns g c =
     let text = authors_text c.args.now.now in
     flush_writes {T = Unit {0}} {S = Unit {0}} tt c.flush.result _ _ _ _ text
-    (subst (λ w. GathersText {T = Unit {0}} (g.O.Out.seen c.args.output.now) (g.O.Out.seen c.put_sections.new.output) w c.put_sections.new.gather (Ok tt) text) c.new-gather.ensures c.in_ok-put_sections.ensures)
+    (subst (λ w. GathersText {T = Unit {0}} (g.O.Out.seen c.args.output.now) (g.O.Out.seen c.put_sections.new.output) w c.put_sections.new.gather (Ok tt) text)
+    c.new-gather.ensures c.in_ok-put_sections.ensures)
     c.flush.ensures.text

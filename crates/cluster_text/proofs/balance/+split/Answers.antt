@@ -8,7 +8,8 @@ returns-else-n-before-clause-front t c =
     let before : c.len-before.result ≡ length c.in-Some.left = omega (arith, c.len-before.ensures, c.if-n-before.false, c.ranges.n.fits) in
     let past : length c.in-Some.left < c.args.n = omega (arith, before, c.if-n-before.false) in
     c.join-else-n-before.ensures
-    ∙ ap (λ (ps : List Part). c.in-Some.left ++ c.in-Some.middle.value.part ∷ ps) (c.split-front-else-n-before.ensures.front ∙ ap (λ k. take (c.args.n - k - 1) c.in-Some.right) before)
+    ∙ ap (λ (ps : List Part). c.in-Some.left ++ c.in-Some.middle.value.part ∷ ps)
+    (c.split-front-else-n-before.ensures.front ∙ ap (λ k. take (c.args.n - k - 1) c.in-Some.right) before)
     ∙ sym (ap (take c.args.n) (c.in-Some.ensures.some) ∙ take-past c.in-Some.middle.value.part c.in-Some.right c.args.n c.in-Some.left past)
 
 pub returns-else-n-before-clause-back : goal.returns-else-n-before-clause-back

@@ -12,12 +12,19 @@ scalars-init c = (c.utf8.text, passed-none c.args.text.now c.new-ending.result c
 
 pub returns-then-opens : goal.returns-then-opens
 returns-then-opens c =
-    cut_at_border c.args.text.now c.scalars.rest.now c.in-Some.behind.now c.scalars.ending c.in-Some.next c.scalars.invariant.1 (omega (arith, c.if-text-rest-ge-SHORT.true)) c.in-Some.ensures.some
+    cut_at_border c.args.text.now c.scalars.rest.now c.in-Some.behind.now c.scalars.ending c.in-Some.next c.scalars.invariant.1
+    (omega (arith, c.if-text-rest-ge-SHORT.true)) c.in-Some.ensures.some
     (sym c.is_closed.ensures ∙ c.if-is_closed.true) (sym c.opens.ensures ∙ c.if-opens.true)
 
 pub scalars-smaller : goal.scalars-smaller
 scalars-smaller c =
-    omega (arith, ap length c.in-Some.ensures.some, length-append (encode_utf8 c.in-Some.next) c.in-Some.behind.now, length-encode c.in-Some.next, (len_utf8_bounds c.in-Some.next).0)
+    omega (
+      arith,
+      ap length c.in-Some.ensures.some,
+      length-append (encode_utf8 c.in-Some.next) c.in-Some.behind.now,
+      length-encode c.in-Some.next,
+      (len_utf8_bounds c.in-Some.next).0,
+    )
 
 pub scalars-preserved : goal.scalars-preserved
 scalars-preserved c =

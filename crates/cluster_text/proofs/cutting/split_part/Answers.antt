@@ -21,7 +21,8 @@ returns-clause-part c =
 pub returns-clause-rest : goal.returns-clause-rest
 returns-clause-rest c =
     let border = c.pass_part-rest.ensures in
-    subst (λ t. IsWhole t) (sym (c.split_at-2.ensures.back ∙ splits-rest _ _ _ border.splits)) (rest_alone c.args.text.now c.pass_part-rest.result.now border c.utf8.text c.requires)
+    subst (λ t. IsWhole t) (sym (c.split_at-2.ensures.back ∙ splits-rest _ _ _ border.splits))
+    (rest_alone c.args.text.now c.pass_part-rest.result.now border c.utf8.text c.requires)
 
 pub returns-then-text-le-LONG-clause-utf8 : goal.returns-then-text-le-LONG-clause-utf8
 returns-then-text-le-LONG-clause-utf8 c =

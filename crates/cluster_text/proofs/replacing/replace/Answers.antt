@@ -24,9 +24,11 @@ overflow_add-last c =
 pub cut_up-requires : goal.cut_up-requires
 cut_up-requires c =
     let text = string_bytes c.gather.new.text in
-    let way = subst (λ (t : List ℕ). IsGathered c.args.parts.now t text (c.find_spot-last.result.part + 1) c.in_ok-behind.behind) c.in_ok-text.ensures c.in_ok-behind.ensures.gathered in
+    let way = subst (λ (t : List ℕ). IsGathered c.args.parts.now t text (c.find_spot-last.result.part + 1) c.in_ok-behind.behind) c.in_ok-text.ensures
+    c.in_ok-behind.ensures.gathered in
     ap stands_alone c.as_str.ensures.value
-    ∙ text_alone c.args.parts.now (c.args.at - 1) c.args.end _ _ _ _ c.find_spot-first.ensures c.find_spot-last.ensures c.get.result.now c.get-2.result.now c.get.ensures c.get-2.ensures
+    ∙ text_alone c.args.parts.now (c.args.at - 1) c.args.end _ _ _ _ c.find_spot-first.ensures c.find_spot-last.ensures c.get.result.now c.get-2.result.now c.get.ensures
+    c.get-2.ensures
     c.args.new.now text c.utf8.new _ way c.in_ok-behind.ensures.closed c.requires.closed
 
 pub splice-requires : goal.splice-requires
@@ -38,9 +40,11 @@ splice-requires c =
 pub returns-clause-ok : goal.returns-clause-ok
 returns-clause-ok c =
     let text = string_bytes c.gather.new.text in
-    let way = subst (λ (t : List ℕ). IsGathered c.args.parts.now t text (c.find_spot-last.result.part + 1) c.in_ok-behind.behind) c.in_ok-text.ensures c.in_ok-behind.ensures.gathered in
+    let way = subst (λ (t : List ℕ). IsGathered c.args.parts.now t text (c.find_spot-last.result.part + 1) c.in_ok-behind.behind) c.in_ok-text.ensures
+    c.in_ok-behind.ensures.gathered in
     let at : (c.args.at - 1) + 1 ≡ c.args.at = omega (arith, c.requires.some) in
     ap whole c.splice.ensures
-    ∙ replaced_is c.args.parts.now (c.args.at - 1) c.args.end _ _ _ _ c.find_spot-first.ensures c.find_spot-last.ensures c.get.result.now c.get-2.result.now c.get.ensures c.get-2.ensures
+    ∙ replaced_is c.args.parts.now (c.args.at - 1) c.args.end _ _ _ _ c.find_spot-first.ensures c.find_spot-last.ensures c.get.result.now c.get-2.result.now c.get.ensures
+    c.get-2.ensures
     c.args.new.now text c.utf8.new _ way c.in_ok-cut.cut (c.in_ok-cut.ensures ∙ c.as_str.ensures.value)
     ∙ ap (λ k. encode_utf8_all (splice (chars (whole c.args.parts.now)) k c.args.end (chars c.args.new.now))) at

@@ -10,7 +10,8 @@ returns-in_err-write_tally-clause-text g c =
     rw (p.1, p.2) (text_stops c.in_err-write_tally.field-0.0 _ _ _ (cursor_line c.args.cursor) c.in_err-write_tally.ensures.text)
 
 pub returns-in_err-write_tally-clause-short : goal.returns-in_err-write_tally-clause-short
-returns-in_err-write_tally-clause-short g c = exchange_short (counts_line c.args.counts.now.tally c.args.counts.now.waiting) c.args.cursor c.ranges.cursor.fits c.write_tally.ensures.short
+returns-in_err-write_tally-clause-short g c =
+    exchange_short (counts_line c.args.counts.now.tally c.args.counts.now.waiting) c.args.cursor c.ranges.cursor.fits c.write_tally.ensures.short
 
 pub returns-clause-text : goal.returns-clause-text
 returns-clause-text g c = text_joins c.in_ok-write_tally.field-0 _ _ _ _ _ _ c.in_ok-write_tally.ensures.text c.write_cursor.ensures.text

@@ -26,7 +26,8 @@ returns-in_err-append-clause-given g c file holds =
       given.0,
       given_unsaved (g.T.Gives.giver c.args.giver.now file c.args.from.now c.give.new.from given.0) c.args.replica.now c.give.new.replica c.give.new.kept c.args.end
           (change (g.H.Disk.seen c.args.home.now) (g.H.Disk.seen c.append.new.disk)) c.in_ok-note.note c.to_save.result c.in_err-append.field-0.0
-          (c.to_save.ensures ∙ ap (λ k. to_save c.in_ok-note.note k c.give.new.replica c.give.new.kept) (c.len-before.ensures ∙ ap length c.accepted.ensures.accepted)) given.1 c.in_err-append.ensures,
+          (c.to_save.ensures ∙ ap (λ k. to_save c.in_ok-note.note k c.give.new.replica c.give.new.kept) (c.len-before.ensures ∙ ap length c.accepted.ensures.accepted)) given.1
+          c.in_err-append.ensures,
     )
 
 pub returns-in_err-append-clause-told : goal.returns-in_err-append-clause-told
@@ -40,7 +41,8 @@ returns-clause-given g c file holds =
       given.0,
       given_saved (g.T.Gives.giver c.args.giver.now file c.args.from.now c.give.new.from given.0) c.args.replica.now c.give.new.replica c.give.new.kept c.args.end
           (change (g.H.Disk.seen c.args.home.now) (g.H.Disk.seen c.append.new.disk)) c.in_ok-note.note c.to_save.result _
-          (c.to_save.ensures ∙ ap (λ k. to_save c.in_ok-note.note k c.give.new.replica c.give.new.kept) (c.len-before.ensures ∙ ap length c.accepted.ensures.accepted)) given.1 c.in_ok-append.ensures,
+          (c.to_save.ensures ∙ ap (λ k. to_save c.in_ok-note.note k c.give.new.replica c.give.new.kept) (c.len-before.ensures ∙ ap length c.accepted.ensures.accepted)) given.1
+          c.in_ok-append.ensures,
     )
 
 pub returns-clause-told : goal.returns-clause-told

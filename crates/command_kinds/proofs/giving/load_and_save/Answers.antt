@@ -21,7 +21,8 @@ returns-in_err-replica-clause-saves g c =
     let p = err_from_is_err_and c.from_residual.result c.from_residual.ensures.1 in
     rw (p.1, p.2) (
       Refuses NoMemory,
-      load_stops (g.T.Gives.giver c.args.giver.now (g.H.Disk.seen c.args.home.now) c.args.from.now c.args.from.now (Refuses NoMemory)) (change (g.H.Disk.seen c.args.home.now) (g.H.Disk.seen c.load.new.disk))
+      load_stops (g.T.Gives.giver c.args.giver.now (g.H.Disk.seen c.args.home.now) c.args.from.now c.args.from.now (Refuses NoMemory))
+          (change (g.H.Disk.seen c.args.home.now) (g.H.Disk.seen c.load.new.disk))
           c.in_err-replica.field-0.0 c.in_err-replica.ensures,
     )
 
@@ -30,7 +31,8 @@ returns-clause-unused g c told why refuses = absurd (holds_or_refuses (g.H.Disk.
 
 pub returns-clause-told : goal.returns-clause-told
 returns-clause-told g c tells inside =
-    c.give_and_save-saved.ensures.told (tells_settled _ _ (loaded_synced _ _ _ _ c.in_ok-replica.ensures).0 tells) inside ∙ c.in_ok-replica.ensures.faults.calm_told tells (λ is. cc is)
+    c.give_and_save-saved.ensures.told (tells_settled _ _ (loaded_synced _ _ _ _ c.in_ok-replica.ensures).0 tells) inside
+    ∙ c.in_ok-replica.ensures.faults.calm_told tells (λ is. cc is)
 
 pub returns-in_err-replica-clause-told : goal.returns-in_err-replica-clause-told
 returns-in_err-replica-clause-told g c tells inside =

@@ -17,7 +17,8 @@ pub returns-in-Err-clause-saves : goal.returns-in-Err-clause-saves
 returns-in-Err-clause-saves g c =
     let course = c.in-Err.ensures.saves.0 in (
       course,
-      rw c.tell.ensures.status (told_saves (g.T.Gives.giver c.args.giver.now (g.H.Disk.seen c.args.home.now) c.args.from.now c.load_and_save.new.from course) (c.laws.ensures.once _ _ _ course) _
+      rw c.tell.ensures.status
+          (told_saves (g.T.Gives.giver c.args.giver.now (g.H.Disk.seen c.args.home.now) c.args.from.now c.load_and_save.new.from course) (c.laws.ensures.once _ _ _ course) _
           (change (g.N.Out.seen c.args.notes.now) (g.N.Out.seen c.tell.new.notes)) c.tell.ensures.told.calm c.in-Err.why c.in-Err.ensures.saves.1 c.tell.ensures.told
           (λ tells inside. c.in-Err.ensures.told tells (not_blamed c.in-Err.why inside))),
     )

@@ -35,5 +35,6 @@ returns c =
     let two = rw (c.of-waiting.ensures, c.waiting.ensures.waiting) at c.in_ok-take_copies-2.ensures.kept in
     record {
       gives = merge_gives c.args.replica.now c.take_copies-2.new.replica c.args.other.now c.take_copies-2.new.tally c.take_copies-2.new.kept (takes_on _ _ _ _ _ _ _ _ first then)
-          (both_kept c.args.replica.now c.take_copies.new.replica (accepted c.args.other.now.held.history) c.args.other.now.held.waiting (Some []) c.take_copies.new.kept c.take_copies-2.new.kept first.replica one two) c.of.result c.requires.ready.settled c.of.ensures;
+          (both_kept c.args.replica.now c.take_copies.new.replica (accepted c.args.other.now.held.history) c.args.other.now.held.waiting
+          (Some []) c.take_copies.new.kept c.take_copies-2.new.kept first.replica one two) c.of.result c.requires.ready.settled c.of.ensures;
     }

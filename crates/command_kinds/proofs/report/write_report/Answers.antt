@@ -3,7 +3,7 @@ use Rattle.command_kinds.proofs.ReportLemmas.{load_refused, report_written}
 use Rattle.command_kinds.proofs.report.write_report.Goals as goal
 
 pub returns-in-Ok : goal.returns-in-Ok
-returns-in-Ok g c = report_written _ c.laws.ensures _ _ _ _ _ _ c.in-Ok.ensures c.write_held-status.ensures
+returns-in-Ok g c = report_written _ c.laws.ensures _ _ _ _ c.in-Ok.ensures _ _ c.write_held-status.ensures
 
 pub returns-in-Err : goal.returns-in-Err
 returns-in-Err g c =

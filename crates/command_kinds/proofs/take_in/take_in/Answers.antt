@@ -8,7 +8,8 @@ pub frames-init : goal.frames-init
 frames-init g c =
     let fresh = c.in_ok-new.ensures.fresh in
     record {
-      fed = fed_nothing _ _ _ (ap (λ (r : FrameReading). r.todo) fresh) (ap (λ (r : FrameReading). r.unread) fresh) (ap (λ (r : FrameReading). r.offset) fresh) refl (fresh_counts _ c.default.ensures);
+      fed = fed_nothing _ _ _ (ap (λ (r : FrameReading). r.todo) fresh) (ap (λ (r : FrameReading). r.unread) fresh) (ap (λ (r : FrameReading). r.offset) fresh) refl
+          (fresh_counts _ c.default.ensures);
       ready = record {
         no_fault = ap (λ (r : FrameReading). r.fault) fresh;
         limit = ap (λ (r : FrameReading). r.limit) fresh;
@@ -16,14 +17,23 @@ frames-init g c =
         settled = c.requires.settled;
         few = omega (arith, c.requires.few, ap (λ (r : FrameReading). length r.todo) fresh);
       };
-      count = record { later = omega arith; rose = λ failed. absurd failed; sure = refl; succeeds = λ sure failed. failed; calm = λ sure. refl; tells = λ tells. tells; calm_told = λ tells none. refl };
+      count = record {
+        later = omega arith;
+        rose = λ failed. absurd failed;
+        sure = refl;
+        succeeds = λ sure failed. failed;
+        calm = λ sure. refl;
+        tells = λ tells. tells;
+        calm_told = λ tells none. refl;
+      };
     }
 
 pub returns-in_err-step-clause-err : goal.returns-in_err-step-clause-err
 returns-in_err-step-clause-err g c =
     let kept = c.frames.invariant in
     let p = err_from_is_err_and c.from_residual-in_err-step.result c.from_residual-in_err-step.ensures.1 in
-    rw (p.1, p.2) (fed_stops _ _ _ _ (record { reader = c.step.new.self.reader; replica = c.step.new.replica; counts = c.step.new.self.tally; kept = c.step.new.kept }) _ _ kept.fed c.in_err-step.field-0.0 _ refl kept.ready.limit kept.ready.by_grammar c.in_err-step.ensures.steps)
+    rw (p.1, p.2) (fed_stops _ _ _ _ (record { reader = c.step.new.self.reader; replica = c.step.new.replica; counts = c.step.new.self.tally; kept = c.step.new.kept }) _ _
+    kept.fed c.in_err-step.field-0.0 _ refl kept.ready.limit kept.ready.by_grammar c.in_err-step.ensures.steps)
 
 pub frames-preserved : goal.frames-preserved
 frames-preserved g c =

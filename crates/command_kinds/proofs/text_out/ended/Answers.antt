@@ -1,8 +1,6 @@
-use Rattle.std.proofs.Common.{subst}
-use Rattle.command_kinds.proofs.TextOutLemmas.{not_all_out}
-use Rattle.command_kinds.specs.TextOut.{GoesOut}
+use Rattle.command_kinds.proofs.ActLemmas.{told_result}
+use Rattle.command_kinds.specs.Acts.{all_done, no_line}
 use Rattle.command_kinds.proofs.text_out.ended.Goals as goal
 
-pub returns-in-Err-clause-out : goal.returns-in-Err-clause-out
-returns-in-Err-clause-out g c bytes output goes =
-    rw c.tell.ensures.status (not_all_out bytes output _ c.in-Err.why (subst (GoesOut bytes output) c.in-Err.is goes) c.tell.ensures.told)
+pub returns-in-Err : goal.returns-in-Err
+returns-in-Err g c = rw (c.in-Err.is, c.tell.ensures.status) (told_result no_line all_done c.in-Err.why _ c.tell.ensures.told)

@@ -27,7 +27,8 @@ returns-in_err-order-clause-shapes c =
 
 pub stays_of-requires : goal.stays_of-requires
 stays_of-requires c =
-    let is = arranged_order c.args.replica.now.held.history c.args.sections.now c.in_ok-order.order.items c.requires.stands.lawful c.requires.shown c.requires.once c.in_ok-order.ensures.order in
+    let is = arranged_order c.args.replica.now.held.history c.args.sections.now c.in_ok-order.order.items c.requires.stands.lawful c.requires.shown c.requires.once
+    c.in_ok-order.ensures.order in
     subst IsOrder (sym c.as_slice.ensures.value) is.0
 
 pub returns-in_err-stays-clause-shapes : goal.returns-in_err-stays-clause-shapes
@@ -81,11 +82,13 @@ parts-preserved c =
       shaped = shaped_join c.args.replica.now c.parts.replica c.move_next.new.replica c.parts.made c.in_ok-made.field-0 c.parts.invariant.shaped e.shapes;
       costs = shaping_join c.args.replica.now c.parts.replica c.move_next.new.replica (cost n n n) (cost one one one) (cost more more more) c.parts.made c.in_ok-made.field-0
           (up (omega (arith, next)) (omega (arith, next)) (omega (arith, next))) c.parts.invariant.costs
-          (subst (λ v. CostsShaping c.parts.replica c.move_next.new.replica (cost (move_count v c.parts.part) (move_count v c.parts.part) (move_count v c.parts.part)) (Ok c.in_ok-made.field-0)) c.as_slice-in-parts.ensures.value e.costs);
+          (subst (λ v. CostsShaping c.parts.replica c.move_next.new.replica (cost (move_count v c.parts.part) (move_count v c.parts.part) (move_count v c.parts.part))
+          (Ok c.in_ok-made.field-0)) c.as_slice-in-parts.ensures.value e.costs);
       order = e.order;
       placed = subst (λ v. ArePlaced c.move_next.new.order.items v (c.parts.part + 1)) c.as_slice-in-parts.ensures.value e.placed;
       of = e.arranged;
-      few = few_more c.args.replica.now.held.history c.parts.replica.held.history c.move_next.new.replica.held.history c.in_ok-stays.stays.items c.args.sections.now c.parts.part c.requires.once
+      few = few_more c.args.replica.now.held.history c.parts.replica.held.history c.move_next.new.replica.held.history c.in_ok-stays.stays.items c.args.sections.now c.parts.part
+          c.requires.once
           c.parts.invariant.stands.lawful c.parts.invariant.few
           (subst (λ v. MovesPart c.parts.replica.held.history c.move_next.new.replica.held.history v c.args.sections.now c.parts.part) c.as_slice-in-parts.ensures.value e.moved);
       long = e.long ∙ c.parts.invariant.long;
@@ -100,7 +103,8 @@ returns-clause-arranged c =
 
 pub move_next-requires-clause-long : goal.move_next-requires-clause-long
 move_next-requires-clause-long c =
-    let is = arranged_order c.args.replica.now.held.history c.args.sections.now c.in_ok-order.order.items c.requires.stands.lawful c.requires.shown c.requires.once c.in_ok-order.ensures.order in
+    let is = arranged_order c.args.replica.now.held.history c.args.sections.now c.in_ok-order.order.items c.requires.stands.lawful c.requires.shown c.requires.once
+    c.in_ok-order.ensures.order in
     ap length c.as_slice-in-parts.ensures.value ∙ (c.in_ok-stays.ensures.long ∙ (ap length c.as_slice.ensures.value ∙ (is.1 ∙ sym c.parts.invariant.long)))
 
 pub returns-in_err-order-clause-costs : goal.returns-in_err-order-clause-costs
@@ -120,7 +124,8 @@ returns-in_err-made-clause-costs c =
     let is = arranged_order h c.args.sections.now c.in_ok-order.order.items c.requires.stands.lawful c.requires.shown c.requires.once c.in_ok-order.ensures.order in
     let staying = subst (λ o. AreStaying o c.args.pairs.now c.in_ok-stays.stays.items) c.as_slice.ensures.value c.in_ok-stays.ensures.staying in
     let long = c.in_ok-stays.ensures.long ∙ ap length c.as_slice.ensures.value in
-    let few = moves_no_more h c.args.pairs.now c.args.sections.now c.in_ok-order.order.items c.in_ok-stays.stays.items c.requires.stands.lawful is.0 c.in_ok-order.ensures.order is.1 staying long in
+    let few = moves_no_more h c.args.pairs.now c.args.sections.now c.in_ok-order.order.items c.in_ok-stays.stays.items c.requires.stands.lawful is.0 c.in_ok-order.ensures.order
+    is.1 staying long in
     let f = move_count c.in_ok-stays.stays.items in
     let n = sum_below f c.parts.part in
     let all = sum_below f (length c.args.sections.now) in
@@ -132,8 +137,10 @@ returns-in_err-made-clause-costs c =
     (inr (
       all,
       few,
-      shaping_stop c.args.replica.now c.parts.replica (cost n n n) (cost one one one) (cost all all all) c.parts.made why (up (omega (arith, next, longer)) (omega (arith, next, longer)) (omega (arith, next, longer))) c.parts.invariant.costs
-          (subst (λ v. LacksRoom c.parts.replica (cost (move_count v c.parts.part) (move_count v c.parts.part) (move_count v c.parts.part)) why) c.as_slice-in-parts.ensures.value c.in_err-made.ensures.costs),
+      shaping_stop c.args.replica.now c.parts.replica (cost n n n) (cost one one one) (cost all all all) c.parts.made why
+          (up (omega (arith, next, longer)) (omega (arith, next, longer)) (omega (arith, next, longer))) c.parts.invariant.costs
+          (subst (λ v. LacksRoom c.parts.replica (cost (move_count v c.parts.part) (move_count v c.parts.part) (move_count v c.parts.part)) why) c.as_slice-in-parts.ensures.value
+          c.in_err-made.ensures.costs),
     ))
 
 pub returns-clause-costs : goal.returns-clause-costs
@@ -142,12 +149,17 @@ returns-clause-costs c =
     let is = arranged_order h c.args.sections.now c.in_ok-order.order.items c.requires.stands.lawful c.requires.shown c.requires.once c.in_ok-order.ensures.order in
     let staying = subst (λ o. AreStaying o c.args.pairs.now c.in_ok-stays.stays.items) c.as_slice.ensures.value c.in_ok-stays.ensures.staying in
     let long = c.in_ok-stays.ensures.long ∙ ap length c.as_slice.ensures.value in
-    let few = moves_no_more h c.args.pairs.now c.args.sections.now c.in_ok-order.order.items c.in_ok-stays.stays.items c.requires.stands.lawful is.0 c.in_ok-order.ensures.order is.1 staying long in
+    let few = moves_no_more h c.args.pairs.now c.args.sections.now c.in_ok-order.order.items c.in_ok-stays.stays.items c.requires.stands.lawful is.0 c.in_ok-order.ensures.order
+    is.1 staying long in
     let f = move_count c.in_ok-stays.stays.items in
     let n = sum_below f c.parts.part in
     let all = sum_below f (length c.args.sections.now) in
-    let longer = sum_below_longer f c.parts.part (length c.args.sections.now) (omega arith) in
-    (all, few, shaping_more c.args.replica.now c.parts.replica (cost n n n) (cost all all all) c.parts.made (up (omega (arith, longer)) (omega (arith, longer)) (omega (arith, longer))) c.parts.invariant.costs)
+    let longer = sum_below_longer f c.parts.part (length c.args.sections.now) (omega arith) in (
+      all,
+      few,
+      shaping_more c.args.replica.now c.parts.replica (cost n n n) (cost all all all) c.parts.made
+          (up (omega (arith, longer)) (omega (arith, longer)) (omega (arith, longer))) c.parts.invariant.costs,
+    )
 
 pub returns-clause-few : goal.returns-clause-few
 returns-clause-few c =

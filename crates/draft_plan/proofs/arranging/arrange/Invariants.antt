@@ -21,5 +21,6 @@ invariant-parts l = record {
   of : IsOrderOf l.sections (arranged l.replica.held.history) l.order.items;
   few : MovesFewTo l.fn.replica.held.history l.replica.held.history l.stays.items l.sections l.part;
   long : length l.order.items ≡ length l.sections;
-  costs : CostsShaping l.fn.replica l.replica (cost (sum_below (move_count l.stays.items) l.part) (sum_below (move_count l.stays.items) l.part) (sum_below (move_count l.stays.items) l.part)) (Ok l.made);
+  costs : CostsShaping l.fn.replica l.replica
+      (cost (sum_below (move_count l.stays.items) l.part) (sum_below (move_count l.stays.items) l.part) (sum_below (move_count l.stays.items) l.part)) (Ok l.made);
 }

@@ -26,7 +26,8 @@ returns-clause-arranged c =
     let of = c.requires.arranged in
     let h = c.args.replica.now.held.history in
     rw (places.0, made.lands)
-    (order_moved c.args.sections.now (arranged h) c.args.order.now.items c.in-Some.step.from c.in-Some.step.to c.args.part made.section of made.placed step.stands (omega (arith, step.to_within, of.long)))
+    (order_moved c.args.sections.now (arranged h) c.args.order.now.items c.in-Some.step.from c.in-Some.step.to c.args.part made.section of made.placed step.stands
+    (omega (arith, step.to_within, of.long)))
 
 pub returns-in_err-step-clause-costs : goal.returns-in_err-step-clause-costs
 returns-in_err-step-clause-costs c =
@@ -34,7 +35,8 @@ returns-in_err-step-clause-costs c =
     rw (p.1, p.2) tt
 
 pub returns-in_default-clause-costs : goal.returns-in_default-clause-costs
-returns-in_default-clause-costs c = shaping_none c.args.replica.now (cost (move_count c.args.stays.now c.args.part) (move_count c.args.stays.now c.args.part) (move_count c.args.stays.now c.args.part))
+returns-in_default-clause-costs c =
+    shaping_none c.args.replica.now (cost (move_count c.args.stays.now c.args.part) (move_count c.args.stays.now c.args.part) (move_count c.args.stays.now c.args.part))
 
 pub returns-clause-moved : goal.returns-clause-moved
 returns-clause-moved c =

@@ -8,7 +8,8 @@ returns-in_err-move_section-clause-shapes c =
     let p = err_from_is_err_and c.from_residual.result c.from_residual.ensures.1 in
     let e = c.in_err-move_section.ensures in
     rw (p.1, p.2)
-    (move_stops c.args.replica.now c.move_section.new.replica c.args.step.from c.args.step.to c.in_err-move_section.field-0.0 c.requires.from_within c.requires.to_within e.unmade e.absent e.refused)
+    (move_stops c.args.replica.now c.move_section.new.replica c.args.step.from c.args.step.to c.in_err-move_section.field-0.0 c.requires.from_within c.requires.to_within e.unmade
+    e.absent e.refused)
 
 pub returns-clause-shapes : goal.returns-clause-shapes
 returns-clause-shapes c =

@@ -17,7 +17,9 @@ rank_of-requires c =
 pub entries-preserved : goal.entries-preserved
 entries-preserved c =
     let at = entry_section c.args.entries.now c.entries.entry-index c.entry-item.result (omega arith) c.entry-item.is in
-    rw c.in_ok-push.ensures.items (order_more c.args.sections.now (entry_sections c.args.entries.now) c.entries.order.items c.entries.entry-index c.rank_of.result c.entry-item.result.section c.entries.invariant at c.rank_of.ensures)
+    rw c.in_ok-push.ensures.items
+    (order_more c.args.sections.now (entry_sections c.args.entries.now) c.entries.order.items c.entries.entry-index c.rank_of.result c.entry-item.result.section
+    c.entries.invariant at c.rank_of.ensures)
 
 pub returns : goal.returns
 returns c =

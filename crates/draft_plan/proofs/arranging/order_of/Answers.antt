@@ -9,4 +9,5 @@ numbers_of-requires c = λ s m. c.requires s (subst (λ l. Contains l s) (ap ent
 
 pub returns-clause-order : goal.returns-clause-order
 returns-clause-order c =
-    subst (λ xs. IsOrderOf c.args.sections.now xs c.in_ok-numbers_of.field-0.items) (ap entry_sections c.entries.ensures ∙ c.in_ok-outline.ensures.outline.listed) c.in_ok-numbers_of.ensures
+    subst (λ xs. IsOrderOf c.args.sections.now xs c.in_ok-numbers_of.field-0.items)
+    (ap entry_sections c.entries.ensures ∙ c.in_ok-outline.ensures.outline.listed) c.in_ok-numbers_of.ensures

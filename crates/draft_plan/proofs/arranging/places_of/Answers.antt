@@ -9,7 +9,8 @@ pub order-preserved : goal.order-preserved
 order-preserved c =
     elim c.if-is_some.branch [
       | then-is_some w ↦ rw w.places-is
-          (places_more c.args.order.now c.args.pairs.now c.order.places.items w.put_place.new.places.items _ c.order.place c.requires c.order.invariant w.put_place.ensures (omega arith) (grind (arith, common_steps)) (grind (arith, common_steps)))
+          (places_more c.args.order.now c.args.pairs.now c.order.places.items w.put_place.new.places.items _ c.order.place c.requires c.order.invariant w.put_place.ensures
+          (omega arith) (grind (arith, common_steps)) (grind (arith, common_steps)))
       | else-is_some w ↦ rw w.places-is (places_same c.args.order.now c.args.pairs.now c.order.places.items c.order.place c.order.invariant (λ some. grind (arith, common_steps)))
     ]
 

@@ -34,7 +34,8 @@ parts-init c =
       costs = shaping_none s (cost 0 0 0);
       places = places_none s.held.history;
       anchor = tt;
-      targets = subst (AreTargetsTo s s ys c.args.pairs.now (map seen_part c.args.parts.now) 0) (sym c.requires.none) (targets_start s ys c.args.pairs.now (length c.args.parts.now) (map seen_part c.args.parts.now) m left);
+      targets = subst (AreTargetsTo s s ys c.args.pairs.now (map seen_part c.args.parts.now) 0) (sym c.requires.none)
+          (targets_start s ys c.args.pairs.now (length c.args.parts.now) (map seen_part c.args.parts.now) m left);
     }
 
 pub take_part-requires-clause-there : goal.take_part-requires-clause-there
@@ -77,9 +78,11 @@ parts-preserved c =
       costs = shaping_join s c.parts.replica c.take_part.new.replica (cost n n 0) (cost one one 0) (cost more more 0) c.parts.made c.in_ok-made.field-0
           (up (omega (arith, added_more c.args.pairs.now c.parts.place)) (omega (arith, added_more c.args.pairs.now c.parts.place)) (omega arith)) was.costs e.costs;
       places = places_join s.held.history c.parts.replica.held.history c.take_part.new.replica.held.history was.places
-          (taken_places c.parts.replica c.take_part.new.replica ys (section_of c.args.pairs.now c.parts.place) c.parts.anchor _ c.parts.sections.items c.take_part.new.sections.items e.taken);
+          (taken_places c.parts.replica c.take_part.new.replica ys
+          (section_of c.args.pairs.now c.parts.place) c.parts.anchor _ c.parts.sections.items c.take_part.new.sections.items e.taken);
       anchor = e.anchor;
-      targets = targets_more s c.parts.replica c.take_part.new.replica ys c.args.pairs.now (length c.args.parts.now) c.parts.place (map seen_part ps) (seen_part (get_or ps c.parts.place _))
+      targets = targets_more s c.parts.replica c.take_part.new.replica ys c.args.pairs.now (length c.args.parts.now) c.parts.place (map seen_part ps)
+          (seen_part (get_or ps c.parts.place _))
           (part_got (map seen_part ps) c.parts.place (seen_part (get_or ps c.parts.place _)) (part_is ps c.parts.place _ (omega arith)) (omega (arith, length-map ps seen_part)))
           c.parts.anchor c.parts.sections.items c.take_part.new.sections.items m c.requires.once
           was.stands.lawful (matched_held s ys (length c.args.parts.now) c.args.pairs.now c.requires.stands.lawful m left) was.shaped.keeps.held was.targets e.taken;
@@ -90,7 +93,8 @@ returns-clause-targets c =
     let ys : List Identifier = entry_sections c.args.entries.now in
     let long : length ys ≡ length c.args.entries.now = length-map c.args.entries.now (λ (e : Entry). e.section) in
     let m = subst (λ n. IsMatching n (length c.args.parts.now) c.args.pairs.now) (sym long) c.requires.matching in
-    targets_all c.args.replica.now c.parts.replica ys c.args.pairs.now (length c.args.parts.now) c.parts.place (map seen_part c.args.parts.now) c.parts.sections.items m (omega arith) (length-map c.args.parts.now seen_part) c.parts.invariant.targets
+    targets_all c.args.replica.now c.parts.replica ys c.args.pairs.now (length c.args.parts.now) c.parts.place (map seen_part c.args.parts.now) c.parts.sections.items m
+    (omega arith) (length-map c.args.parts.now seen_part) c.parts.invariant.targets
 
 pub returns-in_err-made-clause-costs : goal.returns-in_err-made-clause-costs
 returns-in_err-made-clause-costs c =
@@ -101,14 +105,16 @@ returns-in_err-made-clause-costs c =
     let more = added_more c.args.pairs.now c.parts.place in
     let longer = added_longer c.args.pairs.now (c.parts.place + 1) (length c.args.parts.now) (omega arith) in
     rw (p.1, p.2)
-    (shaping_stop c.args.replica.now c.parts.replica (cost n n 0) (cost one one 0) (cost all all 0) c.parts.made c.in_err-made.field-0.0 (up (omega (arith, more, longer)) (omega (arith, more, longer)) (omega arith)) c.parts.invariant.costs c.in_err-made.ensures.costs)
+    (shaping_stop c.args.replica.now c.parts.replica (cost n n 0) (cost one one 0) (cost all all 0) c.parts.made c.in_err-made.field-0.0
+    (up (omega (arith, more, longer)) (omega (arith, more, longer)) (omega arith)) c.parts.invariant.costs c.in_err-made.ensures.costs)
 
 pub returns-clause-costs : goal.returns-clause-costs
 returns-clause-costs c =
     let n = added_count c.args.pairs.now c.parts.place in
     let all = added_count c.args.pairs.now (length c.args.parts.now) in
     let longer = added_longer c.args.pairs.now c.parts.place (length c.args.parts.now) (omega arith) in
-    shaping_more c.args.replica.now c.parts.replica (cost n n 0) (cost all all 0) c.parts.made (up (omega (arith, longer)) (omega (arith, longer)) (omega arith)) c.parts.invariant.costs
+    shaping_more c.args.replica.now c.parts.replica (cost n n 0) (cost all all 0) c.parts.made
+    (up (omega (arith, longer)) (omega (arith, longer)) (omega arith)) c.parts.invariant.costs
 
 pub returns-in_err-stays-clause-shapes : goal.returns-in_err-stays-clause-shapes
 returns-in_err-stays-clause-shapes c =

@@ -44,7 +44,8 @@ returns-in_err-made-clause-shapes c =
 pub overflow_add-made : goal.overflow_add-made
 overflow_add-made c =
     let more = reshaped_join c.args.replica.now c.entries.replica c.drop_one.new.replica c.entries.made c.in_ok-made.field-0 c.entries.invariant.shaped c.in_ok-made.ensures.shapes
-    (left_shown c.args.replica.now.held.history c.args.entries.now c.args.pairs.now c.entries.place (shown catalogue c.entries.replica.held.history) c.requires.outline c.entries.invariant.left) in
+    (left_shown c.args.replica.now.held.history c.args.entries.now c.args.pairs.now c.entries.place
+    (shown catalogue c.entries.replica.held.history) c.requires.outline c.entries.invariant.left) in
     omega (arith, makes_few c.args.replica.now c.drop_one.new.replica (c.entries.made + c.in_ok-made.field-0) more.makes c.in_ok-made.ensures.stands)
 
 pub entries-preserved : goal.entries-preserved
@@ -59,11 +60,14 @@ entries-preserved c =
             settled = e.settled;
             stands = e.stands;
             shaped = reshaped_join c.args.replica.now c.entries.replica w.drop_one.new.replica c.entries.made w.in_ok-made.field-0 was.shaped e.shapes
-                (left_shown c.args.replica.now.held.history c.args.entries.now c.args.pairs.now c.entries.place (shown catalogue c.entries.replica.held.history) c.requires.outline was.left);
-            costs = shaping_join c.args.replica.now c.entries.replica w.drop_one.new.replica (cost (dropped_count c.args.pairs.now c.entries.place) 0 0) (cost 1 0 0) (cost (dropped_count c.args.pairs.now (c.entries.place + 1)) 0 0) c.entries.made w.in_ok-made.field-0
+                (left_shown c.args.replica.now.held.history c.args.entries.now c.args.pairs.now c.entries.place
+                (shown catalogue c.entries.replica.held.history) c.requires.outline was.left);
+            costs = shaping_join c.args.replica.now c.entries.replica w.drop_one.new.replica (cost (dropped_count c.args.pairs.now c.entries.place) 0 0) (cost 1 0 0)
+                (cost (dropped_count c.args.pairs.now (c.entries.place + 1)) 0 0) c.entries.made w.in_ok-made.field-0
                 (up (omega (arith, dropped_one c.args.pairs.now c.entries.place (grind (arith, common_steps)))) (omega arith) (omega arith)) was.costs e.costs;
             places = places_join c.args.replica.now.held.history c.entries.replica.held.history w.drop_one.new.replica.held.history was.places e.places;
-            left = left_goes ys c.args.pairs.now c.entries.place (shown catalogue c.entries.replica.held.history) (shown catalogue w.drop_one.new.replica.held.history) c.index-entries-place.result.section
+            left = left_goes ys c.args.pairs.now c.entries.place (shown catalogue c.entries.replica.held.history)
+                (shown catalogue w.drop_one.new.replica.held.history) c.index-entries-place.result.section
                 (entries_once c.args.replica.now.held.history c.args.entries.now c.requires.stands.lawful c.requires.outline) was.left at (grind (arith, common_steps)) e.gone;
           })
       | else-is_none w ↦
@@ -71,7 +75,9 @@ entries-preserved c =
             settled = was.settled;
             stands = was.stands;
             shaped = was.shaped;
-            costs = shaping_more c.args.replica.now c.entries.replica (cost (dropped_count c.args.pairs.now c.entries.place) 0 0) (cost (dropped_count c.args.pairs.now (c.entries.place + 1)) 0 0) c.entries.made (up (omega (arith, dropped_more c.args.pairs.now c.entries.place)) (omega arith) (omega arith)) was.costs;
+            costs = shaping_more c.args.replica.now c.entries.replica (cost (dropped_count c.args.pairs.now c.entries.place) 0 0)
+                (cost (dropped_count c.args.pairs.now (c.entries.place + 1)) 0 0) c.entries.made
+                (up (omega (arith, dropped_more c.args.pairs.now c.entries.place)) (omega arith) (omega arith)) was.costs;
             places = was.places;
             left = left_stays ys c.args.pairs.now c.entries.place (shown catalogue c.entries.replica.held.history) was.left (grind (arith, common_steps));
           })
@@ -84,9 +90,12 @@ returns-in_err-made-clause-costs c =
     let one = dropped_one c.args.pairs.now c.entries.place none in
     let all = dropped_longer c.args.pairs.now (c.entries.place + 1) (length c.args.entries.now) (omega arith) in
     rw (p.1, p.2)
-    (shaping_stop c.args.replica.now c.entries.replica (cost (dropped_count c.args.pairs.now c.entries.place) 0 0) (cost 1 0 0) (cost (dropped_count c.args.pairs.now (length c.args.entries.now)) 0 0) c.entries.made c.in_err-made.field-0.0 (up (omega (arith, one, all)) (omega arith) (omega arith)) c.entries.invariant.costs c.in_err-made.ensures.costs)
+    (shaping_stop c.args.replica.now c.entries.replica (cost (dropped_count c.args.pairs.now c.entries.place) 0 0) (cost 1 0 0)
+    (cost (dropped_count c.args.pairs.now (length c.args.entries.now)) 0 0) c.entries.made c.in_err-made.field-0.0
+    (up (omega (arith, one, all)) (omega arith) (omega arith)) c.entries.invariant.costs c.in_err-made.ensures.costs)
 
 pub returns-clause-costs : goal.returns-clause-costs
 returns-clause-costs c =
-    shaping_more c.args.replica.now c.entries.replica (cost (dropped_count c.args.pairs.now c.entries.place) 0 0) (cost (dropped_count c.args.pairs.now (length c.args.entries.now)) 0 0) c.entries.made
+    shaping_more c.args.replica.now c.entries.replica (cost (dropped_count c.args.pairs.now c.entries.place) 0 0)
+    (cost (dropped_count c.args.pairs.now (length c.args.entries.now)) 0 0) c.entries.made
     (up (omega (arith, dropped_longer c.args.pairs.now c.entries.place (length c.args.entries.now) (omega arith))) (omega arith) (omega arith)) c.entries.invariant.costs

@@ -26,12 +26,14 @@ returns-clause-shapes c =
 pub returns-clause-gone : goal.returns-clause-gone
 returns-clause-gone c =
     let h = c.args.replica.now.held.history in
-    rw c.in_ok-drop_section.ensures.lands.splices.here (without_one (shown catalogue h) c.number_of-number.result c.args.section (shown_once h c.requires.stands.lawful) c.number_of-number.ensures)
+    rw c.in_ok-drop_section.ensures.lands.splices.here
+    (without_one (shown catalogue h) c.number_of-number.result c.args.section (shown_once h c.requires.stands.lawful) c.number_of-number.ensures)
 
 pub returns-in_err-drop_section-clause-costs : goal.returns-in_err-drop_section-clause-costs
 returns-in_err-drop_section-clause-costs c =
     let p = err_from_is_err_and c.from_residual.result c.from_residual.ensures.1 in
-    rw (p.1, p.2) (edit_lacks (DropSection c.number_of-number.result) c.args.replica.now (cost 1 0 0) c.in_err-drop_section.field-0.0 c.requires.stands (omega arith) (omega arith) c.in_err-drop_section.ensures.refused)
+    rw (p.1, p.2) (edit_lacks (DropSection c.number_of-number.result) c.args.replica.now (cost 1 0 0) c.in_err-drop_section.field-0.0 c.requires.stands (omega arith)
+    (omega arith) c.in_err-drop_section.ensures.refused)
 
 pub returns-clause-costs : goal.returns-clause-costs
 returns-clause-costs c =

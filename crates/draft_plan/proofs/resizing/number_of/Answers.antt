@@ -5,10 +5,10 @@ use Rattle.origin_model.specs.declared.operations.Place.TheVariants.{Catalogue a
 use Rattle.origin_model.specs.order.Printed.{shown}
 use Rattle.origin_model.proofs.SharedLemmas.{order_total}
 use Rattle.section_catalogue.specs.Manuscript.{IsOrderedPlace}
-use Rattle.section_list.specs.Cells.{section_shown_before}
+use Rattle.run_store.specs.Cells.{shown_before}
 use Rattle.catalogue_notes.proofs.OutliningLemmas.{visible_place}
 use Rattle.draft_plan.proofs.resizing.number_of.Goals as goal
-use Rattle.section_list.proofs.PlainLemmas.{visible_listed}
+use Rattle.section_list.proofs.ShownLemmas.{visible_listed}
 
 pub returns-in-Some : goal.returns-in-Some
 returns-in-Some c =
@@ -17,7 +17,8 @@ returns-in-Some c =
     let place = subst (IsOrderedPlace catalogue h) (sym c.catalogue.ensures.catalogue) c.places.ensures.lists.catalogue_is in
     let apart = subst (AllPairs (λ x y. x ≢ y)) (sym place.all) (order_total catalogue h c.places.ensures.stands.lawful).once in
     let member = subst (λ l. Contains l s) (sym place.visible) c.requires in
-    ap (slice_get (shown catalogue h)) c.in-Some.ensures.some ∙ (ap (λ l. slice_get l (section_shown_before c.catalogue.result.now.cells s)) (sym place.visible) ∙ visible_place c.catalogue.result.now.cells s apart member)
+    ap (slice_get (shown catalogue h)) c.in-Some.ensures.some
+    ∙ (ap (λ l. slice_get l (shown_before c.catalogue.result.now.cells s)) (sym place.visible) ∙ visible_place c.catalogue.result.now.cells s apart member)
 
 pub returns-in-None : goal.returns-in-None
 returns-in-None c =

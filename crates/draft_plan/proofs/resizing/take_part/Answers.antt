@@ -47,7 +47,8 @@ returns-in_err-keep_section-clause-costs c =
     rw (p.1, p.2) tt
 
 pub returns-in-Some-clause-costs : goal.returns-in-Some-clause-costs
-returns-in-Some-clause-costs c = shaping_none c.args.replica.now (cost (unmatched_count (section_of c.args.pairs.now c.args.part)) (unmatched_count (section_of c.args.pairs.now c.args.part)) 0)
+returns-in-Some-clause-costs c =
+    shaping_none c.args.replica.now (cost (unmatched_count (section_of c.args.pairs.now c.args.part)) (unmatched_count (section_of c.args.pairs.now c.args.part)) 0)
 
 pub returns-in_err-keep_section-2-clause-costs : goal.returns-in_err-keep_section-2-clause-costs
 returns-in_err-keep_section-2-clause-costs c =
@@ -74,7 +75,8 @@ returns-in-Some-clause-anchor c =
 
 pub returns-clause-anchor : goal.returns-clause-anchor
 returns-clause-anchor c =
-    anchored_more c.args.anchor.now (Some c.in_ok-section.section) c.args.sections.now.items c.keep_section-2.new.sections.items c.in_ok-section.section c.in_ok-keep_section-2.ensures c.requires.anchor (inl refl)
+    anchored_more c.args.anchor.now (Some c.in_ok-section.section) c.args.sections.now.items c.keep_section-2.new.sections.items c.in_ok-section.section
+    c.in_ok-keep_section-2.ensures c.requires.anchor (inl refl)
 
 pub returns-in_err-section-clause-costs : goal.returns-in_err-section-clause-costs
 returns-in_err-section-clause-costs c =

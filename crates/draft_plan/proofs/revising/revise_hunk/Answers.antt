@@ -9,7 +9,8 @@ use Rattle.draft_plan.proofs.revising.revise_hunk.Goals as goal
 pub returns-in_err-cut-clause-stops : goal.returns-in_err-cut-clause-stops
 returns-in_err-cut-clause-stops c =
     let p = err_from_is_err_and c.from_residual-in_err-cut.result c.from_residual-in_err-cut.ensures.1 in
-    rw (p.1, p.2) (cut_stops c.args.replica.now c.cut.new.self c.args.section c.args.hunk.old_at c.args.hunk.old_len c.in_err-cut.field-0.0 c.in_err-cut.ensures.unmade c.in_err-cut.ensures.refused)
+    rw (p.1, p.2) (cut_stops c.args.replica.now c.cut.new.self c.args.section c.args.hunk.old_at c.args.hunk.old_len c.in_err-cut.field-0.0 c.in_err-cut.ensures.unmade
+    c.in_err-cut.ensures.refused)
 
 pub returns-in_err-cut-clause-limits : goal.returns-in_err-cut-clause-limits
 returns-in_err-cut-clause-limits c =
@@ -21,7 +22,8 @@ pub returns-in_err-put-clause-stops : goal.returns-in_err-put-clause-stops
 returns-in_err-put-clause-stops c =
     let p = err_from_is_err_and c.from_residual-in_err-put.result c.from_residual-in_err-put.ensures.1 in
     rw (p.1, p.2)
-    (put_stops c.args.replica.now c.cut.new.self c.put.new.self c.args.section c.args.hunk.old_at c.args.hunk.old_len c.in_ok-cut.cut (chars c.as_str.result.now) c.in_err-put.field-0.0
+    (put_stops c.args.replica.now c.cut.new.self c.put.new.self c.args.section c.args.hunk.old_at c.args.hunk.old_len c.in_ok-cut.cut
+    (chars c.as_str.result.now) c.in_err-put.field-0.0
     c.in_ok-cut.ensures.refused c.in_ok-cut.ensures.made c.in_err-put.ensures.unmade c.in_err-put.ensures.refused)
 
 pub returns-in_err-put-clause-limits : goal.returns-in_err-put-clause-limits
@@ -50,7 +52,8 @@ pub returns-clause-made : goal.returns-clause-made
 returns-clause-made c =
     let h = c.args.hunk in
     let text = typed_whole c.as_str.result.now _ c.as_str.utf8 (c.as_str.ensures.value ∙ c.in_ok-text.ensures) in
-    hunk_made c.args.replica.now c.cut.new.self c.put.new.self c.args.section c.in_ok-cut.cut c.in_ok-put.put h c.args.new.now (chars c.as_str.result.now) c.requires.old c.requires.new
+    hunk_made c.args.replica.now c.cut.new.self c.put.new.self c.args.section c.in_ok-cut.cut c.in_ok-put.put h c.args.new.now
+    (chars c.as_str.result.now) c.requires.old c.requires.new
     (put_text h.new_at h.new_len c.args.new.now c.as_str.result.now text)
     (cut_and_put c.requires.stands.lawful c.in_ok-cut.ensures.stands.lawful c.in_ok-cut.ensures.refused c.in_ok-cut.ensures.made
     c.in_ok-put.ensures.refused c.in_ok-put.ensures.made)
@@ -73,7 +76,8 @@ returns-in_err-put-clause-costs c =
     let first = cut_costs c.args.replica.now c.cut.new.self c.args.section c.in_ok-cut.cut h c.requires.stands.lawful c.in_ok-cut.ensures.refused c.in_ok-cut.ensures.made in
     let p = err_from_is_err_and c.from_residual-in_err-put.result c.from_residual-in_err-put.ensures.1 in
     rw (p.1, p.2)
-    (put_lacks c.args.replica.now c.cut.new.self c.args.section c.in_ok-cut.cut h (chars c.as_str.result.now) c.in_err-put.field-0.0 c.in_ok-cut.ensures.stands first long c.in_err-put.ensures.refused)
+    (put_lacks c.args.replica.now c.cut.new.self c.args.section c.in_ok-cut.cut h
+    (chars c.as_str.result.now) c.in_err-put.field-0.0 c.in_ok-cut.ensures.stands first long c.in_err-put.ensures.refused)
 
 pub returns-clause-costs : goal.returns-clause-costs
 returns-clause-costs c =

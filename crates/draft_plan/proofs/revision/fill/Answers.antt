@@ -14,7 +14,13 @@ use Rattle.draft_plan.proofs.RevisionLemmas.{filled_more, filled_none, revised_a
 use Rattle.draft_plan.proofs.revision.fill.Goals as goal
 
 pub parts-init : goal.parts-init
-parts-init c = record { settled = c.requires.settled; stands = c.requires.stands; arranges = c.new-arranger.ensures.arranges c.args.replica.now.held.history; filled = filled_none c.args.replica.now (map seen_part c.args.parts.now); costs = ([], refl, no_hunks _ _ _, costs_none c.args.replica.now (filling 0 [])) }
+parts-init c = record {
+  settled = c.requires.settled;
+  stands = c.requires.stands;
+  arranges = c.new-arranger.ensures.arranges c.args.replica.now.held.history;
+  filled = filled_none c.args.replica.now (map seen_part c.args.parts.now);
+  costs = ([], refl, no_hunks _ _ _, costs_none c.args.replica.now (filling 0 []));
+}
 
 pub fill_section-requires-clause-placed : goal.fill_section-requires-clause-placed
 fill_section-requires-clause-placed c =
@@ -57,9 +63,12 @@ parts-preserved c =
       stands = c.in_ok-made.ensures.stands;
       arranges = c.in_ok-made.ensures.arranges;
       filled = filled_more start c.parts.replica c.fill_section.new.replica (map seen_part ps) c.parts.place c.parts.made c.in_ok-made.field-0 c.index-entries-place.result.section
-          (seen_part (get_or ps c.parts.place _)) c.requires.stands.lawful c.parts.invariant.filled at.placed (part_is ps c.parts.place _ (omega arith)) c.in_ok-made.ensures.filled;
-      costs = filling_more start c.parts.replica (slice_get (arranged start.held.history)) (map seen_part ps) c.parts.place c.parts.made c.index-entries-place.result.section (seen_part (get_or ps c.parts.place _))
-          at.placed (part_got (map seen_part ps) c.parts.place (seen_part (get_or ps c.parts.place _)) (part_is ps c.parts.place _ (omega arith)) (omega (arith, length-map ps seen_part)))
+          (seen_part (get_or ps c.parts.place _)) c.requires.stands.lawful c.parts.invariant.filled at.placed
+          (part_is ps c.parts.place _ (omega arith)) c.in_ok-made.ensures.filled;
+      costs = filling_more start c.parts.replica (slice_get (arranged start.held.history)) (map seen_part ps) c.parts.place c.parts.made c.index-entries-place.result.section
+          (seen_part (get_or ps c.parts.place _))
+          at.placed (part_got (map seen_part ps) c.parts.place (seen_part (get_or ps c.parts.place _)) (part_is ps c.parts.place _ (omega arith))
+          (omega (arith, length-map ps seen_part)))
           same.headed same.reads c.parts.invariant.costs c.fill_section.new.replica c.in_ok-made.field-0 c.in_ok-made.ensures.costs;
     }
 
@@ -85,13 +94,17 @@ returns-in_err-made-clause-costs c =
     let same = (c.parts.invariant.filled.each c.parts.place c.index-entries-place.result.section at.placed).1 (omega arith) in
     let p = err_from_is_err_and c.from_residual.result c.from_residual.ensures.1 in
     rw (p.1, p.2)
-    (filling_lacks start c.parts.replica (slice_get (arranged start.held.history)) ps c.parts.place c.parts.made c.index-entries-place.result.section (seen_part (get_or c.args.parts.now c.parts.place _))
-    at.placed (part_got ps c.parts.place (seen_part (get_or c.args.parts.now c.parts.place _)) (part_is c.args.parts.now c.parts.place _ (omega arith)) (omega (arith, length-map c.args.parts.now seen_part)))
-    same.headed same.reads c.parts.invariant.costs c.fill_section.new.replica c.in_err-made.field-0.0 (omega (arith, length-map c.args.parts.now seen_part)) c.in_err-made.ensures.costs)
+    (filling_lacks start c.parts.replica (slice_get (arranged start.held.history)) ps c.parts.place c.parts.made c.index-entries-place.result.section
+    (seen_part (get_or c.args.parts.now c.parts.place _))
+    at.placed (part_got ps c.parts.place (seen_part (get_or c.args.parts.now c.parts.place _)) (part_is c.args.parts.now c.parts.place _ (omega arith))
+    (omega (arith, length-map c.args.parts.now seen_part)))
+    same.headed same.reads c.parts.invariant.costs c.fill_section.new.replica c.in_err-made.field-0.0
+    (omega (arith, length-map c.args.parts.now seen_part)) c.in_err-made.ensures.costs)
 
 pub returns-clause-costs : goal.returns-clause-costs
 returns-clause-costs c =
     let start = c.args.replica.now in
     let ps = c.args.parts.now in
     let long = outline_long start.held.history c.args.entries.now c.requires.outline in
-    filling_all start c.parts.replica (slice_get (arranged start.held.history)) (map seen_part ps) c.parts.place c.parts.made (omega (arith, long, length-map ps seen_part)) c.parts.invariant.costs
+    filling_all start c.parts.replica (slice_get (arranged start.held.history)) (map seen_part ps) c.parts.place c.parts.made
+    (omega (arith, long, length-map ps seen_part)) c.parts.invariant.costs

@@ -43,7 +43,8 @@ returns-in_err-revised-clause-costs c =
     let x = c.args.entry.now.section in
     let there = ap (λ xs. slice_get xs c.args.entry.now.number) titled.only.catalogue_is ∙ c.requires.numbered in
     rw (p.1, p.2)
-    (section_lacks c.args.replica.now c.retitle_other.new.replica c.revise_text.new.replica x (record { title = c.args.title.now; text = c.args.text.now }) c.in_ok-retitled.retitled c.in_err-revised.field-0.0 titled.reads c.in_ok-retitled.ensures.costs
+    (section_lacks c.args.replica.now c.retitle_other.new.replica c.revise_text.new.replica x
+    (record { title = c.args.title.now; text = c.args.text.now }) c.in_ok-retitled.retitled c.in_err-revised.field-0.0 titled.reads c.in_ok-retitled.ensures.costs
     (c.in_err-revised.ensures.costs x there))
 
 pub returns-clause-costs : goal.returns-clause-costs
@@ -51,7 +52,8 @@ returns-clause-costs c =
     let titled = c.in_ok-retitled.ensures.titled in
     let x = c.args.entry.now.section in
     let there = ap (λ xs. slice_get xs c.args.entry.now.number) titled.only.catalogue_is ∙ c.requires.numbered in
-    section_costs c.args.replica.now c.retitle_other.new.replica c.revise_text.new.replica x (record { title = c.args.title.now; text = c.args.text.now }) c.in_ok-retitled.retitled c.in_ok-revised.revised titled.reads c.in_ok-retitled.ensures.costs
+    section_costs c.args.replica.now c.retitle_other.new.replica c.revise_text.new.replica x
+    (record { title = c.args.title.now; text = c.args.text.now }) c.in_ok-retitled.retitled c.in_ok-revised.revised titled.reads c.in_ok-retitled.ensures.costs
     (c.in_ok-revised.ensures.costs x there)
 
 pub returns-clause-arranges : goal.returns-clause-arranges

@@ -69,7 +69,8 @@ pub returns-in_err-filled-clause-stops : goal.returns-in_err-filled-clause-stops
 returns-in_err-filled-clause-stops c =
     let p = err_from_is_err_and c.from_residual-in_err-filled.result c.from_residual-in_err-filled.ensures.1 in
     rw (p.1, p.2)
-    (stops_behind c.args.replica.now c.shape.new.replica c.fill_shaped.new.replica c.in_ok-shaped.shaped c.in_err-filled.field-0.0 c.in_ok-shaped.ensures.shapes.makes c.in_err-filled.ensures.stops)
+    (stops_behind c.args.replica.now c.shape.new.replica c.fill_shaped.new.replica c.in_ok-shaped.shaped c.in_err-filled.field-0.0 c.in_ok-shaped.ensures.shapes.makes
+    c.in_err-filled.ensures.stops)
 
 pub overflow_add-result : goal.overflow_add-result
 overflow_add-result c =
@@ -133,7 +134,8 @@ returns-in_err-shaped-clause-costs c =
       | inl wants ↦ wants_room s (revision_cost s.held.history c.args.draft.now) why wants
       | inr q ↦
           shaping_lacks s c.args.draft.now e why count
-          (rw parts (lacks_more s (shaping c.in-Some.pairs q.0 e m) (cost (e + 2 * m) (2 * m) m) why (shaping_within c.in-Some.pairs q.0 e m (moves_within s.held.history c.in-Some.pairs m q.0 q.1)) q.2))
+          (rw parts (lacks_more s (shaping c.in-Some.pairs q.0 e m) (cost (e + 2 * m) (2 * m) m) why
+          (shaping_within c.in-Some.pairs q.0 e m (moves_within s.held.history c.in-Some.pairs m q.0 q.1)) q.2))
     ])
 
 pub returns-in_err-shaped-clause-spared : goal.returns-in_err-shaped-clause-spared
@@ -150,13 +152,16 @@ returns-in_err-filled-clause-costs c =
     let m = length c.parts-parts.result.now in
     let e = length c.entries-entries.result.now in
     let q = c.in_ok-shaped.ensures.costs in
-    let coarse = costs_more s mid (shaping c.in-Some.pairs q.0 e m) (cost (e + 2 * m) (2 * m) m) (Ok c.in_ok-shaped.shaped) (shaping_within c.in-Some.pairs q.0 e m (moves_within s.held.history c.in-Some.pairs m q.0 q.1)) q.2.0 in
-    let fewer = letters_shaped s mid c.in_ok-shaped.shaped c.in_ok-outline.ensures.stands.lawful c.in_ok-shaped.ensures.stands.lawful c.in_ok-shaped.ensures.shapes c.in_ok-shaped.ensures.costs.2.1 in
+    let coarse = costs_more s mid (shaping c.in-Some.pairs q.0 e m) (cost (e + 2 * m) (2 * m) m) (Ok c.in_ok-shaped.shaped)
+    (shaping_within c.in-Some.pairs q.0 e m (moves_within s.held.history c.in-Some.pairs m q.0 q.1)) q.2.0 in
+    let fewer = letters_shaped s mid c.in_ok-shaped.shaped c.in_ok-outline.ensures.stands.lawful c.in_ok-shaped.ensures.stands.lawful c.in_ok-shaped.ensures.shapes
+    c.in_ok-shaped.ensures.costs.2.1 in
     let p = err_from_is_err_and c.from_residual-in_err-filled.result c.from_residual-in_err-filled.ensures.1 in
     rw (p.1, p.2)
     (revision_lacks s c.args.draft.now mid.held.history (length c.entries-entries.result.now) count fewer mid c.in_ok-shaped.shaped c.in_err-filled.field-0.0 (rw parts coarse)
     (filling_within mid c.fill_shaped.new.replica (arranged mid.held.history) c.args.draft.now (Err c.in_err-filled.field-0.0)
-    (subst (λ (ps : List Part). CostsFilling mid c.fill_shaped.new.replica (slice_get (arranged mid.held.history)) ps (Err c.in_err-filled.field-0.0)) c.parts-parts.ensures c.in_err-filled.ensures.costs)))
+    (subst (λ (ps : List Part). CostsFilling mid c.fill_shaped.new.replica (slice_get (arranged mid.held.history)) ps (Err c.in_err-filled.field-0.0)) c.parts-parts.ensures
+    c.in_err-filled.ensures.costs)))
 
 pub returns-in_err-filled-clause-spared : goal.returns-in_err-filled-clause-spared
 returns-in_err-filled-clause-spared c = λ e.
@@ -173,8 +178,10 @@ returns-clause-costs c =
     let m = length c.parts-parts.result.now in
     let e = length c.entries-entries.result.now in
     let q = c.in_ok-shaped.ensures.costs in
-    let coarse = costs_more s mid (shaping c.in-Some.pairs q.0 e m) (cost (e + 2 * m) (2 * m) m) (Ok c.in_ok-shaped.shaped) (shaping_within c.in-Some.pairs q.0 e m (moves_within s.held.history c.in-Some.pairs m q.0 q.1)) q.2.0 in
-    let fewer = letters_shaped s mid c.in_ok-shaped.shaped c.in_ok-outline.ensures.stands.lawful c.in_ok-shaped.ensures.stands.lawful c.in_ok-shaped.ensures.shapes c.in_ok-shaped.ensures.costs.2.1 in
+    let coarse = costs_more s mid (shaping c.in-Some.pairs q.0 e m) (cost (e + 2 * m) (2 * m) m) (Ok c.in_ok-shaped.shaped)
+    (shaping_within c.in-Some.pairs q.0 e m (moves_within s.held.history c.in-Some.pairs m q.0 q.1)) q.2.0 in
+    let fewer = letters_shaped s mid c.in_ok-shaped.shaped c.in_ok-outline.ensures.stands.lawful c.in_ok-shaped.ensures.stands.lawful c.in_ok-shaped.ensures.shapes
+    c.in_ok-shaped.ensures.costs.2.1 in
     revision_costs s c.args.draft.now mid.held.history (length c.entries-entries.result.now) count fewer mid last c.in_ok-shaped.shaped c.in_ok-filled.filled (rw parts coarse)
     (filling_within mid last (arranged mid.held.history) c.args.draft.now (Ok c.in_ok-filled.filled)
     (subst (λ (ps : List Part). CostsFilling mid last (slice_get (arranged mid.held.history)) ps (Ok c.in_ok-filled.filled)) c.parts-parts.ensures c.in_ok-filled.ensures.costs))
@@ -202,7 +209,8 @@ returns-in_err-shaped-clause-planned c =
     (elim c.in_err-shaped.ensures.costs [
       | inl wants ↦ inl wants
       | inr q ↦
-          shaping_lacks_plan s c.shape.new.replica 0 read c.args.draft.now c.parts-parts.ensures c.in-Some.pairs matched q.0 (subst (λ m. PlansMoves s.held.history c.in-Some.pairs m q.0) (sym parts) q.1) why
+          shaping_lacks_plan s c.shape.new.replica 0 read c.args.draft.now c.parts-parts.ensures c.in-Some.pairs matched q.0
+          (subst (λ m. PlansMoves s.held.history c.in-Some.pairs m q.0) (sym parts) q.1) why
           (subst (λ m. LacksRoom s (shaping c.in-Some.pairs q.0 (length (arranged s.held.history)) m) why) (sym parts)
           (subst (λ e. LacksRoom s (shaping c.in-Some.pairs q.0 e (length read)) why) count q.2))
     ])
@@ -226,6 +234,10 @@ returns-in_err-filled-clause-planned c =
     sym (length-map matched.sections seen_part) ∙ (ap length matched.sections_are ∙ length-map (arranged s.held.history) (arranged_part s.held.history)) in
     let p = err_from_is_err_and c.from_residual-in_err-filled.result c.from_residual-in_err-filled.ensures.1 in
     rw (p.1, p.2)
-    (filling_lacks_plan s mid c.in_ok-shaped.shaped read c.args.draft.now c.parts-parts.ensures pairs matched q.0 (subst (λ m. PlansMoves s.held.history pairs m q.0) (sym parts) q.1) c.in_ok-outline.ensures.stands.lawful c.in_ok-shaped.ensures.stands.lawful c.in_ok-shaped.ensures.shapes
-    q.2.1 stand (λ j i e. let l = matched_within (length matched.sections) (length read) pairs j i matched.matching e in omega (arith, l, sections)) c.fill_shaped.new.replica why first
-    (subst (λ (ps : List Part). CostsFilling mid c.fill_shaped.new.replica (slice_get (arranged mid.held.history)) ps (Err why)) c.parts-parts.ensures c.in_err-filled.ensures.costs))
+    (filling_lacks_plan s mid c.in_ok-shaped.shaped read c.args.draft.now c.parts-parts.ensures pairs matched q.0
+    (subst (λ m. PlansMoves s.held.history pairs m q.0) (sym parts) q.1) c.in_ok-outline.ensures.stands.lawful c.in_ok-shaped.ensures.stands.lawful
+    c.in_ok-shaped.ensures.shapes
+    q.2.1 stand (λ j i e. let l = matched_within (length matched.sections) (length read) pairs j i matched.matching e in omega (arith, l, sections)) c.fill_shaped.new.replica why
+    first
+    (subst (λ (ps : List Part). CostsFilling mid c.fill_shaped.new.replica (slice_get (arranged mid.held.history)) ps (Err why)) c.parts-parts.ensures
+    c.in_err-filled.ensures.costs))

@@ -16,7 +16,10 @@ shown_at-requires c = (entry_at c.args.replica.now.held.history c.args.entries.n
 pub entries-preserved : goal.entries-preserved
 entries-preserved c =
     let at = entry_section c.args.entries.now c.entries.entry-index c.entry-item.result (omega arith) c.entry-item.is in
-    rw c.in_ok-push.ensures.items (shown_more c.args.replica.now.held.history (entry_sections c.args.entries.now) c.entries.shown.items c.entries.entry-index c.entry-item.result.section c.in_ok-shown_at.field-0 at c.in_ok-shown_at.ensures c.entries.invariant)
+    rw c.in_ok-push.ensures.items
+    (shown_more c.args.replica.now.held.history
+    (entry_sections c.args.entries.now) c.entries.shown.items c.entries.entry-index c.entry-item.result.section c.in_ok-shown_at.field-0 at c.in_ok-shown_at.ensures
+    c.entries.invariant)
 
 pub returns : goal.returns
 returns c =

@@ -29,7 +29,8 @@ returns-in_err-resized-clause-shapes c =
 
 pub arrange-requires-clause-shown : goal.arrange-requires-clause-shown
 arrange-requires-clause-shown c = λ s.
-    subst (λ (l : List Identifier). Contains (shown catalogue c.resize.new.replica.held.history) s ↔ Contains l s) (sym c.as_slice.ensures.value) (c.in_ok-resized.ensures.targets.shown_are s)
+    subst (λ (l : List Identifier). Contains (shown catalogue c.resize.new.replica.held.history) s ↔ Contains l s) (sym c.as_slice.ensures.value)
+    (c.in_ok-resized.ensures.targets.shown_are s)
 
 pub arrange-requires-clause-once : goal.arrange-requires-clause-once
 arrange-requires-clause-once c = subst AreDistinct (sym c.as_slice.ensures.value) c.in_ok-resized.ensures.targets.once
@@ -38,11 +39,13 @@ pub returns-in_err-moved-clause-shapes : goal.returns-in_err-moved-clause-shapes
 returns-in_err-moved-clause-shapes c =
     let p = err_from_is_err_and c.from_residual-in_err-moved.result c.from_residual-in_err-moved.ensures.1 in
     rw (p.1, p.2)
-    (stops_reshaped c.args.replica.now c.resize.new.replica c.arrange.new.replica c.in_ok-resized.resized c.in_err-moved.field-0.0 c.in_ok-resized.ensures.shapes c.in_err-moved.ensures.shapes)
+    (stops_reshaped c.args.replica.now c.resize.new.replica c.arrange.new.replica c.in_ok-resized.resized c.in_err-moved.field-0.0 c.in_ok-resized.ensures.shapes
+    c.in_err-moved.ensures.shapes)
 
 pub returns-clause-shapes : goal.returns-clause-shapes
 returns-clause-shapes c =
-    reshaped_shaped c.args.replica.now c.resize.new.replica c.arrange.new.replica c.in_ok-resized.resized c.in_ok-moved.moved c.in_ok-resized.ensures.shapes c.in_ok-moved.ensures.shapes
+    reshaped_shaped c.args.replica.now c.resize.new.replica c.arrange.new.replica c.in_ok-resized.resized c.in_ok-moved.moved c.in_ok-resized.ensures.shapes
+    c.in_ok-moved.ensures.shapes
 
 pub returns-clause-stand_as : goal.returns-clause-stand_as
 returns-clause-stand_as c =
@@ -70,7 +73,12 @@ returns-in_err-resized-clause-costs c =
     let e = length c.args.entries.now in
     let k = length c.args.parts.now in
     rw (p.1, p.2)
-    (inr (0, inl refl, lacks_more c.args.replica.now (cost (n + m) m 0) (shaping c.args.pairs.now 0 e k) c.in_err-resized.field-0.0 (up (omega arith) (omega arith) (omega arith)) c.in_err-resized.ensures.costs))
+    (inr (
+      0,
+      inl refl,
+      lacks_more c.args.replica.now (cost (n + m) m 0) (shaping c.args.pairs.now 0 e k) c.in_err-resized.field-0.0
+          (up (omega arith) (omega arith) (omega arith)) c.in_err-resized.ensures.costs,
+    ))
 
 pub returns-in_err-moved-clause-costs : goal.returns-in_err-moved-clause-costs
 returns-in_err-moved-clause-costs c =
@@ -98,7 +106,8 @@ returns-in_err-moved-clause-costs c =
           inr (
             q.0,
             plans q.0 q.1,
-            shaping_stop c.args.replica.now c.resize.new.replica (cost (n + m) m 0) (cost q.0 q.0 q.0) (shaping c.args.pairs.now q.0 e k) c.in_ok-resized.resized why (up (omega arith) (omega arith) (omega arith)) c.in_ok-resized.ensures.costs q.2,
+            shaping_stop c.args.replica.now c.resize.new.replica (cost (n + m) m 0) (cost q.0 q.0 q.0) (shaping c.args.pairs.now q.0 e k) c.in_ok-resized.resized why
+                (up (omega arith) (omega arith) (omega arith)) c.in_ok-resized.ensures.costs q.2,
           )
     ])
 
@@ -122,7 +131,8 @@ returns-clause-costs c =
     let q = c.in_ok-moved.ensures.costs in (
       q.0,
       plans q.0 q.1,
-      shaping_join c.args.replica.now c.resize.new.replica c.arrange.new.replica (cost (n + m) m 0) (cost q.0 q.0 q.0) (shaping c.args.pairs.now q.0 e k) c.in_ok-resized.resized c.in_ok-moved.moved
+      shaping_join c.args.replica.now c.resize.new.replica c.arrange.new.replica (cost (n + m) m 0) (cost q.0 q.0 q.0)
+          (shaping c.args.pairs.now q.0 e k) c.in_ok-resized.resized c.in_ok-moved.moved
           (up (omega arith) (omega arith) (omega arith)) c.in_ok-resized.ensures.costs q.2,
     )
 
@@ -135,5 +145,7 @@ returns-clause-moves c =
     let t = c.in_ok-resized.ensures.targets in
     let few = subst (ArrangesFew mid new c.args.pairs.now) c.as_slice.ensures.value c.in_ok-moved.ensures.few in
     let long = outline_long h c.args.entries.now c.requires.outline in
-    moves_few h mid new c.args.pairs.now ts c.requires.stands.lawful c.in_ok-resized.ensures.stands.lawful c.in_ok-resized.ensures.places few (c.in_ok-moved.ensures.arranged ∙ c.as_slice.ensures.value)
-    t.shown_are t.kept t.fresh (λ j i e. let l = matched_within (length c.args.entries.now) (length c.args.parts.now) c.args.pairs.now j i c.requires.matching e in omega (arith, l, long))
+    moves_few h mid new c.args.pairs.now ts c.requires.stands.lawful c.in_ok-resized.ensures.stands.lawful c.in_ok-resized.ensures.places few
+    (c.in_ok-moved.ensures.arranged ∙ c.as_slice.ensures.value)
+    t.shown_are t.kept t.fresh (λ j i e. let l = matched_within (length c.args.entries.now) (length c.args.parts.now) c.args.pairs.now j i c.requires.matching e in
+    omega (arith, l, long))

@@ -12,12 +12,14 @@ put_back-requires c = c.in_ok-found.ensures.found.fits
 pub returns-clause-made : goal.returns-clause-made
 returns-clause-made c =
     let spans = c.in_ok-found.ensures.found.spans in
-    made_in _ _ (Cut c.args.section c.args.at c.args.n) _ _ c.cut-made.result refl (cut_is _ _ _ _ _ spans) (cut_refusal _ _ _ _ _ spans) c.cut-made.ensures.refused c.cut-made.ensures.made
+    made_in _ _ (Cut c.args.section c.args.at c.args.n) _ _ c.cut-made.result refl (cut_is _ _ _ _ _ spans)
+    (cut_refusal _ _ _ _ _ spans) c.cut-made.ensures.refused c.cut-made.ensures.made
 
 pub returns-clause-unmade : goal.returns-clause-unmade
 returns-clause-unmade c =
     let spans = c.in_ok-found.ensures.found.spans in
-    unmade_in _ _ (Cut c.args.section c.args.at c.args.n) _ _ c.cut-made.result refl (cut_is _ _ _ _ _ spans) (cut_refusal _ _ _ _ _ spans) c.cut-made.ensures.refused c.cut-made.ensures.unmade
+    unmade_in _ _ (Cut c.args.section c.args.at c.args.n) _ _ c.cut-made.result refl (cut_is _ _ _ _ _ spans)
+    (cut_refusal _ _ _ _ _ spans) c.cut-made.ensures.refused c.cut-made.ensures.unmade
 
 pub returns-clause-sections : goal.returns-clause-sections
 returns-clause-sections c =

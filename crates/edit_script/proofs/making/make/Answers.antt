@@ -11,7 +11,8 @@ returns-in-Add-clause-made c =
 
 pub returns-in-Add-clause-unmade : goal.returns-in-Add-clause-unmade
 returns-in-Add-clause-unmade c =
-    unmade_in _ _ (Add c.in-Add.at c.in-Add.title) (Add c.in-Add.at c.in-Add.title) _ c.add.result (ap replica_command c.in-Add.is) refl refl c.add.ensures.refused c.add.ensures.unmade
+    unmade_in _ _ (Add c.in-Add.at c.in-Add.title) (Add c.in-Add.at c.in-Add.title) _ c.add.result
+    (ap replica_command c.in-Add.is) refl refl c.add.ensures.refused c.add.ensures.unmade
 
 pub returns-in-DropSection-clause-made : goal.returns-in-DropSection-clause-made
 returns-in-DropSection-clause-made c =
@@ -27,4 +28,6 @@ pub returns-in-Add-clause-sections : goal.returns-in-Add-clause-sections
 returns-in-Add-clause-sections c = add_kept _ _ _ c.in-Add.at c.in-Add.title c.add.result c.add.ensures.stands.lawful c.add.ensures.refused c.add.ensures.made c.requires.sections
 
 pub returns-in-DropSection-clause-sections : goal.returns-in-DropSection-clause-sections
-returns-in-DropSection-clause-sections c = drop_kept _ _ _ c.in-DropSection.section c.drop_section.result c.drop_section.ensures.stands.lawful c.drop_section.ensures.refused c.drop_section.ensures.made c.requires.sections
+returns-in-DropSection-clause-sections c =
+    drop_kept _ _ _ c.in-DropSection.section c.drop_section.result c.drop_section.ensures.stands.lawful c.drop_section.ensures.refused c.drop_section.ensures.made
+    c.requires.sections

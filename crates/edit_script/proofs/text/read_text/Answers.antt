@@ -23,8 +23,10 @@ pub scalars-preserved : goal.scalars-preserved
 scalars-preserved c =
     let pushed = chars_push _ _ _ (IsUtf8-string_bytes c.scalars.new) (IsUtf8-string_bytes c.push.new.self) c.in_ok-push.ensures.bytes in (
       c.in-Some.ensures.utf8,
-      written_next _ (chars (string_bytes c.scalars.new)) _ c.in-Some.behind.now c.in-Some.scalar c.scalars.invariant.1 c.in-Some.ensures.some ∙ ap (λ (l : List ℕ). flat_map escaped_scalar l ++ c.in-Some.behind.now) (sym pushed),
+      written_next _ (chars (string_bytes c.scalars.new)) _ c.in-Some.behind.now c.in-Some.scalar c.scalars.invariant.1 c.in-Some.ensures.some
+          ∙ ap (λ (l : List ℕ). flat_map escaped_scalar l ++ c.in-Some.behind.now) (sym pushed),
     )
 
 pub returns-clause-every : goal.returns-clause-every
-returns-clause-every c new spelled = all_read _ (chars (string_bytes c.scalars.new)) _ new c.scalars.invariant.1 (eqb-true _ 0 (sym c.is_empty.ensures ∙ c.scalars-test.false)) spelled
+returns-clause-every c new spelled =
+    all_read _ (chars (string_bytes c.scalars.new)) _ new c.scalars.invariant.1 (eqb-true _ 0 (sym c.is_empty.ensures ∙ c.scalars-test.false)) spelled

@@ -1,4 +1,3 @@
-use Rattle.command_kinds.specs.Changes.{change}
 use Rattle.manuscript_cli.specs.Alone.{about_text}
 use Rattle.manuscript_cli.proofs.AloneLemmas.{written_alone}
 use Rattle.manuscript_cli.proofs.about.about.Goals as goal
@@ -7,4 +6,8 @@ pub returns : goal.returns
 returns g c =
     let before = g.O.Out.seen c.args.output.now in
     let after = g.O.Out.seen c.write_pieces-written.new.out in
-    written_alone _ _ _ _ (c.ended.ensures.out about_text (change before after) (c.gone_out.ensures before after about_text c.write_pieces-written.ensures))
+    written_alone _ _ _ _ (record {
+      result = c.gone_out.result;
+      did = c.gone_out.ensures before after about_text c.write_pieces-written.ensures;
+      told = c.ended.ensures;
+    })

@@ -1,5 +1,4 @@
 use Rattle.std.proofs.Common.{inl, inr, refl}
-use Rattle.std.specs.Prelude.{Ok}
 use Rattle.replica_file.proofs.LoadLemmas.{loaded_synced}
 use Rattle.command_kinds.proofs.CrashLemmas.{kept_never_torn}
 use Rattle.command_kinds.proofs.LoadedLemmas.{keeps_file}
@@ -19,7 +18,7 @@ returns-in-Ok g c =
         read = k.read;
         count = k.count;
         loaded = (_, _, loaded.cause, k.writes);
-        reports = report_written (check_tells k.text) (check_once k.text) _ _ _ _ _ _ loaded k.writes;
+        reports = report_written (check_tells k.text) (check_once k.text) _ _ _ _ loaded _ _ k.writes;
       })
       | inr k ↦
           let keeps = keeps_file file _ loaded in

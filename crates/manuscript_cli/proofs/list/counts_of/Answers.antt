@@ -15,4 +15,5 @@ entries-preserved c =
     let below : c.entries.at < length es = omega (arith, c.entries-test.true) in
     let is : e ≡ get_or es c.entries.at e = c.index-entries-at.is in
     c.in_ok-push.ensures.items ∙ (λ i. c.entries.invariant i ++ record { at = c.entries.at; clusters = c.in_ok-clusters.ensures i } ∷ [])
-    ∙ sym (counted_next h c.entries.at (entry_sections es) e.section (omega (arith, below, length-map es section)) (ap section is ∙ sym (get_or-map section es c.entries.at e e.section below)))
+    ∙ sym (counted_next h c.entries.at (entry_sections es) e.section (omega (arith, below, length-map es section))
+    (ap section is ∙ sym (get_or-map section es c.entries.at e e.section below)))

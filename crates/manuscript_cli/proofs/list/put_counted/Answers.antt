@@ -12,5 +12,6 @@ returns-in-None g c =
     let entries : List Entry = c.args.entries.now in
     let past : length entries ≤ c.args.counted.now.at = c.in-None.ensures.lookup.3 in
     subst (GathersText {T = Unit {0}} (g.O.Out.seen c.args.output.now) (g.O.Out.seen c.args.output.now) c.args.gather.now c.args.gather.now (Ok tt))
-    (sym (ap (λ (o : Option Entry). elim o [ None ↦ [] | Some e ↦ entry_line c.args.counted.now.at e c.args.counted.now.clusters ]) (slice_get_past entries c.args.counted.now.at past)))
+    (sym (ap (λ (o : Option Entry). elim o [ None ↦ [] | Some e ↦ entry_line c.args.counted.now.at e c.args.counted.now.clusters ])
+    (slice_get_past entries c.args.counted.now.at past)))
     (gathers_none tt _ _)

@@ -10,7 +10,7 @@ returns-in-Ok g c =
     record {
       moments = moments;
       are = λ replica end holds. c.in-Ok.ensures.moments;
-      reports = report_written (moments_tells moments) (moments_told_once moments) _ _ _ _ _ _ c.in-Ok.ensures.meets c.write_held-status.ensures;
+      reports = report_written (moments_tells moments) (moments_told_once moments) _ _ _ _ c.in-Ok.ensures.meets _ _ c.write_held-status.ensures;
     }
 
 pub returns-in-Err : goal.returns-in-Err

@@ -10,5 +10,6 @@ reads-preserved g c =
     record {
       told = start_more (g.G.Disk.seen c.args.file.now).past _ _ (g.G.Disk.seen c.reads.file) c.args.most c.in_ok-count.count kept.looks.past next kept.told;
       bound = omega (arith, ap length next.items, length-append c.reads.bytes.items next.piece, next.long, next.within);
-      looks = looks_then ⊥ (g.G.Disk.seen c.args.file.now) (g.G.Disk.seen c.reads.file) (g.G.Disk.seen c.read_next.new.file) kept.looks (well _ _ _ (λ e. cc e) c.in_ok-count.ensures.looks);
+      looks = looks_then ⊥ (g.G.Disk.seen c.args.file.now) (g.G.Disk.seen c.reads.file) (g.G.Disk.seen c.read_next.new.file) kept.looks
+          (well _ _ _ (λ e. cc e) c.in_ok-count.ensures.looks);
     }

@@ -10,7 +10,8 @@ returns-in-Ok-clause-meets g c =
 pub returns-in-Err-clause-meets : goal.returns-in-Err-clause-meets
 returns-in-Err-clause-meets g c =
     let opened = c.in_ok-open.ensures.meets in
-    rw c.from.ensures (not_all_served _ _ _ _ _ opened.0 opened.1 opened.2 _ c.in-Err.fault _ refl (rw c.requires at c.in-Err.ensures.too_long) (rw c.requires at c.in-Err.ensures.partly)
+    rw c.from.ensures (not_all_served _ _ _ _ _ opened.0 opened.1 opened.2 _ c.in-Err.fault _ refl (rw c.requires at c.in-Err.ensures.too_long)
+    (rw c.requires at c.in-Err.ensures.partly)
     c.in-Err.ensures.dock_fault)
 
 pub returns-in-Ok-clause-dock : goal.returns-in-Ok-clause-dock

@@ -28,7 +28,8 @@ returns-in_err-text-clause-gives g c kept =
     let p = err_from_is_err_and c.from_residual-in_err-text.result c.from_residual-in_err-text.ensures.1 in
     rw (p.1, p.2) (
       Refuses why,
-      input_gives (change (g.G.Disk.seen c.args.base.now) (g.G.Disk.seen c.check_base.new.base)) (change (g.S.Source.seen c.args.draft.now) (g.S.Source.seen c.read_text.new.source))
+      input_gives (change (g.G.Disk.seen c.args.base.now) (g.G.Disk.seen c.check_base.new.base))
+          (change (g.S.Source.seen c.args.draft.now) (g.S.Source.seen c.read_text.new.source))
           c.args.replica.now c.args.replica.now kept ok.0 ok.1 ok.2 _ why c.in_err-text.ensures.none (λ e. ap Err e) c.in_err-text.ensures.count,
     )
 
@@ -56,7 +57,8 @@ returns-in_err-made-clause-gives g c kept =
     rw (p.1, p.2) (
       Refuses why,
       text_gives (change (g.G.Disk.seen c.args.base.now) (g.G.Disk.seen c.check_base.new.base)) input
-          c.args.replica.now c.revise_to.new.replica kept ok.0 ok.1 ok.2 c.as_slice-draft.result.now why other (subst (IsTextRead input) (sym c.as_slice-draft.ensures.value) c.in_ok-text.ensures.text) c.in_err-made.ensures.err,
+          c.args.replica.now c.revise_to.new.replica kept ok.0 ok.1 ok.2 c.as_slice-draft.result.now why other
+          (subst (IsTextRead input) (sym c.as_slice-draft.ensures.value) c.in_ok-text.ensures.text) c.in_err-made.ensures.err,
     )
 
 pub returns-clause-gives : goal.returns-clause-gives
@@ -69,7 +71,8 @@ returns-clause-gives g c kept =
     false≢true (sym c.if-is_same.false ∙ c.is_same.ensures.1 (e ∙ sym (c.written.ensures ∙ c.in_ok-shown.ensures.shown))) in
     let read = subst (IsTextRead input) (sym c.as_slice-draft.ensures.value) c.in_ok-text.ensures.text in
     let counted : c.section_counts-sections.result ≡ section_counts now.held.history (drop (length (accepted c.args.replica.now.held.history)) (accepted now.held.history)) =
-    c.section_counts-sections.ensures ∙ ap (λ l. section_counts now.held.history (drop l (accepted now.held.history))) (c.len-before.ensures ∙ ap length c.accepted.ensures.accepted) in
+    c.section_counts-sections.ensures ∙ ap (λ l. section_counts now.held.history (drop l (accepted now.held.history)))
+    (c.len-before.ensures ∙ ap length c.accepted.ensures.accepted) in
     rw counted
     (draft_gives (change (g.G.Disk.seen c.args.base.now) (g.G.Disk.seen c.check_base.new.base)) input
     c.args.replica.now now ok.0 c.as_slice-draft.result.now made.0 _ kept ok.1 (text_left input _ read) ok.2 read.short other made.1 made.2 made.3 c.requires.ready.settled made.4)

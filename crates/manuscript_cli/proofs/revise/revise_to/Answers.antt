@@ -39,6 +39,7 @@ returns-clause-made c =
       e,
       some,
       fits,
-      revised_to c.revise.result c.in_ok-made.made c.args.replica.now c.revise.new.replica c.in_ok-draft.draft is c.arranged_reads.ensures c.revise.ensures.revised c.revise.ensures.same c.revise.ensures.costs
+      revised_to c.revise.result c.in_ok-made.made c.args.replica.now c.revise.new.replica c.in_ok-draft.draft is c.arranged_reads.ensures c.revise.ensures.revised
+          c.revise.ensures.same c.revise.ensures.costs
           c.revise.ensures.stands c.revise.ensures.settled,
     )

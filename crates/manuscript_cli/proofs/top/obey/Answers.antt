@@ -25,7 +25,8 @@ pub returns-in-Edit-clause-meets : goal.returns-in-Edit-clause-meets
 returns-in-Edit-clause-meets g c =
     let old = all_objects (g.S.Source.seen c.args.input.now) (g.O.Out.seen c.args.output.now) (g.N.Out.seen c.args.notes.now) (g.H.Disk.seen c.args.home.now)
     (g.G.Disk.seen c.args.guest.now) (g.W.Wire.seen c.args.wire.now) (g.D.Dock.seen c.args.dock.now) in
-    obeyed g.S.Source.seen g.O.Out.seen g.N.Out.seen g.H.Disk.seen g.G.Disk.seen g.W.Wire.seen g.D.Dock.seen (map string_bytes c.args.words.now) old c.in-Edit.is refl refl refl refl refl refl refl refl (record {
+    obeyed g.S.Source.seen g.O.Out.seen g.N.Out.seen g.H.Disk.seen g.G.Disk.seen g.W.Wire.seen g.D.Dock.seen
+    (map string_bytes c.args.words.now) old c.in-Edit.is refl refl refl refl refl refl refl refl (record {
       others = refl;
       does = c.save_given.ensures.saves.1;
       leaves = c.save_given.ensures.leaves;
@@ -36,7 +37,8 @@ pub returns-in-Take-clause-meets : goal.returns-in-Take-clause-meets
 returns-in-Take-clause-meets g c =
     let old = all_objects (g.S.Source.seen c.args.input.now) (g.O.Out.seen c.args.output.now) (g.N.Out.seen c.args.notes.now) (g.H.Disk.seen c.args.home.now)
     (g.G.Disk.seen c.args.guest.now) (g.W.Wire.seen c.args.wire.now) (g.D.Dock.seen c.args.dock.now) in
-    obeyed g.S.Source.seen g.O.Out.seen g.N.Out.seen g.H.Disk.seen g.G.Disk.seen g.W.Wire.seen g.D.Dock.seen (map string_bytes c.args.words.now) old c.in-Take.is refl refl refl refl refl refl refl refl (record {
+    obeyed g.S.Source.seen g.O.Out.seen g.N.Out.seen g.H.Disk.seen g.G.Disk.seen g.W.Wire.seen g.D.Dock.seen
+    (map string_bytes c.args.words.now) old c.in-Take.is refl refl refl refl refl refl refl refl (record {
       others = refl;
       does = c.save_given-in-Take.ensures.saves.1;
       leaves = c.save_given-in-Take.ensures.leaves;
@@ -47,7 +49,8 @@ pub returns-in-Merge-clause-meets : goal.returns-in-Merge-clause-meets
 returns-in-Merge-clause-meets g c =
     let old = all_objects (g.S.Source.seen c.args.input.now) (g.O.Out.seen c.args.output.now) (g.N.Out.seen c.args.notes.now) (g.H.Disk.seen c.args.home.now)
     (g.G.Disk.seen c.args.guest.now) (g.W.Wire.seen c.args.wire.now) (g.D.Dock.seen c.args.dock.now) in
-    obeyed g.S.Source.seen g.O.Out.seen g.N.Out.seen g.H.Disk.seen g.G.Disk.seen g.W.Wire.seen g.D.Dock.seen (map string_bytes c.args.words.now) old c.in-Merge.is refl refl refl refl refl refl refl refl (record {
+    obeyed g.S.Source.seen g.O.Out.seen g.N.Out.seen g.H.Disk.seen g.G.Disk.seen g.W.Wire.seen g.D.Dock.seen
+    (map string_bytes c.args.words.now) old c.in-Merge.is refl refl refl refl refl refl refl refl (record {
       others = refl;
       does = c.save_given-in-Merge.ensures.saves.1;
       leaves = c.save_given-in-Merge.ensures.leaves;
@@ -58,7 +61,8 @@ pub returns-in-Sync-clause-meets : goal.returns-in-Sync-clause-meets
 returns-in-Sync-clause-meets g c =
     let old = all_objects (g.S.Source.seen c.args.input.now) (g.O.Out.seen c.args.output.now) (g.N.Out.seen c.args.notes.now) (g.H.Disk.seen c.args.home.now)
     (g.G.Disk.seen c.args.guest.now) (g.W.Wire.seen c.args.wire.now) (g.D.Dock.seen c.args.dock.now) in
-    obeyed g.S.Source.seen g.O.Out.seen g.N.Out.seen g.H.Disk.seen g.G.Disk.seen g.W.Wire.seen g.D.Dock.seen (map string_bytes c.args.words.now) old c.in-Sync.is refl refl refl refl refl refl refl refl (record {
+    obeyed g.S.Source.seen g.O.Out.seen g.N.Out.seen g.H.Disk.seen g.G.Disk.seen g.W.Wire.seen g.D.Dock.seen
+    (map string_bytes c.args.words.now) old c.in-Sync.is refl refl refl refl refl refl refl refl (record {
       others = refl;
       does = c.save_given-in-Sync.ensures.saves.1;
       leaves = c.save_given-in-Sync.ensures.leaves;
@@ -69,13 +73,15 @@ pub returns-in-Revise-clause-meets : goal.returns-in-Revise-clause-meets
 returns-in-Revise-clause-meets g c =
     let old = all_objects (g.S.Source.seen c.args.input.now) (g.O.Out.seen c.args.output.now) (g.N.Out.seen c.args.notes.now) (g.H.Disk.seen c.args.home.now)
     (g.G.Disk.seen c.args.guest.now) (g.W.Wire.seen c.args.wire.now) (g.D.Dock.seen c.args.dock.now) in
-    obeyed g.S.Source.seen g.O.Out.seen g.N.Out.seen g.H.Disk.seen g.G.Disk.seen g.W.Wire.seen g.D.Dock.seen (map string_bytes c.args.words.now) old c.in-Revise.is refl refl refl refl refl refl refl refl (
+    obeyed g.S.Source.seen g.O.Out.seen g.N.Out.seen g.H.Disk.seen g.G.Disk.seen g.W.Wire.seen g.D.Dock.seen
+    (map string_bytes c.args.words.now) old c.in-Revise.is refl refl refl refl refl refl refl refl (
       c.revise_file.ensures.saves.0,
       record {
         others = refl;
         does = c.revise_file.ensures.saves.1;
         leaves = (c.revise_file.ensures.looks, c.revise_file.ensures.reads);
-        unused = λ told why refuses. let same = c.revise_file.ensures.unused told why refuses in λ i. record old { streams = record old.streams { input = same.0 i }; guest = same.1 i };
+        unused = λ told why refuses. let same =
+            c.revise_file.ensures.unused told why refuses in λ i. record old { streams = record old.streams { input = same.0 i }; guest = same.1 i };
       },
     )
 
@@ -83,12 +89,14 @@ pub returns-in-ReviseSince-clause-meets : goal.returns-in-ReviseSince-clause-mee
 returns-in-ReviseSince-clause-meets g c =
     let old = all_objects (g.S.Source.seen c.args.input.now) (g.O.Out.seen c.args.output.now) (g.N.Out.seen c.args.notes.now) (g.H.Disk.seen c.args.home.now)
     (g.G.Disk.seen c.args.guest.now) (g.W.Wire.seen c.args.wire.now) (g.D.Dock.seen c.args.dock.now) in
-    obeyed g.S.Source.seen g.O.Out.seen g.N.Out.seen g.H.Disk.seen g.G.Disk.seen g.W.Wire.seen g.D.Dock.seen (map string_bytes c.args.words.now) old c.in-ReviseSince.is refl refl refl refl refl refl refl refl (
+    obeyed g.S.Source.seen g.O.Out.seen g.N.Out.seen g.H.Disk.seen g.G.Disk.seen g.W.Wire.seen g.D.Dock.seen
+    (map string_bytes c.args.words.now) old c.in-ReviseSince.is refl refl refl refl refl refl refl refl (
       c.revise_file_since.ensures.saves.0,
       record {
         others = refl;
         does = c.revise_file_since.ensures.saves.1;
         leaves = (c.revise_file_since.ensures.looks, c.revise_file_since.ensures.reads, c.revise_file_since.ensures.moment);
-        unused = λ told why refuses. let same = c.revise_file_since.ensures.unused told why refuses in λ i. record old { streams = record old.streams { input = same.0 i }; guest = same.1 i };
+        unused = λ told why refuses. let same =
+            c.revise_file_since.ensures.unused told why refuses in λ i. record old { streams = record old.streams { input = same.0 i }; guest = same.1 i };
       },
     )

@@ -19,6 +19,7 @@ scalar_at-last-requires c =
 
 pub returns-clause-found : goal.returns-clause-found
 returns-clause-found c =
-    passage_found c.args.replica.now c.args.section c.args.at c.args.n (c.in_ok-start.start, c.in_ok-start.count) c.scalar_at-first.result c.scalar_at-last.result c.unwrap-names.result
+    passage_found c.args.replica.now c.args.section c.args.at c.args.n
+    (c.in_ok-start.start, c.in_ok-start.count) c.scalar_at-first.result c.scalar_at-last.result c.unwrap-names.result
     c.in_ok-start.ensures.found c.requires c.scalar_at-first.ensures c.scalar_at-last.ensures
     (subst (λ o. IfSome o (λ ns. ns ≡ c.scalar_at-first.result ∷ c.scalar_at-last.result ∷ [])) c.unwrap-names.ensures c.read.ensures.some)

@@ -12,4 +12,5 @@ returns-clause-found c =
 pub returns-clause-none : goal.returns-clause-none
 returns-clause-none c =
     let found = text_there _ _ (string_bytes c.in-Some.text) (sym (ap (option_map string_bytes) c.in-Some.is) ∙ c.in_ok-text.ensures.text) in
-    range_missing c.args.replica.now c.args.section c.args.at c.args.n c.as_str.result.now found.0 c.cluster_span.result _ c.ok_or.ensures.value found.1 (c.as_str.ensures.value ∙ found.2) c.cluster_span.ensures.none
+    range_missing c.args.replica.now c.args.section c.args.at c.args.n c.as_str.result.now found.0 c.cluster_span.result _ c.ok_or.ensures.value found.1
+    (c.as_str.ensures.value ∙ found.2) c.cluster_span.ensures.none

@@ -41,7 +41,8 @@ walk-preserved c =
       | in-Some+in_ok-push w ↦
           subst (λ z. Walks (P h ops z.items) ops positions (k + 1)) (sym w.entries-is)
           (walk_goes_on (P h ops old) (P h ops w.push.new.self.items) ops positions k p at
-          (walk_puts f g ops old w.push.new.self.items w.in-Some.entry p at.op at.below at.is (sym (ap (option_map g) w.in-Some.is) ∙ sym read) w.in_ok-push.ensures.items at.holds))
+          (walk_puts f g ops old w.push.new.self.items w.in-Some.entry p at.op at.below at.is
+          (sym (ap (option_map g) w.in-Some.is) ∙ sym read) w.in_ok-push.ensures.items at.holds))
       | in_default w ↦
           subst (λ z. Walks (P h ops z.items) ops positions (k + 1)) (sym w.entries-is)
           (walk_goes_on (P h ops old) (P h ops old) ops positions k p at
@@ -52,5 +53,6 @@ pub returns-clause-entries : goal.returns-clause-entries
 returns-clause-entries c =
     let h : List Op = c.args.replica.now.held.history in
     let ops : List Op = reverse h in
-    walk_ends (P h ops c.walk.entries.items) ops (between h ops c.walk.entries.items) c.sections_and_notes-at-items.result.now c.walk.at-index (omega (arith, c.walk-test.false)) c.walk.invariant
+    walk_ends (P h ops c.walk.entries.items) ops (between h ops c.walk.entries.items) c.sections_and_notes-at-items.result.now c.walk.at-index
+    (omega (arith, c.walk-test.false)) c.walk.invariant
     ∙ ap (said (listed_line h)) (take_all (length ops) ops (omega arith))

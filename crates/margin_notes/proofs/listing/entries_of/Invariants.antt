@@ -6,4 +6,5 @@ use Rattle.margin_notes.proofs.listing.entries_of.Given as goal
 
 -- the entries are those of the operations that were passed
 abbrev pub invariant-walk : goal.invariant-walk
-invariant-walk l = Walks (IsPutDown (listed_line l.replica.held.history) (line_of_entry (reverse l.replica.held.history)) (reverse l.replica.held.history) l.entries.items) (reverse l.replica.held.history) l.at-items l.at-index
+invariant-walk l = Walks (IsPutDown (listed_line l.replica.held.history) (line_of_entry (reverse l.replica.held.history)) (reverse l.replica.held.history) l.entries.items)
+    (reverse l.replica.held.history) l.at-items l.at-index

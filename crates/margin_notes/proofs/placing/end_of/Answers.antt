@@ -5,7 +5,12 @@ use Rattle.margin_notes.proofs.placing.end_of.Goals as goal
 
 pub overflow_add-result : goal.overflow_add-result
 overflow_add-result c =
-    omega (arith, c.in-Some-visible_before.ensures.some, few_texts c.args.places.now c.requires.history c.args.section c.args.last c.in-Some.list.now c.requires.stands c.in-Some.ensures.text, c.requires.few)
+    omega (
+      arith,
+      c.in-Some-visible_before.ensures.some,
+      few_texts c.args.places.now c.requires.history c.args.section c.args.last c.in-Some.list.now c.requires.stands c.in-Some.ensures.text,
+      c.requires.few,
+    )
 
 pub returns-then-is_hidden : goal.returns-then-is_hidden
 returns-then-is_hidden c = λ h st m.

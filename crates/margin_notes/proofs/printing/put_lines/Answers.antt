@@ -17,7 +17,8 @@ entries-preserved g c =
     let below : c.entries.entry-index < length xs = omega (arith, c.entries-test.true) in
     let is : c.entry-item.result ≡ get_or xs c.entries.entry-index c.entry-item.result = c.entry-item.is in
     gathers_parts_grow f xs c.entries.entry-index c.entry-item.result tt tt _ _ _ _ _ _ below c.entries.invariant
-    (subst (λ x. GathersText {T = Unit {0}} (g.O.Out.seen c.entries.output) (g.O.Out.seen c.put_line.new.output) c.entries.gather c.put_line.new.gather (Ok tt) (f x)) is c.in_ok-put_line.ensures)
+    (subst (λ x. GathersText {T = Unit {0}} (g.O.Out.seen c.entries.output) (g.O.Out.seen c.put_line.new.output) c.entries.gather c.put_line.new.gather (Ok tt) (f x)) is
+    c.in_ok-put_line.ensures)
 
 pub returns-in_err-put_line : goal.returns-in_err-put_line
 returns-in_err-put_line g c =
@@ -27,4 +28,5 @@ returns-in_err-put_line g c =
     let is : c.entry-item.result ≡ get_or xs c.entries.entry-index c.entry-item.result = c.entry-item.is in
     let p = err_from_is_err_and c.from_residual.result c.from_residual.ensures.1 in
     rw p.1 (gathers_parts_stop f xs c.entries.entry-index c.entry-item.result tt _ _ _ _ _ _ below c.entries.invariant
-    (subst (λ x. GathersText {T = Unit {0}} (g.O.Out.seen c.entries.output) (g.O.Out.seen c.put_line.new.output) c.entries.gather c.put_line.new.gather (Err (record {})) (f x)) is c.in_err-put_line.ensures))
+    (subst (λ x. GathersText {T = Unit {0}} (g.O.Out.seen c.entries.output) (g.O.Out.seen c.put_line.new.output) c.entries.gather c.put_line.new.gather (Err (record {})) (f x)) is
+    c.in_err-put_line.ensures))

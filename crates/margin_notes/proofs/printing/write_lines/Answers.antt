@@ -10,10 +10,12 @@ pub returns-in_err-put_lines : goal.returns-in_err-put_lines
 returns-in_err-put_lines g c =
     let p = err_from_is_err_and c.from_residual.result c.from_residual.ensures.1 in
     rw p.1 (stop_writes {T = Unit {0}} {S = Unit {0}} _ _ _ _
-    (subst (λ w. GathersText {T = Unit {0}} (g.O.Out.seen c.args.output.now) (g.O.Out.seen c.put_lines.new.output) w c.put_lines.new.gather (Err (record {})) (flat_map (entry_bytes (reverse c.args.replica.now.held.history)) c.args.entries.now)) c.new-gather.ensures c.in_err-put_lines.ensures))
+    (subst (λ w. GathersText {T = Unit {0}} (g.O.Out.seen c.args.output.now) (g.O.Out.seen c.put_lines.new.output) w c.put_lines.new.gather (Err (record {}))
+    (flat_map (entry_bytes (reverse c.args.replica.now.held.history)) c.args.entries.now)) c.new-gather.ensures c.in_err-put_lines.ensures))
 
 pub returns : goal.returns
 returns g c =
     flush_writes {T = Unit {0}} {S = Unit {0}} tt c.flush.result _ _ _ _ _
-    (subst (λ w. GathersText {T = Unit {0}} (g.O.Out.seen c.args.output.now) (g.O.Out.seen c.put_lines.new.output) w c.put_lines.new.gather (Ok tt) (flat_map (entry_bytes (reverse c.args.replica.now.held.history)) c.args.entries.now)) c.new-gather.ensures c.in_ok-put_lines.ensures)
+    (subst (λ w. GathersText {T = Unit {0}} (g.O.Out.seen c.args.output.now) (g.O.Out.seen c.put_lines.new.output) w c.put_lines.new.gather (Ok tt)
+    (flat_map (entry_bytes (reverse c.args.replica.now.held.history)) c.args.entries.now)) c.new-gather.ensures c.in_ok-put_lines.ensures)
     c.flush.ensures.text

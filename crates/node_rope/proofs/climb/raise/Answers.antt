@@ -5,10 +5,12 @@ use Rattle.node_rope.proofs.RaiseLemmas.{raised-step, links-trans}
 use Rattle.node_rope.proofs.climb.raise.Goals as goal
 
 pub raise-cur-requires-clause-counts : goal.raise-cur-requires-clause-counts
-raise-cur-requires-clause-counts g c = let x = c.in-Some.l.number in omega (arith, c.requires.small.counts x, ap (λ h. h.count) (c.up.invariant.raised.at x (ap link_number c.in-Some.is)))
+raise-cur-requires-clause-counts g c = let x =
+    c.in-Some.l.number in omega (arith, c.requires.small.counts x, ap (λ h. h.count) (c.up.invariant.raised.at x (ap link_number c.in-Some.is)))
 
 pub raise-cur-requires-clause-weights : goal.raise-cur-requires-clause-weights
-raise-cur-requires-clause-weights g c = let x = c.in-Some.l.number in omega (arith, c.requires.small.weights x, ap (λ h. h.weight) (c.up.invariant.raised.at x (ap link_number c.in-Some.is)))
+raise-cur-requires-clause-weights g c = let x =
+    c.in-Some.l.number in omega (arith, c.requires.small.weights x, ap (λ h. h.weight) (c.up.invariant.raised.at x (ap link_number c.in-Some.is)))
 
 pub up-preserved : goal.up-preserved
 up-preserved g c =

@@ -13,7 +13,8 @@ shift-cur-requires-clause-covers g c = off-covers (shapes_of c.up.store) c.args.
 pub up-preserved : goal.up-preserved
 up-preserved g c =
     let inv = c.up.invariant in let e = c.shift-cur.ensures in
-    let step = shifted-step c.up.store c.shift-cur.new.self c.args.root c.args.less c.args.more c.up.cur c.shift-cur.result c.in-Some.l c.in-Some.is inv.but inv.off e.parent e.count e.kept e.shapes in
+    let step = shifted-step c.up.store c.shift-cur.new.self c.args.root c.args.less c.args.more c.up.cur c.shift-cur.result c.in-Some.l c.in-Some.is inv.but inv.off e.parent
+    e.count e.kept e.shapes in
     record {
       but = step.once.but;
       off = step.off;
@@ -27,5 +28,6 @@ up-preserved g c =
 pub up-smaller : goal.up-smaller
 up-smaller g c =
     let inv = c.up.invariant in let e = c.shift-cur.ensures in
-    let step = shifted-step c.up.store c.shift-cur.new.self c.args.root c.args.less c.args.more c.up.cur c.shift-cur.result c.in-Some.l c.in-Some.is inv.but inv.off e.parent e.count e.kept e.shapes in
+    let step = shifted-step c.up.store c.shift-cur.new.self c.args.root c.args.less c.args.more c.up.cur c.shift-cur.result c.in-Some.l c.in-Some.is inv.but inv.off e.parent
+    e.count e.kept e.shapes in
     step.once.smaller

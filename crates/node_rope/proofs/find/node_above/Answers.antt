@@ -6,7 +6,11 @@ use Rattle.node_rope.proofs.BehindLemmas.{last-here, last-up, followed-up, follo
 use Rattle.node_rope.proofs.find.node_above.Goals as goal
 
 pub up-init : goal.up-init
-up-init g c = record { made = c.requires.made; read = c.shape-shape.ensures; last = last-here c.args.store.now c.args.root c.requires.sound c.args.at.number (ap link_number c.requires.last) }
+up-init g c = record {
+  made = c.requires.made;
+  read = c.shape-shape.ensures;
+  last = last-here c.args.store.now c.args.root c.requires.sound c.args.at.number (ap link_number c.requires.last);
+}
 
 pub returns-then-leads_to-clause-behind : goal.returns-then-leads_to-clause-behind
 returns-then-leads_to-clause-behind g c =
@@ -44,4 +48,5 @@ up-smaller g c =
 pub returns-clause-behind : goal.returns-clause-behind
 returns-clause-behind g c =
     let inv = c.up.invariant in
-    followed-top c.args.store.now c.args.root c.requires.sound c.args.at.number c.up.cur.number (made-below c.args.store.now c.up.cur inv.made) (ap (λ h. h.parent) (sym inv.read) ∙ c.in_default.is) inv.last
+    followed-top c.args.store.now c.args.root c.requires.sound c.args.at.number c.up.cur.number (made-below c.args.store.now c.up.cur inv.made)
+    (ap (λ h. h.parent) (sym inv.read) ∙ c.in_default.is) inv.last

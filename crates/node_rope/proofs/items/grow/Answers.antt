@@ -18,7 +18,8 @@ attach-requires-clause-small g c =
 pub returns-in-Err-clause-rope : goal.returns-in-Err-clause-rope
 returns-in-Err-clause-rope g c =
     let no = c.in-Err.ensures.refused in
-    alike-roped (own_of g.T.Weigh.weight_of g.T.Weigh.rank_of) c.args.store.now c.attach.new.store c.args.root.now c.args.map.now.links c.attach.new.map.links c.requires.rope no.alike no.links
+    alike-roped (own_of g.T.Weigh.weight_of g.T.Weigh.rank_of) c.args.store.now c.attach.new.store c.args.root.now c.args.map.now.links c.attach.new.map.links c.requires.rope
+    no.alike no.links
 
 pub returns-in-Err-clause-refused : goal.returns-in-Err-clause-refused
 returns-in-Err-clause-refused g c =
@@ -30,7 +31,8 @@ returns-clause-rope g c =
     let a = c.args in let e = c.rebalance-top.ensures in let w = c.own_of-own.ensures in
     let v = c.rebalance-top.new.store in
     let grown = regrown a.store.now c.attach.new.store v a.root.now c.rebalance-top.result a.key c.own_of-own.result a.value c.in-Ok.node c.in-Ok.ensures.grown e in
-    grown-roped (own_of g.T.Weigh.weight_of g.T.Weigh.rank_of) a.store.now v a.root.now c.rebalance-top.result a.map.now.links c.attach.new.map.links a.key c.own_of-own.result a.value c.in-Ok.node c.requires.rope grown (λ l h. e.kept l (c.attach.ensures.kept l h))
+    grown-roped (own_of g.T.Weigh.weight_of g.T.Weigh.rank_of) a.store.now v a.root.now c.rebalance-top.result a.map.now.links c.attach.new.map.links a.key c.own_of-own.result
+    a.value c.in-Ok.node c.requires.rope grown (λ l h. e.kept l (c.attach.ensures.kept l h))
     (omega (arith, c.requires.room)) (omega (arith, w.light)) (omega (arith, w.fits)) w.own c.requires.fresh c.in-Ok.ensures.set
 
 pub returns-clause-placed : goal.returns-clause-placed
@@ -39,7 +41,8 @@ returns-clause-placed g c =
     let v = c.rebalance-top.new.store in
     let grown = regrown a.store.now c.attach.new.store v a.root.now c.rebalance-top.result a.key c.own_of-own.result a.value c.in-Ok.node c.in-Ok.ensures.grown e in
     list-beside a.store.now v a.root.now c.rebalance-top.result c.requires.rope.sound a.key c.own_of-own.result a.value c.in-Ok.node grown a.at a.link.number
-    (alone (own_of g.T.Weigh.weight_of g.T.Weigh.rank_of) a.store.now a.root.now a.map.now.links c.requires.rope a.at a.link c.requires.held) a.side (e.same_order ∙ c.in-Ok.ensures.walk)
+    (alone (own_of g.T.Weigh.weight_of g.T.Weigh.rank_of) a.store.now a.root.now a.map.now.links c.requires.rope a.at a.link c.requires.held) a.side
+    (e.same_order ∙ c.in-Ok.ensures.walk)
 
 pub returns-clause-held : goal.returns-clause-held
 returns-clause-held g c =

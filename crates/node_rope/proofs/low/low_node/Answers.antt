@@ -13,8 +13,13 @@ down-preserved-then-rest-left g c =
     record {
       made = near-made a.store.now a.root q.sound q.fits a.most a.side c.in-Some.link c.facing-shape.result (c.facing-shape.ensures ∙ ap (facing_shape a.side) c.shape.ensures);
       near_made = c.low_from_or-near.ensures.made;
-      same = ap (or_else L) c.low_from_or-near.ensures.found ∙ sym (or_else-assoc L (low_from (shapes_of a.store.now) a.most a.side (Some c.in-Some.link)) (low_from (shapes_of a.store.now) a.most a.side c.down.near))
-          ∙ ap (λ o. or_else o (low_from (shapes_of a.store.now) a.most a.side c.down.near)) (sym (place-near a.store.now a.root q.sound q.fits a.most a.side c.in-Some.link c.facing-shape.result (c.facing-shape.ensures ∙ ap (facing_shape a.side) c.shape.ensures) c.down.rest (omega (arith, c.count_below-left.ensures, c.if-rest-left.true)))) ∙ ap (λ o. or_else (first_low (ranks (shapes_of a.store.now)) a.most (drop c.down.rest (seen_order a.side a.store.now o))) (low_from (shapes_of a.store.now) a.most a.side c.down.near)) (sym c.in-Some.is) ∙ c.down.invariant.same;
+      same = ap (or_else L) c.low_from_or-near.ensures.found
+          ∙ sym (or_else-assoc L (low_from (shapes_of a.store.now) a.most a.side (Some c.in-Some.link)) (low_from (shapes_of a.store.now) a.most a.side c.down.near))
+          ∙ ap (λ o. or_else o (low_from (shapes_of a.store.now) a.most a.side c.down.near))
+          (sym (place-near a.store.now a.root q.sound q.fits a.most a.side c.in-Some.link c.facing-shape.result
+          (c.facing-shape.ensures ∙ ap (facing_shape a.side) c.shape.ensures) c.down.rest (omega (arith, c.count_below-left.ensures, c.if-rest-left.true))))
+          ∙ ap (λ o. or_else (first_low (ranks (shapes_of a.store.now)) a.most (drop c.down.rest (seen_order a.side a.store.now o)))
+          (low_from (shapes_of a.store.now) a.most a.side c.down.near)) (sym c.in-Some.is) ∙ c.down.invariant.same;
     }
 
 pub down-preserved : goal.down-preserved
@@ -23,6 +28,11 @@ down-preserved g c =
     record {
       made = far-made a.store.now a.root q.sound q.fits a.most a.side c.in-Some.link c.facing-shape.result (c.facing-shape.ensures ∙ ap (facing_shape a.side) c.shape.ensures);
       near_made = c.down.invariant.near_made;
-      same = ap (λ n. or_else (first_low (ranks (shapes_of a.store.now)) a.most (drop (c.down.rest - n - 1) (seen_order a.side a.store.now c.facing-shape.result.right))) (low_from (shapes_of a.store.now) a.most a.side c.down.near)) c.count_below-left.ensures
-          ∙ ap (λ xs. or_else (first_low (ranks (shapes_of a.store.now)) a.most xs) (low_from (shapes_of a.store.now) a.most a.side c.down.near)) (sym (place-far a.store.now a.root q.sound q.fits a.most a.side c.in-Some.link c.facing-shape.result (c.facing-shape.ensures ∙ ap (facing_shape a.side) c.shape.ensures) c.down.rest (omega (arith, c.count_below-left.ensures, c.if-rest-left.false)))) ∙ ap (λ o. or_else (first_low (ranks (shapes_of a.store.now)) a.most (drop c.down.rest (seen_order a.side a.store.now o))) (low_from (shapes_of a.store.now) a.most a.side c.down.near)) (sym c.in-Some.is) ∙ c.down.invariant.same;
+      same = ap (λ n. or_else (first_low (ranks (shapes_of a.store.now)) a.most (drop (c.down.rest - n - 1) (seen_order a.side a.store.now c.facing-shape.result.right)))
+          (low_from (shapes_of a.store.now) a.most a.side c.down.near)) c.count_below-left.ensures
+          ∙ ap (λ xs. or_else (first_low (ranks (shapes_of a.store.now)) a.most xs) (low_from (shapes_of a.store.now) a.most a.side c.down.near))
+          (sym (place-far a.store.now a.root q.sound q.fits a.most a.side c.in-Some.link c.facing-shape.result
+          (c.facing-shape.ensures ∙ ap (facing_shape a.side) c.shape.ensures) c.down.rest (omega (arith, c.count_below-left.ensures, c.if-rest-left.false))))
+          ∙ ap (λ o. or_else (first_low (ranks (shapes_of a.store.now)) a.most (drop c.down.rest (seen_order a.side a.store.now o)))
+          (low_from (shapes_of a.store.now) a.most a.side c.down.near)) (sym c.in-Some.is) ∙ c.down.invariant.same;
     }

@@ -9,7 +9,8 @@ abbrev pub invariant-down : goal.invariant-down
 invariant-down g l = record {
   made : AreMade l.store l.cur;
   near_made : AreMade l.store l.near;
-  same : or_else (first_low (ranks (shapes_of l.store)) l.most (drop l.rest (seen_order l.side l.store l.cur))) (low_from (shapes_of l.store) l.most l.side l.near) ≡ first_low (ranks (shapes_of l.store)) l.most (drop l.fn.from (seen_order l.side l.store l.fn.root));
+  same : or_else (first_low (ranks (shapes_of l.store)) l.most (drop l.rest (seen_order l.side l.store l.cur))) (low_from (shapes_of l.store) l.most l.side l.near) ≡ first_low
+      (ranks (shapes_of l.store)) l.most (drop l.fn.from (seen_order l.side l.store l.fn.root));
 }
 
 abbrev pub decreases-down : goal.decreases-down

@@ -13,5 +13,6 @@ loop-ch-preserved c = record {
       ∙ ap (λ (l : List ℕ). c.args.out.now.items ++ l) (scalars_more c.args.text.now c.loop-ch.ch-index c.ch-item.result c.loop-ch-test.true c.ch-item.is);
   len = omega (arith, c.put_scalar.ensures.puts.len, c.loop-ch.invariant.len);
   capacity = omega (arith, c.put_scalar.ensures.puts.capacity, c.loop-ch.invariant.capacity);
-  scalars = All-more IsScalar c.args.text.now c.loop-ch.ch-index c.ch-item.result c.loop-ch-test.true c.loop-ch.invariant.scalars (subst IsScalar c.ch-item.is c.put_scalar.ensures.scalar);
+  scalars = All-more IsScalar c.args.text.now c.loop-ch.ch-index c.ch-item.result c.loop-ch-test.true c.loop-ch.invariant.scalars
+      (subst IsScalar c.ch-item.is c.put_scalar.ensures.scalar);
 }

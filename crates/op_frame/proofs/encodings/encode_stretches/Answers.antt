@@ -12,7 +12,8 @@ stretches-preserved c =
     record {
       done = is.done ++ ops;
       whole = is.whole ∙ ap (λ (l : List Op). is.done ++ l) c.in-Some.ensures.taken ∙ sym (append_assoc is.done ops c.next_stretch.new.self);
-      takes = takes_then [] (open_ops c.stretches.run.start c.stretches.run.text.items) (open_ops c.take_stretch.new.run.start c.take_stretch.new.run.text.items) c.args.out.now.items c.stretches.out.items
+      takes = takes_then [] (open_ops c.stretches.run.start c.stretches.run.text.items)
+          (open_ops c.take_stretch.new.run.start c.take_stretch.new.run.text.items) c.args.out.now.items c.stretches.out.items
           c.take_stretch.new.out.items is.done ops is.takes c.in_ok-take_stretch.ensures.takes;
       is_open = c.in_ok-take_stretch.ensures.is_open;
     }

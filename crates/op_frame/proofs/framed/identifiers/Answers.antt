@@ -6,7 +6,8 @@ use Rattle.origin_model.specs.frames.Frames.{AreNames, IsIdentifier}
 use Rattle.op_frame.proofs.framed.identifiers.Goals as goal
 
 pub loop-id-preserved : goal.loop-id-preserved
-loop-id-preserved c = All-more IsIdentifier c.as_slice-ids.result.now c.loop-id.id-index c.id-item.result c.loop-id-test.true c.loop-id.invariant (subst IsIdentifier c.id-item.is c.identifier.ensures)
+loop-id-preserved c = All-more IsIdentifier c.as_slice-ids.result.now c.loop-id.id-index c.id-item.result c.loop-id-test.true c.loop-id.invariant
+    (subst IsIdentifier c.id-item.is c.identifier.ensures)
 
 pub returns : goal.returns
 returns c =

@@ -17,7 +17,8 @@ pub returns-then-end-at : goal.returns-then-end-at
 returns-then-end-at c =
     let a = c.fields.invariant.1 in
     let over : length c.args.bytes.now ≤ c.fields.at = omega (arith, a.short, c.min-end.ensures, c.if-end-at.true, c.field_size.ensures) in
-    subst (IsPartial c.args.grammar) (take_all c.fields.at c.args.bytes.now over) (is_grown c.args.grammar c.fields.due (take c.fields.at c.args.bytes.now) a.rest Front (sym (c.is_whole.ensures.no c.if-is_whole.false)) a.sound)
+    subst (IsPartial c.args.grammar) (take_all c.fields.at c.args.bytes.now over)
+    (is_grown c.args.grammar c.fields.due (take c.fields.at c.args.bytes.now) a.rest Front (sym (c.is_whole.ensures.no c.if-is_whole.false)) a.sound)
 
 pub fields-preserved : goal.fields-preserved
 fields-preserved c = (
@@ -44,4 +45,5 @@ returns-in-Bad c =
     let le : at ≤ end = omega (arith, c.min-end.ensures, c.fields.invariant.0) in
     let long : length (take (end - at) (drop at bytes)) ≡ end - at = length-take-le (end - at) (drop at bytes) (omega (arith, c.min-end.ensures, length-drop at bytes)) in
     subst (IsBad c.args.grammar) (ap (λ (l : List ℕ). l ++ drop end bytes) (next_field bytes at end le) ∙ take-append-drop end bytes)
-    (none_begins c.args.grammar c.fields.due (take at bytes) _ (drop end bytes) c.fields.invariant.1 (c.is_whole.ensures.no c.if-is_whole.false) (omega (arith, long, c.min-end.ensures, c.field_size.ensures)) c.in-Bad.ensures)
+    (none_begins c.args.grammar c.fields.due (take at bytes) _ (drop end bytes) c.fields.invariant.1 (c.is_whole.ensures.no c.if-is_whole.false)
+    (omega (arith, long, c.min-end.ensures, c.field_size.ensures)) c.in-Bad.ensures)

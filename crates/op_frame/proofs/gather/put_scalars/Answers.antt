@@ -13,7 +13,8 @@ first_scalar-requires c = scalar_first_at c.args.head.now c.args.bytes.now c.req
 
 pub loop-place-preserved : goal.loop-place-preserved
 loop-place-preserved c = record {
-  put = put_more c.args.head.now c.args.bytes.now c.requires c.loop-place.place c.loop-place-test.true c.args.text.now.items c.loop-place.text.items c.push.new.self.items c.first_scalar.result c.loop-place.invariant.put
+  put = put_more c.args.head.now c.args.bytes.now c.requires c.loop-place.place c.loop-place-test.true c.args.text.now.items c.loop-place.text.items c.push.new.self.items
+      c.first_scalar.result c.loop-place.invariant.put
       c.in-Ok.ensures.items c.first_scalar.ensures.split c.first_scalar.ensures.is;
   room = omega (arith, c.loop-place.invariant.room, c.in-Ok.ensures.capacity);
 }

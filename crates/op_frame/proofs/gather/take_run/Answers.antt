@@ -9,5 +9,6 @@ put_scalars-requires c = run_held c.args.grammar c.args.head.now c.args.len c.ar
 
 pub returns-clause-takes : goal.returns-clause-takes
 returns-clause-takes c =
-    takes_run_texts c.args.grammar c.args.head.now c.args.len c.args.unread.now.bytes c.requires c.args.start.now c.as_slice.result.now c.args.text.now.items c.put_scalars.new.text.items c.skip.new.self.bytes
+    takes_run_texts c.args.grammar c.args.head.now c.args.len c.args.unread.now.bytes c.requires c.args.start.now c.as_slice.result.now c.args.text.now.items
+    c.put_scalars.new.text.items c.skip.new.self.bytes
     c.as_slice.ensures (c.is_next.ensures c.if-not-is_next.false) c.if-not-put_scalars.ensures.puts c.skip.ensures

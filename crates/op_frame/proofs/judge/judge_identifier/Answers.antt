@@ -16,4 +16,5 @@ returns-then-bytes-lt8 c =
 pub returns : goal.returns
 returns c =
     identifier_done _ _ _ _ c.requires.some c.requires.sound
-    (id_there _ c.number.result c.number.ensures (omega (arith, c.if-number-eq0.false)) (omega arith) (omega (arith, c.requires.short, c.if-bytes-lt8.false)) (λ i. Fits-lt-pow (c.type_inv.bytes i)))
+    (id_there _ c.number.result c.number.ensures (omega (arith, c.if-number-eq0.false)) (omega arith) (omega (arith, c.requires.short, c.if-bytes-lt8.false))
+    (λ i. Fits-lt-pow (c.type_inv.bytes i)))

@@ -7,4 +7,5 @@ returns-then-bytes-eq1 c = (omega (arith, c.if-bytes-eq1.true), body_high_front 
 
 pub returns : goal.returns
 returns c =
-    rw c.body_due.ensures (body_length_done c.args.bytes.now _ (omega (arith, c.requires.some, c.requires.short, c.if-bytes-eq1.false)) c.short_number-len.ensures.bytes c.if-len-gt-LONGEST_BODY.false)
+    rw c.body_due.ensures (body_length_done c.args.bytes.now _
+    (omega (arith, c.requires.some, c.requires.short, c.if-bytes-eq1.false)) c.short_number-len.ensures.bytes c.if-len-gt-LONGEST_BODY.false)

@@ -12,13 +12,15 @@ use Rattle.op_frame.proofs.step.take_frame.Goals as goal
 pub overflow_sub-len : goal.overflow_sub-len
 overflow_sub-len c =
     let d = subst (λ (l : List ℕ). IsDecoded c.in-Ok-Run.field-0 (take c.args.len l)) c.as_slice.ensures c.in-Ok-Run.ensures.ok in
-    (text_there c.in-Ok-Run.head c.args.unread.now.bytes c.args.len c.requires.within (subst (λ (d : Decoded). IsDecoded d (take c.args.len c.args.unread.now.bytes)) c.in-Ok-Run.field-0-is d)).within
+    (text_there c.in-Ok-Run.head c.args.unread.now.bytes c.args.len c.requires.within
+    (subst (λ (d : Decoded). IsDecoded d (take c.args.len c.args.unread.now.bytes)) c.in-Ok-Run.field-0-is d)).within
 
 pub take_held-op-requires : goal.take_held-op-requires
 take_held-op-requires c =
     let d = subst (λ (l : List ℕ). IsDecoded c.in-Ok-Run.field-0 (take c.args.len l)) c.as_slice.ensures c.in-Ok-Run.ensures.ok in
     subst (λ (l : List ℕ). IsHeld l c.in-Ok-Run.head) (sym c.skip-in-Ok-Run.ensures)
-    (text_there c.in-Ok-Run.head c.args.unread.now.bytes c.args.len c.requires.within (subst (λ (d : Decoded). IsDecoded d (take c.args.len c.args.unread.now.bytes)) c.in-Ok-Run.field-0-is d)).held
+    (text_there c.in-Ok-Run.head c.args.unread.now.bytes c.args.len c.requires.within
+    (subst (λ (d : Decoded). IsDecoded d (take c.args.len c.args.unread.now.bytes)) c.in-Ok-Run.field-0-is d)).held
 
 pub returns-in-Err : goal.returns-in-Err
 returns-in-Err c =

@@ -13,7 +13,8 @@ take_frame-requires-clause-frame g c =
 
 pub returns-in-Frame : goal.returns-in-Frame
 returns-in-Frame g c =
-    takes_frame c.args.grammar _ _ _ _ _ _ c.reads.invariant _ c.in-Frame.len c.take_frame.result (subst (λ (l : List ℕ). c.in-Frame.len ≤ length l) c.as_slice.ensures c.in-Frame.ensures.0)
+    takes_frame c.args.grammar _ _ _ _ _ _ c.reads.invariant _ c.in-Frame.len c.take_frame.result
+    (subst (λ (l : List ℕ). c.in-Frame.len ≤ length l) c.as_slice.ensures c.in-Frame.ensures.0)
     (subst (λ (l : List ℕ). IsFrameOf c.args.grammar (take c.in-Frame.len l)) c.as_slice.ensures c.in-Frame.ensures.1) c.take_frame.ensures
 
 pub returns-in-Bad : goal.returns-in-Bad
@@ -26,14 +27,17 @@ pub returns-in_err-refill : goal.returns-in_err-refill
 returns-in_err-refill g c =
     let p = err_from_is_err_and c.from_residual.result c.from_residual.ensures.1 in
     rw (p.1, p.2) (stops c.args.grammar _ _ _ _ _ _ c.reads.invariant _ _ c.in_err-refill.field-0.0 (subst (IsPartial c.args.grammar) c.as_slice.ensures c.in-Prefix.ensures)
-    (subst (λ (n : ℕ). Refills c.reads.unread.bytes c.refill.new.unread.bytes (g.S.Source.seen c.reads.source) (g.S.Source.seen c.refill.new.source) (c.args.room - n) (Err c.in_err-refill.field-0.0))
+    (subst (λ (n : ℕ). Refills c.reads.unread.bytes c.refill.new.unread.bytes (g.S.Source.seen c.reads.source) (g.S.Source.seen c.refill.new.source) (c.args.room - n)
+    (Err c.in_err-refill.field-0.0))
     c.len.ensures c.in_err-refill.ensures))
 
 pub returns-then-not-branch : goal.returns-then-not-branch
 returns-then-not-branch g c =
     let front : IsPartial c.args.grammar c.reads.unread.bytes = subst (IsPartial c.args.grammar) c.as_slice.ensures c.in-Prefix.ensures in
-    let refilled : Refills c.reads.unread.bytes c.refill.new.unread.bytes (g.S.Source.seen c.reads.source) (g.S.Source.seen c.refill.new.source) (c.args.room - c.len.result) (Ok false)
-    = subst (λ (b : Bool). Refills c.reads.unread.bytes c.refill.new.unread.bytes (g.S.Source.seen c.reads.source) (g.S.Source.seen c.refill.new.source) (c.args.room - c.len.result) (Ok b))
+    let refilled : Refills c.reads.unread.bytes c.refill.new.unread.bytes (g.S.Source.seen c.reads.source) (g.S.Source.seen c.refill.new.source) (c.args.room - c.len.result)
+    (Ok false)
+    = subst (λ (b : Bool). Refills c.reads.unread.bytes c.refill.new.unread.bytes (g.S.Source.seen c.reads.source) (g.S.Source.seen c.refill.new.source)
+    (c.args.room - c.len.result) (Ok b))
     c.if-not-branch.true c.in_ok-refill.ensures in
     over c.args.grammar _ _ _ _ _ _ (at_last c.args.grammar _ _ _ _ c.args.offset _ c.reads.invariant _ _ _ refilled) c.at_end.result
     (subst (IsPartial c.args.grammar) (sym refilled.grew) front) (refilled.ends refl).1 c.at_end.ensures.none c.at_end.ensures.cut

@@ -7,7 +7,8 @@ use Rattle.op_frame.proofs.title.judge_text.Goals as goal
 
 pub returns-in_default : goal.returns-in_default
 returns-in_default c =
-    rw c.text_due.ensures (text_done c.args.bytes.now c.args.len c.in_default.ensures.cases.1 (sym c.has_line_end.ensures ∙ c.if-has_line_end.false) c.requires.short c.requires.most)
+    rw c.text_due.ensures (text_done c.args.bytes.now c.args.len c.in_default.ensures.cases.1
+    (sym c.has_line_end.ensures ∙ c.if-has_line_end.false) c.requires.short c.requires.most)
 
 pub returns-then-bytes-len : goal.returns-then-bytes-len
 returns-then-bytes-len c = elim c.then-bytes-len.branch [

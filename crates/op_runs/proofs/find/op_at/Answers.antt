@@ -21,4 +21,5 @@ returns-in-Some c =
 
 pub returns-in-None : goal.returns-in-None
 returns-in-None c =
-    sym (slice_get_past (ops_of c.args.letters.now c.args.others.now c.args.parts.now) c.args.position (omega (arith, c.in-None.ensures.none, ops_len c.args.letters.now c.args.others.now c.args.parts.now c.requires.sound)))
+    sym (slice_get_past (ops_of c.args.letters.now c.args.others.now c.args.parts.now) c.args.position
+    (omega (arith, c.in-None.ensures.none, ops_len c.args.letters.now c.args.others.now c.args.parts.now c.requires.sound)))

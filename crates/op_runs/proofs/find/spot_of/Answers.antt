@@ -10,4 +10,5 @@ returns-in_default-clause-none c = none_floor c.args.parts.now c.args.firsts.now
 
 pub returns-clause-some : goal.returns-clause-some
 returns-clause-some c =
-    spot_floor c.args.parts.now c.args.firsts.now c.in-Some.part c.args.position c.requires.firsts c.in-Some.ensures.some (omega (arith, c.if-position-count.false, c.requires.counted))
+    spot_floor c.args.parts.now c.args.firsts.now c.in-Some.part c.args.position c.requires.firsts c.in-Some.ensures.some
+    (omega (arith, c.if-position-count.false, c.requires.counted))

@@ -27,21 +27,27 @@ returns-in_default c =
 pub returns-then-goes_on : goal.returns-then-goes_on
 returns-then-goes_on c =
     let s = c.in-Some.ensures.some in
-    let here : s.part ≡ Typed c.in-Typed.run' = part_read c.args.parts.now c.args.position c.in-Some.spot.part c.in-Some.spot.offset s c.index-parts-spot.result c.index-parts-spot.is ∙ c.in-Typed.is in
+    let here : s.part ≡ Typed c.in-Typed.run' =
+    part_read c.args.parts.now c.args.position c.in-Some.spot.part c.in-Some.spot.offset s c.index-parts-spot.result c.index-parts-spot.is ∙ c.in-Typed.is in
     c.same_len.ensures
-    ∙ sym (repeats_run c.args.letters.now c.args.others.now c.args.parts.now c.args.position c.in-Some.spot.part c.in-Some.spot.offset s c.requires.sound c.requires.apart c.requires.others c.args.start.now c.args.text.now
+    ∙ sym (repeats_run c.args.letters.now c.args.others.now c.args.parts.now c.args.position c.in-Some.spot.part c.in-Some.spot.offset s c.requires.sound c.requires.apart
+    c.requires.others c.args.start.now c.args.text.now
     c.in-Typed.run' here (c.goes_on.ensures.0 c.if-goes_on.true))
 
 pub returns-else-goes_on : goal.returns-else-goes_on
 returns-else-goes_on c =
     let s = c.in-Some.ensures.some in
-    let here : s.part ≡ Typed c.in-Typed.run' = part_read c.args.parts.now c.args.position c.in-Some.spot.part c.in-Some.spot.offset s c.index-parts-spot.result c.index-parts-spot.is ∙ c.in-Typed.is in
-    sym (no_repeats c.args.letters.now c.args.others.now c.args.parts.now c.args.position c.in-Some.spot.part c.in-Some.spot.offset s c.requires.sound c.requires.apart c.requires.others c.args.start.now c.args.text.now
-    (λ r is e. true≢false (sym (c.goes_on.ensures.1 (e ∙ ap (λ (z : TypedPart). start_behind z.start c.in-Some.spot.offset) (same_run r c.in-Typed.run' (sym is ∙ here)))) ∙ c.if-goes_on.false)))
+    let here : s.part ≡ Typed c.in-Typed.run' =
+    part_read c.args.parts.now c.args.position c.in-Some.spot.part c.in-Some.spot.offset s c.index-parts-spot.result c.index-parts-spot.is ∙ c.in-Typed.is in
+    sym (no_repeats c.args.letters.now c.args.others.now c.args.parts.now c.args.position c.in-Some.spot.part c.in-Some.spot.offset s c.requires.sound c.requires.apart
+    c.requires.others c.args.start.now c.args.text.now
+    (λ r is e. true≢false (sym (c.goes_on.ensures.1 (e ∙ ap (λ (z : TypedPart). start_behind z.start c.in-Some.spot.offset) (same_run r c.in-Typed.run' (sym is ∙ here))))
+    ∙ c.if-goes_on.false)))
 
 pub returns-in_default-parts : goal.returns-in_default-parts
 returns-in_default-parts c =
     let s = c.in-Some.ensures.some in
     let here = part_read c.args.parts.now c.args.position c.in-Some.spot.part c.in-Some.spot.offset s c.index-parts-spot.result c.index-parts-spot.is in
-    sym (no_repeats c.args.letters.now c.args.others.now c.args.parts.now c.args.position c.in-Some.spot.part c.in-Some.spot.offset s c.requires.sound c.requires.apart c.requires.others c.args.start.now c.args.text.now
+    sym (no_repeats c.args.letters.now c.args.others.now c.args.parts.now c.args.position c.in-Some.spot.part c.in-Some.spot.offset s c.requires.sound c.requires.apart
+    c.requires.others c.args.start.now c.args.text.now
     (λ r is e. c.in_default-parts.not-Typed r (sym here ∙ is)))

@@ -9,7 +9,8 @@ returns-then-letters-count c =
     let b = c.args.text.now in
     let k = c.loop-count.count in
     sym (same_is k a b 0 (omega (arith, c.loop-count-test.true, c.min-most.ensures)) (omega (arith, c.loop-count-test.true, c.min-most.ensures)) c.loop-count.invariant
-    (λ p q e. c.if-letters-count.true ((c.index-letters-count.is ∙ get_or_default a k c.index-letters-count.result 0 p) ∙ e ∙ sym (c.index-text-count.is ∙ get_or_default b k c.index-text-count.result 0 q))))
+    (λ p q e. c.if-letters-count.true ((c.index-letters-count.is ∙ get_or_default a k c.index-letters-count.result 0 p) ∙ e
+    ∙ sym (c.index-text-count.is ∙ get_or_default b k c.index-text-count.result 0 q))))
 
 pub returns : goal.returns
 returns c =

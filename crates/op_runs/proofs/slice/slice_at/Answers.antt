@@ -13,7 +13,12 @@ spot_of-requires-clause-counted c = c.requires.counted ∙ ops_len c.args.letter
 
 pub overflow_sub-count : goal.overflow_sub-count
 overflow_sub-count c =
-    omega (arith, c.requires.counted, position_inside c.args.letters.now c.args.others.now c.args.parts.now c.args.position c.in-Some.spot.part c.in-Some.spot.offset c.in-Some.ensures.some c.requires.sound)
+    omega (
+      arith,
+      c.requires.counted,
+      position_inside c.args.letters.now c.args.others.now c.args.parts.now c.args.position c.in-Some.spot.part c.in-Some.spot.offset
+          c.in-Some.ensures.some c.requires.sound,
+    )
 
 pub of_parts-requires-clause-sound : goal.of_parts-requires-clause-sound
 of_parts-requires-clause-sound c =

@@ -27,7 +27,8 @@ scan-preserved g c =
     ap (λ l. l ++ above) c.in_ok-push.ensures.items
     ∙ append_assoc c.scan.found.items (c.scan.current ∷ []) above
     ∙ ap (λ l. c.scan.found.items ++ l)
-    (sym (climb_on ops c.scan.below c.args.left c.scan.current c.in-Some.at (op_of c.in-Some.op) c.in-Some.ensures.some same c.in-Some-right_of.next (sym c.right_of.ensures ∙ c.in-Some-right_of.is)))
+    (sym (climb_on ops c.scan.below c.args.left c.scan.current c.in-Some.at (op_of c.in-Some.op) c.in-Some.ensures.some same c.in-Some-right_of.next
+    (sym c.right_of.ensures ∙ c.in-Some-right_of.is)))
     ∙ c.scan.invariant
 
 pub returns-in-None : goal.returns-in-None

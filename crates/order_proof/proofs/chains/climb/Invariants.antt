@@ -5,7 +5,8 @@ use Rattle.order_proof.proofs.chains.climb.Given as goal
 
 abbrev pub invariant-scan : goal.invariant-scan
 invariant-scan g l =
-    l.found.items ++ beside_up (history_at (g.P.Positions.operations l.held) l.below) l.left l.current ≡ beside_up (history_at (g.P.Positions.operations l.held) l.end) l.left l.fn.x
+    l.found.items ++ beside_up (history_at (g.P.Positions.operations l.held) l.below) l.left l.current ≡ beside_up
+    (history_at (g.P.Positions.operations l.held) l.end) l.left l.fn.x
 
 abbrev pub decreases-scan : goal.decreases-scan
 decreases-scan g l = l.below

@@ -7,7 +7,8 @@ use Rattle.std.proofs.lemmas.Bool.{not-false, not-true}
 
 pub returns-in_default : goal.returns-in_default
 returns-in_default g c =
-    walk_misses (g.P.Positions.operations c.args.held.now) c.args.down.now c.scan.below c.scan.k c.scan.current c.scan-test.true c.scan.invariant.within (c.in_default.ensures.none refl)
+    walk_misses (g.P.Positions.operations c.args.held.now) c.args.down.now c.scan.below c.scan.k c.scan.current c.scan-test.true c.scan.invariant.within
+    (c.in_default.ensures.none refl)
     ∙ c.scan.invariant.rest
 
 pub returns-then-ne : goal.returns-then-ne

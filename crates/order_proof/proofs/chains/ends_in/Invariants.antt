@@ -5,7 +5,8 @@ use Rattle.order_proof.proofs.chains.ends_in.Given as goal
 
 abbrev pub invariant-scan : goal.invariant-scan
 invariant-scan g l = record {
-  rest : ends_with (history_at (g.P.Positions.operations l.held) l.below) l.current (reverse (take l.k l.down)) ≡ ends_with (history_at (g.P.Positions.operations l.held) l.end) l.fn.x (reverse l.down);
+  rest : ends_with (history_at (g.P.Positions.operations l.held) l.below) l.current (reverse (take l.k l.down)) ≡ ends_with
+      (history_at (g.P.Positions.operations l.held) l.end) l.fn.x (reverse l.down);
   within : l.k ≤ length l.down;
 }
 

@@ -4,7 +4,11 @@ use Rattle.order_proof.specs.Checks.{test}
 use Rattle.order_proof.proofs.checking.passes.Given as goal
 
 abbrev pub invariant-scan : goal.invariant-scan
-invariant-scan g l = record { rest : test (history_at (g.P.Positions.operations l.held) l.end) (drop l.i l.steps) ≡ test (history_at (g.P.Positions.operations l.held) l.end) l.steps; within : l.i ≤ length l.steps }
+invariant-scan g l = record {
+  rest : test (history_at (g.P.Positions.operations l.held) l.end) (drop l.i l.steps) ≡ test
+      (history_at (g.P.Positions.operations l.held) l.end) l.steps;
+  within : l.i ≤ length l.steps;
+}
 
 abbrev pub decreases-scan : goal.decreases-scan
 decreases-scan g l = length l.steps - l.i

@@ -10,8 +10,10 @@ new-requires g c = λ e.
 
 pub returns-clause-valid : goal.returns-clause-valid
 returns-clause-valid g c =
-    subst (IsValid (reverse (g.P.Positions.operations c.args.held.now))) (sym (c.new.ensures ∙ c.in_ok-steps.ensures.steps)) (made_before (reverse (g.P.Positions.operations c.args.held.now)) c.make.ensures.lawful c.args.x c.args.y (c.requires.before c.make.ensures.lawful)).0
+    subst (IsValid (reverse (g.P.Positions.operations c.args.held.now))) (sym (c.new.ensures ∙ c.in_ok-steps.ensures.steps))
+    (made_before (reverse (g.P.Positions.operations c.args.held.now)) c.make.ensures.lawful c.args.x c.args.y (c.requires.before c.make.ensures.lawful)).0
 
 pub returns-clause-claims : goal.returns-clause-claims
 returns-clause-claims g c =
-    subst (Claims c.args.x c.args.y) (sym (c.new.ensures ∙ c.in_ok-steps.ensures.steps)) (made_before (reverse (g.P.Positions.operations c.args.held.now)) c.make.ensures.lawful c.args.x c.args.y (c.requires.before c.make.ensures.lawful)).1
+    subst (Claims c.args.x c.args.y) (sym (c.new.ensures ∙ c.in_ok-steps.ensures.steps))
+    (made_before (reverse (g.P.Positions.operations c.args.held.now)) c.make.ensures.lawful c.args.x c.args.y (c.requires.before c.make.ensures.lawful)).1

@@ -20,4 +20,5 @@ returns g c =
           let start : c.members.below ≡ 0 = omega (arith, w.members-test) in
           ap (λ n. passed_up (history_at ops n) one.next other.next) start ∙ passed-nothing one.next other.next
     ] in
-    way_ends ops c.args.end c.args.x c.args.y c.members.below one other c.count-count.ensures.lawful c.members.invariant none c.reverse.new.self.items c.reverse-2.new.self.items c.reverse.ensures.items c.reverse-2.ensures.items
+    way_ends ops c.args.end c.args.x c.args.y c.members.below one other c.count-count.ensures.lawful c.members.invariant none c.reverse.new.self.items c.reverse-2.new.self.items
+    c.reverse.ensures.items c.reverse-2.ensures.items

@@ -12,10 +12,12 @@ returns-in-Some-2-clause-way g c =
     let left = c.in_ok-at.ensures.left in
     let kept = (rw c.in_default.is at left) refl in
     let passed = rw (c.in-Some-2.is, kept.same) at c.in_ok-at-2.ensures.passed in
-    way_of_other (g.P.Positions.operations c.args.held.now) c.args.below c.args.one.now c.args.other.now c.requires.apart c.in-Some-2.at c.pass_newest.new.ascent c.pass_newest-2.new.ascent kept.same passed
+    way_of_other (g.P.Positions.operations c.args.held.now) c.args.below c.args.one.now c.args.other.now c.requires.apart c.in-Some-2.at c.pass_newest.new.ascent
+    c.pass_newest-2.new.ascent kept.same passed
 
 pub returns-clause-way : goal.returns-clause-way
 returns-clause-way g c =
     let one = (rw c.in_default.is at c.in_ok-at.ensures.left) refl in
     let other = (rw c.in_default-2.is at c.in_ok-at-2.ensures.left) refl in
-    way_of_none (g.P.Positions.operations c.args.held.now) c.args.below c.args.one.now c.args.other.now c.requires.apart c.pass_newest.new.ascent c.pass_newest-2.new.ascent one other
+    way_of_none (g.P.Positions.operations c.args.held.now) c.args.below c.args.one.now c.args.other.now c.requires.apart c.pass_newest.new.ascent c.pass_newest-2.new.ascent one
+    other

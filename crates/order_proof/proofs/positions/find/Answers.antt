@@ -29,7 +29,8 @@ returns-then-at-end-clause-none g c = λ e.
 
 pub returns-else-at-end-clause-none : goal.returns-else-at-end-clause-none
 returns-else-at-end-clause-none g c = λ e.
-    found_later (g.P.Positions.operations c.args.held.now) c.args.x c.count-count.ensures.lawful c.args.end c.in-Some.at (sym c.position.ensures ∙ c.in-Some.is) (omega (arith, c.if-at-end.false))
+    found_later (g.P.Positions.operations c.args.held.now) c.args.x c.count-count.ensures.lawful c.args.end c.in-Some.at (sym c.position.ensures ∙ c.in-Some.is)
+    (omega (arith, c.if-at-end.false))
 
 pub returns-in-None-clause-none : goal.returns-in-None-clause-none
 returns-in-None-clause-none g c = λ e. found_nowhere (g.P.Positions.operations c.args.held.now) c.args.x c.args.end (sym c.position.ensures ∙ c.in-None.is)

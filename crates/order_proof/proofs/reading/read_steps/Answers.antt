@@ -11,12 +11,14 @@ pub returns-in_err-read_step-clause-every : goal.returns-in_err-read_step-clause
 returns-in_err-read_step-clause-every c d p =
     let some : 0 < length c.steps.lines.rest.now = grind arith in
     let k = next_step c.args.text.now c.steps.lines.rest.now c.steps.steps.items c.steps.invariant some d p in
-    passed_on c.from_residual.result c.in_err-read_step.field-0.0 _ (err_from_is_err_and c.from_residual.result c.from_residual.ensures.1) (c.in_err-read_step.ensures.every k.0 k.1 k.2 k.3)
+    passed_on c.from_residual.result c.in_err-read_step.field-0.0 _ (err_from_is_err_and c.from_residual.result c.from_residual.ensures.1)
+    (c.in_err-read_step.ensures.every k.0 k.1 k.2 k.3)
 
 pub steps-preserved : goal.steps-preserved
 steps-preserved c =
     rw c.in_ok-push.ensures.items
-    (read_step_more c.args.text.now c.steps.lines.rest.now c.read_step.new.self.rest.now c.steps.steps.items c.in_ok-read_step.field-0 c.steps.invariant c.in_ok-read_step.ensures.lines
+    (read_step_more c.args.text.now c.steps.lines.rest.now c.read_step.new.self.rest.now c.steps.steps.items c.in_ok-read_step.field-0 c.steps.invariant
+    c.in_ok-read_step.ensures.lines
     (λ t more q e. c.in_ok-read_step.ensures.every t more q e))
 
 pub returns-clause-every : goal.returns-clause-every

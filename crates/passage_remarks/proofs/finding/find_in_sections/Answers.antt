@@ -24,4 +24,5 @@ sections-preserved c =
     ∙ flat_map-append f (take i (entry_sections all)) (s ∷ [])
     ∙ ap (λ l. passed ++ l) (append-nil (f s)) in
     subst (λ l. AreFoundAt h passage l c.and-found.result) (sym more)
-    (subst (AreFoundAt h passage (passed ++ f s)) (sym c.and-found.ensures) (found_both h passage passed (f s) c.sections.found c.in_ok-find_in_section.field-0 c.sections.invariant c.in_ok-find_in_section.ensures))
+    (subst (AreFoundAt h passage (passed ++ f s)) (sym c.and-found.ensures)
+    (found_both h passage passed (f s) c.sections.found c.in_ok-find_in_section.field-0 c.sections.invariant c.in_ok-find_in_section.ensures))

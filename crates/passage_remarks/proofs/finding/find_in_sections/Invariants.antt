@@ -6,4 +6,5 @@ use Rattle.passage_remarks.proofs.finding.find_in_sections.Given as goal
 
 -- of the sections that were passed everything is found
 abbrev pub invariant-sections : goal.invariant-sections
-invariant-sections l = AreFoundAt l.replica.held.history l.passage (flat_map (section_places l.replica.held.history l.passage) (take l.section-index (entry_sections l.sections))) l.found
+invariant-sections l = AreFoundAt l.replica.held.history l.passage
+    (flat_map (section_places l.replica.held.history l.passage) (take l.section-index (entry_sections l.sections))) l.found

@@ -24,6 +24,7 @@ sections-preserved c = λ s.
     let long : length front + 1 ≡ i + 1 = omega (arith, length-take-le i (entry_sections all) (omega (arith, known))) in
     let u = c.in_ok-insert.ensures.updates in
     elim (cases_id s x) [
-      | inl e ↦ ap (get id_cmp c.insert.new.self) e ∙ u.1 ∙ sym (number_here 1 front x fresh ∙ ap Some long) ∙ ap (λ l. number_from 1 l x) (sym more) ∙ ap (number_from 1 (take (i + 1) (entry_sections all))) (sym e)
+      | inl e ↦ ap (get id_cmp c.insert.new.self) e ∙ u.1 ∙ sym (number_here 1 front x fresh ∙ ap Some long) ∙ ap (λ l. number_from 1 l x) (sym more)
+          ∙ ap (number_from 1 (take (i + 1) (entry_sections all))) (sym e)
       | inr n ↦ u.2 s (id_at-other x s n) ∙ c.sections.invariant s ∙ sym (number_other 1 front x s n) ∙ ap (λ l. number_from 1 l s) (sym more)
     ]

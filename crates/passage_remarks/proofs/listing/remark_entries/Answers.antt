@@ -23,6 +23,8 @@ returns-clause-entries c =
     let ops : List Op = reverse h in
     let places = get id_cmp c.in_ok-places.places in
     let are = c.in_ok-entries.ensures ops
-    ∙ ap (flat_map (λ (p : PlacedComment). option_to_list (option_map (remark_at p) (places p.section)))) (ap (map (comment_placed ops)) c.as_slice.ensures.value ∙ c.in_ok-comments.ensures.places)
+    ∙ ap (flat_map (λ (p : PlacedComment). option_to_list (option_map (remark_at p) (places p.section))))
+    (ap (map (comment_placed ops)) c.as_slice.ensures.value ∙ c.in_ok-comments.ensures.places)
     ∙ found_by h places (λ s. c.in_ok-places.ensures s ∙ ap (λ l. number_from 1 l s) c.requires.listed) in
-    sorted_remarks ops (found h) (found_apart h c.in_ok-comments.ensures.stands.lawful) c.in_ok-entries.entries.items c.sort_unstable.new.self.items are c.sort_unstable.ensures.permutation c.sort_unstable.ensures.sorted
+    sorted_remarks ops (found h) (found_apart h c.in_ok-comments.ensures.stands.lawful) c.in_ok-entries.entries.items c.sort_unstable.new.self.items are
+    c.sort_unstable.ensures.permutation c.sort_unstable.ensures.sorted

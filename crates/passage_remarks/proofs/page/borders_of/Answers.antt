@@ -13,7 +13,8 @@ use Rattle.passage_remarks.proofs.page.borders_of.Goals as goal
 pub clusters-init : goal.clusters-init
 clusters-init c =
     let text : List ℕ = c.args.text.now in
-    let whole : concat (graphemes_left c.graphemes-graphemes.result) ≡ text = ap concat c.graphemes-graphemes.ensures.left ∙ concat-segments (is_grapheme_break true) text c.utf8.text in (
+    let whole : concat (graphemes_left c.graphemes-graphemes.result) ≡ text =
+    ap concat c.graphemes-graphemes.ensures.left ∙ concat-segments (is_grapheme_break true) text c.utf8.text in (
       (λ i. c.new-borders.ensures.items i ++ kept_borders 0 0 (c.graphemes-graphemes.ensures.left i)),
       omega (arith, ap (λ t. length (chars t)) whole),
       omega (arith, ap length whole),
@@ -27,7 +28,8 @@ fewer text first rest all s n u e whole count =
 
 pub overflow_add-scalars : goal.overflow_add-scalars
 overflow_add-scalars c =
-    let f = fewer c.args.text.now c.in-Some.cluster.now (concat (graphemes_left c.next.new.self)) (concat (graphemes_left c.clusters.graphemes)) c.clusters.scalars c.scalar_count-scalars.result
+    let f = fewer c.args.text.now c.in-Some.cluster.now (concat (graphemes_left c.next.new.self))
+    (concat (graphemes_left c.clusters.graphemes)) c.clusters.scalars c.scalar_count-scalars.result
     c.scalar_count-scalars.ensures.text (ap concat c.in-Some.ensures.steps) c.clusters.invariant.1 c.scalar_count-scalars.ensures.count in
     omega (arith, f, few_scalars c.args.text.now c.utf8.text)
 
@@ -45,6 +47,7 @@ clusters-preserved c =
           ∙ append_assoc old (one ∷ []) (kept_borders (s + length (chars first)) (b + length first) rest)
           ∙ ap (λ l. old ++ kept_borders s b l) (sym turn)
           ∙ c.clusters.invariant.0,
-      fewer text first (concat rest) (concat (graphemes_left c.clusters.graphemes)) s c.scalar_count-scalars.result c.scalar_count-scalars.ensures.text (ap concat turn) c.clusters.invariant.1 c.scalar_count-scalars.ensures.count,
+      fewer text first (concat rest) (concat (graphemes_left c.clusters.graphemes)) s c.scalar_count-scalars.result c.scalar_count-scalars.ensures.text
+          (ap concat turn) c.clusters.invariant.1 c.scalar_count-scalars.ensures.count,
       omega (arith, c.clusters.invariant.2, ap (λ l. length (concat l)) turn, length-append first (concat rest)),
     )

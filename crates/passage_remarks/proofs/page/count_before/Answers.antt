@@ -9,5 +9,6 @@ pub returns : goal.returns
 returns c =
     let xs = c.args.borders.now in
     let at = c.args.at in
-    let point = IsPartitionPoint-from_clause (λ (b : Border). nat_lt b.scalars at) xs c.partition_point.result c.partition_point.ensures.partitioned (IsPartitionedBy-ltb scalars_before xs at c.requires) (λ a r f h. search rules) in
+    let point = IsPartitionPoint-from_clause (λ (b : Border). nat_lt b.scalars at) xs c.partition_point.result c.partition_point.ensures.partitioned
+    (IsPartitionedBy-ltb scalars_before xs at c.requires) (λ a r f h. search rules) in
     point-counts (λ (b : Border). nat_lt b.scalars at) xs c.partition_point.result c.partition_point.ensures.bound point

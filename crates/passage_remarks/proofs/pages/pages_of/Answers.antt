@@ -15,11 +15,13 @@ sections-preserved c =
     let f : Identifier → List ℕ = λ s. encode_utf8_all (text h s) in
     c.in_ok-push.ensures.items
     ∙ (λ i. c.sections.invariant i ++ c.in_ok-page_of.ensures i ∷ [])
-    ∙ sym (ap (map f) (section_more all c.sections.section-index c.section-item.result (omega (arith, c.sections-test.true)) c.section-item.is) ∙ map-append f (take c.sections.section-index (entry_sections all)) (c.section-item.result.section ∷ []))
+    ∙ sym (ap (map f) (section_more all c.sections.section-index c.section-item.result (omega (arith, c.sections-test.true)) c.section-item.is)
+    ∙ map-append f (take c.sections.section-index (entry_sections all)) (c.section-item.result.section ∷ []))
 
 pub returns : goal.returns
 returns c =
     let h = c.args.replica.now.held.history in
     let all : List Entry = c.args.sections.now in
     c.sections.invariant
-    ∙ ap (map (λ s. encode_utf8_all (text h s))) (take_all c.sections.section-index (entry_sections all) (omega (arith, length-map all (λ (z : Entry). z.section), c.sections-test.false)) ∙ c.requires.listed)
+    ∙ ap (map (λ s. encode_utf8_all (text h s)))
+    (take_all c.sections.section-index (entry_sections all) (omega (arith, length-map all (λ (z : Entry). z.section), c.sections-test.false)) ∙ c.requires.listed)

@@ -15,7 +15,8 @@ use Rattle.passage_remarks.proofs.WritingLemmas.{page_there, remarks_next, remar
 use Rattle.passage_remarks.proofs.printing.put_remarks.Goals as goal
 
 -- the entry at a place of the list stands at the place of its section
-entry_placed : (h : List Op) (es : List Entry) (i : ℕ) (e : Entry) → ((k : ℕ) (d : Entry) → k < length es → IsRemarkPlaced h (entry_remark (reverse h) (get_or es k d))) → i < length es → e ≡ get_or es i e
+entry_placed : (h : List Op) (es : List Entry) (i : ℕ) (e : Entry) → ((k : ℕ) (d : Entry) → k < length es → IsRemarkPlaced h (entry_remark (reverse h) (get_or es k d)))
+    → i < length es → e ≡ get_or es i e
     → IsRemarkPlaced h (entry_remark (reverse h) e)
 entry_placed h es i e each below is = subst (λ x. IsRemarkPlaced h (entry_remark (reverse h) x)) (sym is) (each i e below)
 
@@ -24,7 +25,8 @@ remarks-init g c = under_way_start _ _ _
 
 pub overflow_sub-place : goal.overflow_sub-place
 overflow_sub-place g c =
-    (entry_placed c.args.replica.now.held.history c.args.entries.now c.remarks.at c.index-entries-at.result c.requires.placed (omega (arith, c.remarks-test.true)) c.index-entries-at.is).first
+    (entry_placed c.args.replica.now.held.history c.args.entries.now c.remarks.at c.index-entries-at.result c.requires.placed
+    (omega (arith, c.remarks-test.true)) c.index-entries-at.is).first
 
 pub bounds-pages-place : goal.bounds-pages-place
 bounds-pages-place g c =

@@ -26,11 +26,13 @@ returns-in-Some c =
     let half = c.div_ceil-half.result in
     let at = c.in-Some.at in
     let part : half ≤ length passage = omega (arith, c.div_ceil-half.ensures) in
-    let found : FindsNeedle (drop 1 passage) (take half passage) 0 (Some at) = subst (λ rest. FindsNeedle rest (take half passage) 0 (Some at)) (rest_of 1 passage) c.in-Some.ensures in
+    let found : FindsNeedle (drop 1 passage) (take half passage) 0 (Some at) =
+    subst (λ rest. FindsNeedle rest (take half passage) 0 (Some at)) (rest_of 1 passage) c.in-Some.ensures in
     let fits : at + 1 + half ≤ length passage = omega (arith, found.1.fits, length-drop 1 passage, length-take-le half passage part, has_some passage c.requires) in
     record {
       some = omega arith;
       within = omega (arith, fits);
       least = no_period passage half (at + 1) (omega (arith, fits)) (λ k low high. found.0.before k low (omega (arith, high)));
-      repeats = λ repeats. period_of_rest passage (at + 1) _ (begins_with passage _ passage (drop (at + 1) passage) refl (rest_of (at + 1) passage) c.starts_with.result c.starts_with.ensures.value repeats);
+      repeats = λ repeats. period_of_rest passage (at + 1) _
+          (begins_with passage _ passage (drop (at + 1) passage) refl (rest_of (at + 1) passage) c.starts_with.result c.starts_with.ensures.value repeats);
     }

@@ -12,5 +12,6 @@ returns-in_err-byte-clause-err g c =
     let rest : List ℕ = drop c.bytes.came c.bytes.number in
     let few : length front ≡ c.bytes.came = length-take-le c.bytes.came c.bytes.number (omega (arith, kept.short, kept.long)) in
     rw (p.1, p.2) (stops_behind _ _ _ _ _ (0x55 ∷ []) front kept.hears (c.in_err-byte.ensures.err (0x55 ∷ front)
-    (number_front front rest (omega (arith, length-drop c.bytes.came c.bytes.number, kept.long, c.bytes-test.true)) (ap length (take-append-drop c.bytes.came c.bytes.number) ∙ kept.long))
+    (number_front front rest (omega (arith, length-drop c.bytes.came c.bytes.number, kept.long, c.bytes-test.true))
+    (ap length (take-append-drop c.bytes.came c.bytes.number) ∙ kept.long))
     (omega (arith, kept.count, few))))

@@ -32,18 +32,22 @@ pub returns-in_err-serve_step-clause-partly : goal.returns-in_err-serve_step-cla
 returns-in_err-serve_step-clause-partly g c =
     let p = err_from_is_err_and c.from_residual.result c.from_residual.ensures.1 in
     let i = c.steps.invariant in
-    rw (p.1, p.2) (stops_behind _ c.args.steps _ _ _ _ _ _ _ i.turns i.serves i.none (omega (arith, c.steps-test.true, c.len.ensures.len, i.over.count)) (omega (arith, i.steps, c.if-left-eq0.false)) c.in_err-serve_step.ensures.partly)
+    rw (p.1, p.2) (stops_behind _ c.args.steps _ _ _ _ _ _ _ i.turns i.serves i.none (omega (arith, c.steps-test.true, c.len.ensures.len, i.over.count))
+    (omega (arith, i.steps, c.if-left-eq0.false)) c.in_err-serve_step.ensures.partly)
 
 pub returns-then-left-eq0-clause-dock : goal.returns-then-left-eq0-clause-dock
 returns-then-left-eq0-clause-dock g c =
     let i = c.steps.invariant in
-    stopped_blames _ c.args.steps _ _ _ _ _ (long_stops _ c.args.steps _ _ _ _ i.turns i.serves i.none (omega (arith, c.steps-test.true, c.len.ensures.len, i.over.count)) (omega (arith, i.steps)))
+    stopped_blames _ c.args.steps _ _ _ _ _
+    (long_stops _ c.args.steps _ _ _ _ i.turns i.serves i.none (omega (arith, c.steps-test.true, c.len.ensures.len, i.over.count)) (omega (arith, i.steps)))
 
 pub returns-in_err-serve_step-clause-dock : goal.returns-in_err-serve_step-clause-dock
 returns-in_err-serve_step-clause-dock g c =
     let p = err_from_is_err_and c.from_residual.result c.from_residual.ensures.1 in
     let i = c.steps.invariant in
-    rw (p.1, p.2) (stopped_blames _ c.args.steps _ _ _ _ _ (stops_behind _ c.args.steps _ _ _ _ _ _ _ i.turns i.serves i.none (omega (arith, c.steps-test.true, c.len.ensures.len, i.over.count)) (omega (arith, i.steps, c.if-left-eq0.false)) c.in_err-serve_step.ensures.partly))
+    rw (p.1, p.2) (stopped_blames _ c.args.steps _ _ _ _ _
+    (stops_behind _ c.args.steps _ _ _ _ _ _ _ i.turns i.serves i.none (omega (arith, c.steps-test.true, c.len.ensures.len, i.over.count))
+    (omega (arith, i.steps, c.if-left-eq0.false)) c.in_err-serve_step.ensures.partly))
 
 pub returns-clause-dock : goal.returns-clause-dock
 returns-clause-dock g c = let i = c.steps.invariant in served_blames _ _ _ _ _ _ i.turns i.serves i.none

@@ -18,13 +18,16 @@ pub returns-in_err-answer-clause-partly : goal.returns-in_err-answer-clause-part
 returns-in_err-answer-clause-partly g c =
     let p = err_from_is_err_and c.from_residual-in_err-answer.result c.from_residual-in_err-answer.ensures.1 in
     let s = c.in-Ok.ensures.ok in
-    rw (p.1, p.2) (reply_stops _ _ _ _ _ _ c.in_ok-step.step s.reply c.in_ok-step.ensures.ok c.in_ok-step.ensures.calm (subst (λ e. RelaySteps c.args.relay.now e c.step.new.self s.reply) c.event_of.ensures s.steps)
+    rw (p.1, p.2) (reply_stops _ _ _ _ _ _ c.in_ok-step.step s.reply c.in_ok-step.ensures.ok c.in_ok-step.ensures.calm
+    (subst (λ e. RelaySteps c.args.relay.now e c.step.new.self s.reply) c.event_of.ensures s.steps)
     (c.in_err-answer.ensures.partly s.reply (c.deref.ensures.value ∙ s.replies_are)))
 
 pub returns-in_default-note_gone-clause-partly : goal.returns-in_default-note_gone-clause-partly
 returns-in_default-note_gone-clause-partly g c =
     let s = c.in-Ok.ensures.ok in
-    turn_stops NoMemory _ _ _ _ _ (λ is. cc is) (turn_serves _ _ _ _ _ c.in_ok-step.step s.reply c.in_ok-step.ensures.ok c.in_ok-step.ensures.calm (subst (λ e. RelaySteps c.args.relay.now e c.step.new.self s.reply) c.event_of.ensures s.steps)
+    turn_stops NoMemory _ _ _ _ _ (λ is. cc is)
+    (turn_serves _ _ _ _ _ c.in_ok-step.step s.reply c.in_ok-step.ensures.ok c.in_ok-step.ensures.calm
+    (subst (λ e. RelaySteps c.args.relay.now e c.step.new.self s.reply) c.event_of.ensures s.steps)
     (c.in_ok-answer.ensures.ok s.reply (c.deref.ensures.value ∙ s.replies_are)).0)
 
 pub returns-clause-ok : goal.returns-clause-ok
@@ -32,6 +35,7 @@ returns-clause-ok g c =
     let s = c.in-Ok.ensures.ok in
     let answered = c.in_ok-answer.ensures.ok s.reply (c.deref.ensures.value ∙ s.replies_are) in (
       record { step = c.in_ok-step.step; reply = s.reply },
-      turn_serves _ _ _ _ _ c.in_ok-step.step s.reply c.in_ok-step.ensures.ok c.in_ok-step.ensures.calm (subst (λ e. RelaySteps c.args.relay.now e c.step.new.self s.reply) c.event_of.ensures s.steps) answered.0,
+      turn_serves _ _ _ _ _ c.in_ok-step.step s.reply c.in_ok-step.ensures.ok c.in_ok-step.ensures.calm
+          (subst (λ e. RelaySteps c.args.relay.now e c.step.new.self s.reply) c.event_of.ensures s.steps) answered.0,
       λ sessions is. rw (c.gone_by-gone.ensures (with_closed sessions s.reply)) (c.in-Ok-note_gone.ensures (with_closed sessions s.reply) (answered.1 sessions is)),
     )

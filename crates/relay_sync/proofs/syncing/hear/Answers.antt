@@ -16,4 +16,9 @@ returns-in-Some-clause-ok g c =
 pub messages-preserved : goal.messages-preserved
 messages-preserved g c =
     let one = is_more _ _ _ _ _ _ _ c.in_default.not-Some c.in_ok-end.ensures.ok in
-    record { grammar = c.in_ok-end.ensures.grammar; goes = goes_on _ _ _ _ _ _ _ c.messages.invariant.goes _ one; told = wire_on ⊥ _ _ _ c.messages.invariant.told c.in_ok-end.ensures.told; ready = one.ready }
+    record {
+      grammar = c.in_ok-end.ensures.grammar;
+      goes = goes_on _ _ _ _ _ _ _ c.messages.invariant.goes _ one;
+      told = wire_on ⊥ _ _ _ c.messages.invariant.told c.in_ok-end.ensures.told;
+      ready = one.ready;
+    }

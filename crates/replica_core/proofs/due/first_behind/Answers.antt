@@ -4,7 +4,8 @@ use Rattle.replica_core.proofs.due.first_behind.Goals as goal
 
 pub returns-in-Some : goal.returns-in-Some
 returns-in-Some c =
-    part_passes (λ mark. mark) c.args.marks.now.items c.stretch-stretch.result.now c.stretches.passed false c.stretches.invariant.within c.stretches.invariant.front c.stretch-stretch.ensures.items
+    part_passes (λ mark. mark) c.args.marks.now.items c.stretch-stretch.result.now c.stretches.passed false c.stretches.invariant.within c.stretches.invariant.front
+    c.stretch-stretch.ensures.items
     c.in-Some.position (sym c.first_set.ensures ∙ c.in-Some.is)
 
 pub stretches-preserved : goal.stretches-preserved

@@ -15,7 +15,8 @@ none_from (Some i) other = absurd (other i refl)
 
 pub returns-in_default : goal.returns-in_default
 returns-in_default c =
-    c.requires.marks ∙ unwoken_right c.args.accepted.now c.args.inbox.now.ops (sym c.newest_id.ensures ∙ none_from c.newest_id.result c.in_default.not-Some) c.requires.once c.requires.own_ids
+    c.requires.marks ∙ unwoken_right c.args.accepted.now c.args.inbox.now.ops
+    (sym c.newest_id.ensures ∙ none_from c.newest_id.result c.in_default.not-Some) c.requires.once c.requires.own_ids
 
 pub loop-k-init : goal.loop-k-init
 loop-k-init c =

@@ -6,7 +6,8 @@ use Rattle.origin_model.specs.files.Image.{word_of}
 use Rattle.replica_file.proofs.batch.bytes_behind_gate.Goals as goal
 
 -- the word in the place of four zeros
-patched : (items now new f : List ℕ) (len n : ℕ) → items ≡ (0 ∷ 0 ∷ 0 ∷ 0 ∷ []) ++ f ++ 0 ∷ [] → now ≡ items → new ≡ to_be_bytes w32 (word_of Version2 (n - 4 - 1)) ++ drop 4 now → n ≡ length items → len ≡ length items
+patched : (items now new f : List ℕ) (len n : ℕ) → items ≡ (0 ∷ 0 ∷ 0 ∷ 0 ∷ []) ++ f ++ 0 ∷ [] → now ≡ items → new ≡ to_be_bytes w32 (word_of Version2 (n - 4 - 1)) ++ drop 4 now
+    → n ≡ length items → len ≡ length items
     → take len (new ++ drop (length new) items) ≡ to_be_bytes w32 (word_of Version2 (length f)) ++ f ++ 0 ∷ []
 patched items now new f len n e v g l m =
     let long : length items ≡ length f + 5 = omega (arith, ap length e, length-append f (0 ∷ [])) in

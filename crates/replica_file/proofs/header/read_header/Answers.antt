@@ -36,5 +36,6 @@ returns-in-None-clause-bad g c is =
 pub returns-in-Some-clause-told : goal.returns-in-Some-clause-told
 returns-in-Some-clause-told g c =
     told_one (g.H.Disk.seen c.args.disk.now).past
-    (λ h told. header_is h.last.seen c.read_from.new.buf c.in_ok-read_from.field-0 c.in-Some.header (omega arith) c.if-branch-lt-HEADER.false told (c.in-Some.ensures.some.0 refl) c.in-Some.ensures.value)
+    (λ h told. header_is h.last.seen c.read_from.new.buf c.in_ok-read_from.field-0 c.in-Some.header (omega arith) c.if-branch-lt-HEADER.false told
+    (c.in-Some.ensures.some.0 refl) c.in-Some.ensures.value)
     c.in_ok-read_from.ensures.told

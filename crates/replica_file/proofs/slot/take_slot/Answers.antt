@@ -13,9 +13,11 @@ returns-in_err-take_frames-clause-bad g c is =
 
 pub returns-clause-took : goal.returns-clause-took
 returns-clause-took g c =
-    slot_ends (g.H.Disk.seen c.args.disk.now).past (g.H.Disk.seen c.read_word.new.disk).past (g.H.Disk.seen c.take_frames.new.disk).past c.read_gate.result c.args.at c.in_ok-word.word
+    slot_ends (g.H.Disk.seen c.args.disk.now).past (g.H.Disk.seen c.read_word.new.disk).past
+    (g.H.Disk.seen c.take_frames.new.disk).past c.read_gate.result c.args.at c.in_ok-word.word
     c.args.loading.now.finds_place c.take_frames.new.loading.finds_place c.args.loading.now.replica c.take_frames.new.loading.replica c.in_ok-word.ensures.looks.past
-    (c.in_ok-take_frames.ensures.looks.past ∙ c.in_ok-word.ensures.looks.past) c.in_ok-word.ensures.told c.in_ok-word.ensures.short c.in_ok-take_frames.ensures.took c.read_gate.ensures.told c.read_gate.ensures.at
+    (c.in_ok-take_frames.ensures.looks.past ∙ c.in_ok-word.ensures.looks.past) c.in_ok-word.ensures.told c.in_ok-word.ensures.short c.in_ok-take_frames.ensures.took
+    c.read_gate.ensures.told c.read_gate.ensures.at
 
 pub returns-clause-bad : goal.returns-clause-bad
 returns-clause-bad g c is =
@@ -27,16 +29,20 @@ pub returns-in_err-take_frames-clause-memory : goal.returns-in_err-take_frames-c
 returns-in_err-take_frames-clause-memory g c is =
     let p = err_from_is_err_and c.from_residual-in_err-take_frames.result c.from_residual-in_err-take_frames.ensures.1 in
     told_two (g.H.Disk.seen c.args.disk.now).past (g.H.Disk.seen c.read_word.new.disk).past c.in_ok-word.ensures.looks.past
-    (λ h told lacks. slot_lacks h.last.seen c.args.at c.in_ok-word.word told _ _ c.in_ok-word.ensures.short lacks) c.in_ok-word.ensures.told (c.in_err-take_frames.ensures.memory (cc (is, p.1, p.2)))
+    (λ h told lacks. slot_lacks h.last.seen c.args.at c.in_ok-word.word told _ _ c.in_ok-word.ensures.short lacks) c.in_ok-word.ensures.told
+    (c.in_err-take_frames.ensures.memory (cc (is, p.1, p.2)))
 
 pub returns-clause-reach : goal.returns-clause-reach
 returns-clause-reach g c =
     let at = c.args.at + 5 + c.in_ok-word.word.len in
-    gate_reaches c.read_gate.result at (g.H.Disk.seen c.args.disk.now).reach (g.H.Disk.seen c.take_frames.new.disk).reach (g.H.Disk.seen c.read_gate.new.disk).reach c.read_gate.ensures.at c.read_gate.ensures.reach
-    (reaches_then (c.args.at + 1 + 4) at at (g.H.Disk.seen c.args.disk.now).reach (g.H.Disk.seen c.read_word.new.disk).reach (g.H.Disk.seen c.take_frames.new.disk).reach (omega arith) (omega arith) c.in_ok-word.ensures.reach
+    gate_reaches c.read_gate.result at (g.H.Disk.seen c.args.disk.now).reach (g.H.Disk.seen c.take_frames.new.disk).reach
+    (g.H.Disk.seen c.read_gate.new.disk).reach c.read_gate.ensures.at c.read_gate.ensures.reach
+    (reaches_then (c.args.at + 1 + 4) at at (g.H.Disk.seen c.args.disk.now).reach (g.H.Disk.seen c.read_word.new.disk).reach (g.H.Disk.seen c.take_frames.new.disk).reach
+    (omega arith) (omega arith) c.in_ok-word.ensures.reach
     c.in_ok-take_frames.ensures.reach)
 
 pub returns-in_err-make_room-clause-memory : goal.returns-in_err-make_room-clause-memory
 returns-in_err-make_room-clause-memory g c is =
     told_one (g.H.Disk.seen c.args.disk.now).past
-    (λ h told. slot_begins h.last.seen c.args.at c.in_ok-word.word told c.args.loading.now.finds_place c.args.loading.now.replica c.in_ok-word.ensures.short) c.in_ok-word.ensures.told
+    (λ h told. slot_begins h.last.seen c.args.at c.in_ok-word.word told c.args.loading.now.finds_place c.args.loading.now.replica c.in_ok-word.ensures.short)
+    c.in_ok-word.ensures.told

@@ -10,7 +10,8 @@ returns-in_ok-extend-clause-ok c =
     let run = c.args.run.now in
     let e : run.start + run.len ≡ length (slice_index_or L run.stretch []) = sym c.if-stretch-end.true ∙ ap length c.stretch.ensures in
     subst (HasMoreLetters L c.extend.new.self run c.args.text.now) (sym c.longer_at.ensures)
-    (subst (λ M. HasMoreLetters L M run c.args.text.now (record run { len = run.len + length c.args.text.now })) (sym c.in_ok-extend.ensures.ok) (longer-pushed L run c.args.text.now c.requires.some e))
+    (subst (λ M. HasMoreLetters L M run c.args.text.now (record run { len = run.len + length c.args.text.now })) (sym c.in_ok-extend.ensures.ok)
+    (longer-pushed L run c.args.text.now c.requires.some e))
 
 pub returns-in_ok-stretch-clause-ok : goal.returns-in_ok-stretch-clause-ok
 returns-in_ok-stretch-clause-ok c =

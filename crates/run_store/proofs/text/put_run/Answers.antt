@@ -17,5 +17,6 @@ pub returns : goal.returns
 returns g c =
     let run = c.args.run.now in
     let n : (run.start + run.len) - run.start ≡ run.len = omega arith in
-    subst (λ t. GathersText {T = Unit {0}} (g.O.Out.seen c.args.output.now) (g.O.Out.seen c.put_letters.new.output) c.args.gather.now c.put_letters.new.gather c.put_letters.result (encode_utf8_all t))
+    subst (λ t. GathersText {T = Unit {0}} (g.O.Out.seen c.args.output.now) (g.O.Out.seen c.put_letters.new.output) c.args.gather.now c.put_letters.new.gather c.put_letters.result
+    (encode_utf8_all t))
     ((λ i. take (n i) (drop run.start (c.stretch.ensures i))) ∙ sym (text-shown (first_of run) (letters_of c.args.letters.now run) c.if-run.false)) c.put_letters.ensures

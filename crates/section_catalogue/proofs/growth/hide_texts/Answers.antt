@@ -13,7 +13,8 @@ returns-in-Some-clause-ok c =
     let w : Titled = record { title = e.title; text = c.hide_run.new.self } in
     let u = (c.get_mut.follows.holds w).3 c.requires.there in
     on_ok_weaker c.hide_run.result
-    (λ d. changed c.args.sections.now.entries (c.get_mut.follows.lender w).entries c.args.section.now e w c.in-Some.ensures.value u.1 (λ y n. u.2 y (id_at-other c.args.section.now y n))
+    (λ d. changed c.args.sections.now.entries (c.get_mut.follows.lender w).entries c.args.section.now e w c.in-Some.ensures.value u.1
+    (λ y n. u.2 y (id_at-other c.args.section.now y n))
     (λ (t : Titled). record t { text = with_run_hidden c.args.first c.args.count t.text }) (ap (λ (t : Listing). record e { text = t }) d)) c.hide_run.ensures.ok
 
 pub returns-in-Some-clause-err : goal.returns-in-Some-clause-err
@@ -22,5 +23,7 @@ returns-in-Some-clause-err c =
     let w : Titled = record { title = e.title; text = c.hide_run.new.self } in
     let u = (c.get_mut.follows.holds w).3 c.requires.there in
     if_err c.hide_run.result
-    (λ f d less. changed c.args.sections.now.entries (c.get_mut.follows.lender w).entries c.args.section.now e w c.in-Some.ensures.value u.1 (λ y n. u.2 y (id_at-other c.args.section.now y n))
-    (λ (t : Titled). record t { text = with_run_hidden c.args.first f.done t.text }) (ap (λ (t : Listing). record e { text = t }) d)) c.hide_run.ensures.err c.hide_run.ensures.fewer
+    (λ f d less. changed c.args.sections.now.entries (c.get_mut.follows.lender w).entries c.args.section.now e w c.in-Some.ensures.value u.1
+    (λ y n. u.2 y (id_at-other c.args.section.now y n))
+    (λ (t : Titled). record t { text = with_run_hidden c.args.first f.done t.text }) (ap (λ (t : Listing). record e { text = t }) d)) c.hide_run.ensures.err
+    c.hide_run.ensures.fewer

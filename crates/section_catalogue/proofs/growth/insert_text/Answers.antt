@@ -12,7 +12,8 @@ returns-in-Some-clause-ok c =
     let w : Titled = record { title = e.title; text = c.insert_run.new.self } in
     let u = (c.get_mut.follows.holds w).3 c.requires.there in
     on_ok_weaker c.insert_run.result
-    (λ d. changed c.args.sections.now.entries (c.get_mut.follows.lender w).entries c.args.section.now e w c.in-Some.ensures.value u.1 (λ y n. u.2 y (id_at-other c.args.section.now y n))
+    (λ d. changed c.args.sections.now.entries (c.get_mut.follows.lender w).entries c.args.section.now e w c.in-Some.ensures.value u.1
+    (λ y n. u.2 y (id_at-other c.args.section.now y n))
     (λ (t : Titled). record t { text = with_elements c.args.first.now c.args.text.now t.text }) (ap (λ (t : Listing). record e { text = t }) d)) c.insert_run.ensures.ok
 
 pub returns-in-Some-clause-err : goal.returns-in-Some-clause-err
@@ -21,5 +22,6 @@ returns-in-Some-clause-err c =
     let w : Titled = record { title = e.title; text = c.insert_run.new.self } in
     let u = (c.get_mut.follows.holds w).3 c.requires.there in
     on_err_weaker c.insert_run.result
-    (λ d. kept c.args.sections.now.entries (c.get_mut.follows.lender w).entries c.args.section.now e w c.in-Some.ensures.value u.1 (λ y n. u.2 y (id_at-other c.args.section.now y n))
+    (λ d. kept c.args.sections.now.entries (c.get_mut.follows.lender w).entries c.args.section.now e w c.in-Some.ensures.value u.1
+    (λ y n. u.2 y (id_at-other c.args.section.now y n))
     (ap (λ (t : Listing). record e { text = t }) d)) c.insert_run.ensures.err

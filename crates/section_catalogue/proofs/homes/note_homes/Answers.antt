@@ -9,4 +9,5 @@ insert_run-requires-clause-free c = λ k less. no_home c.args.homes.now.values (
 
 pub returns-clause-ok : goal.returns-clause-ok
 returns-clause-ok c =
-    ok_makes _ _ c.insert_run.result (λ put. settled_all c.args.homes.now.values c.insert_run.new.self.values c.args.first c.args.count _ (ap (λ m. m.values) put)) c.insert_run.ensures.ok
+    ok_makes _ _ c.insert_run.result (λ put. settled_all c.args.homes.now.values c.insert_run.new.self.values c.args.first c.args.count _ (ap (λ m. m.values) put))
+    c.insert_run.ensures.ok

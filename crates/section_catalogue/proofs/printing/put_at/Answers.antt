@@ -7,4 +7,5 @@ use Rattle.section_catalogue.proofs.printing.put_at.Goals as goal
 
 pub returns-in-None : goal.returns-in-None
 returns-in-None g c =
-    subst (λ o. GathersText {T = Unit {0}} (g.O.Out.seen c.args.output.now) (g.O.Out.seen c.args.output.now) c.args.gather.now c.args.gather.now (Ok tt) (printed_entry o)) c.in-None.ensures.value (gathers_none tt _ _)
+    subst (λ o. GathersText {T = Unit {0}} (g.O.Out.seen c.args.output.now) (g.O.Out.seen c.args.output.now) c.args.gather.now c.args.gather.now (Ok tt) (printed_entry o))
+    c.in-None.ensures.value (gathers_none tt _ _)

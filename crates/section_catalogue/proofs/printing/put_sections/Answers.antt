@@ -1,7 +1,7 @@
 use Rattle.std.proofs.Common.{length, subst, sym, ◌<◌, ◌∙◌}
 use Rattle.std.specs.Prelude.{flat_map}
 use Rattle.std.proofs.lemmas.Result.{err_from_is_err_and}
-use Rattle.section_list.specs.Cells.{section_cell_ids, section_cells_shown}
+use Rattle.run_store.specs.Cells.{cell_ids, cells_shown}
 use Rattle.section_catalogue.specs.Section.{printed_at}
 use Rattle.section_catalogue.proofs.PrintingLemmas.{IsUnderWay, fewer, next_part, no_part, under_way_ends, under_way_grows, under_way_start, under_way_stops}
 use Rattle.section_catalogue.proofs.printing.put_sections.Goals as goal
@@ -9,14 +9,15 @@ use Rattle.section_catalogue.proofs.printing.put_sections.Goals as goal
 pub sections-init : goal.sections-init
 sections-init g c =
     let f = printed_at c.args.sections.now.entries in
-    let whole = flat_map f (section_cell_ids (section_cells_shown c.args.catalogue.now.cells)) in
+    let whole = flat_map f (cell_ids (cells_shown c.args.catalogue.now.cells)) in
     subst (λ xs. IsUnderWay (g.O.Out.seen c.args.output.now) (g.O.Out.seen c.args.output.now) c.args.gather.now c.args.gather.now whole (flat_map f xs)) (sym c.shown-shown.ensures)
     (under_way_start (g.O.Out.seen c.args.output.now) c.args.gather.now whole)
 
 pub sections-preserved : goal.sections-preserved
 sections-preserved g c =
     let f = printed_at c.args.sections.now.entries in
-    subst (λ xs. IsUnderWay (g.O.Out.seen c.args.output.now) (g.O.Out.seen c.put_at.new.output) c.args.gather.now c.put_at.new.gather (flat_map f (section_cell_ids (section_cells_shown c.args.catalogue.now.cells))) (flat_map f xs))
+    subst (λ xs. IsUnderWay (g.O.Out.seen c.args.output.now) (g.O.Out.seen c.put_at.new.output) c.args.gather.now c.put_at.new.gather
+    (flat_map f (cell_ids (cells_shown c.args.catalogue.now.cells))) (flat_map f xs))
     (sym c.step.ensures.rest)
     (under_way_grows _ _ _ _ _ _ _ _ _ _ c.sections.invariant (next_part f c.sections.shown c.in-Some.id (sym c.in-Some.is ∙ c.step.ensures.first)) c.in_ok-put_at.ensures)
 

@@ -8,11 +8,13 @@ use Rattle.section_plan.proofs.alike.find_alike.Goals as goal
 pub returns-clause-within : goal.returns-clause-within
 returns-clause-within c =
     rw c.earlier.ensures
-    (earlier_is (λ place. place < length c.args.pairs.now.of_section.items) c.find_fronted-front.result c.find_fronted-end.result c.find_fronted-front.ensures.within c.find_fronted-end.ensures.within)
+    (earlier_is (λ place. place < length c.args.pairs.now.of_section.items) c.find_fronted-front.result c.find_fronted-end.result c.find_fronted-front.ensures.within
+    c.find_fronted-end.ensures.within)
 
 pub returns-clause-free : goal.returns-clause-free
 returns-clause-free c =
-    rw c.earlier.ensures (earlier_is (λ place. part_of c.args.pairs.now place ≡ None) c.find_fronted-front.result c.find_fronted-end.result c.find_fronted-front.ensures.free c.find_fronted-end.ensures.free)
+    rw c.earlier.ensures (earlier_is (λ place. part_of c.args.pairs.now place ≡ None) c.find_fronted-front.result c.find_fronted-end.result c.find_fronted-front.ensures.free
+    c.find_fronted-end.ensures.free)
 
 pub returns-clause-none : goal.returns-clause-none
 returns-clause-none c =

@@ -5,12 +5,14 @@ use Rattle.section_plan.proofs.alike.pair_alike.Goals as goal
 
 pub parts-preserved : goal.parts-preserved
 parts-preserved c =
-    served_more c.args.pairs.now c.parts.pairs c.serve_part.new.pairs c.args.sections.now c.args.parts.now c.in_ok-index.index.texts.items c.parts.place c.requires c.parts.invariant c.serve_part.ensures.kept
+    served_more c.args.pairs.now c.parts.pairs c.serve_part.new.pairs c.args.sections.now c.args.parts.now c.in_ok-index.index.texts.items c.parts.place c.requires
+    c.parts.invariant c.serve_part.ensures.kept
     c.in_ok-serve_part.ensures.served
 
 pub returns-clause-done : goal.returns-clause-done
 returns-clause-done c =
-    served_all c.args.pairs.now c.parts.pairs c.args.sections.now c.args.parts.now c.in_ok-index.index.texts.items c.parts.place c.requires c.in_ok-index.ensures.texts c.parts.invariant (λ j l. omega arith)
+    served_all c.args.pairs.now c.parts.pairs c.args.sections.now c.args.parts.now c.in_ok-index.index.texts.items c.parts.place c.requires c.in_ok-index.ensures.texts
+    c.parts.invariant (λ j l. omega arith)
 
 pub serve_part-requires-clause-part : goal.serve_part-requires-clause-part
 serve_part-requires-clause-part c =

@@ -6,4 +6,5 @@ use Rattle.section_plan.proofs.alike.serve_part.Goals as goal
 
 pub returns-then-is_empty-clause-served : goal.returns-then-is_empty-clause-served
 returns-then-is_empty-clause-served c =
-    served_empty c.args.pairs.now c.args.index.now.texts.items c.args.place (chars c.args.text.now) (sym c.in_ok-list.ensures ∙ grind (arith, common_steps, c.if-is_empty.ensures, c.if-is_empty.true))
+    served_empty c.args.pairs.now c.args.index.now.texts.items c.args.place (chars c.args.text.now)
+    (sym c.in_ok-list.ensures ∙ grind (arith, common_steps, c.if-is_empty.ensures, c.if-is_empty.true))

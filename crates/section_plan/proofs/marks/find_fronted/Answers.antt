@@ -13,12 +13,15 @@ scalars-preserved c =
     let i = c.scalars.scalar-index in
     let was = c.scalars.invariant in
     record {
-      mark = mark_next xs i c.scalars.mark c.scalar-item.result c.next_mark-mark.result c.scalars-test.true (sym (get_or_read xs i c.scalar-item.result c.scalars-test.true c.scalar-item.is 0)) was.mark
+      mark = mark_next xs i c.scalars.mark c.scalar-item.result c.next_mark-mark.result c.scalars-test.true
+          (sym (get_or_read xs i c.scalar-item.result c.scalars-test.true c.scalar-item.is 0)) was.mark
           c.next_mark-mark.ensures;
-      within = rw c.earlier-found.ensures (earlier_is (λ place. place < length p.of_section.items) c.scalars.found c.find_marked-marked.result was.within c.find_marked-marked.ensures.within);
+      within = rw c.earlier-found.ensures
+          (earlier_is (λ place. place < length p.of_section.items) c.scalars.found c.find_marked-marked.result was.within c.find_marked-marked.ensures.within);
       free = rw c.earlier-found.ensures (earlier_is (λ place. part_of p place ≡ None) c.scalars.found c.find_marked-marked.result was.free c.find_marked-marked.ensures.free);
       none = rw c.earlier-found.ensures
-          (fronted_next p c.args.sections.now c.args.marks.now.marks.items xs c.args.text.now i c.scalars.mark c.scalars.found c.find_marked-marked.result was.none was.mark c.find_marked-marked.ensures.none);
+          (fronted_next p c.args.sections.now c.args.marks.now.marks.items xs c.args.text.now i c.scalars.mark c.scalars.found c.find_marked-marked.result was.none was.mark
+          c.find_marked-marked.ensures.none);
     }
 
 pub returns-clause-within : goal.returns-clause-within
@@ -28,7 +31,8 @@ returns-clause-within c =
 
 pub returns-clause-free : goal.returns-clause-free
 returns-clause-free c =
-    rw c.earlier.ensures (earlier_is (λ place. part_of c.args.pairs.now place ≡ None) c.scalars.found c.find_marked-last.result c.scalars.invariant.free c.find_marked-last.ensures.free)
+    rw c.earlier.ensures (earlier_is (λ place. part_of c.args.pairs.now place ≡ None) c.scalars.found c.find_marked-last.result c.scalars.invariant.free
+    c.find_marked-last.ensures.free)
 
 pub returns-clause-none : goal.returns-clause-none
 returns-clause-none c =
@@ -39,4 +43,5 @@ returns-clause-none c =
     let all : i ≡ length xs = omega arith in
     rw c.earlier.ensures
     (subst (λ n. IfNone (earlier c.scalars.found c.find_marked-last.result) (NoneFronted p c.args.sections.now ms xs (n + 1) c.args.text.now)) all
-    (fronted_next p c.args.sections.now ms xs c.args.text.now i c.scalars.mark c.scalars.found c.find_marked-last.result c.scalars.invariant.none c.scalars.invariant.mark c.find_marked-last.ensures.none))
+    (fronted_next p c.args.sections.now ms xs c.args.text.now i c.scalars.mark c.scalars.found c.find_marked-last.result c.scalars.invariant.none c.scalars.invariant.mark
+    c.find_marked-last.ensures.none))

@@ -11,7 +11,8 @@ pub marked-init : goal.marked-init
 marked-init c =
     let ms = c.args.marks.now.marks.items in
     subst (AreTried c.args.pairs.now c.args.sections.now ms c.args.mark c.args.text.now) (sym (c.copied-next.ensures ∙ c.get.ensures.value))
-    (tried_none c.args.pairs.now c.args.sections.now ms c.args.mark c.args.text.now c.requires.long (get nat_cmp c.args.marks.now.first c.args.mark) (c.requires.marked.starts c.args.mark))
+    (tried_none c.args.pairs.now c.args.sections.now ms c.args.mark c.args.text.now c.requires.long (get nat_cmp c.args.marks.now.first c.args.mark)
+    (c.requires.marked.starts c.args.mark))
 
 pub section_at-section-requires : goal.section_at-section-requires
 section_at-section-requires c =
@@ -42,7 +43,8 @@ marked-smaller c =
     let k = c.in-Some.place in
     let was = subst (AreTried c.args.pairs.now c.args.sections.now ms c.args.mark c.args.text.now) c.in-Some.is c.marked.invariant in
     let first = subst (IsFirst ms (k + 1) (get_or ms k 0)) (sym c.next_of-next.ensures) (c.requires.marked.chains k (omega arith) (was.there k refl).0) in
-    subst (λ o. turns_left (length ms) c.next_of-next.result < turns_left (length ms) o) (sym c.in-Some.is) (falls ms k (get_or ms k 0) c.next_of-next.result (was.there k refl).0 first)
+    subst (λ o. turns_left (length ms) c.next_of-next.result < turns_left (length ms) o) (sym c.in-Some.is)
+    (falls ms k (get_or ms k 0) c.next_of-next.result (was.there k refl).0 first)
 
 pub returns-clause-none : goal.returns-clause-none
 returns-clause-none c =

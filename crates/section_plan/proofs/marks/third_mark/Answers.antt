@@ -7,7 +7,8 @@ use Rattle.section_plan.proofs.marks.third_mark.Goals as goal
 pub scalars-preserved : goal.scalars-preserved
 scalars-preserved c =
     let xs = take (length c.args.list.now / 3) c.args.list.now in
-    mark_next xs c.scalars.scalar-index c.scalars.mark c.scalar-item.result c.next_mark-mark.result c.scalars-test.true (sym (get_or_read xs c.scalars.scalar-index c.scalar-item.result c.scalars-test.true c.scalar-item.is 0))
+    mark_next xs c.scalars.scalar-index c.scalars.mark c.scalar-item.result c.next_mark-mark.result c.scalars-test.true
+    (sym (get_or_read xs c.scalars.scalar-index c.scalar-item.result c.scalars-test.true c.scalar-item.is 0))
     c.scalars.invariant c.next_mark-mark.ensures
 
 pub returns : goal.returns

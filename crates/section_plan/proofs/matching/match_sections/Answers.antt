@@ -13,7 +13,8 @@ returns-clause-texts c =
     let words = c.pair_by_words.ensures in
     let titles = kept_both c.pair_by_text.new.pairs c.pair_by_words.new.pairs c.pair_by.new.pairs words c.pair_by.ensures.grows.kept in
     let all = kept_both c.pair_by_text.new.pairs c.pair_by.new.pairs c.pair_alike.new.pairs titles c.pair_alike.ensures.kept in
-    texts_kept c.args.sections.now c.args.parts.now c.in_ok-pairs.pairs c.pair_by_text.new.pairs c.pair_alike.new.pairs c.in_ok-pairs.ensures.matching c.in_ok-pairs.ensures.empty c.pair_by_text.ensures.grows
+    texts_kept c.args.sections.now c.args.parts.now c.in_ok-pairs.pairs c.pair_by_text.new.pairs c.pair_alike.new.pairs c.in_ok-pairs.ensures.matching c.in_ok-pairs.ensures.empty
+    c.pair_by_text.ensures.grows
     c.in_ok-pair_by_text.ensures.done all
 
 pub returns-clause-titles : goal.returns-clause-titles

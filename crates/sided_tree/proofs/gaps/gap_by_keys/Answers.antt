@@ -10,16 +10,32 @@ use Rattle.sided_tree.proofs.SlotLemmas.{bounds, by_elder, elder_held, element_h
 use Rattle.sided_tree.proofs.gaps.gap_by_keys.Goals as goal
 
 pub slot_key-key-requires : goal.slot_key-key-requires
-slot_key-key-requires g c = record { held = element_held c.args.node.now (g.N.NodeLookup.nodes c.args.nodes.now) (g.F.OrderOf.listed c.args.order.now) c.requires.new c.requires.list c.find_slot-slot.result c.find_slot-slot.ensures }
+slot_key-key-requires g c =
+    record {
+      held = element_held c.args.node.now (g.N.NodeLookup.nodes c.args.nodes.now)
+          (g.F.OrderOf.listed c.args.order.now) c.requires.new c.requires.list c.find_slot-slot.result c.find_slot-slot.ensures;
+    }
 
 pub slot_part-requires : goal.slot_part-requires
-slot_part-requires g c = record { held = element_held c.args.node.now (g.N.NodeLookup.nodes c.args.nodes.now) (g.F.OrderOf.listed c.args.order.now) c.requires.new c.requires.list c.find_slot-slot.result c.find_slot-slot.ensures }
+slot_part-requires g c =
+    record {
+      held = element_held c.args.node.now (g.N.NodeLookup.nodes c.args.nodes.now)
+          (g.F.OrderOf.listed c.args.order.now) c.requires.new c.requires.list c.find_slot-slot.result c.find_slot-slot.ensures;
+    }
 
 pub no_elder_gap-requires : goal.no_elder_gap-requires
-no_elder_gap-requires g c = record { held = element_held c.args.node.now (g.N.NodeLookup.nodes c.args.nodes.now) (g.F.OrderOf.listed c.args.order.now) c.requires.new c.requires.list c.find_slot-slot.result c.find_slot-slot.ensures }
+no_elder_gap-requires g c =
+    record {
+      held = element_held c.args.node.now (g.N.NodeLookup.nodes c.args.nodes.now)
+          (g.F.OrderOf.listed c.args.order.now) c.requires.new c.requires.list c.find_slot-slot.result c.find_slot-slot.ensures;
+    }
 
 pub no_elder_gap-requires-in-None : goal.no_elder_gap-requires-in-None
-no_elder_gap-requires-in-None g c = record { held = element_held c.args.node.now (g.N.NodeLookup.nodes c.args.nodes.now) (g.F.OrderOf.listed c.args.order.now) c.requires.new c.requires.list c.find_slot-slot.result c.find_slot-slot.ensures }
+no_elder_gap-requires-in-None g c =
+    record {
+      held = element_held c.args.node.now (g.N.NodeLookup.nodes c.args.nodes.now)
+          (g.F.OrderOf.listed c.args.order.now) c.requires.new c.requires.list c.find_slot-slot.result c.find_slot-slot.ensures;
+    }
 
 pub returns-in_default-clause-gap : goal.returns-in_default-clause-gap
 returns-in_default-clause-gap g c =
@@ -28,21 +44,24 @@ returns-in_default-clause-gap g c =
     let es = g.F.OrderOf.listed c.args.order.now in
     let s = c.find_slot-slot.result in
     let k = c.slot_key-key.result in
-    let none = no_sibling n ns es c.requires.new c.requires.list s c.find_slot-slot.ensures k c.slot_key-key.ensures.key c.slot_key-key.ensures.fit (c.in_default.ensures.none.0 refl) in
+    let none = no_sibling n ns es c.requires.new c.requires.list s c.find_slot-slot.ensures k c.slot_key-key.ensures.key c.slot_key-key.ensures.fit
+    (c.in_default.ensures.none.0 refl) in
     c.no_elder_gap.ensures ∙ by_elder n ns es c.requires.new c.requires.list s c.find_slot-slot.ensures k c.slot_key-key.ensures.key None none.1
 
 pub last_elder-requires-clause-from : goal.last_elder-requires-clause-from
 last_elder-requires-clause-from g c =
     let es = g.F.OrderOf.listed c.args.order.now in
     let part = c.in-Some.ensures.some in
-    let b = bounds c.args.node.now (g.N.NodeLookup.nodes c.args.nodes.now) es c.requires.new c.requires.list c.find_slot-slot.result c.find_slot-slot.ensures c.slot_key-key.result c.slot_key-key.ensures.key c.slot_key-key.ensures.fit in
+    let b = bounds c.args.node.now (g.N.NodeLookup.nodes c.args.nodes.now) es c.requires.new c.requires.list c.find_slot-slot.result c.find_slot-slot.ensures c.slot_key-key.result
+    c.slot_key-key.ensures.key c.slot_key-key.ensures.fit in
     subst (λ T. T) (λ i. HoldsOrigin (low_ids (sym part.2 i) es) (sym part.0 i)) b.0
 
 pub last_elder-requires-clause-to : goal.last_elder-requires-clause-to
 last_elder-requires-clause-to g c =
     let es = g.F.OrderOf.listed c.args.order.now in
     let part = c.in-Some.ensures.some in
-    let b = bounds c.args.node.now (g.N.NodeLookup.nodes c.args.nodes.now) es c.requires.new c.requires.list c.find_slot-slot.result c.find_slot-slot.ensures c.slot_key-key.result c.slot_key-key.ensures.key c.slot_key-key.ensures.fit in
+    let b = bounds c.args.node.now (g.N.NodeLookup.nodes c.args.nodes.now) es c.requires.new c.requires.list c.find_slot-slot.result c.find_slot-slot.ensures c.slot_key-key.result
+    c.slot_key-key.ensures.key c.slot_key-key.ensures.fit in
     subst (λ T. T) (λ i. HoldsOrigin (low_ids (sym part.2 i) (rest_of (sym part.0 i) es)) (sym part.1 i)) b.1
 
 pub last_elder-requires-clause-falls : goal.last_elder-requires-clause-falls
@@ -61,7 +80,8 @@ block_end-requires g c =
     let es = g.F.OrderOf.listed c.args.order.now in
     let part = c.in-Some.ensures.some in
     let same = same_siblings (is_elder ns n) es c.find_slot-slot.result c.slot_key-key.result c.in-Some.part.from c.in-Some.part.to c.in-Some.part.key part.0 part.1 part.2 in
-    elder_held n ns es c.requires.new c.requires.list c.find_slot-slot.result c.find_slot-slot.ensures c.slot_key-key.result c.slot_key-key.ensures.key c.in-Some-last_elder.elder (sym (c.in-Some-last_elder.ensures.elder ∙ same))
+    elder_held n ns es c.requires.new c.requires.list c.find_slot-slot.result c.find_slot-slot.ensures c.slot_key-key.result c.slot_key-key.ensures.key c.in-Some-last_elder.elder
+    (sym (c.in-Some-last_elder.ensures.elder ∙ same))
 
 pub returns-in-Some-last_elder-clause-gap : goal.returns-in-Some-last_elder-clause-gap
 returns-in-Some-last_elder-clause-gap g c =
@@ -71,7 +91,8 @@ returns-in-Some-last_elder-clause-gap g c =
     let part = c.in-Some.ensures.some in
     let same = same_siblings (is_elder ns n) es c.find_slot-slot.result c.slot_key-key.result c.in-Some.part.from c.in-Some.part.to c.in-Some.part.key part.0 part.1 part.2 in
     ap After (c.block_end.ensures ∙ (λ i. block_end es (part.2 i).depth c.in-Some-last_elder.elder))
-    ∙ by_elder n ns es c.requires.new c.requires.list c.find_slot-slot.result c.find_slot-slot.ensures c.slot_key-key.result c.slot_key-key.ensures.key (Some c.in-Some-last_elder.elder) (c.in-Some-last_elder.ensures.elder ∙ same)
+    ∙ by_elder n ns es c.requires.new c.requires.list c.find_slot-slot.result c.find_slot-slot.ensures c.slot_key-key.result c.slot_key-key.ensures.key
+    (Some c.in-Some-last_elder.elder) (c.in-Some-last_elder.ensures.elder ∙ same)
 
 pub returns-in-None-clause-gap : goal.returns-in-None-clause-gap
 returns-in-None-clause-gap g c =
@@ -81,4 +102,5 @@ returns-in-None-clause-gap g c =
     let part = c.in-Some.ensures.some in
     let same = same_siblings (is_elder ns n) es c.find_slot-slot.result c.slot_key-key.result c.in-Some.part.from c.in-Some.part.to c.in-Some.part.key part.0 part.1 part.2 in
     c.no_elder_gap-in-None.ensures
-    ∙ by_elder n ns es c.requires.new c.requires.list c.find_slot-slot.result c.find_slot-slot.ensures c.slot_key-key.result c.slot_key-key.ensures.key None (c.in-None.ensures.elder ∙ same)
+    ∙ by_elder n ns es c.requires.new c.requires.list c.find_slot-slot.result c.find_slot-slot.ensures c.slot_key-key.result c.slot_key-key.ensures.key None
+    (c.in-None.ensures.elder ∙ same)

@@ -10,12 +10,14 @@ end last first = record { replica = first.replica; counter = last }
 
 pub returns-in-Some-clause-yes : goal.returns-in-Some-clause-yes
 returns-in-Some-clause-yes g c = λ t.
-    free_by_latest g.V.Follows.nth g.V.Follows.reaches (layout c.args.stretches.now) c.requires.are c.args.first c.args.last c.requires.some _ (ap (end c.args.last) c.first.view_is) _
+    free_by_latest g.V.Follows.nth g.V.Follows.reaches (layout c.args.stretches.now) c.requires.are c.args.first c.args.last c.requires.some _
+    (ap (end c.args.last) c.first.view_is) _
     c.in-Some.ensures.some (c.ends_before.ensures.yes t)
 
 pub returns-in-Some-clause-no : goal.returns-in-Some-clause-no
 returns-in-Some-clause-no g c = λ t.
-    latest_not_free g.V.Follows.nth g.V.Follows.reaches (layout c.args.stretches.now) c.requires.are c.args.first c.args.last c.requires.some _ (ap (end c.args.last) c.first.view_is) _
+    latest_not_free g.V.Follows.nth g.V.Follows.reaches (layout c.args.stretches.now) c.requires.are c.args.first c.args.last c.requires.some _
+    (ap (end c.args.last) c.first.view_is) _
     c.in-Some.ensures.some (c.ends_before.ensures.no t)
 
 pub returns-in-Some-floor-clause-yes : goal.returns-in-Some-floor-clause-yes
@@ -25,7 +27,8 @@ returns-in-Some-floor-clause-yes g c = λ t.
 
 pub returns-in-Some-floor-clause-no : goal.returns-in-Some-floor-clause-no
 returns-in-Some-floor-clause-no g c = λ t.
-    floor_not_free g.V.Follows.nth g.V.Follows.reaches (layout c.args.stretches.now) c.requires.are c.args.first c.args.last c.requires.some _ (ap (end c.args.last) c.first.view_is)
+    floor_not_free g.V.Follows.nth g.V.Follows.reaches (layout c.args.stretches.now) c.requires.are c.args.first c.args.last c.requires.some _
+    (ap (end c.args.last) c.first.view_is)
     c.in_default.ensures.none _ c.in-Some-floor.ensures.some (c.ends_before-in-Some-floor.ensures.same t) (c.ends_before-in-Some-floor.ensures.no t)
 
 pub returns-in-None-clause-yes : goal.returns-in-None-clause-yes

@@ -11,5 +11,6 @@ returns-then-is_behind_all-clause-ok g c =
 
 pub returns-clause-ok : goal.returns-clause-ok
 returns-clause-ok g c =
-    begun_kept g.V.Follows.nth g.V.Follows.reaches (layout c.args.stretches.now) c.requires.are (c.args.key, c.args.run) c.requires.comes c.requires.before c.insert-2.new.self.entries
+    begun_kept g.V.Follows.nth g.V.Follows.reaches (layout c.args.stretches.now) c.requires.are
+    (c.args.key, c.args.run) c.requires.comes c.requires.before c.insert-2.new.self.entries
     (kept_becomes c.args.stretches.now.kept c.insert-2.new.self c.args.key _ c.in_ok-insert-2.ensures.updates c.in_ok-insert-2.ensures.ordered)

@@ -7,7 +7,8 @@ use Rattle.stretch_map.proofs.put.put_before.Goals as goal
 
 pub returns-then-extend_kept : goal.returns-then-extend_kept
 returns-then-extend_kept g c = record {
-  ok = kept_grew g.V.Follows.nth g.V.Follows.reaches (layout c.args.stretches.now) c.requires.are (c.args.key, c.args.run) c.requires.comes g.met.V.Follows.joins g.met.V.Follows.adds
+  ok = kept_grew g.V.Follows.nth g.V.Follows.reaches (layout c.args.stretches.now) c.requires.are
+      (c.args.key, c.args.run) c.requires.comes g.met.V.Follows.joins g.met.V.Follows.adds
       g.met.V.Follows.goes_on c.extend_kept.new.kept.entries (c.if-extend_kept.ensures.on refl);
   err = tt;
   sure = λ next. refl;

@@ -10,7 +10,8 @@ longer-requires g c = c.requires.are.begun _ (inl c.requires.behind.latest)
 
 pub returns-in-Some : goal.returns-in-Some
 returns-in-Some g c = record {
-  ok = latest_grew g.V.Follows.nth g.V.Follows.reaches (layout c.args.stretches.now) c.requires.are (c.args.key, c.args.run) c.requires.comes g.met.V.Follows.joins g.met.V.Follows.adds
+  ok = latest_grew g.V.Follows.nth g.V.Follows.reaches (layout c.args.stretches.now) c.requires.are
+      (c.args.key, c.args.run) c.requires.comes g.met.V.Follows.joins g.met.V.Follows.adds
       g.met.V.Follows.goes_on (c.args.first, c.args.stretch.now) c.requires.behind.latest c.in-Some.ensures.some.0 c.in-Some.longer c.in-Some.ensures.some.1
       c.replace.new.self.by_replica.entries c.replace.ensures;
   err = tt;
@@ -25,7 +26,8 @@ returns-in_err-insert g c =
       err = λ i. (c.args.stretches.now.latest.by_replica.entries, c.in_err-insert.ensures.err i);
       sure = λ next.
           absurd
-          (not_next_behind g.V.Follows.nth g.V.Follows.reaches (layout c.args.stretches.now) c.requires.are (c.args.key, c.args.run) c.requires.comes g.met.V.Follows.joins g.met.V.Follows.adds
+          (not_next_behind g.V.Follows.nth g.V.Follows.reaches (layout c.args.stretches.now) c.requires.are
+          (c.args.key, c.args.run) c.requires.comes g.met.V.Follows.joins g.met.V.Follows.adds
           (c.args.first, c.args.stretch.now) c.requires.behind c.in_default.ensures.none next);
     })
 
@@ -33,7 +35,8 @@ pub returns : goal.returns
 returns g c =
     let old = c.args.stretches.now in
     record {
-      ok = begun_behind g.V.Follows.nth g.V.Follows.reaches (layout old) c.requires.are (c.args.key, c.args.run) c.requires.comes (c.args.first, c.args.stretch.now) c.requires.behind
+      ok = begun_behind g.V.Follows.nth g.V.Follows.reaches (layout old) c.requires.are (c.args.key, c.args.run) c.requires.comes
+          (c.args.first, c.args.stretch.now) c.requires.behind
           c.replace-2.new.self.by_replica.entries c.insert.new.self.entries c.replace-2.ensures
           (kept_becomes old.kept c.insert.new.self c.args.first _ c.in_ok-insert.ensures.updates c.in_ok-insert.ensures.ordered);
       err = tt;

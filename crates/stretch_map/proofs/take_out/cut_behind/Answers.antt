@@ -38,7 +38,8 @@ returns-in-Some-clause-ok g c =
     subst (λ k. UpdatesBy id_cmp (id_cmp k) old mid (Some (rest_behind nth e steps).1)) place
     (subst (λ v. UpdatesBy id_cmp (id_cmp raw) old mid (Some (record { value = v; last = c.args.last }))) value_is c.in_ok-insert.ensures.updates)
     in
-    let apart : first ≢ id_behind first steps = λ d. let same : first.counter ≡ first.counter + (key.counter - first.counter + 1) = ap (λ (x : Identifier). x.counter) d in absurd (omega arith) in
+    let apart : first ≢ id_behind first steps = λ d. let same : first.counter ≡ first.counter + (key.counter - first.counter + 1) =
+    ap (λ (x : Identifier). x.counter) d in absurd (omega arith) in
     let there : kept_at mid.entries first ≡ Some e.1 = u.2 first (id_at-other (id_behind first steps) first apart) ∙ c.requires.there in
     let after : Stretch g.row.V.Denot = record { value = c.args.value; last = key.counter } in
     let written = c.get_mut.follows.holds after in

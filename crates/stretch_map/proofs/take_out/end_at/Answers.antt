@@ -9,6 +9,7 @@ cut_behind-requires-clause-reached g c = c.requires.are.reached _ (inr c.require
 
 pub returns-clause-ok : goal.returns-clause-ok
 returns-clause-ok g c =
-    parted_kept g.V.Follows.nth g.V.Follows.reaches (layout c.args.stretches.now) c.requires.are c.args.key g.met.V.Follows.adds g.met.V.Follows.goes_on (c.args.first, c.args.stretch.now)
+    parted_kept g.V.Follows.nth g.V.Follows.reaches (layout c.args.stretches.now) c.requires.are c.args.key g.met.V.Follows.adds g.met.V.Follows.goes_on
+    (c.args.first, c.args.stretch.now)
     c.requires.there c.requires.covers (subst (λ (k : Identifier). k.counter < c.args.stretch.now.last) c.key.view_is c.if-stretch-key.false) c.cut_behind.new.kept.entries
     c.in_ok-cut_behind.ensures.ok

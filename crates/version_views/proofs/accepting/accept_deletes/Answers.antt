@@ -22,7 +22,8 @@ deletes-preserved c =
     let n = c.deletes.done in
     record {
       within = omega (arith, c.deletes-test.true);
-      accepted = with_more c.args.front.now c.deletes.front c.accept.new.front (deletes_by d.down d.target n) (Delete c.nth-target.result ∷ []) c.deletes.invariant.accepted c.in_ok-accept.ensures.ok
+      accepted = with_more c.args.front.now c.deletes.front c.accept.new.front (deletes_by d.down d.target n)
+          (Delete c.nth-target.result ∷ []) c.deletes.invariant.accepted c.in_ok-accept.ensures.ok
           ∙ ap (with_ops c.args.front.now) (ap (λ t. deletes_by d.down d.target n ++ Delete t ∷ []) c.nth-target.ensures ∙ sym (deletes_more d.down d.target n));
       stands = c.in_ok-accept.ensures.stands;
     }

@@ -11,7 +11,8 @@ pub feed_run-requires-clause-counts_rise : goal.feed_run-requires-clause-counts_
 feed_run-requires-clause-counts_rise c =
     let zero = c.default-tally.ensures in
     let can = c.requires.can in
-    let long : length (run_from c.args.start.now c.args.text.now) ≡ length c.args.text.now = length-typed c.args.start.now.id c.args.start.now.section c.args.start.now.left c.args.start.now.right c.args.text.now in
+    let long : length (run_from c.args.start.now c.args.text.now) ≡ length c.args.text.now =
+    length-typed c.args.start.now.id c.args.start.now.section c.args.start.now.left c.args.start.now.right c.args.text.now in
     omega (arith, zero.0, zero.1.0, zero.1.1.0, zero.1.1.1.0, zero.1.1.1.1, can.room, can.stands.most_within.1, long, ap length can.quiet)
 
 pub returns-in-Ok-clause-ok : goal.returns-in-Ok-clause-ok

@@ -19,7 +19,8 @@ pub accept_deletes-requires-clause-can : goal.accept_deletes-requires-clause-can
 accept_deletes-requires-clause-can c =
     let d = c.in-Deleted.deletes in
     let is : take c.args.most (stretch_ops c.args.stretch.now) ≡ deletes_by d.down d.target c.min-count-in-Deleted.result =
-    ap (λ z. take c.args.most (stretch_ops z)) c.in-Deleted.is ∙ sym (deletes_front d.down d.target d.count c.min-count-in-Deleted.result c.args.most c.min-count-in-Deleted.ensures) in
+    ap (λ z. take c.args.most (stretch_ops z)) c.in-Deleted.is
+    ∙ sym (deletes_front d.down d.target d.count c.min-count-in-Deleted.result c.args.most c.min-count-in-Deleted.ensures) in
     subst (CanAccept c.args.front.now) is c.requires.can
 
 pub returns-in_ok-accept_run-in-Typed-clause-count : goal.returns-in_ok-accept_run-in-Typed-clause-count
@@ -32,7 +33,8 @@ returns-in_ok-accept_run-in-Typed-clause-count c =
 pub returns-in_ok-accept_run-in-Typed-clause-ok : goal.returns-in_ok-accept_run-in-Typed-clause-ok
 returns-in_ok-accept_run-in-Typed-clause-ok c =
     c.in_ok-accept_run-in-Typed.ensures.ok
-    ∙ ap (with_ops c.args.front.now) (run_front c.in-Typed.start c.in-Typed.text.now c.min-count.result c.args.most c.min-count.ensures ∙ ap (λ z. take c.args.most (stretch_ops z)) (sym c.in-Typed.is))
+    ∙ ap (with_ops c.args.front.now) (run_front c.in-Typed.start c.in-Typed.text.now c.min-count.result c.args.most c.min-count.ensures
+    ∙ ap (λ z. take c.args.most (stretch_ops z)) (sym c.in-Typed.is))
 
 pub returns-in_ok-accept_deletes-in-Deleted-clause-count : goal.returns-in_ok-accept_deletes-in-Deleted-clause-count
 returns-in_ok-accept_deletes-in-Deleted-clause-count c =
@@ -44,4 +46,5 @@ pub returns-in_ok-accept_deletes-in-Deleted-clause-ok : goal.returns-in_ok-accep
 returns-in_ok-accept_deletes-in-Deleted-clause-ok c =
     let d = c.in-Deleted.deletes in
     c.in_ok-accept_deletes-in-Deleted.ensures.ok
-    ∙ ap (with_ops c.args.front.now) (deletes_front d.down d.target d.count c.min-count-in-Deleted.result c.args.most c.min-count-in-Deleted.ensures ∙ ap (λ z. take c.args.most (stretch_ops z)) (sym c.in-Deleted.is))
+    ∙ ap (with_ops c.args.front.now) (deletes_front d.down d.target d.count c.min-count-in-Deleted.result c.args.most c.min-count-in-Deleted.ensures
+    ∙ ap (λ z. take c.args.most (stretch_ops z)) (sym c.in-Deleted.is))

@@ -57,6 +57,7 @@ returns-clause-version c =
     let h : List Op = c.args.replica.now.held.history in
     let ops : List Op = reverse h in
     let name : List ℕ = c.args.name.now in
-    walk_ends (P r h name ops c.walk.found) ops (between r h name ops c.walk.found) c.sections_and_notes-count-items.result.now c.walk.count-index (omega (arith, c.walk-test.false)) c.walk.invariant
+    walk_ends (P r h name ops c.walk.found) ops (between r h name ops c.walk.found) c.sections_and_notes-count-items.result.now c.walk.count-index
+    (omega (arith, c.walk-test.false)) c.walk.invariant
     ∙ ap (newest r h name) (passed_all ops (length ops) (omega arith) ∙ reverse-reverse h)
     ∙ sym (last_is_newest r h name h)

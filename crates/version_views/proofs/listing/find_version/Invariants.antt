@@ -5,4 +5,5 @@ use Rattle.version_views.proofs.listing.find_version.Given as goal
 
 -- what was found is the newest of those that were passed
 abbrev pub invariant-walk : goal.invariant-walk
-invariant-walk l = Walks (λ i. l.found ≡ newest l.replica.number l.replica.held.history l.name (reverse (take i (reverse l.replica.held.history)))) (reverse l.replica.held.history) l.count-items l.count-index
+invariant-walk l = Walks (λ i. l.found ≡ newest l.replica.number l.replica.held.history l.name (reverse (take i (reverse l.replica.held.history))))
+    (reverse l.replica.held.history) l.count-items l.count-index

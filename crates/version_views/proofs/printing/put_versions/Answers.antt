@@ -43,7 +43,8 @@ returns-in_err-put_version-clause-text g c =
     let h : List Op = s.held.history in
     let positions : List ℕ = c.sections_and_notes-count-items.result.now in
     let k : ℕ = c.walk.count-index in
-    let at = walk_comes _ (reverse h) (between s.number h (g.O.Out.seen c.args.output.now) (g.O.Out.seen c.walk.output) c.args.gather.now c.walk.gather) positions k c.walk-test.true c.walk.invariant in
+    let at = walk_comes _ (reverse h) (between s.number h (g.O.Out.seen c.args.output.now) (g.O.Out.seen c.walk.output) c.args.gather.now c.walk.gather) positions k
+    c.walk-test.true c.walk.invariant in
     let p = err_from_is_err_and c.from_residual.result c.from_residual.ensures.1 in
     rw p.1 (under_way_stops _ _ _ _ _ _ _ _ _ _ at.holds (line_next s.number h (get_or positions k 0) at.op at.below at.is at.there) c.in_err-put_version.ensures)
 

@@ -11,11 +11,13 @@ returns-in_err-put_versions-clause-text g c =
     let p = err_from_is_err_and c.from_residual.result c.from_residual.ensures.1 in
     let text = versions_text c.args.replica.now.held.history c.args.replica.now.number in
     rw p.1 (stop_writes {T = Unit {0}} {S = Unit {0}} _ _ _ _
-    (subst (λ w. GathersText {T = Unit {0}} (g.O.Out.seen c.args.output.now) (g.O.Out.seen c.put_versions.new.output) w c.put_versions.new.gather (Err (record {})) text) c.new-gather.ensures c.in_err-put_versions.ensures.text))
+    (subst (λ w. GathersText {T = Unit {0}} (g.O.Out.seen c.args.output.now) (g.O.Out.seen c.put_versions.new.output) w c.put_versions.new.gather (Err (record {})) text)
+    c.new-gather.ensures c.in_err-put_versions.ensures.text))
 
 pub returns-clause-text : goal.returns-clause-text
 returns-clause-text g c =
     let text = versions_text c.args.replica.now.held.history c.args.replica.now.number in
     flush_writes {T = Unit {0}} {S = Unit {0}} tt c.flush.result _ _ _ _ _
-    (subst (λ w. GathersText {T = Unit {0}} (g.O.Out.seen c.args.output.now) (g.O.Out.seen c.put_versions.new.output) w c.put_versions.new.gather (Ok tt) text) c.new-gather.ensures c.in_ok-put_versions.ensures.text)
+    (subst (λ w. GathersText {T = Unit {0}} (g.O.Out.seen c.args.output.now) (g.O.Out.seen c.put_versions.new.output) w c.put_versions.new.gather (Ok tt) text)
+    c.new-gather.ensures c.in_ok-put_versions.ensures.text)
     c.flush.ensures.text

@@ -5,7 +5,8 @@ use Rattle.version_views.proofs.viewing.find_holder.Goals as goal
 
 pub returns-in_err-at : goal.returns-in_err-at
 returns-in_err-at c =
-    rw c.from_residual.ensures (lacked_first c.args.n c.args.replica.now.held.history c.args.id c.position.ensures.stands.lawful c.requires (sym (ap (is_below c.args.n) c.in_err-at.ensures.position)))
+    rw c.from_residual.ensures
+    (lacked_first c.args.n c.args.replica.now.held.history c.args.id c.position.ensures.stands.lawful c.requires (sym (ap (is_below c.args.n) c.in_err-at.ensures.position)))
 
 pub returns-then-at-n : goal.returns-then-at-n
 returns-then-at-n c =

@@ -2,7 +2,7 @@ use Rattle.std.proofs.Common.{length}
 use Rattle.std.specs.Prelude.{IfSome, flat_map}
 use Rattle.std.specs.List.{Contains}
 use Rattle.section_catalogue.proofs.PrintingLemmas.{IsUnderWay}
-use Rattle.section_list.specs.Cells.{section_cell_ids}
+use Rattle.run_store.specs.Cells.{cell_ids}
 use Rattle.version_views.specs.Views.{first_ops, scalar_part}
 use Rattle.version_views.proofs.WalkLemmas.{from_next}
 use Rattle.version_views.proofs.viewing.put_elements.Given as goal
@@ -11,9 +11,9 @@ use Rattle.version_views.proofs.viewing.put_elements.Given as goal
 abbrev pub invariant-elements : goal.invariant-elements
 invariant-elements g l =
     IsUnderWay (g.O.Out.seen l.initial.output) (g.O.Out.seen l.output) l.initial.gather l.gather
-    (flat_map (scalar_part (first_ops l.n l.replica.held.history)) (section_cell_ids l.list.cells))
-    (flat_map (scalar_part (first_ops l.n l.replica.held.history)) (from_next (section_cell_ids l.list.cells) l.next))
-    × IfSome l.next (Contains (section_cell_ids l.list.cells))
+    (flat_map (scalar_part (first_ops l.n l.replica.held.history)) (cell_ids l.list.cells))
+    (flat_map (scalar_part (first_ops l.n l.replica.held.history)) (from_next (cell_ids l.list.cells) l.next))
+    × IfSome l.next (Contains (cell_ids l.list.cells))
 
 abbrev pub decreases-elements : goal.decreases-elements
-decreases-elements g l = length (from_next (section_cell_ids l.list.cells) l.next)
+decreases-elements g l = length (from_next (cell_ids l.list.cells) l.next)

@@ -9,14 +9,15 @@ use Rattle.op_runs.specs.Finding.{op_of}
 use Rattle.origin_model.specs.declared.operations.Place.TheVariants.{Section as within}
 use Rattle.origin_model.specs.order.Printed.{printed_section, text}
 use Rattle.origin_model.proofs.SharedLemmas.{order_total}
-use Rattle.section_list.specs.Cells.{section_cell_ids}
+use Rattle.run_store.specs.Cells.{cell_ids}
 use Rattle.version_views.specs.Views.{first_ops, scalar_part}
 use Rattle.version_views.proofs.PartLemmas.{section_put, section_shown}
 use Rattle.version_views.proofs.viewing.put_section.Goals as goal
 
 pub put_elements-requires-clause-once : goal.put_elements-requires-clause-once
 put_elements-requires-clause-once g c =
-    subst (AllPairs (λ x y. x ≢ y)) (sym c.elements_of.ensures.elements) (order_total (within c.args.section) c.args.replica.now.held.history c.elements_of.ensures.stands.lawful).once
+    subst (AllPairs (λ x y. x ≢ y)) (sym c.elements_of.ensures.elements)
+    (order_total (within c.args.section) c.args.replica.now.held.history c.elements_of.ensures.stands.lawful).once
 
 pub returns-in_err-put_heading-in-Some : goal.returns-in_err-put_heading-in-Some
 returns-in_err-put_heading-in-Some g c =
@@ -32,10 +33,11 @@ pub returns-in_err-put_elements-in-Some : goal.returns-in_err-put_elements-in-So
 returns-in_err-put_elements-in-Some g c =
     let h = c.args.replica.now.held.history in
     let title = c.title_in.result.now in
-    let ids = section_cell_ids c.elements_of.result.now.cells in
+    let ids = cell_ids c.elements_of.result.now.cells in
     let body = flat_map (scalar_part (first_ops c.args.n h)) ids in
     let p = err_from_is_err_and c.from_residual-in_err-put_elements-in-Some.result c.from_residual-in_err-put_elements-in-Some.ensures.1 in
-    rw p.1 (subst (GathersText {T = Unit {0}} (g.O.Out.seen c.args.output.now) (g.O.Out.seen c.put_elements.new.output) c.args.gather.now c.put_elements.new.gather (Err (record {})))
+    rw p.1 (subst (GathersText {T = Unit {0}} (g.O.Out.seen c.args.output.now) (g.O.Out.seen c.put_elements.new.output) c.args.gather.now c.put_elements.new.gather
+    (Err (record {})))
     (section_put c.args.n h c.args.section (op_of c.in-Some.op) title ids c.elements_of.ensures.stands.lawful c.title_in.ensures c.elements_of.ensures.elements c.in-Some.ensures)
     (gathers_join {T = Unit {0}} {S = Unit {0}} tt (Err (record {})) _ _ _ _ _ _ (codes "# " ++ title ++ 10 ∷ []) (body ++ 10 ∷ []) c.in_ok-put_heading-in-Some.ensures
     (gathers_stop {T = Unit {0}} {S = Unit {0}} _ _ _ _ body (10 ∷ []) c.in_err-put_elements-in-Some.ensures)))
@@ -44,7 +46,7 @@ pub returns-in_ok-put_elements-in-Some : goal.returns-in_ok-put_elements-in-Some
 returns-in_ok-put_elements-in-Some g c =
     let h = c.args.replica.now.held.history in
     let title = c.title_in.result.now in
-    let ids = section_cell_ids c.elements_of.result.now.cells in
+    let ids = cell_ids c.elements_of.result.now.cells in
     let body = flat_map (scalar_part (first_ops c.args.n h)) ids in
     subst (GathersText {T = Unit {0}} (g.O.Out.seen c.args.output.now) (g.O.Out.seen c.put.new.out) c.args.gather.now c.put.new.self c.put.result)
     (section_put c.args.n h c.args.section (op_of c.in-Some.op) title ids c.elements_of.ensures.stands.lawful c.title_in.ensures c.elements_of.ensures.elements c.in-Some.ensures)

@@ -11,11 +11,13 @@ returns-in_err-put_sections-clause-text g c =
     let p = err_from_is_err_and c.from_residual.result c.from_residual.ensures.1 in
     let text = view c.args.replica.now.held.history c.args.n in
     rw p.1 (stop_writes {T = Unit {0}} {S = Unit {0}} _ _ _ _
-    (subst (λ w. GathersText {T = Unit {0}} (g.O.Out.seen c.args.output.now) (g.O.Out.seen c.put_sections.new.output) w c.put_sections.new.gather (Err (record {})) text) c.new-gather.ensures c.in_err-put_sections.ensures.text))
+    (subst (λ w. GathersText {T = Unit {0}} (g.O.Out.seen c.args.output.now) (g.O.Out.seen c.put_sections.new.output) w c.put_sections.new.gather (Err (record {})) text)
+    c.new-gather.ensures c.in_err-put_sections.ensures.text))
 
 pub returns-clause-text : goal.returns-clause-text
 returns-clause-text g c =
     let text = view c.args.replica.now.held.history c.args.n in
     flush_writes {T = Unit {0}} {S = Unit {0}} tt c.flush.result _ _ _ _ _
-    (subst (λ w. GathersText {T = Unit {0}} (g.O.Out.seen c.args.output.now) (g.O.Out.seen c.put_sections.new.output) w c.put_sections.new.gather (Ok tt) text) c.new-gather.ensures c.in_ok-put_sections.ensures.text)
+    (subst (λ w. GathersText {T = Unit {0}} (g.O.Out.seen c.args.output.now) (g.O.Out.seen c.put_sections.new.output) w c.put_sections.new.gather (Ok tt) text)
+    c.new-gather.ensures c.in_ok-put_sections.ensures.text)
     c.flush.ensures.text

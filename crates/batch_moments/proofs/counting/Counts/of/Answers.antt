@@ -22,7 +22,8 @@ returns-in_default c =
     let none = c.in_default.ensures.none in
     let few : length c.ops.ops ≤ c.ops.left = omega (arith, ap length none) in
     record {
-      counts = subst (λ (l : List Op). AreOf l c.ops.counts) (sym (inv.front ∙ ap (λ (l : List Op). inv.done ++ l) (take_all c.ops.left c.ops.ops few ∙ none) ∙ append-nil inv.done)) inv.are;
+      counts = subst (λ (l : List Op). AreOf l c.ops.counts)
+          (sym (inv.front ∙ ap (λ (l : List Op). inv.done ++ l) (take_all c.ops.left c.ops.ops few ∙ none) ∙ append-nil inv.done)) inv.are;
       rest = c.in_default.ensures.left ∙ sym (drop_all c.ops.left c.ops.ops few) ∙ sym inv.rest;
     }
 

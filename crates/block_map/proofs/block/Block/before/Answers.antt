@@ -10,5 +10,6 @@ returns-clause-some g c =
     let here : get_or c.args.self.now.counters.items (c.args.place - 1) 0 ≡ c.index.result.now = get_or_default _ _ 0 c.index.result.now inside ∙ sym c.index.ensures in (
       omega (arith, c.if-place-eq0.false),
       here,
-      value_there b.counters.items b.values.items b.ascending b.beside c.index.result.now (c.args.place - 1) (record { inside = inside; here = here }) c.index-2.result.now c.index-2.ensures,
+      value_there b.counters.items b.values.items b.ascending b.beside c.index.result.now (c.args.place - 1)
+          (record { inside = inside; here = here }) c.index-2.result.now c.index-2.ensures,
     )

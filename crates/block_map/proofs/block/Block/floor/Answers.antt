@@ -24,5 +24,6 @@ returns-in-Err-clause-some g c =
     let gap = c.in-Err.ensures.absent in
     IfSome_then c.before-in-Err.result c.before-in-Err.ensures.some
     (λ e p.
-    greatest_before b.counters.items b.values.items b.ascending (λ d. d ≤ c.args.counter) c.in-Err.at (before_gap b.counters.items c.args.counter c.in-Err.at gap) gap.inside e p.0 p.1 p.2
+    greatest_before b.counters.items b.values.items b.ascending (λ d. d ≤ c.args.counter) c.in-Err.at
+    (before_gap b.counters.items c.args.counter c.in-Err.at gap) gap.inside e p.0 p.1 p.2
     (omega (arith, p.0, p.1, gap.before (c.in-Err.at - 1) (omega (arith, p.0)))))

@@ -9,7 +9,8 @@ use Rattle.block_map.proofs.block.Block.insert.Goals as goal
 pub returns-in-Ok-clause-ok : goal.returns-in-Ok-clause-ok
 returns-in-Ok-clause-ok g c =
     let b = c.args.self.now in
-    replaced_by (value_at b) _ c.args.counter (Some c.args.value) (value_set b.counters.items b.values.items b.ascending b.beside c.args.counter c.in-Ok.at c.in-Ok.ensures.found c.args.value)
+    replaced_by (value_at b) _ c.args.counter (Some c.args.value)
+    (value_set b.counters.items b.values.items b.ascending b.beside c.args.counter c.in-Ok.at c.in-Ok.ensures.found c.args.value)
 
 pub returns-in-Err-clause-ok : goal.returns-in-Err-clause-ok
 returns-in-Err-clause-ok g c =

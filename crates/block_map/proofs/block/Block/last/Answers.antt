@@ -8,4 +8,5 @@ pub returns-clause-some : goal.returns-clause-some
 returns-clause-some g c =
     let b = c.args.self.now in
     IfSome_then c.before-2.result c.before-2.ensures.some
-    (λ e p. greatest_before b.counters.items b.values.items b.ascending (λ _. ⊤) c.len.result (λ i inside _. omega (arith, inside, c.len.ensures)) (omega (arith, c.len.ensures)) e p.0 p.1 p.2 tt)
+    (λ e p. greatest_before b.counters.items b.values.items b.ascending (λ _. ⊤) c.len.result (λ i inside _. omega (arith, inside, c.len.ensures))
+    (omega (arith, c.len.ensures)) e p.0 p.1 p.2 tt)

@@ -6,7 +6,7 @@ use Rattle.fugue_ids.specs.declared.op.Op.{Op}
 use Rattle.origin_model.specs.declared.operations.Place.TheVariants.{Catalogue as catalogue}
 use Rattle.origin_model.specs.order.Printed.{is_withdrawn}
 use Rattle.section_catalogue.specs.Manuscript.{IsOrderedPlace}
-use Rattle.section_list.specs.Cells.{section_cell_ids, section_cells_shown}
+use Rattle.run_store.specs.Cells.{cell_ids, cells_shown}
 use Rattle.catalogue_notes.specs.Arranged.{position}
 use Rattle.catalogue_notes.specs.Placing.{position_in}
 use Rattle.catalogue_notes.specs.Winning.{winning_bid}
@@ -18,7 +18,7 @@ placing_of-requires c =
     let h : List Op = c.args.replica.now.held.history in
     let listed : IsOrderedPlace catalogue h c.catalogue.result.now = subst (IsOrderedPlace catalogue h) (sym c.catalogue.ensures.catalogue) c.places.ensures.lists.catalogue_is in
     let won = λ (s : Identifier). c.in_ok-winners.ensures s ∙ ap (λ z. winning_bid (λ x. not (is_withdrawn h x)) s (reverse z)) c.deref.ensures.value in
-    positions_apart h (section_cell_ids (section_cells_shown c.catalogue.result.now.cells)) (position_in (get id_cmp c.in_ok-winners.winners)) c.places.ensures.stands.lawful listed.visible
+    positions_apart h (cell_ids (cells_shown c.catalogue.result.now.cells)) (position_in (get id_cmp c.in_ok-winners.winners)) c.places.ensures.stands.lawful listed.visible
     (positions_are h c.in_ok-lifted.lifted.list c.in_ok-lifted.lifted.moves.items (get id_cmp c.in_ok-winners.winners) c.in_ok-lifted.ensures.lifted won)
 
 pub returns-clause-arranged : goal.returns-clause-arranged
@@ -34,7 +34,7 @@ returns-clause-arranged c =
           c.in_ok-sections.ensures
           ∙ ap (flat_map (λ x. option_to_list (get id_cmp c.in_ok-placing.placing x))) c.in_ok-lifted.ensures.lifted.visible
           ∙ arranged_by h (get id_cmp c.in_ok-placing.placing) c.places.ensures.stands.lawful
-          (placing_same h (section_cell_ids (section_cells_shown c.catalogue.result.now.cells)) at (get id_cmp c.in_ok-placing.placing) listed.visible pos c.in_ok-placing.ensures);
+          (placing_same h (cell_ids (cells_shown c.catalogue.result.now.cells)) at (get id_cmp c.in_ok-placing.placing) listed.visible pos c.in_ok-placing.ensures);
       lifted = c.in_ok-lifted.ensures.lifted;
       winners_are = λ s. c.in_ok-winners.ensures s ∙ ap (λ z. winning_bid (λ x. not (is_withdrawn h x)) s (reverse z)) c.deref.ensures.value;
       positions = pos;

@@ -26,12 +26,14 @@ list_of h ops e w =
     let is : reverse ops ≡ h = ap reverse e ∙ reverse-reverse h in
     record { is = is; lawful = subst Lawful (sym is) w; tells = λ s. ap (λ z. is_section z s) (sym is) }
 
-next_at : (h ops : List Op) (positions : List ℕ) (lifted : Lifted) (k : ℕ) → IsOf h ops → k < length positions → Walks (P ops lifted) ops positions k → StandsAt (P ops lifted) ops positions k (get_or positions k 0)
+next_at : (h ops : List Op) (positions : List ℕ) (lifted : Lifted) (k : ℕ) → IsOf h ops → k < length positions → Walks (P ops lifted) ops positions k
+    → StandsAt (P ops lifted) ops positions k (get_or positions k 0)
 next_at h ops positions lifted k o = walk_comes (P ops lifted) ops (lifting_between ops (is_section h) lifted.list lifted.moves.items o.lawful o.tells) positions k
 
 pub walk-init : goal.walk-init
 walk-init c =
-    walk_begins (P (reverse c.args.replica.now.held.history) (record { list = c.new.result; moves = c.new-2.result })) c.args.replica.now.held.history (reverse c.args.replica.now.held.history) c.sections_and_notes-at-items.result.now refl c.sections_and_notes-at-items.ensures.positions
+    walk_begins (P (reverse c.args.replica.now.held.history) (record { list = c.new.result; moves = c.new-2.result })) c.args.replica.now.held.history
+    (reverse c.args.replica.now.held.history) c.sections_and_notes-at-items.result.now refl c.sections_and_notes-at-items.ensures.positions
     (lifting_none c.new.result c.new-2.result.items c.new.ensures.nothing c.new.ensures.in_order c.new-2.ensures.items)
 
 pub take-requires-clause-new : goal.take-requires-clause-new
@@ -41,7 +43,9 @@ take-requires-clause-new c =
     let o = list_of h ops refl c.sections_and_notes-at-items.ensures.stands.lawful in
     let at = next_at h ops c.sections_and_notes-at-items.result.now c.walk.lifted c.walk.at-index o c.walk-test.true c.walk.invariant in
     new_at ops (get_or c.sections_and_notes-at-items.result.now c.walk.at-index 0) at.op (is_section h) c.walk.lifted.list c.walk.lifted.moves.items c.in-Some.lift o.lawful o.tells
-    at.below at.is at.holds (read_there (lift_by (is_section h) c.walk.lifted.list.nodes) ops (get_or c.sections_and_notes-at-items.result.now c.walk.at-index 0) at.op c.lift_at.result at.there c.lift_at.ensures ∙ c.in-Some.is)
+    at.below at.is at.holds
+    (read_there (lift_by (is_section h) c.walk.lifted.list.nodes) ops
+    (get_or c.sections_and_notes-at-items.result.now c.walk.at-index 0) at.op c.lift_at.result at.there c.lift_at.ensures ∙ c.in-Some.is)
 
 pub walk-preserved : goal.walk-preserved
 walk-preserved c =

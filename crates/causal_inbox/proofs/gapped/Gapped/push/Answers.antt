@@ -9,7 +9,8 @@ invariant_of-self-2 g c =
     let grown : c.push.new.self.items ≡ before.items.items ++ c.args.item ∷ [] = c.in_default.ensures.items in
     let gaps : c.has_room.new.gaps.items ≡ before.gaps.items = c.has_room.ensures.gaps in
     let more : AreGaps before.gone before.gaps.items (length (before.items.items ++ c.args.item ∷ [])) =
-    gaps_longer before.gone before.gaps.items (length before.items.items) (length (before.items.items ++ c.args.item ∷ [])) c.self.invariant.in_order (omega (arith, length-append before.items.items (c.args.item ∷ []))) in
+    gaps_longer before.gone before.gaps.items (length before.items.items) (length (before.items.items ++ c.args.item ∷ [])) c.self.invariant.in_order
+    (omega (arith, length-append before.items.items (c.args.item ∷ []))) in
     record {
       in_order = subst (λ l. AreGaps before.gone l (length c.push.new.self.items)) (sym gaps) (subst (λ l. AreGaps before.gone before.gaps.items (length l)) (sym grown) more);
       room = λ some. omega (arith, c.has_room.new.gaps.ok.0, c.if-not-has_room.ensures.room);

@@ -10,7 +10,8 @@ use Rattle.causal_inbox.proofs.FindingLemmas.{equal_found}
 use Rattle.causal_inbox.proofs.index.Index.has_equal.Goals as goal
 
 -- the test of an age that is tried, by what its call answered
-tried : (passes : ℕ → Bool) (items list : List ℕ) (i : ℕ) (answer : Bool) → items ≡ list → i < length items → passes (get_or items i 0) ≡ answer → (i < length list) × (passes (get_or list i 0) ≡ answer)
+tried : (passes : ℕ → Bool) (items list : List ℕ) (i : ℕ) (answer : Bool) → items ≡ list → i < length items → passes (get_or items i 0) ≡ answer
+    → (i < length list) × (passes (get_or list i 0) ≡ answer)
 tried passes items list i answer read within is = subst (λ l. (i < length l) × (passes (get_or l i 0) ≡ answer)) read (within, is)
 
 pub loop-age-preserved : goal.loop-age-preserved

@@ -15,4 +15,5 @@ pub returns-clause-index : goal.returns-clause-index
 returns-clause-index c = λ (ops : List Op) index is.
     let ages = c.args.self.now.ages.items in
     subst (λ (l : List ℕ). IsAgeIndex (remove ops c.args.position) l (ages_under c.drop_age.new.lists)) (sym c.remove-age.ensures.rest)
-    (index_removed ops c.args.op.now ages c.args.position c.remove-age.result (keys_of c.args.op.now) (ages_under c.args.self.now.lists) (ages_under c.drop_age.new.lists) is c.remove-age.ensures.item (keys_are c.args.op.now) c.drop_age.ensures.dropped index)
+    (index_removed ops c.args.op.now ages c.args.position c.remove-age.result (keys_of c.args.op.now) (ages_under c.args.self.now.lists)
+    (ages_under c.drop_age.new.lists) is c.remove-age.ensures.item (keys_are c.args.op.now) c.drop_age.ensures.dropped index)

@@ -45,7 +45,8 @@ overflow_add-result t c =
     let before = left_clusters _ node.left node.part node.right is c.requires _ c.clusters-before.ensures in
     let passed = left_scalars _ node.left node.part node.right is c.requires _ c.scalars-passed.ensures in
     let within = c.args.at - c.clusters-before.result in
-    let here = place-here _ node.left node.part node.right is c.args.at within (omega (arith, before, c.if-at-before.false)) (omega (arith, c.if-within-node.true, node.part.clusters_are)) in
+    let here = place-here _ node.left node.part node.right is c.args.at within (omega (arith, before, c.if-at-before.false))
+    (omega (arith, c.if-within-node.true, node.part.clusters_are)) in
     omega (arith, here.1, passed, c.scalars_before-here.ensures, c.requires)
 
 pub returns-then-within-node-clause-some : goal.returns-then-within-node-clause-some
@@ -55,7 +56,8 @@ returns-then-within-node-clause-some t c =
     let before = left_clusters _ node.left node.part node.right is c.requires _ c.clusters-before.ensures in
     let passed = left_scalars _ node.left node.part node.right is c.requires _ c.scalars-passed.ensures in
     let within = c.args.at - c.clusters-before.result in
-    let here = place-here _ node.left node.part node.right is c.args.at within (omega (arith, before, c.if-at-before.false)) (omega (arith, c.if-within-node.true, node.part.clusters_are)) in
+    let here = place-here _ node.left node.part node.right is c.args.at within (omega (arith, before, c.if-at-before.false))
+    (omega (arith, c.if-within-node.true, node.part.clusters_are)) in
     omega (arith, here.0, passed, c.scalars_before-here.ensures)
 
 pub returns-then-within-node-clause-none : goal.returns-then-within-node-clause-none

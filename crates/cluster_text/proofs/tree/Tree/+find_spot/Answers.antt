@@ -41,8 +41,10 @@ find_spot-spot-requires t c =
     let is = c.in-Some.ensures.some in
     let lengths = lengths_are _ node.left node.part node.right is in
     let counts = scalars_are _ node.left node.part node.right is in
-    let before = left_scalars _ node.left node.part node.right is c.requires.few _ c.scalars-before.ensures in
-    (search (rules, lengths), (omega (arith, before, counts, c.requires.within, c.if-at-before.false, c.if-within-node.false, node.part.scalars_are), omega (arith, counts, c.requires.few)))
+    let before = left_scalars _ node.left node.part node.right is c.requires.few _ c.scalars-before.ensures in (
+      search (rules, lengths),
+      (omega (arith, before, counts, c.requires.within, c.if-at-before.false, c.if-within-node.false, node.part.scalars_are), omega (arith, counts, c.requires.few)),
+    )
 
 pub overflow_add-result : goal.overflow_add-result
 overflow_add-result t c =

@@ -25,7 +25,8 @@ returns-in_err-other-clause-gives g c home last holds =
     let p = err_from_is_err_and c.from_residual.result c.from_residual.ensures.1 in
     rw (p.1, p.2) (
       Refuses NoMemory,
-      file_gives_none (change (g.G.Disk.seen c.args.from.now) (g.G.Disk.seen c.load.new.disk)) c.args.replica.now c.args.replica.now c.args.kept.now c.in_err-other.field-0.0 c.in_err-other.ensures,
+      file_gives_none (change (g.G.Disk.seen c.args.from.now) (g.G.Disk.seen c.load.new.disk)) c.args.replica.now c.args.replica.now c.args.kept.now c.in_err-other.field-0.0
+          c.in_err-other.ensures,
     )
 
 pub returns-in_err-other-clause-leaves : goal.returns-in_err-other-clause-leaves
@@ -34,5 +35,6 @@ returns-in_err-other-clause-leaves g c home last holds end may =
     let meets = c.in_err-other.ensures in
     record {
       keeps = keeps_file (change (g.G.Disk.seen c.args.from.now) (g.G.Disk.seen c.load.new.disk)) _ meets;
-      blameless = λ tells inside. meets.faults.calm_told tells (λ is. let blamed : c.in_err-other.field-0.0 ≡ DiskFault = cc is in inside (ends_outside _ _ _ end p.1 p.2 may (ap load_refusal blamed)));
+      blameless = λ tells inside. meets.faults.calm_told tells
+          (λ is. let blamed : c.in_err-other.field-0.0 ≡ DiskFault = cc is in inside (ends_outside _ _ _ end p.1 p.2 may (ap load_refusal blamed)));
     }

@@ -11,4 +11,8 @@ returns-clause-gives g c home last holds =
 pub returns-in_err-make-clause-gives : goal.returns-in_err-make-clause-gives
 returns-in_err-make-clause-gives g c home last holds =
     let p = err_from_is_err_and c.from_residual.result c.from_residual.ensures.1 in
-    rw (p.1, p.2) (Refuses NoMemory, note_gives_none (g.T.MakesNote.note_on c.args.self.now.maker.now) c.args.replica.now c.make.new.replica c.args._kept.now c.in_err-make.field-0.0 c.in_err-make.ensures.comes)
+    rw (p.1, p.2) (
+      Refuses NoMemory,
+      note_gives_none
+          (g.T.MakesNote.note_on c.args.self.now.maker.now) c.args.replica.now c.make.new.replica c.args._kept.now c.in_err-make.field-0.0 c.in_err-make.ensures.comes,
+    )

@@ -18,7 +18,8 @@ returns-in_err-answered-clause-gives g c home last holds =
     rw (p.1, p.2) (
       Refuses NoMemory,
       reply_gives_none c.in_err-answered.field-0.0 c.args.self.now.port c.args.self.now.cursor c.args.replica.now c.args.replica.now _ _ _ last home
-          (change (g.W.Wire.seen c.args.from.now) (g.W.Wire.seen c.sync.new.wire)) None holds e.err.1 e.up_to.1 (λ is. e.wire.rose (ap Err is)) (λ fits is. e.wire.sure fits (ap Err is)),
+          (change (g.W.Wire.seen c.args.from.now) (g.W.Wire.seen c.sync.new.wire)) None holds e.err.1 e.up_to.1 (λ is. e.wire.rose (ap Err is))
+          (λ fits is. e.wire.sure fits (ap Err is)),
     )
 
 pub returns-in_err-answered-clause-leaves : goal.returns-in_err-answered-clause-leaves
@@ -30,7 +31,8 @@ returns-in_err-answered-clause-leaves g c home last holds end may =
         _,
         last,
         holds,
-        speaks_front c.args.self.now.port c.args.self.now.cursor (g.W.Wire.seen c.args.from.now) (g.W.Wire.seen c.sync.new.wire) (taking_begun c.args.replica.now c.new-ops.result.items) _ _ e.wire.calm
+        speaks_front c.args.self.now.port c.args.self.now.cursor (g.W.Wire.seen c.args.from.now) (g.W.Wire.seen c.sync.new.wire)
+            (taking_begun c.args.replica.now c.new-ops.result.items) _ _ e.wire.calm
             c.in_err-answered.field-0.0 e.err.1 (unfinished _ _ end p.1 may),
       );
       blameless = λ tells inside. e.told.calm_told tells (λ blamed. inside (ends_outside _ _ _ end p.1 p.2 may (ap sync_refusal blamed)));
@@ -50,6 +52,12 @@ pub returns-clause-leaves : goal.returns-clause-leaves
 returns-clause-leaves g c home last holds end may =
     let e = c.in_ok-answered.ensures in
     record {
-      speaks = inr (_, last, holds, speaks_whole c.args.self.now.port c.args.self.now.cursor (g.W.Wire.seen c.args.from.now) (g.W.Wire.seen c.sync.new.wire) (taking_begun c.args.replica.now c.new-ops.result.items) _ _ e.wire.calm _ e.ok);
+      speaks = inr (
+        _,
+        last,
+        holds,
+        speaks_whole c.args.self.now.port c.args.self.now.cursor (g.W.Wire.seen c.args.from.now) (g.W.Wire.seen c.sync.new.wire)
+            (taking_begun c.args.replica.now c.new-ops.result.items) _ _ e.wire.calm _ e.ok,
+      );
       blameless = λ tells inside. e.told.calm_told tells (λ never. never);
     }

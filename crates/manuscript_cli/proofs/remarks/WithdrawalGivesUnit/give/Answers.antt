@@ -9,8 +9,11 @@ use Rattle.manuscript_cli.proofs.RemarkLemmas.{withdrawal_made, withdrawal_none}
 use Rattle.manuscript_cli.proofs.remarks.WithdrawalGivesUnit.give.Goals as goal
 
 pub returns-in-Ok-clause-gives : goal.returns-in-Ok-clause-gives
-returns-in-Ok-clause-gives c home last holds =
-    (Refuses NoMemory, withdrawal_made c.args.self.now.number c.args.replica.now c.withdraw.new.replica c.in-Ok.ensures.made c.in-Ok.ensures.refused c.requires.ready.stands c.requires.ready.settled c.args._kept.now)
+returns-in-Ok-clause-gives c home last holds = (
+  Refuses NoMemory,
+  withdrawal_made c.args.self.now.number c.args.replica.now c.withdraw.new.replica c.in-Ok.ensures.made c.in-Ok.ensures.refused c.requires.ready.stands
+      c.requires.ready.settled c.args._kept.now,
+)
 
 pub returns-in-Err-clause-gives : goal.returns-in-Err-clause-gives
 returns-in-Err-clause-gives c home last holds = (

@@ -4,4 +4,5 @@ use Rattle.manuscript_cli.proofs.revise_since.RevisionSinceGivesDraftSources.law
 
 pub returns-clause-once : goal.returns-clause-once
 returns-clause-once g c home before after course =
-    since_once c.args.self.now.count (change (g.G.Disk.seen before.base.now) (g.G.Disk.seen after.base.now)) (change (g.S.Source.seen before.draft.now) (g.S.Source.seen after.draft.now)) course
+    since_once c.args.self.now.count (change (g.G.Disk.seen before.base.now) (g.G.Disk.seen after.base.now))
+    (change (g.S.Source.seen before.draft.now) (g.S.Source.seen after.draft.now)) course

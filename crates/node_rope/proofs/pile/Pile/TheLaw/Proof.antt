@@ -20,4 +20,5 @@ shares R B g L K =
     of_Lends (C.struct R B g) (C.the_codes R.Denot B.Denot R.coded B.coded (Mark.the_row kind).coded kind.coded) (C.the_heap R B g) (C.the_lent R B g)
     (λ d p. heap_lends-laws R L.shr_laws d.moorings d.values)
     (copy_shared (Mark.the_field kind) (field_copy (Mark.the_type kind) tt), tt)
-    (λ M 𝓤 𝓛 d p. all_lend 𝓛 (C.the_row R B g).lives g.dealloc_token R L (Incl-trans (meet_⊑_left (R.lives ++ (B.lives ++ [])) _) (meet_⊑_left R.lives (B.lives ++ []))) d.moorings d.values)
+    (λ M 𝓤 𝓛 d p. all_lend 𝓛 (C.the_row R B g).lives g.dealloc_token R L
+    (Incl-trans (meet_⊑_left (R.lives ++ (B.lives ++ [])) _) (meet_⊑_left R.lives (B.lives ++ []))) d.moorings d.values)

@@ -1,5 +1,10 @@
 -- `add` takes the box apart, and what it owned comes last.
-use Rattle.node_rope.proofs.Words.{◌≡◌, ℕ, List, [], ◌∷◌, ◌++◌, refl, sym, ap, subst, arith, a_type, dcons, dnil, inst_fn, Val, vptr, SProp, ent, sep, emp, id⊢, ftrue, flft, WpFn, ‵, raw, ◌⊛◌, some, later, ◌$◌, ◌∵◌, !, qed, by, move, keep, drop, use0, use1, use2, split, split3, join, group, fsplit, fsplit3, fjoin, fpack, pick, await, feq_i, feq_l, suffices, of_opd, no_more, and_then, returns, enter, alloc_all, pass_all, free_all, look_at, get, sets, lands_as, agg, fact, fact_i, tables, no, RattleType, Valss, owns, types_at, plain, Ptr, RawPtr, ptr_val, nothing, only, opens, closes, bounded, MutBor, within, Lasts, lasts, triple_of, calls_at, Stays, stay_dropped, stay_ref, walk_of, Goes-ref, Goes-blank, framed, proved_at, leaves, box_owns, Ptr-Good, word-Good, spot_val}
+use Rattle.node_rope.proofs.Words.{◌≡◌, ℕ, List, [], ◌∷◌, ◌++◌, refl, sym, ap, subst, arith, a_type, dcons, dnil, inst_fn, Val, vptr, SProp, ent, sep, emp, id⊢, ftrue, flft, WpFn}
+use Rattle.node_rope.proofs.Words.{‵, raw, ◌⊛◌, some, later, ◌$◌, ◌∵◌, !, qed, by, move, keep, drop, use0, use1, use2, split, split3, join, group, fsplit, fsplit3, fjoin, fpack}
+use Rattle.node_rope.proofs.Words.{pick, await, feq_i, feq_l, suffices, of_opd, no_more, and_then, returns, enter, alloc_all, pass_all, free_all, look_at, get, sets, lands_as, agg}
+use Rattle.node_rope.proofs.Words.{fact, fact_i, tables, no, RattleType, Valss, owns, types_at, plain, Ptr, RawPtr, ptr_val, nothing, only, opens, closes, bounded, MutBor, within}
+use Rattle.node_rope.proofs.Words.{Lasts, lasts, triple_of, calls_at, Stays, stay_dropped, stay_ref, walk_of, Goes-ref, Goes-blank, framed, proved_at, leaves, box_owns, Ptr-Good}
+use Rattle.node_rope.proofs.Words.{word-Good, spot_val}
 use lib.ListN.{length-append}
 use denote.Struct.Declared as Declared
 use Rattle.std_alloc.proofs.BoxSteps.Form as box
@@ -30,7 +35,8 @@ add_spec 𝓤 𝓛 𝓜 𝓡 wired T A L LA g d dd dx allocator glued glue =
     let hs : Stays En.signature.params En.kept = (stay_ref (0 ∷ []) tt (plain (λ _. Row)), (stay_dropped (plain (λ _. B)) no, tt)) in
     let Raws = triple_of 𝓛 (callee.signature T A g d dd dx) (callee.spec T A g d dd dx 𝓛 𝓜.mem 𝓡.returns) in
     let known = callee_met.met 𝓤 𝓛 𝓜 𝓡 (code.calls-std_alloc::boxed::Box::into_raw 𝓡.env wired) T A L LA g d dd dx allocator glued glue in
-    proved_at 𝓛 En hs c 𝓜 𝓡 (Goes-ref 𝓛 3 0 tt (plain (λ _. Row)), (Goes-blank 𝓛 3 (plain (λ _. B)) no (λ κs x f. tt), tt)) (#self inst) fn (code.unfolded 𝓤 H 𝓜 𝓡 wired (T, (A, tt)) d dd dx) (λ z are.
+    proved_at 𝓛 En hs c 𝓜 𝓡 (Goes-ref 𝓛 3 0 tt (plain (λ _. Row)), (Goes-blank 𝓛 3 (plain (λ _. B)) no (λ κs x f. tt), tt)) (#self inst) fn
+    (code.unfolded 𝓤 H 𝓜 𝓡 wired (T, (A, tt)) d dd dx) (λ z are.
     let κs = z.0.0 in let qs = z.0.1 in
     let self : MutBor Row.Denot = z.0.3.0 in
     let rb : ℕ = self.ref_ptr.0 in let ro : ℕ = self.ref_ptr.1 in
@@ -44,11 +50,13 @@ add_spec 𝓤 𝓛 𝓜 𝓡 wired T A L LA g d dd dx allocator glued glue =
     box_out E ! v z.0.4.1.0 (λ b o hv ep ws fits. box_in E ! v b o v.value ep refl $
     -- [the box; obs; bor; true; t₂; t₀; t₁; what is asked]
     let w : Val = box.word E hv b o in let typed = box.box_typed E hv b o fits in
-    suffices ! (Run (vptr rb ro ∷ w ∷ [])) (subst (λ (us : List Val). ent 𝓤 (Run (vptr rb ro ∷ w ∷ [])) (Run us)) (sym (λ i. e i ++ (ws i ++ []))) (id⊢ 𝓤 (Run (vptr rb ro ∷ w ∷ [])))) $
+    suffices ! (Run (vptr rb ro ∷ w ∷ []))
+    (subst (λ (us : List Val). ent 𝓤 (Run (vptr rb ro ∷ w ∷ [])) (Run us)) (sym (λ i. e i ++ (ws i ++ []))) (id⊢ 𝓤 (Run (vptr rb ro ∷ w ∷ [])))) $
     enter ! 𝓣.C 𝓣.Λ fn (vptr rb ro ∷ w ∷ []) Post $ alloc_all ! (λ l. pass_all ! refl ((tt, tt), (typed, tt)) $
     sets ! (of_opd ! (get ! refl)) refl typed $
     let y : Raws.Ghost = (((κs.1.0, (κs.1.1.0, tt)), (qs.1.0, (qs.1.1.0, tt)), tt, (v, tt), (w ∷ [], tt)), tt) in
-    nothing ! $ move ! (1 ∷ 0 ∷ []) $ fjoin ! $ move ! (4 ∷ 3 ∷ []) $ join ! $ move ! (5 ∷ 0 ∷ []) $ join ! $ join ! $ move ! (0 ∷ 4 ∷ []) $ join ! $ use1 𝓛 (raw (Raws.pre y)) (id⊢ 𝓤 _) $
+    nothing ! $ move ! (1 ∷ 0 ∷ []) $ fjoin ! $ move ! (4 ∷ 3 ∷ []) $ join ! $ move ! (5 ∷ 0 ∷ []) $ join ! $ join ! $ move ! (0 ∷ 4 ∷ []) $ join ! $ use1 𝓛 (raw (Raws.pre y))
+    (id⊢ 𝓤 _) $
     calls_at ! (framed 𝓤 H 𝓜 𝓣) Raws known y (and_then ! (get ! refl) (no_more !)) (λ u.
     use1 𝓛 (later (some (λ (r : Ptr). ((t₁ ⊛ t₂ ⊛ ‵ ftrue) ⊛ ‵ (RawPtr.own_val r (u ∷ []))) ⊛ some (λ (ls : Lasts (callee.ended T A g d dd dx) y.0.0 y.0.3).
     ‵ (lasts (callee.ended T A g d dd dx) y.0.0 y.0.3 ls) ⊛ ‵ (box_owns (g.dealloc_token v.alloc) R r v.value))))) (id⊢ 𝓤 (Raws.post y u)) $
@@ -59,7 +67,12 @@ add_spec 𝓤 𝓛 𝓜 𝓡 wired T A L LA g d dd dx allocator glued glue =
     let ms = was.moorings ++ (r, v.alloc) ∷ [] in
     let xs = was.values ++ v.value ∷ [] in
     let pair = was.paired in
-    let new : Row.Denot = record { kind = was.kind; values = xs; moorings = ms; paired = omega (arith, length-append was.values (v.value ∷ []), length-append was.moorings ((r, v.alloc) ∷ [])) } in
+    let new : Row.Denot = record {
+      kind = was.kind;
+      values = xs;
+      moorings = ms;
+      paired = omega (arith, length-append was.values (v.value ∷ []), length-append was.moorings ((r, v.alloc) ∷ []));
+    } in
     move ! (2 ∷ 3 ∷ 4 ∷ []) $ opens ! tt Row {h = was} rb ro (λ us. move ! (1 ∷ []) $ fsplit ! $ move ! (1 ∷ 7 ∷ []) $
     use2 𝓛 (‵ (heap_owns g.dealloc_token R ms xs)) (comes_last 𝓛 g.dealloc_token R was.moorings was.values (r, v.alloc) v.value pair) $
     move ! (1 ∷ 0 ∷ []) $ fjoin ! $ move ! (1 ∷ 0 ∷ []) $ closes ! tt Row new us rb ro $

@@ -1,5 +1,10 @@
 -- `at` shows a value for as long as the pile is borrowed.
-use Rattle.node_rope.proofs.Words.{◌≡◌, ℕ, ◌<◌, List, [], ◌∷◌, ◌++◌, length, get_or, refl, sym, ap, subst, arith, a_type, dcons, dnil, w64, inst_fn, Val, vptr, vint, SProp, ent, emp, id⊢, Lft, ftrue, flft, fhide, WpFn, ‵, raw, ◌⊛◌, at_ret, ◌$◌, ◌∵◌, !, qed, by, move, keep, drop, use0, use1, split, split3, fsplit, fsplit3, fjoin, rewrite, feq_i, feq_l, flt_l, suffices, stop, fld, addr, of_opd, first, blocks, exec, returns, enter, alloc_all, pass_all, free_all, look_at, get, get_in, through, sets, sets_last, is, env, sub, whole, fact, fact_i, tables, ◌⊑◌, yes, RattleType, owns, types_at, plain, Ptr, InBlock, ptr_val, block_of, count_of, at_block, hidden_shr, nothing, heard, unhide, hide, param, bounded, RefOf, usize, Struct, shape, lent_at, lent_out, in_block_says, Stays, stay_dropped, walk_of, Goes-dropped, after, proved_at, leaves, word-Good, spot_val}
+use Rattle.node_rope.proofs.Words.{◌≡◌, ℕ, ◌<◌, List, [], ◌∷◌, ◌++◌, length, get_or, refl, sym, ap, subst, arith, a_type, dcons, dnil, w64, inst_fn, Val, vptr, vint, SProp, ent}
+use Rattle.node_rope.proofs.Words.{emp, id⊢, Lft, ftrue, flft, fhide, WpFn, ‵, raw, ◌⊛◌, at_ret, ◌$◌, ◌∵◌, !, qed, by, move, keep, drop, use0, use1, split, split3, fsplit, fsplit3}
+use Rattle.node_rope.proofs.Words.{fjoin, rewrite, feq_i, feq_l, flt_l, suffices, stop, fld, addr, of_opd, first, blocks, exec, returns, enter, alloc_all, pass_all, free_all}
+use Rattle.node_rope.proofs.Words.{look_at, get, get_in, through, sets, sets_last, is, env, sub, whole, fact, fact_i, tables, ◌⊑◌, yes, RattleType, owns, types_at, plain, Ptr}
+use Rattle.node_rope.proofs.Words.{InBlock, ptr_val, block_of, count_of, at_block, hidden_shr, nothing, heard, unhide, hide, param, bounded, RefOf, usize, Struct, shape, lent_at}
+use Rattle.node_rope.proofs.Words.{lent_out, in_block_says, Stays, stay_dropped, walk_of, Goes-dropped, after, proved_at, leaves, word-Good, spot_val}
 use Rattle.std.specs.contracts.marker.PhantomData as Mark
 use Rattle.std_alloc.specs.contracts.boxed.Box as Boxed
 use Rattle.node_rope.specs.Heaps.{LiesAt, heap_lends}
@@ -25,7 +30,10 @@ at_spec 𝓤 𝓛 𝓜 𝓡 wired T A L LA g d dd allocator glued =
     let c = clauses T A g d dd 𝓛 𝓜.mem 𝓡.returns in
     let own_self = RefOf (0 ∷ []) tt (plain (λ _. Row)) (λ _. tt) in
     let hs : Stays En.signature.params En.kept = (stay_dropped own_self yes, (stay_dropped (plain (λ _. Place)) yes, (stay_dropped (plain (λ _. usize)) yes, tt))) in
-    proved_at 𝓛 En hs c 𝓜 𝓡 (Goes-dropped 𝓛 3 own_self yes (λ κs x f. refl), (Goes-dropped 𝓛 3 (plain (λ _. Place)) yes (λ κs x f. refl), (Goes-dropped 𝓛 3 (plain (λ _. usize)) yes (λ κs x f. refl), tt)))
+    proved_at 𝓛 En hs c 𝓜 𝓡 (
+      Goes-dropped 𝓛 3 own_self yes (λ κs x f. refl),
+      (Goes-dropped 𝓛 3 (plain (λ _. Place)) yes (λ κs x f. refl), (Goes-dropped 𝓛 3 (plain (λ _. usize)) yes (λ κs x f. refl), tt)),
+    )
     (#self inst) fn (code.unfolded 𝓤 H 𝓜 𝓡 wired (T, (A, tt)) d dd) (λ z are.
     let κs = z.0.0 in let qs = z.0.1 in
     let κ : Lft = κs.0 in
@@ -41,7 +49,8 @@ at_spec 𝓤 𝓛 𝓜 𝓡 wired T A L LA g d dd allocator glued =
     qed 𝓛 ((toks ⊛ ‵ (owns (types_at En.signature.params κs) z.0.3 z.0.4)) ∷ raw ((c κs z.0.3).requires z.1) ∷ []) ∵
     split ! $ move ! (2 ∷ []) $ use1 𝓛 (In₁ ⊛ In₂ ⊛ raw (fact 𝓤 Lies)) (id⊢ 𝓤 _) $ split3 ! $ move ! (2 ∷ []) $ heard ! Lies (λ lies.
     -- [in₁; in₂; the tokens; what is owned]
-    move ! (3 ∷ []) $ fsplit3 ! $ fsplit ! $ feq_l ! (λ e. move ! (1 ∷ []) $ spot_had ! z.0.3.1.0 z.0.4.1.0 (λ es. move ! (1 ∷ []) $ fsplit ! $ fsplit ! $ feq_l ! (λ en. flt_l ! (λ fits. drop ! $
+    move ! (3 ∷ []) $ fsplit3 ! $ fsplit ! $ feq_l !
+    (λ e. move ! (1 ∷ []) $ spot_had ! z.0.3.1.0 z.0.4.1.0 (λ es. move ! (1 ∷ []) $ fsplit ! $ fsplit ! $ feq_l ! (λ en. flt_l ! (λ fits. drop ! $
     keep ! (0 ∷ 3 ∷ []) $
     -- [the pile; the tokens]
     let args : List Val = vptr b o ∷ spot_val p ∷ vint w64 i ∷ [] in
@@ -60,7 +69,8 @@ at_spec 𝓤 𝓛 𝓜 𝓡 wired T A L LA g d dd allocator glued =
     use1 𝓛 (raw (fact 𝓤 (InBlock p))) (in_block_says 𝓛 p) $ heard ! (InBlock p) (λ inb. hide ! $
     let there : Val = vptr (block_of p) (count_of p) in
     sets ! (is ! (of_opd ! (get_in ! (fld ! refl (stop !)) (sub ! 0 refl (whole !)))) (ap ptr_val (at_block p inb))) refl (tt, tt) $
-    first ! $ blocks ! $ sets_last ! (addr ! (through ! refl (stop !))) refl (tt, tt) $ exec ! 𝓣.C 𝓣.Λ Ev (after 2 fn.body) (at_ret Ev Post) $ sets ! (of_opd ! (get ! refl)) refl (tt, tt) $
+    first ! $ blocks ! $ sets_last ! (addr ! (through ! refl (stop !))) refl (tt, tt) $ exec ! 𝓣.C 𝓣.Λ Ev (after 2 fn.body) (at_ret Ev Post) $ sets ! (of_opd ! (get ! refl)) refl
+    (tt, tt) $
     feq_i ! (List Val) (there ∷ []) (there ∷ []) refl $ fjoin ! $
     let Shown : Type 0 = x ≡ get_or d'.values i x in
     returns ! (look_at ! 0 refl) $ free_all ! refl $

@@ -1,5 +1,7 @@
 -- `new` owns nothing.
-use Rattle.node_rope.proofs.Words.{◌≡◌, [], ◌∷◌, refl, a_type, dcons, dnil, inst_fn, Val, vstruct, vcons, vnil, SProp, emp, Fml, ftrue, flft, ‵, raw, ◌⊛◌, ◌$◌, ◌∵◌, !, qed, by, keep, use0, split, join, fjoin, no_more, and_then, returns, enter, alloc_all, pass_all, free_all, look_at, get, sets, agg, fact, fact_i, tables, RattleType, nothing, param, bounded, Struct, shape, Stays, walk_of, proved_at, leaves}
+use Rattle.node_rope.proofs.Words.{◌≡◌, [], ◌∷◌, refl, a_type, dcons, dnil, inst_fn, Val, vstruct, vcons, vnil, SProp, emp, Fml, ftrue, flft, ‵, raw, ◌⊛◌, ◌$◌, ◌∵◌, !, qed, by}
+use Rattle.node_rope.proofs.Words.{keep, use0, split, join, fjoin, no_more, and_then, returns, enter, alloc_all, pass_all, free_all, look_at, get, sets, agg, fact, fact_i, tables}
+use Rattle.node_rope.proofs.Words.{RattleType, nothing, param, bounded, Struct, shape, Stays, walk_of, proved_at, leaves}
 use denote.Shadow.{makes_shadow}
 use Rattle.std.specs.declared.marker.PhantomData.{PhantomData}
 use Rattle.std_alloc.specs.declared.boxed.Box.{Box}

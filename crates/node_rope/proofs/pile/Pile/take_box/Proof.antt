@@ -1,5 +1,10 @@
 -- `take_box` makes the last box again.
-use Rattle.node_rope.proofs.Words.{◌≡◌, ℕ, ◌+◌, ◌-◌, List, [], ◌∷◌, ◌++◌, length, refl, sym, ap, ◌∙◌, subst, arith, a_type, dcons, dnil, inst_fn, Val, vptr, SProp, ent, emp, id⊢, Fml, ftrue, flft, WpFn, ‵, raw, ◌⊛◌, some, later, at_ret, ◌$◌, ◌∵◌, !, qed, by, move, keep, drop, use0, use1, split, split3, join, group, fsplit, fsplit3, fjoin, pick, await, rewrite, feq_i, feq_l, suffices, stop, fld, of_opd, no_more, and_then, first, blocks, exec, returns, enter, alloc_all, pass_all, free_all, look_at, get, get_in, sets, lands_last, env, sub, whole, fact, fact_i, tables, ◌⊑◌, yes, no, RattleType, owns, types_at, plain, Ptr, ptr_val, nothing, only, heard, opens, closes, bounded, MutBor, Lasts, lasts, triple_of, calls_at_last, Stays, stay_dropped, stay_ref, walk_of, Goes-dropped, Goes-ref, handle_tells, after, framed, proved_at, leaves, Ptr-Good, word-Good, spot_val}
+use Rattle.node_rope.proofs.Words.{◌≡◌, ℕ, ◌+◌, ◌-◌, List, [], ◌∷◌, ◌++◌, length, refl, sym, ap, ◌∙◌, subst, arith, a_type, dcons, dnil, inst_fn, Val, vptr, SProp, ent, emp, id⊢}
+use Rattle.node_rope.proofs.Words.{Fml, ftrue, flft, WpFn, ‵, raw, ◌⊛◌, some, later, at_ret, ◌$◌, ◌∵◌, !, qed, by, move, keep, drop, use0, use1, split, split3, join, group, fsplit}
+use Rattle.node_rope.proofs.Words.{fsplit3, fjoin, pick, await, rewrite, feq_i, feq_l, suffices, stop, fld, of_opd, no_more, and_then, first, blocks, exec, returns, enter}
+use Rattle.node_rope.proofs.Words.{alloc_all, pass_all, free_all, look_at, get, get_in, sets, lands_last, env, sub, whole, fact, fact_i, tables, ◌⊑◌, yes, no, RattleType, owns}
+use Rattle.node_rope.proofs.Words.{types_at, plain, Ptr, ptr_val, nothing, only, heard, opens, closes, bounded, MutBor, Lasts, lasts, triple_of, calls_at_last, Stays, stay_dropped}
+use Rattle.node_rope.proofs.Words.{stay_ref, walk_of, Goes-dropped, Goes-ref, handle_tells, after, framed, proved_at, leaves, Ptr-Good, word-Good, spot_val}
 use lib.ListN.{length-append, take}
 use lib.Dec.{T as IsSo}
 use mir.Val.{has_ty, WT}
@@ -33,7 +38,8 @@ take_box_spec 𝓤 𝓛 𝓜 𝓡 wired T A L LA g d dd allocator glued =
     let hs : Stays En.signature.params En.kept = (stay_ref (0 ∷ []) tt (plain (λ _. Row)), (stay_dropped (plain (λ _. Place)) yes, (stay_dropped (plain (λ _. P)) no, tt))) in
     let From = triple_of 𝓛 (callee.signature T A g d dd) (callee.spec T A g d dd 𝓛 𝓜.mem 𝓡.returns) in
     let known = callee_met.met 𝓤 𝓛 𝓜 𝓡 (code.calls-std_alloc::boxed::Box::from_raw 𝓡.env wired) T A L LA g d dd allocator glued in
-    proved_at 𝓛 En hs c 𝓜 𝓡 (Goes-ref 𝓛 3 0 tt (plain (λ _. Row)), (Goes-dropped 𝓛 3 (plain (λ _. Place)) yes (λ κs x f. refl), (Goes-dropped 𝓛 3 (plain (λ _. P)) no (λ κs x f. refl), tt)))
+    proved_at 𝓛 En hs c 𝓜 𝓡
+    (Goes-ref 𝓛 3 0 tt (plain (λ _. Row)), (Goes-dropped 𝓛 3 (plain (λ _. Place)) yes (λ κs x f. refl), (Goes-dropped 𝓛 3 (plain (λ _. P)) no (λ κs x f. refl), tt)))
     (#self inst) fn (code.unfolded 𝓤 H 𝓜 𝓡 wired (T, (A, tt)) d dd) (λ z are.
     let κs = z.0.0 in let qs = z.0.1 in
     let self : MutBor Row.Denot = z.0.3.0 in
@@ -50,7 +56,8 @@ take_box_spec 𝓤 𝓛 𝓜 𝓡 wired T A L LA g d dd allocator glued =
     split ! $ split3 ! $ move ! (2 ∷ []) $ split ! $ move ! (1 ∷ []) $ drop ! $ move ! (4 ∷ []) $
     use1 𝓛 (In₁ ⊛ In₂ ⊛ raw (fact 𝓤 Ends)) (id⊢ 𝓤 _) $ split3 ! $ move ! (2 ∷ []) $ heard ! Ends (λ end.
     -- [in₁; in₂; t₂; t₀; t₁; what is owned]
-    move ! (5 ∷ []) $ fsplit3 ! $ fsplit3 ! $ feq_l ! (λ e. move ! (2 ∷ []) $ spot_had ! z.0.3.1.0 z.0.4.1.0 (λ es. move ! (2 ∷ []) $ fsplit ! $ handle_tells E.al ! a z.0.4.1.1.0 (λ hv eh fits.
+    move ! (5 ∷ []) $ fsplit3 ! $ fsplit3 ! $ feq_l !
+    (λ e. move ! (2 ∷ []) $ spot_had ! z.0.3.1.0 z.0.4.1.0 (λ es. move ! (2 ∷ []) $ fsplit ! $ handle_tells E.al ! a z.0.4.1.1.0 (λ hv eh fits.
     -- [the handle; true; obs; bor; in₁; in₂; t₂; t₀; t₁]
     let args : List Val = vptr rb ro ∷ spot_val p ∷ hv ∷ [] in
     suffices ! (Run args) (subst (λ (us : List Val). ent 𝓤 (Run args) (Run us)) (sym (λ i. e i ++ (es i ++ (eh i ++ [])))) (id⊢ 𝓤 (Run args))) $
@@ -92,6 +99,7 @@ take_box_spec 𝓤 𝓛 𝓜 𝓡 wired T A L LA g d dd allocator glued =
     let Moorings : Type 0 = was.moorings ≡ fewer ++ (p, a) ∷ [] in
     move ! (1 ∷ []) $ split3 ! $ move ! (6 ∷ 0 ∷ 1 ∷ 2 ∷ []) $ group ! 4 $
     -- [the tokens; the result; obs; bor]
-    move ! (2 ∷ 3 ∷ []) $ fjoin ! $ feq_i ! (List Val) z.0.4.0 (vptr rb ro ∷ []) e $ fjoin ! $ nothing ! $ nothing ! $ fjoin ! $ nothing ! $ fjoin ! $ move ! (1 ∷ 0 ∷ []) $ fjoin ! $
+    move ! (2 ∷ 3 ∷ []) $ fjoin ! $ feq_i ! (List Val) z.0.4.0 (vptr rb ro ∷ []) e $ fjoin ! $ nothing ! $ nothing ! $ fjoin ! $ nothing ! $ fjoin ! $ move !
+    (1 ∷ 0 ∷ []) $ fjoin ! $
     use0 𝓛 (raw (fact 𝓤 Moorings)) (fact_i 𝓤 Moorings (emp 𝓤) end) $ use0 𝓛 (raw (fact 𝓤 Values)) (fact_i 𝓤 Values (emp 𝓤) says) $ join ! $
     keep ! (2 ∷ 1 ∷ 3 ∷ 0 ∷ []) $ by ! (leaves 𝓛 En hs c z u r (new, (tt, (tt, tt))) (tt, (tt, (tt, tt))))))))))))))))

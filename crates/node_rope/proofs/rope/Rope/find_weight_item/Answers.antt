@@ -11,7 +11,8 @@ pub returns-in_err-unit-clause-none : goal.returns-in_err-unit-clause-none
 returns-in_err-unit-clause-none g c =
     let i = c.self.inside in
     let wt = own_of g.T.Weigh.weight_of g.T.Weigh.rank_of in
-    rw c.from_residual.ensures (omega (arith, c.in_err-unit.ensures.none, weighs-all wt i.store i.root i.map.links c.self.invariant, ap (weight_sum g.T.Weigh.weight_of) c.self.view_is))
+    rw c.from_residual.ensures
+    (omega (arith, c.in_err-unit.ensures.none, weighs-all wt i.store i.root i.map.links c.self.invariant, ap (weight_sum g.T.Weigh.weight_of) c.self.view_is))
 
 pub returns-clause-some : goal.returns-clause-some
 returns-clause-some g c =
@@ -25,5 +26,7 @@ returns-clause-some g c =
 pub returns-clause-value : goal.returns-clause-value
 returns-clause-value g c =
     let i = c.self.inside in
-    let holds = node-holds (own_of g.T.Weigh.weight_of g.T.Weigh.rank_of) i.store i.root i.map.links c.self.invariant c.in_ok-unit.unit.link c.in_ok-unit.ensures.made c.value.result.now c.value.ensures in
-    ap (λ h. value_under h.key c.args.self.now) c.shape-key.ensures ∙ subst (λ xs. value_under (shape_at (shapes_of i.store) c.in_ok-unit.unit.link.number).key xs ≡ Some c.value.result.now) c.self.view_is holds
+    let holds = node-holds (own_of g.T.Weigh.weight_of g.T.Weigh.rank_of) i.store i.root i.map.links c.self.invariant c.in_ok-unit.unit.link c.in_ok-unit.ensures.made
+    c.value.result.now c.value.ensures in
+    ap (λ h. value_under h.key c.args.self.now) c.shape-key.ensures
+    ∙ subst (λ xs. value_under (shape_at (shapes_of i.store) c.in_ok-unit.unit.link.number).key xs ≡ Some c.value.result.now) c.self.view_is holds

@@ -12,11 +12,13 @@ returns-in-Some g c =
     let i = c.self.inside in
     let key = λ (x : ℕ). (shape_at (shapes_of i.store) x).key in
     let seen = first-seen (own_of g.T.Weigh.weight_of g.T.Weigh.rank_of) i.store i.root i.map.links c.self.invariant c.args.most c.args.from in
-    ap (λ h. Some h.key) c.shape.ensures ∙ ap (option_map key) (ap link_number (sym c.in-Some.is) ∙ c.first_low_node.ensures.found) ∙ sym seen ∙ ap (λ xs. first_low_key g.T.Weigh.rank_of c.args.most (drop c.args.from xs)) c.self.view_is
+    ap (λ h. Some h.key) c.shape.ensures ∙ ap (option_map key) (ap link_number (sym c.in-Some.is) ∙ c.first_low_node.ensures.found) ∙ sym seen
+    ∙ ap (λ xs. first_low_key g.T.Weigh.rank_of c.args.most (drop c.args.from xs)) c.self.view_is
 
 pub returns-in-None : goal.returns-in-None
 returns-in-None g c =
     let i = c.self.inside in
     let key = λ (x : ℕ). (shape_at (shapes_of i.store) x).key in
     let seen = first-seen (own_of g.T.Weigh.weight_of g.T.Weigh.rank_of) i.store i.root i.map.links c.self.invariant c.args.most c.args.from in
-    ap (option_map key) (ap link_number (sym c.in-None.is) ∙ c.first_low_node.ensures.found) ∙ sym seen ∙ ap (λ xs. first_low_key g.T.Weigh.rank_of c.args.most (drop c.args.from xs)) c.self.view_is
+    ap (option_map key) (ap link_number (sym c.in-None.is) ∙ c.first_low_node.ensures.found) ∙ sym seen
+    ∙ ap (λ xs. first_low_key g.T.Weigh.rank_of c.args.most (drop c.args.from xs)) c.self.view_is

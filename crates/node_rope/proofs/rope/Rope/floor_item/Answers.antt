@@ -13,7 +13,8 @@ pub returns-clause-floor : goal.returns-clause-floor
 returns-clause-floor g c =
     let i = c.self.inside in
     let k = c.in_ok-found.found in
-    subst (λ xs. IsFloor xs c.args.key (Some k)) c.self.view_is (floor-seen (own_of g.T.Weigh.weight_of g.T.Weigh.rank_of) i.store i.root i.map.links c.self.invariant c.args.key (Some k) c.in_ok-found.ensures.floor)
+    subst (λ xs. IsFloor xs c.args.key (Some k)) c.self.view_is
+    (floor-seen (own_of g.T.Weigh.weight_of g.T.Weigh.rank_of) i.store i.root i.map.links c.self.invariant c.args.key (Some k) c.in_ok-found.ensures.floor)
 
 pub returns-clause-value : goal.returns-clause-value
 returns-clause-value g c =
@@ -29,4 +30,6 @@ returns-clause-value g c =
 pub returns-in_err-found-clause-floor : goal.returns-in_err-found-clause-floor
 returns-in_err-found-clause-floor g c =
     let i = c.self.inside in
-    rw c.from_residual.ensures (subst (λ xs. IsFloor xs c.args.key None) c.self.view_is (floor-seen (own_of g.T.Weigh.weight_of g.T.Weigh.rank_of) i.store i.root i.map.links c.self.invariant c.args.key None c.in_err-found.ensures.floor))
+    rw c.from_residual.ensures
+    (subst (λ xs. IsFloor xs c.args.key None) c.self.view_is
+    (floor-seen (own_of g.T.Weigh.weight_of g.T.Weigh.rank_of) i.store i.root i.map.links c.self.invariant c.args.key None c.in_err-found.ensures.floor))

@@ -19,4 +19,5 @@ returns-in-Some g c =
 pub returns-in-None : goal.returns-in-None
 returns-in-None g c =
     let i = c.self.inside in
-    subst (λ xs. None ≡ value_under c.args.key xs) c.self.view_is (sym (not-held (own_of g.T.Weigh.weight_of g.T.Weigh.rank_of) i.store i.root i.map.links c.self.invariant c.args.key (sym c.find_link.ensures ∙ c.in-None.is)))
+    subst (λ xs. None ≡ value_under c.args.key xs) c.self.view_is
+    (sym (not-held (own_of g.T.Weigh.weight_of g.T.Weigh.rank_of) i.store i.root i.map.links c.self.invariant c.args.key (sym c.find_link.ensures ∙ c.in-None.is)))

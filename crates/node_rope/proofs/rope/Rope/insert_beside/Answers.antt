@@ -20,7 +20,10 @@ grow-requires-clause-room g c =
     omega (arith, few-made (own_of g.T.Weigh.weight_of g.T.Weigh.rank_of) i.store i.root i.map.links c.self.invariant c.args.self.now c.self.view_is, c.requires.room)
 
 pub returns-clause-placed : goal.returns-clause-placed
-returns-clause-placed g c = subst (λ xs. OnOk c.grow.result (rope_items_of c.grow.new.store c.grow.new.root ≡ placed_beside c.args.side c.args.at (c.args.key, c.args.value) xs)) c.self.view_is c.grow.ensures.placed
+returns-clause-placed g c =
+    subst (λ xs. OnOk c.grow.result (rope_items_of c.grow.new.store c.grow.new.root ≡ placed_beside c.args.side c.args.at (c.args.key, c.args.value) xs)) c.self.view_is
+    c.grow.ensures.placed
 
 pub returns-clause-refused : goal.returns-clause-refused
-returns-clause-refused g c = subst (λ xs. IfErr c.grow.result (λ b. (b.value ≡ c.args.value) × (rope_items_of c.grow.new.store c.grow.new.root ≡ xs))) c.self.view_is c.grow.ensures.refused
+returns-clause-refused g c =
+    subst (λ xs. IfErr c.grow.result (λ b. (b.value ≡ c.args.value) × (rope_items_of c.grow.new.store c.grow.new.root ≡ xs))) c.self.view_is c.grow.ensures.refused

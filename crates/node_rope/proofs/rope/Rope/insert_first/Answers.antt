@@ -13,16 +13,21 @@ invariant_of-self g c =
     let w = c.own_of-own.ensures in
     let wt = own_of g.T.Weigh.weight_of g.T.Weigh.rank_of in
     let none : made_count i.store ≡ 0 = omega (arith, few-made wt i.store i.root i.map.links c.self.invariant c.args.self.now c.self.view_is, ap length c.requires) in
-    let grown = first-grown i.store c.enter.new.store i.root c.args.key c.own_of-own.result c.args.value c.in-Ok.node none m.shapes m.values m.number m.made m.count (omega (arith, w.fits)) in
+    let grown = first-grown i.store c.enter.new.store i.root c.args.key c.own_of-own.result c.args.value c.in-Ok.node none m.shapes m.values m.number m.made m.count
+    (omega (arith, w.fits)) in
     let free = fresh wt i.store i.root i.map.links c.self.invariant c.args.key c.args.self.now c.self.view_is (rw c.requires refl) in
-    grown-roped wt i.store c.enter.new.store i.root (Some c.in-Ok.node) i.map.links c.enter.new.map.links c.args.key c.own_of-own.result c.args.value c.in-Ok.node c.self.invariant grown c.enter.ensures.kept (omega (arith, none)) (omega (arith, w.light)) (omega (arith, w.fits)) w.own free c.in-Ok.ensures.set
+    grown-roped wt i.store c.enter.new.store i.root
+    (Some c.in-Ok.node) i.map.links c.enter.new.map.links c.args.key c.own_of-own.result c.args.value c.in-Ok.node c.self.invariant grown c.enter.ensures.kept
+    (omega (arith, none)) (omega (arith, w.light)) (omega (arith, w.fits)) w.own free c.in-Ok.ensures.set
 
 pub returns-in-Ok-clause-placed : goal.returns-in-Ok-clause-placed
 returns-in-Ok-clause-placed g c =
     let i = c.self.inside in
     let m = c.in-Ok.ensures.made in
-    let none : made_count i.store ≡ 0 = omega (arith, few-made (own_of g.T.Weigh.weight_of g.T.Weigh.rank_of) i.store i.root i.map.links c.self.invariant c.args.self.now c.self.view_is, ap length c.requires) in
-    first-list i.store c.enter.new.store i.root c.args.key c.own_of-own.result c.args.value c.in-Ok.node none m.shapes m.values m.number m.made m.count (omega (arith, c.own_of-own.ensures.fits)) c.self.invariant.sound
+    let none : made_count i.store ≡ 0 =
+    omega (arith, few-made (own_of g.T.Weigh.weight_of g.T.Weigh.rank_of) i.store i.root i.map.links c.self.invariant c.args.self.now c.self.view_is, ap length c.requires) in
+    first-list i.store c.enter.new.store i.root c.args.key c.own_of-own.result c.args.value c.in-Ok.node none m.shapes m.values m.number m.made m.count
+    (omega (arith, c.own_of-own.ensures.fits)) c.self.invariant.sound
 
 pub invariant_of-self-in-Err : goal.invariant_of-self-in-Err
 invariant_of-self-in-Err g c =

@@ -12,8 +12,10 @@ returns-clause-value g c =
     let i = c.self.inside in
     let found = c.in_ok-found.found in
     let v = value-made i.store found.link.number (made-below i.store found.link c.in_ok-found.ensures.made) in
-    let seen = value-seen (own_of g.T.Weigh.weight_of g.T.Weigh.rank_of) i.store i.root i.map.links c.self.invariant found.place found.link v.0 c.in_ok-found.ensures.inside c.in_ok-found.ensures.found v.1 in
-    ap (λ xs. option_map (λ x. x.1) (slice_get xs found.place)) (sym c.self.view_is) ∙ seen ∙ sym (ap Some (value-read i.store found.link.number c.value.result.now v.0 c.value.ensures v.1))
+    let seen = value-seen (own_of g.T.Weigh.weight_of g.T.Weigh.rank_of) i.store i.root i.map.links c.self.invariant found.place found.link v.0 c.in_ok-found.ensures.inside
+    c.in_ok-found.ensures.found v.1 in
+    ap (λ xs. option_map (λ x. x.1) (slice_get xs found.place)) (sym c.self.view_is) ∙ seen
+    ∙ sym (ap Some (value-read i.store found.link.number c.value.result.now v.0 c.value.ensures v.1))
 
 pub returns-in_err-found-clause-none : goal.returns-in_err-found-clause-none
 returns-in_err-found-clause-none g c =

@@ -20,11 +20,14 @@ returns-in-Some-node_behind-clause-some g c =
     let key = c.args.key in
     let l = c.in-Some.link in
     let n = c.in-Some-node_behind.behind in
-    let f : IsFollowed (nodes_in_order i.store i.root) l.number (Some n.number) = subst (λ (o : Option Link). IsFollowed (nodes_in_order i.store i.root) l.number (link_number o)) c.in-Some-node_behind.is c.node_behind.ensures.behind in
+    let f : IsFollowed (nodes_in_order i.store i.root) l.number (Some n.number) =
+    subst (λ (o : Option Link). IsFollowed (nodes_in_order i.store i.root) l.number (link_number o)) c.in-Some-node_behind.is c.node_behind.ensures.behind in
     let at = sym c.find_link.ensures ∙ c.in-Some.is in (
       length f.front,
       subst (λ xs. StandsAt xs (length f.front) key) c.self.view_is (item-stands wt i.store i.root i.map.links c.self.invariant key l at (Some n.number) f),
-      subst (λ h. StandsAt c.args.self.now (length f.front + 1) h.key) (sym c.shape.ensures) (subst (λ xs. StandsAt xs (length f.front + 1) (shape_at (shapes_of i.store) n.number).key) c.self.view_is (item-behind wt i.store i.root i.map.links c.self.invariant key l at n f)),
+      subst (λ h. StandsAt c.args.self.now (length f.front + 1) h.key) (sym c.shape.ensures)
+          (subst (λ xs. StandsAt xs (length f.front + 1) (shape_at (shapes_of i.store) n.number).key) c.self.view_is
+          (item-behind wt i.store i.root i.map.links c.self.invariant key l at n f)),
     )
 
 pub returns-in-Some-node_behind-clause-value : goal.returns-in-Some-node_behind-clause-value
@@ -33,7 +36,8 @@ returns-in-Some-node_behind-clause-value g c =
     let n = c.in-Some-node_behind.behind in
     let made = c.node_behind.ensures.made n c.in-Some-node_behind.is in
     let holds = node-holds (own_of g.T.Weigh.weight_of g.T.Weigh.rank_of) i.store i.root i.map.links c.self.invariant n made c.value.result.now c.value.ensures in
-    ap (λ h. value_under h.key c.args.self.now) c.shape.ensures ∙ subst (λ xs. value_under (shape_at (shapes_of i.store) n.number).key xs ≡ Some c.value.result.now) c.self.view_is holds
+    ap (λ h. value_under h.key c.args.self.now) c.shape.ensures
+    ∙ subst (λ xs. value_under (shape_at (shapes_of i.store) n.number).key xs ≡ Some c.value.result.now) c.self.view_is holds
 
 pub returns-in-None-node_behind-clause-none : goal.returns-in-None-node_behind-clause-none
 returns-in-None-node_behind-clause-none g c =
@@ -41,7 +45,8 @@ returns-in-None-node_behind-clause-none g c =
     let wt = own_of g.T.Weigh.weight_of g.T.Weigh.rank_of in
     let key = c.args.key in
     let l = c.in-Some.link in
-    let f : IsFollowed (nodes_in_order i.store i.root) l.number None = subst (λ (o : Option Link). IsFollowed (nodes_in_order i.store i.root) l.number (link_number o)) c.in-None-node_behind.is c.node_behind.ensures.behind in
+    let f : IsFollowed (nodes_in_order i.store i.root) l.number None =
+    subst (λ (o : Option Link). IsFollowed (nodes_in_order i.store i.root) l.number (link_number o)) c.in-None-node_behind.is c.node_behind.ensures.behind in
     let at = sym c.find_link.ensures ∙ c.in-Some.is in
     λ held. (
       length f.front,

@@ -19,4 +19,5 @@ grow-requires-clause-room g c =
     omega (arith, few-made (own_of g.T.Weigh.weight_of g.T.Weigh.rank_of) i.store i.root i.map.links c.self.invariant c.args.self.now c.self.view_is, c.requires.room)
 
 pub returns-in-Ok-clause-parted : goal.returns-in-Ok-clause-parted
-returns-in-Ok-clause-parted g c = c.refill.ensures.put ∙ ap (put_under c.args.at c.args.front) (c.in-Ok.ensures.placed ∙ ap (placed_after c.args.at (c.args.key, c.args.back)) c.self.view_is)
+returns-in-Ok-clause-parted g c =
+    c.refill.ensures.put ∙ ap (put_under c.args.at c.args.front) (c.in-Ok.ensures.placed ∙ ap (placed_after c.args.at (c.args.key, c.args.back)) c.self.view_is)

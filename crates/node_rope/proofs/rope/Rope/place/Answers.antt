@@ -12,7 +12,9 @@ pub returns-in-Some-clause-some : goal.returns-in-Some-clause-some
 returns-in-Some-clause-some g c =
     let b = c.before-in-Some in
     let i = c.self.inside in
-    subst (λ xs. StandsAt xs b.result.count c.args.key) c.self.view_is (stands (own_of g.T.Weigh.weight_of g.T.Weigh.rank_of) i.store i.root i.map.links c.self.invariant c.args.key c.in-Some.link (sym c.find_link.ensures ∙ c.in-Some.is) b.result.count b.ensures.inside b.ensures.at)
+    subst (λ xs. StandsAt xs b.result.count c.args.key) c.self.view_is
+    (stands (own_of g.T.Weigh.weight_of g.T.Weigh.rank_of) i.store i.root i.map.links c.self.invariant c.args.key c.in-Some.link
+    (sym c.find_link.ensures ∙ c.in-Some.is) b.result.count b.ensures.inside b.ensures.at)
 
 pub returns-in-Some-clause-inside : goal.returns-in-Some-clause-inside
 returns-in-Some-clause-inside g c =
@@ -23,4 +25,5 @@ returns-in-Some-clause-inside g c =
 pub returns-in-None-clause-none : goal.returns-in-None-clause-none
 returns-in-None-clause-none g c =
     let i = c.self.inside in
-    subst (λ xs. value_under c.args.key xs ≡ None) c.self.view_is (not-held (own_of g.T.Weigh.weight_of g.T.Weigh.rank_of) i.store i.root i.map.links c.self.invariant c.args.key (sym c.find_link.ensures ∙ c.in-None.is))
+    subst (λ xs. value_under c.args.key xs ≡ None) c.self.view_is
+    (not-held (own_of g.T.Weigh.weight_of g.T.Weigh.rank_of) i.store i.root i.map.links c.self.invariant c.args.key (sym c.find_link.ensures ∙ c.in-None.is))

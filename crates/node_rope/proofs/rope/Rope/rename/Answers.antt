@@ -15,7 +15,8 @@ rename_link-requires-clause-fresh g c =
 pub invariant_of-self : goal.invariant_of-self
 invariant_of-self g c =
     let i = c.self.inside in
-    same-roped (own_of g.T.Weigh.weight_of g.T.Weigh.rank_of) i.store i.root i.map.links c.self.invariant c.rename_link.new.map.links (c.rename_link.ensures.refused c.if-not-rename_link.true)
+    same-roped (own_of g.T.Weigh.weight_of g.T.Weigh.rank_of) i.store i.root i.map.links c.self.invariant c.rename_link.new.map.links
+    (c.rename_link.ensures.refused c.if-not-rename_link.true)
 
 pub invariant_of-self-2 : goal.invariant_of-self-2
 invariant_of-self-2 g c =
@@ -25,7 +26,8 @@ invariant_of-self-2 g c =
     let e = c.set_shape.ensures in
     let none = fresh wt i.store i.root i.map.links c.self.invariant c.args.new_key c.args.self.now c.self.view_is c.requires.fresh in
     let is = e.shapes ∙ ap (λ (h : Shape). slice_set (shapes_of i.store) l.number (record h { key = c.args.new_key })) c.shape-shape.ensures in
-    renamed-roped wt i.store c.set_shape.new.self i.root i.map.links c.rename_link.new.map.links c.args.key c.args.new_key l c.self.invariant (sym c.find_link.ensures ∙ c.in-Some.is) none is e.values e.count e.kept
+    renamed-roped wt i.store c.set_shape.new.self i.root i.map.links c.rename_link.new.map.links c.args.key c.args.new_key l c.self.invariant
+    (sym c.find_link.ensures ∙ c.in-Some.is) none is e.values e.count e.kept
     (c.rename_link.ensures.renamed c.if-not-rename_link.false)
 
 pub returns-clause-renamed : goal.returns-clause-renamed
@@ -36,6 +38,7 @@ returns-clause-renamed g c t =
     let e = c.set_shape.ensures in
     let none = fresh wt i.store i.root i.map.links c.self.invariant c.args.new_key c.args.self.now c.self.view_is c.requires.fresh in
     let is = e.shapes ∙ ap (λ (h : Shape). slice_set (shapes_of i.store) l.number (record h { key = c.args.new_key })) c.shape-shape.ensures in
-    renamed-list wt i.store c.set_shape.new.self i.root i.map.links c.rename_link.new.map.links c.args.key c.args.new_key l c.self.invariant (sym c.find_link.ensures ∙ c.in-Some.is) none is e.values e.count e.kept
+    renamed-list wt i.store c.set_shape.new.self i.root i.map.links c.rename_link.new.map.links c.args.key c.args.new_key l c.self.invariant
+    (sym c.find_link.ensures ∙ c.in-Some.is) none is e.values e.count e.kept
     (c.rename_link.ensures.renamed c.if-not-rename_link.false)
     ∙ ap (items_renamed c.args.key c.args.new_key) c.self.view_is

@@ -14,4 +14,5 @@ returns g c =
     let ss = shapes_of i.store in
     let sound = c.self.invariant.sound in
     let wt = own_of g.T.Weigh.weight_of g.T.Weigh.rank_of in
-    c.weight_below.ensures ∙ weight-sum ss i.root ∙ weight-is ss sound.counted sound.weighed (link_number i.root) ∙ sym (weighs-all wt i.store i.root i.map.links c.self.invariant) ∙ ap (weight_sum g.T.Weigh.weight_of) c.self.view_is
+    c.weight_below.ensures ∙ weight-sum ss i.root ∙ weight-is ss sound.counted sound.weighed (link_number i.root) ∙ sym (weighs-all wt i.store i.root i.map.links c.self.invariant)
+    ∙ ap (weight_sum g.T.Weigh.weight_of) c.self.view_is

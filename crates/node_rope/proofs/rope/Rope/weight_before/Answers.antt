@@ -13,11 +13,13 @@ returns-in-Some-clause-some g c =
     let i = c.self.inside in
     let b = c.before-in-Some in
     let wt = own_of g.T.Weigh.weight_of g.T.Weigh.rank_of in
-    let at = stands wt i.store i.root i.map.links c.self.invariant c.args.key c.in-Some.link (sym c.find_link.ensures ∙ c.in-Some.is) b.result.count b.ensures.inside b.ensures.at in
+    let at = stands wt i.store i.root i.map.links c.self.invariant c.args.key c.in-Some.link
+    (sym c.find_link.ensures ∙ c.in-Some.is) b.result.count b.ensures.inside b.ensures.at in
     let sum = weighs-to wt i.store i.root i.map.links c.self.invariant b.result.count b.result.weight b.ensures.weight in
     (b.result.count, subst (λ xs. StandsAt xs b.result.count c.args.key) c.self.view_is at, sum ∙ ap (λ xs. weight_sum g.T.Weigh.weight_of (take b.result.count xs)) c.self.view_is)
 
 pub returns-in-None-clause-none : goal.returns-in-None-clause-none
 returns-in-None-clause-none g c =
     let i = c.self.inside in
-    subst (λ xs. value_under c.args.key xs ≡ None) c.self.view_is (not-held (own_of g.T.Weigh.weight_of g.T.Weigh.rank_of) i.store i.root i.map.links c.self.invariant c.args.key (sym c.find_link.ensures ∙ c.in-None.is))
+    subst (λ xs. value_under c.args.key xs ≡ None) c.self.view_is
+    (not-held (own_of g.T.Weigh.weight_of g.T.Weigh.rank_of) i.store i.root i.map.links c.self.invariant c.args.key (sym c.find_link.ensures ∙ c.in-None.is))

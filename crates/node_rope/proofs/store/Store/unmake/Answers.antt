@@ -26,8 +26,12 @@ invariant_of-self g c =
     let n = c.take-value.new.self in
     let w = c.take-value.result in
     let e = c.take-value.ensures in
-    let f = subst (λ ms. IsFiled s.newest (n.values ++ w ∷ []) ms) e.moorings (subst (λ ns. IsFiled s.newest ns p.moorings) e.values (filed-had s.newest p.values p.moorings s.filed)) in
-    record { counted = omega (arith, s.counted, ap length e.values, length-append n.values (w ∷ [])); filed = ∣ filed-less s.newest n.values n.moorings w (s.newest.address, s.alloc) n.paired f ∣₁ }
+    let f = subst (λ ms. IsFiled s.newest (n.values ++ w ∷ []) ms) e.moorings
+    (subst (λ ns. IsFiled s.newest ns p.moorings) e.values (filed-had s.newest p.values p.moorings s.filed)) in
+    record {
+      counted = omega (arith, s.counted, ap length e.values, length-append n.values (w ∷ []));
+      filed = ∣ filed-less s.newest n.values n.moorings w (s.newest.address, s.alloc) n.paired f ∣₁;
+    }
 
 pub returns : goal.returns
 returns g c =
@@ -40,5 +44,6 @@ returns g c =
       shape = w.shape;
       shapes = ap (map shape_of) e.values ∙ map-append shape_of n.values (w ∷ []);
       values = ap (map node_value) e.values ∙ map-append node_value n.values (w ∷ []);
-      kept = λ l at below. lies-shorter n.moorings ((s.newest.address, s.alloc) ∷ []) l.number l.spot.address (omega (arith, below, pair)) (subst (λ ms. LiesAt ms l.number l.spot.address) e.moorings at);
+      kept = λ l at below. lies-shorter n.moorings ((s.newest.address, s.alloc) ∷ []) l.number l.spot.address (omega (arith, below, pair))
+          (subst (λ ms. LiesAt ms l.number l.spot.address) e.moorings at);
     }

@@ -21,7 +21,8 @@ nodes-preserved g c =
     let n = c.take-node.new.self in
     let w = c.take-node.result in
     let i = c.nodes.invariant in
-    let f = subst (λ ms. IsFiled c.nodes.newest (n.values ++ w ∷ []) ms) c.take-node.ensures.moorings (subst (λ ns. IsFiled c.nodes.newest ns p.moorings) c.take-node.ensures.values i.filed) in
+    let f = subst (λ ms. IsFiled c.nodes.newest (n.values ++ w ∷ []) ms) c.take-node.ensures.moorings
+    (subst (λ ns. IsFiled c.nodes.newest ns p.moorings) c.take-node.ensures.values i.filed) in
     let less = filed-less c.nodes.newest n.values n.moorings w (c.nodes.newest.address, c.args.alloc) n.paired f in
     record {
       counted = omega (arith, i.counted, ap length c.take-node.ensures.values, length-append n.values (w ∷ []));

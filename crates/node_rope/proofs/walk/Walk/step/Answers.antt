@@ -29,7 +29,8 @@ pub invariant_of-self : goal.invariant_of-self
 invariant_of-self g c =
     let i = c.self.inside in
     let b = c.node_behind-self-inside in
-    next-behind i.store.now i.root i.passed c.in_ok-link.link (subst (λ (o : Option Link). IsNext i.store.now i.root i.passed o) c.in_ok-link.was c.self.invariant) b.result b.ensures.made b.ensures.behind
+    next-behind i.store.now i.root i.passed c.in_ok-link.link
+    (subst (λ (o : Option Link). IsNext i.store.now i.root i.passed o) c.in_ok-link.was c.self.invariant) b.result b.ensures.made b.ensures.behind
 
 pub returns-clause-first : goal.returns-clause-first
 returns-clause-first g c =
@@ -37,7 +38,8 @@ returns-clause-first g c =
     let l = c.in_ok-link.link in
     let n = subst (λ (o : Option Link). IsNext i.store.now i.root i.passed o) c.in_ok-link.was c.self.invariant in
     let v = value-made i.store.now l.number (made-below i.store.now l (n.made l (λ j. Some l))) in
-    ap Some (value-read i.store.now l.number c.value-value.result.now v.0 c.value-value.ensures v.1) ∙ sym (next-value i.store.now i.root i.passed l n v.0 v.1) ∙ ap (λ xs. option_map (λ x. x.1) (slice_get xs 0)) c.self.view_is
+    ap Some (value-read i.store.now l.number c.value-value.result.now v.0 c.value-value.ensures v.1) ∙ sym (next-value i.store.now i.root i.passed l n v.0 v.1)
+    ∙ ap (λ xs. option_map (λ x. x.1) (slice_get xs 0)) c.self.view_is
 
 pub returns-clause-rest : goal.returns-clause-rest
 returns-clause-rest g c =

@@ -9,7 +9,8 @@ use Rattle.op_frame.proofs.DecodingLemmas.{first_name, head_is, later_names, nam
 use Rattle.op_frame.proofs.fields.Fields.names.Goals as goal
 
 -- all identifiers were read
-all_named : (count place : ℕ) (ids named : List Identifier) → count ≤ length ids → place ≤ count → count ≤ place → named ≡ take count ids → (length named ≡ count) × (take place ids ≡ named)
+all_named : (count place : ℕ) (ids named : List Identifier) → count ≤ length ids → place ≤ count → count ≤ place → named ≡ take count ids
+    → (length named ≡ count) × (take place ids ≡ named)
 all_named count place ids named within below above is =
     let at : place ≡ count = omega (arith, below, above) in
     (ap length is ∙ length-take-le count ids within, ap (λ (n : ℕ). take n ids) at ∙ sym is)
@@ -49,17 +50,24 @@ loop-place-preserved c =
 
 pub unreachable-requires : goal.unreachable-requires
 unreachable-requires c =
-    omega (arith, c.in_default.ensures.none.0 refl, c.loop-place.invariant.few, length-take-le (get_or c.args.self.now.rest.now 0 0) c.loop-place.ids (omega (arith, c.loop-place.invariant.few, c.loop-place.invariant.room)))
+    omega (
+      arith,
+      c.in_default.ensures.none.0 refl,
+      c.loop-place.invariant.few,
+      length-take-le (get_or c.args.self.now.rest.now 0 0) c.loop-place.ids (omega (arith, c.loop-place.invariant.few, c.loop-place.invariant.room)),
+    )
 
 pub returns-clause-split : goal.returns-clause-split
 returns-clause-split c =
     let bytes : List ℕ = c.args.self.now.rest.now in
-    let named = all_named (get_or bytes 0 0) c.loop-place.place c.loop-place.ids c.in-Some.names (omega (arith, c.loop-place.invariant.few, c.loop-place.invariant.room)) c.loop-place.auto.place-end c.loop-place-test.false c.in-Some.ensures.some in
+    let named = all_named (get_or bytes 0 0) c.loop-place.place c.loop-place.ids c.in-Some.names
+    (omega (arith, c.loop-place.invariant.few, c.loop-place.invariant.room)) c.loop-place.auto.place-end c.loop-place-test.false c.in-Some.ensures.some in
     head_is bytes (get_or bytes 0 0) (names_there bytes c.requires).0 refl
     ∙ (λ i. sym named.0 i ∷ (c.loop-place.invariant.split ∙ ap (λ (ids : List Identifier). flat_map id_bytes ids ++ c.loop-place.self.rest.now) named.1) i)
 
 pub returns-clause-are : goal.returns-clause-are
 returns-clause-are c =
     let bytes : List ℕ = c.args.self.now.rest.now in
-    let named = all_named (get_or bytes 0 0) c.loop-place.place c.loop-place.ids c.in-Some.names (omega (arith, c.loop-place.invariant.few, c.loop-place.invariant.room)) c.loop-place.auto.place-end c.loop-place-test.false c.in-Some.ensures.some in
+    let named = all_named (get_or bytes 0 0) c.loop-place.place c.loop-place.ids c.in-Some.names
+    (omega (arith, c.loop-place.invariant.few, c.loop-place.invariant.room)) c.loop-place.auto.place-end c.loop-place-test.false c.in-Some.ensures.some in
     record { few = omega (arith, named.0, c.loop-place.invariant.few); identifiers = subst (All IsIdentifier) named.1 c.loop-place.invariant.named }

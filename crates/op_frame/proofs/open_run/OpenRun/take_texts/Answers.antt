@@ -18,7 +18,8 @@ texts-preserved c =
       done = is.done ++ front;
       whole = is.whole ∙ ap (λ (l : List Op). is.done ++ l) (parts.whole ∙ ap (λ (l : List ℕ). run_from next l ++ behind) parts.front) ∙ sym (append_assoc is.done front behind);
       takes = takes_then (open_ops c.args.self.now.start c.args.self.now.text.items) (open_ops c.texts.self.start c.texts.self.text.items)
-          (open_ops c.take_front.new.self.start c.take_front.new.self.text.items) c.args.out.now.items c.texts.out.items c.take_front.new.out.items is.done front is.takes c.in_ok-count.ensures.takes;
+          (open_ops c.take_front.new.self.start c.take_front.new.self.text.items) c.args.out.now.items c.texts.out.items c.take_front.new.out.items is.done front is.takes
+          c.in_ok-count.ensures.takes;
       is_open = c.in_ok-count.ensures.is_open;
       counters = λ more.
           let left : length c.split_at-behind.result.2.now ≡ length (drop c.in_ok-count.count c.texts.rest.now) = ap length parts.rest in

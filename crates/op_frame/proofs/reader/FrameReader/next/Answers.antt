@@ -15,9 +15,11 @@ returns-in-Some-held-clause-in_order g c no_fault =
     let r = c.self.inside in
     let given = c.take_held-op in
     in_order _ _ _ _ _
-    (subst (λ (v : FrameReading). Nexts v (reading_at r.grammar r.limit given.result.1 given.new.unread.bytes r.offset r.last r.fault) (g.S.Source.seen c.args.source.now) (g.S.Source.seen c.args.source.now) (Ok (Some given.result.0)))
+    (subst (λ (v : FrameReading). Nexts v (reading_at r.grammar r.limit given.result.1 given.new.unread.bytes r.offset r.last r.fault) (g.S.Source.seen c.args.source.now)
+    (g.S.Source.seen c.args.source.now) (Ok (Some given.result.0)))
     c.self.view_is
-    (nexts_held r.grammar r.limit r.offset r.last r.fault r.unread.bytes given.new.unread.bytes _ r.held c.in-Some-held.head given.result.0 given.result.1 c.in-Some-held.is c.self.invariant.0
+    (nexts_held r.grammar r.limit r.offset r.last r.fault r.unread.bytes given.new.unread.bytes _ r.held c.in-Some-held.head given.result.0 given.result.1 c.in-Some-held.is
+    c.self.invariant.0
     (ap (λ (v : FrameReading). v.fault) c.self.view_is ∙ no_fault) given.ensures))
 
 pub returns-in-Some-held-clause-chains : goal.returns-in-Some-held-clause-chains
@@ -25,7 +27,9 @@ returns-in-Some-held-clause-chains g c no_fault =
     let r = c.self.inside in
     let given = c.take_held-op in
     chains _ _ _ _ _
-    (subst (λ (v : FrameReading). Nexts v (reading_at r.grammar r.limit given.result.1 given.new.unread.bytes r.offset r.last r.fault) (g.S.Source.seen c.args.source.now) (g.S.Source.seen c.args.source.now) (Ok (Some given.result.0)))
+    (subst (λ (v : FrameReading). Nexts v (reading_at r.grammar r.limit given.result.1 given.new.unread.bytes r.offset r.last r.fault) (g.S.Source.seen c.args.source.now)
+    (g.S.Source.seen c.args.source.now) (Ok (Some given.result.0)))
     c.self.view_is
-    (nexts_held r.grammar r.limit r.offset r.last r.fault r.unread.bytes given.new.unread.bytes _ r.held c.in-Some-held.head given.result.0 given.result.1 c.in-Some-held.is c.self.invariant.0
+    (nexts_held r.grammar r.limit r.offset r.last r.fault r.unread.bytes given.new.unread.bytes _ r.held c.in-Some-held.head given.result.0 given.result.1 c.in-Some-held.is
+    c.self.invariant.0
     (ap (λ (v : FrameReading). v.fault) c.self.view_is ∙ no_fault) given.ensures))

@@ -13,7 +13,8 @@ overflow_sub-letters c =
       arith,
       c.letters_of.ensures,
       ap length c.as_slice.ensures.value,
-      letters_there c.self.inside.letters.items c.self.inside.others.items c.self.inside.parts.items c.self.inside.firsts.items c.self.inside.count c.in-Some.last c.self.invariant is
+      letters_there c.self.inside.letters.items c.self.inside.others.items c.self.inside.parts.items c.self.inside.firsts.items c.self.inside.count c.in-Some.last c.self.invariant
+          is
           c.take_off-count.new.parts.items c.take_off-count.new.firsts.items c.args.most c.take_off-count.result c.take_off-count.ensures,
     )
 
@@ -24,7 +25,8 @@ overflow_sub-others c =
       arith,
       c.others_in.ensures,
       ap length c.as_slice-2.ensures.value,
-      others_there c.self.inside.letters.items c.self.inside.others.items c.self.inside.parts.items c.self.inside.firsts.items c.self.inside.count c.in-Some.last c.self.invariant is,
+      others_there c.self.inside.letters.items c.self.inside.others.items c.self.inside.parts.items c.self.inside.firsts.items c.self.inside.count c.in-Some.last c.self.invariant
+          is,
     )
 
 pub invariant_of-self : goal.invariant_of-self
@@ -39,9 +41,11 @@ invariant_of-self c =
     (ops_of c.self.inside.letters.items c.self.inside.others.items c.self.inside.parts.items) k =
     subst (λ (l : List ℕ). IsPopped l c.truncate-2.new.self.items c.take_off-count.new.parts.items c.take_off-count.new.firsts.items c.self.inside.count
     (ops_of c.self.inside.letters.items c.self.inside.others.items c.self.inside.parts.items) k) letters
-    (subst (λ (o : List Op). IsPopped (take (length c.self.inside.letters.items - letters_of_part c.in-Some.last k) c.self.inside.letters.items) o c.take_off-count.new.parts.items c.take_off-count.new.firsts.items c.self.inside.count
+    (subst (λ (o : List Op). IsPopped (take (length c.self.inside.letters.items - letters_of_part c.in-Some.last k) c.self.inside.letters.items) o c.take_off-count.new.parts.items
+    c.take_off-count.new.firsts.items c.self.inside.count
     (ops_of c.self.inside.letters.items c.self.inside.others.items c.self.inside.parts.items) k) others
-    (taken_off c.self.inside.letters.items c.self.inside.others.items c.self.inside.parts.items c.take_off-count.new.parts.items c.self.inside.firsts.items c.take_off-count.new.firsts.items c.self.inside.count c.args.most k c.in-Some.last
+    (taken_off c.self.inside.letters.items c.self.inside.others.items c.self.inside.parts.items c.take_off-count.new.parts.items c.self.inside.firsts.items
+    c.take_off-count.new.firsts.items c.self.inside.count c.args.most k c.in-Some.last
     c.self.invariant c.requires.some c.take_off-count.ensures)) in
     popped.are
 
@@ -69,8 +73,10 @@ returns-clause-others c =
     (ops_of c.self.inside.letters.items c.self.inside.others.items c.self.inside.parts.items) k =
     subst (λ (l : List ℕ). IsPopped l c.truncate-2.new.self.items c.take_off-count.new.parts.items c.take_off-count.new.firsts.items c.self.inside.count
     (ops_of c.self.inside.letters.items c.self.inside.others.items c.self.inside.parts.items) k) letters
-    (subst (λ (o : List Op). IsPopped (take (length c.self.inside.letters.items - letters_of_part c.in-Some.last k) c.self.inside.letters.items) o c.take_off-count.new.parts.items c.take_off-count.new.firsts.items c.self.inside.count
+    (subst (λ (o : List Op). IsPopped (take (length c.self.inside.letters.items - letters_of_part c.in-Some.last k) c.self.inside.letters.items) o c.take_off-count.new.parts.items
+    c.take_off-count.new.firsts.items c.self.inside.count
     (ops_of c.self.inside.letters.items c.self.inside.others.items c.self.inside.parts.items) k) others
-    (taken_off c.self.inside.letters.items c.self.inside.others.items c.self.inside.parts.items c.take_off-count.new.parts.items c.self.inside.firsts.items c.take_off-count.new.firsts.items c.self.inside.count c.args.most k c.in-Some.last
+    (taken_off c.self.inside.letters.items c.self.inside.others.items c.self.inside.parts.items c.take_off-count.new.parts.items c.self.inside.firsts.items
+    c.take_off-count.new.firsts.items c.self.inside.count c.args.most k c.in-Some.last
     c.self.invariant c.requires.some c.take_off-count.ensures)) in
     popped.ops ∙ (λ i. take (length (c.self.view_is i) - k) (c.self.view_is i))

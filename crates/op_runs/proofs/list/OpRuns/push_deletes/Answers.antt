@@ -8,7 +8,14 @@ pushed-init c = (omega arith, sym (append-nil c.args.self.now))
 
 pub push_some_deletes-requires-clause-room : goal.push_some_deletes-requires-clause-room
 push_some_deletes-requires-clause-room c =
-    omega (arith, c.pushed-test.true, c.requires.room, ap length c.pushed.invariant.1, length-append c.args.self.now (deletes_by false c.args.first c.pushed.done), length-deletes false c.args.first c.pushed.done)
+    omega (
+      arith,
+      c.pushed-test.true,
+      c.requires.room,
+      ap length c.pushed.invariant.1,
+      length-append c.args.self.now (deletes_by false c.args.first c.pushed.done),
+      length-deletes false c.args.first c.pushed.done,
+    )
 
 pub pop-requires : goal.pop-requires
 pop-requires c =
@@ -23,7 +30,8 @@ returns-in_default-clause-err c =
 pub pushed-preserved : goal.pushed-preserved
 pushed-preserved c = (
   omega (arith, c.in-Ok.ensures.within, c.pushed-test.true),
-  c.in-Ok.ensures.ok ∙ (λ i. c.pushed.invariant.1 i ++ deletes_by false (c.nth-next.ensures i) c.in-Ok.more) ∙ deletes_behind c.args.self.now c.args.first c.pushed.done c.in-Ok.more,
+  c.in-Ok.ensures.ok ∙ (λ i. c.pushed.invariant.1 i ++ deletes_by false (c.nth-next.ensures i) c.in-Ok.more)
+      ∙ deletes_behind c.args.self.now c.args.first c.pushed.done c.in-Ok.more,
 )
 
 pub returns-clause-ok : goal.returns-clause-ok

@@ -39,7 +39,8 @@ invariant_of-self c = (gone c).are
 
 pub returns-clause-some : goal.returns-clause-some
 returns-clause-some c =
-    subst (λ (r : Option Op). IfSome r (λ op. c.args.self.now ≡ ops_of c.self.inside.letters.items c.pop-3.new.self.items c.pop.new.self.items ++ op ∷ [])) (sym (gone c).is) (sym c.self.view_is ∙ (gone c).ops)
+    subst (λ (r : Option Op). IfSome r (λ op. c.args.self.now ≡ ops_of c.self.inside.letters.items c.pop-3.new.self.items c.pop.new.self.items ++ op ∷ [])) (sym (gone c).is)
+    (sym c.self.view_is ∙ (gone c).ops)
 
 pub returns-clause-kind : goal.returns-clause-kind
 returns-clause-kind c = subst (λ (r : Option Op). IfSome r IsOther) (sym (gone c).is) (gone c).kind
@@ -51,7 +52,8 @@ pub returns-then-others_in-eq0-clause-other : goal.returns-then-others_in-eq0-cl
 returns-then-others_in-eq0-clause-other c op e other =
     let i = c.self.inside in
     let last : IsLastPart i.parts.items c.in-Some.last = subst (λ (ps : List Part). IsLastPart ps c.in-Some.last) c.deref.ensures.value c.in-Some.ensures.some in
-    let at = last_other i.letters.items i.others.items i.parts.items c.in-Some.last op last (sound_of i.letters.items i.others.items i.parts.items i.firsts.items i.count c.self.invariant)
+    let at = last_other i.letters.items i.others.items i.parts.items c.in-Some.last op last
+    (sound_of i.letters.items i.others.items i.parts.items i.firsts.items i.count c.self.invariant)
     (e ∙ (λ j. slice_get (sym c.self.view_is j) (length (sym c.self.view_is j) - 1))) other in
     absurd (omega (arith, c.others_in.ensures, c.if-others_in-eq0.true, ap others_in at.1))
 

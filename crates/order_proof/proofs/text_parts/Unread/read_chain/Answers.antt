@@ -14,7 +14,8 @@ pub returns-in_err-read_ids-clause-every : goal.returns-in_err-read_ids-clause-e
 returns-in_err-read_ids-clause-every c ids more p e =
     let behind = c.takes.ensures.every (ids_text ids ++ 10 ∷ more) (e ∙ line_split c.args.word.now ids more) in
     let parts = c.in-Some.ensures.every (ids_text ids) more (ids_free ids (narrow_all ids p)) behind.1 in
-    passed_on c.from_residual.result c.in_err-read_ids.field-0.0 _ (err_from_is_err_and c.from_residual.result c.from_residual.ensures.1) (c.in_err-read_ids.ensures.every ids p parts.0)
+    passed_on c.from_residual.result c.in_err-read_ids.field-0.0 _ (err_from_is_err_and c.from_residual.result c.from_residual.ensures.1)
+    (c.in_err-read_ids.ensures.every ids p parts.0)
 
 pub returns-clause-every : goal.returns-clause-every
 returns-clause-every c ids more p e =

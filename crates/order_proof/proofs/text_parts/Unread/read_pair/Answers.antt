@@ -5,7 +5,8 @@ use Rattle.order_proof.proofs.text_parts.Unread.read_pair.Goals as goal
 
 pub returns-in_err-chain-clause-every : goal.returns-in_err-chain-clause-every
 returns-in_err-chain-clause-every c x y more p e =
-    passed_on c.from_residual.result c.in_err-chain.field-0.0 _ (err_from_is_err_and c.from_residual.result c.from_residual.ensures.1) (c.in_err-chain.ensures.every (x ∷ y ∷ []) more p e)
+    passed_on c.from_residual.result c.in_err-chain.field-0.0 _ (err_from_is_err_and c.from_residual.result c.from_residual.ensures.1)
+    (c.in_err-chain.ensures.every (x ∷ y ∷ []) more p e)
 
 pub returns-then-ids-eq2-clause-every : goal.returns-then-ids-eq2-clause-every
 returns-then-ids-eq2-clause-every c x y more p e =

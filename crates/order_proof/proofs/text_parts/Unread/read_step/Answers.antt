@@ -27,7 +27,8 @@ returns-then-takes-clause-lines c =
     let s : Step = record { x = c.in_ok-x.x; y = c.in_ok-x.y; down_x = []; down_y = c.in_ok-down.down; right_x = []; right_y = []; reason = Prefix } in
     let one = c.in_ok-x.ensures.line in
     let two = c.in_ok-down.ensures.line in
-    let told = one.0 ∙ ap (λ z. word_with_ids (codes "claim") (s.x ∷ s.y ∷ []) ++ z) (two.0 ∙ ap (λ z. word_with_ids (codes "down") s.down_y ++ z) (c.takes.ensures.yes c.if-takes.true))
+    let told = one.0 ∙ ap (λ z. word_with_ids (codes "claim") (s.x ∷ s.y ∷ []) ++ z)
+    (two.0 ∙ ap (λ z. word_with_ids (codes "down") s.down_y ++ z) (c.takes.ensures.yes c.if-takes.true))
     ∙ sym (prefix_split s c.takes.new.self.rest.now refl) in
     subst (Tells c.args.self.now.rest.now c.takes.new.self.rest.now) (sym c.by_prefix.ensures) (told, fine_prefix s refl one.1 two.1, refl)
 
@@ -54,7 +55,8 @@ returns-clause-lines c =
     let one = c.in_ok-x.ensures.line in
     let two = c.in_ok-down.ensures.line in
     step_from c.read_sibling_step.result c.args.self.now.rest.now c.takes.new.self.rest.now c.read_sibling_step.new.self.rest.now c.in_ok-x.x c.in_ok-x.y c.in_ok-down.down
-    (one.0 ∙ ap (λ z. word_with_ids (codes "claim") (c.in_ok-x.x ∷ c.in_ok-x.y ∷ []) ++ z) (two.0 ∙ ap (λ z. word_with_ids (codes "down") c.in_ok-down.down ++ z) (sym (c.takes.ensures.no c.if-takes.false))))
+    (one.0 ∙ ap (λ z. word_with_ids (codes "claim") (c.in_ok-x.x ∷ c.in_ok-x.y ∷ []) ++ z)
+    (two.0 ∙ ap (λ z. word_with_ids (codes "down") c.in_ok-down.down ++ z) (sym (c.takes.ensures.no c.if-takes.false))))
     one.1 two.1 c.read_sibling_step.ensures.lines
 
 pub returns-clause-every : goal.returns-clause-every

@@ -20,11 +20,13 @@ count_before-requires c =
 pub returns-clause-ok : goal.returns-clause-ok
 returns-clause-ok c =
     let q = c.in-Some-element_of.place in
-    listed-found c.args.ops.now c.in-Some.op.now c.args.listed.now.items c.insert.new.self.items q c.in-Some-element_of.node c.as_slice-2.result.now c.in_ok-count.count c.end_of-at.result
+    listed-found c.args.ops.now c.in-Some.op.now c.args.listed.now.items c.insert.new.self.items q c.in-Some-element_of.node c.as_slice-2.result.now c.in_ok-count.count
+    c.end_of-at.result
     (sym c.in-Some.ensures.value)
     (sym c.in-Some-element_of.ensures)
     c.requires.older
     (c.as_slice-2.ensures.value ∙ c.in_ok-finished.ensures ∙ ap (elements_at q) c.as_slice.ensures.value)
     c.in_ok-count.ensures
-    (subst (λ (z : List Listed). length (elements_at q (take c.end_of-at.result z)) ≡ min c.in_ok-count.count (length (elements_at q z))) c.as_slice-3.ensures.value c.end_of-at.ensures.cut)
+    (subst (λ (z : List Listed). length (elements_at q (take c.end_of-at.result z)) ≡ min c.in_ok-count.count (length (elements_at q z))) c.as_slice-3.ensures.value
+    c.end_of-at.ensures.cut)
     c.in_ok-insert.ensures.items

@@ -15,9 +15,11 @@ returns-in_err-write_section g c =
     let f = part (printed_section h) h Catalogue in
     let d = c.e-item.result in
     let p = err_from_is_err_and c.from_residual.result c.from_residual.ensures.1 in
-    let failed = subst (λ (z : Listed). WritesBytes {E = Failed} {T = Unit {0}} (g.O.Out.seen c.sections.out) (g.O.Out.seen c.write_section.new.out) (Err c.in_err-write_section.field-0.0) (f z)) c.e-item.is c.in_err-write_section.ensures in
+    let failed = subst (λ (z : Listed). WritesBytes {E = Failed} {T = Unit {0}} (g.O.Out.seen c.sections.out) (g.O.Out.seen c.write_section.new.out)
+    (Err c.in_err-write_section.field-0.0) (f z)) c.e-item.is c.in_err-write_section.ensures in
     let stopped = parts_stop f es c.sections.e-index d _ tt _ _ _ c.sections-test.true c.sections.invariant failed in
-    rw p.1 (subst (λ (t : List ℕ). WritesBytes {E = Failed} {T = Unit {0}} (g.O.Out.seen c.args.out.now) (g.O.Out.seen c.write_section.new.out) (Err c.in_err-write_section.field-0.0) t) (manuscript_parts h es c.requires) stopped)
+    rw p.1 (subst (λ (t : List ℕ). WritesBytes {E = Failed} {T = Unit {0}} (g.O.Out.seen c.args.out.now) (g.O.Out.seen c.write_section.new.out)
+    (Err c.in_err-write_section.field-0.0) t) (manuscript_parts h es c.requires) stopped)
 
 pub returns : goal.returns
 returns g c =

@@ -16,9 +16,11 @@ returns-in_err-write_element g c =
     let f = part (scalar_bytes_of h) h (Section c.args.section) in
     let d = c.e-item.result in
     let p = err_from_is_err_and c.from_residual.result c.from_residual.ensures.1 in
-    let failed = subst (λ (z : Listed). WritesBytes {E = Failed} {T = Unit {0}} (g.O.Out.seen c.elements.out) (g.O.Out.seen c.write_element.new.out) (Err c.in_err-write_element.field-0.0) (f z)) c.e-item.is c.in_err-write_element.ensures in
+    let failed = subst (λ (z : Listed). WritesBytes {E = Failed} {T = Unit {0}} (g.O.Out.seen c.elements.out) (g.O.Out.seen c.write_element.new.out)
+    (Err c.in_err-write_element.field-0.0) (f z)) c.e-item.is c.in_err-write_element.ensures in
     let stopped = parts_stop f es c.elements.e-index d _ tt _ _ _ c.elements-test.true c.elements.invariant failed in
-    rw p.1 (subst (λ (t : List ℕ). WritesBytes {E = Failed} {T = Unit {0}} (g.O.Out.seen c.args.out.now) (g.O.Out.seen c.write_element.new.out) (Err c.in_err-write_element.field-0.0) t) (text_parts h c.args.section es c.requires) stopped)
+    rw p.1 (subst (λ (t : List ℕ). WritesBytes {E = Failed} {T = Unit {0}} (g.O.Out.seen c.args.out.now) (g.O.Out.seen c.write_element.new.out)
+    (Err c.in_err-write_element.field-0.0) t) (text_parts h c.args.section es c.requires) stopped)
 
 pub returns : goal.returns
 returns g c =

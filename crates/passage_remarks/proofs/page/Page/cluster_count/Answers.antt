@@ -4,7 +4,7 @@ use Rattle.std.proofs.lemmas.Bool.Decides.{nat_tests}
 use Rattle.std.proofs.lemmas.List.Sorted.{IsNonDecreasingBy-take}
 use Rattle.cluster_text.specs.Clusters.{clusters}
 use Rattle.passage_remarks.specs.declared.page.Border.{Border}
-use Rattle.passage_remarks.specs.Clusters.{passage_clusters, first_cluster, cluster_starts}
+use Rattle.passage_remarks.specs.Clusters.{passage_cluster_count, first_cluster, cluster_starts}
 use Rattle.passage_remarks.proofs.BorderLemmas.{kept_len, rises, scalars_before, starts_counted}
 use Rattle.passage_remarks.proofs.page.Page.cluster_count.Goals as goal
 
@@ -32,4 +32,4 @@ returns c =
     c.saturating_sub.ensures
     ∙ (λ i. behind i - (c.first_cluster.ensures ∙ ap (λ t. first_cluster (clusters t) from) (sym c.self.view_is)) i)
     ∙ sym (ap (λ b. if b then count_by (λ start. nat_lt start to) (cluster_starts cs) - first_cluster cs from else 0) some)
-    ∙ ap (λ t. passage_clusters (clusters t) from to) c.self.view_is
+    ∙ ap (λ t. passage_cluster_count (clusters t) from to) c.self.view_is

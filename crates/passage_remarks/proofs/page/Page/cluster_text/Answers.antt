@@ -18,7 +18,8 @@ overflow_add-first c = omega (arith, c.requires, c.bytes_before-start.ensures.fe
 between : (text now : List ℕ) (first count start end : ℕ) → IsUtf8 text → text ≡ now → first + count ≤ length (clusters now) → start ≡ length (concat (take first (clusters now)))
     → end ≡ length (concat (take (first + count) (clusters now)))
     → (start ≤ end) × (end ≤ length text) × (take (end - start) (drop start text) ≡ cluster_text (clusters now) first count)
-between text now first count start end u v l s e = bytes_between text (clusters now) first count start end (ap (λ t. concat (clusters t)) (sym v) ∙ concat-segments (is_grapheme_break true) text u) l s e
+between text now first count start end u v l s e =
+    bytes_between text (clusters now) first count start end (ap (λ t. concat (clusters t)) (sym v) ∙ concat-segments (is_grapheme_break true) text u) l s e
 
 -- what was read of the text that is seen
 found : (c : goal.After-as_bytes) → let text = c.as_bytes.result.now in
@@ -38,4 +39,5 @@ pub returns : goal.returns
 returns c =
     let text = c.as_bytes.result.now in
     c.part.ensures
-    ∙ (between text c.args.self.now c.args.first c.args.count c.bytes_before-start.result c.bytes_before-end.result c.as_bytes.ensures.utf8 (c.as_bytes.ensures.value ∙ c.as_str.ensures.value ∙ c.self.view_is) c.requires c.bytes_before-start.ensures.bytes c.bytes_before-end.ensures.bytes).2
+    ∙ (between text c.args.self.now c.args.first c.args.count c.bytes_before-start.result c.bytes_before-end.result c.as_bytes.ensures.utf8
+    (c.as_bytes.ensures.value ∙ c.as_str.ensures.value ∙ c.self.view_is) c.requires c.bytes_before-start.ensures.bytes c.bytes_before-end.ensures.bytes).2

@@ -1,8 +1,10 @@
-use Rattle.std.proofs.Common.{ap, arith, drop, length, refl, subst, sym, ◌-◌, ◌≤◌, ◌∙◌}
+use Rattle.std.proofs.Common.{false, ap, arith, drop, length, refl, subst, sym, ◌-◌, ◌≤◌, ◌∙◌}
+use Rattle.op_runs.specs.Deletions.{deletes_up}
+use Rattle.op_runs.proofs.DeletionLemmas.{length-deletes}
 use Rattle.origin_model.specs.edits.Edits.{ReadyInTurn, history_with}
 use Rattle.section_catalogue.specs.Manuscript.{Represents}
-use Rattle.replica_core.specs.Deleting.{AreWithin, deletes_from, ids_from}
-use Rattle.replica_core.proofs.DeletingLemmas.{length-from, others_taken_back, placed_each, stands_deleted}
+use Rattle.replica_core.specs.Deleting.{AreWithin, ids_from}
+use Rattle.replica_core.proofs.DeletingLemmas.{others_taken_back, placed_each, stands_deleted}
 use Rattle.replica_core.proofs.RunLemmas.{length-extended}
 use Rattle.replica_core.proofs.accepted.Accepted.accept_deletes.Goals as goal
 
@@ -16,7 +18,7 @@ pop_all-requires c =
     let x = c.args.first in
     let n = c.args.count in
     let h = c.self.inside.history in
-    omega (arith, ap length c.in-Ok.ensures.ok, length-extended (deletes_from x n) h, length-from n x)
+    omega (arith, ap length c.in-Ok.ensures.ok, length-extended (deletes_up x n) h, length-deletes false x n)
 
 pub returns-in-Err-clause-err : goal.returns-in-Err-clause-err
 returns-in-Err-clause-err c =
@@ -25,7 +27,7 @@ returns-in-Err-clause-err c =
     let done = c.in-Err.stopped.done in
     let h = c.self.inside.history in
     let l : done ≤ n = omega (arith, c.in-Err.ensures.fewer) in
-    c.pop_all.ensures ∙ ap (drop (n - done)) c.in-Ok.ensures.ok ∙ others_taken_back n done (n - done) x h l refl ∙ ap (λ z. history_with z (deletes_from x done)) c.self.view_is
+    c.pop_all.ensures ∙ ap (drop (n - done)) c.in-Ok.ensures.ok ∙ others_taken_back n done (n - done) x h l refl ∙ ap (λ z. history_with z (deletes_up x done)) c.self.view_is
 
 pub invariant_of-self-in-Err : goal.invariant_of-self-in-Err
 invariant_of-self-in-Err c =
@@ -34,8 +36,8 @@ invariant_of-self-in-Err c =
     let done = c.in-Err.stopped.done in
     let h = c.self.inside.history in
     let l : done ≤ n = omega (arith, c.in-Err.ensures.fewer) in
-    let ready = subst (λ z. ReadyInTurn z (deletes_from x n)) (sym c.self.view_is) c.requires.ready in
-    subst (Represents c.hide_run.new.self) (ap (λ z. history_with z (deletes_from x done)) c.self.view_is ∙ sym (returns-in-Err-clause-err c))
+    let ready = subst (λ z. ReadyInTurn z (deletes_up x n)) (sym c.self.view_is) c.requires.ready in
+    subst (Represents c.hide_run.new.self) (ap (λ z. history_with z (deletes_up x done)) c.self.view_is ∙ sym (returns-in-Err-clause-err c))
     (stands_deleted c.self.inside.manuscript c.hide_run.new.self n done x h l ready c.self.invariant c.in-Err.ensures.err)
 
 pub invariant_of-self-in-Ok-hide_run : goal.invariant_of-self-in-Ok-hide_run
@@ -43,5 +45,6 @@ invariant_of-self-in-Ok-hide_run c =
     let x = c.args.first in
     let n = c.args.count in
     let h = c.self.inside.history in
-    let ready = subst (λ z. ReadyInTurn z (deletes_from x n)) (sym c.self.view_is) c.requires.ready in
-    subst (Represents c.hide_run.new.self) (sym c.in-Ok.ensures.ok) (stands_deleted c.self.inside.manuscript c.hide_run.new.self n n x h (omega arith) ready c.self.invariant c.in-Ok-hide_run.ensures.ok)
+    let ready = subst (λ z. ReadyInTurn z (deletes_up x n)) (sym c.self.view_is) c.requires.ready in
+    subst (Represents c.hide_run.new.self) (sym c.in-Ok.ensures.ok)
+    (stands_deleted c.self.inside.manuscript c.hide_run.new.self n n x h (omega arith) ready c.self.invariant c.in-Ok-hide_run.ensures.ok)

@@ -27,8 +27,10 @@ returns-in-Err-clause-err c =
     let text = c.args.text.now in
     let h = c.self.inside.history in
     let ops = run_from start text in
-    c.pop_all.ensures ∙ ap (drop (length text)) c.in_ok-push_run.ensures.ok ∙ ap (λ n. drop n (history_with h ops)) (sym (length-typed start.id start.section start.left start.right text)) ∙ taken_back ops h
+    c.pop_all.ensures ∙ ap (drop (length text)) c.in_ok-push_run.ensures.ok
+    ∙ ap (λ n. drop n (history_with h ops)) (sym (length-typed start.id start.section start.left start.right text)) ∙ taken_back ops h
     ∙ c.self.view_is
 
 pub invariant_of-self-in-Err : goal.invariant_of-self-in-Err
-invariant_of-self-in-Err c = subst (Represents c.insert_run.new.self) (c.self.view_is ∙ sym (returns-in-Err-clause-err c)) ((c.in-Err.ensures.err c.self.inside.history).0 c.self.invariant)
+invariant_of-self-in-Err c =
+    subst (Represents c.insert_run.new.self) (c.self.view_is ∙ sym (returns-in-Err-clause-err c)) ((c.in-Err.ensures.err c.self.inside.history).0 c.self.invariant)

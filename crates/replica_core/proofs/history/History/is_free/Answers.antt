@@ -12,5 +12,6 @@ returns c =
       λ yes. subst (λ h. AreUnheld h first n) c.self.view_is
           (free_unheld i.index.positions.values i.index.targets.values (reverse i.ops) first n c.self.invariant.indexed (c.is_free.ensures.0 yes)),
       λ unheld. c.is_free.ensures.1
-          (unheld_free i.index.positions.values i.index.targets.values (reverse i.ops) first n c.self.invariant.indexed (subst (λ h. AreUnheld h first n) (sym c.self.view_is) unheld)),
+          (unheld_free i.index.positions.values i.index.targets.values (reverse i.ops) first n c.self.invariant.indexed
+          (subst (λ h. AreUnheld h first n) (sym c.self.view_is) unheld)),
     )

@@ -13,7 +13,8 @@ invariant_of-self c =
     let lawful : Lawful (op_of c.in-Some.newest ∷ reverse c.pop.new.self) = subst Lawful apart c.self.invariant.lawful in
     record {
       lawful = lawful.1;
-      indexed = c.forget_found.ensures.found (reverse c.pop.new.self) (subst (IsHistoryIndex i.index.positions.values i.index.targets.values) apart c.self.invariant.indexed) lawful.0;
+      indexed = c.forget_found.ensures.found (reverse c.pop.new.self)
+          (subst (IsHistoryIndex i.index.positions.values i.index.targets.values) apart c.self.invariant.indexed) lawful.0;
       listed = c.forget_found.ensures.listed (reverse c.pop.new.self) (c.self.invariant.listed ∙ ap sections_and_notes apart);
     }
 

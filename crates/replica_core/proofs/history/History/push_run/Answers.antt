@@ -31,7 +31,8 @@ invariant_of-self-in-Ok c =
     let positions : c.note_run.new.self.positions.values ≡ with_positions start.id (length h) (length text) i.index.positions.values =
     c.in-Ok.ensures.ok ∙ ap (λ n. with_positions start.id n (length text) i.index.positions.values) at in
     let noted = run_noted i.index.positions.values i.index.targets.values h start text c.self.invariant.indexed in
-    let moved : IsHistoryIndex c.note_run.new.self.positions.values i.index.targets.values (history_with h run) = subst (λ z. IsHistoryIndex z i.index.targets.values (history_with h run)) (sym positions) noted in
+    let moved : IsHistoryIndex c.note_run.new.self.positions.values i.index.targets.values (history_with h run) =
+    subst (λ z. IsHistoryIndex z i.index.targets.values (history_with h run)) (sym positions) noted in
     let kept : IsHistoryIndex c.note_run.new.self.positions.values c.note_run.new.self.targets.values (history_with h run) =
     subst (λ z. IsHistoryIndex c.note_run.new.self.positions.values z.values (history_with h run)) (sym c.in-Ok.ensures.targets) moved in
     record {
@@ -53,13 +54,15 @@ pop-requires c =
 pub returns-in_default-clause-err : goal.returns-in_default-clause-err
 returns-in_default-clause-err c =
     let run = run_from c.args.start.now c.args.text.now in
-    ap reverse (back_again c.self.inside.ops run c.push_run.new.self c.pop.new.self (length c.args.text.now) c.in_ok-push_run.ensures.ok (length-run c.args.start.now c.args.text.now) c.pop.ensures) ∙ c.self.view_is
+    ap reverse (back_again c.self.inside.ops run c.push_run.new.self c.pop.new.self (length c.args.text.now) c.in_ok-push_run.ensures.ok
+    (length-run c.args.start.now c.args.text.now) c.pop.ensures) ∙ c.self.view_is
 
 pub invariant_of-self-in_default : goal.invariant_of-self-in_default
 invariant_of-self-in_default c =
     let i = c.self.inside in
     let run = run_from c.args.start.now c.args.text.now in
-    let same : c.pop.new.self ≡ i.ops = back_again i.ops run c.push_run.new.self c.pop.new.self (length c.args.text.now) c.in_ok-push_run.ensures.ok (length-run c.args.start.now c.args.text.now) c.pop.ensures in
+    let same : c.pop.new.self ≡ i.ops =
+    back_again i.ops run c.push_run.new.self c.pop.new.self (length c.args.text.now) c.in_ok-push_run.ensures.ok (length-run c.args.start.now c.args.text.now) c.pop.ensures in
     let index : c.note_run.new.self ≡ i.index = c.in_default.ensures.err in
     record {
       lawful = subst (λ ops. Lawful (reverse ops)) (sym same) c.self.invariant.lawful;

@@ -14,4 +14,5 @@ returns-in-Some-clause-there c =
     let start = c.args.start.now in
     let text = c.args.text.now in
     subst (λ h. All (λ o. has_op h o ≡ true) (run_from start (take c.repeats.result text))) c.self.view_is
-    (subst (λ n. All (λ o. has_op (reverse c.self.inside.ops) o ≡ true) (run_from start (take n text))) (sym c.repeats.ensures) (repeated_there c.self.inside.ops c.in-Some.position start text))
+    (subst (λ n. All (λ o. has_op (reverse c.self.inside.ops) o ≡ true) (run_from start (take n text))) (sym c.repeats.ensures)
+    (repeated_there c.self.inside.ops c.in-Some.position start text))

@@ -13,7 +13,8 @@ invariant_of-self-2 c =
     let lawful : Lawful (op ∷ reverse c.take_last.new.self) = subst Lawful apart c.self.invariant.lawful in
     record {
       lawful = lawful.1;
-      indexed = c.forget.ensures.found (reverse c.take_last.new.self) (subst (IsHistoryIndex i.index.positions.values i.index.targets.values) apart c.self.invariant.indexed) lawful.0;
+      indexed = c.forget.ensures.found (reverse c.take_last.new.self)
+          (subst (IsHistoryIndex i.index.positions.values i.index.targets.values) apart c.self.invariant.indexed) lawful.0;
       listed = c.forget.ensures.listed (reverse c.take_last.new.self) (c.self.invariant.listed ∙ ap sections_and_notes apart);
     }
 

@@ -13,5 +13,6 @@ known-preserved c =
     let n = c.known.known in
     let there : has_op c.self.inside.accepted (Delete c.behind.result) ≡ true = sym c.has_delete.ensures ∙ c.if-has_delete.true in
     let here : has_op c.args.self.now.state.held.history (Delete (id_behind x n)) ≡ true =
-    sym (ap (λ (r : OpenState). has_op r.state.held.history (Delete (id_behind x n))) c.self.view_is) ∙ sym (ap (λ (y : Identifier). has_op c.self.inside.accepted (Delete y)) c.behind.ensures) ∙ there in
+    sym (ap (λ (r : OpenState). has_op r.state.held.history (Delete (id_behind x n))) c.self.view_is)
+    ∙ sym (ap (λ (y : Identifier). has_op c.self.inside.accepted (Delete y)) c.behind.ensures) ∙ there in
     (one_more_deleted c.args.self.now.state.held.history x n c.known.invariant.0 here, omega (arith, c.known-test.true))

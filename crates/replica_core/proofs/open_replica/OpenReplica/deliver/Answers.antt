@@ -23,7 +23,8 @@ pub accept-requires-clause-ready : goal.accept-requires-clause-ready
 accept-requires-clause-ready c =
     let i = c.self.inside in
     let s : State = replica_state i.number i.hold i.most i.accepted i.inbox in
-    accepted_is_ready s.hold s.most s.held c.args.op (subst (λ (x : State). answer x.hold x.most x.held c.args.op ≡ Accepted) (sym (ap (λ x. x.state) c.self.view_is)) c.in-Ready.ensures)
+    accepted_is_ready s.hold s.most s.held c.args.op
+    (subst (λ (x : State). answer x.hold x.most x.held c.args.op ≡ Accepted) (sym (ap (λ x. x.state) c.self.view_is)) c.in-Ready.ensures)
 
 pub wake-requires-clause-once : goal.wake-requires-clause-once
 wake-requires-clause-once c =
@@ -41,7 +42,8 @@ invariant_of-self c = record {
 }
 
 pub returns-in-Ok-clause-stands : goal.returns-in-Ok-clause-stands
-returns-in-Ok-clause-stands c = accepts _ c.args.self.now.state c.accept.new.self c.args.op (ap (λ x. x.state) c.self.view_is) c.in-Ready.ensures c.in-Ok.ensures.ok c.self.invariant.stands
+returns-in-Ok-clause-stands c =
+    accepts _ c.args.self.now.state c.accept.new.self c.args.op (ap (λ x. x.state) c.self.view_is) c.in-Ready.ensures c.in-Ok.ensures.ok c.self.invariant.stands
 
 -- what is so after `wait`
 record Waited (s : State) (inbox : OpenWaiting) (marks : List Bool) : Type 0 where

@@ -58,7 +58,8 @@ returns-in-Err-Conflict-clause-tally c = (conflict c).counted
 stray : (c : goal.Joined-op-2) → IsFedState c.args.self.now.state c.args.op c.args.tally.now c.deliver.new.self.state (answer_counted (Stray c.in-Err-Stray._id) c.args.tally.now)
 stray c =
     let told = rw c.in-Err-Stray.field-0-is at c.in-Err-Stray.ensures.answer in
-    refused_fed c.args.self.now.state c.deliver.new.self.state c.args.op (Stray c.in-Err-Stray._id) c.args.tally.now told.0 refl c.requires.settled c.in-Err-Stray.ensures.err (omega arith)
+    refused_fed c.args.self.now.state c.deliver.new.self.state c.args.op (Stray c.in-Err-Stray._id) c.args.tally.now told.0 refl c.requires.settled c.in-Err-Stray.ensures.err
+    (omega arith)
 
 pub returns-in-Err-Stray-clause-held : goal.returns-in-Err-Stray-clause-held
 returns-in-Err-Stray-clause-held c = (stray c).held

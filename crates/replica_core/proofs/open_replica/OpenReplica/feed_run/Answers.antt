@@ -6,7 +6,8 @@ use Rattle.replica_core.proofs.open_replica.OpenReplica.feed_run.Goals as goal
 pub returns-in_err-count-clause-err : goal.returns-in_err-count-clause-err
 returns-in_err-count-clause-err c =
     let p = err_from_is_err_and c.from_residual.result c.from_residual.ensures.1 in
-    rw (p.1, p.2) (fed_some c.args.self.now.state c.fronts.self.state c.feed_front.new.self.state c.args.tally.now c.fronts.tally c.feed_front.new.tally (run_from c.args.start.now c.args.text.now)
+    rw (p.1, p.2) (fed_some c.args.self.now.state c.fronts.self.state c.feed_front.new.self.state c.args.tally.now c.fronts.tally c.feed_front.new.tally
+    (run_from c.args.start.now c.args.text.now)
     c.fronts.next c.fronts.rest.now c.in_err-count.field-0.0 c.fronts.invariant c.in_err-count.ensures.err)
 
 pub fronts-preserved : goal.fronts-preserved

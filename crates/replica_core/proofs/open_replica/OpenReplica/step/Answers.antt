@@ -74,7 +74,8 @@ joined : (c : goal.After-wake) → IsStep
     (record { history = c.accept.new.self; waiting = c.leave-op.new.inbox.ops }) (Accepted c.leave-op.result)
 joined c =
     let s : State = replica_state c.self.inside.number c.self.inside.hold c.self.inside.most c.self.inside.accepted c.self.inside.inbox in
-    let position = due_position c.self.inside.accepted c.self.inside.inbox.ops c.self.inside.due c.first.result c.in-Some.position c.self.invariant.marks c.first.ensures.first c.in-Some.is in
+    let position = due_position c.self.inside.accepted c.self.inside.inbox.ops c.self.inside.due c.first.result c.in-Some.position c.self.invariant.marks c.first.ensures.first
+    c.in-Some.is in
     accepted_step s c.self.inside.inbox c.leave-op.new.inbox c.in-Some.position c.op_at-op.result.now c.leave-op.result c.accept.new.self
     refl position c.op_at-op.ensures
     (sym c.verdict.ensures ∙ c.in-Ready.is)
@@ -113,7 +114,8 @@ invariant_of-self-in_default-verdict c = record {
   same_hold = c.leave-op-in_default-verdict.ensures.hold ∙ c.self.invariant.same_hold;
   stands = (dropped c).stands;
   marks = marks_left c.self.inside.accepted c.self.inside.inbox.ops c.self.inside.accepted c.leave-op-in_default-verdict.new.inbox.ops c.in-Some.position c.first.new.self
-      c.leave-op-in_default-verdict.new.due (c.first.ensures.same ∙ c.self.invariant.marks) c.leave-op-in_default-verdict.ensures.mark refl c.leave-op-in_default-verdict.ensures.rest;
+      c.leave-op-in_default-verdict.new.due (c.first.ensures.same ∙ c.self.invariant.marks) c.leave-op-in_default-verdict.ensures.mark refl
+      c.leave-op-in_default-verdict.ensures.rest;
 }
 
 pub returns-in_default-verdict : goal.returns-in_default-verdict

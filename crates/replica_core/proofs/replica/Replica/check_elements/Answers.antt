@@ -7,7 +7,8 @@ pub returns-then-count-next-clause-err : goal.returns-then-count-next-clause-err
 returns-then-count-next-clause-err c =
     let greatest = c.greatest_counter-greatest in
     let next = c.next_behind-next in
-    ids_spent c.args.self.now greatest.result next.result c.args.count c.unwrap_or.result greatest.ensures.greatest next.ensures.value next.ensures.within c.if-count-next.true c.unwrap_or.ensures
+    ids_spent c.args.self.now greatest.result next.result c.args.count c.unwrap_or.result greatest.ensures.greatest next.ensures.value next.ensures.within c.if-count-next.true
+    c.unwrap_or.ensures
 
 pub returns-in_err-check_room-clause-err : goal.returns-in_err-check_room-clause-err
 returns-in_err-check_room-clause-err c =

@@ -18,7 +18,8 @@ pub join_run-requires-clause-can : goal.join_run-requires-clause-can
 join_run-requires-clause-can c =
     let s = c.args.self.now in
     subst (CanJoin s)
-    (sym (typed_run s.number c.args.spot c.own_id.result (chars c.args.text.now) c.as_slice.result.now c.own_id.ensures.id (c.as_slice.ensures.value ∙ c.in_ok-letters.ensures))) c.requires.can_join
+    (sym (typed_run s.number c.args.spot c.own_id.result (chars c.args.text.now) c.as_slice.result.now c.own_id.ensures.id (c.as_slice.ensures.value ∙ c.in_ok-letters.ensures)))
+    c.requires.can_join
 
 pub returns-in_err-join_run-clause-err : goal.returns-in_err-join_run-clause-err
 returns-in_err-join_run-clause-err c =
@@ -33,4 +34,5 @@ returns-clause-ok c =
     let s = c.args.self.now in
     let cs = chars c.args.text.now in
     gains s c.join_run.new.self (typed_at s.number c.args.spot cs)
-    (c.in_ok-join_run.ensures.ok ∙ ap (with_ops s) (typed_run s.number c.args.spot c.own_id.result cs c.as_slice.result.now c.own_id.ensures.id (c.as_slice.ensures.value ∙ c.in_ok-letters.ensures)))
+    (c.in_ok-join_run.ensures.ok ∙ ap (with_ops s)
+    (typed_run s.number c.args.spot c.own_id.result cs c.as_slice.result.now c.own_id.ensures.id (c.as_slice.ensures.value ∙ c.in_ok-letters.ensures)))

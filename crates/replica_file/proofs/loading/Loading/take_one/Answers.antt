@@ -11,7 +11,8 @@ returns-in-Ok-clause-feeds c =
 
 pub returns-in-Err-TooMany-clause-feeds : goal.returns-in-Err-TooMany-clause-feeds
 returns-in-Err-TooMany-clause-feeds c =
-    let both = refused_many _ _ c.args.op _ _ c.in-Err-TooMany.field-0 c.in-Err-TooMany._most c.in-Err-TooMany.field-0-is c.in-Err-TooMany.ensures.too_many c.in-Err-TooMany.ensures.err in
+    let both = refused_many _ _ c.args.op _ _ c.in-Err-TooMany.field-0 c.in-Err-TooMany._most c.in-Err-TooMany.field-0-is c.in-Err-TooMany.ensures.too_many
+    c.in-Err-TooMany.ensures.err in
     feeds_refused _ _ _ c.args.op c.if-not-self.false both.0 both.1
 
 pub returns-in-Err-NoMemory-clause-memory : goal.returns-in-Err-NoMemory-clause-memory

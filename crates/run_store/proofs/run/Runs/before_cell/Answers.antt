@@ -28,4 +28,5 @@ pub returns-else-spot-gt0 : goal.returns-else-spot-gt0
 returns-else-spot-gt0 c =
     let spot = c.in_ok-spot.spot in
     c.last_of.ensures
-    ∙ sym (ap last_id (before-start c.args.self.now c.sound.ensures c.args.id spot.run spot.offset c.in_ok-spot.ensures.some (omega (arith, c.if-spot-gt0.false)) c.place_of.result c.place_of.ensures))
+    ∙ sym (ap last_id (before-start c.args.self.now c.sound.ensures c.args.id spot.run spot.offset c.in_ok-spot.ensures.some
+    (omega (arith, c.if-spot-gt0.false)) c.place_of.result c.place_of.ensures))

@@ -29,7 +29,8 @@ invariant_of-self-in-Ok c =
     let text = c.args.text.now in
     let new = subst (λ (z : Kept). MayComeTo (cells_in z) h (length text)) (sym c.self.view_is) c.requires.new in
     let held = subst (λ (z : Kept). CanBegin c.args.at z.rope) (sym c.self.view_is) c.requires.held in
-    let e = c.alone.ensures ∙ (λ j. record { id = h.id; left = h.left; right = h.right; hidden = h.hidden; key = h.key; stretch = 0; start = c.in_ok-start.ensures.ok.0 j; len = length text }) in
+    let e = c.alone.ensures
+    ∙ (λ j. record { id = h.id; left = h.left; right = h.right; hidden = h.hidden; key = h.key; stretch = 0; start = c.in_ok-start.ensures.ok.0 j; len = length text }) in
     let now = begun_runs _ s h text new c.alone.result e c.args.at in
     let begun = is-begun _ s h text new c.alone.result e c.args.at held in
     let placed : c.place.new.rope ≡ now.rope = c.in-Ok.ensures.placed in
@@ -45,7 +46,8 @@ returns-in-Ok c =
     let text = c.args.text.now in
     let new = subst (λ (z : Kept). MayComeTo (cells_in z) h (length text)) (sym c.self.view_is) c.requires.new in
     let held = subst (λ (z : Kept). CanBegin c.args.at z.rope) (sym c.self.view_is) c.requires.held in
-    let e = c.alone.ensures ∙ (λ j. record { id = h.id; left = h.left; right = h.right; hidden = h.hidden; key = h.key; stretch = 0; start = c.in_ok-start.ensures.ok.0 j; len = length text }) in
+    let e = c.alone.ensures
+    ∙ (λ j. record { id = h.id; left = h.left; right = h.right; hidden = h.hidden; key = h.key; stretch = 0; start = c.in_ok-start.ensures.ok.0 j; len = length text }) in
     let now = begun_runs _ s h text new c.alone.result e c.args.at in
     let begun = is-begun _ s h text new c.alone.result e c.args.at held in
     let placed : c.place.new.rope ≡ now.rope = c.in-Ok.ensures.placed in
@@ -64,7 +66,8 @@ invariant_of-self-in-Err c =
     c.take_back.ensures ∙ ap (λ L. slice_set L 0 (take c.in_ok-start.start (slice_index_or L 0 []))) c.in_ok-start.ensures.ok.1
     ∙ taken-back i.letters c.args.text.now c.in_ok-start.start c.self.invariant.letters.first c.in_ok-start.ensures.ok.0 in
     let now : Kept = record { rope = c.place.new.rope; letters = c.take_back.new.self; count = i.count } in
-    let is : ◌≡◌ {A = Kept} now (record { rope = i.rope; letters = i.letters; count = i.count }) = λ j. record { rope = c.in-Err.ensures.refused j; letters = l j; count = i.count } in
+    let is : ◌≡◌ {A = Kept} now (record { rope = i.rope; letters = i.letters; count = i.count }) =
+    λ j. record { rope = c.in-Err.ensures.refused j; letters = l j; count = i.count } in
     subst AreRuns (sym is) c.self.invariant
 
 pub returns-in-Err : goal.returns-in-Err
@@ -74,5 +77,6 @@ returns-in-Err c =
     c.take_back.ensures ∙ ap (λ L. slice_set L 0 (take c.in_ok-start.start (slice_index_or L 0 []))) c.in_ok-start.ensures.ok.1
     ∙ taken-back i.letters c.args.text.now c.in_ok-start.start c.self.invariant.letters.first c.in_ok-start.ensures.ok.0 in
     let now : Kept = record { rope = c.place.new.rope; letters = c.take_back.new.self; count = i.count } in
-    let is : ◌≡◌ {A = Kept} now (record { rope = i.rope; letters = i.letters; count = i.count }) = λ j. record { rope = c.in-Err.ensures.refused j; letters = l j; count = i.count } in
+    let is : ◌≡◌ {A = Kept} now (record { rope = i.rope; letters = i.letters; count = i.count }) =
+    λ j. record { rope = c.in-Err.ensures.refused j; letters = l j; count = i.count } in
     record { ok = tt; raised = tt; err = is ∙ c.self.view_is }

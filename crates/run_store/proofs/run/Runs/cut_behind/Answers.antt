@@ -16,5 +16,6 @@ pub returns : goal.returns
 returns c =
     let inside : c.args.end < c.args.run.now.len = omega (arith, c.requires.within, c.if-end-run.false) in
     let cut =
-    is-cut c.args.self.now c.sound.ensures c.args.run.now c.args.end c.requires.held c.requires.some inside c.split.result c.split.new.self c.split.ensures.ok c.split.ensures.err in
+    is-cut c.args.self.now c.sound.ensures c.args.run.now c.args.end c.requires.held c.requires.some inside c.split.result c.split.new.self c.split.ensures.ok
+    c.split.ensures.err in
     record { cells = cut.cells; held = cut.front; raised = cut.raised; err = c.split.ensures.err }

@@ -45,10 +45,12 @@ returns c =
     let M = c.lengthened.new.letters in
     let longer = c.in_ok-longer.longer in
     let now = extended _ s h text new run held c.requires.next M longer c.in_ok-longer.ensures.ok in
-    let is : ◌≡◌ {A = Kept} (record { rope = c.put.new.self; letters = M; count = i.count + length text }) now = λ j. record { rope = c.put.ensures.put j; letters = M; count = i.count + length text } in
+    let is : ◌≡◌ {A = Kept} (record { rope = c.put.new.self; letters = M; count = i.count + length text }) now =
+    λ j. record { rope = c.put.ensures.put j; letters = M; count = i.count + length text } in
     record {
       ok = ap cells_in is ∙ extended-cells _ s h text new run held c.requires.next M longer c.in_ok-longer.ensures.ok
           ∙ ap (λ (z : Kept). cells_inserted_behind (last_id_of_run run) (typed_cells h text) (cells_in z)) c.self.view_is;
-      kept = ap length c.put.ensures.put ∙ extended-length _ s h text new run held c.requires.next M longer c.in_ok-longer.ensures.ok ∙ ap (λ (z : Kept). length z.rope) c.self.view_is;
+      kept = ap length c.put.ensures.put ∙ extended-length _ s h text new run held c.requires.next M longer c.in_ok-longer.ensures.ok
+          ∙ ap (λ (z : Kept). length z.rope) c.self.view_is;
       err = tt;
     }

@@ -31,6 +31,7 @@ returns c =
     let n = c.args.n in
     let cut = c.in_ok-cut_behind.ensures in
     let rest : (o + n) - o ≡ n = omega arith in
-    let hidden = subst (λ (z : Run). HidesPart c.hide_rest.result c.cut_behind.new.self c.hide_rest.new.self (head_behind o (first_of z)).id (z.len - o)) c.run_to.ensures c.hide_rest.ensures in
+    let hidden = subst (λ (z : Run). HidesPart c.hide_rest.result c.cut_behind.new.self c.hide_rest.new.self (head_behind o (first_of z)).id (z.len - o)) c.run_to.ensures
+    c.hide_rest.ensures in
     hides-makes c.hide_rest.result r c.cut_behind.new.self c.hide_rest.new.self (head_behind o (first_of run)).id n cut.cells cut.raised
     (subst (HidesPart c.hide_rest.result c.cut_behind.new.self c.hide_rest.new.self (head_behind o (first_of run)).id) rest hidden)

@@ -22,7 +22,8 @@ returns-in-Some c =
     let new = c.shift.new.self in
     let n = length r.rope in
     record {
-      ok = where-ok (λ (a : Kept). cells_in a ≡ cells_hiding x k (cells_in r)) c.shift.result moved new c.shift.ensures.ok (taken-cells r s b.front b.back h.border x k b.at h.move h.taken);
+      ok = where-ok (λ (a : Kept). cells_in a ≡ cells_hiding x k (cells_in r)) c.shift.result moved new c.shift.ensures.ok
+          (taken-cells r s b.front b.back h.border x k b.at h.move h.taken);
       err = where-err (λ (a : Kept). cells_in a ≡ cells_in r) c.shift.result r new c.shift.ensures.err refl;
       raised = where-ok (λ (a : Kept). IsRaisedBy 2 n (length a.rope)) c.shift.result moved new c.shift.ensures.ok
           (subst (IsRaisedBy 2 n) (sym (shifted-length r s b.front b.back h.border b.at h.move)) (kept-raised 2 n));

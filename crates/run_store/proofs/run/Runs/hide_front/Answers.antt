@@ -47,7 +47,8 @@ invariant_of-self c =
     let more = c.requires.more in
     let held = held-in c.self.view_is run c.requires.held in
     let front = c.hidden.ensures ∙ (λ i. record (c.run_to.ensures i) { hidden = true }) in
-    hides-sound _ s run n held some more (run_to n run) (front-held _ s run n held some more) c.part.result c.part.new.rope (parted_as run.id c.hidden.result c.run_behind.result c.self.inside.rope)
+    hides-sound _ s run n held some more (run_to n run) (front-held _ s run n held some more) c.part.result c.part.new.rope
+    (parted_as run.id c.hidden.result c.run_behind.result c.self.inside.rope)
     ((λ i. parted_as run.id (front i) (c.run_behind.ensures i) c.self.inside.rope) ∙ front-marked _ s run n held some more true) c.part.ensures.ok c.part.ensures.err
 
 pub returns : goal.returns
@@ -60,5 +61,6 @@ returns c =
     let held = held-in c.self.view_is run c.requires.held in
     let front = c.hidden.ensures ∙ (λ i. record (c.run_to.ensures i) { hidden = true }) in
     subst (λ (z : Kept). HidesPart c.part.result z (record { rope = c.part.new.rope; letters = c.self.inside.letters; count = c.self.inside.count }) run.id n) c.self.view_is
-    (hides-part _ s run n held some more (run_to n run) (front-held _ s run n held some more) c.part.result c.part.new.rope (parted_as run.id c.hidden.result c.run_behind.result c.self.inside.rope)
+    (hides-part _ s run n held some more (run_to n run) (front-held _ s run n held some more) c.part.result c.part.new.rope
+    (parted_as run.id c.hidden.result c.run_behind.result c.self.inside.rope)
     ((λ i. parted_as run.id (front i) (c.run_behind.ensures i) c.self.inside.rope) ∙ front-marked _ s run n held some more true) c.part.ensures.ok c.part.ensures.err)

@@ -53,7 +53,8 @@ invariant_of-self c =
     let inside = c.requires.inside in
     let held = held-in c.self.view_is run c.requires.held in
     let back = c.hidden.ensures ∙ (λ i. record (c.run_behind.ensures i) { hidden = true }) in
-    hides-sound _ s run o held some inside (run_behind o run) (back-held _ s run o held some inside) c.part.result c.part.new.rope (parted_as run.id c.run_to.result c.hidden.result c.self.inside.rope)
+    hides-sound _ s run o held some inside (run_behind o run) (back-held _ s run o held some inside) c.part.result c.part.new.rope
+    (parted_as run.id c.run_to.result c.hidden.result c.self.inside.rope)
     ((λ i. parted_as run.id (c.run_to.ensures i) (back i) c.self.inside.rope) ∙ rest-marked _ s run o held some inside true) c.part.ensures.ok c.part.ensures.err
 
 pub returns-then-offset-gt0 : goal.returns-then-offset-gt0
@@ -65,8 +66,10 @@ returns-then-offset-gt0 c =
     let inside = c.requires.inside in
     let held = held-in c.self.view_is run c.requires.held in
     let back = c.hidden.ensures ∙ (λ i. record (c.run_behind.ensures i) { hidden = true }) in
-    subst (λ (z : Kept). HidesPart c.part.result z (record { rope = c.part.new.rope; letters = c.self.inside.letters; count = c.self.inside.count }) (run_behind o run).id (run_behind o run).len) c.self.view_is
-    (hides-part _ s run o held some inside (run_behind o run) (back-held _ s run o held some inside) c.part.result c.part.new.rope (parted_as run.id c.run_to.result c.hidden.result c.self.inside.rope)
+    subst (λ (z : Kept). HidesPart c.part.result z (record { rope = c.part.new.rope; letters = c.self.inside.letters; count = c.self.inside.count }) (run_behind o run).id
+    (run_behind o run).len) c.self.view_is
+    (hides-part _ s run o held some inside (run_behind o run) (back-held _ s run o held some inside) c.part.result c.part.new.rope
+    (parted_as run.id c.run_to.result c.hidden.result c.self.inside.rope)
     ((λ i. parted_as run.id (c.run_to.ensures i) (back i) c.self.inside.rope) ∙ rest-marked _ s run o held some inside true) c.part.ensures.ok c.part.ensures.err)
 
 pub put-requires : goal.put-requires

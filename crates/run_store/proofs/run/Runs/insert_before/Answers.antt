@@ -26,7 +26,8 @@ pub returns-in-Some-clause-makes : goal.returns-in-Some-clause-makes
 returns-in-Some-clause-makes c =
     let cs = cells_in c.args.self.now in
     let b = is-behind cs c.sound.ensures.distinct c.args.next c.requires.held c.in-Some.behind c.in-Some.ensures in
-    subst (λ (n : ℕ). MakesCells c.insert_behind.result c.args.self.now c.insert_behind.new.self (inserted_at n (typed_cells c.args.head.now c.args.text.now) cs)) (sym b.index) c.insert_behind.ensures.makes
+    subst (λ (n : ℕ). MakesCells c.insert_behind.result c.args.self.now c.insert_behind.new.self (inserted_at n (typed_cells c.args.head.now c.args.text.now) cs))
+    (sym b.index) c.insert_behind.ensures.makes
 
 pub returns-in-None-clause-makes : goal.returns-in-None-clause-makes
 returns-in-None-clause-makes c =
@@ -37,7 +38,8 @@ returns-in-None-clause-makes c =
     record {
       ok = begun.ok;
       err = where-err (λ (r : Kept). cells_in r ≡ cells_in old) c.begin.result old new begun.err refl;
-      raised = on-ok c.begin.result (length new.rope ≡ n + 1) (IsRaisedBy 2 n (length new.rope)) (λ more. raised-more 1 2 n (length new.rope) (omega arith) (one-raised n (length new.rope) more)) begun.raised;
+      raised = on-ok c.begin.result (length new.rope ≡ n + 1) (IsRaisedBy 2 n (length new.rope))
+          (λ more. raised-more 1 2 n (length new.rope) (omega arith) (one-raised n (length new.rope) more)) begun.raised;
       refused = where-err (λ (r : Kept). IsRaisedBy 1 n (length r.rope)) c.begin.result old new begun.err (kept-raised 1 n);
     }
 
@@ -54,5 +56,6 @@ returns-in-None-clause-continued c =
     let cs = cells_in c.args.self.now in
     let h = c.args.head.now in
     let z = (is-first cs c.sound.ensures.distinct c.args.next c.requires.held c.in-None.ensures).0 in
-    any-ok c.begin.result (is_continued (cell_before cs (index_of (cell_ids cs) c.args.next)) h.id h.left h.right ≡ true → length c.begin.new.self.rope ≡ length c.args.self.now.rope)
+    any-ok c.begin.result (is_continued (cell_before cs (index_of (cell_ids cs) c.args.next)) h.id h.left h.right ≡ true
+    → length c.begin.new.self.rope ≡ length c.args.self.now.rope)
     (λ t. absurd (false≢true (sym (ap (λ n. is_continued (cell_before cs n) h.id h.left h.right) z) ∙ t)))

@@ -12,7 +12,8 @@ use Rattle.run_store.proofs.run.Runs.insert_behind.Goals as goal
 
 pub returns-clause-makes : goal.returns-clause-makes
 returns-clause-makes c =
-    subst (λ (x : Identifier). MakesCells c.insert_at.result c.args.self.now c.insert_at.new.self (cells_inserted_behind x (typed_cells c.args.head.now c.args.text.now) (cells_in c.args.self.now)))
+    subst (λ (x : Identifier). MakesCells c.insert_at.result c.args.self.now c.insert_at.new.self
+    (cells_inserted_behind x (typed_cells c.args.head.now c.args.text.now) (cells_in c.args.self.now)))
     (sym c.in-Some.ensures.some.is) c.insert_at.ensures.makes
 
 pub returns-clause-continued : goal.returns-clause-continued

@@ -29,7 +29,8 @@ returns c =
     let new = c.begin.new.self in
     let n = length old.rope in
     record {
-      ok = subst (λ (p : Identifier × List Cell). OnOk c.begin.result (cells_in new ≡ cells_inserted_behind p.0 (typed_cells c.args.head.now c.args.text.now) p.1)) (λ i. (id i, cut.cells i)) begun.ok;
+      ok = subst (λ (p : Identifier × List Cell). OnOk c.begin.result (cells_in new ≡ cells_inserted_behind p.0 (typed_cells c.args.head.now c.args.text.now) p.1))
+          (λ i. (id i, cut.cells i)) begun.ok;
       err = where-err (λ (r : Kept). cells_in r ≡ cells_in old) c.begin.result parted new begun.err cut.cells;
       raised = on-ok c.begin.result (length new.rope ≡ length parted.rope + 1) (IsRaisedBy 2 n (length new.rope))
           (λ more. raised-twice 1 1 n (length parted.rope) (length new.rope) cut.raised (one-raised (length parted.rope) (length new.rope) more)) begun.raised;

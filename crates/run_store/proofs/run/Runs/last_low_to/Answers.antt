@@ -10,7 +10,8 @@ pub last_low_of-requires-clause-counters : goal.last_low_of-requires-clause-coun
 last_low_of-requires-clause-counters c = (kept-run _ c.self.invariant c.in-Some.item.0 c.in-Some.item.1.now c.in-Some.ensures.value).counters
 
 pub last_low_of-requires-clause-depths : goal.last_low_of-requires-clause-depths
-last_low_of-requires-clause-depths c = let k = kept-run _ c.self.invariant c.in-Some.item.0 c.in-Some.item.1.now c.in-Some.ensures.value in omega (arith, k.depths, c.self.invariant.few)
+last_low_of-requires-clause-depths c = let k =
+    kept-run _ c.self.invariant c.in-Some.item.0 c.in-Some.item.1.now c.in-Some.ensures.value in omega (arith, k.depths, c.self.invariant.few)
 
 pub returns-in-Some : goal.returns-in-Some
 returns-in-Some c =

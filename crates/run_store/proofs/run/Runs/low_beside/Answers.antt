@@ -58,5 +58,6 @@ returns-in-None c =
     let p = c.args.part.now in
     let m = c.args.middle in
     let a = around_low es p.most p.from p.to m (cells-apart r c.sound.ensures) c.requires.part.from c.requires.part.to c.requires.inside in
-    let found = found_behind es p.from p.to m a p.most c.first_low_in.result c.behind-next.result c.behind-next.ensures (sym c.last_low_in.ensures ∙ c.in-None.is) c.first_low_in.ensures in
+    let found = found_behind es p.from p.to m a p.most c.first_low_in.result c.behind-next.result c.behind-next.ensures
+    (sym c.last_low_in.ensures ∙ c.in-None.is) c.first_low_in.ensures in
     record { none = found.0; some = found.1 }

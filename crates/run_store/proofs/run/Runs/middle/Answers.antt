@@ -14,7 +14,8 @@ returns-clause-none c =
     let r = c.args.self.now in
     let p = c.args.part.now in
     let is = c.requires in
-    none-answers r c.sound.ensures p.from p.to (part-from r p is) (part-to r p is) _ _ is.begin.at is.end.at c.middle_between.result c.middle_between.ensures.some c.middle_between.ensures.none
+    none-answers r c.sound.ensures p.from p.to (part-from r p is)
+    (part-to r p is) _ _ is.begin.at is.end.at c.middle_between.result c.middle_between.ensures.some c.middle_between.ensures.none
 
 pub returns-clause-some : goal.returns-clause-some
 returns-clause-some c =

@@ -22,9 +22,11 @@ returns-then-begin-end c =
     let b = c.args.begin in
     let e = c.args.end in
     record {
-      some = if-some _ _ c.middle_of_run.result (λ m. some-same r c.sound.ensures b.place b.offset e.place e.offset c.requires.from c.requires.to c.if-begin-end.true m.id) c.middle_of_run.ensures.some;
+      some = if-some _ _ c.middle_of_run.result (λ m. some-same r c.sound.ensures b.place b.offset e.place e.offset c.requires.from c.requires.to c.if-begin-end.true m.id)
+          c.middle_of_run.ensures.some;
       found = c.middle_of_run.ensures.found;
-      none = if-none _ _ c.middle_of_run.result (none-same r c.sound.ensures b.place b.offset e.place e.offset c.requires.from c.requires.to c.if-begin-end.true) c.middle_of_run.ensures.none;
+      none = if-none _ _ c.middle_of_run.result (none-same r c.sound.ensures b.place b.offset e.place e.offset c.requires.from c.requires.to c.if-begin-end.true)
+          c.middle_of_run.ensures.none;
     }
 
 pub returns-in-Some-clause-some : goal.returns-in-Some-clause-some
@@ -42,7 +44,8 @@ returns-in-Some-middle_of_run-clause-some c =
     let b = c.args.begin in
     let e = c.args.end in
     let up = places-up r s b.place b.offset e.place e.offset c.requires.from c.requires.to c.requires.order in
-    some-first r s b.place b.offset e.place e.offset c.requires.from c.requires.to (omega (arith, up, c.if-begin-end.false)) _ c.in-Some-middle_of_run.found.id c.in-Some-middle_of_run.ensures.some
+    some-first r s b.place b.offset e.place e.offset c.requires.from c.requires.to
+    (omega (arith, up, c.if-begin-end.false)) _ c.in-Some-middle_of_run.found.id c.in-Some-middle_of_run.ensures.some
 
 pub returns-in-None : goal.returns-in-None
 returns-in-None c =
@@ -54,7 +57,9 @@ returns-in-None c =
     let within = end-within r s b.place b.offset e.place e.offset c.requires.from c.requires.to in
     let next : e.place ≡ suc b.place = next-place b.place e.place (length r.rope) (omega (arith, up, c.if-begin-end.false)) within c.in_default.ensures.none in
     record {
-      some = if-some _ _ c.middle_of_run-in-None.result (λ m. some-second r s b.place b.offset e.place e.offset c.requires.from c.requires.to (omega (arith, next)) m.id) c.middle_of_run-in-None.ensures.some;
+      some = if-some _ _ c.middle_of_run-in-None.result
+          (λ m. some-second r s b.place b.offset e.place e.offset c.requires.from c.requires.to (omega (arith, next)) m.id) c.middle_of_run-in-None.ensures.some;
       found = c.middle_of_run-in-None.ensures.found;
-      none = if-none _ _ c.middle_of_run-in-None.result (none-next r s b.place b.offset e.place e.offset c.requires.from c.requires.to next _ refl c.in-None.ensures.none) c.middle_of_run-in-None.ensures.none;
+      none = if-none _ _ c.middle_of_run-in-None.result
+          (none-next r s b.place b.offset e.place e.offset c.requires.from c.requires.to next _ refl c.in-None.ensures.none) c.middle_of_run-in-None.ensures.none;
     }

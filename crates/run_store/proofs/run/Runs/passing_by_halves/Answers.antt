@@ -19,12 +19,14 @@ halve-smaller g c =
 
 pub halve-preserved-then-test : goal.halve-preserved-then-test
 halve-preserved-then-test g c =
-    halved-behind c.args.self.now (goal.P-post g c.args.test) c.args.rest c.halve.rest c.halve.passing c.halve.invariant c.sound.ensures c.in-Some.low c.in-Some.ensures.some c.in-Some.ensures.found
+    halved-behind c.args.self.now (goal.P-post g c.args.test) c.args.rest c.halve.rest c.halve.passing c.halve.invariant c.sound.ensures c.in-Some.low c.in-Some.ensures.some
+    c.in-Some.ensures.found
     (subst (goal.P-post g c.args.test c.in-Some.low.id) c.if-test.true c.test.ensures)
 
 pub halve-preserved : goal.halve-preserved
 halve-preserved g c =
-    halved-before c.args.self.now (goal.P-post g c.args.test) c.args.rest c.halve.rest c.halve.passing c.halve.invariant c.sound.ensures c.in-Some.low c.in-Some.ensures.some c.in-Some.ensures.found
+    halved-before c.args.self.now (goal.P-post g c.args.test) c.args.rest c.halve.rest c.halve.passing c.halve.invariant c.sound.ensures c.in-Some.low c.in-Some.ensures.some
+    c.in-Some.ensures.found
     (subst (goal.P-post g c.args.test c.in-Some.low.id) c.if-test.false c.test.ensures)
 
 pub returns : goal.returns

@@ -19,7 +19,12 @@ put_run-requires-clause-few g c =
     let s = subst AreRuns c.self.view_is c.self.invariant in
     let run = c.in-Some.run'.now in
     let n = c.runs.invariant in
-    omega (arith, (run-at c.args.self.now s n.place run.id run (next-run c.args.self.now s c.runs.walk n.place n.left run (ap option_copied (sym c.in-Some.is) ∙ c.step.ensures.first))).ends, s.few)
+    omega (
+      arith,
+      (run-at c.args.self.now s n.place run.id run
+          (next-run c.args.self.now s c.runs.walk n.place n.left run (ap option_copied (sym c.in-Some.is) ∙ c.step.ensures.first))).ends,
+      s.few,
+    )
 
 pub put_run-requires-clause-within : goal.put_run-requires-clause-within
 put_run-requires-clause-within g c =
@@ -40,9 +45,11 @@ runs-preserved g c =
       place = n.place + 1;
       left = c.step.ensures.rest ∙ ap (drop 1) n.left ∙ drop-drop 1 n.place r.rope;
       gathered = gathers_parts_grow (run_text r.letters) r.rope n.place x tt tt _ _ _ _ _ _ (at-within r.rope n.place x e) n.gathered
-          (subst (λ (z : Item). GathersText {T = Unit {0}} (g.O.Out.seen c.runs.output) (g.O.Out.seen c.put_run.new.output) c.runs.gather c.put_run.new.gather (Ok tt) (run_text r.letters z))
+          (subst (λ (z : Item). GathersText {T = Unit {0}} (g.O.Out.seen c.runs.output) (g.O.Out.seen c.put_run.new.output) c.runs.gather c.put_run.new.gather (Ok tt)
+          (run_text r.letters z))
           (sym (get_or_from_slice_get r.rope n.place x x e))
-          (subst (λ (z : Kept). GathersText {T = Unit {0}} (g.O.Out.seen c.runs.output) (g.O.Out.seen c.put_run.new.output) c.runs.gather c.put_run.new.gather (Ok tt) (run_text z.letters x)) c.self.view_is c.in_ok-put_run.ensures));
+          (subst (λ (z : Kept). GathersText {T = Unit {0}} (g.O.Out.seen c.runs.output) (g.O.Out.seen c.put_run.new.output) c.runs.gather c.put_run.new.gather (Ok tt)
+          (run_text z.letters x)) c.self.view_is c.in_ok-put_run.ensures));
     }
 
 pub runs-smaller : goal.runs-smaller
@@ -57,9 +64,11 @@ returns-in_err-put_run g c =
     let x : Item = (run.id, run) in
     let e = next-run r (subst AreRuns c.self.view_is c.self.invariant) c.runs.walk n.place n.left run (ap option_copied (sym c.in-Some.is) ∙ c.step.ensures.first) in
     let p = err_from_is_err_and c.from_residual.result c.from_residual.ensures.1 in
-    let failed = subst (λ (z : Item). GathersText {T = Unit {0}} (g.O.Out.seen c.runs.output) (g.O.Out.seen c.put_run.new.output) c.runs.gather c.put_run.new.gather (Err (record {})) (run_text r.letters z))
+    let failed = subst (λ (z : Item). GathersText {T = Unit {0}} (g.O.Out.seen c.runs.output) (g.O.Out.seen c.put_run.new.output) c.runs.gather c.put_run.new.gather
+    (Err (record {})) (run_text r.letters z))
     (sym (get_or_from_slice_get r.rope n.place x x e))
-    (subst (λ (z : Kept). GathersText {T = Unit {0}} (g.O.Out.seen c.runs.output) (g.O.Out.seen c.put_run.new.output) c.runs.gather c.put_run.new.gather (Err (record {})) (run_text z.letters x)) c.self.view_is c.in_err-put_run.ensures) in
+    (subst (λ (z : Kept). GathersText {T = Unit {0}} (g.O.Out.seen c.runs.output) (g.O.Out.seen c.put_run.new.output) c.runs.gather c.put_run.new.gather (Err (record {}))
+    (run_text z.letters x)) c.self.view_is c.in_err-put_run.ensures) in
     let stopped = gathers_parts_stop {T = Unit {0}} {S = Unit {0}} (run_text r.letters) r.rope n.place x tt _ _ _ _ _ _ (at-within r.rope n.place x e) n.gathered failed in
     rw p.1 (subst (λ t. GathersText {T = Unit {0}} (g.O.Out.seen c.args.output.now) (g.O.Out.seen c.put_run.new.output) c.args.gather.now c.put_run.new.gather (Err (record {})) t)
     (text-runs r.letters r.rope) stopped)

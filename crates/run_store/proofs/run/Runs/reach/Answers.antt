@@ -10,4 +10,5 @@ pub returns-in-None-clause-none : goal.returns-in-None-clause-none
 returns-in-None-clause-none c =
     let i = c.self.inside in
     subst (λ (z : Kept). IfNone c.find.result (Contains (cell_ids (cells_in z)) c.args.id → ⊥)) c.self.view_is
-    (subst (λ (xs : List Item). IfNone c.find.result (Contains (cell_ids (cells_in (record { rope = xs; letters = i.letters; count = i.count }))) c.args.id → ⊥)) c.keep_at_hand.ensures c.find.ensures.none)
+    (subst (λ (xs : List Item). IfNone c.find.result (Contains (cell_ids (cells_in (record { rope = xs; letters = i.letters; count = i.count }))) c.args.id → ⊥))
+    c.keep_at_hand.ensures c.find.ensures.none)

@@ -60,7 +60,8 @@ invariant_of-self c =
     let put : c.put.new.self ≡ border_shifted b.at b.front b.back i.rope = c.put.ensures.put
     ∙ (λ j. put_under (c.key_of-in-Ok.ensures j) (c.run_to.ensures j) (c.in-Ok.ensures.rekeyed j))
     ∙ (λ j. put_under b.front.id (run_to b.at b.front) (items_rekeyed (c.key_of.ensures j) (key j, rest j) i.rope)) in
-    subst (λ xs. AreRuns (record { rope = xs; letters = i.letters; count = i.count })) (sym put) (taken-sound _ c.self.invariant b.front b.back hiding.border c.requires.0 c.requires.1 b.at hiding.move hiding.taken)
+    subst (λ xs. AreRuns (record { rope = xs; letters = i.letters; count = i.count })) (sym put)
+    (taken-sound _ c.self.invariant b.front b.back hiding.border c.requires.0 c.requires.1 b.at hiding.move hiding.taken)
 
 pub returns-in-Ok : goal.returns-in-Ok
 returns-in-Ok c =
@@ -72,6 +73,7 @@ returns-in-Ok c =
     ∙ (λ j. put_under (c.key_of-in-Ok.ensures j) (c.run_to.ensures j) (c.in-Ok.ensures.rekeyed j))
     ∙ (λ j. put_under b.front.id (run_to b.at b.front) (items_rekeyed (c.key_of.ensures j) (key j, rest j) i.rope)) in
     record {
-      ok = (λ j. record { rope = put j; letters = i.letters; count = i.count }) ∙ ap (λ (z : Kept). record { rope = border_shifted b.at b.front b.back z.rope; letters = z.letters; count = z.count }) c.self.view_is;
+      ok = (λ j. record { rope = put j; letters = i.letters; count = i.count })
+          ∙ ap (λ (z : Kept). record { rope = border_shifted b.at b.front b.back z.rope; letters = z.letters; count = z.count }) c.self.view_is;
       err = tt;
     }

@@ -10,7 +10,8 @@ pub returns-clause-visible : goal.returns-clause-visible
 returns-clause-visible c =
     let id = c.args.run.now.id in
     subst (λ (z : Kept). (i : ℕ) × StandsAt z.rope i id × (c.unwrap.result ≡ weight_sum visible_weight (take i z.rope))) c.self.view_is
-    (subst (λ o. IfSome o (λ w. (i : ℕ) × StandsAt c.self.inside.rope i id × (w ≡ weight_sum visible_weight (take i c.self.inside.rope)))) c.unwrap.ensures c.weight_before.ensures.some)
+    (subst (λ o. IfSome o (λ w. (i : ℕ) × StandsAt c.self.inside.rope i id × (w ≡ weight_sum visible_weight (take i c.self.inside.rope)))) c.unwrap.ensures
+    c.weight_before.ensures.some)
 
 pub returns-clause-few : goal.returns-clause-few
 returns-clause-few c =

@@ -21,12 +21,14 @@ use Rattle.run_store.proofs.store.RunStore.insert_run.Goals as goal
 
 -- the cells with new ones, by the cells and the gap as the caller sees them
 joined : (cs now : List Cell) (i : Gap → List Identifier → ℕ) (g gap : Gap) (id : Identifier) (left right : Option Identifier) (text : List ℕ) (h : Head)
-    → cs ≡ now → gap ≡ g → h ≡ new_head cs id left right → inserted_at (i g (cell_ids cs)) (typed_cells h text) cs ≡ inserted_at (i gap (cell_ids now)) (new_cells now id left right text) now
+    → cs ≡ now → gap ≡ g → h ≡ new_head cs id left right
+    → inserted_at (i g (cell_ids cs)) (typed_cells h text) cs ≡ inserted_at (i gap (cell_ids now)) (new_cells now id left right text) now
 joined cs now i g gap id left right text h e f is =
     ap (λ k. inserted_at (i g (cell_ids cs)) (typed_cells k text) cs) is ∙ (λ j. inserted_at (i (sym f j) (cell_ids (e j))) (new_cells (e j) id left right text) (e j))
 
 -- the new cells may come to the cells
-comes : (cs now : List Cell) → cs ≡ now → (id : Identifier) (left right : Option Identifier) (h : Head) (n : ℕ) → h ≡ new_head cs id left right → IsHead cs h → 0 < n → AreFresh now id n
+comes : (cs now : List Cell) → cs ≡ now → (id : Identifier) (left right : Option Identifier) (h : Head) (n : ℕ) → h ≡ new_head cs id left right → IsHead cs h → 0 < n
+    → AreFresh now id n
     → length now + n ≤ MOST_OPERATIONS → id.counter + n ≤ 2 ^ 32 → MayComeTo cs h n
 comes cs now e id left right h n is head some fresh room counters =
     let own : h.id ≡ id = ap (λ (k : Head). k.id) is in
@@ -40,17 +42,20 @@ comes cs now e id left right h n is head some fresh room counters =
 
 pub begin-requires-clause-new : goal.begin-requires-clause-new
 begin-requires-clause-new c =
-    comes (cells_in c.self.inside.runs) c.args.self.now.cells (ap (λ (s : Stored). s.cells) c.self.view_is) c.args.id c.args.left c.args.right c.new_head-head.result (length c.args.text.now)
+    comes (cells_in c.self.inside.runs) c.args.self.now.cells (ap (λ (s : Stored). s.cells) c.self.view_is) c.args.id c.args.left c.args.right c.new_head-head.result
+    (length c.args.text.now)
     c.new_head-head.ensures.is c.new_head-head.ensures.head c.requires.some c.requires.fresh c.requires.room c.requires.counters
 
 pub insert_before-requires-clause-new : goal.insert_before-requires-clause-new
 insert_before-requires-clause-new c =
-    comes (cells_in c.self.inside.runs) c.args.self.now.cells (ap (λ (s : Stored). s.cells) c.self.view_is) c.args.id c.args.left c.args.right c.new_head-head.result (length c.args.text.now)
+    comes (cells_in c.self.inside.runs) c.args.self.now.cells (ap (λ (s : Stored). s.cells) c.self.view_is) c.args.id c.args.left c.args.right c.new_head-head.result
+    (length c.args.text.now)
     c.new_head-head.ensures.is c.new_head-head.ensures.head c.requires.some c.requires.fresh c.requires.room c.requires.counters
 
 pub insert_behind-requires-clause-new : goal.insert_behind-requires-clause-new
 insert_behind-requires-clause-new c =
-    comes (cells_in c.self.inside.runs) c.args.self.now.cells (ap (λ (s : Stored). s.cells) c.self.view_is) c.args.id c.args.left c.args.right c.new_head-head.result (length c.args.text.now)
+    comes (cells_in c.self.inside.runs) c.args.self.now.cells (ap (λ (s : Stored). s.cells) c.self.view_is) c.args.id c.args.left c.args.right c.new_head-head.result
+    (length c.args.text.now)
     c.new_head-head.ensures.is c.new_head-head.ensures.head c.requires.some c.requires.fresh c.requires.room c.requires.counters
 
 pub begin-requires-clause-held : goal.begin-requires-clause-held
@@ -113,4 +118,5 @@ returns-in-After-clause-continued c =
     on-ok c.insert_behind.result
     (is_continued (cell_of C c.in-After.at) h.id h.left h.right ≡ true → length c.insert_behind.new.self.rope ≡ length c.self.inside.runs.rope)
     (continues c.args.self.now.cells c.args.gap c.args.id c.args.left c.args.right ≡ true → length c.insert_behind.new.self.rope ≡ c.args.self.now.runs)
-    (λ f so. f (ap (λ o. is_continued o h.id h.left h.right) (cell-get c.in-After.at C) ∙ sym t ∙ so) ∙ ap (λ (s : Stored). s.runs) c.self.view_is) c.insert_behind.ensures.continued
+    (λ f so. f (ap (λ o. is_continued o h.id h.left h.right) (cell-get c.in-After.at C) ∙ sym t ∙ so) ∙ ap (λ (s : Stored). s.runs) c.self.view_is)
+    c.insert_behind.ensures.continued

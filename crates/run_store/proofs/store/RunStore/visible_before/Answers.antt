@@ -14,5 +14,6 @@ returns-clause-some c = subst (λ (s : Stored). IfSome c.visible_before.result (
 
 pub returns-clause-none : goal.returns-clause-none
 returns-clause-none c =
-    subst (λ (s : Stored). (IsNone c.visible_before.result → Contains (cell_ids s.cells) c.args.id → ⊥) × ((Contains (cell_ids s.cells) c.args.id → ⊥) → IsNone c.visible_before.result)) c.self.view_is
+    subst (λ (s : Stored). (IsNone c.visible_before.result → Contains (cell_ids s.cells) c.args.id → ⊥)
+    × ((Contains (cell_ids s.cells) c.args.id → ⊥) → IsNone c.visible_before.result)) c.self.view_is
     (none_by _ c.visible_before.ensures.held c.visible_before.ensures.none)

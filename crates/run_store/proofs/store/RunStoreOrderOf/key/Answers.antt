@@ -24,7 +24,8 @@ pub returns-in-None-clause-key : goal.returns-in-None-clause-key
 returns-in-None-clause-key c =
     let cs = cells_in c.self.inside.runs in
     let held = subst (λ is. Contains is c.args.id) (keyed-ids c.args.self.now.cells) c.requires.held in
-    absurd (missing c.args.id cs (from-no-head (cell_of cs c.args.id) c.in-None.ensures.is) (subst (λ (s : Stored). Contains (cell_ids s.cells) c.args.id) (sym c.self.view_is) held))
+    absurd (missing c.args.id cs (from-no-head (cell_of cs c.args.id) c.in-None.ensures.is)
+    (subst (λ (s : Stored). Contains (cell_ids s.cells) c.args.id) (sym c.self.view_is) held))
 
 pub returns-in-None-clause-fit : goal.returns-in-None-clause-fit
 returns-in-None-clause-fit c = subst (λ (s : Stored). All IsFit (keyed_cells s.cells)) c.self.view_is (all-fit c.self.inside.runs c.sound.ensures)

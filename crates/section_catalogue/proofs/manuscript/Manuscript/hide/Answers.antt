@@ -2,7 +2,7 @@ use Rattle.std.proofs.Common.{subst, sym, ◌∙◌}
 use Rattle.std.proofs.lemmas.Result.{on_err_weaker, on_ok_weaker}
 use Rattle.section_catalogue.specs.Changes.{HidesAt, IsUnchanged}
 use Rattle.section_catalogue.specs.Contents.{contents_of}
-use Rattle.section_catalogue.specs.Manuscript.{HasHistory, Hides, PlacesStay, once_hidden}
+use Rattle.section_catalogue.specs.Manuscript.{HasHistory, Hides, RepresentsSame, once_hidden}
 use Rattle.section_catalogue.proofs.ConditionLemmas.{held_at}
 use Rattle.section_catalogue.proofs.HidingLemmas.{stands_hidden}
 use Rattle.section_catalogue.proofs.UnchangedLemmas.{either, stays, still}
@@ -33,4 +33,4 @@ returns-in-Some-clause-ok c =
 pub returns-in-Some-clause-err : goal.returns-in-Some-clause-err
 returns-in-Some-clause-err c =
     let new = contents_of c.hide_at.new.tables in
-    on_err_weaker c.hide_at.result (λ u. subst (λ m. PlacesStay m new) c.self.view_is (stays (contents_of c.self.inside.tables) new u)) c.hide_at.ensures.err
+    on_err_weaker c.hide_at.result (λ u. subst (λ m. RepresentsSame m new) c.self.view_is (stays (contents_of c.self.inside.tables) new u)) c.hide_at.ensures.err

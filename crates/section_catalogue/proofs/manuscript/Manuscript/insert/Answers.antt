@@ -5,7 +5,7 @@ use Rattle.fugue_ids.specs.declared.op.Op.TheVariants.{Section, Text}
 use Rattle.origin_model.specs.declared.operations.Place.TheVariants.{Catalogue as catalogue}
 use Rattle.section_catalogue.specs.Changes.{AddsTyped, AddsSection, IsUnchanged}
 use Rattle.section_catalogue.specs.Contents.{contents_of, place_count, section_at}
-use Rattle.section_catalogue.specs.Manuscript.{GrowsBy, HasHistory, PlacesStay}
+use Rattle.section_catalogue.specs.Manuscript.{GrowsBy, HasHistory, RepresentsSame}
 use Rattle.section_catalogue.proofs.ConditionLemmas.{new_in, no_entry, no_place, ready_here}
 use Rattle.section_catalogue.proofs.GrowthLemmas.{section_stands}
 use Rattle.section_catalogue.proofs.RunLemmas.{room_in, run_asks, run_stands}
@@ -30,7 +30,8 @@ invariant_of-self c =
     let op = Section c.in-Section.id c.in-Section.left c.in-Section.right c.in-Section.title in
     let r = ready_here m c.args.self.now c.args.op.now op c.self.view_is c.in-Section.is c.requires.ready in
     let new = contents_of c.add_section.new.tables in
-    either c.add_section.result (AddsSection m new (record { id = c.in-Section.id; left = c.in-Section.left; right = c.in-Section.right }) c.in-Section.title) (IsUnchanged m new) (HasHistory new) c.add_section.ensures.ok c.add_section.ensures.err
+    either c.add_section.result (AddsSection m new (record { id = c.in-Section.id; left = c.in-Section.left; right = c.in-Section.right }) c.in-Section.title) (IsUnchanged m new)
+    (HasHistory new) c.add_section.ensures.ok c.add_section.ensures.err
     (λ k. record { history = op ∷ r.history; stands = section_stands m new r.history c.in-Section.id c.in-Section.left c.in-Section.right c.in-Section.title r.stands r.ready k })
     (λ u. record { history = r.history; stands = still m new u r.history r.stands })
 
@@ -42,12 +43,14 @@ returns-in-Section-clause-ok c =
     let m = contents_of c.self.inside.tables in
     let new = contents_of c.add_section.new.tables in
     on_ok_weaker c.add_section.result
-    (λ k. subst (λ z. GrowsBy z new c.args.op.now) c.self.view_is (subst (GrowsBy m new) (sym c.in-Section.is) (λ h s r. section_stands m new h c.in-Section.id c.in-Section.left c.in-Section.right c.in-Section.title s r k))) c.add_section.ensures.ok
+    (λ k. subst (λ z. GrowsBy z new c.args.op.now) c.self.view_is
+    (subst (GrowsBy m new) (sym c.in-Section.is) (λ h s r. section_stands m new h c.in-Section.id c.in-Section.left c.in-Section.right c.in-Section.title s r k)))
+    c.add_section.ensures.ok
 
 pub returns-in-Section-clause-err : goal.returns-in-Section-clause-err
 returns-in-Section-clause-err c =
     let new = contents_of c.add_section.new.tables in
-    on_err_weaker c.add_section.result (λ u. subst (λ z. PlacesStay z new) c.self.view_is (stays (contents_of c.self.inside.tables) new u)) c.add_section.ensures.err
+    on_err_weaker c.add_section.result (λ u. subst (λ z. RepresentsSame z new) c.self.view_is (stays (contents_of c.self.inside.tables) new u)) c.add_section.ensures.err
 
 pub add_run-requires : goal.add_run-requires
 add_run-requires c =
@@ -55,7 +58,8 @@ add_run-requires c =
     let op = Text c.in-Text.id c.in-Text.section c.in-Text.left c.in-Text.right c.in-Text.ch in
     let r = ready_here m c.args.self.now c.args.op.now op c.self.view_is c.in-Text.is c.requires.ready in
     let asks = run_asks m r.history r.stands c.in-Text.id c.in-Text.section c.in-Text.left c.in-Text.right (c.in-Text.ch ∷ []) (omega arith) (r.ready, tt) in
-    let counted : place_count m op < MOST_OPERATIONS = subst (λ z. place_count z op < MOST_OPERATIONS) (sym c.self.view_is) (subst (λ o. place_count c.args.self.now o < MOST_OPERATIONS) c.in-Text.is c.requires.room) in
+    let counted : place_count m op < MOST_OPERATIONS =
+    subst (λ z. place_count z op < MOST_OPERATIONS) (sym c.self.view_is) (subst (λ o. place_count c.args.self.now o < MOST_OPERATIONS) c.in-Text.is c.requires.room) in
     record {
       some = omega arith;
       few = omega arith;
@@ -72,8 +76,13 @@ invariant_of-self-in-Text c =
     let op = Text c.in-Text.id c.in-Text.section c.in-Text.left c.in-Text.right c.in-Text.ch in
     let r = ready_here m c.args.self.now c.args.op.now op c.self.view_is c.in-Text.is c.requires.ready in
     let new = contents_of c.add_run.new.tables in
-    either c.add_run.result (AddsTyped m new c.in-Text.section (record { id = c.in-Text.id; left = c.in-Text.left; right = c.in-Text.right }) (c.in-Text.ch ∷ [])) (IsUnchanged m new) (HasHistory new) c.add_run.ensures.ok c.add_run.ensures.err
-    (λ k. record { history = op ∷ r.history; stands = run_stands (c.in-Text.ch ∷ []) m new r.history c.in-Text.id c.in-Text.section c.in-Text.left c.in-Text.right r.stands (r.ready, tt) k })
+    either c.add_run.result (AddsTyped m new c.in-Text.section (record { id = c.in-Text.id; left = c.in-Text.left; right = c.in-Text.right }) (c.in-Text.ch ∷ []))
+    (IsUnchanged m new) (HasHistory new) c.add_run.ensures.ok c.add_run.ensures.err
+    (λ k. record {
+      history = op ∷ r.history;
+      stands = run_stands (c.in-Text.ch ∷ []) m new r.history c.in-Text.id c.in-Text.section c.in-Text.left c.in-Text.right r.stands
+          (r.ready, tt) k;
+    })
     (λ u. record { history = r.history; stands = still m new u r.history r.stands })
 
 pub returns-in-Text-clause-has_history : goal.returns-in-Text-clause-has_history
@@ -85,9 +94,10 @@ returns-in-Text-clause-ok c =
     let new = contents_of c.add_run.new.tables in
     on_ok_weaker c.add_run.result
     (λ k. subst (λ z. GrowsBy z new c.args.op.now) c.self.view_is
-    (subst (GrowsBy m new) (sym c.in-Text.is) (λ h s r. run_stands (c.in-Text.ch ∷ []) m new h c.in-Text.id c.in-Text.section c.in-Text.left c.in-Text.right s (r, tt) k))) c.add_run.ensures.ok
+    (subst (GrowsBy m new) (sym c.in-Text.is) (λ h s r. run_stands (c.in-Text.ch ∷ []) m new h c.in-Text.id c.in-Text.section c.in-Text.left c.in-Text.right s (r, tt) k)))
+    c.add_run.ensures.ok
 
 pub returns-in-Text-clause-err : goal.returns-in-Text-clause-err
 returns-in-Text-clause-err c =
     let new = contents_of c.add_run.new.tables in
-    on_err_weaker c.add_run.result (λ u. subst (λ z. PlacesStay z new) c.self.view_is (stays (contents_of c.self.inside.tables) new u)) c.add_run.ensures.err
+    on_err_weaker c.add_run.result (λ u. subst (λ z. RepresentsSame z new) c.self.view_is (stays (contents_of c.self.inside.tables) new u)) c.add_run.ensures.err

@@ -6,7 +6,7 @@ use Rattle.origin_model.specs.edits.Edits.{history_with}
 use Rattle.origin_model.specs.declared.operations.Place.TheVariants.{Section as within}
 use Rattle.section_catalogue.specs.Changes.{AddsTyped, IsUnchanged}
 use Rattle.section_catalogue.specs.Contents.{Contents, contents_of, section_at, section_count_at}
-use Rattle.section_catalogue.specs.Manuscript.{GrowsByAll, HasHistory, PlacesStay}
+use Rattle.section_catalogue.specs.Manuscript.{GrowsByAll, HasHistory, RepresentsSame}
 use Rattle.section_catalogue.proofs.RunLemmas.{all_ready_here, room_in, run_asks, run_stands}
 use Rattle.section_catalogue.proofs.UnchangedLemmas.{either, stays, still}
 use Rattle.section_catalogue.proofs.manuscript.Manuscript.insert_run.Goals as goal
@@ -37,8 +37,12 @@ invariant_of-self c =
     let text = c.args.text.now in
     let r = all_ready_here m c.args.self.now (run_from start text) c.self.view_is c.requires.ready in
     let new = contents_of c.add_run.new.tables in
-    either c.add_run.result (AddsTyped m new start.section (record { id = start.id; left = start.left; right = start.right }) text) (IsUnchanged m new) (HasHistory new) c.add_run.ensures.ok c.add_run.ensures.err
-    (λ k. record { history = history_with r.history (run_from start text); stands = run_stands text m new r.history start.id start.section start.left start.right r.stands r.ready k })
+    either c.add_run.result (AddsTyped m new start.section (record { id = start.id; left = start.left; right = start.right }) text) (IsUnchanged m new)
+    (HasHistory new) c.add_run.ensures.ok c.add_run.ensures.err
+    (λ k. record {
+      history = history_with r.history (run_from start text);
+      stands = run_stands text m new r.history start.id start.section start.left start.right r.stands r.ready k;
+    })
     (λ u. record { history = r.history; stands = still m new u r.history r.stands })
 
 pub returns-clause-has_history : goal.returns-clause-has_history
@@ -51,9 +55,10 @@ returns-clause-ok c =
     let text = c.args.text.now in
     let new = contents_of c.add_run.new.tables in
     on_ok_weaker c.add_run.result
-    (λ k. subst (λ z. GrowsByAll z new (run_from start text)) c.self.view_is (λ h s r. run_stands text m new h start.id start.section start.left start.right s r k)) c.add_run.ensures.ok
+    (λ k. subst (λ z. GrowsByAll z new (run_from start text)) c.self.view_is (λ h s r. run_stands text m new h start.id start.section start.left start.right s r k))
+    c.add_run.ensures.ok
 
 pub returns-clause-err : goal.returns-clause-err
 returns-clause-err c =
     let new = contents_of c.add_run.new.tables in
-    on_err_weaker c.add_run.result (λ u. subst (λ z. PlacesStay z new) c.self.view_is (stays (contents_of c.self.inside.tables) new u)) c.add_run.ensures.err
+    on_err_weaker c.add_run.result (λ u. subst (λ z. RepresentsSame z new) c.self.view_is (stays (contents_of c.self.inside.tables) new u)) c.add_run.ensures.err

@@ -1,5 +1,8 @@
 use Rattle.std.proofs.Common.{[], refl, subst, sym}
+use Rattle.std.proofs.lemmas.List.Elements.{All-nil}
 use Rattle.origin_model.specs.order.Order.{order}
+use Rattle.section_list.specs.SectionList.{IsOfNode}
+use Rattle.section_catalogue.specs.Place.{IsCellIn}
 use Rattle.section_catalogue.specs.Manuscript.{HasHistory, Represents, empty_contents}
 use Rattle.section_catalogue.proofs.manuscript.Manuscript.new.Goals as goal
 
@@ -8,7 +11,12 @@ stands : Represents empty_contents []
 unfolding order
 stands = record {
   lawful = tt;
-  sections = record { in_order = record { are_nodes = tt; in_order = refl }; same_nodes = λ x. refl; cells = refl };
+  sections = record {
+    in_order = record { are_nodes = tt; in_order = refl; each = All-nil (IsOfNode []) };
+    same_nodes = λ x. refl;
+    listed = refl;
+    each = All-nil (IsCellIn []);
+  };
   titles = λ s. refl;
   texts = λ s. tt;
   places = λ x. refl;

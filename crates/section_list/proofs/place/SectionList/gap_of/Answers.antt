@@ -1,15 +1,11 @@
 use Rattle.std.proofs.Common.{ap, subst, ◌∙◌}
 use Rattle.origin_model.specs.sides.Keys.{keyed_order}
-use Rattle.origin_model.specs.sides.Node.{AreNodes}
 use Rattle.origin_model.specs.sides.Slot.{IsBeside, at_gap}
-use Rattle.section_list.specs.Cells.{section_cell_ids}
+use Rattle.run_store.specs.Cells.{cell_ids}
 use Rattle.section_list.specs.SectionList.{Listing}
-use Rattle.section_list.proofs.GrowthLemmas.{listed_ids}
+use Rattle.run_store.proofs.KeyLemmas.{keyed-ids}
 use Rattle.section_list.proofs.KeptLemmas.{keyed_kept}
 use Rattle.section_list.proofs.place.SectionList.gap_of.Goals as goal
-
-pub find_gap-requires-clause-new : goal.find_gap-requires-clause-new
-find_gap-requires-clause-new c = (c.requires, subst (λ (s : Listing). AreNodes s.nodes) c.self.view_is c.self.invariant.are_nodes)
 
 pub find_gap-requires-clause-list : goal.find_gap-requires-clause-list
 find_gap-requires-clause-list c =
@@ -17,10 +13,10 @@ find_gap-requires-clause-list c =
 
 pub returns-clause-place : goal.returns-clause-place
 returns-clause-place c =
-    let ids = listed_ids c.self.inside.store.cells ∙ ap (λ (s : Listing). section_cell_ids s.cells) c.self.view_is in
+    let ids = keyed-ids c.self.inside.store.cells ∙ ap (λ (s : Listing). cell_ids s.cells) c.self.view_is in
     c.find_gap.ensures.place ∙ ap (at_gap c.find_gap.result c.args.node.now.id) ids
 
 pub returns-clause-beside : goal.returns-clause-beside
 returns-clause-beside c =
-    let ids = listed_ids c.self.inside.store.cells ∙ ap (λ (s : Listing). section_cell_ids s.cells) c.self.view_is in
+    let ids = keyed-ids c.self.inside.store.cells ∙ ap (λ (s : Listing). cell_ids s.cells) c.self.view_is in
     subst (IsBeside c.find_gap.result) ids c.find_gap.ensures.beside

@@ -1,16 +1,14 @@
-use Rattle.std.proofs.Common.{ap, length, subst, sym, true, ℕ, ◌+◌, ◌<◌, ◌∙◌, ◌≡◌, ◌≤◌}
-use Rattle.std.proofs.lemmas.Result.{err_from_is_err_and}
+use Rattle.std.proofs.Common.{ap, length, subst, sym, true, ℕ, ◌<◌, ◌∙◌, ◌≡◌}
 use Rattle.fugue_ids.proofs.RunLemmas.{none_behind}
-use Rattle.fugue_ids.specs.declared.limits.TheConstants.{MOST_OPERATIONS}
 use Rattle.origin_model.specs.sides.Node.{IsNew, has_node, has_origin}
 use Rattle.origin_model.specs.declared.operations.node.Node.{Node}
-use Rattle.section_list.specs.Kept.{KeepsNodes}
 use Rattle.section_list.specs.SectionList.{AreNoNodes, Listing, with_elements}
-use Rattle.section_list.proofs.GrowthLemmas.{are_fresh, grown_kept, is_grown, joins, seen, seen_in_order, seen_length}
+use Rattle.section_list.proofs.GrowthLemmas.{are_fresh, grown_kept, is_grown, joins}
 use Rattle.section_list.proofs.place.SectionList.insert_run.Goals as goal
 
 -- the first node is new in the place that was looked at, which is the same
-new_here : (now old : Listing) (n : Node) (count : ℕ) → now ≡ old → 0 < count → AreNoNodes old.nodes n.id count → has_origin old.nodes n.left ≡ true → has_origin old.nodes n.right ≡ true → IsNew now.nodes n
+new_here : (now old : Listing) (n : Node) (count : ℕ) → now ≡ old → 0 < count → AreNoNodes old.nodes n.id count → has_origin old.nodes n.left ≡ true
+    → has_origin old.nodes n.right ≡ true → IsNew now.nodes n
 new_here now old n count same some fresh l r =
     subst (λ (s : Listing). IsNew s.nodes n) (sym same) (record { fresh = ap (has_node old.nodes) (sym (none_behind n.id)) ∙ fresh 0 some; left = l; right = r })
 
@@ -24,7 +22,8 @@ gap_of-gap-requires c = new_here _ _ c.args.first.now (length c.args.text.now) c
 pub insert_run-requires-clause-fresh : goal.insert_run-requires-clause-fresh
 insert_run-requires-clause-fresh c =
     let new = new_here _ _ c.args.first.now (length c.args.text.now) c.look_at.ensures c.requires.some c.requires.fresh c.requires.left c.requires.right in
-    are_fresh _ _ _ _ (joins _ _ c.self.invariant _ c.self.view_is _ new c.gap_of-gap.result c.gap_of-gap.ensures.place c.gap_of-gap.ensures.beside c.gap_of-gap.ensures.alone) (length c.args.text.now)
+    are_fresh _ _ _ _ (joins _ _ c.self.invariant _ c.self.view_is _ new c.gap_of-gap.result c.gap_of-gap.ensures.place c.gap_of-gap.ensures.beside c.gap_of-gap.ensures.alone)
+    (length c.args.text.now)
     (unheld _ _ _ c.args.first.now (length c.args.text.now) c.self.view_is c.look_at.ensures c.requires.fresh)
 
 pub insert_run-requires-clause-beside : goal.insert_run-requires-clause-beside
@@ -37,27 +36,12 @@ insert_run-requires-clause-alone c =
     let new = new_here _ _ c.args.first.now (length c.args.text.now) c.look_at.ensures c.requires.some c.requires.fresh c.requires.left c.requires.right in
     (joins _ _ c.self.invariant _ c.self.view_is _ new c.gap_of-gap.result c.gap_of-gap.ensures.place c.gap_of-gap.ensures.beside c.gap_of-gap.ensures.alone).alone
 
-pub insert_run-requires-clause-room : goal.insert_run-requires-clause-room
-insert_run-requires-clause-room c =
-    subst (λ k. k + length c.args.text.now ≤ MOST_OPERATIONS) (ap (λ (s : Listing). length s.cells) (sym c.look_at.ensures ∙ sym c.self.view_is) ∙ seen_length c.self.inside.store.cells) c.requires.room
-
-pub invariant_of-self : goal.invariant_of-self
-invariant_of-self c = subst (KeepsNodes c.self.inside.ages.nodes) (sym c.in_err-insert_run.ensures.err) c.self.invariant
-
 pub invariant_of-self-2 : goal.invariant_of-self-2
 invariant_of-self-2 c =
     let new = new_here _ _ c.args.first.now (length c.args.text.now) c.look_at.ensures c.requires.some c.requires.fresh c.requires.left c.requires.right in
     let joined = joins _ _ c.self.invariant _ c.self.view_is _ new c.gap_of-gap.result c.gap_of-gap.ensures.place c.gap_of-gap.ensures.beside c.gap_of-gap.ensures.alone in
     grown_kept _ _ _ _ joined c.with_run-self-inside.result.nodes c.insert_run.new.self.cells c.args.text.now c.requires.some
     (unheld _ _ _ c.args.first.now (length c.args.text.now) c.self.view_is c.look_at.ensures c.requires.fresh) c.with_run-self-inside.ensures c.in_ok-insert_run.ensures.ok
-
-pub returns-in_err-insert_run-clause-err : goal.returns-in_err-insert_run-clause-err
-returns-in_err-insert_run-clause-err c =
-    let p = err_from_is_err_and c.from_residual.result c.from_residual.ensures.1 in
-    rw p.1 (ap (seen c.self.inside.ages.nodes) c.in_err-insert_run.ensures.err ∙ c.self.view_is ∙ c.look_at.ensures)
-
-pub returns-in_err-insert_run-clause-in_order : goal.returns-in_err-insert_run-clause-in_order
-returns-in_err-insert_run-clause-in_order c = seen_in_order c.self.inside.ages.nodes c.insert_run.new.self.cells (invariant_of-self c)
 
 pub returns-clause-ok : goal.returns-clause-ok
 returns-clause-ok c =
@@ -68,4 +52,4 @@ returns-clause-ok c =
     ∙ ap (with_elements c.args.first.now c.args.text.now) (c.self.view_is ∙ c.look_at.ensures)
 
 pub returns-clause-in_order : goal.returns-clause-in_order
-returns-clause-in_order c = seen_in_order c.with_run-self-inside.result.nodes c.insert_run.new.self.cells (invariant_of-self-2 c)
+returns-clause-in_order c = invariant_of-self-2 c

@@ -1,5 +1,6 @@
 -- `new` makes no bytes, at the empty list.
-use Rattle.sided_tree.proofs.Words.{[], ◌∷◌, refl, vstruct, vnil, tables, raw, ‵, ◌⊛◌, ◌$◌, ◌∵◌, !, qed, move, keep, split, suffices, done, agg, enter, returns, no_more, alloc_all, pass_all, free_all, look_at, sets, owns, pure_i, alive, says, walk_of, ends_at, proved, Ages, the_row}
+use Rattle.sided_tree.proofs.Words.{[], ◌∷◌, refl, vstruct, vnil, tables, raw, ‵, ◌⊛◌, ◌$◌, ◌∵◌, !, qed, move, keep, split, suffices, done, agg, enter, returns, no_more, alloc_all}
+use Rattle.sided_tree.proofs.Words.{pass_all, free_all, look_at, sets, owns, pure_i, alive, says, walk_of, ends_at, proved, Ages, the_row}
 use Rattle.sided_tree.specs.contracts.ages.Ages.new as f
 use Rattle.sided_tree.specs.contracts.ages.Ages.new.Key.{name}
 use Rattle.sided_tree.proofs.ages.Ages.new.Statement.{statement}

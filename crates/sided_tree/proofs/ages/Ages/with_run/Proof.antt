@@ -1,5 +1,7 @@
 -- `with_run` makes no bytes, at the list with those of the run.
-use Rattle.sided_tree.proofs.Words.{[], ◌∷◌, refl, named, Val, vptr, vstruct, vnil, tables, raw, ‵, ◌⊛◌, ◌$◌, ◌∵◌, !, qed, move, keep, split, suffices, done, agg, enter, returns, no_more, alloc_all, pass_all, free_all, look_at, sets, yes, owns, shr_vals, shr_Tells, pure_i, plain, types_at, alive, says, Stays, stay_none_ref, Goes-none_ref, walk_of, ends_at, proved, Ages, the_row}
+use Rattle.sided_tree.proofs.Words.{[], ◌∷◌, refl, named, Val, vptr, vstruct, vnil, tables, raw, ‵, ◌⊛◌, ◌$◌, ◌∵◌, !, qed, move, keep, split, suffices, done, agg, enter, returns}
+use Rattle.sided_tree.proofs.Words.{no_more, alloc_all, pass_all, free_all, look_at, sets, yes, owns, shr_vals, shr_Tells, pure_i, plain, types_at, alive, says, Stays}
+use Rattle.sided_tree.proofs.Words.{stay_none_ref, Goes-none_ref, walk_of, ends_at, proved, Ages, the_row}
 use Rattle.sided_tree.specs.Rows.{run_nodes}
 use Rattle.sided_tree.specs.contracts.ages.NodeRun as run
 use Rattle.sided_tree.specs.contracts.ages.Ages.with_run as f

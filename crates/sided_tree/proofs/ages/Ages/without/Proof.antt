@@ -1,5 +1,7 @@
 -- `without` makes no bytes, at the list with one less.
-use Rattle.sided_tree.proofs.Words.{[], ◌∷◌, refl, named, Val, vptr, vstruct, vnil, tables, raw, ‵, ◌⊛◌, ◌$◌, ◌∵◌, !, qed, move, keep, split, suffices, done, agg, enter, returns, no_more, alloc_all, pass_all, free_all, look_at, sets, yes, owns, shr_vals, shr_Tells, pure_i, plain, types_at, alive, says, Stays, stay_none_ref, Goes-none_ref, walk_of, ends_at, proved, Ages, the_row}
+use Rattle.sided_tree.proofs.Words.{[], ◌∷◌, refl, named, Val, vptr, vstruct, vnil, tables, raw, ‵, ◌⊛◌, ◌$◌, ◌∵◌, !, qed, move, keep, split, suffices, done, agg, enter, returns}
+use Rattle.sided_tree.proofs.Words.{no_more, alloc_all, pass_all, free_all, look_at, sets, yes, owns, shr_vals, shr_Tells, pure_i, plain, types_at, alive, says, Stays}
+use Rattle.sided_tree.proofs.Words.{stay_none_ref, Goes-none_ref, walk_of, ends_at, proved, Ages, the_row}
 use Rattle.fugue_ids.specs.contracts.element_id.ElementId as id
 use Rattle.origin_model.specs.sides.Detached.{without}
 use Rattle.sided_tree.specs.contracts.ages.Ages.without as f

@@ -14,4 +14,5 @@ insert_run-requires-clause-free g c = only_first (map.get c.args.self.now.values
 pub returns-clause-ok : goal.returns-clause-ok
 returns-clause-ok g c =
     subst (λ s. OnOk c.insert_run.result (c.insert_run.new.self ≡ s))
-    (λ i. record { values = run_of_one g.V.Follows.nth g.met.V.Follows.at_start c.args.key c.args.value c.args.self.now.values i; newest = Some (none_behind c.args.key i) }) c.insert_run.ensures.ok
+    (λ i. record { values = run_of_one g.V.Follows.nth g.met.V.Follows.at_start c.args.key c.args.value c.args.self.now.values i; newest = Some (none_behind c.args.key i) })
+    c.insert_run.ensures.ok

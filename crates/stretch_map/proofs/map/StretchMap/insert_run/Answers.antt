@@ -13,7 +13,8 @@ pub put-requires-clause-comes : goal.put-requires-clause-comes
 put-requires-clause-comes g c =
     let old = layout c.self.inside.stretches in
     let last = ap (λ (x : Identifier). x.counter + (c.args.count - 1)) c.first.view_is in
-    can_come g.V.Follows.nth g.V.Follows.reaches old (map.get c.args.self.now.values) (λ q. sym (ap (λ h. map.get h.values q) c.self.view_is) ∙ get-contents g.V.Follows.nth old q) c.args.first
+    can_come g.V.Follows.nth g.V.Follows.reaches old (map.get c.args.self.now.values)
+    (λ q. sym (ap (λ h. map.get h.values q) c.self.view_is) ∙ get-contents g.V.Follows.nth old q) c.args.first
     c.args.value c.args.count (c.first.inside.counter + (c.args.count - 1)) c.requires.some last c.requires.reached c.requires.free
 
 pub returns-in_err-put-clause-sure : goal.returns-in_err-put-clause-sure
@@ -31,7 +32,8 @@ invariant_of-self-3 g c =
     let adds = c.in_ok-put.ensures.ok in
     record {
       are = adds.are;
-      ends = subst (λ (x : Identifier). EndsAt (layout c.put.new.stretches) (record { replica = x.replica; counter = c.first.inside.counter + (c.args.count - 1) })) (sym c.first-2.view_is) adds.ends;
+      ends = subst (λ (x : Identifier). EndsAt (layout c.put.new.stretches) (record { replica = x.replica; counter = c.first.inside.counter + (c.args.count - 1) }))
+          (sym c.first-2.view_is) adds.ends;
     }
 
 pub returns-clause-ok : goal.returns-clause-ok
@@ -39,7 +41,8 @@ returns-clause-ok g c =
     let n = c.args.count in
     let last = ap (λ (x : Identifier). x.counter + (n - 1)) c.first.view_is in
     let values =
-    contents-adds g.V.Follows.nth g.V.Follows.reaches (layout c.self.inside.stretches) (layout c.put.new.stretches) c.args.first c.args.value n (c.first.inside.counter + (n - 1)) c.requires.some last
+    contents-adds g.V.Follows.nth g.V.Follows.reaches (layout c.self.inside.stretches) (layout c.put.new.stretches) c.args.first c.args.value n
+    (c.first.inside.counter + (n - 1)) c.requires.some last
     c.in_ok-put.ensures.ok
     ∙ ap (λ h. with_run g.V.Follows.nth c.args.first c.args.value n h.values) c.self.view_is
     in

@@ -12,11 +12,14 @@ invariant_of-self c =
     let k = c.self.inside in
     let i = c.self.invariant in
     let some : 0 < c.self.inside.calls = omega (arith, ap (λ v. v.calls) c.self.view_is, c.requires.calls) in
-    let inside : c.args.at ≤ length c.self.inside.bytes.items = omega (arith, ap (λ v. length v.past.last.seen) c.self.view_is, ap (λ (s : DiskState). length s.seen) c.self.invariant.0, c.requires.inside) in
+    let inside : c.args.at ≤ length c.self.inside.bytes.items =
+    omega (arith, ap (λ v. length v.past.last.seen) c.self.view_is, ap (λ (s : DiskState). length s.seen) c.self.invariant.0, c.requires.inside) in
     let fits : length c.args.bytes.now ≤ c.self.inside.room = omega (arith, ap (λ v. v.room) c.self.view_is, c.requires.room) in
-    let is = wrote_is k.fresh k.calls i.3 some k.bytes.items c.overwrite.new.old.items k.base.items c.args.bytes.now k.ranges.items c.add-2.new.old.items k.longest c.max-self-inside.result c.args.at
+    let is = wrote_is k.fresh k.calls i.3 some k.bytes.items c.overwrite.new.old.items k.base.items c.args.bytes.now k.ranges.items c.add-2.new.old.items k.longest
+    c.max-self-inside.result c.args.at
     c.overwrite.ensures.items c.add-2.ensures.items (omega (arith, c.max-self-inside.ensures)) in
-    let past = next_past k.fresh k.calls i.3 some k.bytes.items c.overwrite.new.old.items k.first.items k.written.items c.append.new.old.items c.args.bytes.now k.steps.items c.add.new.old.items
+    let past = next_past k.fresh k.calls i.3 some k.bytes.items c.overwrite.new.old.items k.first.items k.written.items c.append.new.old.items c.args.bytes.now k.steps.items
+    c.add.new.old.items
     (Wrote c.args.at (length c.args.bytes.now)) c.add.ensures.items c.append.ensures.items i.2 refl in
     let long : length c.overwrite.new.old.items ≤ max (length k.bytes.items) (c.args.at + length c.args.bytes.now) =
     omega (arith, ap length c.overwrite.ensures.items, (same_outside c.args.at c.args.bytes.now k.bytes.items inside).no_longer) in (
@@ -38,7 +41,8 @@ returns c =
     let k = c.self.inside in
     let i = c.self.invariant in
     let some : 0 < c.self.inside.calls = omega (arith, ap (λ v. v.calls) c.self.view_is, c.requires.calls) in
-    let past = next_past k.fresh k.calls i.3 some k.bytes.items c.overwrite.new.old.items k.first.items k.written.items c.append.new.old.items c.args.bytes.now k.steps.items c.add.new.old.items
+    let past = next_past k.fresh k.calls i.3 some k.bytes.items c.overwrite.new.old.items k.first.items k.written.items c.append.new.old.items c.args.bytes.now k.steps.items
+    c.add.new.old.items
     (Wrote c.args.at (length c.args.bytes.now)) c.add.ensures.items c.append.ensures.items i.2 refl in
     λ j. record {
       past = (past ∙ ap (λ v. history_after_step (wrote c.args.at c.args.bytes.now) v.past) c.self.view_is) j;

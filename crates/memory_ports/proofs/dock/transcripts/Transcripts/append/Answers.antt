@@ -21,14 +21,16 @@ returns-in-Some-clause-sent c =
     let found : position (λ transcript. nat_eq transcript.session c.args.session) c.self.inside.transcripts.items ≡ Some c.in-Some.at
     = ap (position (λ transcript. nat_eq transcript.session c.args.session)) c.self.view_is ∙ sym c.position_of.ensures ∙ c.in-Some.is in
     let is = log_found _ _ _ _ found c.index_mut.ensures.value in
-    rw (sym c.self.view_is) (ap sent_in (log_set _ _ _ _ found c.index_mut.ensures.value c.append.new.self (ap (λ l. l.session) c.append.ensures)) ∙ ap (λ l. l.bytes) c.append.ensures ∙ ap (λ (o : Option TranscriptView). sent_in o ++ c.args.bytes.now) (sym is))
+    rw (sym c.self.view_is) (ap sent_in (log_set _ _ _ _ found c.index_mut.ensures.value c.append.new.self (ap (λ l. l.session) c.append.ensures))
+    ∙ ap (λ l. l.bytes) c.append.ensures ∙ ap (λ (o : Option TranscriptView). sent_in o ++ c.args.bytes.now) (sym is))
 
 pub returns-in-Some-clause-room : goal.returns-in-Some-clause-room
 returns-in-Some-clause-room c =
     let found : position (λ transcript. nat_eq transcript.session c.args.session) c.self.inside.transcripts.items ≡ Some c.in-Some.at
     = ap (position (λ transcript. nat_eq transcript.session c.args.session)) c.self.view_is ∙ sym c.position_of.ensures ∙ c.in-Some.is in
     let is = log_found _ _ _ _ found c.index_mut.ensures.value in
-    rw (sym c.self.view_is) (ap room_in (log_set _ _ _ _ found c.index_mut.ensures.value c.append.new.self (ap (λ l. l.session) c.append.ensures)) ∙ ap (λ l. l.room) c.append.ensures ∙ ap (λ (o : Option TranscriptView). room_in o - length c.args.bytes.now) (sym is))
+    rw (sym c.self.view_is) (ap room_in (log_set _ _ _ _ found c.index_mut.ensures.value c.append.new.self (ap (λ l. l.session) c.append.ensures))
+    ∙ ap (λ l. l.room) c.append.ensures ∙ ap (λ (o : Option TranscriptView). room_in o - length c.args.bytes.now) (sym is))
 
 pub returns-in-Some-clause-others : goal.returns-in-Some-clause-others
 returns-in-Some-clause-others c s differs =

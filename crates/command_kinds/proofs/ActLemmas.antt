@@ -1,0 +1,98 @@
+-- What follows for every command that performs an act, whatever the act is.
+use Rattle.std.proofs.Common.{◌≡◌, ◌≢◌, ℕ, List, inl, inr, refl, sym, subst, ◌∙◌}
+use Rattle.std.specs.Prelude.{None, Ok, Option, Err, Result, Some}
+use Rattle.fugue_ids.specs.Causes.{Faulted}
+use Rattle.fugue_ids.specs.Outs.{OutView}
+use Rattle.command_kinds.specs.Acts.{Act, NotesLine, NotesResult, Performs, TellsResult}
+use Rattle.command_kinds.specs.Changes.{Change, HasRoom, OutBlameless, notes_room}
+use Rattle.command_kinds.specs.Crashes.{IsFinished}
+use Rattle.command_kinds.specs.Findings.{IsDecided}
+use Rattle.command_kinds.specs.Refusal.{refusal_line, status_of, Reported}
+use Rattle.command_kinds.specs.TextOut.{GoesOut}
+use Rattle.command_kinds.specs.declared.refusal.Refusal.{Refusal}
+use Rattle.command_kinds.specs.declared.refusal.Refusal.TheVariants as refusal
+use Rattle.command_kinds.specs.declared.status.Status.{Status}
+use Rattle.command_kinds.specs.declared.status.Status.TheVariants as status
+use Rattle.command_kinds.proofs.TextLemmas.{told_blameless}
+
+-- a refusal is no end at which all was done
+pub refusal_unfinished : (why : Refusal) → IsFinished (status_of why) → ⊥
+refusal_unfinished refusal.Words done = elim done [ inl is ↦ cc is | inr is ↦ cc is ]
+refusal_unfinished why done = elim done [ inl is ↦ cc is | inr is ↦ cc is ]
+
+-- one refusal alone ends with an outside fault
+pub outside_alone : (why : Refusal) → status_of why ≡ status.OutsideFault → why ≡ refusal.Outside
+outside_alone refusal.Outside is = refl
+outside_alone why is = cc is
+
+-- a command that did all ends in no outside fault
+pub finished_inside : (end : Status) → IsFinished end → end ≢ status.OutsideFault
+finished_inside end (inl done) fault = let e = sym done ∙ fault in cc e
+finished_inside end (inr some) fault = let e = sym some ∙ fault in cc e
+
+-- why an act stopped was noted
+pub told_result : {T : Type 0} (line : T → Option (List ℕ)) (ends : T → Status) (why : Refusal) (notes : Change OutView)
+    → Reported notes.old notes.new (refusal_line why) → TellsResult line ends (Err why) notes (status_of why)
+told_result line ends why notes told = record { noted = (told, refl); calm = told.calm; blameless = told_blameless why notes told }
+
+-- an act stopped, and why was noted
+pub told_performs : {T : Type 0} (act : Act T) (notes : Change OutView) (why : Refusal) → act.Comes (Err why)
+    → Reported notes.old notes.new (refusal_line why) → Performs act notes (status_of why)
+told_performs act notes why did told = record { result = Err why; did = did; told = told_result act.line act.status why notes told }
+
+-- a command that ends in no outside fault met none
+pub inside_result : {T : Type 0} (line : T → Option (List ℕ)) (ends : T → Status) (result : Result T Refusal) (notes : Change OutView) (end : Status)
+    → NotesResult line ends result notes end → end ≢ status.OutsideFault → result ≢ Err refusal.Outside
+inside_result line ends (Ok done) notes end noted inside is = cc is
+inside_result line ends (Err why) notes end noted inside is =
+    let same : why ≡ refusal.Outside = cc is in inside (noted.1 ∙ (λ i. status_of (same i)))
+
+-- a command that ends in no outside fault met none in its act
+pub performs_met_none : {T : Type 0} (act : Act T) (notes : Change OutView) (end : Status) (performs : Performs act notes end)
+    → end ≢ status.OutsideFault → performs.result ≢ Err refusal.Outside
+performs_met_none act notes end performs inside = inside_result act.line act.status performs.result notes end performs.told.noted inside
+
+-- so an output that tells its faults counted none
+pub goes_blameless : (bytes : List ℕ) (output : Change OutView) (result : Result (Unit {0}) Refusal) (end : Status) → GoesOut bytes output result
+    → (end ≢ status.OutsideFault → result ≢ Err refusal.Outside) → OutBlameless output end
+goes_blameless bytes output result end goes met tells inside = goes.told tells (met inside)
+
+module _ {T : Type 0} (act : Act T) (notes : Change OutView) (end : Status) (performs : Performs act notes end) where
+  -- a command that ended as one that did all did all, and noted it
+  pub did_all : IsFinished end → (done : T) × act.Comes (Ok done) × NotesLine (act.line done) (act.status done) notes end
+  did_all finished = by_result performs.result performs.did performs.told.noted
+    where
+      by_result : (result : Result T Refusal) → act.Comes result → NotesResult act.line act.status result notes end
+          → (done : T) × act.Comes (Ok done) × NotesLine (act.line done) (act.status done) notes end
+      by_result (Ok done) did noted = (done, did, noted)
+      by_result (Err why) did noted = absurd (refusal_unfinished why (subst IsFinished noted.1 finished))
+
+  -- where the act meets no fault of the outside, and what is noted fits, the command ends in none
+  pub performs_inside : ((done : T) → IsFinished (act.status done)) → ((done : T) → act.line done ≢ None → HasRoom notes_room notes.old)
+      → performs.result ≢ Err refusal.Outside → end ≢ status.OutsideFault
+  performs_inside finished fits sure outside = by_result performs.result refl performs.told.noted
+    where
+      by_line : (line : Option (List ℕ)) (done : T) → (line ≢ None → HasRoom notes_room notes.old) → NotesLine line (act.status done) notes end → ⊥
+      by_line None done room noted = finished_inside (act.status done) (finished done) (sym noted.1 ∙ outside)
+      by_line (Some line) done room (inl took) = finished_inside (act.status done) (finished done) (sym took.end_is ∙ outside)
+      by_line (Some line) done room (inr failed) = failed.0.no_room (room (λ is. cc is))
+
+      by_result : (result : Result T Refusal) → performs.result ≡ result → NotesResult act.line act.status result notes end → ⊥
+      by_result (Ok done) is noted = by_line (act.line done) done (fits done) noted
+      by_result (Err why) is noted = let blamed = outside_alone why (sym noted.1 ∙ outside) in sure (is ∙ (λ i. Err (blamed i)))
+
+  -- the status follows where that of what was done and of each refusal does
+  pub performs_decided : (wanted : Status) (fails : Type 0) → ((done : T) → act.Comes (Ok done) → act.status done ≡ wanted)
+      → ((why : Refusal) → act.Comes (Err why) → IsDecided wanted fails (status_of why))
+      → ((done : T) → act.Comes (Ok done) → act.line done ≢ None → Faulted notes.old.faults notes.new.faults → fails) → IsDecided wanted fails end
+  performs_decided wanted fails all refused unnoted = by_result performs.result performs.did performs.told.noted
+    where
+      by_line : (line : Option (List ℕ)) (done : T) → act.Comes (Ok done) → (line ≢ None → Faulted notes.old.faults notes.new.faults → fails)
+          → NotesLine line (act.status done) notes end → IsDecided wanted fails end
+      by_line None done did some noted = inl (noted.1 ∙ all done did)
+      by_line (Some line) done did some (inl took) = inl (took.end_is ∙ all done did)
+      by_line (Some line) done did some (inr failed) = inr (inr (failed.1, some (λ is. cc is) failed.0.rose))
+
+      by_result : (result : Result T Refusal) → act.Comes result → NotesResult act.line act.status result notes end → IsDecided wanted fails end
+      by_result (Ok done) did noted = by_line (act.line done) done did (unnoted done did) noted
+      by_result (Err why) did noted = subst (IsDecided wanted fails) (sym noted.1) (refused why did)

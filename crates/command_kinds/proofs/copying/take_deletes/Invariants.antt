@@ -1,9 +1,0 @@
-use Rattle.std.proofs.Common.{drop}
-use Rattle.op_runs.specs.Deletions.{deletes_by}
-use Rattle.command_kinds.proofs.CopyingLemmas.{IsCopying}
-use Rattle.command_kinds.proofs.copying.take_deletes.Given as goal
-
-abbrev pub invariant-loop-offset : goal.invariant-loop-offset
-invariant-loop-offset l =
-    IsCopying l.fn.replica l.fn.tally l.fn.kept (deletes_by l.fn.deletes.down l.fn.deletes.target l.fn.deletes.count) l.replica l.tally l.kept
-    (drop l.offset (deletes_by l.fn.deletes.down l.fn.deletes.target l.fn.deletes.count))
