@@ -25,8 +25,9 @@ node_at id left right = record { id = id; left = left; right = right }
 abbrev pub lift_move : (Identifier → Bool) → List Node → Option Move → Option Lift
 lift_move known ns None = None
 lift_move known ns (Some m) =
-    if known m.section && (has_origin ns m.value.left && has_origin ns m.value.right) then Some
-    (record { node = node_at m.id m.value.left m.value.right; bid = Some (bid_of m) }) else None
+    if known m.section && (has_origin ns m.value.left && has_origin ns m.value.right)
+    then Some (record { node = node_at m.id m.value.left m.value.right; bid = Some (bid_of m) })
+    else None
 
 -- what an operation adds, where `known` tells the Sections
 abbrev pub lift_by : (Identifier → Bool) → List Node → Op → Option Lift

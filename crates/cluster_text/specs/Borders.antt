@@ -73,7 +73,8 @@ is_mark c = is_mark_class (grapheme_cluster_break c)
 abbrev pub ends_whole : List ℕ → Bool
 ends_whole [] = true
 ends_whole (c ∷ before) =
-    closes c || ((is_indicator c && not (ends_in_half_flag (c ∷ before)))
+    closes c
+    || ((is_indicator c && not (ends_in_half_flag (c ∷ before)))
     || (is_mark c && not (ends_in_linker (map indic_conjunct_break (c ∷ before)))))
 
 -- the characters of cs, last first, and then `before`

@@ -26,4 +26,5 @@ ends_outside answer given why end is from may outside = may.blames (is ∙ ap Er
 pub input_read : (input : Change SourceView) (end : Status) (failed : Type 0) → KeepsCount input.old input.new failed
     → (IsFinished end → IfSome input.new.left (λ bytes. bytes ≡ []))
     → (failed → end ≡ status.OutsideFault) → ReadsInput input.old input.new end
-input_read input end failed count ended blamed = record { read = ended; calm = count.calm; blameless = λ tells inside. count.calm_told tells (λ f. inside (blamed f)) }
+input_read input end failed count ended blamed =
+    record { read = ended; counts_no_fault = count.counts_no_fault; blameless = λ tells inside. count.specified_no_fault tells (λ f. inside (blamed f)) }

@@ -127,6 +127,6 @@ script_gives input replica last n run stands settled kept =
 -- one that stopped gives its refusal
 pub script_gives_none : (input : Change SourceView) (replica last : Replica) (kept : Option (List Op)) (fault : ScriptFault) → ScriptStops replica last input.old input.new fault
     → KeepsCount input.old input.new (IsErrOf {T = ℕ} (Err fault) script_fault.ReadFault) → GivesTo (script input) replica last kept (Err (script_refusal fault))
-script_gives_none input replica last kept script_fault.ReadFault stops count = (count.rose refl, λ sure. count.succeeds sure refl)
+script_gives_none input replica last kept script_fault.ReadFault stops count = (count.faulted refl, λ sure. count.succeeds sure refl)
 script_gives_none input replica last kept script_fault.NoMemory stops count = tt
 script_gives_none input replica last kept fault stops count = gives_refusal replica last input.old input.new fault (λ is. cc is) (λ is. cc is) stops

@@ -1,5 +1,5 @@
 -- A file that is told leads to one thing: it holds one replica, or is the cause of one refusal.
-use Rattle.std.proofs.Common.{◌≡◌, ap, subst, sym, ◌∙◌, refl}
+use Rattle.std.proofs.Common.{◌≡◌, ap, inl, inr, subst, sym, ◌∙◌, refl}
 use Rattle.std.specs.Prelude.{IfSome, Ok, Err, Result}
 use Rattle.fugue_ids.specs.declared.limits.TheConstants.{MOST_OPERATIONS}
 use Rattle.outer_ports.specs.disk.Disks.{DiskView}
@@ -13,7 +13,8 @@ use Rattle.replica_file.specs.declared.load_file.End.{End}
 use Rattle.replica_file.specs.declared.load_file.LoadFault.{LoadFault}
 use Rattle.replica_file.specs.declared.load_file.LoadFault.TheVariants as load_fault
 use Rattle.command_kinds.proofs.LawfulLemmas.{held_lawful}
-use Rattle.command_kinds.specs.Files.{FileHolds, FileRefuses}
+use Rattle.command_kinds.specs.Files.{FileFinds, FileHolds, FileRefuses, HolderFinds}
+use Rattle.command_kinds.specs.Findings.{Does, Finding, Refuses}
 use Rattle.command_kinds.specs.Refusal.{load_refusal}
 use Rattle.command_kinds.specs.Changes.{IsSpecified}
 use Rattle.command_kinds.specs.declared.refusal.Refusal.{Refusal}
@@ -64,3 +65,25 @@ pub loaded_lawful : (disk : DiskView) → IsSpecified disk → (replica : Replic
 loaded_lawful disk told replica at holds =
     let loads : Loads MOST_OPERATIONS told.0.last.seen replica at = subst (λ o. IfSome o (λ (h : History). Loads MOST_OPERATIONS h.last.seen replica at)) told.1 holds in
     subst (λ (r : Replica). Lawful r.held.history) (sym loads.replica_is) (held_lawful loads.content.hold MOST_OPERATIONS nothing_held loads.content.ops tt)
+
+-- and where one thing comes of what it holds, to one thing
+module _ {T : Type 0} (Gives : Replica → End → Finding T → Type 0) (disk : DiskView) (told : IsSpecified disk)
+    (once : (replica : Replica) (end : End) → FileHolds disk replica end → (a b : Finding T) → Gives replica end a → Gives replica end b → a ≡ b) where
+  held_once : (a b : Finding T) → HolderFinds Gives disk a → HolderFinds Gives disk b → a ≡ b
+  held_once a b one two =
+      let same = holds_once disk told (one.0, one.1) (two.0, two.1) one.2 two.2 in
+      once one.0 one.1 one.2 a b one.3 (subst (λ (l : Replica × End). Gives l.0 l.1 b) (sym same) two.3)
+
+  apart : (why : Refusal) (found : Finding T) → FileRefuses disk why → HolderFinds Gives disk found → ⊥
+  apart why found refuses holder = holds_or_refuses disk told (holder.0, holder.1) why holder.2 refuses
+
+  pub finds_once : (a b : Finding T) → FileFinds Gives disk a → FileFinds Gives disk b → a ≡ b
+  finds_once (Refuses why) (Refuses other) (inl one) (inl two) = ap Refuses (refuses_once disk told why other one two)
+  finds_once (Refuses why) (Refuses other) (inl one) (inr two) = absurd (apart why (Refuses other) one two)
+  finds_once (Refuses why) (Refuses other) (inr one) (inl two) = absurd (apart other (Refuses why) two one)
+  finds_once (Refuses why) (Refuses other) (inr one) (inr two) = held_once (Refuses why) (Refuses other) one two
+  finds_once (Refuses why) (Does done) (inl one) two = absurd (apart why (Does done) one two)
+  finds_once (Refuses why) (Does done) (inr one) two = held_once (Refuses why) (Does done) one two
+  finds_once (Does done) (Refuses why) one (inl two) = absurd (apart why (Does done) two one)
+  finds_once (Does done) (Refuses why) one (inr two) = held_once (Does done) (Refuses why) one two
+  finds_once (Does done) (Does other) one two = held_once (Does done) (Does other) one two

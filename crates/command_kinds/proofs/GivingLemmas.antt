@@ -18,22 +18,15 @@ use Rattle.command_kinds.specs.Giving.{GivenNoted, GivesTo, MayEnd, SavesNoted, 
 use Rattle.command_kinds.specs.Printing.{NoteMeets, NotesBlameless}
 use Rattle.command_kinds.specs.Refusal.{append_refusal, load_refusal}
 use Rattle.command_kinds.specs.Saving.{Giver, GivesOnce, SavesGiven}
-use Rattle.command_kinds.specs.Changes.{Change, DiskBlameless, CountsNoFault, change, notes_room}
+use Rattle.command_kinds.specs.Changes.{Change, DiskBlameless, CountsNoFault, notes_room}
 use Rattle.command_kinds.specs.declared.counts.Note.{Note}
 use Rattle.command_kinds.specs.declared.counts.Note.TheVariants as note
 use Rattle.command_kinds.specs.declared.refusal.Refusal.{Refusal}
 use Rattle.command_kinds.specs.declared.refusal.Refusal.TheVariants as refusal
 use Rattle.command_kinds.specs.declared.status.Status.{Status}
-use Rattle.command_kinds.proofs.LoadedLemmas.{HasLoaded, HasNotLoaded, keeps_file, load_failed}
-use Rattle.command_kinds.proofs.SavesLemmas.{noted_saves}
-use Rattle.command_kinds.proofs.SavingLemmas.{given_comes}
+use Rattle.command_kinds.proofs.LoadedLemmas.{HasNotLoaded, keeps_file, load_failed}
+use Rattle.command_kinds.proofs.SavesLemmas.{saves_given}
 use Rattle.command_kinds.proofs.ShowLemmas.{done_or_partial}
-
--- what was given to a loaded file was saved, or why not
-pub noted_comes : (giver : Giver) (a b c : DiskView) (replica : Replica) (end : End) → HasLoaded (change a b) replica end → (result : Result Note Refusal)
-    → GivenNoted giver replica end (change b c) result → SavesNoted giver (change a c) result
-noted_comes giver a b c replica end loaded (Ok note) did = (did.0, did.1, given_comes giver a b c replica end loaded (Ok did.0) did.2)
-noted_comes giver a b c replica end loaded (Err why) stopped = given_comes giver a b c replica end loaded (Err why) stopped
 
 -- a command does not do all where its giver came to a refusal
 pub unfinished : (answer : Result Note Refusal) (why : Refusal) (end : Status) → answer ≡ Err why → MayEnd answer end → IsFinished end → ⊥
@@ -49,11 +42,17 @@ note_finished (note.Revised count sections) = inl refl
 pub note_saves : (giver : Giver) → GivesOnce giver → (file : Change DiskView) (notes : Change OutView) (n : Note) (end : Status) → SavesNoted giver file (Ok n)
     → NoteMeets (note_line n) (note_status n) notes.old notes.new end → CountsNoFault notes_room notes.old notes.new
     → DiskBlameless file end → NotesBlameless notes end → SavesGiven giver file notes end
-note_saves giver once file notes n end did noted calm file_blameless notes_blameless =
-    noted_saves giver once file notes calm did.0 end did.2
-    (subst IsFinished (sym did.1.status) (note_finished n))
-    (subst (λ (s : Status). NoteMeets did.0.line s notes.old notes.new end) (sym did.1.status)
-    (subst (λ (line : List ℕ). NoteMeets line (note_status n) notes.old notes.new end) (sym did.1.line) noted)) file_blameless notes_blameless
+note_saves giver once file notes n end did noted counts_no_fault file_blameless notes_blameless =
+    saves_given giver once file notes end (record {
+      result = Ok did.0;
+      did = (did.2, subst IsFinished (sym did.1.status) (note_finished n));
+      told = record {
+        noted = subst (λ (s : Status). NoteMeets did.0.line s notes.old notes.new end) (sym did.1.status)
+            (subst (λ (line : List ℕ). NoteMeets line (note_status n) notes.old notes.new end) (sym did.1.line) noted);
+        counts_no_fault = counts_no_fault;
+        blameless = notes_blameless;
+      };
+    }) file_blameless
 
 -- nothing was given to a file that is loaded
 pub given_none : (giver : Giver) (before after : Replica) (kept : Option (List Op)) (end : End) (file : Change DiskView) (why : Refusal) → file.new ≡ file.old
@@ -79,7 +78,7 @@ pub given_saved : (giver : Giver) (before after : Replica) (kept : Option (List 
     → ops ≡ to_save n (length (accepted before.held.history)) after kept → GivesTo giver before after kept (Ok n) → AppendMeets end ops file.old file.new (Ok last)
     → GivenNoted giver before end file (Ok n)
 given_saved giver before after kept end file n ops last is gave meets =
-    (gave.outcome, gave.noted, (gave.gives, gave.suffices, (last, subst (λ (l : List Op). AppendMeets end l file.old file.new (Ok last)) (is ∙ gave.saved) meets)))
+    (gave.outcome, gave.noted, gave.gives, gave.suffices, (last, subst (λ (l : List Op). AppendMeets end l file.old file.new (Ok last)) (is ∙ gave.saved) meets))
 
 -- a file that was not loaded
 pub load_stops : (giver : Giver) (file : Change DiskView) (fault : LoadFault) → HasNotLoaded file fault → SavesNoted giver file (Err (load_refusal fault))

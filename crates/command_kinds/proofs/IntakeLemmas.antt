@@ -16,7 +16,8 @@ use Rattle.op_frame.proofs.StreamLemmas.{gave_none}
 use Rattle.op_frame.proofs.CourseLemmas.{Fed, fed_whole, fed_cut, fed_bad, fed_long, fed_many}
 use Rattle.origin_model.specs.edits.State.{State}
 use Rattle.fugue_ids.specs.declared.limits.TheConstants.{STREAM_LIMIT}
-use Rattle.command_kinds.specs.Intake.{FindsNoPlace, StreamTaking, TakesSome, IntakeSteps, SourceComes, TakesInStream, IntakeStopsFor, copies_of_kept}
+use Rattle.command_kinds.specs.Input.{SourceComes}
+use Rattle.command_kinds.specs.Intake.{FindsNoPlace, StreamTaking, TakesSome, IntakeSteps, TakesInStream, IntakeStopsFor, copies_of_kept}
 use Rattle.command_kinds.specs.declared.refusal.Refusal.{Refusal}
 use Rattle.command_kinds.specs.declared.refusal.Refusal.TheVariants as refusal
 

@@ -12,15 +12,15 @@ line_told (Ok done) old new line wrote short = record {
   later = wrote.cause.later;
   whole = λ not. wrote.ok;
   front = whole_front old new line wrote.ok;
-  sure = λ has. ((sure_of (Ok done) old new line wrote has).calm, wrote.ok);
-  calm = λ has. (sure_of (Ok done) old new line wrote (less_room (length line) notes_room old short has)).calm;
-  exact = λ tells. inl (wrote.calm_told tells);
+  sure = λ has. ((sure_of (Ok done) old new line wrote has).counts_no_fault, wrote.ok);
+  counts_no_fault = λ has. (sure_of (Ok done) old new line wrote (less_room (length line) notes_room old short has)).counts_no_fault;
+  exact = λ tells. inl (wrote.specified_no_fault tells);
 }
 line_told (Err e) old new line wrote short = record {
   later = wrote.cause.later;
   whole = λ not. absurd (not wrote.cause.failed);
   front = wrote.err;
   sure = λ has. absurd (text_has_no_room e old new line (length line) wrote (omega arith) has);
-  calm = λ has. absurd (text_has_no_room e old new line notes_room wrote short has);
+  counts_no_fault = λ has. absurd (text_has_no_room e old new line notes_room wrote short has);
   exact = λ tells. inr wrote.cause.failed;
 }

@@ -40,12 +40,12 @@ keeps_file file result meets = record {
   bytes = elim meets.synced [ inl is ↦ ap bytes_of is.0 ∙ settled_bytes file.old.past | inr still ↦ ap bytes_of still.1 ];
   past = elim meets.synced [ inl is ↦ inl is.0 | inr still ↦ inr still.1 ];
   moments = meets.moments;
-  calm = one_call (file.new.faults ≡ file.old.faults) file.old meets.faults.calm;
+  counts_no_fault = one_call (file.new.faults ≡ file.old.faults) file.old meets.faults.counts_no_fault;
 }
 
 pub load_failed : (file : Change DiskView) → HasNotLoaded file DiskFault → LoadFailed file
 load_failed file meets = record {
-  rose = meets.faults.rose refl;
+  faulted = meets.faults.faulted refl;
   no_room = λ has. one_call (failed ≡ failed → ⊥) file.old meets.faults.sure has refl;
   keeps = keeps_file file failed meets;
 }

@@ -14,17 +14,17 @@ use Rattle.outer_ports.specs.disk.Disks.{DiskView}
 use Rattle.replica_file.specs.declared.load_file.End.{End}
 use Rattle.replica_file.specs.declared.load_file.LoadFault.{LoadFault}
 use Rattle.replica_file.specs.declared.load_file.LoadFault.TheVariants as load_fault
-use Rattle.command_kinds.specs.Files.{FileHolds, FileRefuses}
+use Rattle.command_kinds.specs.Files.{FileHolds, HolderFinds}
 use Rattle.command_kinds.specs.Findings.{Does, Finding, Refuses}
 use Rattle.command_kinds.specs.Intake.{FeedsNotAll, OneTooMany, copies_of_kept, ops_in}
 use Rattle.command_kinds.specs.Refusal.{feed_refusal, load_refusal}
 use Rattle.command_kinds.specs.Saving.{GivesOnce, Outcome}
-use Rattle.command_kinds.specs.Take.{FileGives, HolderGives, IsOneTooMany, ReplicaGives, all_held_by, all_held_ops, other_file, taken_in}
-use Rattle.command_kinds.specs.Changes.{Change, IsSpecified}
+use Rattle.command_kinds.specs.Take.{IsOneTooMany, ReplicaGives, all_held_by, all_held_ops, other_file}
+use Rattle.command_kinds.specs.Changes.{Change}
 use Rattle.command_kinds.specs.declared.counts.Counts.{Counts}
 use Rattle.command_kinds.specs.declared.refusal.Refusal.{Refusal}
 use Rattle.command_kinds.specs.declared.refusal.Refusal.TheVariants as refusal
-use Rattle.command_kinds.proofs.FoundLemmas.{holds_once, holds_or_refuses, refuses_once}
+use Rattle.command_kinds.proofs.FoundLemmas.{finds_once}
 use Rattle.command_kinds.proofs.LoadedLemmas.{HasNotLoaded, load_failed}
 use Rattle.command_kinds.proofs.TakeLemmas.{taken_gives}
 use Rattle.command_kinds.specs.Giving.{GivesTo}
@@ -56,7 +56,7 @@ merge_gives replica now other tally kept taken kept_are counts settled is =
 
 -- what the replica of the other file gives is what this file gives
 module _ (guest : Change DiskView) (other replica : State) (other_end : End) (holds : FileHolds guest.old other other_end) where
-  by_holder : (finding : Finding Outcome) → ReplicaGives other replica finding → HolderGives guest.old replica finding
+  by_holder : (finding : Finding Outcome) → ReplicaGives other replica finding → HolderFinds (λ held end. ReplicaGives held replica) guest.old finding
   by_holder finding gives = (other, other_end, holds, gives)
 
   pub holder_gives : (now : State) (kept : Option (List Op)) (result : Result Note Refusal) → GivesTo (all_held_by other) replica now kept result
@@ -67,35 +67,21 @@ module _ (guest : Change DiskView) (other replica : State) (other_end : End) (ho
   holder_gives now kept (Err refusal.Words) never = never
   holder_gives now kept (Err why) gives = inr (by_holder (Refuses why) gives)
 
--- another file that is told gives one thing
-module _ (guest : Change DiskView) (told : IsSpecified guest.old) (replica : State) where
-  same_holder : (one two : Finding Outcome) (h : HolderGives guest.old replica one) (k : HolderGives guest.old replica two) → h.0 ≡ k.0
-  same_holder one two h k = ap (λ (l : State × End). l.0) (holds_once guest.old told (h.0, h.1) (k.0, k.1) h.2 k.2)
+-- another replica gives one thing
+held_gives_once : (other replica : State) (one two : Finding Outcome) → ReplicaGives other replica one → ReplicaGives other replica two → one ≡ two
+held_gives_once other replica (Refuses why) (Refuses cause) a b = ap Refuses (a.0 ∙ sym b.0)
+held_gives_once other replica (Refuses why) (Does outcome) a b = absurd (a.1 b.0)
+held_gives_once other replica (Does outcome) (Refuses why) a b = absurd (b.1 a.0)
+held_gives_once other replica (Does outcome) (Does last) a b = ap Does (a.1 ∙ sym b.1)
 
-  not_both : (why : Refusal) (other : Finding Outcome) → FileRefuses guest.old why → HolderGives guest.old replica other → ⊥
-  not_both why other refuses h = holds_or_refuses guest.old told (h.0, h.1) why h.2 refuses
-
-  not_here : (why : Refusal) (outcome : Outcome) → HolderGives guest.old replica (Refuses why) → HolderGives guest.old replica (Does outcome) → ⊥
-  not_here why outcome h k =
-      h.3.1 (subst (λ (o : State). MeetsNoLimit replica.hold replica.most replica.held (all_held_ops o.held)) (sym (same_holder (Refuses why) (Does outcome) h k)) k.3.0)
-
-  gives_once : (one two : Finding Outcome) → FileGives guest.old replica one → FileGives guest.old replica two → one ≡ two
-  gives_once (Refuses why) (Refuses other) (inl p) (inl q) = ap Refuses (refuses_once guest.old told why other p q)
-  gives_once (Refuses why) (Refuses other) (inl p) (inr k) = absurd (not_both why (Refuses other) p k)
-  gives_once (Refuses why) (Refuses other) (inr h) (inl q) = absurd (not_both other (Refuses why) q h)
-  gives_once (Refuses why) (Refuses other) (inr h) (inr k) = ap Refuses (h.3.0 ∙ sym k.3.0)
-  gives_once (Refuses why) (Does outcome) refuses k = elim refuses [ inl p ↦ absurd (not_both why (Does outcome) p k) | inr h ↦ absurd (not_here why outcome h k) ]
-  gives_once (Does outcome) (Refuses why) h refuses = elim refuses [ inl p ↦ absurd (not_both why (Does outcome) p h) | inr k ↦ absurd (not_here why outcome k h) ]
-  gives_once (Does outcome) (Does other) h k =
-      ap Does (h.3.1 ∙ ap (λ (o : State). taken_in replica (all_held_ops o.held)) (same_holder (Does outcome) (Does other) h k) ∙ sym k.3.1)
-
+-- and so does another file that is told
 pub file_once : (guest : Change DiskView) → GivesOnce (other_file guest)
-file_once guest told replica one two gives others = gives_once guest told replica one two gives others
+file_once guest told replica = finds_once (λ other end. ReplicaGives other replica) guest.old told (λ other end holds. held_gives_once other replica)
 
 -- another file that was not loaded gives its refusal
 pub file_gives_none : (guest : Change DiskView) (replica now : State) (kept : Option (List Op)) (fault : LoadFault) → HasNotLoaded guest fault
     → GivesTo (other_file guest) replica now kept (Err (load_refusal fault))
-file_gives_none guest replica now kept load_fault.DiskFault meets = let failed = load_failed guest meets in (failed.rose, failed.no_room)
+file_gives_none guest replica now kept load_fault.DiskFault meets = let failed = load_failed guest meets in (failed.faulted, failed.no_room)
 file_gives_none guest replica now kept load_fault.NoMemory meets = tt
 file_gives_none guest replica now kept load_fault.NotReplica meets = inl meets.cause
 file_gives_none guest replica now kept (load_fault.BadBatch slot) meets = inl meets.cause

@@ -97,14 +97,14 @@ created replica hold old new notes x meets =
           at_rest = meets.made.at_rest;
           safe = safe_where replica hold new.past meets.made.holds meets.made.at_rest;
         };
-        told = record { noted = (refl, refl); calm = λ has. refl; blameless = λ tells not. inl refl };
+        told = record { noted = (refl, refl); counts_no_fault = λ has. refl; blameless = λ tells not. inl refl };
       };
       decided = record { empty = λ is. inl refl; not_empty = λ bytes is filled. absurd (empty_only old empty bytes is filled) };
       filled = keeps_filled old new meets.overwrites_none;
       crash = empty_never_torn (λ gave. gave ≡ []) (change old new) status.Done empty;
-      calm = by_room (new.faults ≡ old.faults) old meets.faults.calm;
+      counts_no_fault = by_room (new.faults ≡ old.faults) old meets.faults.counts_no_fault;
       never_outside = λ has is. cc is;
-      blameless = λ tells not. meets.faults.calm_told tells (λ is. cc is);
+      blameless = λ tells not. meets.faults.specified_no_fault tells (λ is. cc is);
     }
 
 abbrev failed : Result (Unit {0}) CreateFault
@@ -121,19 +121,19 @@ not_created replica hold old new notes notes' NotEmpty meets told =
       decided = record { empty = λ is. absurd (same_bytes (λ b. b ≢ []) old.past [] filled is refl); not_empty = λ bytes is some. inl refl };
       filled = keeps_filled old new meets.overwrites_none;
       crash = still_never_torn (change old new) status.BadFile (λ done. elim done [ inl is ↦ cc is | inr is ↦ cc is ]) meets.overwrites_none;
-      calm = by_room (new.faults ≡ old.faults) old meets.faults.calm;
+      counts_no_fault = by_room (new.faults ≡ old.faults) old meets.faults.counts_no_fault;
       never_outside = λ has is. cc is;
-      blameless = λ tells not. meets.faults.calm_told tells (λ is. cc is);
+      blameless = λ tells not. meets.faults.specified_no_fault tells (λ is. cc is);
     }
 not_created replica hold old new notes notes' DiskFault meets told =
     let no_room : HasDiskRoom 14 old → ⊥ = λ has. by_room (failed ≡ failed → ⊥) old meets.faults.sure has refl in
     record {
       performs = told_performs (creating replica hold (change old new)) (change notes notes') refusal.Outside
-          (record { torn = meets.torn; rose = meets.faults.rose refl; no_room = no_room }) told;
-      decided = record { empty = λ is. inr (refl, meets.faults.rose refl); not_empty = λ bytes is filled. inr (refl, meets.faults.rose refl) };
+          (record { torn = meets.torn; faulted = meets.faults.faulted refl; no_room = no_room }) told;
+      decided = record { empty = λ is. inr (refl, meets.faults.faulted refl); not_empty = λ bytes is filled. inr (refl, meets.faults.faulted refl) };
       filled = keeps_filled old new meets.overwrites_none;
       crash = still_never_torn (change old new) status.OutsideFault (λ done. elim done [ inl is ↦ cc is | inr is ↦ cc is ]) meets.overwrites_none;
-      calm = by_room (new.faults ≡ old.faults) old meets.faults.calm;
+      counts_no_fault = by_room (new.faults ≡ old.faults) old meets.faults.counts_no_fault;
       never_outside = λ has is. no_room has;
       blameless = λ tells not. absurd (not refl);
     }

@@ -1,8 +1,7 @@
 -- What a command does that reports, by how the file was loaded and the text written.
 use Rattle.std.proofs.Common.{◌≡◌, ◌≢◌, ℕ, List, length, refl, ap, sym, subst, inl, inr}
-use Rattle.std.specs.Prelude.{◌⊎◌, Ok, Err, Result}
-use Rattle.fugue_ids.specs.Causes.{Faulted}
-use Rattle.fugue_ids.specs.Outs.{OutView}
+use Rattle.std.specs.Prelude.{Ok, Err, Result}
+use Rattle.fugue_ids.specs.Outs.{OutView, Took}
 use Rattle.origin_model.specs.operations.Verdict.{Lawful}
 use Rattle.outer_ports.specs.disk.Disks.{DiskView}
 use Rattle.outer_ports.specs.disk.Moments.{past_after_step}
@@ -13,12 +12,11 @@ use Rattle.replica_file.specs.declared.load_file.End.{End}
 use Rattle.replica_file.specs.declared.load_file.LoadFault.{LoadFault}
 use Rattle.replica_file.specs.declared.load_file.LoadFault.TheVariants as load_fault
 use Rattle.command_kinds.proofs.CrashLemmas.{kept_never_torn}
-use Rattle.command_kinds.proofs.FoundLemmas.{holds_once, holds_or_refuses, loaded_lawful, refuses_once}
+use Rattle.command_kinds.proofs.FoundLemmas.{finds_once, loaded_lawful}
 use Rattle.command_kinds.proofs.LoadedLemmas.{HasLoaded, HasNotLoaded, keeps_file, load_failed}
-use Rattle.command_kinds.specs.Report.{FileDecides, IsTelling, ReportNeverOutside, Reports, SomeFails, Telling, TextFound, bytes_found, status_found, ReportComes, WroteHeld}
-use Rattle.command_kinds.specs.Report.{reporting}
-use Rattle.command_kinds.specs.Files.{FileRefuses, KeepsFile, LoadFailed}
-use Rattle.command_kinds.specs.Findings.{Finding, Refuses, Does, IsDecided}
+use Rattle.command_kinds.specs.Report.{Reports, Telling, TextFound, bytes_found, ReportComes, WroteHeld, report_basis, reporting}
+use Rattle.command_kinds.specs.Files.{HolderFinds, KeepsFile}
+use Rattle.command_kinds.specs.Findings.{Basis, Finding, Refuses, Does, WhereTold}
 use Rattle.command_kinds.specs.Refusal.{Reported, load_refusal, refusal_line, status_of}
 use Rattle.command_kinds.specs.TextOut.{HasNoText, WritesReport, ReportGoesOut, TextComes}
 use Rattle.command_kinds.specs.Changes.{Change, HasRoom, IsSpecified, CountsNoFault, DiskBlameless, OutBlameless}
@@ -26,62 +24,46 @@ use Rattle.command_kinds.specs.declared.refusal.Refusal.{Refusal}
 use Rattle.command_kinds.specs.declared.refusal.Refusal.TheVariants as refusal
 use Rattle.command_kinds.specs.declared.status.Status.{Status}
 use Rattle.command_kinds.specs.declared.status.Status.TheVariants as status
-use Rattle.command_kinds.specs.Acts.{Performs, all_done, no_line}
+use Rattle.command_kinds.specs.Acts.{Performs, TellsResult, all_done, no_line}
 use Rattle.command_kinds.specs.Printing.{WroteFront}
-use Rattle.command_kinds.proofs.ActLemmas.{goes_blameless, inside_result, performs_decided, performs_inside, refusal_unfinished, told_performs}
+use Rattle.command_kinds.proofs.ActLemmas.{Answers, decided_by, did_all, first_fails, goes_blameless, inside_by, inside_result, told_performs}
 
 -- of a lawful history one thing is told
 abbrev pub TellsOnce : Telling → Type 0
 TellsOnce tells = (replica : Replica) → Lawful replica.held.history → (a b : Finding (List ℕ)) → tells replica a → tells replica b → a ≡ b
 
-module _ (tells : Telling) (once : TellsOnce tells) (file : DiskView) (told : IsSpecified file) where
-  held_once : (a b : Finding (List ℕ)) → IsTelling tells file a → IsTelling tells file b → a ≡ b
-  held_once a b one two =
-      let same = holds_once file told (one.0, one.1) (two.0, two.1) one.2 two.2 in
-      once one.0 (loaded_lawful file told one.0 one.1 one.2) a b one.3 (subst (λ (l : Replica × End). tells l.0 b) (sym same) two.3)
-
-  apart : (why : Refusal) (found : Finding (List ℕ)) → FileRefuses file why → IsTelling tells file found → ⊥
-  apart why found refuses t = holds_or_refuses file told (t.0, t.1) why t.2 refuses
-
-  text_once : (a b : Finding (List ℕ)) → TextFound tells file a → TextFound tells file b → a ≡ b
-  text_once (Refuses why) (Refuses other) (inl one) (inl two) = ap Refuses (refuses_once file told why other one two)
-  text_once (Refuses why) (Refuses other) (inl one) (inr two) = absurd (apart why (Refuses other) one two)
-  text_once (Refuses why) (Refuses other) (inr one) (inl two) = absurd (apart other (Refuses why) two one)
-  text_once (Refuses why) (Refuses other) (inr one) (inr two) = held_once (Refuses why) (Refuses other) one two
-  text_once (Refuses why) (Does bytes) (inl one) two = absurd (apart why (Does bytes) one two)
-  text_once (Refuses why) (Does bytes) (inr one) two = held_once (Refuses why) (Does bytes) one two
-  text_once (Does bytes) (Refuses why) one (inl two) = absurd (apart why (Does bytes) two one)
-  text_once (Does bytes) (Refuses why) one (inr two) = held_once (Does bytes) (Refuses why) one two
-  text_once (Does bytes) (Does others) one two = held_once (Does bytes) (Does others) one two
+text_once : (tells : Telling) → TellsOnce tells → (file : DiskView) → IsSpecified file → (a b : Finding (List ℕ)) → TextFound tells file a → TextFound tells file b → a ≡ b
+text_once tells once file told = finds_once (λ replica at. tells replica) file told (λ replica at holds. once replica (loaded_lawful file told replica at holds))
 
 -- what follows from what came of a report
 module _ (tells : Telling) (once : TellsOnce tells) (file : Change DiskView) (output notes : Change OutView) (end : Status)
-    (performs : Performs (reporting tells file output) notes end) where
-  inside : ReportNeverOutside tells file output notes end
-  inside told found is room has = performs_inside (reporting tells file output) notes end performs (λ done. inl refl) (λ done some. absurd (some refl))
-      (λ blamed. failed (subst (ReportComes tells file output) blamed performs.did))
-    where
-      failed : (LoadFailed file × (output.new ≡ output.old)) ⊎ WroteHeld tells file (λ bytes. WroteFront bytes output) → ⊥
-      failed (inl load) = load.0.no_room room
-      failed (inr wrote) =
-          let same = text_once tells once file.old told (Does wrote.bytes) found wrote.found is in
-          wrote.came.no_room (subst (λ f. HasRoom (length (bytes_found f)) output.old) (sym same) has)
+    (performs : Performs (reporting tells file output) notes end) (keeps : KeepsFile file) where
+  abbrev basis : Basis (List ℕ)
+  basis = report_basis tells file output
 
-  some_fails : (found : Finding (List ℕ)) → Faulted file.old.faults file.new.faults → SomeFails file output found
-  some_fails (Refuses why) rose = rose
-  some_fails (Does written) rose = inl rose
+  answers : (result : Result (List ℕ) Refusal) → ReportComes tells file output result → WhereTold basis (λ found. Answers basis found result)
+  answers (Ok bytes) did told found is = text_once tells once file.old told found (Does bytes) is did.found
+  answers (Err refusal.Outside) (inl load) told found is = (first_fails _ _ found load.0.faulted, λ sure. load.0.no_room sure.0)
+  answers (Err refusal.Outside) (inr (bytes, wrote)) told found is =
+      let same = text_once tells once file.old told (Does bytes) found wrote.found is in
+      (subst basis.Failed same (inr wrote.came.faulted), λ sure. wrote.came.no_room (subst (λ f. HasRoom (length (bytes_found f)) output.old) (sym same) sure.1))
+  answers (Err refusal.NoMemory) did told found is = tt
+  answers (Err refusal.Words) did told found is = absurd did
+  answers (Err why) did told found is = text_once tells once file.old told found (Refuses why) is did.0.found
 
-  decides : FileDecides tells file output end
-  decides told found is = performs_decided (reporting tells file output) notes end performs (status_found found) (SomeFails file output found)
-      (λ done did. ap status_found (text_once tells once file.old told (Does did.bytes) found did.found is)) refused (λ done did some. absurd (some refl))
-    where
-      refused : (why : Refusal) → ReportComes tells file output (Err why) → IsDecided (status_found found) (SomeFails file output found) (status_of why)
-      refused refusal.Outside (inl load) = inr (inr (refl, some_fails found load.0.rose))
-      refused refusal.Outside (inr wrote) =
-          inr (inr (refl, subst (SomeFails file output) (text_once tells once file.old told (Does wrote.bytes) found wrote.found is) (inr wrote.came.rose)))
-      refused refusal.NoMemory did = inr (inl refl)
-      refused refusal.Words did = absurd did
-      refused why did = inl (ap status_found (text_once tells once file.old told (Refuses why) found did.0.found is))
+  reports : WhereTold basis (λ found. CountsNoFault (length (bytes_found found)) output.old output.new) → DiskBlameless file end → OutBlameless output end
+      → Reports tells file output notes end
+  reports output_no_fault file_blameless output_blameless = record {
+    performs = performs;
+    keeps = keeps;
+    crash = kept_never_torn file end keeps (λ done. (did_all (reporting tells file output) notes end performs done).1.synced);
+    file_no_fault = keeps.counts_no_fault;
+    output_no_fault = output_no_fault;
+    never_outside = inside_by (reporting tells file output) notes end performs basis answers (λ bytes did. inl refl);
+    decided = decided_by (reporting tells file output) notes end performs basis answers;
+    file_blameless = file_blameless;
+    output_blameless = output_blameless;
+  }
 
 -- the file was loaded, and what is told of its replica was written, or nothing
 module _ (tells : Telling) (once : TellsOnce tells) (file : Change DiskView) (replica : Replica) (at : End) (output : Change OutView)
@@ -92,16 +74,11 @@ module _ (tells : Telling) (once : TellsOnce tells) (file : Change DiskView) (re
   synced : file.new.past ≡ past_after_step durable file.old.past
   synced = (loaded_synced _ file.old file.new (replica, at) loaded).0
 
-  held : (told : Finding (List ℕ)) → tells replica told → IsTelling tells file.old told
+  held : (told : Finding (List ℕ)) → tells replica told → HolderFinds (λ replica at. tells replica) file.old told
   held told is = (replica, at, loaded.cause, is)
 
-  -- what came of the text of a file that was loaded came of the report
-  text_comes : (bytes : List ℕ) → tells replica (Does bytes) → (result : Result (Unit {0}) Refusal) → TextComes bytes output result
-      → ReportComes tells file output result
-  text_comes bytes is (Ok done) came = record { bytes = bytes; found = held (Does bytes) is; synced = synced; came = came }
-  text_comes bytes is (Err refusal.Outside) came = inr (record { bytes = bytes; found = held (Does bytes) is; synced = synced; came = came })
-  text_comes bytes is (Err refusal.NoMemory) came = came
-  text_comes bytes is (Err _) came = absurd came
+  wrote : (bytes : List ℕ) → tells replica (Does bytes) → (Wrote : Type 0) → Wrote → WroteHeld tells file bytes Wrote
+  wrote bytes is Wrote came = record { found = held (Does bytes) is; synced = synced; came = came }
 
   none_comes : (why : Refusal) → HasNoText (tells replica) why → output.new ≡ output.old → ReportComes tells file output (Err why)
   none_comes refusal.NoMemory none same = same
@@ -109,16 +86,34 @@ module _ (tells : Telling) (once : TellsOnce tells) (file : Change DiskView) (re
   none_comes refusal.Words none same = cc none.0
   none_comes why none same = (record { found = inr (held (Refuses why) none.1); synced = inr synced }, same)
 
-  comes : (result : Result (Unit {0}) Refusal) → ReportGoesOut (tells replica) output result → ReportComes tells file output result
-  comes result (inl out) = text_comes out.0 out.1 result out.2.comes
-  comes result (inr none) = subst (ReportComes tells file output) (sym none.1) (none_comes none.0 none.2 none.3)
+  -- what came of the text of a file that was loaded came of the report
+  text_comes : (bytes : List ℕ) → tells replica (Does bytes) → (why : Refusal) → TextComes bytes output (Err why) → ReportComes tells file output (Err why)
+  text_comes bytes is refusal.Outside came = inr (bytes, wrote bytes is (WroteFront bytes output) came)
+  text_comes bytes is refusal.NoMemory came = came
+  text_comes bytes is _ came = absurd came
 
-  output_calm : (result : Result (Unit {0}) Refusal) → ReportGoesOut (tells replica) output result → IsSpecified file.old → (found : Finding (List ℕ))
+  stops : (why : Refusal) → ReportGoesOut (tells replica) output (Err why) → ReportComes tells file output (Err why)
+  stops why (inl out) = text_comes out.0 out.1 why out.2.comes
+  stops why (inr none) =
+      let same : why ≡ none.0 = cc none.1 in subst (λ w. ReportComes tells file output (Err w)) (sym same) (none_comes none.0 none.2 none.3)
+
+  performs_so : (notes : Change OutView) (end : Status) (result : Result (Unit {0}) Refusal) → ReportGoesOut (tells replica) output result
+      → TellsResult no_line all_done result notes end → Performs (reporting tells file output) notes end
+  performs_so notes end (Ok done) (inl out) told = record {
+    result = Ok out.0;
+    did = wrote out.0 out.1 (Took output.old output.new out.0) out.2.comes;
+    told = record { noted = told.noted; counts_no_fault = told.counts_no_fault; blameless = told.blameless };
+  }
+  performs_so notes end (Ok done) (inr none) told = cc none.1
+  performs_so notes end (Err why) did told =
+      record { result = Err why; did = stops why did; told = record { noted = told.noted; counts_no_fault = told.counts_no_fault; blameless = told.blameless } }
+
+  output_no_fault : (result : Result (Unit {0}) Refusal) → ReportGoesOut (tells replica) output result → IsSpecified file.old → (found : Finding (List ℕ))
       → TextFound tells file.old found → CountsNoFault (length (bytes_found found)) output.old output.new
-  output_calm result (inl out) told found is has =
+  output_no_fault result (inl out) told found is has =
       let same = text_once tells once file.old told (Does out.0) found (held (Does out.0) out.1) is in
-      out.2.calm (subst (λ f. HasRoom (length (bytes_found f)) output.old) (sym same) has)
-  output_calm result (inr none) told found is has = ap (λ (o : OutView). o.faults) none.3
+      out.2.counts_no_fault (subst (λ f. HasRoom (length (bytes_found f)) output.old) (sym same) has)
+  output_no_fault result (inr none) told found is has = ap (λ (o : OutView). o.faults) none.3
 
   output_told : (result : Result (Unit {0}) Refusal) (end : Status) → ReportGoesOut (tells replica) output result
       → (end ≢ status.OutsideFault → result ≢ Err refusal.Outside) → OutBlameless output end
@@ -126,18 +121,10 @@ module _ (tells : Telling) (once : TellsOnce tells) (file : Change DiskView) (re
   output_told result end (inr none) met = λ tells not. ap (λ (o : OutView). o.faults) none.3
 
   pub report_written : (notes : Change OutView) (end : Status) → WritesReport (tells replica) output notes end → Reports tells file output notes end
-  report_written notes end wrote =
-      let performs : Performs (reporting tells file output) notes end = record { result = wrote.result; did = comes wrote.result wrote.did; told = wrote.told } in
-      record {
-        performs = performs;
-        keeps = keeps;
-        crash = kept_never_torn file end keeps (λ done. synced);
-        calm = record { file_calm = keeps.calm; output_calm = output_calm wrote.result wrote.did };
-        never_outside = inside tells once file output notes end performs;
-        decides = decides tells once file output notes end performs;
-        file_blameless = λ disk not. loaded.faults.calm_told disk (λ is. cc is);
-        output_blameless = output_told wrote.result end wrote.did (inside_result no_line all_done wrote.result notes end wrote.told.noted);
-      }
+  report_written notes end written =
+      reports tells once file output notes end (performs_so notes end written.result written.did written.told) keeps (output_no_fault written.result written.did)
+      (λ disk not. loaded.faults.specified_no_fault disk (λ is. cc is))
+      (output_told written.result end written.did (inside_result no_line all_done written.result notes end written.told.noted))
 
 -- the file was not loaded: nothing was written, and why was told
 module _ (tells : Telling) (once : TellsOnce tells) (file : Change DiskView) (output notes : Change OutView) (same : output.new ≡ output.old) where
@@ -148,27 +135,11 @@ module _ (tells : Telling) (once : TellsOnce tells) (file : Change DiskView) (ou
   not_loaded (load_fault.BadBatch slot) meets = (record { found = inl meets.cause; synced = inl meets.cause }, same)
   not_loaded (load_fault.TooMany count) meets = (record { found = inl meets.cause; synced = inl meets.cause }, same)
 
-  exact : (fault : LoadFault) → HasNotLoaded file fault → DiskBlameless file (status_of (load_refusal fault))
-  exact load_fault.DiskFault meets disk not = absurd (not refl)
-  exact load_fault.NoMemory meets disk not = meets.faults.calm_told disk (λ is. cc is)
-  exact load_fault.NotReplica meets disk not = meets.faults.calm_told disk (λ is. cc is)
-  exact (load_fault.BadBatch slot) meets disk not = meets.faults.calm_told disk (λ is. cc is)
-  exact (load_fault.TooMany count) meets disk not = meets.faults.calm_told disk (λ is. cc is)
-
   pub load_refused : (fault : LoadFault) → HasNotLoaded file fault → Reported notes.old notes.new (refusal_line (load_refusal fault))
       → Reports tells file output notes (status_of (load_refusal fault))
   load_refused fault meets told =
       let why = load_refusal fault in
-      let keeps : KeepsFile file = keeps_file file _ meets in
-      let performs : Performs (reporting tells file output) notes (status_of why) =
-      told_performs (reporting tells file output) notes why (not_loaded fault meets) told in
-      record {
-        performs = performs;
-        keeps = keeps;
-        crash = kept_never_torn file (status_of why) keeps (λ done. absurd (refusal_unfinished why done));
-        calm = record { file_calm = keeps.calm; output_calm = λ is other found has. ap (λ (o : OutView). o.faults) same };
-        never_outside = inside tells once file output notes (status_of why) performs;
-        decides = decides tells once file output notes (status_of why) performs;
-        file_blameless = exact fault meets;
-        output_blameless = λ is not. ap (λ (o : OutView). o.faults) same;
-      }
+      reports tells once file output notes (status_of why) (told_performs (reporting tells file output) notes why (not_loaded fault meets) told) (keeps_file file _ meets)
+      (λ is other found has. ap (λ (o : OutView). o.faults) same) (λ disk inside. meets.faults.specified_no_fault disk
+      (λ is. let failed : fault ≡ load_fault.DiskFault = cc is in inside (ap (λ f. status_of (load_refusal f)) failed)))
+      (λ is not. ap (λ (o : OutView). o.faults) same)

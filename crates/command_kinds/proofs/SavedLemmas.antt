@@ -192,8 +192,8 @@ some_room [] disk has = has
 some_room (op ∷ ops) disk has = record { room = has.room; is = has.is; bytes_fit = omega (arith, has.bytes_fit); calls_fit = omega (arith, has.calls_fit) }
 
 -- no fault is counted where there was room to save
-pub calm_so : (ops : List Op) (a b c : DiskView) → DiskCountsNoFault 1 (change a b) → b.room ≡ room_after_write 0 a.room → (ops ≡ [] → c ≡ b)
+pub no_fault_so : (ops : List Op) (a b c : DiskView) → DiskCountsNoFault 1 (change a b) → b.room ≡ room_after_write 0 a.room → (ops ≡ [] → c ≡ b)
     → IfSome b.room (λ room. LastsForCalls (behind_gate ops) room → c.faults ≡ b.faults) → DiskCountsNoFault (room_to_save ops) (change a c)
-calm_so [] a b c calm room_is none calmly has = ap (λ (d : DiskView). d.faults) (none refl) ∙ calm has
-calm_so (op ∷ ops) a b c calm room_is none calmly has =
-    with_room (c.faults ≡ b.faults) (op ∷ ops) a b (λ e. cc e) room_is has calmly ∙ calm (some_room (op ∷ ops) a has)
+no_fault_so [] a b c counts_no_fault room_is none without_fault has = ap (λ (d : DiskView). d.faults) (none refl) ∙ counts_no_fault has
+no_fault_so (op ∷ ops) a b c counts_no_fault room_is none without_fault has =
+    with_room (c.faults ≡ b.faults) (op ∷ ops) a b (λ e. cc e) room_is has without_fault ∙ counts_no_fault (some_room (op ∷ ops) a has)

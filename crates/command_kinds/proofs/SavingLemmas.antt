@@ -8,18 +8,20 @@ use Rattle.outer_ports.specs.disk.States.{durable}
 use Rattle.origin_model.specs.edits.State.{State as Replica}
 use Rattle.replica_file.proofs.HonestLemmas.{settled_honest}
 use Rattle.replica_file.proofs.LoadLemmas.{loaded_synced}
-use Rattle.replica_file.specs.Append.{AppendMeets, IsTooLong, behind_gate}
+use Rattle.replica_file.specs.Append.{AppendMeets, behind_gate}
 use Rattle.replica_file.specs.declared.appending.AppendFault.TheVariants as append_fault
 use Rattle.replica_file.specs.Gates.{gate_opened}
 use Rattle.replica_file.specs.declared.load_file.End.{End}
 use Rattle.command_kinds.specs.Files.{FileRefuses, KeepsFile}
 use Rattle.command_kinds.specs.Findings.{Refuses, Does}
-use Rattle.command_kinds.specs.Saving.{ComesToSave, GivenMeets, Giver, IsDone, Outcome, SaveFailed, SavingFound, StopsSaving, Suffices}
+use Rattle.command_kinds.specs.Giving.{GivenNoted, SavesNoted}
+use Rattle.command_kinds.specs.Saving.{GivenTo, Giver, IsDone, Outcome, SaveFailed, SavingFound, StopsSaving, Suffices}
 use Rattle.command_kinds.specs.Changes.{change}
+use Rattle.command_kinds.specs.declared.counts.Note.{Note}
 use Rattle.command_kinds.specs.declared.refusal.Refusal.{Refusal}
 use Rattle.command_kinds.specs.declared.refusal.Refusal.TheVariants as refusal
 use Rattle.command_kinds.proofs.LoadedLemmas.{HasLoaded, keeps_file}
-use Rattle.command_kinds.proofs.SavedLemmas.{calm_so, gains_so, later_so, saved_so, with_room}
+use Rattle.command_kinds.proofs.SavedLemmas.{no_fault_so, gains_so, later_so, saved_so, with_room}
 
 module _ (giver : Giver) (a b c : DiskView) (replica : Replica) (end : End) (loaded : HasLoaded (change a b) replica end) where
   keeps : KeepsFile (change a b)
@@ -48,7 +50,7 @@ module _ (giver : Giver) (a b c : DiskView) (replica : Replica) (end : End) (loa
         (λ some. (saves.appended some).has);
     none = λ is. same_past (saves.none is).1 ∙ synced;
     batch = λ some. (saves.appended some).calls ∙ ap (gate_opened end.at (behind_gate outcome.saved)) synced;
-    calm = calm_so outcome.saved a b c keeps.calm room (λ is. (saves.none is).1) saves.faults.calm;
+    counts_no_fault = no_fault_so outcome.saved a b c keeps.counts_no_fault room (λ is. (saves.none is).1) saves.faults.counts_no_fault;
   }
 
   failed_so : (outcome : Outcome) → giver.Gives replica (Does outcome) → AppendMeets end outcome.saved b c (Err append_fault.DiskFault) → SaveFailed giver (change a c)
@@ -60,7 +62,7 @@ module _ (giver : Giver) (a b c : DiskView) (replica : Replica) (end : End) (loa
     gives = gives;
     fits = λ long. let not = (fails.too_long (λ is. cc is)).1 long in cc not;
     moments = gains_so replica end outcome.saved a.past b.past c.past loaded.cause synced keeps.moments fails.moments (fails.honest (settled_honest a.past b.past synced));
-    rose = omega (arith, fails.faults.rose refl, loaded.faults.later);
+    faulted = omega (arith, fails.faults.faulted refl, loaded.faults.later);
     no_room = λ has. with_room ⊥ outcome.saved a b (λ is. let not = (fails.none is).0 in cc not) room has
         (IfSome_then b.room fails.faults.sure (λ left sure lasts. sure lasts refl));
   }
@@ -68,14 +70,11 @@ module _ (giver : Giver) (a b c : DiskView) (replica : Replica) (end : End) (loa
   still_kept : c ≡ b → KeepsFile (change a c)
   still_kept same = subst (λ (d : DiskView). KeepsFile (change a d)) (sym same) keeps
 
-  abbrev IsGiven : Refusal → Type 0
-  IsGiven why = giver.Gives replica (Refuses why) ⊎ ((why ≡ refusal.BatchTooLong) × (outcome : Outcome) × giver.Gives replica (Does outcome) × IsTooLong end outcome.saved)
-
-  refused_so : (why : Refusal) → IsGiven why × (c ≡ b)
+  refused_so : (why : Refusal) → GivenTo giver replica end (Refuses why) × (c ≡ b)
       → SavingFound giver a (Refuses why) × KeepsFile (change a c) × (FileRefuses a why ⊎ (c.past ≡ past_after_step durable a.past))
   refused_so why given = (inr (replica, end, loaded.cause, given.0), still_kept given.1, inr (same_past given.1 ∙ synced))
 
-  stops_so : (why : Refusal) → GivenMeets giver replica end (change b c) (Err why) → StopsSaving giver (change a c) why
+  stops_so : (why : Refusal) → GivenNoted giver replica end (change b c) (Err why) → StopsSaving giver (change a c) why
   stops_so refusal.Outside (inl none) = inr (inl (record {
     replica = replica;
     end = end;
@@ -90,7 +89,7 @@ module _ (giver : Giver) (a b c : DiskView) (replica : Replica) (end : End) (loa
   stops_so refusal.Words given = given
   stops_so why given = refused_so why given
 
-  -- the file was loaded, and something given to it
-  pub given_comes : (result : Result Outcome Refusal) → GivenMeets giver replica end (change b c) result → ComesToSave giver (change a c) result
-  given_comes (Ok outcome) given = done_so outcome given.0 given.1 given.2.0 given.2.1
-  given_comes (Err why) given = stops_so why given
+  -- what was given to a loaded file was saved, or why not
+  pub noted_comes : (result : Result Note Refusal) → GivenNoted giver replica end (change b c) result → SavesNoted giver (change a c) result
+  noted_comes (Ok note) given = (given.0, given.1, done_so given.0 given.2 given.3 given.4.0 given.4.1)
+  noted_comes (Err why) given = stops_so why given

@@ -46,7 +46,7 @@ still_said : (old asked new : WireView) (text : List ℕ) → Took (out_of old) 
 still_said old asked new text took said room = record { written = said ∙ took.written; room = room ∙ took.room }
 
 module _ (port cursor : ℕ) (old new : WireView) (before after : OpsTaking) (done : Type 0)
-    (calm : FitsBytes (length (request_for cursor before.replica.held)) old → new.faults ≡ old.faults) where
+    (counts_no_fault : FitsBytes (length (request_for cursor before.replica.held)) old → new.faults ≡ old.faults) where
   -- the replica spoke and heard the reply
   pub speaks_whole : (count : ℕ) → SyncsReplica old new before after port cursor count → Speaks port cursor before.replica.held (change old new) done
   speaks_whole count s =
@@ -64,13 +64,20 @@ module _ (port cursor : ℕ) (old new : WireView) (before after : OpsTaking) (do
           ends = s.hears.ends;
           heard = sym s.asks.left ∙ s.hears.hears.heard;
         };
-        calm = calm;
+        counts_no_fault = counts_no_fault;
       }
 
   -- it spoke up to a fault, or heard the reply up to one
   pub speaks_front : (fault : SyncFault) → SyncFails fault old new before after port cursor → (done → ⊥) → Speaks port cursor before.replica.held (change old new) done
   speaks_front fault (inl asks) not_done =
-      record { front = asks.said; no_other = asks.no_other; whole = λ d. absurd (not_done d); dialled = λ d. absurd (not_done d); heard = λ d. absurd (not_done d); calm = calm }
+      record {
+        front = asks.said;
+        no_other = asks.no_other;
+        whole = λ d. absurd (not_done d);
+        dialled = λ d. absurd (not_done d);
+        heard = λ d. absurd (not_done d);
+        counts_no_fault = counts_no_fault;
+      }
   speaks_front fault (inr hear) not_done = record {
     front = whole_front (out_of old) (out_of new) (request_for cursor before.replica.held)
         (still_said old hear.asked new (request_for cursor before.replica.held) hear.asks.said hear.hears.hears.said hear.hears.hears.room);
@@ -78,7 +85,7 @@ module _ (port cursor : ℕ) (old new : WireView) (before after : OpsTaking) (do
     whole = λ d. absurd (not_done d);
     dialled = λ d. absurd (not_done d);
     heard = λ d. absurd (not_done d);
-    calm = calm;
+    counts_no_fault = counts_no_fault;
   }
 
 -- the operations of a reply that was heard to its end
@@ -99,17 +106,17 @@ pub reply_gives_none : (fault : SyncFault) (port cursor : ℕ) (replica now : Re
     → FileHolds home replica end → SyncFails fault wire.old wire.new (taking_begun replica kept) after port cursor → HeardUpTo fault wire.old.left (taking_begun replica kept) last
     → (fault ≡ sync_fault.WireFault → Faulted wire.old.faults wire.new.faults) → (FitsBytes (length (request_for cursor replica.held)) wire.old → fault ≢ sync_fault.WireFault)
     → GivesTo (reply cursor home wire) replica now kept_after (Err (sync_refusal fault))
-reply_gives_none sync_fault.WireFault port cursor replica now kept after last end home wire kept_after holds fails heard rose sure =
-    (rose refl, λ fits. sure (fits replica end holds) refl)
-reply_gives_none (sync_fault.BadReply k) port cursor replica now kept after last end home wire kept_after holds fails heard rose sure =
+reply_gives_none sync_fault.WireFault port cursor replica now kept after last end home wire kept_after holds fails heard faulted sure =
+    (faulted refl, λ fits. sure (fits replica end holds) refl)
+reply_gives_none (sync_fault.BadReply k) port cursor replica now kept after last end home wire kept_after holds fails heard faulted sure =
     cause_ops wire.old.left (taking_begun replica kept) last (Bad k) heard
-reply_gives_none (sync_fault.RelayRefused code) port cursor replica now kept after last end home wire kept_after holds fails heard rose sure =
+reply_gives_none (sync_fault.RelayRefused code) port cursor replica now kept after last end home wire kept_after holds fails heard faulted sure =
     cause_ops wire.old.left (taking_begun replica kept) last (Refused code) heard
-reply_gives_none (sync_fault.CutShort k) port cursor replica now kept after last end home wire kept_after holds fails heard rose sure =
+reply_gives_none (sync_fault.CutShort k) port cursor replica now kept after last end home wire kept_after holds fails heard faulted sure =
     cause_ops wire.old.left (taking_begun replica kept) last (Cut k) heard
-reply_gives_none sync_fault.TooLong port cursor replica now kept after last end home wire kept_after holds fails heard rose sure =
+reply_gives_none sync_fault.TooLong port cursor replica now kept after last end home wire kept_after holds fails heard faulted sure =
     cause_ops wire.old.left (taking_begun replica kept) last TooLong heard
-reply_gives_none (sync_fault.TooMany most) port cursor replica now kept after last end home wire kept_after holds fails heard rose sure =
+reply_gives_none (sync_fault.TooMany most) port cursor replica now kept after last end home wire kept_after holds fails heard faulted sure =
     let cause = cause_ops wire.old.left (taking_begun replica kept) last TooMany heard in (
       elim fails [
         | inl asks ↦ absurd asks.cause
@@ -120,7 +127,7 @@ reply_gives_none (sync_fault.TooMany most) port cursor replica now kept after la
       cause.0,
       cause.1,
     )
-reply_gives_none sync_fault.NoMemory port cursor replica now kept after last end home wire kept_after holds fails heard rose sure = tt
+reply_gives_none sync_fault.NoMemory port cursor replica now kept after last end home wire kept_after holds fails heard faulted sure = tt
 
 -- a reply that was taken in gives its outcome
 pub reply_gives : (cursor : ℕ) (home : DiskView) (wire : Change WireView) (replica now : Replica) (tally : Tally) (kept kept_after : List Op) → kept ≡ []

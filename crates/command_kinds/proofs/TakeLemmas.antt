@@ -14,7 +14,8 @@ use Rattle.op_frame.proofs.CourseLemmas.{comes_once}
 use Rattle.origin_model.specs.edits.State.{State as Replica}
 use Rattle.command_kinds.specs.Findings.{Finding, Refuses, Does}
 use Rattle.command_kinds.specs.Giving.{GivesTo, ReportsOutcome}
-use Rattle.command_kinds.specs.Intake.{IntakeStopsFor, SourceComes, TakesInStream, copies_of_kept, ops_in}
+use Rattle.command_kinds.specs.Input.{SourceComes, StreamFound}
+use Rattle.command_kinds.specs.Intake.{IntakeStopsFor, TakesInStream, copies_of_kept, ops_in}
 use Rattle.command_kinds.specs.Saving.{Giver, GivesOnce, Outcome, Suffices}
 use Rattle.command_kinds.specs.Take.{StreamGives, counts_in, noted_in, stream, taken_in, waiting_in}
 use Rattle.command_kinds.specs.Changes.{Change}
@@ -47,42 +48,57 @@ taken_gives giver replica now ops cursor gives settled kept kept_are counts is =
   noted = subst (λ (c : Counts). ReportsOutcome (noted_in replica ops cursor) (note.Counted c)) (sym is) (record { line = refl; status = refl });
 }
 
--- what a stream gives that comes to an end
-abbrev stream_finding : Replica → List Op → IntakeOutcome → Finding Outcome
-stream_finding replica ops Whole = Does (taken_in replica ops)
+-- what a stream leads to that comes to an end
+abbrev stream_finding : Replica → List Op → IntakeOutcome → Finding (List Op)
+stream_finding replica ops Whole = Does ops
 stream_finding replica ops (CutShort k) = Refuses (refusal.CutShort k)
 stream_finding replica ops (BadFrame k) = Refuses (refusal.BadFrame k)
 stream_finding replica ops TooLong = Refuses refusal.TooLong
 stream_finding replica ops TooMany = Refuses (refusal.TooMany replica.most)
 
 -- the end to which a stream came
-record ComesTo (input : SourceView) (replica : Replica) (finding : Finding Outcome) : Type 0 where
+record ComesTo (input : SourceView) (replica : Replica) (finding : Finding (List Op)) : Type 0 where
   ops : List Op
   course : IntakeOutcome
   came : SourceComes replica input ops course
   finding_is : finding ≡ stream_finding replica ops course
 
-comes_to : (input : SourceView) (replica : Replica) (finding : Finding Outcome) → StreamGives input replica finding → ComesTo input replica finding
-comes_to input replica (Does outcome) gives = record { ops = gives.0; course = Whole; came = gives.1; finding_is = ap Does gives.2 }
-comes_to input replica (Refuses (refusal.BadFrame k)) gives = record { ops = gives.0; course = BadFrame k; came = gives.1; finding_is = refl }
-comes_to input replica (Refuses (refusal.CutShort k)) gives = record { ops = gives.0; course = CutShort k; came = gives.1; finding_is = refl }
-comes_to input replica (Refuses refusal.TooLong) gives = record { ops = gives.0; course = TooLong; came = gives.1; finding_is = refl }
-comes_to input replica (Refuses (refusal.TooMany count)) gives =
-    record { ops = gives.1; course = TooMany; came = gives.2; finding_is = ap (λ (n : ℕ). Refuses (refusal.TooMany n)) gives.0 }
-comes_to input replica (Refuses _) gives = absurd gives
+comes_to : (input : SourceView) (replica : Replica) (finding : Finding (List Op)) → StreamFound replica input finding → ComesTo input replica finding
+comes_to input replica (Does ops) found = record { ops = ops; course = Whole; came = found; finding_is = refl }
+comes_to input replica (Refuses (refusal.BadFrame k)) found = record { ops = found.0; course = BadFrame k; came = found.1; finding_is = refl }
+comes_to input replica (Refuses (refusal.CutShort k)) found = record { ops = found.0; course = CutShort k; came = found.1; finding_is = refl }
+comes_to input replica (Refuses refusal.TooLong) found = record { ops = found.0; course = TooLong; came = found.1; finding_is = refl }
+comes_to input replica (Refuses (refusal.TooMany count)) found =
+    record { ops = found.1; course = TooMany; came = found.2; finding_is = ap (λ (n : ℕ). Refuses (refusal.TooMany n)) found.0 }
+comes_to input replica (Refuses _) found = absurd found
 
--- a stream that is told gives one thing
-pub stream_once : (input : Change SourceView) → GivesOnce (stream input)
-stream_once input told replica one two gives others =
-    let a = comes_to input.old replica one gives in
-    let b = comes_to input.old replica two others in
+-- a stream that is told leads to one thing
+pub stream_found_once : (input : SourceView) → (bytes : List ℕ) × (input.left ≡ Some bytes) → (replica : Replica) (one two : Finding (List Op))
+    → StreamFound replica input one → StreamFound replica input two → one ≡ two
+stream_found_once input told replica one two found others =
+    let a = comes_to input replica one found in
+    let b = comes_to input replica two others in
     let same = comes_once Version2 replica.hold replica.most replica.held STREAM_LIMIT told.0 a.ops b.ops a.course b.course (by_bytes a.ops a.course a.came)
     (by_bytes b.ops b.course b.came) in
     a.finding_is ∙ (λ i. stream_finding replica (same.0 i) (same.1 i)) ∙ sym b.finding_is
   where
-    by_bytes : (ops : List Op) (course : IntakeOutcome) → SourceComes replica input.old ops course
+    by_bytes : (ops : List Op) (course : IntakeOutcome) → SourceComes replica input ops course
         → Comes Version2 replica.hold replica.most replica.held STREAM_LIMIT told.0 ops course
     by_bytes ops course came = subst (λ o. IfSome o (λ bytes. Comes Version2 replica.hold replica.most replica.held STREAM_LIMIT bytes ops course)) told.1 came
+
+-- and gives one thing
+pub stream_once : (input : Change SourceView) → GivesOnce (stream input)
+stream_once input told replica = by_finding
+  where
+    once : (one two : Finding (List Op)) → StreamFound replica input.old one → StreamFound replica input.old two → one ≡ two
+    once = stream_found_once input.old told replica
+
+    by_finding : (one two : Finding Outcome) → StreamGives input.old replica one → StreamGives input.old replica two → one ≡ two
+    by_finding (Refuses why) (Refuses other) a b = let same : why ≡ other = cc (once (Refuses why) (Refuses other) a b) in ap Refuses same
+    by_finding (Refuses why) (Does outcome) a b = cc (once (Refuses why) (Does b.0) a b.1)
+    by_finding (Does outcome) (Refuses why) a b = cc (once (Does a.0) (Refuses why) a.1 b)
+    by_finding (Does outcome) (Does other) a b =
+        let same : a.0 ≡ b.0 = cc (once (Does a.0) (Does b.0) a.1 b.1) in ap Does (a.2 ∙ ap (taken_in replica) same ∙ sym b.2)
 
 -- a stream that was taken in gives its outcome
 pub stream_gives : (input : Change SourceView) (replica now : Replica) (tally : Tally) (kept kept_after : Option (List Op)) → kept ≡ Some []
@@ -97,10 +113,6 @@ stream_gives input replica now tally kept kept_after none taken counts settled i
 -- a stream that stopped gives its refusal
 pub stream_gives_none : (input : Change SourceView) (replica now : Replica) (kept : Option (List Op)) (why : Refusal) → IntakeStopsFor why replica input.old
     → KeepsCount input.old input.new (IsErrOf {T = Tally} (Err why) refusal.Outside) → GivesTo (stream input) replica now kept (Err why)
-stream_gives_none input replica now kept refusal.Outside stops count = (count.rose refl, λ sure. count.succeeds sure refl)
+stream_gives_none input replica now kept refusal.Outside stops count = (count.faulted refl, λ sure. count.succeeds sure refl)
 stream_gives_none input replica now kept refusal.NoMemory stops count = tt
-stream_gives_none input replica now kept (refusal.BadFrame offset) stops count = stops
-stream_gives_none input replica now kept (refusal.CutShort offset) stops count = stops
-stream_gives_none input replica now kept refusal.TooLong stops count = stops
-stream_gives_none input replica now kept (refusal.TooMany limit) stops count = stops
-stream_gives_none input replica now kept _ stops count = absurd stops
+stream_gives_none input replica now kept why stops count = stops

@@ -31,7 +31,7 @@ whole_front old new text took = record { count = length text; within = omega ari
 -- the notes' count rose only where the refusal's line was not written
 pub told_blameless : (why : Refusal) (notes : Change OutView) → Reported notes.old notes.new (refusal_line why) → NotesBlameless notes (status_of why)
 told_blameless why notes told tells not =
-    elim (told.exact tells) [ inl same ↦ inl same | inr rose ↦ inr (record { why = why; end_is = refl; front = told.front; rose = rose }) ]
+    elim (told.exact tells) [ inl same ↦ inl same | inr faulted ↦ inr (record { why = why; end_is = refl; front = told.front; faulted = faulted }) ]
 
 -- a line did not go out whole, and behind it another did or did not
 pub fronts_joined : (old mid new : OutView) (first second : List ℕ) → TookFront old mid first → TookFront mid new second → TookFronts old new first second
@@ -49,7 +49,7 @@ pub not_noted : (e : Failed) (old mid new : OutView) (line : List ℕ) (status e
 not_noted e old mid new line status end wrote short told is = inr (
   record {
     took = fronts_joined old mid new line (refusal_line refusal.Outside) wrote.err told.front;
-    rose = omega (arith, wrote.cause.failed, told.later);
+    faulted = omega (arith, wrote.cause.failed, told.later);
     no_room = text_has_no_room e old mid line notes_room wrote short;
   },
   is,

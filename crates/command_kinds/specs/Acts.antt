@@ -1,12 +1,14 @@
 -- A command acts, and then notes what came of that.
-use Rattle.std.specs.Prelude.{◌≡◌, List, ℕ, Option, Some, None, Result, Ok, Err}
+use Rattle.std.specs.Prelude.{◌≡◌, ◌≢◌, ◌⊎◌, List, ℕ, Option, Some, None, Result, Ok, Err}
+use Rattle.fugue_ids.specs.Causes.{Faulted}
 use Rattle.fugue_ids.specs.Outs.{OutView}
-use Rattle.command_kinds.specs.Changes.{Change, CountsNoFault, notes_room}
+use Rattle.command_kinds.specs.Changes.{Change, CountsNoFault, HasRoom, notes_room}
+use Rattle.command_kinds.specs.Findings.{Basis, Does, Finding, IsDecided, Refuses, WhereTold}
 use Rattle.command_kinds.specs.Printing.{NoteMeets, NotesBlameless}
 use Rattle.command_kinds.specs.Refusal.{refusal_line, status_of, Reported}
 use Rattle.command_kinds.specs.declared.refusal.Refusal.{Refusal}
 use Rattle.command_kinds.specs.declared.status.Status.{Status}
-use Rattle.command_kinds.specs.declared.status.Status.TheVariants.{Done}
+use Rattle.command_kinds.specs.declared.status.Status.TheVariants.{Done, OutsideFault}
 
 -- a line was noted with its status, or the notes failed; where there is no line, nothing was noted
 abbrev pub NotesLine : Option (List ℕ) → Status → Change OutView → Status → Type 0
@@ -24,7 +26,7 @@ pub record TellsResult {T : Type 0} (line : T → Option (List ℕ)) (status : T
     (end : Status) : Type 0 where
   pub noted : NotesResult line status result notes end
   -- notes that have room count no fault, and those that tell count one with an outside fault alone, but for a refusal's line
-  pub calm : CountsNoFault notes_room notes.old notes.new
+  pub counts_no_fault : CountsNoFault notes_room notes.old notes.new
   pub blameless : NotesBlameless notes end
 
 -- an act that notes nothing where all was done
@@ -49,3 +51,29 @@ pub record Performs {T : Type 0} (act : Act T) (notes : Change OutView) (end : S
   pub result : Result T Refusal
   pub did : act.Comes result
   pub told : TellsResult act.line act.status result notes end
+
+-- the status that follows from what the objects lead to
+abbrev pub status_found : {T : Type 0} → Act T → Finding T → Status
+status_found act (Refuses why) = status_of why
+status_found act (Does done) = act.status done
+
+-- and the line that is noted of it, but for that of a refusal
+abbrev pub line_found : {T : Type 0} → Act T → Finding T → Option (List ℕ)
+line_found act (Refuses why) = None
+line_found act (Does done) = act.line done
+
+-- A call that failed. One on the notes counts only where a line is noted of what was done: a refusal that is not noted
+-- keeps its status.
+abbrev pub SomeFails : {T : Type 0} → Act T → Basis T → (notes : Change OutView) → Finding T → Type 0
+SomeFails act basis notes found =
+    basis.Failed found ⊎ ((line_found act found ≢ None) × Faulted notes.old.faults notes.new.faults)
+
+-- the objects decide the status, but for want of memory and faults
+abbrev pub IsDecidedBy : {T : Type 0} → Act T → Basis T → (notes : Change OutView) → Status → Type 0
+IsDecidedBy act basis notes end =
+    WhereTold basis (λ found. IsDecided (status_found act found) (SomeFails act basis notes found) end)
+
+-- where they are sure, and the notes have room for a line, no outside fault comes
+abbrev pub NeverOutside : {T : Type 0} → Act T → Basis T → (notes : Change OutView) → Status → Type 0
+NeverOutside act basis notes end =
+    WhereTold basis (λ found. basis.Sure found → (line_found act found ≢ None → HasRoom notes_room notes.old) → end ≢ OutsideFault)

@@ -12,6 +12,7 @@ use Rattle.replica_file.specs.Load.{LoadAnswerIs, Loads}
 use Rattle.replica_file.specs.declared.load_file.End.{End}
 use Rattle.replica_file.specs.declared.load_file.LoadFault.TheVariants as load_fault
 use Rattle.command_kinds.specs.Changes.{Change, DiskBlameless, DiskCountsNoFault, HasDiskRoom}
+use Rattle.command_kinds.specs.Findings.{Does, Finding, Refuses}
 use Rattle.command_kinds.specs.declared.refusal.Refusal.{Refusal}
 use Rattle.command_kinds.specs.declared.refusal.Refusal.TheVariants.{NotReplica, BadBatch, TooMany}
 use Rattle.command_kinds.specs.declared.status.Status.{Status}
@@ -27,6 +28,15 @@ FileRefuses disk (BadBatch slot) = IfSome disk.past (λ h. LoadAnswerIs MOST_OPE
 FileRefuses disk (TooMany count) = IfSome disk.past (λ h. LoadAnswerIs MOST_OPERATIONS h.last.seen (Err (load_fault.TooMany count)))
 FileRefuses disk _ = ⊥
 
+-- the file holds a replica that leads to this
+abbrev pub HolderFinds : {T : Type 0} → (Gives : Replica → End → Finding T → Type 0) → DiskView → Finding T → Type 0
+HolderFinds Gives disk found = (replica : Replica) × (end : End) × FileHolds disk replica end × Gives replica end found
+
+-- what a file leads to: it is refused, or what its replica leads to
+abbrev pub FileFinds : {T : Type 0} → (Gives : Replica → End → Finding T → Type 0) → DiskView → Finding T → Type 0
+FileFinds Gives disk (Refuses why) = FileRefuses disk why ⊎ HolderFinds Gives disk (Refuses why)
+FileFinds Gives disk (Does done) = HolderFinds Gives disk (Does done)
+
 -- what stands in the file, where it is told
 abbrev pub bytes_of : Option History → Option (List ℕ)
 bytes_of past = option_map (λ (h : History). h.last.seen) past
@@ -36,7 +46,7 @@ pub record KeepsFile (file : Change DiskView) : Type 0 where
   pub bytes : bytes_of file.new.past ≡ bytes_of file.old.past
   pub past : (file.new.past ≡ past_after_step durable file.old.past) ⊎ (file.new.past ≡ file.old.past)
   pub moments : IfSome file.old.past (λ h. LeavesOnlyTo h file.new.past (MayLeave h))
-  pub calm : DiskCountsNoFault 1 file
+  pub counts_no_fault : DiskCountsNoFault 1 file
 
 -- a file that was only read is left so
 pub record LeavesFile (file : Change DiskView) (end : Status) : Type 0 where
@@ -45,7 +55,7 @@ pub record LeavesFile (file : Change DiskView) (end : Status) : Type 0 where
 
 -- a call on the file failed while it was loaded
 pub record LoadFailed (file : Change DiskView) : Type 0 where
-  pub rose : Faulted file.old.faults file.new.faults
+  pub faulted : Faulted file.old.faults file.new.faults
   pub no_room : HasDiskRoom 1 file.old → ⊥
   pub keeps : KeepsFile file
 

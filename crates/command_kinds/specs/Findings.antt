@@ -12,3 +12,23 @@ pub data Finding (T : Type 0) : Type 0 where
 -- the status follows, but for want of memory and for faults of objects in use
 abbrev pub IsDecided : (status : Status) (failed : Type 0) → Status → Type 0
 IsDecided status failed end = (end ≡ status) ⊎ (end ≡ NoMemory) ⊎ ((end ≡ OutsideFault) × failed)
+
+-- what decides a command before it notes anything: its objects
+pub record Basis (T : Type 0) : Type 1 where
+  -- they are told
+  pub Told : Type 0
+  -- and lead to this
+  pub Leads : Finding T → Type 0
+  -- a call on one of those in use failed, where they lead to this
+  pub Failed : Finding T → Type 0
+  -- no call on them fails then
+  pub Sure : Finding T → Type 0
+
+-- this holds of whatever the objects lead to, where they are told
+abbrev pub WhereTold : {T : Type 0} → Basis T → (Finding T → Type 0) → Type 0
+WhereTold basis Holds = basis.Told → (found : Finding _) → basis.Leads found → Holds found
+
+-- a call failed: the first one, or a later one, which comes only where something is done
+abbrev pub EitherFails : {T : Type 0} → (first later : Type 0) → Finding T → Type 0
+EitherFails first later (Refuses why) = first
+EitherFails first later (Does done) = first ⊎ later

@@ -1,15 +1,17 @@
 -- What a giver gives to a replica that was loaded, as its note tells it.
-use Rattle.std.specs.Prelude.{◌≡◌, ℕ, ◌-◌, List, Option, length, drop, Result, Ok, Err, IsErrOf, IsOk}
+use Rattle.std.specs.Prelude.{◌≡◌, ◌⊎◌, ℕ, ◌-◌, List, Option, length, drop, Result, Ok, Err, IsErrOf, IsOk}
 use Rattle.fugue_ids.specs.declared.op.Op.{Op}
 use Rattle.origin_model.specs.operations.History.{accepted}
 use Rattle.outer_ports.specs.disk.Disks.{DiskView}
 use Rattle.origin_model.specs.edits.State.{State as Replica}
+use Rattle.replica_file.specs.Append.{AppendMeets}
+use Rattle.replica_file.specs.declared.appending.AppendFault.TheVariants as append_fault
 use Rattle.replica_file.specs.declared.load_file.End.{End}
 use Rattle.command_kinds.specs.Counts.{counts_text, made_line, revised_text, status_by}
 use Rattle.command_kinds.specs.Crashes.{IsFinished}
 use Rattle.command_kinds.specs.Findings.{Refuses, Does}
 use Rattle.command_kinds.specs.Intake.{ops_in}
-use Rattle.command_kinds.specs.Saving.{ComesToSave, GivenMeets, Giver, Outcome, Suffices}
+use Rattle.command_kinds.specs.Saving.{GivenTo, Giver, IsDone, Outcome, StopsSaving, Suffices}
 use Rattle.command_kinds.specs.Changes.{Change}
 use Rattle.command_kinds.specs.declared.counts.Note.{Note}
 use Rattle.command_kinds.specs.declared.counts.Note.TheVariants as note
@@ -64,13 +66,20 @@ pub record MayEnd (answer : Result Note Refusal) (end : Status) : Type 0 where
   pub finished : IsFinished end → IsOk answer
   pub blames : IsErrOf answer refusal.Outside → end ≡ status.OutsideFault
 
--- what was given to a file that is loaded, as its note tells it
+-- what was given to a file that is loaded, as its note tells it: the outcome, whose operations were appended, or why it stopped
 abbrev pub GivenNoted : Giver → Replica → End → Change DiskView → Result Note Refusal → Type 0
 GivenNoted giver replica end file (Ok note) =
-    (outcome : Outcome) × ReportsOutcome outcome note × GivenMeets giver replica end file (Ok outcome)
-GivenNoted giver replica end file (Err why) = GivenMeets giver replica end file (Err why)
+    (outcome : Outcome) × ReportsOutcome outcome note × giver.Gives replica (Does outcome) × Suffices replica outcome
+    × ((last : End) × AppendMeets end outcome.saved file.old file.new (Ok last))
+GivenNoted giver replica end file (Err refusal.Outside) =
+    (giver.Failed × (giver.Sure → ⊥) × (file.new ≡ file.old))
+    ⊎ ((outcome : Outcome) × giver.Gives replica (Does outcome)
+    × AppendMeets end outcome.saved file.old file.new (Err append_fault.DiskFault))
+GivenNoted giver replica end file (Err refusal.NoMemory) = file.new ≡ file.old
+GivenNoted giver replica end file (Err refusal.Words) = ⊥
+GivenNoted giver replica end file (Err why) = GivenTo giver replica end (Refuses why) × (file.new ≡ file.old)
 
--- what was given and saved, as its note tells it
+-- what was given and saved, as its note tells it, or why not
 abbrev pub SavesNoted : Giver → Change DiskView → Result Note Refusal → Type 0
-SavesNoted giver file (Ok note) = (outcome : Outcome) × ReportsOutcome outcome note × ComesToSave giver file (Ok outcome)
-SavesNoted giver file (Err why) = ComesToSave giver file (Err why)
+SavesNoted giver file (Ok note) = (outcome : Outcome) × ReportsOutcome outcome note × IsDone giver file outcome
+SavesNoted giver file (Err why) = StopsSaving giver file why

@@ -7,8 +7,7 @@ use Rattle.origin_model.specs.declared.grammar.Grammar.TheVariants.{Version2}
 use Rattle.origin_model.specs.taking.Taking.{MeetsNoLimit, TooMany as AnswersTooMany, IsSettled, answer, held_from, kept_from, tally_from}
 use Rattle.origin_model.specs.taking.Taking.{no_counts}
 use Rattle.origin_model.specs.declared.taking.Tally.{Tally}
-use Rattle.op_frame.specs.Courses.{Comes, IntakeOutcome, Whole, CutShort as IsCutShort, BadFrame as HasBadFrame, TooLong as IsTooLong}
-use Rattle.op_frame.specs.Courses.{TooMany as HasTooMany}
+use Rattle.op_frame.specs.Courses.{Whole}
 use Rattle.op_frame.specs.Readers.{FrameReading, Nexts}
 use Rattle.op_frame.specs.NextRuns.{GivesMany, IsReachedOp}
 use Rattle.op_frame.specs.declared.fault.FrameFault.TheVariants as frame_fault
@@ -18,6 +17,7 @@ use Rattle.origin_model.specs.edits.State.{State}
 use Rattle.replica_core.specs.Feeding.{TakesInAll}
 use Rattle.replica_core.specs.Told.{total}
 use Rattle.fugue_ids.specs.declared.limits.TheConstants.{GREATEST_HOLD, STREAM_LIMIT}
+use Rattle.command_kinds.specs.Input.{SourceComes, StreamRefuses}
 use Rattle.command_kinds.specs.declared.refusal.Refusal.{Refusal}
 use Rattle.command_kinds.specs.declared.refusal.Refusal.TheVariants.{BadFrame, CutShort, TooLong, TooMany, Outside, NoMemory}
 
@@ -93,10 +93,6 @@ IntakeSteps old new before after (Err Outside) = Unit {0}
 IntakeSteps old new before after (Err NoMemory) = Unit {0}
 IntakeSteps old new before after (Err _) = ⊥
 
--- the source, where it is told, comes to this end
-abbrev pub SourceComes : State → SourceView → List Op → IntakeOutcome → Type 0
-SourceComes start old ops course = IfSome old.left (λ bytes. Comes Version2 start.hold start.most start.held STREAM_LIMIT bytes ops course)
-
 -- the source came to its end, and the replica took its operations in
 pub record TakesInStream (start : State) (old new : SourceView) (replica : State) (counts : Tally)
     (kept kept_after : Option (List Op)) : Type 0 where
@@ -107,12 +103,8 @@ pub record TakesInStream (start : State) (old new : SourceView) (replica : State
   pub counts_are : counts ≡ tally_from start.hold start.most start.held ops no_counts
   pub kept_are : kept_after ≡ copies_of_kept kept (kept_from start.hold start.most start.held ops)
 
--- the cause of a refusal of the stream
+-- why a stream was not taken in: a call failed, or memory was wanting, or it is refused
 abbrev pub IntakeStopsFor : Refusal → State → SourceView → Type 0
-IntakeStopsFor (BadFrame offset) start old = (ops : List Op) × SourceComes start old ops (HasBadFrame offset)
-IntakeStopsFor (CutShort offset) start old = (ops : List Op) × SourceComes start old ops (IsCutShort offset)
-IntakeStopsFor TooLong start old = (ops : List Op) × SourceComes start old ops IsTooLong
-IntakeStopsFor (TooMany count) start old = (count ≡ start.most) × (ops : List Op) × SourceComes start old ops HasTooMany
 IntakeStopsFor Outside start old = Unit {0}
 IntakeStopsFor NoMemory start old = Unit {0}
-IntakeStopsFor _ start old = ⊥
+IntakeStopsFor why start old = StreamRefuses start old why

@@ -5,6 +5,7 @@ pub mod Counts
 pub mod Printing
 pub mod Kept
 pub mod Acts
+pub mod Input
 pub mod Intake
 pub mod Show
 pub mod Findings

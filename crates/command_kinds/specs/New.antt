@@ -30,7 +30,7 @@ pub record FoundNotEmpty (home : Change DiskView) : Type 0 where
 -- a call failed: nothing was written, or the range of the 14 bytes may hold anything
 pub record NotCreated (home : Change DiskView) : Type 0 where
   pub torn : MayHaveWritten 0 14 home.old.past home.new.past
-  pub rose : Faulted home.old.faults home.new.faults
+  pub faulted : Faulted home.old.faults home.new.faults
   pub no_room : HasDiskRoom 14 home.old → ⊥
 
 -- the file was made, or why not: it takes no memory
@@ -63,6 +63,6 @@ pub record Creates (replica hold : ℕ) (home : Change DiskView) (notes : Change
   pub filled : KeepsFilled home
   pub crash : NeverTorn (λ gave. gave ≡ []) home end
   -- a sure file with room counts no fault
-  pub calm : DiskCountsNoFault 14 home
+  pub counts_no_fault : DiskCountsNoFault 14 home
   pub never_outside : HasDiskRoom 14 home.old → end ≢ status.OutsideFault
   pub blameless : DiskBlameless home end

@@ -17,7 +17,7 @@ pub record Noted (line : List ℕ) (status : Status) (old new : OutView) (end : 
 -- the notes failed: they hold a front of the line, and then one of the fault's line
 pub record NotNoted (line : List ℕ) (old new : OutView) : Type 0 where
   pub took : TookFronts old new line (refusal_line refusal.Outside)
-  pub rose : Faulted old.faults new.faults
+  pub faulted : Faulted old.faults new.faults
   pub no_room : HasRoom notes_room old → ⊥
 
 -- the line was written and the status answered, or the notes failed
@@ -27,7 +27,7 @@ NoteMeets line wanted old new end = Noted line wanted old new end ⊎ (NotNoted 
 -- the output failed: a front of a text went out
 pub record WroteFront (bytes : List ℕ) (output : Change OutView) : Type 0 where
   pub wrote : TookFront output.old output.new bytes
-  pub rose : Faulted output.old.faults output.new.faults
+  pub faulted : Faulted output.old.faults output.new.faults
   pub no_room : HasRoom (length bytes) output.old → ⊥
 
 -- a refusal's line could not be written: the refusal keeps its status
@@ -35,7 +35,7 @@ pub record NotReported (notes : Change OutView) (end : Status) : Type 0 where
   pub why : Refusal
   pub end_is : end ≡ status_of why
   pub front : TookFront notes.old notes.new (refusal_line why)
-  pub rose : Faulted notes.old.faults notes.new.faults
+  pub faulted : Faulted notes.old.faults notes.new.faults
 
 -- the notes' count of faults rises with an outside fault alone, where they tell, and but for the line of a refusal
 abbrev pub NotesBlameless : Change OutView → Status → Type 0

@@ -174,7 +174,7 @@ pub record Reported (old new : OutView) (line : List ℕ) : Type 0 where
   pub whole : (Faulted old.faults new.faults → ⊥) → Took old new line
   pub front : TookFront old new line
   pub sure : HasRoom (length line) old → (new.faults ≡ old.faults) × Took old new line
-  pub calm : CountsNoFault notes_room old new
+  pub counts_no_fault : CountsNoFault notes_room old new
   -- an object that tells counts a fault only where the line is not whole
   pub exact : OutTells old → (new.faults ≡ old.faults) ⊎ Faulted old.faults new.faults
 

@@ -10,21 +10,18 @@ use Rattle.outer_ports.specs.disk.Disks.{DiskView}
 use Rattle.outer_ports.specs.disk.Moments.{past_after_step}
 use Rattle.outer_ports.specs.disk.States.{durable}
 use Rattle.origin_model.specs.edits.State.{State as Replica}
-use Rattle.replica_file.specs.Append.{AppendMeets, IsTooLong, behind_gate}
+use Rattle.replica_file.specs.Append.{IsTooLong, behind_gate}
 use Rattle.replica_file.specs.Gates.{gate_opened}
-use Rattle.replica_file.specs.declared.appending.AppendFault.TheVariants as append_fault
 use Rattle.replica_file.specs.declared.load_file.End.{End}
 use Rattle.command_kinds.specs.Crashes.{IsFinished, NeverTorn}
-use Rattle.command_kinds.specs.Files.{FileHolds, FileRefuses, GainsAllOrNone, AreSavedOps, KeepsFile, LoadFailed}
-use Rattle.command_kinds.specs.Findings.{Finding, Refuses, Does, IsDecided}
+use Rattle.command_kinds.specs.Files.{FileFinds, FileHolds, FileRefuses, GainsAllOrNone, AreSavedOps, KeepsFile, LoadFailed}
+use Rattle.command_kinds.specs.Findings.{Basis, Finding, Refuses, Does, IsDecided, WhereTold}
 use Rattle.command_kinds.specs.Refusal.{status_of}
-use Rattle.command_kinds.specs.Changes.{Change, DiskBlameless, DiskCountsNoFault, HasDiskRoom, HasRoom, IsSpecified, SourceBlameless}
-use Rattle.command_kinds.specs.Changes.{change, notes_room}
+use Rattle.command_kinds.specs.Changes.{Change, DiskBlameless, DiskCountsNoFault, HasDiskRoom, IsSpecified, SourceBlameless, change}
 use Rattle.command_kinds.specs.declared.refusal.Refusal.{Refusal}
 use Rattle.command_kinds.specs.declared.refusal.Refusal.TheVariants as refusal
 use Rattle.command_kinds.specs.declared.status.Status.{Status}
-use Rattle.command_kinds.specs.declared.status.Status.TheVariants as status
-use Rattle.command_kinds.specs.Acts.{Act, Performs}
+use Rattle.command_kinds.specs.Acts.{Act, IsDecidedBy, NeverOutside, Performs}
 
 -- what a command does where nothing fails
 pub record Outcome : Type 0 where
@@ -52,20 +49,16 @@ abbrev pub GivesOnce : Giver → Type 0
 GivesOnce giver = giver.Told → (replica : Replica) (one two : Finding Outcome) → giver.Gives replica one → giver.Gives replica two
     → one ≡ two
 
--- what the file and the giver lead to: the file is refused, or what is given to it, or what is saved is no batch
-abbrev pub SavingFound : Giver → DiskView → Finding Outcome → Type 0
-SavingFound giver file (Refuses why) =
-    FileRefuses file why
-    ⊎ ((replica : Replica) × (end : End) × FileHolds file replica end
-    × (giver.Gives replica (Refuses why)
-    ⊎ ((why ≡ refusal.BatchTooLong) × (outcome : Outcome) × giver.Gives replica (Does outcome) × IsTooLong end outcome.saved)))
-SavingFound giver file (Does outcome) =
-    (replica : Replica) × (end : End) × FileHolds file replica end × giver.Gives replica (Does outcome) × (IsTooLong end outcome.saved → ⊥)
+-- what a giver gives to a replica whose file ends there: what it has saved is refused where that is no batch
+abbrev pub GivenTo : Giver → Replica → End → Finding Outcome → Type 0
+GivenTo giver replica end (Refuses why) =
+    giver.Gives replica (Refuses why)
+    ⊎ ((why ≡ refusal.BatchTooLong) × (outcome : Outcome) × giver.Gives replica (Does outcome) × IsTooLong end outcome.saved)
+GivenTo giver replica end (Does outcome) = giver.Gives replica (Does outcome) × (IsTooLong end outcome.saved → ⊥)
 
--- the status of what a command found
-abbrev pub outcome_status : Finding Outcome → Status
-outcome_status (Refuses why) = status_of why
-outcome_status (Does outcome) = outcome.status
+-- what the file and the giver lead to: the file is refused, or what is given to it
+abbrev pub SavingFound : Giver → DiskView → Finding Outcome → Type 0
+SavingFound giver file found = FileFinds (GivenTo giver) file found
 
 -- the room of a file that is loaded, and gains these operations
 abbrev pub room_to_save : List Op → ℕ
@@ -89,7 +82,7 @@ pub record IsDone (giver : Giver) (file : Change DiskView) (outcome : Outcome) :
   pub none : outcome.saved ≡ [] → file.new.past ≡ past_after_step durable file.old.past
   pub batch : outcome.saved ≢ [] → file.new.past ≡ gate_opened end.at (behind_gate outcome.saved) (past_after_step durable file.old.past)
   pub later : (last : End) × FileHolds file.new (record replica { held = outcome.held }) last
-  pub calm : DiskCountsNoFault (room_to_save outcome.saved) file
+  pub counts_no_fault : DiskCountsNoFault (room_to_save outcome.saved) file
 
 -- a call on the file failed while it gained the operations: it has all of them or none
 pub record SaveFailed (giver : Giver) (file : Change DiskView) : Type 0 where
@@ -100,7 +93,7 @@ pub record SaveFailed (giver : Giver) (file : Change DiskView) : Type 0 where
   pub gives : giver.Gives replica (Does outcome)
   pub fits : IsTooLong end outcome.saved → ⊥
   pub moments : IfSome file.old.past (λ h. GainsAllOrNone outcome.saved h file.new.past)
-  pub rose : Faulted file.old.faults file.new.faults
+  pub faulted : Faulted file.old.faults file.new.faults
   pub no_room : HasDiskRoom (room_to_save outcome.saved) file.old → ⊥
 
 -- a call on the giver failed, behind the loading of the file, which settles it
@@ -122,31 +115,10 @@ StopsSaving giver file why =
     SavingFound giver file.old (Refuses why) × KeepsFile file
     × (FileRefuses file.old why ⊎ (file.new.past ≡ past_after_step durable file.old.past))
 
--- the outcome, or why it did not come
-abbrev pub ComesToSave : Giver → Change DiskView → Result Outcome Refusal → Type 0
-ComesToSave giver file (Ok outcome) = IsDone giver file outcome
-ComesToSave giver file (Err why) = StopsSaving giver file why
-
 -- a replica that takes in the outcome's operations too comes to its state
 pub record Suffices (replica : Replica) (outcome : Outcome) : Type 0 where
   pub same_state : held_from replica.hold replica.most replica.held outcome.saved ≡ outcome.held
   pub place : MeetsNoLimit replica.hold replica.most replica.held outcome.saved
-
--- what was given to a file that is loaded: the outcome, whose operations were appended, or why it stopped
-abbrev pub GivenMeets : Giver → Replica → End → Change DiskView → Result Outcome Refusal → Type 0
-GivenMeets giver replica end file (Ok outcome) =
-    giver.Gives replica (Does outcome) × Suffices replica outcome
-    × ((last : End) × AppendMeets end outcome.saved file.old file.new (Ok last))
-GivenMeets giver replica end file (Err refusal.Outside) =
-    (giver.Failed × (giver.Sure → ⊥) × (file.new ≡ file.old))
-    ⊎ ((outcome : Outcome) × giver.Gives replica (Does outcome)
-    × AppendMeets end outcome.saved file.old file.new (Err append_fault.DiskFault))
-GivenMeets giver replica end file (Err refusal.NoMemory) = file.new ≡ file.old
-GivenMeets giver replica end file (Err refusal.Words) = ⊥
-GivenMeets giver replica end file (Err why) =
-    (giver.Gives replica (Refuses why)
-    ⊎ ((why ≡ refusal.BatchTooLong) × (outcome : Outcome) × giver.Gives replica (Does outcome) × IsTooLong end outcome.saved))
-    × (file.new ≡ file.old)
 
 -- what came of a command: the outcome of one that did all, or why it did not come
 abbrev pub SavesOutcome : Giver → Change DiskView → Result Outcome Refusal → Type 0
@@ -161,29 +133,14 @@ saving giver file = record {
   status = λ outcome. outcome.status;
 }
 
--- a sure file with room counts no fault, however the command ends
-abbrev pub SavingCountsNoFault : Giver → Change DiskView → Type 0
-SavingCountsNoFault giver file =
-    IsSpecified file.old → giver.Told → (found : Finding Outcome) → SavingFound giver file.old found
-    → DiskCountsNoFault (room_needed found) file
-
--- and where all are sure and have room, no outside fault comes
-abbrev pub SavingNeverOutside : Giver → Change DiskView → Change OutView → Status → Type 0
-SavingNeverOutside giver file notes end =
-    IsSpecified file.old → giver.Told → (found : Finding Outcome) → SavingFound giver file.old found
-    → giver.Sure → HasDiskRoom (room_needed found) file.old → HasRoom notes_room notes.old → end ≢ status.OutsideFault
-
--- A call that failed. One on the notes counts only where all was done: a refusal that is not noted keeps its status.
-abbrev pub SomeFails : Giver → Change DiskView → Change OutView → Finding Outcome → Type 0
-SomeFails giver file notes (Refuses why) = Faulted file.old.faults file.new.faults ⊎ giver.Failed
-SomeFails giver file notes (Does outcome) =
-    Faulted file.old.faults file.new.faults ⊎ giver.Failed ⊎ Faulted notes.old.faults notes.new.faults
-
--- the file and the giver decide the status, but for want of memory and faults
-abbrev pub SavingIsDecided : Giver → Change DiskView → Change OutView → Status → Type 0
-SavingIsDecided giver file notes end =
-    IsSpecified file.old → giver.Told → (found : Finding Outcome) → SavingFound giver file.old found
-    → IsDecided (outcome_status found) (SomeFails giver file notes found) end
+-- what decides it: the file and the giver
+abbrev pub saving_basis : Giver → Change DiskView → Basis Outcome
+saving_basis giver file = record {
+  Told = IsSpecified file.old × giver.Told;
+  Leads = SavingFound giver file.old;
+  Failed = λ found. Faulted file.old.faults file.new.faults ⊎ giver.Failed;
+  Sure = λ found. giver.Sure × HasDiskRoom (room_needed found) file.old;
+}
 
 -- a file that is the cause of a refusal decides it alone, whatever the giver does, which comes behind it
 abbrev pub FileIsRefused : Change DiskView → Status → Type 0
@@ -202,14 +159,15 @@ GaveOutcome giver file end ops =
 pub record SavesGiven (giver : Giver) (file : Change DiskView) (notes : Change OutView) (end : Status) : Type 0 where
   pub performs : Performs (saving giver file) notes end
   pub crash : NeverTorn (GaveOutcome giver file.old end) file end
-  pub calm : SavingCountsNoFault giver file
-  pub never_outside : SavingNeverOutside giver file notes end
-  pub decided : SavingIsDecided giver file notes end
+  -- a sure file with room counts no fault, however the command ends
+  pub counts_no_fault : WhereTold (saving_basis giver file) (λ found. DiskCountsNoFault (room_needed found) file)
+  pub never_outside : NeverOutside (saving giver file) (saving_basis giver file) notes end
+  pub decided : IsDecidedBy (saving giver file) (saving_basis giver file) notes end
   pub refused : FileIsRefused file end
   pub blameless : DiskBlameless file end
 
 -- the input is left so by a command that takes from it: where all was done, it was read to its end
 pub record ReadsInput (old new : SourceView) (end : Status) : Type 0 where
   pub read : IsFinished end → IfSome new.left (λ bytes. bytes ≡ [])
-  pub calm : old.sure ≡ true → new.faults ≡ old.faults
+  pub counts_no_fault : old.sure ≡ true → new.faults ≡ old.faults
   pub blameless : SourceBlameless (change old new) end

@@ -58,7 +58,7 @@ pub record Speaks (port cursor : ℕ) (held : Held) (wire : Change WireView) (do
   pub whole : done → Took (out_of wire.old) (out_of wire.new) (request_for cursor held)
   pub dialled : done → DialsOnce wire.old wire.new port
   pub heard : done → HearsNoFurther wire.old.left wire.new.left
-  pub calm : FitsBytes (length (request_for cursor held)) wire.old → wire.new.faults ≡ wire.old.faults
+  pub counts_no_fault : FitsBytes (length (request_for cursor held)) wire.old → wire.new.faults ≡ wire.old.faults
 
 -- the replica of the file spoke, or nothing was said at all
 abbrev pub SpeaksFor : (port cursor : ℕ) → DiskView → Change WireView → (done : Type 0) → Type 0

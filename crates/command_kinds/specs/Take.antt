@@ -1,22 +1,19 @@
 -- The commands that take operations into a file: `take` those of the input, and `merge` those of another file.
-use Rattle.std.specs.Prelude.{◌≡◌, ◌⊎◌, ℕ, List, ◌++◌, length, true, Option, Some, None}
+use Rattle.std.specs.Prelude.{◌≡◌, ℕ, List, ◌++◌, length, true, Option, Some, None}
 use Rattle.fugue_ids.specs.Causes.{Faulted}
 use Rattle.fugue_ids.specs.declared.op.Op.{Op}
 use Rattle.origin_model.specs.operations.History.{accepted}
 use Rattle.origin_model.specs.taking.Taking.{MeetsNoLimit, Held, held_from, kept_from, no_counts, tally_from}
 use Rattle.origin_model.specs.declared.taking.Tally.{Tally}
-use Rattle.op_frame.specs.Courses.{Whole, CutShort, BadFrame, TooLong, TooMany}
 use Rattle.outer_ports.specs.Sources.{SourceView}
 use Rattle.outer_ports.specs.disk.Disks.{DiskView}
 use Rattle.origin_model.specs.edits.State.{State as Replica}
-use Rattle.replica_file.specs.declared.load_file.End.{End}
 use Rattle.command_kinds.specs.Counts.{counts_text, status_by}
-use Rattle.command_kinds.specs.Files.{FileHolds, FileRefuses}
+use Rattle.command_kinds.specs.Files.{FileFinds}
 use Rattle.command_kinds.specs.Findings.{Finding, Refuses, Does}
-use Rattle.command_kinds.specs.Intake.{SourceComes}
+use Rattle.command_kinds.specs.Input.{StreamFound}
 use Rattle.command_kinds.specs.Saving.{Giver, Outcome}
 use Rattle.command_kinds.specs.Changes.{Change, HasDiskRoom, IsSpecified}
-use Rattle.command_kinds.specs.declared.refusal.Refusal.{Refusal}
 use Rattle.command_kinds.specs.declared.refusal.Refusal.TheVariants as refusal
 
 -- what became of operations that a replica takes in, and how many wait then
@@ -40,18 +37,10 @@ noted_in replica ops cursor = record {
 abbrev pub taken_in : Replica → List Op → Outcome
 taken_in replica ops = noted_in replica ops None
 
--- the stream comes to an end that is the cause of this refusal
-abbrev pub StreamRefuses : Replica → SourceView → Refusal → Type 0
-StreamRefuses replica input (refusal.BadFrame offset) = (ops : List Op) × SourceComes replica input ops (BadFrame offset)
-StreamRefuses replica input (refusal.CutShort offset) = (ops : List Op) × SourceComes replica input ops (CutShort offset)
-StreamRefuses replica input refusal.TooLong = (ops : List Op) × SourceComes replica input ops TooLong
-StreamRefuses replica input (refusal.TooMany count) = (count ≡ replica.most) × (ops : List Op) × SourceComes replica input ops TooMany
-StreamRefuses replica input _ = ⊥
-
 -- what a stream gives
 abbrev pub StreamGives : SourceView → Replica → Finding Outcome → Type 0
-StreamGives input replica (Refuses why) = StreamRefuses replica input why
-StreamGives input replica (Does outcome) = (ops : List Op) × SourceComes replica input ops Whole × (outcome ≡ taken_in replica ops)
+StreamGives input replica (Refuses why) = StreamFound replica input (Refuses why)
+StreamGives input replica (Does outcome) = (ops : List Op) × StreamFound replica input (Does ops) × (outcome ≡ taken_in replica ops)
 
 -- a stream that is read from a source, as what gives the operations
 abbrev pub stream : Change SourceView → Giver
@@ -76,14 +65,9 @@ ReplicaGives other replica (Refuses why) = (why ≡ refusal.TooMany replica.most
 ReplicaGives other replica (Does outcome) =
     MeetsNoLimit replica.hold replica.most replica.held (all_held_ops other.held) × (outcome ≡ taken_in replica (all_held_ops other.held))
 
--- the file holds a replica that gives this
-abbrev pub HolderGives : DiskView → Replica → Finding Outcome → Type 0
-HolderGives guest replica finding = (other : Replica) × (end : End) × FileHolds guest other end × ReplicaGives other replica finding
-
 -- what another file gives: it is refused, or what its replica gives
 abbrev pub FileGives : DiskView → Replica → Finding Outcome → Type 0
-FileGives guest replica (Refuses why) = FileRefuses guest why ⊎ HolderGives guest replica (Refuses why)
-FileGives guest replica (Does outcome) = HolderGives guest replica (Does outcome)
+FileGives guest replica found = FileFinds (λ other end. ReplicaGives other replica) guest found
 
 -- the other replica alone, which is no object of the outside
 abbrev pub all_held_by : (other : Replica) → Giver

@@ -25,7 +25,7 @@ TextComes bytes output (Err _) = ⊥
 -- the call that writes a text: a sure output that has room for it counts no fault, and one that tells none but where it failed
 pub record GoesOut (bytes : List ℕ) (output : Change OutView) (result : Result (Unit {0}) Refusal) : Type 0 where
   pub comes : TextComes bytes output result
-  pub calm : CountsNoFault (length bytes) output.old output.new
+  pub counts_no_fault : CountsNoFault (length bytes) output.old output.new
   pub told : OutTells output.old → result ≢ Err refusal.Outside → output.new.faults ≡ output.old.faults
 
 -- the act of a command that writes a text: only a failure is noted

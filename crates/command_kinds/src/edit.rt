@@ -42,7 +42,7 @@ impl<S: Source> Gives<S> for Script {
 /// Writes to the notes how many operations a script made.
 pub(crate) fn note_made<N: Sink>(made: u32, notes: &mut N) -> Status
     ensures meets { NoteMeets (made_line made) Done (N.seen notes.old) (N.seen notes.new) result }
-    ensures calm { CountsNoFault notes_room (N.seen notes.old) (N.seen notes.new) }
+    ensures counts_no_fault { CountsNoFault notes_room (N.seen notes.old) (N.seen notes.new) }
     ensures blameless { NotesBlameless (change (N.seen notes.old) (N.seen notes.new)) result }
 {
     let written = write_made(notes, made);
@@ -52,7 +52,7 @@ pub(crate) fn note_made<N: Sink>(made: u32, notes: &mut N) -> Status
 /// Writes to the notes how many operations a draft took, and how many of them were made on sections.
 pub(crate) fn note_revised<N: Sink>(made: u32, sections: &SectionCounts, notes: &mut N) -> Status
     ensures meets { NoteMeets (revised_text made sections.now) Done (N.seen notes.old) (N.seen notes.new) result }
-    ensures calm { CountsNoFault notes_room (N.seen notes.old) (N.seen notes.new) }
+    ensures counts_no_fault { CountsNoFault notes_room (N.seen notes.old) (N.seen notes.new) }
     ensures blameless { NotesBlameless (change (N.seen notes.old) (N.seen notes.new)) result }
 {
     let written = write_revised(notes, made, sections);

@@ -159,7 +159,7 @@ pub fn last_of(replica: &Replica, count: u32) -> OpSlice<'_>
 
 fn note_down<N: Sink>(note: &Note, notes: &mut N) -> Status
     ensures meets { NoteMeets (note_line note.now) (note_status note.now) (N.seen notes.old) (N.seen notes.new) result }
-    ensures calm { CountsNoFault notes_room (N.seen notes.old) (N.seen notes.new) }
+    ensures counts_no_fault { CountsNoFault notes_room (N.seen notes.old) (N.seen notes.new) }
     ensures blameless { NotesBlameless (change (N.seen notes.old) (N.seen notes.new)) result }
 {
     match note {

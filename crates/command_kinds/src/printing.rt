@@ -35,7 +35,7 @@ pub(crate) fn print<O: Sink, N: Sink>(
 pub(crate) fn note<N: Sink>(counts: &Counts, notes: &mut N) -> Status
     ensures meets { NoteMeets (counts_text counts.now.tally counts.now.waiting counts.now.cursor)
         (status_by counts.now.tally counts.now.waiting) (N.seen notes.old) (N.seen notes.new) result }
-    ensures calm { CountsNoFault notes_room (N.seen notes.old) (N.seen notes.new) }
+    ensures counts_no_fault { CountsNoFault notes_room (N.seen notes.old) (N.seen notes.new) }
     ensures blameless { NotesBlameless (change (N.seen notes.old) (N.seen notes.new)) result }
 {
     let written = write_counts(notes, counts);
@@ -46,7 +46,7 @@ pub(crate) fn note<N: Sink>(counts: &Counts, notes: &mut N) -> Status
 pub fn noted<N: Sink>(written: Result<(), Failed>, status: Status, notes: &mut N) -> Status
     ensures meets { (before : OutView) (line : List ℕ) → WritesBytes before (N.seen notes.old) written line
         → length line ≤ notes_room → NoteMeets line status before (N.seen notes.new) result }
-    ensures calm { (before : OutView) (line : List ℕ) → WritesBytes before (N.seen notes.old) written line
+    ensures counts_no_fault { (before : OutView) (line : List ℕ) → WritesBytes before (N.seen notes.old) written line
         → length line ≤ notes_room → CountsNoFault notes_room before (N.seen notes.new) }
     ensures blameless { (before : OutView) (line : List ℕ) → WritesBytes before (N.seen notes.old) written line
         → NotesBlameless (change before (N.seen notes.new)) result }

@@ -39,20 +39,19 @@ LieUntouched hs from to = All (λ h. (h.old_at + h.old_len ≤ from) ⊎ (to < h
 -- stay; where both stand in one such line, or the section keeps its text, or no hunk touches it, all of it stays. So it does
 -- where it stands in the common front or in the common end of a stretch between lines that stay, as far as whole words allow.
 pub record PassageStays (old new : State) (section : Identifier) (kept : KeepsSection old new section) (first last : Identifier)
-    (elements : List Identifier)
-    (was : IsShownPassage old.held.history section first last elements) : Type 0 where
+    (elements : List Identifier) (was : IsShownPassage old.held.history section first last elements) : Type 0 where
   pub ends : (other : text old.held.history section ≡ text new.held.history section → ⊥)
-      → All (λ k. All (λ l. AreAmong k.old_at k.len was.from was.from → AreAmong l.old_at l.len was.to was.to
-      → AreShown new.held.history section first last)
-      (kept.elements.lines other).lines) (kept.elements.lines other).lines
+      → let stay = (kept.elements.lines other).lines in
+      All (λ k. All (λ l. AreAmong k.old_at k.len was.from was.from → AreAmong l.old_at l.len was.to was.to
+      → AreShown new.held.history section first last) stay) stay
   pub line : (other : text old.held.history section ≡ text new.held.history section → ⊥)
       → All (λ l. AreAmong l.old_at l.len was.from was.to → IsShownPassage new.held.history section first last elements)
       (kept.elements.lines other).lines
   pub untouched : LieUntouched kept.elements.hunks was.from was.to → IsShownPassage new.held.history section first last elements
   pub at_ends : (other : text old.held.history section ≡ text new.held.history section → ⊥)
       → AreAtSomeEnds (text old.held.history section) (text new.held.history section) whole_start whole_start
-      (kept.elements.lines other).lines kept.elements.hunks
-      (kept.elements.lines other).gaps was.from was.to → IsShownPassage new.held.history section first last elements
+      (kept.elements.lines other).lines kept.elements.hunks (kept.elements.lines other).gaps was.from was.to
+      → IsShownPassage new.held.history section first last elements
   pub same_text : text new.held.history section ≡ text old.held.history section
       → IsShownPassage new.held.history section first last elements
 

@@ -118,8 +118,8 @@ abbrev pub CostsStanding : (old new : State) → Pairs → (sections parts : ℕ
 CostsStanding old new pairs sections parts (Ok n) =
     (moved : ℕ) × PlansMoves old.held.history pairs parts moved × CostsShaping old new (shaping pairs moved sections parts) (Ok n)
 CostsStanding old new pairs sections parts (Err why) =
-    IsOutOfMemory why ⊎ ((moved : ℕ) × PlansMoves old.held.history pairs parts moved
-    × LacksRoom old (shaping pairs moved sections parts) why)
+    IsOutOfMemory why
+    ⊎ ((moved : ℕ) × PlansMoves old.held.history pairs parts moved × LacksRoom old (shaping pairs moved sections parts) why)
 
 -- What a draft asks for: the sections are matched with its parts, they are moved to the places of these, and the texts of
 -- the first parts are compared with those of their sections.
@@ -142,5 +142,5 @@ plan_cost h parts pairs moved hunks =
 -- memory was wanting, or there is less room than such a plan costs
 abbrev pub LacksPlan : State → List Part → ReviseFault → Type 0
 LacksPlan s parts why =
-    IsOutOfMemory why ⊎ ((plan : Plan s.held.history parts)
-    × LacksRoom s (plan_cost s.held.history parts plan.pairs plan.moved plan.hunks) why)
+    IsOutOfMemory why
+    ⊎ ((plan : Plan s.held.history parts) × LacksRoom s (plan_cost s.held.history parts plan.pairs plan.moved plan.hunks) why)

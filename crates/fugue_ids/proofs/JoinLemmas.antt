@@ -58,7 +58,7 @@ front_behind u v w a b s t = record {
 sure_stops : (E T S : Type 0) (e : E) (room : Option ℕ) (m n before now : ℕ) → m ≤ n
     → IfSome room (λ r. IsSure {E = E} {T = T} r m before now (Err e)) → IfSome room (λ r. IsSure {E = E} {T = S} r n before now (Err e))
 sure_stops E T S e None m n before now le s = tt
-sure_stops E T S e (Some r) m n before now le s = record { fits = λ fit. s.fits (omega (arith, le, fit)); within = tt; calm = tt }
+sure_stops E T S e (Some r) m n before now le s = record { fits = λ fit. s.fits (omega (arith, le, fit)); within = tt; counts_no_fault = tt }
 
 sure_joins : {E T S : Type 0} (x : T) (result : Result S E) (room mid : Option ℕ) (m n f0 f1 f2 : ℕ) → mid ≡ room_after m room
     → IfSome room (λ r. IsSure {E = E} {T = T} r m f0 f1 (Ok x)) → IfSome mid (λ r. IsSure {E = E} {T = S} r n f1 f2 result)
@@ -67,19 +67,19 @@ sure_joins x result None mid m n f0 f1 f2 is s t = tt
 sure_joins x result (Some r) None m n f0 f1 f2 is s t = absurd (cc is)
 sure_joins x (Ok y) (Some r) (Some q) m n f0 f1 f2 is s t =
     let left : q ≡ r - m = cc is in
-    record { fits = λ fit. tt; within = omega (arith, left, s.within, t.within); calm = t.calm ∙ s.calm }
+    record { fits = λ fit. tt; within = omega (arith, left, s.within, t.within); counts_no_fault = t.counts_no_fault ∙ s.counts_no_fault }
 sure_joins x (Err e) (Some r) (Some q) m n f0 f1 f2 is s t =
     let left : q ≡ r - m = cc is in
-    record { fits = λ fit. t.fits (omega (arith, left, fit)); within = tt; calm = tt }
+    record { fits = λ fit. t.fits (omega (arith, left, fit)); within = tt; counts_no_fault = tt }
 
 -- nothing was to go out
 pub text_none : {E T : Type 0} (x : T) (v : OutView) → WritesBytes {E = E} {T = T} v v (Ok x) []
 text_none {E} {T} x v =
-    record { ok = took_none v v refl refl; err = tt; cause = record { later = omega arith; failed = tt }; sure = sure_none v.room v.faults; calm_told = λ tells. refl }
+    record { ok = took_none v v refl refl; err = tt; cause = record { later = omega arith; failed = tt }; sure = sure_none v.room v.faults; specified_no_fault = λ tells. refl }
   where
     sure_none : (room : Option ℕ) (faults : ℕ) → IfSome room (λ r. IsSure {E = E} {T = T} r 0 faults faults (Ok x))
     sure_none None faults = tt
-    sure_none (Some r) faults = record { fits = λ fit. tt; within = omega arith; calm = refl }
+    sure_none (Some r) faults = record { fits = λ fit. tt; within = omega arith; counts_no_fault = refl }
 
 -- the first of two texts failed
 pub text_stops : {E T S : Type 0} (e : E) (u v : OutView) (a b : List ℕ) → WritesBytes {E = E} {T = T} u v (Err e) a → WritesBytes {E = E} {T = S} u v (Err e) (a ++ b)
@@ -88,7 +88,7 @@ text_stops {E} {T} {S} e u v a b s = record {
   err = front_longer u v a b s.err;
   cause = record { later = s.cause.later; failed = s.cause.failed };
   sure = sure_stops E T S e u.room (length a) (length (a ++ b)) u.faults v.faults (omega (arith, length-append a b)) s.sure;
-  calm_told = λ tells. tt;
+  specified_no_fault = λ tells. tt;
 }
 
 -- the first of two texts went out, and the second did or didn't
@@ -100,7 +100,7 @@ text_joins {E} {T} {S} x (Ok y) u v w a b s t = record {
   cause = record { later = omega (arith, s.cause.later, t.cause.later); failed = tt };
   sure = subst (λ n. IfSome u.room (λ r. IsSure {E = E} {T = S} r n u.faults w.faults (Ok y))) (sym (length-append a b))
       (sure_joins {E = E} {T = T} {S = S} x (Ok y) u.room v.room (length a) (length b) u.faults v.faults w.faults s.ok.room s.sure t.sure);
-  calm_told = λ tells. t.calm_told (took_tells u v a s.ok tells) ∙ s.calm_told tells;
+  specified_no_fault = λ tells. t.specified_no_fault (took_tells u v a s.ok tells) ∙ s.specified_no_fault tells;
 }
 text_joins {E} {T} {S} x (Err e) u v w a b s t = record {
   ok = tt;
@@ -108,7 +108,7 @@ text_joins {E} {T} {S} x (Err e) u v w a b s t = record {
   cause = record { later = omega (arith, s.cause.later, t.cause.later); failed = omega (arith, s.cause.later, t.cause.failed) };
   sure = subst (λ n. IfSome u.room (λ r. IsSure {E = E} {T = S} r n u.faults w.faults (Err e))) (sym (length-append a b))
       (sure_joins {E = E} {T = T} {S = S} x (Err e) u.room v.room (length a) (length b) u.faults v.faults w.faults s.ok.room s.sure t.sure);
-  calm_told = λ tells. tt;
+  specified_no_fault = λ tells. tt;
 }
 
 -- what `&piece[at..]` is, behind what is before it
@@ -121,8 +121,8 @@ front_grows at n piece =
 
 sure_call : (E T : Type 0) (x : T) (room : Option ℕ) (n m before now : ℕ) → m ≡ n → IfSome room (λ r. n ≤ r) → IfSome room (λ r. now ≡ before)
     → IfSome room (λ r. IsSure {E = E} {T = T} r m before now (Ok x))
-sure_call E T x None n m before now is within calm = tt
-sure_call E T x (Some r) n m before now is within calm = record { fits = λ fit. tt; within = omega (arith, is, within); calm = calm }
+sure_call E T x None n m before now is within counts_no_fault = tt
+sure_call E T x (Some r) n m before now is within counts_no_fault = record { fits = λ fit. tt; within = omega (arith, is, within); counts_no_fault = counts_no_fault }
 
 -- a call that took a front of the piece
 call_wrote : {E T : Type 0} (x : T) (v w : OutView) (piece : List ℕ) (n : ℕ) → WritesSome {E = E} v w (Ok n) piece → WritesBytes {E = E} {T = T} v w (Ok x) (take n piece)
@@ -130,14 +130,14 @@ call_wrote {E} {T} x v w piece n t = record {
   ok = t.took;
   err = tt;
   cause = record { later = t.cause.later; failed = tt };
-  sure = sure_call E T x v.room n (length (take n piece)) v.faults w.faults (length-take-le n piece t.bound) t.within t.calm;
-  calm_told = t.calm_told;
+  sure = sure_call E T x v.room n (length (take n piece)) v.faults w.faults (length-take-le n piece t.bound) t.within t.counts_no_fault;
+  specified_no_fault = t.specified_no_fault;
 }
 
 sure_full : (E S : Type 0) (e : E) (room : Option ℕ) (n before now : ℕ) → IfSome room (λ r. (0 < n) × (r ≡ 0))
     → IfSome room (λ r. IsSure {E = E} {T = S} r n before now (Err e))
 sure_full E S e None n before now full = tt
-sure_full E S e (Some r) n before now full = record { fits = λ fit. omega (arith, full.0, full.1, fit); within = tt; calm = tt }
+sure_full E S e (Some r) n before now full = record { fits = λ fit. omega (arith, full.0, full.1, fit); within = tt; counts_no_fault = tt }
 
 -- a call that failed
 call_failed : {E S : Type 0} (e : E) (v w : OutView) (piece : List ℕ) → WritesSome {E = E} v w (Err e) piece → WritesBytes {E = E} {T = S} v w (Err e) piece
@@ -146,7 +146,7 @@ call_failed {E} {S} e v w piece t = record {
   err = record { count = 0; within = omega arith; took = t.none };
   cause = record { later = t.cause.later; failed = t.cause.failed };
   sure = sure_full E S e v.room (length piece) v.faults w.faults t.full;
-  calm_told = λ tells. tt;
+  specified_no_fault = λ tells. tt;
 }
 
 -- what takes a text goes on telling

@@ -36,7 +36,7 @@ pub record TookFront (old new : OutView) (bytes : List ℕ) : Type 0 where
 pub record IsSure {E T : Type 0} (room n before now : ℕ) (result : Result T E) : Type 0 where
   pub fits : n ≤ room → OnErr result ⊥
   pub within : OnOk result (n ≤ room)
-  pub calm : OnOk result (now ≡ before)
+  pub counts_no_fault : OnOk result (now ≡ before)
 
 -- One call: a front of the piece goes out, at least one byte of a piece that is not empty; nothing at an error. Where the
 -- object tells, the count rises only with an error.
@@ -48,8 +48,8 @@ pub record WritesSome {E : Type 0} (old new : OutView) (result : Result ℕ E) (
   pub cause : HasCause old.faults new.faults result
   pub full : IfSome old.room (λ room. OnErr result ((0 < length piece) × (room ≡ 0)))
   pub within : IfSome old.room (λ room. IfOk result (λ n. n ≤ room))
-  pub calm : IfSome old.room (λ room. OnOk result (new.faults ≡ old.faults))
-  pub calm_told : OutTells old → OnOk result (new.faults ≡ old.faults)
+  pub counts_no_fault : IfSome old.room (λ room. OnOk result (new.faults ≡ old.faults))
+  pub specified_no_fault : OutTells old → OnOk result (new.faults ≡ old.faults)
 
 -- A whole text: it goes out, or an error comes with a front of it gone out. Where the object tells, the count rises only
 -- with an error: no call that failed is made once more.
@@ -58,4 +58,4 @@ pub record WritesBytes {E T : Type 0} (old new : OutView) (result : Result T E) 
   pub err : OnErr result (TookFront old new text)
   pub cause : HasCause old.faults new.faults result
   pub sure : IfSome old.room (λ room. IsSure room (length text) old.faults new.faults result)
-  pub calm_told : OutTells old → OnOk result (new.faults ≡ old.faults)
+  pub specified_no_fault : OutTells old → OnOk result (new.faults ≡ old.faults)

@@ -60,8 +60,9 @@ reported tells run text of printed =
     let meets = subst (λ f. MeetsAs f run.old run.new run.end) of run.meets in
     let reports : Reports tells (change run.old.home run.new.home) (change run.old.streams.output run.new.streams.output)
     (change run.old.streams.notes run.new.streams.notes) run.end = meets.does in
-    let wrote = (did_all (reporting tells (change run.old.home run.new.home) (change run.old.streams.output run.new.streams.output)) _ _ reports.performs (inl printed.done)).1 in
-    let same : wrote.bytes ≡ text = took_once run.old.streams.output run.new.streams.output wrote.bytes text printed.told wrote.came printed.took in
+    let did = did_all (reporting tells (change run.old.home run.new.home) (change run.old.streams.output run.new.streams.output)) _ _ reports.performs (inl printed.done) in
+    let wrote = did.1 in
+    let same : did.0 ≡ text = took_once run.old.streams.output run.new.streams.output did.0 text printed.told wrote.came printed.took in
     let found = wrote.found in
     record { replica = found.0; end = found.1; holds = found.2; told = subst (λ bytes. tells found.0 (Does bytes)) same found.3; synced = wrote.synced }
 

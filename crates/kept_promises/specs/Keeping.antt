@@ -17,8 +17,8 @@ abbrev pub FilesKeepOperations : Type 0
 FilesKeepOperations =
     (header : Header) (ops : List Op) (image : List ℕ) (runs : List CommandRun) (last : DiskState)
     → HasOps header ops image → FollowEachOther runs (at_rest image) last
-    → IsHonest last × ((left : List ℕ) → IsCrashImage last left
-    → (brought : List Op) × AllBrought runs brought × HasOps header (ops ++ brought) left)
+    → IsHonest last
+    × ((left : List ℕ) → IsCrashImage last left → (brought : List Op) × AllBrought runs brought × HasOps header (ops ++ brought) left)
 
 -- the bytes of a file are loaded as this replica
 abbrev pub IsFileOf : Replica → List ℕ → Type 0

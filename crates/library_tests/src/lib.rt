@@ -27,6 +27,8 @@ mod drafts;
 #[cfg(test)]
 mod edits;
 #[cfg(test)]
+mod fed_runs;
+#[cfg(test)]
 mod frames;
 #[cfg(test)]
 mod ids;

@@ -51,7 +51,7 @@ fn views(
 ) -> Result<bool, Fail> {
     let mut written = MemSink::new(alloc, 100, Vec::new(alloc));
     assert!(rt; has_first(replica, n));
-    write_view(replica, n, &mut written)?;
+    write_view(alloc, replica, n, &mut written)?;
     Ok(written.written() == text)
 }
 

@@ -53,13 +53,13 @@ pub record GotEverything (replicas : List State) (events : List Event) (n : ℕ)
 abbrev pub HasEverything : Type 0
 HasEverything =
     (replicas : List State) (events : List Event) → AreNew replicas
-    → All (λ (s : State). GotEverything replicas events s.number → SameOps s.held.history (world replicas events).pool)
-    (world replicas events).replicas
+    → let w = world replicas events in
+    All (λ (s : State). GotEverything replicas events s.number → SameOps s.held.history w.pool) w.replicas
 
 -- any two that got everything have the same order, and show and print the same
 abbrev pub AllAgree : Type 0
 AllAgree =
     (replicas : List State) (events : List Event) → AreNew replicas
-    → All (λ (s : State). All (λ (t : State). GotEverything replicas events s.number → GotEverything replicas events t.number
-    → IsSameText s.held.history t.held.history)
-    (world replicas events).replicas) (world replicas events).replicas
+    → let all = (world replicas events).replicas in
+    All (λ (s : State). All (λ (t : State). GotEverything replicas events s.number → GotEverything replicas events t.number
+    → IsSameText s.held.history t.held.history) all) all

@@ -42,8 +42,8 @@ StrongList = (replicas : List State) (earlier later : List Event) → AreNew rep
 abbrev pub EditsLand : Type 0
 EditsLand =
     (replicas : List State) (events : List Event) (command : Command) → AreNew replicas
-    → All (λ (s : State). refusal_message s command ≡ None → Lands s (replica_after_edit command s) command)
-    (world replicas events).replicas
+    → let all = (world replicas events).replicas in
+    All (λ (s : State). refusal_message s command ≡ None → Lands s (replica_after_edit command s) command) all
 
 -- a noting leaves what each place has and shows, and what waits
 abbrev pub NotingsShowNothing : Type 0

@@ -17,14 +17,14 @@ use Rattle.manuscript_cli.specs.Alone.{WritesAlone}
 
 refused : (bytes : List ℕ) (output : Change OutView) (why : Refusal) → TextComes bytes output (Err why)
     → IsDecided status.Done (Faulted output.old.faults output.new.faults) (status_of why)
-refused bytes output refusal.Outside front = inr (inr (refl, front.rose))
+refused bytes output refusal.Outside front = inr (inr (refl, front.faulted))
 refused bytes output refusal.NoMemory same = inr (inl refl)
 refused bytes output _ none = absurd none
 
 pub written_alone : (text : List ℕ) (output notes : Change OutView) (end : Status) → WritesOut text output notes end → WritesAlone text output notes end
 written_alone text output notes end writes = record {
   writes = writes;
-  never_outside = λ has. performs_inside (writing text output) notes end writes (λ done. inl refl) (λ done some. absurd (some refl))
+  never_outside = λ has. performs_inside (writing text output) notes end writes (λ done did. inl refl) (λ done did some. absurd (some refl))
       (λ blamed. (subst (TextComes text output) blamed writes.did.comes).no_room has);
   decides = performs_decided (writing text output) notes end writes status.Done (Faulted output.old.faults output.new.faults) (λ done did. refl)
       (λ why goes. refused text output why goes.comes) (λ done did some. absurd (some refl));

@@ -4,7 +4,6 @@ pub mod HeldLemmas
 pub mod RunLemmas
 pub mod ObeyLemmas
 pub mod RelayLemmas
-pub mod WordLemmas
 pub mod RemarkLemmas
 pub mod PassageLemmas
 pub mod AloneLemmas

@@ -46,13 +46,13 @@ module _ (first second last : DockView) (idle : IsIdle first second) (later : fi
   }
 
   -- a dock that lasts is sure
-  still_calm : (turns : List ServedStep) → Lasts first turns → second.faults ≡ first.faults
-  still_calm turns lasts = idle.calm (ap is_some lasts.ends.1)
+  still_no_fault : (turns : List ServedStep) → Lasts first turns → second.faults ≡ first.faults
+  still_no_fault turns lasts = idle.counts_no_fault (ap is_some lasts.ends.1)
 
   spends_from : (fault : ServeFault) (more : List MemStep) (turns : List ServedStep) → Lasts first turns → Spends fault more second last → Spends fault more first last
   spends_from serve_fault.DockFault more turns lasts spends = spends
-  spends_from serve_fault.TooLong more turns lasts spends = spends ∙ still_calm turns lasts
-  spends_from serve_fault.NoMemory more turns lasts spends = spends ∙ still_calm turns lasts
+  spends_from serve_fault.TooLong more turns lasts spends = spends ∙ still_no_fault turns lasts
+  spends_from serve_fault.NoMemory more turns lasts spends = spends ∙ still_no_fault turns lasts
 
   serves_from : (old new : Relay) (turns : List ServedStep) → Serves old new second last turns → Serves old new first last turns
   serves_from old new turns serves = record {
@@ -64,7 +64,7 @@ module _ (first second last : DockView) (idle : IsIdle first second) (later : fi
     ends = serves.ends ∙ ap (ends_behind (closed_in turns)) idle.ends;
     listens = serves.listens ∙ idle.listens;
     later = omega (arith, later, serves.later);
-    calm = λ lasts. serves.calm (lasts_on turns lasts) ∙ still_calm turns lasts;
+    counts_no_fault = λ lasts. serves.counts_no_fault (lasts_on turns lasts) ∙ still_no_fault turns lasts;
   }
 
   serves_partly_from : (fault : ServeFault) (old new : Relay) (turns : List ServedStep) → ServesPartly fault old new second last turns → ServesPartly fault old new first last turns
@@ -77,7 +77,7 @@ module _ (first second last : DockView) (idle : IsIdle first second) (later : fi
     ended = record { count = partly.ended.count; ended = partly.ended.ended ∙ ap (option_map (λ ended. ended ++ _)) idle.ended };
     listens = partly.listens ∙ idle.listens;
     later = omega (arith, later, partly.later);
-    calm = λ lasts. spends_from fault partly.more turns lasts (partly.calm (lasts_on turns lasts));
+    counts_no_fault = λ lasts. spends_from fault partly.more turns lasts (partly.counts_no_fault (lasts_on turns lasts));
   }
 
   -- what suffices still does
@@ -150,7 +150,7 @@ module _ (port sessions : ℕ) (output : Change OutView) (dock : Change DockView
       × NoneAfter sessions turns × (length turns ≡ most_steps))
       → ServingStops sessions most_steps fault (new_relay MOST_LOGGED) relay second dock.new → (result ≡ Err serve_fault.DockFault → Faulted second.faults dock.new.faults)
       → ServingMeets port sessions output dock (Err (serve_refusal fault))
-  not_all_served serve_fault.DockFault result is long partly rose =
+  not_all_served serve_fault.DockFault result is long partly faulted =
       inr (inr (record {
         ready = ready;
         partly = record {
@@ -158,9 +158,9 @@ module _ (port sessions : ℕ) (output : Change OutView) (dock : Change DockView
           stops = stops_from (listening port dock.old) second dock.new idle later sessions most_steps serve_fault.DockFault
               (new_relay MOST_LOGGED) relay partly;
         };
-        rose = omega (arith, rose is, later);
+        faulted = omega (arith, faulted is, later);
       }))
-  not_all_served serve_fault.NoMemory result is long partly rose = (
+  not_all_served serve_fault.NoMemory result is long partly faulted = (
     ready,
     record {
       relay = relay;
@@ -168,7 +168,7 @@ module _ (port sessions : ℕ) (output : Change OutView) (dock : Change DockView
           (new_relay MOST_LOGGED) relay partly;
     },
   )
-  not_all_served serve_fault.TooLong result is long partly rose =
+  not_all_served serve_fault.TooLong result is long partly faulted =
       let so = long is in (
         ready,
         record {
@@ -182,20 +182,20 @@ module _ (port sessions : ℕ) (output : Change OutView) (dock : Change DockView
       )
 
   -- where the steps at entry are enough
-  never_rose : (result : Result (Unit {0}) ServeFault) → BlamesDock sessions (new_relay MOST_LOGGED) second dock.new result → IsEnough sessions dock.old
+  never_faulted : (result : Result (Unit {0}) ServeFault) → BlamesDock sessions (new_relay MOST_LOGGED) second dock.new result → IsEnough sessions dock.old
       → dock.new.faults ≡ dock.old.faults
-  never_rose result blames s =
-      blames.calm (suffices_on (listening port dock.old) second dock.new idle later sessions (new_relay MOST_LOGGED) (as_listening sessions port dock.old s))
-      ∙ idle.calm (is_sure sessions dock.old s)
+  never_faulted result blames s =
+      blames.counts_no_fault (suffices_on (listening port dock.old) second dock.new idle later sessions (new_relay MOST_LOGGED) (as_listening sessions port dock.old s))
+      ∙ idle.counts_no_fault (is_sure sessions dock.old s)
 
   pub served_blameless : {T : Type 0} (logged : T) (result : Result (Unit {0}) ServeFault) → BlamesDock sessions (new_relay MOST_LOGGED) second dock.new result
       → NeverBlamed sessions output dock (Ok logged)
-  served_blameless logged result blames = record { calm = never_rose result blames; sure = λ s has is. cc is }
+  served_blameless logged result blames = record { counts_no_fault = never_faulted result blames; sure = λ s has is. cc is }
 
   pub stopped_blameless : {T : Type 0} (fault : ServeFault) → BlamesDock {T = Unit {0}} sessions (new_relay MOST_LOGGED) second dock.new (Err fault)
       → NeverBlamed {T = T} sessions output dock (Err (serve_refusal fault))
   stopped_blameless fault blames = record {
-    calm = never_rose (Err fault) blames;
+    counts_no_fault = never_faulted (Err fault) blames;
     sure = λ s has is.
         blames.sure (suffices_on (listening port dock.old) second dock.new idle later sessions (new_relay MOST_LOGGED) (as_listening sessions port dock.old s))
         (ap Err (dock_fault fault (cc is)));
@@ -227,7 +227,7 @@ module _ (port : ℕ) (output : Change OutView) (dock : Change DockView) (second
   pub stopped_told : (fault : ServeFault) → DockRisesFor (fault ≡ serve_fault.DockFault) second dock.new → RiseOutside {T = ℕ} output dock (Err (serve_refusal fault))
   stopped_told fault rises = record {
     of_output = λ tells not. opened.of_output tells (λ is. cc is);
-    of_dock = λ tells not. rises.calm_told (still_tells port dock.old second idle tells) (λ blamed. not (ap (λ f. Err (serve_refusal f)) blamed))
+    of_dock = λ tells not. rises.specified_no_fault (still_tells port dock.old second idle tells) (λ blamed. not (ap (λ f. Err (serve_refusal f)) blamed))
         ∙ opened.of_dock tells (λ is. cc is);
   }
 
@@ -236,14 +236,14 @@ pub relay_ends : (port sessions : ℕ) (output notes : Change OutView) (dock : C
     → CountsNoFault (length ready_line) output.old output.new → ServingMeets port sessions output dock result → NeverBlamed sessions output dock result
     → RiseOutside output dock result → (let act = serving port sessions output dock in TellsResult act.line act.status result notes end)
     → Relays port sessions output notes dock end
-relay_ends port sessions output notes dock end result output_calm served blameless rise told =
+relay_ends port sessions output notes dock end result output_no_fault served blameless rise told =
     let act = serving port sessions output dock in
     let performs : Performs act notes end = record { result = result; did = served; told = told } in
     record {
       performs = performs;
-      output_calm = output_calm;
-      dock_calm = blameless.calm;
-      never_outside = λ enough has room. performs_inside act notes end performs (λ logged. inl refl) (λ logged some. room) (blameless.sure enough has);
+      output_no_fault = output_no_fault;
+      dock_no_fault = blameless.counts_no_fault;
+      never_outside = λ enough has room. performs_inside act notes end performs (λ logged did. inl refl) (λ logged did some. room) (blameless.sure enough has);
       output_blameless = λ tells not. rise.of_output tells (inside_result act.line act.status result notes end told.noted not);
       dock_blameless = λ tells not. rise.of_dock tells (inside_result act.line act.status result notes end told.noted not);
     }

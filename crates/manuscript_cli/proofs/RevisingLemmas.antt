@@ -296,7 +296,7 @@ module _ (guest : Change DiskView) (input : Change SourceView) (before after : R
   pub base_gives : (F : Type 0) (why : Refusal) → BaseStops why guest.old before.held.history → (why ≡ refusal.Outside → F) → LooksOnly guest.old guest.new F
       → GivesTo (revision guest input (Refuses why)) before after kept (Err why)
   base_gives F refusal.Outside stops fails looks =
-      (inl (looks.rose (fails refl)), λ sure. subst (λ (o : Option RoomView). IfSome o (λ room. F → ⊥)) sure.0.1 looks.sure (fails refl))
+      (inl (looks.faulted (fails refl)), λ sure. subst (λ (o : Option RoomView). IfSome o (λ room. F → ⊥)) sure.0.1 looks.sure (fails refl))
   base_gives F refusal.NoMemory stops fails looks = tt
   base_gives F refusal.Words stops fails looks = never_words before.held.history stops.0 stops.2
   base_gives F why stops fails looks = gives_base guest.old input.old before stops.0 stops.1 (Refuses why) why stops.2
@@ -305,7 +305,7 @@ module _ (guest : Change DiskView) (input : Change SourceView) (before after : R
     -- a text that was not read too
     pub input_gives : (F : Type 0) (why : Refusal) → HasNoInputText input why → (why ≡ refusal.Outside → F) → KeepsCount input.old input.new F
         → GivesTo (revision guest input (Refuses why)) before after kept (Err why)
-    input_gives F refusal.Outside none fails count = (inr (count.rose (fails refl)), λ sure. count.succeeds sure.1 (fails refl))
+    input_gives F refusal.Outside none fails count = (inr (count.faulted (fails refl)), λ sure. count.succeeds sure.1 (fails refl))
     input_gives F refusal.NoMemory none fails count = tt
     input_gives F refusal.TooLong none fails count =
         let left = longer_left input none in
@@ -349,10 +349,15 @@ module _ (guest : Change DiskView) (input : Change SourceView) (before after : R
 -- how the objects are left
 pub base_looked : (guest : Change DiskView) (end : Status) (F : Type 0) → LooksOnly guest.old guest.new F → (F → end ≡ status.OutsideFault) → LooksAtBase guest end
 base_looked guest end F looks blamed =
-    record { past = looks.past; room = looks.room; calm = looks.calm; blameless = λ tells inside. looks.calm_told tells (λ failed. inside (blamed failed)) }
+    record {
+      past = looks.past;
+      room = looks.room;
+      counts_no_fault = looks.counts_no_fault;
+      blameless = λ tells inside. looks.specified_no_fault tells (λ failed. inside (blamed failed));
+    }
 
 pub input_left : (input : SourceView) (end : Status) → (IsFinished end → ⊥) → ReadsInput input input end
-input_left input end may = record { read = λ done. absurd (may done); calm = λ sure. refl; blameless = λ tells inside. refl }
+input_left input end may = record { read = λ done. absurd (may done); counts_no_fault = λ sure. refl; blameless = λ tells inside. refl }
 
 -- why no draft was read, or why it did not come, is why the text stops
 parts_stop : {T : Type 0} (fault : DraftFault) (result : Result T DraftFault) (replica : Replica) (draft : List ℕ) → result ≡ Err fault

@@ -50,13 +50,14 @@ module _ (words : List (List ℕ)) (old new : Touched) (end : Status) where
   checks : RunsCheck old new end → IsBlameless old new end
   checks meets =
       elim meets.does [
-        | inl k ↦ all _ meets.others (λ tells not. k.count.calm_told tells (λ failed. failed)) k.reports.output_blameless k.reports.performs.told.blameless
+        | inl k ↦ all _ meets.others (λ tells not. k.count.specified_no_fault tells (λ failed. failed)) k.reports.output_blameless k.reports.performs.told.blameless
             k.reports.file_blameless quiet
             quiet quiet
         | inr (inl k) ↦
             let notes : Change OutView = change old.streams.notes new.streams.notes in
             let none = k.none in
-            all _ meets.others (λ tells not. none.count.calm_told tells (λ is. not (none.end_is ∙ ap status_of is))) (λ tells not. ap (λ (o : OutView). o.faults) none.wrote)
+            all _ meets.others (λ tells not. none.count.specified_no_fault tells (λ is. not (none.end_is ∙ ap status_of is)))
+            (λ tells not. ap (λ (o : OutView). o.faults) none.wrote)
             (subst (NotesBlameless notes) (sym none.end_is) (told_blameless none.why notes none.noted)) k.file_blameless quiet quiet quiet
         | inr (inr k) ↦
             all _ meets.others (λ tells not. ap (λ (s : SourceView). s.faults) k.unread) k.reports.output_blameless k.reports.performs.told.blameless k.reports.file_blameless

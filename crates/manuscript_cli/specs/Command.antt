@@ -150,26 +150,23 @@ pub record NamesNamed (name : List ℕ) (words : List (List ℕ)) : Type 0 where
   pub words_are : words ≡ name ∷ file ∷ version ∷ []
   pub version_is : IsLineWord LONGEST_NAME version
 
--- a file, and how many operations it had
-pub record IsMoment (file number : List ℕ) (n : ℕ) : Type 0 where
-  pub some : file ≢ []
-  pub moment_is : IsNumber number 0 GREATEST_MOMENT n
-
 -- a name, FILE and N
 pub record NamesMoment (name : List ℕ) (words : List (List ℕ)) (n : ℕ) : Type 0 where
   pub file : List ℕ
+  pub some : file ≢ []
   pub number_word : List ℕ
   pub words_are : words ≡ name ∷ file ∷ number_word ∷ []
-  pub moment : IsMoment file number_word n
+  pub number_is : IsNumber number_word 0 GREATEST_MOMENT n
 
 -- `revise FILE BASE N`
 pub record NamesRevise (words : List (List ℕ)) (n : ℕ) : Type 0 where
   pub file : List ℕ
+  pub some : file ≢ []
   pub base : List ℕ
   pub some_base : base ≢ []
   pub number_word : List ℕ
   pub words_are : words ≡ codes "revise" ∷ file ∷ base ∷ number_word ∷ []
-  pub moment : IsMoment file number_word n
+  pub number_is : IsNumber number_word 0 GREATEST_MOMENT n
 
 -- the words ask for the command
 abbrev pub Names : List (List ℕ) → Command → Type 0

@@ -1,5 +1,5 @@
 -- What `show` promises of a stream whose bytes are told, and `print` and `arrange` of a file that is.
-use Rattle.std.specs.Prelude.{◌≡◌, ◌≢◌, ◌⊎◌, ℕ, ◌≤◌, List, length, Some}
+use Rattle.std.specs.Prelude.{◌≡◌, ◌≢◌, ℕ, ◌≤◌, List, length, Some}
 use Rattle.fugue_ids.specs.Causes.{Faulted}
 use Rattle.fugue_ids.specs.Outs.{OutView, Took}
 use Rattle.fugue_ids.specs.declared.op.Op.{Op}
@@ -9,14 +9,12 @@ use Rattle.origin_model.specs.operations.Verdict.{Lawful}
 use Rattle.origin_model.specs.order.Laws.{SameOps}
 use Rattle.origin_model.specs.order.Printed.{manuscript}
 use Rattle.origin_model.specs.taking.Taking.{MeetsNoLimit, held, nothing_held}
-use Rattle.op_frame.specs.Courses.{IntakeOutcome, Whole, CutShort, BadFrame, TooLong, TooMany}
 use Rattle.fugue_ids.specs.declared.limits.TheConstants.{MOST_OPERATIONS, STREAM_LIMIT}
 use Rattle.outer_ports.specs.disk.Disks.{DiskView}
 use Rattle.origin_model.specs.edits.State.{State as Replica}
 use Rattle.replica_file.specs.declared.load_file.End.{End}
 use Rattle.command_kinds.specs.Files.{FileHolds}
-use Rattle.command_kinds.specs.Findings.{IsDecided}
-use Rattle.command_kinds.specs.Show.{PrintsInput, ShowEndsAs, shown_notes, status_after}
+use Rattle.command_kinds.specs.Show.{PrintsInput, shown_notes, status_after}
 use Rattle.command_kinds.specs.Changes.{Change, IsSpecified, Streams, change}
 use Rattle.command_kinds.specs.declared.status.Status.{Status}
 use Rattle.command_kinds.specs.declared.status.Status.TheVariants as status
@@ -49,26 +47,6 @@ Headline hold old new end =
     (bytes : List ℕ) (ops : List Op) → old.input.left ≡ Some bytes → Reads Version2 bytes ops EndsWhole → length bytes ≤ STREAM_LIMIT
     → MeetsNoLimit hold MOST_OPERATIONS nothing_held ops
     → CountedNoFault old new → end ≢ status.NoMemory → ShowedBySet hold ops old new end
-
--- the status to which a stream leads
-abbrev pub status_for : (hold : ℕ) → List Op → IntakeOutcome → Status
-status_for hold ops Whole = status_after hold nothing_held ops
-status_for hold ops (CutShort offset) = status.BadInput
-status_for hold ops (BadFrame offset) = status.BadInput
-status_for hold ops TooLong = status.Limit
-status_for hold ops TooMany = status.Limit
-
--- what justifies an outside fault of `show`: the input failed, or where all was read what is written
-abbrev pub MetFault : Streams → Streams → IntakeOutcome → Type 0
-MetFault old new course =
-    Faulted old.input.faults new.input.faults
-    ⊎ ((course ≡ Whole) × (Faulted old.output.faults new.output.faults ⊎ Faulted old.notes.faults new.notes.faults))
-
--- the stream decides the status, but for want of memory and faults
-abbrev pub ShowIsDecided : (hold : ℕ) → Streams → Streams → Status → Type 0
-ShowIsDecided hold old new end =
-    (bytes : List ℕ) (ops : List Op) (course : IntakeOutcome) → old.input.left ≡ Some bytes → ShowEndsAs hold bytes ops course
-    → IsDecided (status_for hold ops course) (MetFault old new course) end
 
 -- what was printed of a file that is told, in this form, is fixed by the set of the operations that its replica accepted
 abbrev pub PrintsBySet : (text : List Op → List ℕ) → DiskView → (output : Change OutView) → Status → Type 0

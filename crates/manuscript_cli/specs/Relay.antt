@@ -46,7 +46,7 @@ pub record IsIdle (old new : DockView) : Type 0 where
   pub ended : new.ended ≡ old.ended
   pub ended_at : new.ended_at ≡ old.ended_at
   pub ends : new.ends ≡ old.ends
-  pub calm : CallsAreSure old → new.faults ≡ old.faults
+  pub counts_no_fault : CallsAreSure old → new.faults ≡ old.faults
 
 -- A new relay was given the dock's steps, and served so many sessions: the last step brought the last of them to its
 -- end, and none was asked for behind it.
@@ -78,7 +78,7 @@ pub record ServedPartly (fault : ServeFault) (port sessions : ℕ) (dock : Chang
 pub record ListeningFailed (output : Change OutView) (dock : Change DockView) : Type 0 where
   pub output_kept : output.new ≡ output.old
   pub idle : IsIdle dock.old dock.new
-  pub rose : Faulted dock.old.faults dock.new.faults
+  pub faulted : Faulted dock.old.faults dock.new.faults
   pub not_sure : CallsAreSure dock.old → ⊥
 
 -- the port was listened on, and a front of the line went out
@@ -90,7 +90,7 @@ pub record ReadyFailed (port : ℕ) (output : Change OutView) (dock : Change Doc
 pub record ServingFailed (port sessions : ℕ) (output : Change OutView) (dock : Change DockView) : Type 0 where
   pub ready : Took output.old output.new ready_line
   pub partly : ServedPartly serve_fault.DockFault port sessions dock
-  pub rose : Faulted dock.old.faults dock.new.faults
+  pub faulted : Faulted dock.old.faults dock.new.faults
 
 -- the port is listened on, and that was said, or why not
 abbrev pub OpeningMeets : (port : ℕ) → (output : Change OutView) → Change DockView → Result (Unit {0}) Refusal → Type 0
@@ -116,7 +116,7 @@ IsEnough sessions dock = DockSuffices sessions (new_relay MOST_LOGGED) dock
 -- where they are enough no fault of the dock is counted, and none is told where the output has room
 pub record NeverBlamed {T : Type 0} (sessions : ℕ) (output : Change OutView) (dock : Change DockView)
     (result : Result T Refusal) : Type 0 where
-  pub calm : IsEnough sessions dock.old → dock.new.faults ≡ dock.old.faults
+  pub counts_no_fault : IsEnough sessions dock.old → dock.new.faults ≡ dock.old.faults
   pub sure : IsEnough sessions dock.old → HasRoom (length ready_line) output.old → result ≢ Err refusal.Outside
 
 -- of an output and a dock that tell, the counts rise with an outside fault alone
@@ -140,8 +140,8 @@ DockBlameless dock end = DockTells dock.old → end ≢ status.OutsideFault → 
 pub record Relays (port sessions : ℕ) (output notes : Change OutView) (dock : Change DockView) (end : Status) : Type 0 where
   pub performs : Performs (serving port sessions output dock) notes end
   -- sure objects with room count no fault
-  pub output_calm : CountsNoFault (length ready_line) output.old output.new
-  pub dock_calm : IsEnough sessions dock.old → dock.new.faults ≡ dock.old.faults
+  pub output_no_fault : CountsNoFault (length ready_line) output.old output.new
+  pub dock_no_fault : IsEnough sessions dock.old → dock.new.faults ≡ dock.old.faults
   -- and where all are, no outside fault comes
   pub never_outside : IsEnough sessions dock.old → HasRoom (length ready_line) output.old → HasRoom notes_room notes.old
       → end ≢ status.OutsideFault

@@ -56,15 +56,17 @@ ShowsNoMore = (s : Replica) → IsSound s → length (arranged s.held.history) +
 -- why what a draft says is not taken: a line is bad, or it has nothing, or too much
 abbrev pub parts_refusal : Replica → Result (List Part) ℕ → Option Refusal
 parts_refusal replica (Ok ps) =
-    if empties replica.held.history ps then Some refusal.EmptyDraft else
-    (if is_too_large ps then Some (refusal.TooMany (held_count replica)) else None)
+    if empties replica.held.history ps then Some refusal.EmptyDraft
+    else if is_too_large ps then Some (refusal.TooMany (held_count replica))
+    else None
 parts_refusal replica (Err line) = Some (refusal.BadDraft line)
 
 -- why the bytes are no draft: there are too many, or what they say is not taken, unless they are what was printed
 abbrev pub text_refusal : Replica → (draft : List ℕ) → Option Refusal
 text_refusal replica draft =
-    if nat_lt LONGEST_TEXT (length draft) then Some refusal.TooLong else
-    (if bytes_eq draft (arranged_text replica.held.history) then None else parts_refusal replica (parts draft))
+    if nat_lt LONGEST_TEXT (length draft) then Some refusal.TooLong
+    else if bytes_eq draft (arranged_text replica.held.history) then None
+    else parts_refusal replica (parts draft)
 
 -- why a draft is not taken, by the first cause that there is
 abbrev pub draft_refusal : Replica → (base draft : List ℕ) → Option Refusal
@@ -169,7 +171,7 @@ revision guest input course = record {
 pub record LooksAtBase (guest : Change DiskView) (end : Status) : Type 0 where
   pub past : guest.new.past ≡ guest.old.past
   pub room : guest.new.room ≡ guest.old.room
-  pub calm : IfSome guest.old.room (λ room. guest.new.faults ≡ guest.old.faults)
+  pub counts_no_fault : IfSome guest.old.room (λ room. guest.new.faults ≡ guest.old.faults)
   pub blameless : DiskBlameless guest end
 
 -- why the base was not found good: a read failed, or memory was wanting, or it is refused

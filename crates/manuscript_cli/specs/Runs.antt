@@ -83,5 +83,6 @@ abbrev pub EachFinishedIsIn : Type 0
 EachFinishedIsIn =
     (words : List (List ℕ)) (replica hold : ℕ) (old new : Touched) (made : History) (runs : List CommandRun) (last : DiskState)
     → Meets words (Some (New replica hold)) old new Done → new.home.past ≡ Some made → FollowEachOther runs made.last last
-    → IsHonest last × ((image : List ℕ) → IsCrashImage last image
+    → IsHonest last
+    × ((image : List ℕ) → IsCrashImage last image
     → (ops : List Op) × AllBrought runs ops × HasOps (record { replica = replica; hold = hold }) ops image)

@@ -2,7 +2,7 @@
 
 ghost use Rattle.origin_model.specs.operations.History.{accepted};
 
-use fugue_ids::{ElementId, OpKey};
+use fugue_ids::ElementId;
 use op_runs::OpRef;
 use order_proof::Positions;
 use replica_core::Replica;
@@ -25,6 +25,6 @@ impl Positions for Held<'_> {
     }
 
     fn position(&self, id: ElementId) -> Option<usize> {
-        self.replica.position(OpKey::Own(id))
+        self.replica.position(id)
     }
 }

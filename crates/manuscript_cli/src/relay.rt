@@ -47,7 +47,7 @@ fn served<O: Sink, D: Dock, B: BuildHasher + Drop>(
 ) -> Result<u32, Refusal>
     ensures meets { ServingMeets port sessions (change (O.seen output.old) (O.seen output.new))
         (change (D.seen dock.old) (D.seen dock.new)) result }
-    ensures calm { CountsNoFault (length ready_line) (O.seen output.old) (O.seen output.new) }
+    ensures counts_no_fault { CountsNoFault (length ready_line) (O.seen output.old) (O.seen output.new) }
     ensures dock { NeverBlamed sessions (change (O.seen output.old) (O.seen output.new))
         (change (D.seen dock.old) (D.seen dock.new)) result }
     ensures told { RiseOutside (change (O.seen output.old) (O.seen output.new))
@@ -73,7 +73,7 @@ fn serve_by<O: Sink, D: Dock, B: BuildHasher + Drop>(
         (change (D.seen dock.old) (D.seen dock.new)) result }
     ensures dock { NeverBlamed sessions (change (O.seen output.old) (O.seen output.new))
         (change (D.seen dock.old) (D.seen dock.new)) result }
-    ensures calm { CountsNoFault (length ready_line) (O.seen output.old) (O.seen output.new) }
+    ensures counts_no_fault { CountsNoFault (length ready_line) (O.seen output.old) (O.seen output.new) }
     ensures meets { ServingMeets port sessions (change (O.seen output.old) (O.seen output.new))
         (change (D.seen dock.old) (D.seen dock.new)) result }
 {
@@ -88,7 +88,7 @@ fn serve_by<O: Sink, D: Dock, B: BuildHasher + Drop>(
 fn open<O: Sink, D: Dock>(port: u16, output: &mut O, dock: &mut D) -> Result<(), Refusal>
     ensures meets { OpeningMeets port (change (O.seen output.old) (O.seen output.new))
         (change (D.seen dock.old) (D.seen dock.new)) result }
-    ensures calm { CountsNoFault (length ready_line) (O.seen output.old) (O.seen output.new) }
+    ensures counts_no_fault { CountsNoFault (length ready_line) (O.seen output.old) (O.seen output.new) }
     ensures told { RiseOutside (change (O.seen output.old) (O.seen output.new))
         (change (D.seen dock.old) (D.seen dock.new)) result }
 {
@@ -104,7 +104,7 @@ fn open<O: Sink, D: Dock>(port: u16, output: &mut O, dock: &mut D) -> Result<(),
 /// Writes how many frames the log has to the notes.
 fn note<N: Sink>(logged: u32, notes: &mut N) -> Status
     ensures meets { NoteMeets (log_line logged) Done (N.seen notes.old) (N.seen notes.new) result }
-    ensures calm { CountsNoFault notes_room (N.seen notes.old) (N.seen notes.new) }
+    ensures counts_no_fault { CountsNoFault notes_room (N.seen notes.old) (N.seen notes.new) }
     ensures blameless { NotesBlameless (change (N.seen notes.old) (N.seen notes.new)) result }
 {
     let written = write_logged(notes, logged);

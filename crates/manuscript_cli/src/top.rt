@@ -2,7 +2,8 @@ ghost use Rattle.std.specs.Prelude.{◌≡◌, ◌≢◌, ◌↔◌, ℕ, Option
 ghost use Rattle.origin_model.specs.order.Printed.{manuscript};
 ghost use Rattle.catalogue_notes.specs.Arranged.{arranged_text};
 ghost use Rattle.manuscript_cli.specs.Command.{IsCommand, Names};
-ghost use Rattle.manuscript_cli.specs.Headline.{Headline, PrintsBySet, ShowIsDecided};
+ghost use Rattle.manuscript_cli.specs.Headline.{Headline, PrintsBySet};
+ghost use Rattle.command_kinds.specs.Show.{ShowIsDecided};
 ghost use Rattle.manuscript_cli.specs.Run.{IsBlameless, Meets};
 ghost use Rattle.command_kinds.specs.Changes.{change};
 ghost use Rattle.manuscript_cli.specs.Touched.{all_objects};

@@ -1,15 +1,12 @@
 //! The commands `version`, `versions` and `view`: what a file said gets a name, and is printed by it.
-ghost use Rattle.std.specs.Prelude.{◌≡◌, ◌⊎◌, List, ℕ, IfSome, true};
-ghost use Rattle.fugue_ids.specs.Outs.{OutView, WritesBytes};
+ghost use Rattle.std.specs.Prelude.{◌≡◌, ◌⊎◌, IfSome, true};
 ghost use Rattle.version_views.specs.Versions.{is_name as is_name_of};
 ghost use Rattle.manuscript_cli.specs.NamedVersions.{version_on, version_refused, versions_tells, view_tells};
 ghost use Rattle.command_kinds.specs.Refusal.{kept_name};
-ghost use Rattle.command_kinds.specs.TextOut.{GoesOut};
-ghost use Rattle.command_kinds.specs.Changes.{change};
 ghost use Rattle.command_kinds.specs.declared.refusal.Refusal.TheVariants.{NoMemory as NoMemoryFound, NoVersion};
 
 use command_kinds::{MakesNote, Refusal, Report, Told, VersionName, gone_out};
-use fugue_ids::Body;
+use fugue_ids::{Body, Failed};
 use outer_ports::Sink;
 use replica_core::Replica;
 use std::alloc::Global;
@@ -80,25 +77,18 @@ pub(crate) struct View<'a> {
 impl<'a> Report for View<'a> {
     ghost Tells = { λ what. view_tells what.name.now };
 
-    fn write<O: Sink>(&self, _alloc: Global, replica: &Replica, output: &mut O) -> Told {
+    fn write<O: Sink>(&self, alloc: Global, replica: &Replica, output: &mut O) -> Told {
         let Some(count) = find_version(replica, self.name) else {
             return Err(none_named(self.name));
         };
-        view_gone_out(write_view(replica, count, output))
+        match write_view(alloc, replica, count, output) {
+            Ok(()) => gone_out(Ok(())),
+            Err(ViewFault::SinkFault) => gone_out(Err(Failed)),
+            Err(ViewFault::NoMemory) => Err(Refusal::NoMemory),
+        }
     }
 
     fn laws(&self) {}
-}
-
-/// The answer of the call that writes a view, with the refusal that a failure is: the call takes no memory.
-fn view_gone_out(written: Result<(), ViewFault>) -> Result<(), Refusal>
-    ensures { (old new : OutView) (text : List ℕ) → WritesBytes old new written text
-        → GoesOut text (change old new) result }
-{
-    match written {
-        Ok(()) => Ok(()),
-        Err(_) => Err(Refusal::Outside),
-    }
 }
 
 /// No version has the name. The word was read as a name, so it is not too long.

@@ -1,8 +1,7 @@
-ghost use Rattle.std.specs.Prelude.{◌≡◌, ◌≢◌, ◌↔◌, ◌∷◌, [], ℕ, IfSome, IsTrue, Some, codes, map, string_bytes};
+ghost use Rattle.std.specs.Prelude.{◌≡◌, ◌↔◌, ◌∷◌, List, [], ℕ, IfSome, IsTrue, Some, codes, map, string_bytes};
 ghost use Rattle.std.specs.Option.{option_copied};
-ghost use Rattle.fugue_ids.specs.declared.limits.TheConstants.{LONGEST_BODY as longest_body};
-ghost use Rattle.passage_remarks.specs.Spelling.{IsSpelled};
-ghost use Rattle.manuscript_cli.specs.Command.{HasFiles, IsCommand, IsLineWord, IsMoment, last_word, third_word};
+ghost use Rattle.manuscript_cli.specs.Command.{HasFiles, IsCommand, IsLineWord, NamesFile, NamesMoment, NamesNamed};
+ghost use Rattle.manuscript_cli.specs.Command.{NamesRemark, NamesTwo, last_word, third_word};
 ghost use Rattle.manuscript_cli.specs.Number.{IsNumber};
 ghost use Rattle.manuscript_cli.specs.declared.words.TheConstants.{GREATEST_PORT as greatest_port};
 
@@ -43,120 +42,160 @@ pub fn read_words(words: &[String]) -> Option<Command>
     ensures { IsCommand (map string_bytes words.now) result }
 {
     match words {
-        [name] => read_alone(name.as_str()),
-        [name, word] => read_one(name.as_str(), word.as_str()),
-        [name, file, other] => read_two(name.as_str(), file.as_str(), other.as_str()),
-        [name, file, first, second] => {
-            read_three(
-                name.as_str(),
-                file.as_str(),
-                first.as_str(),
-                second.as_str(),
-            )
-        }
-        [name, file, first, second, third] => {
-            read_four(
-                name.as_str(),
-                file.as_str(),
-                first.as_str(),
-                second.as_str(),
-                third.as_str(),
-            )
-        }
-        [name, file, first, second, third, text] => {
-            read_five(
-                name.as_str(),
-                file.as_str(),
-                first.as_str(),
-                second.as_str(),
-                third.as_str(),
-                text.as_str(),
-            )
-        }
-        _ => None,
+        [name, rest @ ..] => read_command(name, rest),
+        [] => None,
     }
 }
 
-fn read_alone(name: &str) -> Option<Command>
-    ensures { IsCommand (name.now ∷ []) result }
+/// Reads a command's name, and the words behind it.
+fn read_command(name: &str, rest: &[String]) -> Option<Command>
+    ensures { IsCommand (name.now ∷ map string_bytes rest.now) result }
 {
     match name {
-        "show" => Some(Command::Show(USUAL_HOLD)),
-        "about" => Some(Command::About),
+        "about" => rest.is_empty().then_some(Command::About),
+        "show" => read_show(rest),
+        "edit" => is_file(rest).then_some(Command::Edit),
+        "print" => is_file(rest).then_some(Command::Print),
+        "take" => is_file(rest).then_some(Command::Take),
+        "send" => is_file(rest).then_some(Command::Send),
+        "check" => is_file(rest).then_some(Command::Check),
+        "arrange" => is_file(rest).then_some(Command::Arrange),
+        "authors" => is_file(rest).then_some(Command::Authors),
+        "moments" => is_file(rest).then_some(Command::Moments),
+        "list" => is_file(rest).then_some(Command::List),
+        "comments" => is_file(rest).then_some(Command::Comments),
+        "remarks" => is_file(rest).then_some(Command::Remarks),
+        "versions" => is_file(rest).then_some(Command::Versions),
+        "version" => is_named(rest).then_some(Command::Version),
+        "view" => is_named(rest).then_some(Command::View),
+        "merge" => are_files(rest).then_some(Command::Merge),
+        "revise" => read_revise(rest),
+        "relay" => read_relay(rest),
+        "bulk" => read_bulk(rest),
+        "withdraw" => read_withdraw(rest),
+        "past" => read_moment(rest).map(Command::Past),
+        "changes" => read_moment(rest).map(Command::Changes),
+        "new" => read_new(rest),
+        "sync" => read_sync(rest),
+        "move" => read_move(rest),
+        "retitle" => read_retitle(rest),
+        "remark" => is_remark(rest).then_some(Command::Remark),
+        "why" => read_why(rest),
+        "comment" => read_comment(rest),
         _ => None,
     }
 }
 
-fn read_one(name: &str, word: &str) -> Option<Command>
-    ensures { IsCommand (name.now ∷ word.now ∷ []) result }
+fn read_show(rest: &[String]) -> Option<Command>
+    ensures { IsCommand (codes "show" ∷ map string_bytes rest.now) result }
 {
-    match name {
-        "show" => read_number(word, 1, GREATEST_HOLD).map(Command::Show),
-        "edit" if !word.is_empty() => Some(Command::Edit),
-        "print" if !word.is_empty() => Some(Command::Print),
-        "take" if !word.is_empty() => Some(Command::Take),
-        "send" if !word.is_empty() => Some(Command::Send),
-        "check" if !word.is_empty() => Some(Command::Check),
-        "arrange" if !word.is_empty() => Some(Command::Arrange),
-        "authors" if !word.is_empty() => Some(Command::Authors),
-        "moments" if !word.is_empty() => Some(Command::Moments),
-        "list" if !word.is_empty() => Some(Command::List),
-        "comments" if !word.is_empty() => Some(Command::Comments),
-        "remarks" if !word.is_empty() => Some(Command::Remarks),
-        "versions" if !word.is_empty() => Some(Command::Versions),
+    match rest {
+        [] => Some(Command::Show(USUAL_HOLD)),
+        [hold] => read_number(hold, 1, GREATEST_HOLD).map(Command::Show),
         _ => None,
     }
 }
 
-fn read_two(name: &str, file: &str, other: &str) -> Option<Command>
-    ensures { IsCommand (name.now ∷ file.now ∷ other.now ∷ []) result }
+/// Whether the words are a file.
+fn is_file(rest: &[String]) -> bool
+    ensures { (name : List ℕ) → IsTrue result ↔ NamesFile name (name ∷ map string_bytes rest.now) }
 {
-    match name {
-        "merge" if !file.is_empty() && !other.is_empty() => Some(Command::Merge),
-        "revise" if !file.is_empty() && !other.is_empty() => Some(Command::Revise),
-        "relay" => read_relay(file, other),
-        "bulk" => read_bulk(file, other),
-        "version" if is_named(file, other) => Some(Command::Version),
-        "view" if is_named(file, other) => Some(Command::View),
-        "withdraw" => read_withdraw(file, other),
-        "past" => read_moment(file, other).map(Command::Past),
-        "changes" => read_moment(file, other).map(Command::Changes),
+    match rest {
+        [file] => !file.is_empty(),
+        _ => false,
+    }
+}
+
+/// Whether the words are two files.
+fn are_files(rest: &[String]) -> bool
+    ensures { (name : List ℕ) → IsTrue result ↔ NamesTwo name (name ∷ map string_bytes rest.now) }
+{
+    match rest {
+        [file, other] => !file.is_empty() && !other.is_empty(),
+        _ => false,
+    }
+}
+
+/// Whether the words are a file and the name of a version.
+fn is_named(rest: &[String]) -> bool
+    ensures { (name : List ℕ) → IsTrue result ↔ NamesNamed name (name ∷ map string_bytes rest.now) }
+{
+    match rest {
+        [file, name] => !file.is_empty() && is_line(name, LONGEST_NAME),
+        _ => false,
+    }
+}
+
+/// Whether the words are a file, a passage and a comment's text.
+fn is_remark(rest: &[String]) -> bool
+    ensures { IsTrue result ↔ NamesRemark (codes "remark" ∷ map string_bytes rest.now) }
+{
+    match rest {
+        [file, passage, text] => !file.is_empty()
+            && is_spelled(passage.as_bytes())
+            && is_line(text, LONGEST_BODY),
+        _ => false,
+    }
+}
+
+/// Whether the word is one line of at most so many bytes.
+fn is_line(word: &str, most: usize) -> bool
+    ensures { IsTrue result ↔ IsLineWord most word.now }
+{
+    !word.is_empty() && word.len() <= most && !has_line_end(word.as_bytes())
+}
+
+fn read_revise(rest: &[String]) -> Option<Command>
+    ensures { IsCommand (codes "revise" ∷ map string_bytes rest.now) result }
+{
+    match rest {
+        [file, base] if !file.is_empty() && !base.is_empty() => Some(Command::Revise),
+        [file, base, number] if !file.is_empty() && !base.is_empty() => {
+            read_number(number, 0, GREATEST_MOMENT).map(Command::ReviseSince)
+        }
         _ => None,
     }
 }
 
-fn read_withdraw(file: &str, number: &str) -> Option<Command>
-    ensures { IsCommand (codes "withdraw" ∷ file.now ∷ number.now ∷ []) result }
+fn read_withdraw(rest: &[String]) -> Option<Command>
+    ensures { IsCommand (codes "withdraw" ∷ map string_bytes rest.now) result }
 {
-    if file.is_empty() {
-        return None;
+    match rest {
+        [file, number] if !file.is_empty() => {
+            read_number(number, 1, GREATEST_REMARK).map(Command::Withdraw)
+        }
+        _ => None,
     }
-    let number = read_number(number, 1, GREATEST_REMARK)?;
-    Some(Command::Withdraw(number))
 }
 
 /// Reads the words of a file and of a number of operations.
-fn read_moment(file: &str, number: &str) -> Option<u32>
-    ensures moment { IfSome result (λ n. IsMoment file.now number.now n) }
-    ensures every { (n : ℕ) → IsMoment file.now number.now n → result ≡ Some n }
+fn read_moment(rest: &[String]) -> Option<u32>
+    ensures moment { IfSome result (λ n. (name : List ℕ) → NamesMoment name (name ∷ map string_bytes rest.now) n) }
+    ensures every { (name : List ℕ) (n : ℕ) → NamesMoment name (name ∷ map string_bytes rest.now) n → result ≡ Some n }
 {
-    if file.is_empty() {
-        return None;
+    match rest {
+        [file, number] if !file.is_empty() => read_number(number, 0, GREATEST_MOMENT),
+        _ => None,
     }
-    read_number(number, 0, GREATEST_MOMENT)
 }
 
-fn read_relay(port: &str, sessions: &str) -> Option<Command>
-    ensures { IsCommand (codes "relay" ∷ port.now ∷ sessions.now ∷ []) result }
+fn read_relay(rest: &[String]) -> Option<Command>
+    ensures { IsCommand (codes "relay" ∷ map string_bytes rest.now) result }
 {
+    let [port, sessions] = rest else {
+        return None;
+    };
     let port = read_port(port)?;
     let sessions = read_number(sessions, 1, MOST_SESSIONS)?;
     Some(Command::Relay(port, sessions))
 }
 
-fn read_bulk(seed: &str, count: &str) -> Option<Command>
-    ensures { IsCommand (codes "bulk" ∷ seed.now ∷ count.now ∷ []) result }
+fn read_bulk(rest: &[String]) -> Option<Command>
+    ensures { IsCommand (codes "bulk" ∷ map string_bytes rest.now) result }
 {
+    let [seed, count] = rest else {
+        return None;
+    };
     let seed = read_number(seed, 0, GREATEST_SEED)?;
     let count = read_number(count, 1, MOST_TURNS)?;
     Some(Command::Bulk(seed, count))
@@ -171,104 +210,66 @@ fn read_port(word: &str) -> Option<u16>
     Some(port as u16)
 }
 
-fn read_three(name: &str, file: &str, first: &str, second: &str) -> Option<Command>
-    ensures { IsCommand (name.now ∷ file.now ∷ first.now ∷ second.now ∷ []) result }
+fn read_move(rest: &[String]) -> Option<Command>
+    ensures { IsCommand (codes "move" ∷ map string_bytes rest.now) result }
 {
-    match name {
-        "new" => read_new(file, first, second),
-        "sync" => read_sync(file, first, second),
-        "move" => read_move(file, first, second),
-        "retitle" => read_retitle(file, first, second),
-        "revise" => read_revise(file, first, second),
-        "remark" if is_remark(file, first, second) => Some(Command::Remark),
+    match rest {
+        [file, section, place] if !file.is_empty() => {
+            let section = read_number(section, 1, GREATEST_PLACE)?;
+            let place = read_number(place, 1, GREATEST_PLACE)?;
+            Some(Command::Move(section, place))
+        }
         _ => None,
     }
 }
 
-fn read_revise(file: &str, base: &str, number: &str) -> Option<Command>
-    ensures { IsCommand (codes "revise" ∷ file.now ∷ base.now ∷ number.now ∷ []) result }
+fn read_retitle(rest: &[String]) -> Option<Command>
+    ensures { IsCommand (codes "retitle" ∷ map string_bytes rest.now) result }
 {
-    if base.is_empty() {
-        return None;
-    }
-    let count = read_moment(file, number)?;
-    Some(Command::ReviseSince(count))
-}
-
-/// Whether the words are a file, a passage and a comment's text.
-fn is_remark(file: &str, passage: &str, text: &str) -> bool
-    ensures { IsTrue result ↔ ((file.now ≢ []) × IsSpelled passage.now × IsLineWord longest_body text.now) }
-{
-    !file.is_empty() && is_spelled(passage.as_bytes()) && is_line(text, LONGEST_BODY)
-}
-
-fn read_move(file: &str, section: &str, place: &str) -> Option<Command>
-    ensures { IsCommand (codes "move" ∷ file.now ∷ section.now ∷ place.now ∷ []) result }
-{
-    if file.is_empty() {
-        return None;
-    }
-    let section = read_number(section, 1, GREATEST_PLACE)?;
-    let place = read_number(place, 1, GREATEST_PLACE)?;
-    Some(Command::Move(section, place))
-}
-
-fn read_retitle(file: &str, section: &str, title: &str) -> Option<Command>
-    ensures { IsCommand (codes "retitle" ∷ file.now ∷ section.now ∷ title.now ∷ []) result }
-{
-    if file.is_empty() || !is_line(title, LONGEST_TITLE) {
-        return None;
-    }
-    let section = read_number(section, 1, GREATEST_PLACE)?;
-    Some(Command::Retitle(section))
-}
-
-/// Whether the words are a file and the name of a version.
-fn is_named(file: &str, name: &str) -> bool
-    ensures { IsTrue result ↔ ((file.now ≢ []) × IsLineWord LONGEST_NAME name.now) }
-{
-    !file.is_empty() && is_line(name, LONGEST_NAME)
-}
-
-/// Whether the word is one line of at most so many bytes.
-fn is_line(word: &str, most: usize) -> bool
-    ensures { IsTrue result ↔ IsLineWord most word.now }
-{
-    !word.is_empty() && word.len() <= most && !has_line_end(word.as_bytes())
-}
-
-fn read_sync(file: &str, port: &str, cursor: &str) -> Option<Command>
-    ensures { IsCommand (codes "sync" ∷ file.now ∷ port.now ∷ cursor.now ∷ []) result }
-{
-    if file.is_empty() {
-        return None;
-    }
-    let port = read_port(port)?;
-    let cursor = read_number(cursor, 0, GREATEST_CURSOR)?;
-    Some(Command::Sync(port, cursor))
-}
-
-fn read_new(file: &str, number: &str, hold: &str) -> Option<Command>
-    ensures { IsCommand (codes "new" ∷ file.now ∷ number.now ∷ hold.now ∷ []) result }
-{
-    if file.is_empty() {
-        return None;
-    }
-    let replica = read_number(number, 1, GREATEST_REPLICA)?;
-    let hold = read_number(hold, 1, GREATEST_HOLD)?;
-    Some(Command::New(replica, hold))
-}
-
-fn read_four(name: &str, file: &str, first: &str, second: &str, third: &str) -> Option<Command>
-    ensures { IsCommand (name.now ∷ file.now ∷ first.now ∷ second.now ∷ third.now ∷ []) result }
-{
-    match name {
-        "why" => read_why(file, first, second, third),
+    match rest {
+        [file, section, title] if !file.is_empty() && is_line(title, LONGEST_TITLE) => {
+            read_number(section, 1, GREATEST_PLACE).map(Command::Retitle)
+        }
         _ => None,
     }
 }
 
-fn read_why(file: &str, section: &str, first: &str, second: &str) -> Option<Command>
+fn read_sync(rest: &[String]) -> Option<Command>
+    ensures { IsCommand (codes "sync" ∷ map string_bytes rest.now) result }
+{
+    match rest {
+        [file, port, cursor] if !file.is_empty() => {
+            let port = read_port(port)?;
+            let cursor = read_number(cursor, 0, GREATEST_CURSOR)?;
+            Some(Command::Sync(port, cursor))
+        }
+        _ => None,
+    }
+}
+
+fn read_new(rest: &[String]) -> Option<Command>
+    ensures { IsCommand (codes "new" ∷ map string_bytes rest.now) result }
+{
+    match rest {
+        [file, number, hold] if !file.is_empty() => {
+            let replica = read_number(number, 1, GREATEST_REPLICA)?;
+            let hold = read_number(hold, 1, GREATEST_HOLD)?;
+            Some(Command::New(replica, hold))
+        }
+        _ => None,
+    }
+}
+
+fn read_why(rest: &[String]) -> Option<Command>
+    ensures { IsCommand (codes "why" ∷ map string_bytes rest.now) result }
+{
+    match rest {
+        [file, section, first, second] => why_of(file, section, first, second),
+        _ => None,
+    }
+}
+
+fn why_of(file: &str, section: &str, first: &str, second: &str) -> Option<Command>
     ensures { IsCommand (codes "why" ∷ file.now ∷ section.now ∷ first.now ∷ second.now ∷ []) result }
 {
     if file.is_empty() {
@@ -280,23 +281,16 @@ fn read_why(file: &str, section: &str, first: &str, second: &str) -> Option<Comm
     Some(Command::Why(section, first, second))
 }
 
-fn read_five(
-    name: &str,
-    file: &str,
-    first: &str,
-    second: &str,
-    third: &str,
-    text: &str,
-) -> Option<Command>
-    ensures { IsCommand (name.now ∷ file.now ∷ first.now ∷ second.now ∷ third.now ∷ text.now ∷ []) result }
+fn read_comment(rest: &[String]) -> Option<Command>
+    ensures { IsCommand (codes "comment" ∷ map string_bytes rest.now) result }
 {
-    match name {
-        "comment" => read_comment(file, first, second, third, text),
+    match rest {
+        [file, section, first, count, text] => comment_of(file, section, first, count, text),
         _ => None,
     }
 }
 
-fn read_comment(file: &str, section: &str, first: &str, count: &str, text: &str) -> Option<Command>
+fn comment_of(file: &str, section: &str, first: &str, count: &str, text: &str) -> Option<Command>
     ensures { IsCommand
         (codes "comment" ∷ file.now ∷ section.now ∷ first.now ∷ count.now ∷ text.now ∷ []) result }
 {

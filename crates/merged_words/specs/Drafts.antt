@@ -77,8 +77,8 @@ abbrev pub DraftsMerge : Type 0
 DraftsMerge =
     (section : Identifier) (base a b whole : List Op) → Lawful base
     → (d : IsAuthoredDraft section base a) (e : IsAuthoredDraft section base b)
-    → ComeTogether base a b whole → IsMerge (text base section) (draft_change section base a d) (draft_change section base b e)
-    (text whole section)
+    → ComeTogether base a b whole
+    → IsMerge (text base section) (draft_change section base a d) (draft_change section base b e) (text whole section)
 
 -- in a draft whole words go and come, each hunk from a seam to a seam
 abbrev pub GoesByWords : (section : Identifier) (base own : List Op) → IsAuthoredDraft section base own → Type 0

@@ -45,13 +45,17 @@ lifted_shapes d ss p c above below =
       left = below.right;
       parent = Some c;
       count = (above.count - below.count) + tree_count_at ss below.right;
-      weight =
-          (above.weight - below.weight) + weight_at ss below.right;
-      least =
-          min (least_at ss below.right) (min above.own.rank (least_at ss above.right));
+      weight = (above.weight - below.weight) + weight_at ss below.right;
+      least = min (least_at ss below.right) (min above.own.rank (least_at ss above.right));
     })))
-    c.number (facing_shape d
-    (record below { right = Some p; parent = above.parent; count = above.count; weight = above.weight; least = above.least }))
+    c.number
+    (facing_shape d (record below {
+      right = Some p;
+      parent = above.parent;
+      count = above.count;
+      weight = above.weight;
+      least = above.least;
+    }))
 
 -- each node keeps its key and what its value counts for
 abbrev pub SameItems : List Shape → List Shape → Type 0

@@ -42,8 +42,8 @@ is_visible h x = not (is_hidden h x)
 abbrev pub ShownInPart : Type 0
 ShownInPart =
     (p : Place) (part whole : List Op) (a b : Identifier) → Lawful part → Lawful whole → IsPartOf part whole → IsIn p part a → IsIn p part b
-    → filter (is_visible whole) (filter (is_visible part) (passage p part a b)) ≡ filter (holds part)
-    (filter (is_visible whole) (passage p whole a b))
+    → filter (is_visible whole) (filter (is_visible part) (passage p part a b))
+    ≡ filter (holds part) (filter (is_visible whole) (passage p whole a b))
 
 -- a comment of a part is one of a section there exactly where it is one in the whole
 abbrev pub CommentInPart : Type 0

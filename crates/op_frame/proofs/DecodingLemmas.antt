@@ -1,20 +1,19 @@
 -- What the bytes of a whole frame say, field by field.
-use Rattle.std.proofs.Common.{◌≡◌, ◌⊎◌, ℕ, zero, suc, ◌-◌, ◌<◌, ◌≤◌, List, [], ◌∷◌, ◌++◌, length, take, drop, get_or, refl, ap, inl, inr, sym, subst, ◌∙◌, arith}
-use Rattle.std.specs.Prelude.{Option, Some, None, flat_map}
+use Rattle.std.proofs.Common.{◌≡◌, ℕ, zero, suc, ◌-◌, ◌<◌, ◌≤◌, List, [], ◌∷◌, ◌++◌, length, take, drop, get_or, refl, ap, sym, subst, ◌∙◌, arith}
+use Rattle.std.specs.Prelude.{flat_map}
 use Rattle.std.specs.Str.{encode_utf8_all}
 use Rattle.std.specs.Int.{byte_at}
 use Rattle.std.specs.Char.{IsScalar}
-use Rattle.std.proofs.lemmas.List.{take_all, take_rest}
+use Rattle.std.proofs.lemmas.List.{take_all}
 use Rattle.std.proofs.lemmas.Str.{encodes_same}
 use Rattle.fugue_ids.specs.Identifiers.{Identifier}
 use Rattle.fugue_ids.specs.declared.op.Op.{Op}
-use Rattle.fugue_ids.specs.declared.op.Op.TheVariants.{Delete, Note, Section, Text as TextOp}
 use Rattle.origin_model.specs.declared.grammar.Grammar.{Grammar}
 use Rattle.origin_model.specs.declared.grammar.Grammar.TheVariants.{Version2}
-use Rattle.origin_model.specs.frames.Frames.{AreNames, IsByte, IsFrame, IsIdentifier, IsItem, IsFrameOrigin, IsTitle, Item, Single, Typed, frame, id_bytes, item_bytes, item_ops}
-use Rattle.origin_model.specs.frames.Frames.{names_bytes, origin_bytes, title_bytes}
+use Rattle.origin_model.specs.frames.Frames.{AreNames, IsByte, IsFrame, IsIdentifier, IsItem, IsTitle, Item, Single, Typed, id_bytes, item_bytes, item_ops}
+use Rattle.origin_model.specs.frames.Frames.{names_bytes, title_bytes}
 use Rattle.op_frame.specs.Firsts.{StartsWith}
-use Rattle.op_frame.specs.FrameFronts.{AreNamesBytes, Completes, IsBodyBytes, IsCodeBytes, IsFrameOf, IsIdentifierBytes, IsLast, IsOriginBytes, IsOwnFrame, LeavesDue, Several}
+use Rattle.op_frame.specs.FrameFronts.{AreNamesBytes, Completes, IsBodyBytes, IsCodeBytes, IsFrameOf, IsIdentifierBytes, IsLast, IsOwnFrame, LeavesDue, Several}
 use Rattle.op_frame.specs.FrameFronts.{Then, scalar_of_bytes}
 use Rattle.op_frame.specs.declared.due.Due.{Due}
 use Rattle.op_frame.specs.declared.due.Due.TheVariants.{Kind}
@@ -43,15 +42,6 @@ pub own_fields : (kind : ℕ) (next : Due) (bytes : List ℕ) → LeavesDue (kin
 own_fields kind next bytes p f is =
     let whole = own_is_frame bytes f in fields_there Version2 kind next bytes p whole (framed_some Version2 _ whole.1) is
 
-pub last_kind : (bytes : List ℕ) → IsOwnFrame bytes → (get_or bytes 0 0 ≡ 1 → ⊥) → (get_or bytes 0 0 ≡ 5 → ⊥) → (get_or bytes 0 0 ≡ 2 → ⊥) → get_or bytes 0 0 ≡ 3
-last_kind bytes f a b c = by_op f.0 f.2
-  where
-    by_op : (op : Op) → bytes ≡ frame op → get_or bytes 0 0 ≡ 3
-    by_op (Section id l r t) is = absurd (a (ap (λ (x : List ℕ). get_or x 0 0) is))
-    by_op (TextOp id s l r ch) is = absurd (c (ap (λ (x : List ℕ). get_or x 0 0) is))
-    by_op (Delete id) is = ap (λ (x : List ℕ). get_or x 0 0) is
-    by_op (Note id n k body) is = absurd (b (ap (λ (x : List ℕ). get_or x 0 0) is))
-
 -- version 2 has each operation's own frame, and those of runs
 pub no_run : (bytes : List ℕ) → IsFrameOf Version2 bytes → (get_or bytes 0 0 ≡ 4 → ⊥) → IsOwnFrame bytes
 no_run bytes f other = by_item f.1.item f.1.is_item f.1.bytes_are
@@ -74,26 +64,6 @@ same_meaning g bytes ops f is =
 
 pub frame_wider : (g : Grammar) (bytes : List ℕ) → IsFrameOf g bytes → IsFrameOf Version2 bytes
 frame_wider g bytes f = (f.0, record { item = f.1.item; is_item = wider g f.1.item f.1.is_item; bytes_are = f.1.bytes_are; ops_are = f.1.ops_are })
-
--- what the first byte of an origin tells
-pub record OriginThere (bytes : List ℕ) : Type 0 where
-  pub some : 0 < length bytes
-  pub tag : (get_or bytes 0 0 ≡ 0) ⊎ ((get_or bytes 0 0 ≡ 1) × StartsWith IsIdentifierBytes (drop 1 bytes))
-
-pub origin_there : (bytes : List ℕ) → StartsWith IsOriginBytes bytes → OriginThere bytes
-origin_there bytes t = by_origin t.2.0 t.2.1 (t.4 ∙ ap (λ (f : List ℕ). f ++ t.1) t.2.2)
-  where
-    by_origin : (origin : Option Identifier) → IsFrameOrigin origin → bytes ≡ origin_bytes origin ++ t.1 → OriginThere bytes
-    by_origin None valid is = record { some = omega (arith, ap length is); tag = inl (ap (λ (x : List ℕ). get_or x 0 0) is) }
-    by_origin (Some id) valid is =
-        record { some = omega (arith, ap length is); tag = inr (ap (λ (x : List ℕ). get_or x 0 0) is, (id_bytes id, t.1, (id, valid, refl), tt, ap (drop 1) is)) }
-
--- an origin that is not the start or the end
-pub tagged : (bytes : List ℕ) → StartsWith IsOriginBytes bytes → (get_or bytes 0 0 ≡ 0 → ⊥) → StartsWith IsIdentifierBytes (take (length bytes - 1) (drop 1 bytes))
-tagged bytes t other = elim (origin_there bytes t).tag [
-  | inl start ↦ absurd (other start)
-  | inr one ↦ subst (StartsWith IsIdentifierBytes) (sym (take_rest bytes 1)) one.1
-]
 
 -- the text behind a title's length
 pub text_there : (bytes : List ℕ) (t : IsLast Title bytes) → take (length bytes - 2) (drop 2 bytes) ≡ encode_utf8_all t.0

@@ -1,14 +1,14 @@
 -- What is due behind some bytes of a frame, field by field.
 use Rattle.std.proofs.Common.{◌≡◌, ℕ, zero, suc, ◌+◌, ◌-◌, ◌*◌, ◌<◌, ◌≤◌, false, List, [], ◌∷◌, ◌++◌, length, drop, get_or, refl, ap, sym, subst, ◌∙◌, ◌⊎◌, append_assoc, arith}
-use Rattle.std.proofs.Common.{inl, inr, length-append, length-drop}
+use Rattle.std.proofs.Common.{inl, inr, length-append, length-drop, take}
 use Rattle.std.specs.Prelude.{◌↔◌, ◌^◌, All, Option, Some, None, SomeIff, is_some, flat_map}
 use Rattle.std.specs.Char.{IsScalar}
 use Rattle.std.specs.Int.{byte_at, to_be_bytes, w16, w32}
 use Rattle.std.specs.Str.{IsUtf8, chars, encode_utf8_all}
-use Rattle.std.proofs.Math.Seq.{drop-append_seam, take-append_seam}
+use Rattle.std.proofs.Math.Seq.{drop-append_seam, take-add, take-append_seam}
 use Rattle.std.proofs.lemmas.Bool.{or_from, or_parts}
 use Rattle.std.proofs.lemmas.Bool.Decides.{nat_tests}
-use Rattle.std.proofs.lemmas.List.{append-nil, nil_from_length}
+use Rattle.std.proofs.lemmas.List.{append-nil, get_or-drop, length-take-le, nil_from_length}
 use Rattle.std.proofs.lemmas.List.Folds.{list_any-append}
 use Rattle.std.proofs.lemmas.Str.{encodes-chars, IsCharBoundary-from_take, IsUtf8-append, IsUtf8-drop, IsUtf8-nil}
 use Rattle.fugue_ids.specs.Identifiers.{Identifier}
@@ -209,6 +209,49 @@ scalar_done (suc n) (h ∷ []) left long fits is = absurd (omega (arith, long))
 scalar_done (suc n) (h ∷ m ∷ []) left long fits is = absurd (omega (arith, long))
 scalar_done (suc n) (h ∷ m ∷ l ∷ x ∷ b) left long fits is = absurd (omega (arith, long))
 
+-- no bytes leave what is due
+pub leaves_none : (due : Due) → IsSoundDue due → LeavesDue [] due due
+leaves_none due s = record { rest = λ more. (λ t. t, λ t. t); sound = s }
+
+-- what some bytes leave is left by those with others behind them, if these leave it of what the first leave
+pub leaves_both : (due mid next : Due) (a b : List ℕ) → LeavesDue a due mid → LeavesDue b mid next → LeavesDue (a ++ b) due next
+leaves_both due mid next a b p q = record {
+  rest = λ more. (
+    λ t. (q.rest more).0 ((p.rest (b ++ more)).0 (subst (Completes due) (append_assoc a b more) t)),
+    λ t. subst (Completes due) (sym (append_assoc a b more)) ((p.rest (b ++ more)).1 ((q.rest more).1 t)),
+  );
+  sound = q.sound;
+}
+
+pub some_scalars : (n : ℕ) → 0 < n → scalars_due n ≡ Fields 0 0 (Scalars n)
+some_scalars zero s = absurd (omega (arith, s))
+some_scalars (suc n) s = refl
+
+bytes_taken : (n : ℕ) (b : List ℕ) → AreBytes b → AreBytes (take n b)
+bytes_taken zero b fits i = omega arith
+bytes_taken (suc n) [] fits i = omega arith
+bytes_taken (suc n) (x ∷ b) fits zero = fits 0
+bytes_taken (suc n) (x ∷ b) fits (suc i) = bytes_taken n b (λ j. fits (suc j)) i
+
+-- one scalar more of several
+pub scalars_done : (most passed : ℕ) (bytes : List ℕ) → passed < most → 3 * passed + 3 ≤ length bytes → AreBytes bytes
+    → LeavesDue (take (3 * passed) bytes) (Fields 0 0 (Scalars most)) (scalars_due (most - passed))
+    → (let field = take 3 (drop (3 * passed) bytes) in IsScalar (scalar_of_bytes (get_or field 0 0) (get_or field 1 0) (get_or field 2 0)))
+    → LeavesDue (take (3 * (passed + 1)) bytes) (Fields 0 0 (Scalars most)) (scalars_due (most - (passed + 1)))
+scalars_done most passed bytes few within fits left is =
+    let some : 0 < most - passed = omega (arith, few) in
+    let long : length (take 3 (drop (3 * passed) bytes)) ≡ 3 = length-take-le 3 (drop (3 * passed) bytes) (omega (arith, within, length-drop (3 * passed) bytes)) in
+    let one : LeavesDue (take 3 (drop (3 * passed) bytes)) (Fields 0 0 (Scalars (most - passed))) (scalars_due (most - passed - 1)) =
+    scalar_done (most - passed) (take 3 (drop (3 * passed) bytes)) some long
+    (bytes_taken 3 (drop (3 * passed) bytes) (λ i. subst (λ b. b < 256) (sym (get_or-drop (3 * passed) bytes i 0)) (fits (3 * passed + i)))) is in
+    let both = leaves_both (Fields 0 0 (Scalars most)) (Fields 0 0 (Scalars (most - passed))) (scalars_due (most - passed - 1))
+    (take (3 * passed) bytes) (take 3 (drop (3 * passed) bytes))
+    (subst (λ d. LeavesDue (take (3 * passed) bytes) (Fields 0 0 (Scalars most)) d) (some_scalars (most - passed) some) left) one in
+    let joined : take (3 * passed) bytes ++ take 3 (drop (3 * passed) bytes) ≡ take (3 * (passed + 1)) bytes =
+    sym (take-add (3 * passed) 3 bytes) ∙ ap (λ n. take n bytes) (omega arith) in
+    subst (λ l. LeavesDue l (Fields 0 0 (Scalars most)) (scalars_due (most - (passed + 1)))) joined
+    (subst (λ n. LeavesDue (take (3 * passed) bytes ++ take 3 (drop (3 * passed) bytes)) (Fields 0 0 (Scalars most)) (scalars_due n)) (omega (arith, few)) both)
+
 -- bytes that begin no scalar, with zeros behind them
 one_floor : (ch h : ℕ) → IsScalar ch → byte_at 2 ch ≡ h → IsScalar (scalar_of_bytes h 0 0)
 one_floor ch h is first = grind (arith, nat_tests, scalar_below ch is)
@@ -332,7 +375,8 @@ high_front (suc (suc n)) small = absurd (omega (arith, small))
 -- the text behind characters of it
 text_behind : (len : ℕ) (bytes more : List ℕ) → IsUtf8 bytes → IsTitleEnd len (bytes ++ more) → IsTitleEnd (len - length bytes) more
 text_behind len bytes more utf8 e =
-    let boundary = IsCharBoundary-from_take (bytes ++ more) (length bytes) e.0 (omega (arith, length-append bytes more)) (subst IsUtf8 (sym (take-append_seam bytes more)) utf8) in (
+    let front : IsUtf8 (take (length bytes) (bytes ++ more)) = subst IsUtf8 (sym (take-append_seam bytes more)) utf8 in
+    let boundary = IsCharBoundary-from_take (bytes ++ more) (length bytes) e.0 (omega (arith, length-append bytes more)) front in (
       subst IsUtf8 (drop-append_seam bytes more) (IsUtf8-drop (bytes ++ more) (length bytes) e.0 boundary),
       (or_parts (has_line_end bytes) (has_line_end more) (sym (list_any-append ends_line bytes more) ∙ e.1)).1,
       omega (arith, e.2, length-append bytes more),

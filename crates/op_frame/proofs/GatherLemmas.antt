@@ -4,7 +4,7 @@ use Rattle.std.proofs.Common.{length-append, length-drop}
 use Rattle.std.specs.Prelude.{IfSome, ◌^◌, Option, Some, None, Ok, flat_map, All}
 use Rattle.std.specs.Char.{IsScalar}
 use Rattle.std.specs.Io.KnownBytes.{prepend_known}
-use Rattle.std.proofs.lemmas.List.{append-nil, drop-drop, length-take-le, take-append-drop, take_all, take_at}
+use Rattle.std.proofs.lemmas.List.{append-nil, drop-drop, length-take-le, take-append-drop, take_all}
 use Rattle.std.proofs.lemmas.List.Elements.{All-head, All-tail}
 use Rattle.fugue_ids.specs.Identifiers.{Identifier}
 use Rattle.fugue_ids.specs.declared.op.Op.{Op}
@@ -16,22 +16,22 @@ use Rattle.op_runs.specs.Deletions.{deletes_up}
 use Rattle.op_runs.proofs.DeletionLemmas.{deletes-append}
 use Rattle.outer_ports.specs.Sources.{SourceView}
 use Rattle.origin_model.specs.declared.grammar.Grammar.{Grammar}
-use Rattle.origin_model.specs.frames.Frames.{Framed, IsFrame, Single, Typed, frame, run_ops, scalar_bytes}
+use Rattle.origin_model.specs.frames.Frames.{Framed, IsFrame, Typed, run_ops, scalar_bytes}
 use Rattle.origin_model.proofs.SharedLemmas.{frame_wide, length-scalars}
 use Rattle.op_frame.specs.Firsts.{StartsWith}
 use Rattle.op_frame.specs.FrameFronts.{IsScalarBytes}
-use Rattle.op_frame.specs.Heads.{IsHeld, behind_held, held_ops, run_at, text_scalars}
+use Rattle.op_frame.specs.Headers.{IsHeld, behind_held, held_ops, run_at, text_scalars}
 use Rattle.op_frame.specs.NextRuns.{Gathers, GathersDeletes, GathersOne, GathersTexts, GaveMore, GivesAll, GivesMany, GivesOn, IsOpFront, IsReachedOp, IsRunFront, IsTextBehind}
 use Rattle.op_frame.specs.NextRuns.{RisesBy, TakesHeld, TakesTexts, start_in}
 use Rattle.op_frame.specs.declared.next_ops.NextOps.TheVariants.{Deletes, Run}
 use Rattle.op_frame.specs.Readers.{AnswersBy, FrameReading, Gave, Nexts, RisesByThree, held as held_back, read}
 use Rattle.op_frame.specs.declared.fault.FrameFault.{FrameFault}
-use Rattle.op_frame.specs.declared.head.Head.{Head}
+use Rattle.op_frame.specs.declared.header.RunHeader.{RunHeader}
 use Rattle.op_frame.proofs.AnswerLemmas.{answers_by}
 use Rattle.op_frame.proofs.CodeLemmas.{scalar_code}
 use Rattle.op_frame.proofs.DecodingLemmas.{same_meaning}
-use Rattle.op_frame.proofs.HeadLemmas.{scalars_are, text_there}
-use Rattle.op_frame.proofs.ItemLemmas.{of_each_version}
+use Rattle.op_frame.proofs.HeaderLemmas.{scalars_are, text_there}
+use Rattle.op_frame.proofs.LetterLemmas.{letter_whole, letter_within}
 use Rattle.op_frame.proofs.ReaderLemmas.{advances_by, reading_at}
 use Rattle.op_frame.proofs.StreamLemmas.{gave_more, rises}
 use Rattle.op_frame.proofs.ToldLemmas.{shows}
@@ -192,8 +192,8 @@ gathers_row x count text old new empty p = record {
 }
 
 -- how many scalars are held back
-scalars_long : (head : Head) (window : List ℕ) → IsHeld window head → length (text_scalars head.count window) ≡ head.count
-scalars_long head window h = (λ i. length (text_scalars (sym h.count i) (h.split i))) ∙ ap length (scalars_are h.text h.rest h.scalars) ∙ h.count
+scalars_long : (header : RunHeader) (window : List ℕ) → IsHeld window header → length (text_scalars header.count window) ≡ header.count
+scalars_long header window h = (λ i. length (text_scalars (sym h.count i) (h.split i))) ∙ ap length (scalars_are h.text h.rest h.scalars) ∙ h.count
 
 -- what gathering did, with at least one Text
 abbrev pub GathersSome : RunStart → (old_text text : List ℕ) → (old new : FrameReading) → Type 0
@@ -201,22 +201,22 @@ GathersSome start old_text text old new = GathersTexts start old_text text old n
 
 module _ (g : Grammar) (limit offset last : ℕ) (start : RunStart) (old_text text window new : List ℕ) where
   -- the Texts that were held back
-  pub gathers_held : (head : Head) → IsHeld window head → offset + length (drop (3 * head.count) window) ≤ limit → TakesHeld true start head old_text text window new
-      → GathersSome start old_text text (standing g limit (held_ops (Some head) window) (drop (3 * head.count) window) offset last) (standing g limit [] new offset last)
-  gathers_held head h inside (goes, text_is, rest) =
-      let scalars : List ℕ = text_scalars head.count window in
-      let count : length scalars ≡ head.count = scalars_long head window h in
-      let at : head.id.counter ≡ start.id.counter + length old_text = ap (λ (s : RunStart). s.id.counter) goes in
-      let todo : length (held_ops (Some head) window) ≡ length scalars = length-typed head.id head.section head.left head.right scalars in (
+  pub gathers_held : (header : RunHeader) → IsHeld window header → offset + length (drop (3 * header.count) window) ≤ limit → TakesHeld true start header old_text text window new
+      → GathersSome start old_text text (standing g limit (held_ops (Some header) window) (drop (3 * header.count) window) offset last) (standing g limit [] new offset last)
+  gathers_held header h inside (goes, text_is, rest) =
+      let scalars : List ℕ = text_scalars header.count window in
+      let count : length scalars ≡ header.count = scalars_long header window h in
+      let at : header.id.counter ≡ start.id.counter + length old_text = ap (λ (s : RunStart). s.id.counter) goes in
+      let todo : length (held_ops (Some header) window) ≡ length scalars = length-typed header.id header.section header.left header.right scalars in (
         record {
           more = scalars;
           text_is = text_is;
           gives = λ source. subst
-              (λ (l : List ℕ). GivesOn (standing g limit (held_ops (Some head) window) (drop (3 * head.count) window) offset last) (standing g limit [] l offset last) source
+              (λ (l : List ℕ). GivesOn (standing g limit (held_ops (Some header) window) (drop (3 * header.count) window) offset last) (standing g limit [] l offset last) source
               (run_from (start_behind start (length old_text)) scalars)) (sym rest)
-              (subst (λ (s : RunStart). GivesOn (standing g limit (held_ops (Some head) window) (drop (3 * head.count) window) offset last)
-              (standing g limit [] (drop (3 * head.count) window) offset last) source (run_from s scalars)) goes
-              (gives_held_back g limit (held_ops (Some head) window) (drop (3 * head.count) window) offset last source inside));
+              (subst (λ (s : RunStart). GivesOn (standing g limit (held_ops (Some header) window) (drop (3 * header.count) window) offset last)
+              (standing g limit [] (drop (3 * header.count) window) offset last) source (run_from s scalars)) goes
+              (gives_held_back g limit (held_ops (Some header) window) (drop (3 * header.count) window) offset last source inside));
           counters = omega (arith, ap length text_is, length-append old_text scalars, count, at, h.counters_fit);
           no_fault = refl;
           limit = refl;
@@ -278,146 +278,133 @@ scalar_in (c ∷ text) rest all (suc k) within =
       split = ap (λ (n : ℕ). drop n bytes) size ∙ sym (drop-drop (3 * k) 3 bytes) ∙ p.split;
     }
 
-pub scalar_at : (head : Head) (bytes : List ℕ) → IsHeld bytes head → (k : ℕ) → k < head.count → ScalarAt (text_scalars head.count bytes) bytes k
-scalar_at head bytes h k within =
-    let same : text_scalars head.count bytes ≡ h.text = (λ i. text_scalars (sym h.count i) (h.split i)) ∙ scalars_are h.text h.rest h.scalars in
+pub scalar_at : (header : RunHeader) (bytes : List ℕ) → IsHeld bytes header → (k : ℕ) → k < header.count → ScalarAt (text_scalars header.count bytes) bytes k
+scalar_at header bytes h k within =
+    let same : text_scalars header.count bytes ≡ h.text = (λ i. text_scalars (sym h.count i) (h.split i)) ∙ scalars_are h.text h.rest h.scalars in
     subst (λ (t : List ℕ). ScalarAt t bytes k) (sym same)
     (subst (λ (b : List ℕ). ScalarAt h.text b k) (sym h.split) (scalar_in h.text h.rest h.scalars k (omega (arith, within, h.count))))
 
 -- the scalars are within the bytes
-pub scalars_within : (head : Head) (bytes : List ℕ) → IsHeld bytes head → 3 * head.count ≤ length bytes
-scalars_within head bytes h = omega (arith, ap length h.split, length-append (flat_map scalar_bytes h.text) h.rest, length-scalars h.text, h.count)
+pub scalars_within : (header : RunHeader) (bytes : List ℕ) → IsHeld bytes header → 3 * header.count ≤ length bytes
+scalars_within header bytes h = omega (arith, ap length h.split, length-append (flat_map scalar_bytes h.text) h.rest, length-scalars h.text, h.count)
 
 -- a scalar at its place, put behind those before it
-module _ (head : Head) (bytes : List ℕ) (h : IsHeld bytes head) (k : ℕ) where
+module _ (header : RunHeader) (bytes : List ℕ) (h : IsHeld bytes header) (k : ℕ) where
   abbrev pub from_place : List ℕ
   from_place = take (length bytes - 3 * k) (drop (3 * k) bytes)
 
   all_from_place : from_place ≡ drop (3 * k) bytes
   all_from_place = take_all (length bytes - 3 * k) (drop (3 * k) bytes) (omega (arith, length-drop (3 * k) bytes))
 
-  pub place_within : k < head.count → 3 * k ≤ length bytes
-  place_within more = omega (arith, scalars_within head bytes h)
+  pub place_within : k < header.count → 3 * k ≤ length bytes
+  place_within more = omega (arith, scalars_within header bytes h)
 
-  pub scalar_first_at : k < head.count → StartsWith IsScalarBytes from_place
+  pub scalar_first_at : k < header.count → StartsWith IsScalarBytes from_place
   scalar_first_at more =
-      let p = scalar_at head bytes h k more in
+      let p = scalar_at header bytes h k more in
       (scalar_bytes p.ch, p.others, (p.ch, p.is, refl), tt, all_from_place ∙ p.split)
 
-  pub put_more : k < head.count → (old text new : List ℕ) (ch : ℕ) → text ≡ old ++ take k (text_scalars head.count bytes) → new ≡ text ++ ch ∷ []
+  pub put_more : k < header.count → (old text new : List ℕ) (ch : ℕ) → text ≡ old ++ take k (text_scalars header.count bytes) → new ≡ text ++ ch ∷ []
       → from_place ≡ scalar_bytes ch ++ drop 3 from_place → IsScalar ch
-      → new ≡ old ++ take (k + 1) (text_scalars head.count bytes)
+      → new ≡ old ++ take (k + 1) (text_scalars header.count bytes)
   put_more more old text new ch before put split is =
-      let p = scalar_at head bytes h k more in
+      let p = scalar_at header bytes h k more in
       let same : p.ch ≡ ch = (scalar_code.once p.ch ch p.others (drop 3 from_place) p.is is (sym p.split ∙ sym all_from_place ∙ split)).0 in
-      put ∙ ap (λ (l : List ℕ). l ++ ch ∷ []) before ∙ append_assoc old (take k (text_scalars head.count bytes)) (ch ∷ [])
-      ∙ ap (λ (c : ℕ). old ++ (take k (text_scalars head.count bytes) ++ c ∷ [])) (sym same) ∙ ap (λ (l : List ℕ). old ++ l) (sym p.one_more)
+      put ∙ ap (λ (l : List ℕ). l ++ ch ∷ []) before ∙ append_assoc old (take k (text_scalars header.count bytes)) (ch ∷ [])
+      ∙ ap (λ (c : ℕ). old ++ (take k (text_scalars header.count bytes) ++ c ∷ [])) (sym same) ∙ ap (λ (l : List ℕ). old ++ l) (sym p.one_more)
 
-  pub put_all : head.count ≤ k → (old text : List ℕ) → text ≡ old ++ take k (text_scalars head.count bytes) → text ≡ old ++ text_scalars head.count bytes
-  put_all over old text before = before ∙ ap (λ (l : List ℕ). old ++ l) (take_all k (text_scalars head.count bytes) (omega (arith, over, scalars_long head bytes h)))
-
--- what stands at the front of bytes
-front_is : (f rest bytes : List ℕ) (len : ℕ) → bytes ≡ f ++ rest → len + length rest ≡ length bytes → (take len bytes ≡ f) × (len ≤ length bytes)
-front_is f rest bytes len split is =
-    let long : length f ≡ len = omega (arith, ap length split, length-append f rest, is) in
-    (ap (take len) split ∙ take_at f rest len long, omega (arith, is))
+  pub put_all : header.count ≤ k → (old text : List ℕ) → text ≡ old ++ take k (text_scalars header.count bytes) → text ≡ old ++ text_scalars header.count bytes
+  put_all over old text before = before ∙ ap (λ (l : List ℕ). old ++ l) (take_all k (text_scalars header.count bytes) (omega (arith, over, scalars_long header bytes h)))
 
 -- the frame of one Text goes on with the run
 pub takes_text : (g : Grammar) (start : RunStart) (count ch len : ℕ) (bytes old_text text new : List ℕ) → count ≡ length old_text → IsTextBehind start count ch len bytes
     → text ≡ old_text ++ ch ∷ [] → new ≡ drop len bytes
     → TakesTexts g start old_text text bytes new len
 takes_text g start count ch len bytes old_text text new counted (fits, there) put rest =
-    let at : RunStart → Op = λ s. text_by s ch in
-    let front = front_is (frame (at (start_behind start count))) there.rest bytes len there.split there.len_is in
+    let op : Op = text_by (start_behind start count) ch in
     record {
       more = ch ∷ [];
       some = omega arith;
-      within = front.1;
+      within = letter_within op len bytes there;
       is_frame = subst (λ (n : ℕ). IsFrame g (record { bytes = take len bytes; ops = run_from (start_behind start n) (ch ∷ []) })) counted
-          (record {
-            item = Single (at (start_behind start count));
-            is_item = of_each_version g (at (start_behind start count)) there.has_frame tt;
-            bytes_are = front.0;
-            ops_are = refl;
-          });
+          (letter_whole op len bytes there g tt);
       text_is = put;
       rest = rest;
       counters = omega (arith, fits, counted, ap length put, length-append old_text (ch ∷ []));
     }
 
 -- the frame of a run
-module _ (g : Grammar) (head : Head) (len : ℕ) (bytes : List ℕ) (f : IsRunFront g head len bytes) where
-  pub run_within : 3 * head.count ≤ len
-  run_within = (text_there head bytes len f.within f.head_is).within
+module _ (g : Grammar) (header : RunHeader) (len : ℕ) (bytes : List ℕ) (f : IsRunFront g header len bytes) where
+  pub run_within : 3 * header.count ≤ len
+  run_within = (text_there header bytes len f.within f.head_is).within
 
   abbrev pub scalars_at : List ℕ → List ℕ
-  scalars_at s = take (length s - (len - 3 * head.count)) (drop (len - 3 * head.count) s)
+  scalars_at s = take (length s - (len - 3 * header.count)) (drop (len - 3 * header.count) s)
 
-  pub run_held : (s : List ℕ) → s ≡ bytes → IsHeld (scalars_at s) head
+  pub run_held : (s : List ℕ) → s ≡ bytes → IsHeld (scalars_at s) header
   run_held s same =
-      subst (λ (b : List ℕ). IsHeld b head)
-      (sym (take_all (length s - (len - 3 * head.count)) (drop (len - 3 * head.count) s) (omega (arith, length-drop (len - 3 * head.count) s))))
-      (subst (λ (b : List ℕ). IsHeld (drop (len - 3 * head.count) b) head) (sym same) (text_there head bytes len f.within f.head_is).held)
+      subst (λ (b : List ℕ). IsHeld b header)
+      (sym (take_all (length s - (len - 3 * header.count)) (drop (len - 3 * header.count) s) (omega (arith, length-drop (len - 3 * header.count) s))))
+      (subst (λ (b : List ℕ). IsHeld (drop (len - 3 * header.count) b) header) (sym same) (text_there header bytes len f.within f.head_is).held)
 
   -- it goes on with the run
-  pub takes_run_texts : (start : RunStart) (s old_text text new : List ℕ) → s ≡ bytes → start_in head ≡ start_behind start (length old_text)
-      → text ≡ old_text ++ text_scalars head.count (scalars_at s) → new ≡ drop len bytes
+  pub takes_run_texts : (start : RunStart) (s old_text text new : List ℕ) → s ≡ bytes → start_in header ≡ start_behind start (length old_text)
+      → text ≡ old_text ++ text_scalars header.count (scalars_at s) → new ≡ drop len bytes
       → TakesTexts g start old_text text bytes new len
   takes_run_texts start s old_text text new same goes put rest =
-      let t = text_there head bytes len f.within f.head_is in
-      let scalars : List ℕ = text_scalars head.count (scalars_at s) in
-      let long : length scalars ≡ head.count = scalars_long head (scalars_at s) (run_held s same) in
-      let at : head.id.counter ≡ start.id.counter + length old_text = ap (λ (r : RunStart). r.id.counter) goes in
-      let place : scalars_at s ≡ drop (len - 3 * head.count) bytes
-      = take_all (length s - (len - 3 * head.count)) (drop (len - 3 * head.count) s) (omega (arith, length-drop (len - 3 * head.count) s))
-      ∙ ap (drop (len - 3 * head.count)) same in
-      let ops : run_from (start_behind start (length old_text)) scalars ≡ run_ops (run_at head f.head_is.text)
-      = ap (λ (r : RunStart). run_from r scalars) (sym goes) ∙ ap (λ (b : List ℕ). run_from (start_in head) (text_scalars head.count b)) place ∙ t.ops in
+      let t = text_there header bytes len f.within f.head_is in
+      let scalars : List ℕ = text_scalars header.count (scalars_at s) in
+      let long : length scalars ≡ header.count = scalars_long header (scalars_at s) (run_held s same) in
+      let at : header.id.counter ≡ start.id.counter + length old_text = ap (λ (r : RunStart). r.id.counter) goes in
+      let place : scalars_at s ≡ drop (len - 3 * header.count) bytes
+      = take_all (length s - (len - 3 * header.count)) (drop (len - 3 * header.count) s) (omega (arith, length-drop (len - 3 * header.count) s))
+      ∙ ap (drop (len - 3 * header.count)) same in
+      let ops : run_from (start_behind start (length old_text)) scalars ≡ run_ops (run_at header f.head_is.text)
+      = ap (λ (r : RunStart). run_from r scalars) (sym goes) ∙ ap (λ (b : List ℕ). run_from (start_in header) (text_scalars header.count b)) place ∙ t.ops in
       record {
         more = scalars;
         some = omega (arith, long, t.held.some);
         within = f.within;
         is_frame = same_meaning g (take len bytes) (run_from (start_behind start (length old_text)) scalars) f.is_frame
-            (record { item = Typed (run_at head f.head_is.text); is_item = f.head_is.has_frame; bytes_are = f.head_is.bytes_are; ops_are = ops });
+            (record { item = Typed (run_at header f.head_is.text); is_item = f.head_is.has_frame; bytes_are = f.head_is.bytes_are; ops_are = ops });
         text_is = put;
         rest = rest;
         counters = omega (arith, ap length put, length-append old_text scalars, long, at, t.held.counters_fit);
       }
 
 -- the same, as the reader's own fields say it
-module _ (g : Grammar) (limit offset last : ℕ) (start : RunStart) (old_text text window new : List ℕ) (held : Option Head) (fault : Option FrameFault) (none : fault ≡ None)
+module _ (g : Grammar) (limit offset last : ℕ) (start : RunStart) (old_text text window new : List ℕ) (held : Option RunHeader) (fault : Option FrameFault) (none : fault ≡ None)
     (inside : offset + length (behind_held held window) ≤ limit) where
-  pub gathers_held_at : (head : Head) → held ≡ Some head → IsHeld window head → TakesHeld true start head old_text text window new
+  pub gathers_held_at : (header : RunHeader) → held ≡ Some header → IsHeld window header → TakesHeld true start header old_text text window new
       → GathersSome start old_text text (reading_at g limit held window offset last fault) (reading_at g limit None new offset last fault)
-  gathers_held_at head is h took =
+  gathers_held_at header is h took =
       subst (λ (f : Option FrameFault). GathersSome start old_text text (reading_at g limit held window offset last f) (reading_at g limit None new offset last f)) (sym none)
-      (subst (λ (o : Option Head). GathersSome start old_text text (reading_at g limit o window offset last None) (reading_at g limit None new offset last None)) (sym is)
-      (gathers_held g limit offset last start old_text text window new head h (subst (λ (o : Option Head). offset + length (behind_held o window) ≤ limit) is inside) took))
+      (subst (λ (o : Option RunHeader). GathersSome start old_text text (reading_at g limit o window offset last None) (reading_at g limit None new offset last None)) (sym is)
+      (gathers_held g limit offset last start old_text text window new header h (subst (λ (o : Option RunHeader). offset + length (behind_held o window) ≤ limit) is inside) took))
 
   pub gathers_frame_at : (len : ℕ) → held ≡ None → TakesTexts g start old_text text window new len
       → GathersSome start old_text text (reading_at g limit held window offset last fault) (reading_at g limit held new (offset + len) offset fault)
   gathers_frame_at len is took =
       subst (λ (f : Option FrameFault). GathersSome start old_text text (reading_at g limit held window offset last f) (reading_at g limit held new (offset + len) offset f))
       (sym none)
-      (subst (λ (o : Option Head). GathersSome start old_text text (reading_at g limit o window offset last None) (reading_at g limit o new (offset + len) offset None)) (sym is)
-      (gathers_frame g limit offset last start old_text text window new len (subst (λ (o : Option Head). offset + length (behind_held o window) ≤ limit) is inside) took))
+      (subst (λ (o : Option RunHeader). GathersSome start old_text text (reading_at g limit o window offset last None) (reading_at g limit o new (offset + len) offset None))
+      (sym is)
+      (gathers_frame g limit offset last start old_text text window new len (subst (λ (o : Option RunHeader). offset + length (behind_held o window) ≤ limit) is inside) took))
 
 -- the frame of a Delete, as the reader's own fields say it
-pub gathers_delete_at : (g : Grammar) (limit offset last : ℕ) (x : Identifier) (count len : ℕ) (window new : List ℕ) (held : Option Head) (fault : Option FrameFault) → fault ≡ None
-    → offset + length (behind_held held window) ≤ limit → held ≡ None → x.counter + count < 2 ^ 32 → IsOpFront (Delete (id_behind x count)) len window → new ≡ drop len window
+pub gathers_delete_at : (g : Grammar) (limit offset last : ℕ) (x : Identifier) (count len : ℕ) (window new : List ℕ) (held : Option RunHeader) (fault : Option FrameFault)
+    → fault ≡ None → offset + length (behind_held held window) ≤ limit → held ≡ None → x.counter + count < 2 ^ 32 → IsOpFront (Delete (id_behind x count)) len window
+    → new ≡ drop len window
     → GathersOne x count (reading_at g limit held window offset last fault) (reading_at g limit held new (offset + len) offset fault)
-gathers_delete_at g limit offset last x count len window new (Some head) fault none inside is fits there rest = absurd (cc is)
+gathers_delete_at g limit offset last x count len window new (Some header) fault none inside is fits there rest = absurd (cc is)
 gathers_delete_at g limit offset last x count len window new None fault none inside is fits there rest =
     let y : Identifier = id_behind x count in
-    let front = front_is (frame (Delete y)) there.rest window len there.split there.len_is in
-    let whole : IsFrame g (record { bytes = take len window; ops = Delete y ∷ [] }) =
-    record { item = Single (Delete y); is_item = of_each_version g (Delete y) there.has_frame tt; bytes_are = front.0; ops_are = refl } in
     record {
       gives = λ source. subst
           (λ (f : Option FrameFault). GivesOn (reading_at g limit None window offset last f) (reading_at g limit None new (offset + len) offset f) source (Delete y ∷ []))
           (sym none)
           (subst (λ (l : List ℕ). GivesOn (standing g limit [] window offset last) (standing g limit [] l (offset + len) offset) source (Delete y ∷ [])) (sym rest)
-          (gives_delete g limit offset last len window source inside front.1 y whole));
+          (gives_delete g limit offset last len window source inside (letter_within (Delete y) len window there) y (letter_whole (Delete y) len window there g tt)));
       counters = fits;
       no_fault = none;
       short = omega (arith, ap length rest, length-drop len window);
@@ -543,8 +530,14 @@ pub gives_with : (old mid new : FrameReading) (before after : SourceView) (op : 
 gives_with old mid new before after op ops others is nexts on = subst (GivesAll old new before after) (sym is) (mid, nexts, on)
 
 -- what is held back and not yet read is in the window
-pub had_within : (held : Option Head) (window : List ℕ) → IfSome held (IsHeld window) → 3 * length (held_ops held window) + length (behind_held held window) ≤ length window
+pub had_within : (held : Option RunHeader) (window : List ℕ) → IfSome held (IsHeld window) → 3 * length (held_ops held window) + length (behind_held held window) ≤ length window
 had_within None window h = omega arith
-had_within (Some head) window h =
-    let scalars : List ℕ = text_scalars head.count window in
-    omega (arith, length-typed head.id head.section head.left head.right scalars, scalars_long head window h, scalars_within head window h, length-drop (3 * head.count) window)
+had_within (Some header) window h =
+    let scalars : List ℕ = text_scalars header.count window in
+    omega (
+      arith,
+      length-typed header.id header.section header.left header.right scalars,
+      scalars_long header window h,
+      scalars_within header window h,
+      length-drop (3 * header.count) window,
+    )

@@ -1,113 +1,19 @@
 -- A letter's frame, field by field.
-use Rattle.std.proofs.Common.{◌≡◌, ◌⊎◌, ℕ, suc, ◌+◌, ◌-◌, ◌<◌, ◌≤◌, List, [], ◌∷◌, ◌++◌, length, take, drop, get_or, refl, ap, inl, inr, subst, sym, ◌∙◌, append_assoc, arith}
-use Rattle.std.proofs.Common.{length-append, length-drop}
-use Rattle.std.specs.Prelude.{IfNone, None, Option, Some, ◌^◌}
-use Rattle.std.specs.Int.{to_be_bytes, w32}
-use Rattle.std.proofs.lemmas.List.{append-nil, drop-drop, drop_more, get_or-drop, get_or-take, take-append-drop, take_at}
+use Rattle.std.proofs.Common.{◌≡◌, ◌⊎◌, ℕ, ◌≤◌, List, [], ◌∷◌, ◌++◌, length, take, drop, get_or, refl, ap, inl, inr, sym, ◌∙◌, append_assoc, arith, length-append}
+use Rattle.std.specs.Prelude.{Option}
+use Rattle.std.proofs.lemmas.List.{append-nil, take_at}
+use Rattle.fugue_ids.specs.Identifiers.{Identifier}
 use Rattle.fugue_ids.specs.declared.op.Op.{Op}
 use Rattle.fugue_ids.specs.declared.op.Op.TheVariants.{Delete, Note, Section, Text}
 use Rattle.origin_model.specs.declared.grammar.Grammar.{Grammar}
-use Rattle.origin_model.specs.frames.Frames.{HasFrame, IsOfVersion1, Single, frame, id_bytes, origin_bytes, scalar_bytes}
-use Rattle.op_frame.specs.Firsts.{FrontIs, IsFieldBetween, IsLetter, IsLetterFrame, IsLetterFront, StartsWith}
-use Rattle.op_frame.specs.FrameFronts.{IsIdentifierBytes, IsOriginBytes, IsScalarBytes, Then}
-use Rattle.op_frame.specs.declared.front.Front.TheVariants.{Frame as FrameThere}
-use Rattle.op_frame.proofs.CodeLemmas.{identifier_code, number_code, origin_code}
-use Rattle.op_frame.proofs.DecodingLemmas.{origin_there}
-use Rattle.op_frame.proofs.FieldLemmas.{AreBytes, id_there}
-use Rattle.op_frame.proofs.FormatLemmas.{Format, IsCode, Spelled, behind_field, identifier, origin}
-use Rattle.op_frame.proofs.FrameFrontLemmas.{next_field}
+use Rattle.origin_model.specs.frames.Frames.{HasFrame, IsFrame, IsFrameOrigin, IsIdentifier, IsOfVersion1, Single, frame, id_bytes, origin_bytes, scalar_bytes}
+use Rattle.op_frame.specs.Firsts.{IsLetter, IsLetterFrame, StartsWith}
+use Rattle.op_frame.specs.FrameFronts.{IsIdentifierBytes, IsOriginBytes, IsOwnFrame, IsScalarBytes, Then}
+use Rattle.op_frame.specs.NextRuns.{IsOpFront}
+use Rattle.op_frame.proofs.CodeLemmas.{identifier_code, origin_code}
+use Rattle.op_frame.proofs.FormatLemmas.{behind_field, identifier, origin}
 use Rattle.op_frame.proofs.ItemLemmas.{of_each_version}
 use Rattle.op_frame.proofs.OperationLemmas.{regroup5}
-
-pub identifier_is : (b : List ℕ) (n : ℕ) → b ≡ to_be_bytes w32 n ++ drop 4 b → 0 < n → n < 2 ^ 32 → length b ≡ 8 → AreBytes b → IsIdentifierBytes b
-identifier_is b n is some small long fits = let p = id_there b n is some small long fits in (p.id, p.is_identifier, sym (append-nil b) ∙ p.is)
-
--- the replica of an identifier is in its first four bytes
-pub replica_some : (b : List ℕ) (n : ℕ) → b ≡ to_be_bytes w32 n ++ drop 4 b → n < 2 ^ 32 → IsIdentifierBytes b → 0 < n
-replica_some b n is small p =
-    let same = (number_code.once n p.0.replica (drop 4 b) (to_be_bytes w32 p.0.counter) small p.1.replica_fits (sym is ∙ p.2)).0 in
-    omega (arith, same, p.1.some_replica)
-
--- where no field of one size stands
-module _ (Field : List ℕ → Type 0) (size : ℕ) (sized : (b : List ℕ) → Field b → length b ≡ size) (bytes : List ℕ) (at : ℕ) where
-  no_room : length bytes - at < size → StartsWith Field (drop at bytes) → ⊥
-  no_room few t = absurd (omega (arith, few, sized t.0 t.2, ap length t.4, length-append t.0 t.1, length-drop at bytes))
-
-  not_there : (Field (take (at + size - at) (drop at bytes)) → ⊥) → StartsWith Field (drop at bytes) → ⊥
-  not_there none t =
-      let all : at + size - at ≡ size = omega arith in
-      none (subst (λ n. Field (take n (drop at bytes))) (sym all) (subst Field (sym (ap (take size) t.4 ∙ take_at t.0 t.1 size (sized t.0 t.2))) t.2))
-
-identifier_size : (b : List ℕ) → IsIdentifierBytes b → length b ≡ 8
-identifier_size b p = ap length p.2
-
-scalar_size : (b : List ℕ) → IsScalarBytes b → length b ≡ 3
-scalar_size b p = ap length p.2
-
-module _ (bytes : List ℕ) (at : ℕ) where
-  pub no_room_for_id : length bytes - at < 8 → StartsWith IsIdentifierBytes (drop at bytes) → ⊥
-  no_room_for_id = no_room IsIdentifierBytes 8 identifier_size bytes at
-
-  pub no_id_there : (IsIdentifierBytes (take (at + 8 - at) (drop at bytes)) → ⊥) → StartsWith IsIdentifierBytes (drop at bytes) → ⊥
-  no_id_there = not_there IsIdentifierBytes 8 identifier_size bytes at
-
-  pub no_room_for_scalar : length bytes - at < 3 → StartsWith IsScalarBytes (drop at bytes) → ⊥
-  no_room_for_scalar = no_room IsScalarBytes 3 scalar_size bytes at
-
-  pub no_scalar_there : (IsScalarBytes (take (at + 3 - at) (drop at bytes)) → ⊥) → StartsWith IsScalarBytes (drop at bytes) → ⊥
-  no_scalar_there = not_there IsScalarBytes 3 scalar_size bytes at
-
-  first_at : get_or (drop at bytes) 0 0 ≡ get_or bytes at 0
-  first_at = let same : at + 0 ≡ at = omega arith in get_or-drop at bytes 0 0 ∙ ap (λ n. get_or bytes n 0) same
-
-  pub no_origin_in_none : length bytes ≤ at → StartsWith IsOriginBytes (drop at bytes) → ⊥
-  no_origin_in_none over t = let p = origin_there (drop at bytes) t in absurd (omega (arith, over, p.some, length-drop at bytes))
-
-  -- an origin whose first byte says that an identifier follows
-  pub id_behind_tag : get_or bytes at 0 ≡ 1 → StartsWith IsOriginBytes (drop at bytes) → StartsWith IsIdentifierBytes (drop (at + 1) bytes)
-  id_behind_tag tag t =
-      let p = origin_there (drop at bytes) t in
-      elim p.tag [
-        | inl start ↦ absurd (omega (arith, start, first_at, tag))
-        | inr one ↦ subst (StartsWith IsIdentifierBytes) (drop-drop 1 at bytes) one.1
-      ]
-
-pub origin_between : (bytes : List ℕ) (at end : ℕ) → at < length bytes → get_or bytes at 0 ≡ 1 → IsFieldBetween IsIdentifierBytes bytes (at + 1) end
-    → IsFieldBetween IsOriginBytes bytes at end
-origin_between bytes at end inside tag p =
-    let more : end - at ≡ suc (end - (at + 1)) = omega (arith, p.ordered) in
-    record {
-      ordered = omega (arith, p.ordered);
-      within = p.within;
-      is = (Some p.is.0, p.is.1, (λ i. take (more i) (drop_more bytes at 0 inside i)) ∙ (λ i. tag i ∷ p.is.2 i));
-    }
-
--- the first byte
-pub kind_is : (bytes : List ℕ) (kind : ℕ) → 0 < length bytes → get_or bytes 0 0 ≡ kind → take 1 bytes ≡ kind ∷ []
-kind_is [] kind some is = absurd (omega (arith, some))
-kind_is (x ∷ bytes) kind some is = λ i. is i ∷ []
-
--- a field behind those before it
-grows : (bytes : List ℕ) (at end : ℕ) (front field : List ℕ) → at ≤ end → take at bytes ≡ front → take (end - at) (drop at bytes) ≡ field → take end bytes ≡ front ++ field
-grows bytes at end front field le before is = sym (next_field bytes at end le) ∙ (λ i. before i ++ is i)
-
-pub text_whole : (bytes : List ℕ) (a b c d e : ℕ) → take 1 bytes ≡ 2 ∷ [] → IsFieldBetween IsIdentifierBytes bytes 1 a → IsFieldBetween IsIdentifierBytes bytes a b
-    → IsFieldBetween IsOriginBytes bytes b c
-    → IsFieldBetween IsOriginBytes bytes c d → IsFieldBetween IsScalarBytes bytes d e → IsLetterFront e bytes
-text_whole bytes a b c d e kind id section left right ch =
-    let to_section = grows bytes a b _ _ section.ordered (grows bytes 1 a _ _ id.ordered kind id.is.2) section.is.2 in
-    let to_right = grows bytes c d _ _ right.ordered (grows bytes b c _ _ left.ordered to_section left.is.2) right.is.2 in (
-      ch.within,
-      (
-        Text id.is.0 section.is.0 left.is.0 right.is.0 ch.is.0,
-        tt,
-        (id.is.1, section.is.1, left.is.1, right.is.1, ch.is.1),
-        grows bytes d e _ _ ch.ordered to_right ch.is.2,
-      ),
-    )
-
-pub delete_whole : (bytes : List ℕ) (a : ℕ) → take 1 bytes ≡ 3 ∷ [] → IsFieldBetween IsIdentifierBytes bytes 1 a → IsLetterFront a bytes
-delete_whole bytes a kind id = (id.within, (Delete id.is.0, tt, id.is.1, grows bytes 1 a _ _ id.ordered kind id.is.2))
 
 -- each grammar has a letter's frame
 known : (op : Op) → IsLetter op → IsOfVersion1 op
@@ -115,11 +21,6 @@ known (Text id s l r ch) letter = tt
 known (Delete id) letter = tt
 known (Section id l r t) letter = absurd letter
 known (Note id n c b) letter = absurd letter
-
-pub letter_framed : (g : Grammar) (len : ℕ) (bytes : List ℕ) → IsLetterFront len bytes → FrontIs (FrameThere len) g bytes
-letter_framed g len bytes p =
-    let op : Op = p.1.0 in
-    (p.0, (op ∷ [], record { item = Single op; is_item = of_each_version g op p.1.2 (known op p.1.1); bytes_are = p.1.3; ops_are = refl }))
 
 -- the fields of a Text, from one of them on, and anything behind them
 abbrev FromRight : List ℕ → Type 0
@@ -169,41 +70,48 @@ letter_fields b t = by_op t.2.0 t.2.1 t.2.2 (t.4 ∙ ap (λ (f : List ℕ). f ++
     by_op (Section id l r title) letter has is = absurd letter
     by_op (Note id n c body) letter has is = absurd letter
 
-pub delete_fields : (b : List ℕ) → get_or b 0 0 ≡ 3 → StartsWith IsLetterFrame b → StartsWith IsIdentifierBytes (drop 1 b)
-delete_fields b kind t = elim (letter_fields b t) [ inl p ↦ absurd (omega (arith, kind, p.0)) | inr p ↦ p.1 ]
-
--- what follows a field that stands between two places
-behind : {T : Type 0} (F : Format T) → IsCode F → (Rest : List ℕ → Type 0) (bytes : List ℕ) (at mid : ℕ) → IsFieldBetween (Spelled F) bytes at mid
-    → Then (Spelled F) Rest (drop at bytes)
-    → Rest (drop mid bytes)
-behind F code Rest bytes at mid p t =
-    let whole : at + (mid - at) ≡ mid = omega (arith, p.ordered) in
-    let further : drop (mid - at) (drop at bytes) ≡ drop mid bytes = drop-drop (mid - at) at bytes ∙ ap (λ n. drop n bytes) whole in
-    behind_field F code Rest (drop at bytes) t p.is.0 (drop mid bytes) p.is.1 (sym (take-append-drop (mid - at) (drop at bytes)) ∙ (λ i. p.is.2 i ++ further i))
+pub delete_fields : (rest : List ℕ) → StartsWith IsLetterFrame (3 ∷ rest) → StartsWith IsIdentifierBytes rest
+delete_fields rest t = elim (letter_fields (3 ∷ rest) t) [ inl p ↦ absurd (cc p.0) | inr p ↦ p.1 ]
 
 -- where the fields of a Text end, one behind the other, the next one stands
-module _ (bytes : List ℕ) (kind : take 1 bytes ≡ 2 ∷ []) (t : StartsWith IsLetterFrame bytes) where
-  pub from_id : FromId (drop 1 bytes)
-  from_id =
-      let two : get_or bytes 0 0 ≡ 2 = sym (get_or-take 1 bytes 0 0 (omega arith)) ∙ ap (λ (x : List ℕ). get_or x 0 0) kind in
-      elim (letter_fields bytes t) [ inl p ↦ p.1 | inr p ↦ absurd (omega (arith, two, p.0)) ]
+module _ (bytes : List ℕ) (t : StartsWith IsLetterFrame (2 ∷ bytes)) where
+  pub from_id : FromId bytes
+  from_id = elim (letter_fields (2 ∷ bytes) t) [ inl p ↦ p.1 | inr p ↦ absurd (cc p.0) ]
 
-  module _ (a : ℕ) (id : IsFieldBetween IsIdentifierBytes bytes 1 a) where
-    pub from_section : FromSection (drop a bytes)
-    from_section = behind identifier identifier_code FromSection bytes 1 a id from_id
+  module _ (id : Identifier) (a : List ℕ) (is : IsIdentifier id) (split : bytes ≡ id_bytes id ++ a) where
+    pub from_section : FromSection a
+    from_section = behind_field identifier identifier_code FromSection bytes from_id id a is split
 
-    module _ (b : ℕ) (section : IsFieldBetween IsIdentifierBytes bytes a b) where
-      pub from_left : FromLeft (drop b bytes)
-      from_left = behind identifier identifier_code FromLeft bytes a b section from_section
+    module _ (section : Identifier) (b : List ℕ) (section_is : IsIdentifier section) (section_split : a ≡ id_bytes section ++ b) where
+      pub from_left : FromLeft b
+      from_left = behind_field identifier identifier_code FromLeft a from_section section b section_is section_split
 
-      module _ (c : ℕ) (left : IsFieldBetween IsOriginBytes bytes b c) where
-        pub from_right : FromRight (drop c bytes)
-        from_right = behind origin origin_code FromRight bytes b c left from_left
+      module _ (left : Option Identifier) (c : List ℕ) (left_is : IsFrameOrigin left) (left_split : b ≡ origin_bytes left ++ c) where
+        pub from_right : FromRight c
+        from_right = behind_field origin origin_code FromRight b from_left left c left_is left_split
 
-        pub from_scalar : (d : ℕ) → IsFieldBetween IsOriginBytes bytes c d → StartsWith IsScalarBytes (drop d bytes)
-        from_scalar d right = behind origin origin_code (StartsWith IsScalarBytes) bytes c d right from_right
+        pub from_scalar : (right : Option Identifier) (d : List ℕ) → IsFrameOrigin right → c ≡ origin_bytes right ++ d → StartsWith IsScalarBytes d
+        from_scalar right d is split = behind_field origin origin_code (StartsWith IsScalarBytes) c from_right right d is split
 
--- what follows where there is no value
-pub none_then : {X : Type 0} (r : Option X) {P Q : Type 0} → IfNone r P → (P → Q) → IfNone r Q
-none_then None p f = f p
-none_then (Some x) p f = tt
+-- an operation's own frame that is no Section's and no Note's is a letter's
+pub letter_there : (bytes : List ℕ) → IsOwnFrame bytes → (get_or bytes 0 0 ≡ 1 → ⊥) → (get_or bytes 0 0 ≡ 5 → ⊥) → StartsWith IsLetterFrame bytes
+letter_there bytes f a b = (bytes, [], (f.0, by_op f.0 f.2, f.1, f.2), tt, sym (append-nil bytes))
+  where
+    by_op : (op : Op) → bytes ≡ frame op → IsLetter op
+    by_op (Section id l r t) is = absurd (a (ap (λ (x : List ℕ). get_or x 0 0) is))
+    by_op (Text id s l r ch) is = tt
+    by_op (Delete id) is = tt
+    by_op (Note id n k body) is = absurd (b (ap (λ (x : List ℕ). get_or x 0 0) is))
+
+-- a letter's frame at the front of bytes
+module _ (op : Op) (len : ℕ) (bytes : List ℕ) (p : IsOpFront op len bytes) where
+  front_there : (take len bytes ≡ frame op) × (len ≤ length bytes)
+  front_there =
+      let long : length (frame op) ≡ len = omega (arith, ap length p.split, length-append (frame op) p.rest, p.len_is) in
+      (ap (take len) p.split ∙ take_at (frame op) p.rest len long, omega (arith, p.len_is))
+
+  pub letter_within : len ≤ length bytes
+  letter_within = front_there.1
+
+  pub letter_whole : (g : Grammar) → IsLetter op → IsFrame g (record { bytes = take len bytes; ops = op ∷ [] })
+  letter_whole g letter = record { item = Single op; is_item = of_each_version g op p.has_frame (known op letter); bytes_are = front_there.0; ops_are = refl }

@@ -22,7 +22,7 @@ pub mod NoteLemmas
 pub mod DueLemmas
 pub mod FrameFrontLemmas
 pub mod DecodingLemmas
-pub mod HeadLemmas
+pub mod HeaderLemmas
 pub mod ReaderLemmas
 pub mod LetterLemmas
 pub mod GatherLemmas

@@ -10,7 +10,7 @@ use Rattle.outer_ports.proofs.CountLemmas.{count_so, count_then}
 use Rattle.origin_model.specs.declared.grammar.Grammar.{Grammar}
 use Rattle.origin_model.specs.frames.Frames.{Framed, IsBad, IsPartial}
 use Rattle.op_frame.specs.FrameFronts.{AsksMemory, IsFrameOf}
-use Rattle.op_frame.specs.Heads.{behind_held, held_ops}
+use Rattle.op_frame.specs.Headers.{behind_held, held_ops}
 use Rattle.op_frame.specs.Readers.{ReadingAnswerIs, AnswersBy, CarriesOffset, Moves}
 use Rattle.op_frame.specs.Refills.{Refills, Drops}
 use Rattle.op_frame.specs.Steps.{TakesFrontFrame, TakesFirst, TakesFrame, TakesOff, only_op, taken_held, taken_length}

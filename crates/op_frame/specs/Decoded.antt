@@ -2,14 +2,14 @@
 use Rattle.std.specs.Prelude.{◌≡◌, ℕ, Option, Some, None, List, [], ◌∷◌}
 use Rattle.fugue_ids.specs.declared.op.Op.{Op}
 use Rattle.origin_model.specs.frames.Frames.{HasFrame, frame}
-use Rattle.op_frame.specs.Heads.{HeadIs}
+use Rattle.op_frame.specs.Headers.{HeaderIs}
 use Rattle.op_frame.specs.declared.frame_ops.Decoded.{Decoded}
 use Rattle.op_frame.specs.declared.frame_ops.Decoded.TheVariants.{Single, Run}
 
 -- the frame is this operation's own, or that of a run
 abbrev pub IsDecoded : Decoded → List ℕ → Type 0
 IsDecoded (Single op) bytes = HasFrame op × (bytes ≡ frame op)
-IsDecoded (Run head) bytes = HeadIs head bytes
+IsDecoded (Run header) bytes = HeaderIs header bytes
 
 -- the operation, where there is one
 abbrev pub single_ops : Option Op → List Op

@@ -1,5 +1,5 @@
 -- What the first frame of some bytes is, and what a whole frame says.
-use Rattle.std.specs.Prelude.{◌≡◌, ◌↔◌, ℕ, ◌-◌, ◌≤◌, List, ◌∷◌, length, take, drop}
+use Rattle.std.specs.Prelude.{◌≡◌, ◌↔◌, ℕ, ◌≤◌, List, ◌∷◌, length, take, drop}
 use Rattle.fugue_ids.specs.declared.op.Op.{Op}
 use Rattle.fugue_ids.specs.declared.op.Op.TheVariants.{Delete, Text}
 use Rattle.origin_model.specs.declared.grammar.Grammar.{Grammar}
@@ -45,16 +45,6 @@ IsLetter op = ⊥
 -- the bytes are the frame of a letter
 abbrev pub IsLetterFrame : List ℕ → Type 0
 IsLetterFrame bytes = (op : Op) × IsLetter op × HasFrame op × (bytes ≡ frame op)
-
--- the first so many bytes are the frame of a letter
-abbrev pub IsLetterFront : ℕ → List ℕ → Type 0
-IsLetterFront len bytes = (len ≤ length bytes) × IsLetterFrame (take len bytes)
-
--- a field stands between two places of the bytes
-pub record IsFieldBetween (Field : List ℕ → Type 0) (bytes : List ℕ) (at end : ℕ) : Type 0 where
-  pub ordered : at ≤ end
-  pub within : end ≤ length bytes
-  pub is : Field (take (end - at) (drop at bytes))
 
 -- a field, with anything behind it
 abbrev pub StartsWith : (List ℕ → Type 0) → List ℕ → Type 0

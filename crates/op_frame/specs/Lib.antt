@@ -8,6 +8,6 @@ pub mod Readers
 pub mod Steps
 pub mod Courses
 pub mod FrameFronts
-pub mod Heads
+pub mod Headers
 pub mod Decoded
 pub mod NextRuns

@@ -13,11 +13,11 @@ use Rattle.outer_ports.specs.Sources.{SourceView}
 use Rattle.origin_model.specs.declared.grammar.Grammar.{Grammar}
 use Rattle.origin_model.specs.frames.Frames.{HasFrame, IsFrame, frame}
 use Rattle.op_frame.specs.FrameFronts.{IsFrameOf}
-use Rattle.op_frame.specs.Heads.{HeadIs, text_scalars}
+use Rattle.op_frame.specs.Headers.{HeaderIs, text_scalars}
 use Rattle.op_frame.specs.Readers.{FrameReading, Gave, Nexts, RisesByThree}
 use Rattle.op_frame.specs.declared.fault.FrameFault.{FrameFault}
 use Rattle.op_frame.specs.declared.fault.FrameFault.TheVariants.{NoMemory}
-use Rattle.op_frame.specs.declared.head.Head.{Head}
+use Rattle.op_frame.specs.declared.header.RunHeader.{RunHeader}
 use Rattle.op_frame.specs.declared.next_ops.NextOps.{NextOps}
 use Rattle.op_frame.specs.declared.next_ops.NextOps.TheVariants.{Deletes, Run, Single}
 
@@ -84,9 +84,9 @@ pub record IsReachedOp (old : FrameReading) (before after : SourceView) (front :
   pub grammar : at.grammar ≡ old.grammar
   pub limit : at.limit ≡ old.limit
 
--- how many bytes of the buffer the reader still needs: three for each operation held back, and those not yet read
-abbrev pub bytes_had : FrameReading → ℕ
-bytes_had r = 3 * length r.todo + length r.unread
+-- how many bytes are left in the buffer: the scalar of each operation held back, of three bytes, and the bytes not yet read
+abbrev pub bytes_left : FrameReading → ℕ
+bytes_left r = 3 * length r.todo + length r.unread
 
 -- the operation was given, and with it those that were found to go on with it
 pub record Gathers (first : Op) (given : NextOps) (text : List ℕ) (old new : FrameReading) : Type 0 where
@@ -95,7 +95,7 @@ pub record Gathers (first : Op) (given : NextOps) (text : List ℕ) (old new : F
   pub gives : (source : SourceView) → GivesOn old new source others
   pub sound : AreSoundNextOps given text
   -- a scalar takes three bytes, and that of the operation itself was taken before
-  pub short : 3 * length text + bytes_had new ≤ bytes_had old + 3
+  pub short : 3 * length text + bytes_left new ≤ bytes_left old + 3
 
 -- so many Texts more of a run were given, and their scalars went behind the text
 pub record GathersTexts (start : RunStart) (old_text text : List ℕ) (old new : FrameReading) : Type 0 where
@@ -105,7 +105,7 @@ pub record GathersTexts (start : RunStart) (old_text text : List ℕ) (old new :
   pub counters : start.id.counter + length text ≤ 2 ^ 32
   pub no_fault : new.fault ≡ None
   pub limit : new.limit ≡ old.limit
-  pub short : 3 * length more + bytes_had new ≤ bytes_had old
+  pub short : 3 * length more + bytes_left new ≤ bytes_left old
 
 -- the same, with at least one, or nothing was done
 abbrev pub GathersMore : Bool → RunStart → (old_text text : List ℕ) → (old new : FrameReading) → Type 0
@@ -119,14 +119,14 @@ pub record GathersDeletes (target : Identifier) (count : ℕ) (old new : FrameRe
   pub counters : target.counter + count ≤ 2 ^ 32
   pub few : count ≤ BUFFER
   pub no_fault : new.fault ≡ None
-  pub short : bytes_had new ≤ bytes_had old
+  pub short : bytes_left new ≤ bytes_left old
 
 -- the Delete so many behind this one was given
 pub record GathersOne (target : Identifier) (count : ℕ) (old new : FrameReading) : Type 0 where
   pub gives : (source : SourceView) → GivesOn old new source (Delete (id_behind target count) ∷ [])
   pub counters : target.counter + count < 2 ^ 32
   pub no_fault : new.fault ≡ None
-  pub short : bytes_had new ≤ bytes_had old
+  pub short : bytes_left new ≤ bytes_left old
 
 -- the same, or nothing was done
 abbrev pub GathersDelete : Bool → Identifier → ℕ → (old new : FrameReading) → Type 0
@@ -134,20 +134,20 @@ GathersDelete true target count old new = GathersOne target count old new
 GathersDelete false target count old new = new ≡ old
 
 -- what a run's frame says before its scalars
-abbrev pub start_in : Head → RunStart
-start_in head = record { id = head.id; section = head.section; left = head.left; right = head.right }
+abbrev pub start_in : RunHeader → RunStart
+start_in header = record { id = header.id; section = header.section; left = header.left; right = header.right }
 
 -- the scalars of the Texts that are held back went behind the text, or none of them
-abbrev pub PutsScalars : Bool → Head → (bytes old_text text : List ℕ) → Type 0
-PutsScalars true head bytes old_text text = text ≡ old_text ++ text_scalars head.count bytes
-PutsScalars false head bytes old_text text = text ≡ old_text
+abbrev pub PutsScalars : Bool → RunHeader → (bytes old_text text : List ℕ) → Type 0
+PutsScalars true header bytes old_text text = text ≡ old_text ++ text_scalars header.count bytes
+PutsScalars false header bytes old_text text = text ≡ old_text
 
 -- the scalars of the Texts that are held back went behind the text, since these go on with the run, or nothing was done
-abbrev pub TakesHeld : Bool → RunStart → Head → (old_text text old new : List ℕ) → Type 0
-TakesHeld true start head old_text text old new =
-    (start_in head ≡ start_behind start (length old_text)) × (text ≡ old_text ++ text_scalars head.count old)
-    × (new ≡ drop (3 * head.count) old)
-TakesHeld false start head old_text text old new = (text ≡ old_text) × (new ≡ old)
+abbrev pub TakesHeld : Bool → RunStart → RunHeader → (old_text text old new : List ℕ) → Type 0
+TakesHeld true start header old_text text old new =
+    (start_in header ≡ start_behind start (length old_text)) × (text ≡ old_text ++ text_scalars header.count old)
+    × (new ≡ drop (3 * header.count) old)
+TakesHeld false start header old_text text old new = (text ≡ old_text) × (new ≡ old)
 
 -- the frame at the front is that of the operation
 pub record IsOpFront (op : Op) (len : ℕ) (bytes : List ℕ) : Type 0 where
@@ -166,10 +166,10 @@ TakesDelete target old new (Some len) = IsOpFront (Delete target) len old × (ne
 TakesDelete target old new None = new ≡ old
 
 -- the frame at the front is that of a run
-pub record IsRunFront (grammar : Grammar) (head : Head) (len : ℕ) (bytes : List ℕ) : Type 0 where
+pub record IsRunFront (grammar : Grammar) (header : RunHeader) (len : ℕ) (bytes : List ℕ) : Type 0 where
   pub within : len ≤ length bytes
   pub is_frame : IsFrameOf grammar (take len bytes)
-  pub head_is : HeadIs head (take len bytes)
+  pub head_is : HeaderIs header (take len bytes)
 
 -- the frame at the front is of Texts that go on with the run: their scalars went behind the text, and it was taken off
 pub record TakesTexts (grammar : Grammar) (start : RunStart) (old_text text old new : List ℕ) (len : ℕ) : Type 0 where

@@ -7,11 +7,11 @@ use Rattle.origin_model.specs.declared.grammar.Grammar.{Grammar}
 use Rattle.origin_model.specs.declared.grammar.Grammar.TheVariants.{Version2}
 use Rattle.origin_model.specs.frames.Frames.{Framed, IsFrame}
 use Rattle.op_frame.specs.FrameFronts.{AsksMemory}
-use Rattle.op_frame.specs.Heads.{IsHeld, behind_held, held_ops}
+use Rattle.op_frame.specs.Headers.{IsHeld, behind_held, held_ops}
 use Rattle.op_frame.specs.Readers.{AnswersBy, CarriesOffset, Moves}
 use Rattle.op_frame.specs.declared.fault.FrameFault.{FrameFault}
 use Rattle.op_frame.specs.declared.fault.FrameFault.TheVariants.{TooLong, ReadFault, NoMemory}
-use Rattle.op_frame.specs.declared.head.Head.{Head}
+use Rattle.op_frame.specs.declared.header.RunHeader.{RunHeader}
 use Rattle.op_frame.specs.declared.step.Taken.{Taken}
 
 -- the answer as its caller sees it
@@ -21,7 +21,7 @@ only_op (Ok (Some taken)) = Ok (Some taken.op)
 only_op (Err e) = Err e
 
 -- what is held back of the frame, and its length
-abbrev pub taken_held : Result (Option Taken) FrameFault → Option Head
+abbrev pub taken_held : Result (Option Taken) FrameFault → Option RunHeader
 taken_held (Ok (Some taken)) = taken.held
 taken_held result = None
 

@@ -3,11 +3,11 @@ ghost use Rattle.origin_model.specs.frames.Frames.{HasFrame, IsBody, IsTitle, bo
 ghost use Rattle.op_frame.specs.Firsts.{IsFrameBehind};
 ghost use Rattle.op_frame.specs.FrameFronts.{AsksMemory, Completes, IsBodyBytes, IsLast, IsOwnFrame};
 ghost use Rattle.op_frame.specs.declared.due.Due.TheVariants.{Fields as FieldsDue};
-ghost use Rattle.op_frame.specs.declared.due.Last.TheVariants.{Nothing as NothingLast, Scalars as ScalarsLast};
 ghost use Rattle.op_frame.specs.declared.due.Last.TheVariants.{Names as NamesLast, Title as TitleLast};
 
-use crate::fields::{Fields, first_scalar};
-use crate::protocol::{DELETE, NOTE, SECTION, TEXT};
+use crate::fields::Fields;
+use crate::letter::read_letter;
+use crate::protocol::{NOTE, SECTION};
 use fugue_ids::{Body, BodyFault, NoMemory, Op, Title, TitleFault};
 use std::alloc::Global;
 use std::str;
@@ -26,10 +26,10 @@ pub fn decode(alloc: Global, frame: &[u8]) -> Result<Op, NoMemory>
     if kind == NOTE {
         return note(alloc, rest);
     }
-    if kind == TEXT {
-        return Ok(text(rest));
-    }
-    Ok(delete(rest))
+    let Some((op, _len)) = read_letter(frame) else {
+        unreachable!()
+    };
+    Ok(op)
 }
 
 fn section(alloc: Global, rest: &[u8]) -> Result<Op, NoMemory>
@@ -47,35 +47,6 @@ fn section(alloc: Global, rest: &[u8]) -> Result<Op, NoMemory>
         right,
         title,
     })
-}
-
-fn text(rest: &[u8]) -> Op
-    requires { Completes (FieldsDue 2 2 (ScalarsLast 1)) rest.now }
-    ensures { IsFrameBehind TEXT result rest.now }
-{
-    let mut fields = Fields { rest };
-    let id = fields.identifier();
-    let section = fields.identifier();
-    let left = fields.origin();
-    let right = fields.origin();
-    let ch = first_scalar(fields.rest);
-    Op::Text {
-        ch,
-        id,
-        section,
-        left,
-        right,
-    }
-}
-
-fn delete(rest: &[u8]) -> Op
-    requires { Completes (FieldsDue 1 0 NothingLast) rest.now }
-    ensures { IsFrameBehind DELETE result rest.now }
-{
-    let mut fields = Fields { rest };
-    Op::Delete {
-        target: fields.identifier(),
-    }
 }
 
 fn note(alloc: Global, rest: &[u8]) -> Result<Op, NoMemory>

@@ -6,7 +6,7 @@ ghost use Rattle.origin_model.specs.frames.Frames.{body_bytes, id_bytes, names_b
 ghost use Rattle.origin_model.specs.frames.Framings.{frames};
 ghost use Rattle.fugue_ids.specs.Runs.{run_from};
 ghost use Rattle.fugue_ids.specs.declared.op.Op.TheVariants.{Note as NoteOp, Section as SectionOp};
-ghost use Rattle.op_frame.specs.Encoded.{Puts};
+ghost use Rattle.op_frame.specs.Encoded.{AppendsInPlace};
 ghost use Rattle.op_frame.specs.OpenRuns.{run_of};
 
 use crate::framed::{has_frame, has_identifiers};
@@ -21,10 +21,10 @@ pub const LONGEST_RUN: usize = 1_024;
 
 /// The longest part of a run's frame before its scalars: its kind, two identifiers, both origins, and the number of the
 /// scalars.
-const LONGEST_HEAD: usize = 1 + 8 + 8 + 9 + 9 + 2;
+const LONGEST_HEADER: usize = 1 + 8 + 8 + 9 + 9 + 2;
 
 /// The longest frame, in bytes: that of the most Texts.
-pub const LONGEST_FRAME: usize = LONGEST_HEAD + 3 * LONGEST_RUN;
+pub const LONGEST_FRAME: usize = LONGEST_HEADER + 3 * LONGEST_RUN;
 
 /// The longest frame of one operation: that of a Note with its kind, its identifier, the most names behind their number,
 /// its code, and the longest body behind its length.
@@ -81,7 +81,7 @@ fn put_section(
     title: &Title,
 )
     requires { vec_len out.old + LONGEST_SINGLE ≤ vec_capacity out.old }
-    ensures { Puts out.old out.new (frame (SectionOp id left right title.now)) }
+    ensures { AppendsInPlace out.old out.new (frame (SectionOp id left right title.now)) }
 {
     put(out, &[SECTION]);
     put_id(out, id);
@@ -92,7 +92,7 @@ fn put_section(
 
 fn put_note(out: &mut Vec<u8>, id: ElementId, names: &NoteNames, code: u8, body: &Body)
     requires { vec_len out.old + LONGEST_SINGLE ≤ vec_capacity out.old }
-    ensures { Puts out.old out.new (frame (NoteOp id names.now code body.now)) }
+    ensures { AppendsInPlace out.old out.new (frame (NoteOp id names.now code body.now)) }
 {
     put(out, &[NOTE]);
     put_id(out, id);
@@ -129,7 +129,7 @@ fn encode_run(start: &RunStart, text: &[char], out: &mut Vec<u8>) -> Result<(), 
     ensures err { OnErr result (out.new.items ≡ out.old.items) }
 {
     has_identifiers(start);
-    out.reserve(LONGEST_HEAD + 3 * text.len())?;
+    out.reserve(LONGEST_HEADER + 3 * text.len())?;
     put(out, &[RUN]);
     put_id(out, start.id);
     put_id(out, start.section);
@@ -143,7 +143,7 @@ fn encode_run(start: &RunStart, text: &[char], out: &mut Vec<u8>) -> Result<(), 
 /// Appends bytes for which there is room.
 fn put(out: &mut Vec<u8>, bytes: &[u8])
     requires { vec_len out.old + length bytes.now ≤ vec_capacity out.old }
-    ensures { Puts out.old out.new bytes.now }
+    ensures { AppendsInPlace out.old out.new bytes.now }
 {
     if out.extend_from_slice(bytes).is_err() {
         unreachable!()
@@ -152,7 +152,7 @@ fn put(out: &mut Vec<u8>, bytes: &[u8])
 
 fn put_id(out: &mut Vec<u8>, id: ElementId)
     requires { vec_len out.old + 8 ≤ vec_capacity out.old }
-    ensures { Puts out.old out.new (id_bytes id) }
+    ensures { AppendsInPlace out.old out.new (id_bytes id) }
 {
     put(out, &id.replica.to_be_bytes());
     put(out, &id.counter.to_be_bytes());
@@ -160,7 +160,7 @@ fn put_id(out: &mut Vec<u8>, id: ElementId)
 
 fn put_origin(out: &mut Vec<u8>, origin: Option<ElementId>)
     requires { vec_len out.old + 9 ≤ vec_capacity out.old }
-    ensures { Puts out.old out.new (origin_bytes origin) }
+    ensures { AppendsInPlace out.old out.new (origin_bytes origin) }
 {
     match origin {
         None => put(out, &[0]),
@@ -173,7 +173,7 @@ fn put_origin(out: &mut Vec<u8>, origin: Option<ElementId>)
 
 fn put_title(out: &mut Vec<u8>, title: &Title)
     requires { vec_len out.old + 2 + LONGEST_TITLE ≤ vec_capacity out.old }
-    ensures { Puts out.old out.new (title_bytes title.now) }
+    ensures { AppendsInPlace out.old out.new (title_bytes title.now) }
 {
     let text = title.as_str();
     put(out, &(text.len() as u16).to_be_bytes());
@@ -182,7 +182,7 @@ fn put_title(out: &mut Vec<u8>, title: &Title)
 
 fn put_names(out: &mut Vec<u8>, names: &NoteNames)
     requires { vec_len out.old + 1 + 8 * MOST_NAMES ≤ vec_capacity out.old }
-    ensures puts { Puts out.old out.new (names_bytes names.now) }
+    ensures puts { AppendsInPlace out.old out.new (names_bytes names.now) }
     ensures few { length names.now ≤ MOST_NAMES }
 {
     let ids = names.as_slice();
@@ -192,7 +192,7 @@ fn put_names(out: &mut Vec<u8>, names: &NoteNames)
 
 fn put_ids(out: &mut Vec<u8>, ids: &[ElementId])
     requires { vec_len out.old + 8 * length ids.now ≤ vec_capacity out.old }
-    ensures { Puts out.old out.new (flat_map id_bytes ids.now) }
+    ensures { AppendsInPlace out.old out.new (flat_map id_bytes ids.now) }
 {
     for id in ids {
         put_id(out, *id);
@@ -201,7 +201,7 @@ fn put_ids(out: &mut Vec<u8>, ids: &[ElementId])
 
 fn put_body(out: &mut Vec<u8>, body: &Body)
     requires { vec_len out.old + 2 + LONGEST_BODY ≤ vec_capacity out.old }
-    ensures { Puts out.old out.new (body_bytes body.now) }
+    ensures { AppendsInPlace out.old out.new (body_bytes body.now) }
 {
     let bytes = body.as_slice();
     put(out, &(bytes.len() as u16).to_be_bytes());
@@ -210,7 +210,7 @@ fn put_body(out: &mut Vec<u8>, body: &Body)
 
 fn put_scalar(out: &mut Vec<u8>, ch: char)
     requires { vec_len out.old + 3 ≤ vec_capacity out.old }
-    ensures puts { Puts out.old out.new (scalar_bytes ch) }
+    ensures puts { AppendsInPlace out.old out.new (scalar_bytes ch) }
     ensures scalar { IsScalar ch }
 {
     put(out, &(ch as u32).to_be_bytes()[1..]);
@@ -218,7 +218,7 @@ fn put_scalar(out: &mut Vec<u8>, ch: char)
 
 fn put_scalars(out: &mut Vec<u8>, text: &[char])
     requires { vec_len out.old + 3 * length text.now ≤ vec_capacity out.old }
-    ensures puts { Puts out.old out.new (flat_map scalar_bytes text.now) }
+    ensures puts { AppendsInPlace out.old out.new (flat_map scalar_bytes text.now) }
     ensures scalars { All IsScalar text.now }
 {
     for ch in text {

@@ -1,4 +1,4 @@
-ghost use Rattle.std.specs.Prelude.{◌≡◌, ◌++◌, drop};
+ghost use Rattle.std.specs.Prelude.{◌≡◌, ◌++◌, drop, IfNone, IfSome};
 ghost use Rattle.std.specs.Char.{IsScalar};
 ghost use Rattle.origin_model.specs.frames.Frames.{AreNames, IsIdentifier, IsFrameOrigin};
 ghost use Rattle.origin_model.specs.frames.Frames.{id_bytes, names_bytes, origin_bytes, scalar_bytes};
@@ -14,22 +14,61 @@ const UNREAD: ElementId = ElementId {
     counter: 0,
 };
 
-/// Takes fields that are there off the front of bytes.
+/// Takes fields off the front of bytes.
 #[derive(Drop)]
 pub(crate) struct Fields<'a> {
     pub(crate) rest: &'a [u8],
 }
 
 impl<'a> Fields<'a> {
+    /// The identifier at the front, where one stands there: there is no replica 0.
+    pub(crate) fn try_identifier(&mut self) -> Option<ElementId>
+        ensures none { IfNone result (StartsWith IsIdentifierBytes self.old.rest.now → ⊥) }
+        ensures is { IfSome result IsIdentifier }
+        ensures split { IfSome result (λ id. self.old.rest.now ≡ id_bytes id ++ self.new.rest.now) }
+    {
+        if self.rest.len() < 8 {
+            return None;
+        }
+        let replica = number(self.rest);
+        if replica == 0 {
+            return None;
+        }
+        let counter = number(&self.rest[4..]);
+        self.rest = &self.rest[8..];
+        Some(ElementId { replica, counter })
+    }
+
+    /// The origin at the front, where one stands there.
+    pub(crate) fn try_origin(&mut self) -> Option<Option<ElementId>>
+        ensures none { IfNone result (StartsWith IsOriginBytes self.old.rest.now → ⊥) }
+        ensures is { IfSome result IsFrameOrigin }
+        ensures split { IfSome result (λ origin. self.old.rest.now ≡ origin_bytes origin ++ self.new.rest.now) }
+    {
+        if self.rest.is_empty() {
+            return None;
+        }
+        let tag = self.rest[0];
+        self.rest = &self.rest[1..];
+        match tag {
+            0 => Some(None),
+            1 => {
+                let id = self.try_identifier()?;
+                Some(Some(id))
+            }
+            _ => None,
+        }
+    }
+
     pub(crate) fn identifier(&mut self) -> ElementId
         requires { StartsWith IsIdentifierBytes self.old.rest.now }
         ensures split { self.old.rest.now ≡ id_bytes result ++ self.new.rest.now }
         ensures is { IsIdentifier result }
     {
-        let replica = number(self.rest);
-        let counter = number(&self.rest[4..]);
-        self.rest = &self.rest[8..];
-        ElementId { replica, counter }
+        let Some(id) = self.try_identifier() else {
+            unreachable!()
+        };
+        id
     }
 
     pub(crate) fn origin(&mut self) -> Option<ElementId>
@@ -37,12 +76,10 @@ impl<'a> Fields<'a> {
         ensures split { self.old.rest.now ≡ origin_bytes result ++ self.new.rest.now }
         ensures is { IsFrameOrigin result }
     {
-        let tag = self.rest[0];
-        self.rest = &self.rest[1..];
-        if tag == 0 {
-            return None;
-        }
-        Some(self.identifier())
+        let Some(origin) = self.try_origin() else {
+            unreachable!()
+        };
+        origin
     }
 
     pub(crate) fn names(&mut self) -> NoteNames

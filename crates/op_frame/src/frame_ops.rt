@@ -3,10 +3,10 @@ ghost use Rattle.origin_model.specs.frames.Frames.{IsFrame};
 ghost use Rattle.origin_model.specs.declared.grammar.Grammar.TheVariants.{Version2 as WithRuns};
 ghost use Rattle.op_frame.specs.Decoded.{IsDecoded, GivesFirstOf};
 ghost use Rattle.op_frame.specs.FrameFronts.{AsksMemory, IsFrameOf};
-ghost use Rattle.op_frame.specs.Heads.{HeadIs};
+ghost use Rattle.op_frame.specs.Headers.{HeaderIs};
 
 use crate::decoding::decode;
-use crate::head::Head;
+use crate::header::RunHeader;
 use crate::protocol::RUN;
 use fugue_ids::{NoMemory, Op};
 use std::alloc::Global;
@@ -16,16 +16,16 @@ use std::marker::Model;
 #[derive(Drop)]
 pub(crate) enum Decoded {
     Single(Op),
-    Run(Head),
+    Run(RunHeader),
 }
 
 /// What the whole frame of a run says before its scalars.
-pub(crate) fn run_head(frame: &[u8]) -> Head
+pub(crate) fn run_header(frame: &[u8]) -> RunHeader
     requires frame { IsFrameOf WithRuns frame.now }
     requires run { get_or frame.now 0 0 ≡ RUN }
-    ensures { HeadIs result frame.now }
+    ensures { HeaderIs result frame.now }
 {
-    Head::read(&frame[1..])
+    RunHeader::read(&frame[1..])
 }
 
 /// What a whole frame stands for. Memory goes to a title or a body alone.
@@ -35,7 +35,7 @@ pub(crate) fn decode_frame(alloc: Global, frame: &[u8]) -> Result<Decoded, NoMem
     ensures err { IsErr result → AsksMemory frame.now }
 {
     if frame[0] == RUN {
-        return Ok(Decoded::Run(run_head(frame)));
+        return Ok(Decoded::Run(run_header(frame)));
     }
     Ok(Decoded::Single(decode(alloc, frame)?))
 }
@@ -44,7 +44,7 @@ pub(crate) fn decode_frame(alloc: Global, frame: &[u8]) -> Result<Decoded, NoMem
 #[derive(Drop)]
 pub struct FrameOps<'a> {
     single: Option<Op>,
-    run: Option<Head>,
+    run: Option<RunHeader>,
     scalars: &'a [u8],
 }
 
@@ -52,7 +52,7 @@ impl<'a> Model for FrameOps<'a> {
     ghost use Rattle.std.specs.Prelude.{◌++◌, IfSome, List};
     ghost use Rattle.fugue_ids.specs.declared.op.Op.{Op as AnOp};
     ghost use Rattle.op_frame.specs.Decoded.{single_ops};
-    ghost use Rattle.op_frame.specs.Heads.{IsHeld, held_ops};
+    ghost use Rattle.op_frame.specs.Headers.{IsHeld, held_ops};
 
     ghost Value = { List AnOp };
 
@@ -74,11 +74,11 @@ impl<'a> FrameOps<'a> {
                 run: None,
                 scalars: frame,
             }),
-            Decoded::Run(head) => {
-                let start = frame.len() - 3 * head.count;
+            Decoded::Run(header) => {
+                let start = frame.len() - 3 * header.count;
                 Ok(FrameOps {
                     single: None,
-                    run: Some(head),
+                    run: Some(header),
                     scalars: &frame[start..],
                 })
             }
@@ -91,8 +91,8 @@ impl<'a> FrameOps<'a> {
     {
         match self.run {
             None => self.single.take(),
-            Some(head) => {
-                let (op, next) = head.first(self.scalars);
+            Some(header) => {
+                let (op, next) = header.first(self.scalars);
                 self.run = next;
                 self.scalars = &self.scalars[3..];
                 Some(op)

@@ -2,7 +2,7 @@ ghost use Rattle.op_frame.specs.Firsts.{FrontIs};
 
 use crate::due::{Due, Judged};
 use crate::judge::{field_size, is_whole, judge};
-use crate::letter::letter_front;
+use crate::run_fields::pass_scalars;
 use origin_model::Grammar;
 
 /// What stands at the front of some bytes.
@@ -16,18 +16,8 @@ pub(crate) enum Front {
     Bad,
 }
 
-/// What stands at the front of the bytes. Nearly every frame is a letter's: these are recognised at once.
-pub(crate) fn front_of(grammar: Grammar, bytes: &[u8]) -> Front
-    ensures { FrontIs result grammar bytes.now }
-{
-    match letter_front(bytes) {
-        Some(len) => Front::Frame(len),
-        None => front_by_fields(grammar, bytes),
-    }
-}
-
 /// What stands at the front of the bytes, which are looked at field by field.
-fn front_by_fields(grammar: Grammar, bytes: &[u8]) -> Front
+pub(crate) fn front_of(grammar: Grammar, bytes: &[u8]) -> Front
     ensures { FrontIs result grammar bytes.now }
 {
     let mut due = Due::Kind(grammar);
@@ -42,8 +32,9 @@ fn front_by_fields(grammar: Grammar, bytes: &[u8]) -> Front
         }
         match judge(due, &bytes[at..end]) {
             Judged::Done(next) => {
+                let (next, passed) = pass_scalars(next, &bytes[end..]);
                 due = next;
-                at = end;
+                at = end + passed;
             }
             Judged::Front => return Front::Prefix,
             Judged::Bad => return Front::Bad,

@@ -1,36 +1,37 @@
 ghost use Rattle.std.specs.Prelude.{◌≡◌, ◌<◌, ◌≤◌, ◌+◌, ◌^◌, IfSome, IsTrue, length, vec_capacity};
 ghost use Rattle.fugue_ids.specs.Runs.{id_behind, start_behind};
-ghost use Rattle.op_frame.specs.Heads.{IsHeld};
-ghost use Rattle.op_frame.specs.NextRuns.{IsRunFront, IsTextBehind, PutsScalars, TakesDelete, TakesFront, TakesHeld, start_in};
+ghost use Rattle.fugue_ids.specs.declared.op.Op.TheVariants.{Delete as DeleteOf};
+ghost use Rattle.op_frame.specs.Headers.{IsHeld};
+ghost use Rattle.op_frame.specs.NextRuns.{IsOpFront, IsRunFront, IsTextBehind, PutsScalars, TakesDelete, TakesFront, TakesHeld, start_in};
 
 use crate::fields::first_scalar;
-use crate::frame_ops::run_head;
+use crate::frame_ops::run_header;
 use crate::front::{Front, front_of};
-use crate::head::Head;
+use crate::header::RunHeader;
+use crate::letter::read_letter;
 use crate::protocol::RUN;
-use crate::text_front::{delete_front, text_front};
 use crate::unread::Unread;
-use fugue_ids::{ElementId, RunStart};
+use fugue_ids::{ElementId, Op, RunStart, read_text};
 use origin_model::Grammar;
 
 /// Takes the scalars of the Texts that are held back, if these go on with the run. After want of memory nothing is done.
 pub(crate) fn take_held_texts(
     start: &RunStart,
-    head: &Head,
+    header: &RunHeader,
     unread: &mut Unread,
     text: &mut Vec<char>,
 ) -> bool
-    requires { IsHeld unread.old.bytes head.now }
-    ensures takes { TakesHeld result start.now head.now text.old.items text.new.items unread.old.bytes unread.new.bytes }
+    requires { IsHeld unread.old.bytes header.now }
+    ensures takes { TakesHeld result start.now header.now text.old.items text.new.items unread.old.bytes unread.new.bytes }
     ensures room { vec_capacity text.old ≤ vec_capacity text.new }
 {
-    if !is_next(start, text, head) {
+    if !is_next(start, text, header) {
         return false;
     }
-    if !put_scalars(head, unread.as_slice(), text) {
+    if !put_scalars(header, unread.as_slice(), text) {
         return false;
     }
-    unread.skip(3 * head.count);
+    unread.skip(3 * header.count);
     true
 }
 
@@ -46,7 +47,7 @@ pub(crate) fn take_texts(
     ensures room { vec_capacity text.old ≤ vec_capacity text.new }
 {
     match run_front(grammar, unread.as_slice()) {
-        Some((head, len)) => take_run(grammar, start, &head, len, unread, text),
+        Some((header, len)) => take_run(grammar, start, &header, len, unread, text),
         None => take_text(grammar, start, unread, text),
     }
 }
@@ -72,15 +73,27 @@ pub(crate) fn take_delete(target: ElementId, unread: &mut Unread) -> Option<usiz
     Some(len)
 }
 
+/// The length of the frame at the front of the bytes, where it is whole and that of the Delete of this target.
+fn delete_front(target: ElementId, bytes: &[u8]) -> Option<usize>
+    ensures { IfSome result (λ len. IsOpFront (DeleteOf target) len bytes.now) }
+{
+    let (op, len) = read_letter(bytes)?;
+    if op == (Op::Delete { target }) {
+        Some(len)
+    } else {
+        None
+    }
+}
+
 /// The run whose frame stands at the front of the bytes, and the frame's length.
-fn run_front(grammar: Grammar, bytes: &[u8]) -> Option<(Head, usize)>
+fn run_front(grammar: Grammar, bytes: &[u8]) -> Option<(RunHeader, usize)>
     ensures { IfSome result (λ found. IsRunFront grammar found.0 found.1 bytes.now) }
 {
     if bytes.is_empty() || bytes[0] != RUN {
         return None;
     }
     match front_of(grammar, bytes) {
-        Front::Frame(len) => Some((run_head(&bytes[..len]), len)),
+        Front::Frame(len) => Some((run_header(&bytes[..len]), len)),
         Front::Prefix => None,
         Front::Bad => None,
     }
@@ -89,19 +102,19 @@ fn run_front(grammar: Grammar, bytes: &[u8]) -> Option<(Head, usize)>
 fn take_run(
     grammar: Grammar,
     start: &RunStart,
-    head: &Head,
+    header: &RunHeader,
     len: usize,
     unread: &mut Unread,
     text: &mut Vec<char>,
 ) -> Option<usize>
-    requires { IsRunFront grammar head.now len unread.old.bytes }
+    requires { IsRunFront grammar header.now len unread.old.bytes }
     ensures takes { TakesFront grammar start.now text.old.items text.new.items unread.old.bytes unread.new.bytes result }
     ensures room { vec_capacity text.old ≤ vec_capacity text.new }
 {
-    if !is_next(start, text, head) {
+    if !is_next(start, text, header) {
         return None;
     }
-    if !put_scalars(head, &unread.as_slice()[len - 3 * head.count..], text) {
+    if !put_scalars(header, &unread.as_slice()[len - 3 * header.count..], text) {
         return None;
     }
     unread.skip(len);
@@ -128,32 +141,33 @@ fn take_text(
 }
 
 /// The scalar and the length of the frame at the front of the bytes, where it is whole and that of the Text that goes on
-/// with the run. Behind the last counter there is none.
+/// with the run.
 fn text_behind(start: &RunStart, text: &Vec<char>, bytes: &[u8]) -> Option<(char, usize)>
     ensures { IfSome result (λ found. IsTextBehind start.now (length text.now.items) found.0 found.1 bytes.now) }
 {
-    let count = text.as_slice().len();
-    if count > (u32::MAX - start.id.counter) as usize {
+    let (op, len) = read_letter(bytes)?;
+    let (next, ch) = read_text(&op)?;
+    if !start.goes_on(text.as_slice().len(), &next) {
         return None;
     }
-    text_front(&start.nth(count), bytes)
+    Some((ch, len))
 }
 
 /// Whether the Texts go on with the run.
-fn is_next(start: &RunStart, text: &Vec<char>, head: &Head) -> bool
-    ensures { IsTrue result → start_in head.now ≡ start_behind start.now (length text.now.items) }
+fn is_next(start: &RunStart, text: &Vec<char>, header: &RunHeader) -> bool
+    ensures { IsTrue result → start_in header.now ≡ start_behind start.now (length text.now.items) }
 {
-    start.goes_on(text.as_slice().len(), &head.start())
+    start.goes_on(text.as_slice().len(), &header.start())
 }
 
 /// Appends the scalars of the Texts that are held back. After want of memory there are none more.
-fn put_scalars(head: &Head, bytes: &[u8], text: &mut Vec<char>) -> bool
-    requires { IsHeld bytes.now head.now }
-    ensures puts { PutsScalars result head.now bytes.now text.old.items text.new.items }
+fn put_scalars(header: &RunHeader, bytes: &[u8], text: &mut Vec<char>) -> bool
+    requires { IsHeld bytes.now header.now }
+    ensures puts { PutsScalars result header.now bytes.now text.old.items text.new.items }
     ensures room { vec_capacity text.old ≤ vec_capacity text.new }
 {
     let len = text.as_slice().len();
-    for place in 0..head.count {
+    for place in 0..header.count {
         match text.push(first_scalar(&bytes[3 * place..])) {
             Ok(()) => {}
             Err(_refused) => {

@@ -1,101 +1,73 @@
-ghost use Rattle.std.specs.Prelude.{◌≡◌, ◌≤◌, [], ◌∷◌, length, take, drop, IfNone, IfSome, IsFalse, IsTrue};
-ghost use Rattle.op_frame.specs.Firsts.{IsFieldBetween, IsLetterFrame, IsLetterFront, StartsWith};
-ghost use Rattle.op_frame.specs.FrameFronts.{IsIdentifierBytes, IsOriginBytes, IsScalarBytes};
+ghost use Rattle.std.specs.Prelude.{◌≡◌, ◌∷◌, ◌++◌, drop, IfNone, IfSome};
+ghost use Rattle.std.specs.Char.{IsScalar};
+ghost use Rattle.origin_model.specs.frames.Frames.{scalar_bytes};
+ghost use Rattle.op_frame.specs.Firsts.{IsLetter, IsLetterFrame, StartsWith};
+ghost use Rattle.op_frame.specs.FrameFronts.{IsScalarBytes};
+ghost use Rattle.op_frame.specs.NextRuns.{IsOpFront};
 
-use crate::number::{number, scalar_of};
+use crate::fields::Fields;
+use crate::number::scalar_of;
 use crate::protocol::{DELETE, TEXT};
+use fugue_ids::Op;
 
-/// The length of the frame of a letter, a Text or a Delete. None is the answer where not all of one stands at the front
-/// of the bytes.
-pub(crate) fn letter_front(bytes: &[u8]) -> Option<usize>
+/// The letter, a Text or a Delete, whose frame stands at the front of the bytes, and the frame's length. None is the
+/// answer where not all of one stands there.
+pub(crate) fn read_letter(bytes: &[u8]) -> Option<(Op, usize)>
     ensures none { IfNone result (StartsWith IsLetterFrame bytes.now → ⊥) }
-    ensures some { IfSome result (λ len. IsLetterFront len bytes.now) }
+    ensures letter { IfSome result (λ found. IsLetter found.0) }
+    ensures front { IfSome result (λ found. IsOpFront found.0 found.1 bytes.now) }
 {
     if bytes.is_empty() {
         return None;
     }
     match bytes[0] {
-        TEXT => text_end(bytes),
-        DELETE => identifier_end(bytes, 1),
+        TEXT => text(&bytes[1..]),
+        DELETE => delete(&bytes[1..]),
         _ => None,
     }
 }
 
-/// Where the frame of a Text ends.
-fn text_end(bytes: &[u8]) -> Option<usize>
-    requires { take 1 bytes.now ≡ TEXT ∷ [] }
-    ensures none { IfNone result (StartsWith IsLetterFrame bytes.now → ⊥) }
-    ensures some { IfSome result (λ end. IsLetterFront end bytes.now) }
+/// The Text of which the frame goes on so behind its first byte, and the frame's length.
+fn text(bytes: &[u8]) -> Option<(Op, usize)>
+    ensures none { IfNone result (StartsWith IsLetterFrame (TEXT ∷ bytes.now) → ⊥) }
+    ensures letter { IfSome result (λ found. IsLetter found.0) }
+    ensures front { IfSome result (λ found. IsOpFront found.0 found.1 (TEXT ∷ bytes.now)) }
 {
-    let section = identifier_end(bytes, 1)?;
-    let left = identifier_end(bytes, section)?;
-    let right = origin_end(bytes, left)?;
-    let scalar = origin_end(bytes, right)?;
-    scalar_end(bytes, scalar)
+    let mut fields = Fields { rest: bytes };
+    let id = fields.try_identifier()?;
+    let section = fields.try_identifier()?;
+    let left = fields.try_origin()?;
+    let right = fields.try_origin()?;
+    let ch = scalar(fields.rest)?;
+    let op = Op::Text {
+        ch,
+        id,
+        section,
+        left,
+        right,
+    };
+    Some((op, 1 + bytes.len() - fields.rest.len() + 3))
 }
 
-/// Where the identifier ends that stands at this place.
-fn identifier_end(bytes: &[u8], at: usize) -> Option<usize>
-    requires { at ≤ length bytes.now }
-    ensures none { IfNone result (StartsWith IsIdentifierBytes (drop at bytes.now) → ⊥) }
-    ensures some { IfSome result (λ end. IsFieldBetween IsIdentifierBytes bytes.now at end) }
+/// The Delete of which the frame goes on so behind its first byte, and the frame's length.
+fn delete(bytes: &[u8]) -> Option<(Op, usize)>
+    ensures none { IfNone result (StartsWith IsLetterFrame (DELETE ∷ bytes.now) → ⊥) }
+    ensures letter { IfSome result (λ found. IsLetter found.0) }
+    ensures front { IfSome result (λ found. IsOpFront found.0 found.1 (DELETE ∷ bytes.now)) }
 {
-    if bytes.len() - at < 8 {
+    let mut fields = Fields { rest: bytes };
+    let target = fields.try_identifier()?;
+    Some((Op::Delete { target }, 9))
+}
+
+/// The scalar at the front of the bytes.
+fn scalar(bytes: &[u8]) -> Option<char>
+    ensures none { IfNone result (StartsWith IsScalarBytes bytes.now → ⊥) }
+    ensures is { IfSome result IsScalar }
+    ensures split { IfSome result (λ ch. bytes.now ≡ scalar_bytes ch ++ drop 3 bytes.now) }
+{
+    if bytes.len() < 3 {
         return None;
     }
-    if is_identifier(&bytes[at..at + 8]) {
-        Some(at + 8)
-    } else {
-        None
-    }
-}
-
-/// Where the origin ends that stands at this place.
-fn origin_end(bytes: &[u8], at: usize) -> Option<usize>
-    requires { at ≤ length bytes.now }
-    ensures none { IfNone result (StartsWith IsOriginBytes (drop at bytes.now) → ⊥) }
-    ensures some { IfSome result (λ end. IsFieldBetween IsOriginBytes bytes.now at end) }
-{
-    if at == bytes.len() {
-        return None;
-    }
-    match bytes[at] {
-        0 => Some(at + 1),
-        1 => identifier_end(bytes, at + 1),
-        _ => None,
-    }
-}
-
-/// Where the scalar ends that stands at this place.
-fn scalar_end(bytes: &[u8], at: usize) -> Option<usize>
-    requires { at ≤ length bytes.now }
-    ensures none { IfNone result (StartsWith IsScalarBytes (drop at bytes.now) → ⊥) }
-    ensures some { IfSome result (λ end. IsFieldBetween IsScalarBytes bytes.now at end) }
-{
-    if bytes.len() - at < 3 {
-        return None;
-    }
-    if is_scalar(&bytes[at..at + 3]) {
-        Some(at + 3)
-    } else {
-        None
-    }
-}
-
-/// Whether these bytes are an identifier: there is no replica 0.
-fn is_identifier(bytes: &[u8]) -> bool
-    requires { length bytes.now ≡ 8 }
-    ensures yes { IsTrue result → IsIdentifierBytes bytes.now }
-    ensures no { IsFalse result → IsIdentifierBytes bytes.now → ⊥ }
-{
-    number(bytes) != 0
-}
-
-/// Whether these bytes are a scalar.
-fn is_scalar(bytes: &[u8]) -> bool
-    requires { length bytes.now ≡ 3 }
-    ensures yes { IsTrue result → IsScalarBytes bytes.now }
-    ensures no { IsFalse result → IsScalarBytes bytes.now → ⊥ }
-{
-    scalar_of(bytes[0], bytes[1], bytes[2]).is_some()
+    scalar_of(bytes[0], bytes[1], bytes[2])
 }

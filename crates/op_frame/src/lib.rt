@@ -14,7 +14,7 @@ mod framed;
 mod front;
 mod gather;
 mod grown;
-mod head;
+mod header;
 mod judge;
 mod law;
 mod letter;
@@ -27,7 +27,6 @@ mod reader;
 mod refill;
 mod run_fields;
 mod step;
-mod text_front;
 mod title;
 mod unread;
 

@@ -4,14 +4,14 @@ ghost use Rattle.fugue_ids.specs.declared.limits.TheConstants.{BUFFER};
 ghost use Rattle.outer_ports.specs.Sources.{KeepsCount};
 ghost use Rattle.origin_model.specs.declared.grammar.Grammar.TheVariants.{Version1 as Singles, Version2 as WithRuns};
 ghost use Rattle.op_frame.specs.Readers.{Chains, Gave, GivesInOrder, Nexts, fresh_reading, kept_fault};
-ghost use Rattle.op_frame.specs.NextRuns.{bytes_had, Gathers, GathersDelete, GathersDeletes, GathersMore, GathersTexts};
+ghost use Rattle.op_frame.specs.NextRuns.{bytes_left, Gathers, GathersDelete, GathersDeletes, GathersMore, GathersTexts};
 ghost use Rattle.op_frame.specs.NextRuns.{GivesManyBy, NextsRun};
 ghost use Rattle.op_frame.specs.declared.fault.FrameFault.TheVariants.{ReadFault};
 
 use crate::FrameFault;
 use crate::encoding::LONGEST_RUN;
 use crate::gather::{take_delete, take_held_texts, take_texts, target_behind};
-use crate::head::Head;
+use crate::header::RunHeader;
 use crate::next_ops::NextOps;
 use crate::step::{take_held, take_next};
 use crate::unread::Unread;
@@ -30,7 +30,7 @@ pub struct FrameReader {
     unread: Unread,
     /// The operations of the frame that was last read that are still to be given. Their scalars are the first unread
     /// bytes.
-    held: Option<Head>,
+    held: Option<RunHeader>,
     offset: u64,
     last: u64,
     fault: Option<FrameFault>,
@@ -38,7 +38,7 @@ pub struct FrameReader {
 
 impl Model for FrameReader {
     ghost use Rattle.std.specs.Prelude.{◌≡◌, ◌≤◌, ◌+◌, length, IfSome, Some};
-    ghost use Rattle.op_frame.specs.Heads.{IsHeld, behind_held, held_ops};
+    ghost use Rattle.op_frame.specs.Headers.{IsHeld, behind_held, held_ops};
     ghost use Rattle.op_frame.specs.Readers.{FrameReading, kept_fault};
 
     ghost Value = { FrameReading };
@@ -113,8 +113,8 @@ impl FrameReader {
             return Err(fault);
         }
         match self.held {
-            Some(head) => {
-                let (op, held) = take_held(head, &mut self.unread);
+            Some(header) => {
+                let (op, held) = take_held(header, &mut self.unread);
                 self.held = held;
                 Ok(Some(op))
             }
@@ -168,7 +168,7 @@ impl FrameReader {
 
     /// What it has fits into the buffer: nothing is done.
     fn fits(&self)
-        ensures { bytes_had self.now ≤ BUFFER }
+        ensures { bytes_left self.now ≤ BUFFER }
     {
         self.unread.fit();
     }
@@ -243,8 +243,8 @@ impl FrameReader {
         ensures room { vec_capacity text.old ≤ vec_capacity text.new }
     {
         match self.held {
-            Some(head) => {
-                if !take_held_texts(start, &head, &mut self.unread, text) {
+            Some(header) => {
+                if !take_held_texts(start, &header, &mut self.unread, text) {
                     return false;
                 }
                 self.held = None;

@@ -1,5 +1,6 @@
-ghost use Rattle.std.specs.Prelude.{◌≡◌, ◌≤◌, ◌<◌, length};
-ghost use Rattle.op_frame.specs.FrameFronts.{IsJudged, most_from as most_texts, scalars_due as due_scalars};
+ghost use Rattle.std.specs.Prelude.{◌≡◌, ◌≤◌, ◌<◌, ◌-◌, ◌*◌, IsTrue, get_or, length, take};
+ghost use Rattle.std.specs.Char.{IsScalar};
+ghost use Rattle.op_frame.specs.FrameFronts.{IsJudged, IsSoundDue, LeavesDue, most_from as most_texts, scalar_of_bytes, scalars_due as due_scalars};
 ghost use Rattle.op_frame.specs.declared.due.Due.TheVariants.{Fields as FieldsDue, Run as RunDue};
 ghost use Rattle.op_frame.specs.declared.due.Last.TheVariants.{Count as CountLast, Scalars as ScalarsLast};
 
@@ -77,4 +78,43 @@ fn scalars_due(count: usize) -> Due
         return Due::Fields(0, 0, Last::Nothing);
     }
     Due::Fields(0, 0, Last::Scalars(count))
+}
+
+/// Passes the scalars at the front of the bytes, where scalars are due next: what is due behind them, and how many bytes
+/// they have. A run has up to 1,024 of them, so they are not looked at as fields one by one.
+pub(crate) fn pass_scalars(due: Due, bytes: &[u8]) -> (Due, usize)
+    requires { IsSoundDue due }
+    ensures within { result.1 ≤ length bytes.now }
+    ensures leaves { LeavesDue (take result.1 bytes.now) due result.0 }
+{
+    match due {
+        Due::Fields(0, 0, Last::Scalars(count)) => {
+            let passed = scalars_in_front(count, bytes);
+            (scalars_due(count - passed), 3 * passed)
+        }
+        _ => (due, 0),
+    }
+}
+
+/// How many scalars stand at the front of the bytes, one after another, but at most so many.
+fn scalars_in_front(most: usize, bytes: &[u8]) -> usize
+    requires { 0 < most }
+    ensures few { result ≤ most }
+    ensures within { 3 * result ≤ length bytes.now }
+    ensures leaves { LeavesDue (take (3 * result) bytes.now) (FieldsDue 0 0 (ScalarsLast most)) (due_scalars (most - result)) }
+{
+    let whole = most.min(bytes.len() / 3);
+    let mut passed = 0;
+    'scalars: while passed < whole && is_scalar(&bytes[3 * passed..3 * passed + 3]) {
+        passed += 1;
+    }
+    passed
+}
+
+fn is_scalar(bytes: &[u8]) -> bool
+    requires { length bytes.now ≡ 3 }
+    ensures { IsTrue result
+        → IsScalar (scalar_of_bytes (get_or bytes.now 0 0) (get_or bytes.now 1 0) (get_or bytes.now 2 0)) }
+{
+    scalar_of(bytes[0], bytes[1], bytes[2]).is_some()
 }

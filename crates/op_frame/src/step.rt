@@ -1,14 +1,17 @@
 ghost use Rattle.std.specs.Prelude.{◌≡◌, ◌≤◌, ◌≢◌, length, take, [], None, Some, IfOk, IfErr, IsErr};
 ghost use Rattle.origin_model.specs.declared.grammar.Grammar.TheVariants.{Version2 as WithRuns};
+ghost use Rattle.op_frame.specs.Firsts.{IsLetter};
 ghost use Rattle.op_frame.specs.FrameFronts.{IsFrameOf};
-ghost use Rattle.op_frame.specs.Heads.{GivesHeld, IsHeld};
-ghost use Rattle.op_frame.specs.Steps.{TakesFrontFrame, TakesFrame};
+ghost use Rattle.op_frame.specs.Headers.{GivesHeld, IsHeld};
+ghost use Rattle.op_frame.specs.NextRuns.{IsOpFront};
+ghost use Rattle.op_frame.specs.Steps.{TakesFrontFrame, TakesFrame, TakesOff};
 ghost use Rattle.op_frame.specs.declared.fault.FrameFault.TheVariants.{CutShort};
 
 use crate::FrameFault;
 use crate::frame_ops::{Decoded, decode_frame};
 use crate::front::{Front, front_of};
-use crate::head::Head;
+use crate::header::RunHeader;
+use crate::letter::read_letter;
 use crate::refill::refill;
 use crate::unread::Unread;
 use fugue_ids::{NoMemory, Op};
@@ -20,7 +23,7 @@ use std::alloc::Global;
 #[derive(Drop)]
 pub(crate) struct Taken {
     pub(crate) op: Op,
-    pub(crate) held: Option<Head>,
+    pub(crate) held: Option<RunHeader>,
     pub(crate) len: usize,
 }
 
@@ -39,6 +42,10 @@ pub(crate) fn take_next<S: Source>(
         result }
 {
     'reads: loop {
+        // Nearly every frame is a letter's: it is read at once.
+        if let Some((op, len)) = read_letter(unread.as_slice()) {
+            return Ok(Some(take_letter(op, len, unread)));
+        }
         match front_of(grammar, unread.as_slice()) {
             Front::Frame(len) => return take_frame(alloc, unread, len),
             Front::Bad => return Err(FrameFault::BadFrame(offset)),
@@ -47,6 +54,20 @@ pub(crate) fn take_next<S: Source>(
         if !refill(unread, room - unread.len() as u64, source)? {
             return at_end(unread, offset);
         }
+    }
+}
+
+/// Takes the frame of a letter off the bytes.
+fn take_letter(op: Op, len: usize, unread: &mut Unread) -> Taken
+    requires letter { IsLetter op }
+    requires front { IsOpFront op len unread.old.bytes }
+    ensures { TakesOff result unread.old.bytes unread.new.bytes len }
+{
+    unread.skip(len);
+    Taken {
+        op,
+        held: None,
+        len,
     }
 }
 
@@ -66,20 +87,20 @@ fn take_frame(alloc: Global, unread: &mut Unread, len: usize) -> Result<Option<T
                 len,
             }))
         }
-        Ok(Decoded::Run(head)) => {
-            unread.skip(len - 3 * head.count);
-            let (op, held) = take_held(head, unread);
+        Ok(Decoded::Run(header)) => {
+            unread.skip(len - 3 * header.count);
+            let (op, held) = take_held(header, unread);
             Ok(Some(Taken { op, held, len }))
         }
     }
 }
 
 /// Gives the first operation that is held back, and takes its scalar off the bytes.
-pub(crate) fn take_held(head: Head, unread: &mut Unread) -> (Op, Option<Head>)
-    requires { IsHeld unread.old.bytes head }
-    ensures { GivesHeld head result.0 result.1 unread.old.bytes unread.new.bytes }
+pub(crate) fn take_held(header: RunHeader, unread: &mut Unread) -> (Op, Option<RunHeader>)
+    requires { IsHeld unread.old.bytes header }
+    ensures { GivesHeld header result.0 result.1 unread.old.bytes unread.new.bytes }
 {
-    let given = head.first(unread.as_slice());
+    let given = header.first(unread.as_slice());
     unread.skip(3);
     given
 }

@@ -244,7 +244,7 @@ letters_all (Deleted d) = refl
 letters_all (Other k) = refl
 
 -- some operations of the last part went
-pub taken_off : (l : List ℕ) (o : List Op) (ps ps' : List Part) (fs fs' : List ℕ) (n most count : ℕ) (last : Part) → AreParts l o ps fs n → 0 < most
+taken_off : (l : List ℕ) (o : List Op) (ps ps' : List Part) (fs fs' : List ℕ) (n most count : ℕ) (last : Part) → AreParts l o ps fs n → 0 < most
     → TakesOffLast ps ps' fs fs' last most count
     → IsPopped (take (length l - letters_of_part last count) l) (take (length o - others_in last) o) ps' fs' n (ops_of l o ps) count
 taken_off l o ps ps' fs fs' n most count last a some (inl (all, within, was, firsts)) =
@@ -260,6 +260,13 @@ taken_off l o ps ps' fs fs' n most count last a some (inr (is, less, put)) =
     subst (λ z. goal z ps' fs' count) (sym put.was) (subst (λ z. goal (put.front ++ last ∷ []) z fs' count) (sym put.is)
     (subst (λ z. goal (put.front ++ last ∷ []) (put.front ++ part_front last (part_len last - most) ∷ []) z count) (sym put.firsts_stay)
     (subst (λ k. goal (put.front ++ last ∷ []) (put.front ++ part_front last (part_len last - most) ∷ []) fs k) (sym is) r)))
+
+-- the same, and what is left of the letters and of the other operations
+pub popped_off : (l l' : List ℕ) (o o' : List Op) (ps ps' : List Part) (fs fs' : List ℕ) (n most count : ℕ) (last : Part) → AreParts l o ps fs n → 0 < most
+    → TakesOffLast ps ps' fs fs' last most count → l' ≡ take (length l - letters_of_part last count) l → o' ≡ take (length o - others_in last) o
+    → IsPopped l' o' ps' fs' n (ops_of l o ps) count
+popped_off l l' o o' ps ps' fs fs' n most count last a some off letters others =
+    rw (letters, others) (taken_off l o ps ps' fs fs' n most count last a some off)
 
 -- how many there may be
 module _ (l : List ℕ) (o : List Op) (ps : List Part) (fs : List ℕ) (n : ℕ) (last : Part) (a : AreParts l o ps fs n) (is : IsLastPart ps last) where

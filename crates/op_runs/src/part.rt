@@ -8,7 +8,8 @@ ghost use Rattle.op_runs.specs.declared.part.Part.TheVariants.{Deleted as Delete
 
 use fugue_ids::{ElementId, NoMemory, RunStart};
 
-/// The most operations that a list has: more than a history may have, since what was kept of a stream can be more.
+/// The most operations of one list. A history has fewer; of a stream more can be kept, since pending operations that become
+/// Stray leave again.
 pub const MOST_LISTED: u32 = 2_147_483_648;
 
 /// Texts that were typed in a row: their scalars are `count` of the letters, from `at` on.

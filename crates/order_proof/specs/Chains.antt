@@ -16,8 +16,9 @@ abbrev pub ends_with : List Op → Identifier → Chain → Bool
 ends_with h x [] = true
 ends_with [] x (m ∷ ms) = false
 ends_with (op ∷ older) x (m ∷ ms) =
-    if is_own x op then (if id_eq m x then elim (left_of op) [ None ↦ is_empty ms | Some y ↦ ends_with older y ms ] else false) else
-    ends_with older x (m ∷ ms)
+    if is_own x op
+    then (if id_eq m x then elim (left_of op) [ None ↦ is_empty ms | Some y ↦ ends_with older y ms ] else false)
+    else ends_with older x (m ∷ ms)
 
 -- the chain of left origins of x ends with this one, which has a member
 abbrev pub is_down : List Op → Identifier → Chain → Bool

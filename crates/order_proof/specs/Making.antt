@@ -47,8 +47,8 @@ certificate_made_at h x y _ bs = record { x = x; y = y; down_x = []; down_y = x 
 -- the step of two elements
 abbrev pub certificate_made : List Op → (x y : Identifier) → Step
 certificate_made h x y =
-    certificate_made_at h x y (drop (common_count (lefts h x) (lefts h y)) (lefts h x))
-    (drop (common_count (lefts h x) (lefts h y)) (lefts h y))
+    let common = common_count (lefts h x) (lefts h y) in
+    certificate_made_at h x y (drop common (lefts h x)) (drop common (lefts h y))
 
 -- the claim on which a step rests: q before p
 abbrev pub rests_on : Reason → Option (Identifier × Identifier)
@@ -59,5 +59,5 @@ rests_on _ = None
 unfoldable pub certificate : List Op → (x y : Identifier) → Certificate
 certificate [] x y = []
 certificate (op ∷ older) x y =
-    certificate_made (op ∷ older) x y ∷ elim (rests_on ((certificate_made (op ∷ older) x y).reason))
-    [ None ↦ [] | Some claim ↦ certificate older claim.0 claim.1 ]
+    let step = certificate_made (op ∷ older) x y in
+    step ∷ elim (rests_on (step.reason)) [ None ↦ [] | Some claim ↦ certificate older claim.0 claim.1 ]

@@ -6,22 +6,22 @@ use Rattle.outer_ports.specs.Sources.{SourceView, KeepsCount}
 pub count_so : {old new : SourceView} (P Q : Type 0) → KeepsCount old new P → (Q → P) → (P → Q) → KeepsCount old new Q
 count_so P Q k failed so = record {
   later = k.later;
-  rose = λ q. k.rose (failed q);
+  faulted = λ q. k.faulted (failed q);
   sure = k.sure;
   succeeds = λ is q. k.succeeds is (failed q);
-  calm = k.calm;
+  counts_no_fault = k.counts_no_fault;
   tells = k.tells;
-  calm_told = λ tells none. k.calm_told tells (λ p. none (so p));
+  specified_no_fault = λ tells none. k.specified_no_fault tells (λ p. none (so p));
 }
 
 -- calls that did not fail, and one behind them
 pub count_then : {old mid new : SourceView} (P : Type 0) → KeepsCount old mid ⊥ → KeepsCount mid new P → KeepsCount old new P
 count_then P k l = record {
   later = omega (arith, k.later, l.later);
-  rose = λ p. let risen = l.rose p in omega (arith, risen, k.later);
+  faulted = λ p. let risen = l.faulted p in omega (arith, risen, k.later);
   sure = l.sure ∙ k.sure;
   succeeds = λ is p. l.succeeds (k.sure ∙ is) p;
-  calm = λ is. l.calm (k.sure ∙ is) ∙ k.calm is;
+  counts_no_fault = λ is. l.counts_no_fault (k.sure ∙ is) ∙ k.counts_no_fault is;
   tells = λ tells. l.tells (k.tells tells);
-  calm_told = λ tells none. l.calm_told (k.tells tells) none ∙ k.calm_told tells (λ e. e);
+  specified_no_fault = λ tells none. l.specified_no_fault (k.tells tells) none ∙ k.specified_no_fault tells (λ e. e);
 }

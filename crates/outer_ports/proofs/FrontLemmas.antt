@@ -31,11 +31,11 @@ reads_front bytes left front buf at n faults is copied inside within stops =
       kept = tt;
       count = record {
         later = omega arith;
-        rose = λ failed. absurd (false≢true failed);
+        faulted = λ failed. absurd (false≢true failed);
         sure = refl;
         succeeds = λ _ failed. false≢true failed;
-        calm = λ _. refl;
+        counts_no_fault = λ _. refl;
         tells = λ _. refl;
-        calm_told = λ _ _. refl;
+        specified_no_fault = λ _ _. refl;
       };
     }

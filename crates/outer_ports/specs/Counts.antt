@@ -13,4 +13,4 @@ pub record CountsFaults {E T : Type 0} (before now : ℕ) (result : Result T E) 
 pub record FailsOnlyFor {A E T : Type 0} (sure : Option A) (excuse : A → Type 0) (before now : ℕ) (result : Result T E) : Type 0 where
   pub cause : HasCause before now result
   pub excused : IfSome sure (λ left. OnErr result (excuse left))
-  pub calm : IfSome sure (λ left. OnOk result (now ≡ before))
+  pub counts_no_fault : IfSome sure (λ left. OnOk result (now ≡ before))

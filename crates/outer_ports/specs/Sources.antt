@@ -16,16 +16,16 @@ pub record SourceView : Type 0 where
 abbrev pub SourceTells : SourceView → Type 0
 SourceTells source = IsSome source.left
 
--- What a call did to a source's count of faults: it never falls, a failure raised it, and a sure source stays calm. Where
+-- What a call did to a source's count of faults: it never falls, a failure raised it, and a sure source counts none. Where
 -- the source tells, nothing but a failure raised it.
 pub record KeepsCount (old new : SourceView) (failed : Type 0) : Type 0 where
   pub later : old.faults ≤ new.faults
-  pub rose : failed → Faulted old.faults new.faults
+  pub faulted : failed → Faulted old.faults new.faults
   pub sure : new.sure ≡ old.sure
   pub succeeds : old.sure ≡ true → failed → ⊥
-  pub calm : old.sure ≡ true → new.faults ≡ old.faults
+  pub counts_no_fault : old.sure ≡ true → new.faults ≡ old.faults
   pub tells : SourceTells old → SourceTells new
-  pub calm_told : SourceTells old → (failed → ⊥) → new.faults ≡ old.faults
+  pub specified_no_fault : SourceTells old → (failed → ⊥) → new.faults ≡ old.faults
 
 -- one call: the next bytes that are left come, none only at the end or for an empty buffer; nothing at an error
 pub record ReadsSome {E : Type 0} (old new : SourceView) (result : Result ℕ E) (buf : List ℕ) : Type 0 where

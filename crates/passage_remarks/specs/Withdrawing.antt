@@ -24,8 +24,8 @@ as_withdraw_fault _ = NoMemory
 
 -- why no comment is withdrawn: there is no such remark, or one operation more is refused
 abbrev pub withdraw_refusal : State → ℕ → Option WithdrawFault
-withdraw_refusal s n = elim (remark_numbered s.held.history n)
-    [ None ↦ Some NoComment | Some r ↦ option_map as_withdraw_fault (refused_ops s 1) ]
+withdraw_refusal s n =
+    elim (remark_numbered s.held.history n) [ None ↦ Some NoComment | Some r ↦ option_map as_withdraw_fault (refused_ops s 1) ]
 
 -- the Delete of the comment was made, and nothing else
 pub record IsWithdrawn (old new : State) (n : ℕ) : Type 0 where

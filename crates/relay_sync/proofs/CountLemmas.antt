@@ -12,22 +12,23 @@ use Rattle.outer_ports.proofs.TellLemmas.{same_tells}
 
 -- nothing was called
 pub dock_still : (P : Type 0) (u : DockView) → DockRisesFor P u u
-dock_still P u = record { tells = λ t. t; calm_told = λ t none. refl }
+dock_still P u = record { tells = λ t. t; specified_no_fault = λ t none. refl }
 
 -- calls that did not fail, and others behind them
 pub dock_then : (P Q : Type 0) (u v w : DockView) → (P → ⊥) → DockRisesFor P u v → DockRisesFor Q v w → DockRisesFor Q u w
-dock_then P Q u v w none s t = record { tells = λ told. t.tells (s.tells told); calm_told = λ told other. t.calm_told (s.tells told) other ∙ s.calm_told told none }
+dock_then P Q u v w none s t =
+    record { tells = λ told. t.tells (s.tells told); specified_no_fault = λ told other. t.specified_no_fault (s.tells told) other ∙ s.specified_no_fault told none }
 
 -- the same blame in other words
 pub dock_so : (P Q : Type 0) (u v : DockView) → (P → Q) → DockRisesFor P u v → DockRisesFor Q u v
-dock_so P Q u v so s = record { tells = s.tells; calm_told = λ told none. s.calm_told told (λ p. none (so p)) }
+dock_so P Q u v so s = record { tells = s.tells; specified_no_fault = λ told none. s.specified_no_fault told (λ p. none (so p)) }
 
 -- behind calls that did not fail
 pub dock_on : (Q : Type 0) (u v w : DockView) → DockRisesFor ⊥ u v → DockRisesFor Q v w → DockRisesFor Q u w
 dock_on Q u v w s t = dock_then ⊥ Q u v w (λ e. e) s t
 
-pub dock_calm : (Q : Type 0) (u v : DockView) → DockRisesFor ⊥ u v → DockRisesFor Q u v
-dock_calm Q u v s = dock_so ⊥ Q u v (λ e. absurd e) s
+pub dock_no_fault : (Q : Type 0) (u v : DockView) → DockRisesFor ⊥ u v → DockRisesFor Q u v
+dock_no_fault Q u v s = dock_so ⊥ Q u v (λ e. absurd e) s
 
 sends_tell : {E T : Type 0} (result : Result T E) (u v : DockView) (session : ℕ) (text : List ℕ) → SendsText {E = E} {T = T} u v result session text → DockTells u → DockTells v
 sends_tell result u v session text s tells = record {
@@ -44,13 +45,14 @@ sends_tell result u v session text s tells = record {
 
 -- the same of wires
 pub wire_still : (P : Type 0) (u : WireView) → WireRisesFor P u u
-wire_still P u = record { tells = λ t. t; calm_told = λ t none. refl }
+wire_still P u = record { tells = λ t. t; specified_no_fault = λ t none. refl }
 
 pub wire_then : (P Q : Type 0) (u v w : WireView) → (P → ⊥) → WireRisesFor P u v → WireRisesFor Q v w → WireRisesFor Q u w
-wire_then P Q u v w none s t = record { tells = λ told. t.tells (s.tells told); calm_told = λ told other. t.calm_told (s.tells told) other ∙ s.calm_told told none }
+wire_then P Q u v w none s t =
+    record { tells = λ told. t.tells (s.tells told); specified_no_fault = λ told other. t.specified_no_fault (s.tells told) other ∙ s.specified_no_fault told none }
 
 pub wire_so : (P Q : Type 0) (u v : WireView) → (P → Q) → WireRisesFor P u v → WireRisesFor Q u v
-wire_so P Q u v so s = record { tells = s.tells; calm_told = λ told none. s.calm_told told (λ p. none (so p)) }
+wire_so P Q u v so s = record { tells = s.tells; specified_no_fault = λ told none. s.specified_no_fault told (λ p. none (so p)) }
 
 -- behind calls that did not fail
 pub wire_on : (Q : Type 0) (u v w : WireView) → WireRisesFor ⊥ u v → WireRisesFor Q v w → WireRisesFor Q u w
@@ -60,5 +62,5 @@ pub wire_went : (u v : WireView) → WireRisesFor (false ≡ true) u v → WireR
 wire_went u v s = wire_so (false ≡ true) ⊥ u v (λ e. false≢true e) s
 
 pub write_rises : {E : Type 0} (result : Result ℕ E) (u v : WireView) (piece : List ℕ) → WireWrites {E = E} u v result piece → WireRisesFor (IsErr result) u v
-write_rises (Ok n) u v piece r = record { tells = wire_write_tells (Ok n) u v piece r; calm_told = λ tells none. r.writes.calm_told tells.2 }
-write_rises (Err e) u v piece r = record { tells = wire_write_tells (Err e) u v piece r; calm_told = λ tells none. absurd (none refl) }
+write_rises (Ok n) u v piece r = record { tells = wire_write_tells (Ok n) u v piece r; specified_no_fault = λ tells none. r.writes.specified_no_fault tells.2 }
+write_rises (Err e) u v piece r = record { tells = wire_write_tells (Err e) u v piece r; specified_no_fault = λ tells none. absurd (none refl) }

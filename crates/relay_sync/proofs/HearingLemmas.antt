@@ -28,7 +28,7 @@ hears-append u v w a b s t = record {
   dials = t.dials ∙ s.dials;
   room = t.room ∙ s.room;
   later = omega (arith, s.later, t.later);
-  calm = λ sure. t.calm (ap (λ (r : Option ℕ). is_some r) s.room ∙ sure) ∙ s.calm sure;
+  counts_no_fault = λ sure. t.counts_no_fault (ap (λ (r : Option ℕ). is_some r) s.room ∙ sure) ∙ s.counts_no_fault sure;
 }
 
 -- a fault behind bytes that were heard
@@ -79,7 +79,7 @@ pub frame_front : (bytes : List ℕ) → IsPartial Version2 bytes → IsMessageF
 frame_front bytes p = record { message = Operations p.framed.ops; whole = p.framed.bytes; is_message = p.is_frame; more = p.more; lacks = p.lacks; front = p.front }
 
 pub hears_none : (wire : WireView) → HeardBytes wire wire []
-hears_none wire = record { heard = sym (prepend_none wire.left); said = refl; dials = refl; room = refl; later = omega arith; calm = λ sure. refl }
+hears_none wire = record { heard = sym (prepend_none wire.left); said = refl; dials = refl; room = refl; later = omega arith; counts_no_fault = λ sure. refl }
 
 -- with which byte a message begins
 abbrev pub IsLead : Message → ℕ → Type 0
@@ -170,7 +170,7 @@ read_fails {E} result e u v buf place before is reads front =
         dials = r.dials;
         room = r.room;
         later = r.reads.count.later;
-        calm = r.reads.count.calm;
+        counts_no_fault = r.reads.count.counts_no_fault;
       };
-      stops = (subst IsMessageFront (sym (append-nil before)) front, r.reads.count.rose refl, λ sure. r.reads.count.succeeds sure refl);
+      stops = (subst IsMessageFront (sym (append-nil before)) front, r.reads.count.faulted refl, λ sure. r.reads.count.succeeds sure refl);
     }

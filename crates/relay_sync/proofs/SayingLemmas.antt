@@ -14,8 +14,8 @@ says_grow {E} {T} x u v w piece at n s t =
 
 -- dialling says nothing
 sure_dialled : (E T : Type 0) (x : T) (room : Option ℕ) (before now : ℕ) → IfSome room (λ r. now ≡ before) → IfSome room (λ r. IsSure {E = E} {T = T} r 0 before now (Ok x))
-sure_dialled E T x None before now calm = tt
-sure_dialled E T x (Some r) before now calm = record { fits = λ fit. tt; within = omega arith; calm = calm }
+sure_dialled E T x None before now counts_no_fault = tt
+sure_dialled E T x (Some r) before now counts_no_fault = record { fits = λ fit. tt; within = omega arith; counts_no_fault = counts_no_fault }
 
 sure_refused : (E T : Type 0) (e : E) (room : Option ℕ) (n before now : ℕ) → IfSome room (λ r. ⊥) → IfSome room (λ r. IsSure {E = E} {T = T} r n before now (Err e))
 sure_refused E T e None n before now succeeds = tt
@@ -26,8 +26,8 @@ dialled_none {E} {T} x u v port d = record {
   ok = took_none (out_of u) (out_of v) d.said d.room;
   err = tt;
   cause = record { later = d.count.cause.later; failed = tt };
-  sure = sure_dialled E T x u.room u.faults v.faults d.count.calm;
-  calm_told = d.calm_told;
+  sure = sure_dialled E T x u.room u.faults v.faults d.count.counts_no_fault;
+  specified_no_fault = d.specified_no_fault;
 }
 
 dialled_stays : {E T : Type 0} (result : Result T E) (u v w : WireView) (port : ℕ) → DialsOnce u v port → w.dials ≡ v.dials

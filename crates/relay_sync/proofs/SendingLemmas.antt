@@ -54,10 +54,11 @@ text_room u reply h =
     let r = h.room reply.session in
     (r.0, r.1, subst (λ (b : Bool). length (if b then reply.bytes else []) ≤ r.0) (eq-eqb reply.session reply.session refl) r.2)
 
-text_calm : {E T : Type 0} (x : T) (u v : DockView) (reply : Reply) → SendsText {E = E} {T = T} u v (Ok x) reply.session reply.bytes → LastsFor u (Some reply) → v.faults ≡ u.faults
-text_calm {E} {T} x u v reply s h =
+text_no_fault : {E T : Type 0} (x : T) (u v : DockView) (reply : Reply) → SendsText {E = E} {T = T} u v (Ok x) reply.session reply.bytes
+    → LastsFor u (Some reply) → v.faults ≡ u.faults
+text_no_fault {E} {T} x u v reply s h =
     let r = text_room u reply h in
-    (sure_is (λ (room : ℕ). IsSure {E = E} {T = T} room (length reply.bytes) u.faults v.faults (Ok x)) (u.room reply.session) r.0 r.1 s.writes.sure).calm
+    (sure_is (λ (room : ℕ). IsSure {E = E} {T = T} room (length reply.bytes) u.faults v.faults (Ok x)) (u.room reply.session) r.0 r.1 s.writes.sure).counts_no_fault
 
 text_fits : {E T : Type 0} (e : E) (u v : DockView) (reply : Reply) → SendsText {E = E} {T = T} u v (Err e) reply.session reply.bytes → LastsFor u (Some reply) → ⊥
 text_fits {E} {T} e u v reply s h =
@@ -95,7 +96,7 @@ replied_on {E} {T} x u v reply on s = record {
   nothing_taken = s.nothing_taken;
   listens = s.listens;
   later = s.writes.cause.later;
-  calm = λ h. text_calm {E = E} {T = T} x u v reply s h;
+  counts_no_fault = λ h. text_no_fault {E = E} {T = T} x u v reply s h;
 }
 
 -- or is ended
@@ -112,7 +113,7 @@ replied_ended {E} {T} {F} {S} x y u v w reply closes s t = record {
   nothing_taken = record { taken = t.nothing_taken.taken ∙ s.nothing_taken.taken; coming = t.nothing_taken.coming ∙ s.nothing_taken.coming };
   listens = t.listens ∙ s.listens;
   later = omega (arith, s.writes.cause.later, t.count.cause.later);
-  calm = λ h. sure_is (λ n. w.faults ≡ v.faults) v.ends h.ends.0 (s.ends ∙ h.ends.1) t.count.calm ∙ text_calm {E = E} {T = T} x u v reply s h;
+  counts_no_fault = λ h. sure_is (λ n. w.faults ≡ v.faults) v.ends h.ends.0 (s.ends ∙ h.ends.1) t.count.counts_no_fault ∙ text_no_fault {E = E} {T = T} x u v reply s h;
 }
 
 -- a fault while it went out
@@ -126,7 +127,7 @@ replied_front {E} {T} e u v reply s = record {
   listens = s.listens;
   later = s.writes.cause.later;
   sure = λ h. absurd (text_fits {E = E} {T = T} e u v reply s h);
-  calm = λ h. absurd (text_fits {E = E} {T = T} e u v reply s h);
+  counts_no_fault = λ h. absurd (text_fits {E = E} {T = T} e u v reply s h);
 }
 
 -- or as its session was to be ended
@@ -144,7 +145,7 @@ replied_open {E} {T} {F} {S} x f u v w reply s t closes = record {
   listens = t.listens ∙ s.listens;
   later = omega (arith, s.writes.cause.later, t.count.cause.later);
   sure = λ h. absurd (never h);
-  calm = λ h. absurd (never h);
+  counts_no_fault = λ h. absurd (never h);
 }
   where
     never : LastsFor u (Some reply) → ⊥
@@ -162,12 +163,12 @@ replied_partly u v reply r = record {
   listens = r.listens;
   later = r.later;
   sure = λ h is. cc is;
-  calm = r.calm;
+  counts_no_fault = r.counts_no_fault;
 }
 
 -- a step that was taken, or not, from a sure dock
-pub takes_calm : {E : Type 0} (old new : DockView) (step : DockStep) (buf : List ℕ) → Takes {E = E} old new (Ok step) buf → IfSome old.ends (λ ends. new.faults ≡ old.faults)
-takes_calm old new step buf h = h.count.calm
+pub takes_no_fault : {E : Type 0} (old new : DockView) (step : DockStep) (buf : List ℕ) → Takes {E = E} old new (Ok step) buf → IfSome old.ends (λ ends. new.faults ≡ old.faults)
+takes_no_fault old new step buf h = h.count.counts_no_fault
 
 pub takes_none : {E : Type 0} (e : E) (old new : DockView) (buf : List ℕ) → Takes {E = E} old new (Err e) buf
     → (steps : List MemStep) × GivesSteps old new steps × (length steps ≤ 1) × IfSome old.ends (λ ends. Spends DockFault steps old new)

@@ -140,7 +140,7 @@ serves_none relay dock = record {
   ends = ends_none dock.ends;
   listens = refl;
   later = omega arith;
-  calm = λ h. refl;
+  counts_no_fault = λ h. refl;
 }
 
 -- turns behind turns
@@ -155,7 +155,7 @@ serves-append a b c x y z us vs h i = record {
   ends = rw (closed-append us vs) (i.ends ∙ ap (ends_behind (closed_in vs)) h.ends ∙ ends_twice x.ends (closed_in us) (closed_in vs));
   listens = i.listens ∙ h.listens;
   later = omega (arith, h.later, i.later);
-  calm = λ lasts. i.calm (lasts_then a b x y us vs h lasts) ∙ h.calm (lasts_first x us vs lasts);
+  counts_no_fault = λ lasts. i.counts_no_fault (lasts_then a b x y us vs h lasts) ∙ h.counts_no_fault (lasts_first x us vs lasts);
 }
 
 -- turns, and then a fault
@@ -176,7 +176,7 @@ partly-append fault a b c x y z us vs h i = record {
   };
   listens = i.listens ∙ h.listens;
   later = omega (arith, h.later, i.later);
-  calm = λ lasts. spends_behind fault i.more x y z (h.calm (lasts_first x us vs lasts)) (i.calm (lasts_then a b x y us vs h lasts));
+  counts_no_fault = λ lasts. spends_behind fault i.more x y z (h.counts_no_fault (lasts_first x us vs lasts)) (i.counts_no_fault (lasts_then a b x y us vs h lasts));
 }
 
 front_all : (v w : OutView) (bytes : List ℕ) → Took v w bytes → TookFront v w bytes
@@ -193,7 +193,7 @@ whole_partly fault a b x y turns other h = record {
   ended = record { count = length (closed_in turns); ended = rw (take_all (length (closed_in turns)) (closed_in turns) (omega arith)) h.ended };
   listens = h.listens;
   later = h.later;
-  calm = λ lasts. spends_none fault [] x y other (h.calm lasts);
+  counts_no_fault = λ lasts. spends_none fault [] x y other (h.counts_no_fault lasts);
 }
 
 -- steps of which the relay heard none
@@ -209,7 +209,7 @@ unheard_partly fault a b x y steps same h few spent = record {
   ended = record { count = 0; ended = h.ended ∙ grows_none x.ended };
   listens = h.listens;
   later = h.later;
-  calm = λ lasts. sure_is (λ ends. Spends fault steps x y) x.ends lasts.ends.0 lasts.ends.1 spent;
+  counts_no_fault = λ lasts. sure_is (λ ends. Spends fault steps x y) x.ends lasts.ends.0 lasts.ends.1 spent;
 }
 
 -- a step whose reply was sent
@@ -228,7 +228,7 @@ turn_serves a b x y z step reply g sure s r = record {
   ends = rw (append-nil (closed_by reply)) (r.ends ∙ ap (ends_behind (closed_by reply)) g.ends);
   listens = r.listens ∙ g.listens;
   later = omega (arith, g.later, r.later);
-  calm = λ lasts. r.calm (lasts_reply x y step reply g lasts) ∙ sure_is (λ ends. y.faults ≡ x.faults) x.ends lasts.ends.0 lasts.ends.1 sure;
+  counts_no_fault = λ lasts. r.counts_no_fault (lasts_reply x y step reply g lasts) ∙ sure_is (λ ends. y.faults ≡ x.faults) x.ends lasts.ends.0 lasts.ends.1 sure;
 }
 
 -- or up to a fault
@@ -250,9 +250,9 @@ turn_partly fault a b x y z step reply g sure s r = record {
   };
   listens = r.listens ∙ g.listens;
   later = omega (arith, g.later, r.later);
-  calm = λ lasts.
+  counts_no_fault = λ lasts.
       let for = lasts_reply x y step reply g lasts in
-      spends_none fault [] x z (r.sure for) (r.calm for ∙ sure_is (λ ends. y.faults ≡ x.faults) x.ends lasts.ends.0 lasts.ends.1 sure);
+      spends_none fault [] x z (r.sure for) (r.counts_no_fault for ∙ sure_is (λ ends. y.faults ≡ x.faults) x.ends lasts.ends.0 lasts.ends.1 sure);
 }
 
 -- a turn that stopped before the relay heard a step

@@ -272,9 +272,9 @@ module _ (sessions : ℕ) (a : Relay) (x : DockView) (s : DockSuffices sessions 
       subst (λ o. sessions ≤ length o) (l.over [] ∙ ap (λ rest. over_after [] (turns ++ rest)) (no_turns l.rest s.behind none_left) ∙ ap (over_after []) (append-nil turns)) s.over
 
 -- what was served at a dock that suffices
-calm_served : (sessions : ℕ) (a b : Relay) (x y : DockView) (turns : List ServedStep) → Serves a b x y turns → NoneAfter sessions turns → DockSuffices sessions a x
+served_no_fault : (sessions : ℕ) (a b : Relay) (x y : DockView) (turns : List ServedStep) → Serves a b x y turns → NoneAfter sessions turns → DockSuffices sessions a x
     → y.faults ≡ x.faults
-calm_served sessions a b x y turns h none s = h.calm (lasts_so sessions a x s b turns y.coming h.gave.comes h.runs none)
+served_no_fault sessions a b x y turns h none s = h.counts_no_fault (lasts_so sessions a x s b turns y.coming h.gave.comes h.runs none)
 
 -- and up to a fault, which is none of the dock
 module _ (sessions steps : ℕ) (a b : Relay) (x y : DockView) where
@@ -287,17 +287,17 @@ module _ (sessions steps : ℕ) (a b : Relay) (x y : DockView) where
   no_dock_fault h s =
       let split = comes_split (steps_of h.turns) h.partly.more x.coming y.coming h.partly.gave.comes in
       let lasts = lasts_until DockFault h s in
-      let spent : Spends DockFault h.partly.more x y = h.partly.calm lasts in
+      let spent : Spends DockFault h.partly.more x y = h.partly.counts_no_fault lasts in
       let same : y.coming ≡ split.0 = subst (λ more. HaveCome split.0 more y.coming) spent.0 split.2 in
       let left = told sessions a x s b h.turns split.0 split.1 h.partly.runs h.none_after in
       let none : left.0 ≡ [] = subst (λ c. IfSome c (λ coming. coming ≡ [])) (same ∙ left.1) spent.1 in
       let enough = all_over sessions a x s b h.turns split.0 split.1 h.partly.runs h.none_after (left.1 ∙ ap Some none) in
       omega (arith, enough, h.not_over lasts refl)
 
-  calm_stopped : (fault : ServeFault) → ServingStops sessions steps fault a b x y → DockSuffices sessions a x → y.faults ≡ x.faults
-  calm_stopped DockFault h s = absurd (no_dock_fault h s)
-  calm_stopped TooLong h s = h.partly.calm (lasts_until TooLong h s)
-  calm_stopped NoMemory h s = h.partly.calm (lasts_until NoMemory h s)
+  stopped_no_fault : (fault : ServeFault) → ServingStops sessions steps fault a b x y → DockSuffices sessions a x → y.faults ≡ x.faults
+  stopped_no_fault DockFault h s = absurd (no_dock_fault h s)
+  stopped_no_fault TooLong h s = h.partly.counts_no_fault (lasts_until TooLong h s)
+  stopped_no_fault NoMemory h s = h.partly.counts_no_fault (lasts_until NoMemory h s)
 
   sure_stopped : (fault : ServeFault) → ServingStops sessions steps fault a b x y → DockSuffices sessions a x → fault ≢ DockFault
   sure_stopped DockFault h s is = no_dock_fault h s
@@ -306,8 +306,9 @@ module _ (sessions steps : ℕ) (a b : Relay) (x y : DockView) where
 
 pub served_blames : {T : Type 0} (result : T) (sessions : ℕ) (a b : Relay) (x y : DockView) (turns : List ServedStep) → Serves a b x y turns → NoneAfter sessions turns
     → BlamesDock sessions a x y (Ok result)
-served_blames result sessions a b x y turns h none = record { calm = calm_served sessions a b x y turns h none; sure = λ s is. cc is }
+served_blames result sessions a b x y turns h none = record { counts_no_fault = served_no_fault sessions a b x y turns h none; sure = λ s is. cc is }
 
 pub stopped_blames : {T : Type 0} (sessions steps : ℕ) (a b : Relay) (x y : DockView) (fault : ServeFault) → ServingStops sessions steps fault a b x y
     → BlamesDock {T = T} sessions a x y (Err fault)
-stopped_blames sessions steps a b x y fault h = record { calm = calm_stopped sessions steps a b x y fault h; sure = λ s is. sure_stopped sessions steps a b x y fault h s (cc is) }
+stopped_blames sessions steps a b x y fault h =
+    record { counts_no_fault = stopped_no_fault sessions steps a b x y fault h; sure = λ s is. sure_stopped sessions steps a b x y fault h s (cc is) }

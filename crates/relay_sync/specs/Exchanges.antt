@@ -54,8 +54,8 @@ session_of (Gone n) = n
 -- the events are those of the sessions, interleaved in any way; sessions with one number follow one another
 abbrev pub AreInterleaved : List Sending → List Event → Type 0
 AreInterleaved sendings events =
-    (n : ℕ) → filter (λ event. nat_eq (session_of event) n) events ≡ flat_map events_of
-    (filter (λ (s : Sending). nat_eq s.number n) sendings)
+    (n : ℕ) → filter (λ event. nat_eq (session_of event) n) events
+    ≡ flat_map events_of (filter (λ (s : Sending). nat_eq s.number n) sendings)
 
 -- no session was refused
 abbrev pub NoneRefused : List (Option Reply) → Type 0

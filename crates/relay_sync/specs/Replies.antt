@@ -65,7 +65,7 @@ pub record HeardBytes (old new : WireView) (bytes : List ℕ) : Type 0 where
   pub dials : new.dials ≡ old.dials
   pub room : new.room ≡ old.room
   pub later : old.faults ≤ new.faults
-  pub calm : IsSureWire old → new.faults ≡ old.faults
+  pub counts_no_fault : IsSureWire old → new.faults ≡ old.faults
 
 -- nothing is left to hear
 abbrev pub IsOver : WireView → Type 0
@@ -109,7 +109,7 @@ pub record WholeFrame (frame : List ℕ) (old new : WireView) (place heard : ℕ
 -- and none is told as another fault.
 pub record WireRisesFor (blamed : Type 0) (old new : WireView) : Type 0 where
   pub tells : WireTells old → WireTells new
-  pub calm_told : WireTells old → (blamed → ⊥) → new.faults ≡ old.faults
+  pub specified_no_fault : WireTells old → (blamed → ⊥) → new.faults ≡ old.faults
 
 -- the answer blames the wire
 abbrev pub IsWireFault : {T : Type 0} → Result T SyncFault → Type 0

@@ -41,7 +41,7 @@ pub record Replied (old new : DockView) (reply : Option Reply) : Type 0 where
   pub nothing_taken : TakesNothing old new
   pub listens : new.listens ≡ old.listens
   pub later : old.faults ≤ new.faults
-  pub calm : LastsFor old reply → new.faults ≡ old.faults
+  pub counts_no_fault : LastsFor old reply → new.faults ≡ old.faults
 
 -- the same up to a fault
 pub record RepliedPartly (fault : ServeFault) (old new : DockView) (reply : Option Reply) : Type 0 where
@@ -52,13 +52,13 @@ pub record RepliedPartly (fault : ServeFault) (old new : DockView) (reply : Opti
   pub later : old.faults ≤ new.faults
   -- a dock that lasts for the reply is not what failed
   pub sure : LastsFor old reply → fault ≢ DockFault
-  pub calm : LastsFor old reply → new.faults ≡ old.faults
+  pub counts_no_fault : LastsFor old reply → new.faults ≡ old.faults
 
 -- On a dock that tells, the count of faults rises only where the dock is blamed: no call that failed is passed over,
 -- and none is told as another fault.
 pub record DockRisesFor (blamed : Type 0) (old new : DockView) : Type 0 where
   pub tells : DockTells old → DockTells new
-  pub calm_told : DockTells old → (blamed → ⊥) → new.faults ≡ old.faults
+  pub specified_no_fault : DockTells old → (blamed → ⊥) → new.faults ≡ old.faults
 
 -- the answer blames the dock
 abbrev pub IsDockFault : {T : Type 0} → Result T ServeFault → Type 0

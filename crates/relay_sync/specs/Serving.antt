@@ -129,7 +129,7 @@ pub record Serves (old_relay new_relay : Relay) (old new : DockView) (turns : Li
   pub listens : new.listens ≡ old.listens
   pub later : old.faults ≤ new.faults
   -- no call fails on a dock that lasts
-  pub calm : Lasts old turns → new.faults ≡ old.faults
+  pub counts_no_fault : Lasts old turns → new.faults ≡ old.faults
 
 -- a front of the sessions was ended
 pub record EndedFront (old new : DockView) (sessions : List ℕ) : Type 0 where
@@ -148,7 +148,7 @@ pub record ServesPartly (fault : ServeFault) (old_relay new_relay : Relay) (old 
   pub listens : new.listens ≡ old.listens
   pub later : old.faults ≤ new.faults
   -- a dock that lasts for the replies fails only where no step is left
-  pub calm : Lasts old turns → Spends fault more old new
+  pub counts_no_fault : Lasts old turns → Spends fault more old new
 
 -- no step was asked for once so many sessions were over
 abbrev pub NoneAfter : ℕ → List ServedStep → Type 0
@@ -197,7 +197,7 @@ pub record DockSuffices (sessions : ℕ) (relay : Relay) (dock : DockView) : Typ
 
 -- a dock that suffices counts no fault, and none is told
 pub record BlamesDock {T : Type 0} (sessions : ℕ) (relay : Relay) (old new : DockView) (result : Result T ServeFault) : Type 0 where
-  pub calm : DockSuffices sessions relay old → new.faults ≡ old.faults
+  pub counts_no_fault : DockSuffices sessions relay old → new.faults ≡ old.faults
   pub sure : DockSuffices sessions relay old → result ≢ Err DockFault
 
 -- turns that send the same to each session, and bring the same sessions to their end

@@ -135,8 +135,8 @@ FitsBytes count wire = (room : ℕ) × (wire.room ≡ Some room) × (count ≤ r
 -- a call on the wire is blamed only where one failed, and none fails on a sure wire which what is said fits
 pub record BlamesWire {T : Type 0} (said : ℕ) (old new : WireView) (result : Result T SyncFault) : Type 0 where
   pub later : old.faults ≤ new.faults
-  pub rose : result ≡ Err WireFault → Faulted old.faults new.faults
-  pub calm : FitsBytes said old → new.faults ≡ old.faults
+  pub faulted : result ≡ Err WireFault → Faulted old.faults new.faults
+  pub counts_no_fault : FitsBytes said old → new.faults ≡ old.faults
   pub sure : FitsBytes said old → result ≢ Err WireFault
 
 -- one message was heard: a frame, whose operations were taken in

@@ -16,7 +16,7 @@ pub(crate) fn next_step<D: Dock>(alloc: Global, dock: &mut D) -> Result<MemStep,
     ensures err { IfErr result
         (λ fault. (steps : List AnyStep) × GivesSteps (D.seen dock.old) (D.seen dock.new) steps × (length steps ≤ 1)
         × IfSome (D.seen dock.old).ends (λ ends. Spends fault steps (D.seen dock.old) (D.seen dock.new))) }
-    ensures calm { IfSome (D.seen dock.old).ends
+    ensures counts_no_fault { IfSome (D.seen dock.old).ends
         (λ ends. OnOk result ((D.seen dock.new).faults ≡ (D.seen dock.old).faults)) }
     ensures dock_fault { result ≡ Err DockFault → Faulted (D.seen dock.old).faults (D.seen dock.new).faults }
     ensures told { DockRisesFor (IsDockFault result) (D.seen dock.old) (D.seen dock.new) }

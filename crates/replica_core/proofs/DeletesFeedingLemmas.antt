@@ -1,34 +1,41 @@
 -- Deletes of neighbours that are taken in one after another by one call.
 use Rattle.std.proofs.Common.{◌≡◌, ◌≢◌, ◌∙◌, ap, arith, append-nil, append_assoc, false, length, length-append, refl, subst, suc, sym, take, zero, inl, inr, ℕ, ◌+◌, ◌-◌, ◌<◌, ◌≤◌}
-use Rattle.std.proofs.Common.{◌++◌, ◌∷◌, List, [], ◌^◌, true}
-use Rattle.std.specs.Prelude.{◌↔◌, All, Bool, None, Option, Some, option_map}
-use Rattle.std.proofs.lemmas.Bool.{cases_lt, or_from}
-use Rattle.std.proofs.lemmas.List.Elements.{All-append, All-cons, All-nil}
+use Rattle.std.proofs.Common.{◌++◌, ◌∷◌, List, [], ◌^◌, drop, true}
+use Rattle.std.specs.Prelude.{◌↔◌, All, Contains, ◌&&◌, ◌||◌, not, slice_get, Some}
+use Rattle.std.proofs.lemmas.Bool.{not-true, or_from}
+use Rattle.std.proofs.lemmas.List.Elements.{All-cons, All-nil}
 use Rattle.fugue_ids.specs.Identifiers.{Identifier, id_eq}
 use Rattle.fugue_ids.specs.Runs.{id_behind, next_id}
 use Rattle.fugue_ids.specs.declared.op.Op.{Op}
 use Rattle.fugue_ids.specs.declared.op.Op.TheVariants.{Delete}
-use Rattle.fugue_ids.specs.Ops.{id_of}
-use Rattle.fugue_ids.proofs.IdentifierLemmas.{ne-id_eq, origin_eq-true}
+use Rattle.fugue_ids.proofs.IdentifierLemmas.{cases_id, ne-id_eq}
+use Rattle.fugue_ids.proofs.ListLemmas.{contains_filter_from, contains_here, contains_there}
 use Rattle.fugue_ids.proofs.RunLemmas.{none_behind, one_behind}
 use Rattle.op_runs.specs.Deletions.{deletes_up}
 use Rattle.op_runs.proofs.DeletionLemmas.{deletes-append, length-deletes}
+use Rattle.origin_model.specs.declared.operations.Place.{Place}
 use Rattle.origin_model.specs.declared.operations.Place.TheVariants.{Section as within}
 use Rattle.origin_model.specs.declared.taking.Tally.{Tally}
 use Rattle.origin_model.specs.edits.Edits.{ReadyInTurn}
 use Rattle.origin_model.specs.edits.Effect.{with_ops}
 use Rattle.origin_model.specs.edits.State.{State, IsSound}
-use Rattle.origin_model.specs.declared.operations.Role.TheVariants.{TextOf}
-use Rattle.origin_model.specs.operations.History.{has_op, holder, stands_at}
-use Rattle.origin_model.specs.operations.Verdict.{fits}
+use Rattle.origin_model.specs.operations.History.{has_op}
+use Rattle.origin_model.specs.operations.Verdict.{Lawful}
 use Rattle.origin_model.specs.order.Laws.{IsIn}
+use Rattle.origin_model.specs.order.Order.{order}
 use Rattle.origin_model.specs.order.Printed.{is_hidden}
 use Rattle.origin_model.specs.taking.Taking.{Accepted, Answer, MeetsNoLimit, Held, IsSettled, TooMany, answer, answers_from, held_from, intake, intake_counted, is_kept, kept_from}
 use Rattle.origin_model.specs.taking.Taking.{no_counts, tally_from}
-use Rattle.origin_model.proofs.SharedLemmas.{hidden-has, holder_owns, IsIn-held, kept-yes, places-none, shown_can_go, stands_element, stands_place}
+use Rattle.origin_model.proofs.SharedLemmas.{hidden-has, IsIn-held, kept-yes, order_total, places-none, shown_can_go}
 use Rattle.origin_model.proofs.edits.EditIntakeLemmas.{comes}
 use Rattle.origin_model.proofs.edits.FreshIdLemmas.{IsUnknown, delete_unknown}
-use Rattle.replica_core.specs.Deleting.{AreUndeleted, AreWithin, IsUndeleted, ids_from}
+use Rattle.run_store.specs.Cells.{cell_ids, cells_shown, is_hidden_cell}
+use Rattle.run_store.specs.Hiding.{AreHidden, HaveCells}
+use Rattle.run_store.specs.declared.cell.Cell.{Cell}
+use Rattle.section_catalogue.specs.Contents.{Contents, text_at}
+use Rattle.section_catalogue.specs.Manuscript.{IsOrderedPlace, Represents}
+use Rattle.section_list.specs.SectionList.{Listing}
+use Rattle.replica_core.specs.Deleting.{AreWithin, ids_from}
 use Rattle.replica_core.specs.Edits.{CanJoin}
 use Rattle.replica_core.specs.Feeding.{GoesAtOnce, StopsFeeding, StopsKeeping, TakesInAll}
 use Rattle.replica_core.specs.Keeping.{LeavesUnkept}
@@ -39,6 +46,7 @@ use Rattle.replica_core.proofs.DeletingLemmas.{can_rest, fewer_can}
 use Rattle.replica_core.proofs.FeedLemmas.{fed_quietly}
 use Rattle.replica_core.proofs.FeedingLemmas.{first_stops, first_unkept, joins_all, kept_behind, repeats_all, stops_copying, stops_joining, stops_on, takes_none_in, takes_on}
 use Rattle.replica_core.proofs.FeedingLemmas.{unkept_on}
+use Rattle.replica_core.proofs.LookUpLemmas.{text_found}
 use Rattle.replica_core.proofs.JoinLemmas.{can_be_accepted, first_can}
 use Rattle.replica_core.proofs.NotingLemmas.{back_again}
 
@@ -139,20 +147,46 @@ delete_unkept s new x zero t u kept kept_new fault settled some many leaves unke
 delete_unkept s new x (suc n) t u kept kept_new fault settled some many leaves unkept =
     first_unkept s new (Delete x) (deletes_up (next_id x) n) t u kept kept_new fault settled many leaves unkept
 
+-- A walk along what is visible
+
+-- what it comes to next is ahead of it
+pub next_ahead : (walk : List Identifier) (x : Identifier) → slice_get walk 0 ≡ Some x → Contains walk x
+next_ahead [] x e = cc
+next_ahead (y ∷ walk) x e = let same : y ≡ x = cc in subst (Contains (y ∷ walk)) same (contains_here y walk)
+
+-- and so is what comes behind that
+pub rest_ahead : (walk : List Identifier) (x : Identifier) → Contains (drop 1 walk) x → Contains walk x
+rest_ahead [] x there = there
+rest_ahead (y ∷ walk) x there = contains_there y walk x there
+
 -- Deletes that are accepted already
 
 pub row_repeats : (s : State) (x : Identifier) (n : ℕ) (t : Tally) → IsSettled s.held → All (λ op. has_op s.held.history op ≡ true) (deletes_up x n)
     → TakesInAll s s (deletes_up x n) t (record t { repeated = t.repeated + n })
 row_repeats s x n t settled there = repeats_all s s (deletes_up x n) t (record t { repeated = t.repeated + n }) n settled there refl (sym (length-deletes false x n)) refl
 
--- one more of them
-pub one_more_deleted : (h : List Op) (x : Identifier) (n : ℕ) → All (λ op. has_op h op ≡ true) (deletes_up x n) → has_op h (Delete (id_behind x n)) ≡ true
-    → All (λ op. has_op h op ≡ true) (deletes_up x (n + 1))
-one_more_deleted h x n there here =
-    subst (All P) (sym (deletes-append false x n 1)) (All-append P (deletes_up x n) (deletes_up (id_behind x n) 1) there (All-cons P (Delete (id_behind x n)) [] here (All-nil P)))
+-- where their targets are hidden in the list of a place
+pub hidden_deleted : (n : ℕ) (h : List Op) (p : Place) (l : Listing) (x : Identifier) → Lawful h → IsOrderedPlace p h l → AreHidden l.cells x n
+    → All (λ op. has_op h op ≡ true) (deletes_up x n)
+hidden_deleted zero h p l x w place hidden = All-nil (λ op. has_op h op ≡ true)
+hidden_deleted (suc n) h p l x w place hidden =
+    All-cons (λ op. has_op h op ≡ true) (Delete x) (deletes_up (next_id x) n)
+    (deleted (subst (λ y. is_hidden_cell l.cells y ≡ true) (none_behind x) (hidden 0 (omega arith))))
+    (hidden_deleted n h p l (next_id x) w place
+    (λ k less. subst (λ y. is_hidden_cell l.cells y ≡ true) (sym (one_behind x k)) (hidden (suc k) (omega (arith, less)))))
   where
-    P : Op → Type 0
-    P = λ op. has_op h op ≡ true
+    is_cell : (cells : List Cell) → is_hidden_cell cells x ≡ true → Contains (cell_ids cells) x
+    is_cell [] e = cc
+    is_cell (c ∷ cells) e =
+        elim (cases_id c.id x) [
+          | inl same ↦ subst (Contains (c.id ∷ cell_ids cells)) same (contains_here c.id (cell_ids cells))
+          | inr other ↦ contains_there c.id (cell_ids cells) x (is_cell cells (sym (ap (λ b. (b && c.hidden) || is_hidden_cell cells x) (ne-id_eq c.id x other)) ∙ e))
+        ]
+
+    deleted : is_hidden_cell l.cells x ≡ true → has_op h (Delete x) ≡ true
+    deleted e =
+        let inside : IsIn p h x = ((order_total p h w).lists x).1 (subst (λ (xs : List Identifier). Contains xs x) place.all (is_cell l.cells e)) in
+        sym (hidden-has h x) ∙ sym (place.hidden x inside) ∙ e
 
 -- Deletes that go in at once
 
@@ -190,6 +224,24 @@ at_once_all (op ∷ ops) s can =
     accepted_or_many : Accepted ≡ TooMany → ⊥
     accepted_or_many e = cc e
 
+-- x is an element of the section s that is not deleted
+record IsUndeleted (s : Identifier) (h : List Op) (x : Identifier) : Type 0 where
+  inside : IsIn (within s) h x
+  shown : is_hidden h x ≡ false
+
+-- so are the first n identifiers from x on
+abbrev AreUndeleted : Identifier → List Op → Identifier → ℕ → Type 0
+AreUndeleted s h x n = (k : ℕ) → k < n → IsUndeleted s h (id_behind x k)
+
+-- what is visible in a section's list is such an element
+visible_undeleted : (m : Contents) (h : List Op) (s : Identifier) (l : Listing) (x : Identifier) (n : ℕ) → Represents m h → Some l ≡ text_at m s
+    → HaveCells (cells_shown l.cells) x n → AreUndeleted s h x n
+visible_undeleted m h s l x n stands is visible k less =
+    let y : Identifier = id_behind x k in
+    let place : IsOrderedPlace (within s) h l = (text_found m h s l stands is).place in
+    let there = contains_filter_from (λ z. not (is_hidden h z)) (order (within s) h) y (subst (λ (xs : List Identifier). Contains xs y) place.visible (visible k less)) in
+    record { inside = ((order_total (within s) h stands.lawful).lists y).1 there.0; shown = not-true (is_hidden h y) there.1 }
+
 -- each is Ready in its turn
 ready_row : (n : ℕ) (x s : Identifier) (h : List Op) → AreUndeleted s h x n → ReadyInTurn h (deletes_up x n)
 ready_row zero x s h each = tt
@@ -208,42 +260,29 @@ ready_row (suc n) x s h each =
         }
 
 -- elements of the section
-pub row_within : (n : ℕ) (x s : Identifier) (h : List Op) → AreUndeleted s h x n → AreWithin s h (ids_from x n)
-row_within zero x s h each = All-nil (λ y. IsIn (within s) h y)
-row_within (suc n) x s h each =
+undeleted_within : (n : ℕ) (x s : Identifier) (h : List Op) → AreUndeleted s h x n → AreWithin s h (ids_from x n)
+undeleted_within zero x s h each = All-nil (λ y. IsIn (within s) h y)
+undeleted_within (suc n) x s h each =
     All-cons (λ y. IsIn (within s) h y) x (ids_from (next_id x) n) (subst (IsUndeleted s h) (none_behind x) (each 0 (omega arith))).inside
-    (row_within n (next_id x) s h (λ k less. subst (IsUndeleted s h) (sym (one_behind x k)) (each (suc k) (omega (arith, less)))))
+    (undeleted_within n (next_id x) s h (λ k less. subst (IsUndeleted s h) (sym (one_behind x k)) (each (suc k) (omega (arith, less)))))
+
+pub row_within : (m : Contents) (h : List Op) (s : Identifier) (l : Listing) (x : Identifier) (n : ℕ) → Represents m h → Some l ≡ text_at m s → HaveCells (cells_shown l.cells) x n
+    → AreWithin s h (ids_from x n)
+row_within m h s l x n stands is visible = undeleted_within n x s h (visible_undeleted m h s l x n stands is visible)
 
 unknown_row : (n : ℕ) (x : Identifier) (w : List Op) → All (IsUnknown w) (deletes_up x n)
 unknown_row zero x w = All-nil (IsUnknown w)
 unknown_row (suc n) x w = All-cons (IsUnknown w) (Delete x) (deletes_up (next_id x) n) (delete_unknown w x) (unknown_row n (next_id x) w)
 
-pub row_can_go : (s : State) (section x : Identifier) (n : ℕ) → IsSettled s.held → AreUndeleted section s.held.history x n
-    → length s.held.history + length s.held.waiting + n ≤ s.most → CanJoin s (deletes_up x n)
-row_can_go s section x n settled each room = record {
-  settled = settled;
-  in_turn = comes (deletes_up x n) s.held.history s.held.waiting settled (ready_row n x section s.held.history each) (unknown_row n x s.held.waiting);
-  room = omega (arith, room, length-deletes false x n);
-}
-
--- one more of them
-pub one_more_undeleted : (s x : Identifier) (h : List Op) (n : ℕ) → AreUndeleted s h x n → IsUndeleted s h (id_behind x n) → AreUndeleted s h x (n + 1)
-one_more_undeleted s x h n each here k less =
-    elim (cases_lt k n) [
-      | inl l ↦ each k l
-      | inr l ↦ let e : n ≡ k = omega (arith, l, less) in subst (λ (j : ℕ). IsUndeleted s h (id_behind x j)) e here
-    ]
-
--- what the accepted operations tell of an element
-pub undeleted_by : (h : List Op) (x s : Identifier) (fit : Bool) → Some fit ≡ option_map (fits (TextOf s)) (holder h x) → fit ≡ true → has_op h (Delete x) ≡ false
-    → IsUndeleted s h x
-undeleted_by h x s fit found does none = record { inside = by_holder (holder h x) refl (ap Some (sym does) ∙ found); shown = hidden-has h x ∙ none }
-  where
-    by_holder : (o : Option Op) → holder h x ≡ o → Some true ≡ option_map (fits (TextOf s)) o → IsIn (within s) h x
-    by_holder None held at = cc at
-    by_holder (Some op) held at =
-        let stands : stands_at (within s) op ≡ true = cc at in
-        record { op = op; held = held; place = stands_element (within s) op (stands_place op (within s) stands) ∙ origin_eq-true (id_of op) (Some x) (holder_owns h x op held) }
+pub row_can_go : (m : Contents) (s : State) (section : Identifier) (l : Listing) (x : Identifier) (n : ℕ) → IsSettled s.held → Represents m s.held.history
+    → Some l ≡ text_at m section → HaveCells (cells_shown l.cells) x n → length s.held.history + length s.held.waiting + n ≤ s.most → CanJoin s (deletes_up x n)
+row_can_go m s section l x n settled stands is visible room =
+    let h : List Op = s.held.history in
+    record {
+      settled = settled;
+      in_turn = comes (deletes_up x n) h s.held.waiting settled (ready_row n x section h (visible_undeleted m h section l x n stands is visible)) (unknown_row n x s.held.waiting);
+      room = omega (arith, room, length-deletes false x n);
+    }
 
 -- they are taken in
 pub row_joins : (s new : State) (x : Identifier) (n : ℕ) (t : Tally) → CanJoin s (deletes_up x n) → new ≡ with_ops s (deletes_up x n)

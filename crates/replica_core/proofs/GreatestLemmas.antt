@@ -16,7 +16,7 @@ use Rattle.origin_model.specs.operations.Verdict.{Lawful, first_missing, names, 
 use Rattle.origin_model.specs.declared.operations.Role.{Role}
 use Rattle.origin_model.specs.declared.operations.Verdict.TheVariants.{Ready}
 use Rattle.origin_model.proofs.SharedLemmas.{cases_held, holds-older, holds-other, holds-own, missing-held, own_id, when_ready}
-use Rattle.replica_core.specs.Index.{IsHistoryIndex, newest_position}
+use Rattle.replica_core.specs.Index.{ArePositions, newest_position}
 use Rattle.std.specs.FinMap.{FinMap, get}
 use Rattle.stretch_map.specs.Rules.{IsGreatestIn}
 use Rattle.stretch_map.specs.declared.follows.Position.{Position}
@@ -87,12 +87,12 @@ held_counter r n h held =
     (contains_filter (λ (id : Identifier). nat_eq id.replica r) (flat_map mentioned_ids h) (id_at r n) (held_mentioned h (id_at r n) held) (eq-eqb r r refl))
 
 -- the greatest counter with a position is the greatest that the operations of the history have or name
-pub greatest_held : (r : ℕ) (m t : FinMap id_cmp Position) (h : List Op) (greatest : Option ℕ) → IsHistoryIndex m t h → Lawful h
+pub greatest_held : (r : ℕ) (m : FinMap id_cmp Position) (h : List Op) (greatest : Option ℕ) → ArePositions m h → Lawful h
     → IsGreatestIn (get m) r greatest → IsGreatest (counters r h) greatest
-greatest_held r m t h greatest index lawful g = by_greatest greatest g
+greatest_held r m h greatest are lawful g = by_greatest greatest g
   where
     found : (n : ℕ) → is_some (get m (id_at r n)) ≡ holds h (id_at r n)
-    found n = ap is_some (index.positions_are (id_at r n)) ∙ is_some-as (newest_position (is_own (id_at r n)) h) ∙ has_position h (id_at r n)
+    found n = ap is_some (are (id_at r n)) ∙ is_some-as (newest_position (is_own (id_at r n)) h) ∙ has_position h (id_at r n)
 
     by_greatest : (o : Option ℕ) → IsGreatestIn (get m) r o → IsGreatest (counters r h) o
     by_greatest None g =

@@ -22,3 +22,4 @@ pub mod StepLemmas
 pub mod StepStandingLemmas
 pub mod WakeLemmas
 pub mod WalkLemmas
+pub mod WithdrawnLemmas

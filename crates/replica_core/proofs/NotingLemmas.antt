@@ -16,36 +16,35 @@ use Rattle.fugue_ids.specs.declared.op.Op.{Op}
 use Rattle.fugue_ids.specs.declared.op.Op.TheVariants.{Delete, Text}
 use Rattle.fugue_ids.specs.declared.run.RunStart.{RunStart}
 use Rattle.fugue_ids.proofs.RunLemmas.{none_behind, one_behind, typed-append}
-use Rattle.op_runs.proofs.DeletionLemmas.{deletes-append, length-deletes}
 use Rattle.origin_model.specs.edits.Edits.{ReadyInTurn, history_with}
 use Rattle.origin_model.specs.operations.History.{has_op, holds}
-use Rattle.origin_model.proofs.SharedLemmas.{has-append, holds-older}
+use Rattle.origin_model.proofs.SharedLemmas.{has-append, holds-older, ready_is_new}
 use Rattle.origin_model.proofs.edits.MadeLemmas.{extended-append, join_at_end}
 use Rattle.stretch_map.specs.Rules.{AreFree}
 use Rattle.stretch_map.specs.declared.follows.Position.{Position}
 use Rattle.op_runs.specs.Deletions.{deletes_up}
 use Rattle.op_runs.specs.Repeats.{same_front}
 use Rattle.replica_core.specs.Due.{newest_id}
-use Rattle.replica_core.specs.Index.{IsHistoryIndex, sections_and_notes, with_positions}
+use Rattle.replica_core.specs.Index.{ArePositions, sections_and_notes, with_positions}
 use Rattle.replica_core.proofs.FeedingLemmas.{length-front, length-run}
-use Rattle.replica_core.proofs.IndexLemmas.{is_new, noted_position, noted_target, unheld_free, untargeted_free}
+use Rattle.replica_core.proofs.IndexLemmas.{noted_none, noted_own, unheld_free}
 use Rattle.replica_core.proofs.RunLemmas.{length-extended}
 
 -- the identifiers of a run that is Ready in its turn are not held
 run_unheld : (id s : Identifier) (l r : Option Identifier) (text : List ℕ) (h : List Op) (k : ℕ) → ReadyInTurn h (in_a_row id s l r text) → k < length text
     → holds h (id_behind id k) ≡ false
 run_unheld id s l r [] h k ready less = absurd (omega (arith, less))
-run_unheld id s l r (c ∷ text) h zero ready less = ap (holds h) (none_behind id) ∙ (is_new h (Text id s l r c) ready.0).1
+run_unheld id s l r (c ∷ text) h zero ready less = ap (holds h) (none_behind id) ∙ ready_is_new h (Text id s l r c) id ready.0 refl
 run_unheld id s l r (c ∷ text) h (suc k) ready less =
     let first : Op = Text id s l r c in
     let later : holds (first ∷ h) (id_behind (next_id id) k) ≡ false = run_unheld (next_id id) s (Some id) r text (first ∷ h) k ready.1 (omega (arith, less)) in
     false_from_ne_true _ (λ t. true≢false (sym (holds-older first h (id_behind id (suc k)) t) ∙ ap (holds (first ∷ h)) (sym (one_behind id k)) ∙ later))
 
 -- so they have no positions
-pub run_free : (m t : FinMap id_cmp Position) (h : List Op) (start : RunStart) (text : List ℕ) → IsHistoryIndex m t h → ReadyInTurn h (run_from start text)
+pub run_free : (m : FinMap id_cmp Position) (h : List Op) (start : RunStart) (text : List ℕ) → ArePositions m h → ReadyInTurn h (run_from start text)
     → AreFree (get m) start.id (length text)
-run_free m t h start text index ready =
-    unheld_free m t h start.id (length text) index (λ k less. run_unheld start.id start.section start.left start.right text h k ready less)
+run_free m h start text are ready =
+    unheld_free m h start.id (length text) are (λ k less. run_unheld start.id start.section start.left start.right text h k ready less)
 
 -- a run has no Section and no Note
 no_sections : (id s : Identifier) (l r : Option Identifier) (text : List ℕ) (h : List Op) → sections_and_notes (history_with h (in_a_row id s l r text)) ≡ sections_and_notes h
@@ -72,27 +71,27 @@ one_more h start text n less =
     ∙ (λ i. history_with h (run_from start front ++ in_a_row (id_behind start.id (len i)) start.section (left_behind start.left start.id (len i)) start.right (ch ∷ [])))
     ∙ extended-append h (run_from start front) (text_by (start_behind start n) ch ∷ [])
 
-letters_noted : (m t : FinMap id_cmp Position) (h : List Op) (start : RunStart) (text : List ℕ) (n : ℕ) → n ≤ length text → IsHistoryIndex m t h
-    → IsHistoryIndex (with_positions start.id (length h) n m) t (history_with h (run_from start (take n text)))
-letters_noted m t h start text zero within index = index
-letters_noted m t h start text (suc n) within index =
+letters_noted : (m : FinMap id_cmp Position) (h : List Op) (start : RunStart) (text : List ℕ) (n : ℕ) → n ≤ length text → ArePositions m h
+    → ArePositions (with_positions start.id (length h) n m) (history_with h (run_from start (take n text)))
+letters_noted m h start text zero within are = are
+letters_noted m h start text (suc n) within are =
     let less : n < length text = omega (arith, within) in
     let front : List ℕ = take n text in
     let before : List Op = history_with h (run_from start front) in
     let a : length before ≡ length h + length (run_from start front) = length-extended (run_from start front) h in
     let b : length (run_from start front) ≡ length front = length-run start front in
     let c : length front ≡ n = length-front text n (omega (arith, within)) in
-    subst (IsHistoryIndex (with_positions start.id (length h) (suc n) m) t) (sym (one_more h start text n less))
-    (noted_position (text_by (start_behind start n) (get_or text n 0)) (id_behind start.id n) before (with_positions start.id (length h) n m)
-    (with_positions start.id (length h) (suc n) m) t
-    (length h + n) refl refl (letters_noted m t h start text n (omega (arith, within)) index) (omega (arith, a, b, c)))
+    subst (ArePositions (with_positions start.id (length h) (suc n) m)) (sym (one_more h start text n less))
+    (noted_own (text_by (start_behind start n) (get_or text n 0)) before (with_positions start.id (length h) n m)
+    (with_positions start.id (length h) (suc n) m) (id_behind start.id n) (length h + n) refl refl (letters_noted m h start text n (omega (arith, within)) are)
+    (omega (arith, a, b, c)))
 
 -- the positions of a run
-pub run_noted : (m t : FinMap id_cmp Position) (h : List Op) (start : RunStart) (text : List ℕ) → IsHistoryIndex m t h
-    → IsHistoryIndex (with_positions start.id (length h) (length text) m) t (history_with h (run_from start text))
-run_noted m t h start text index =
-    subst (λ z. IsHistoryIndex (with_positions start.id (length h) (length text) m) t (history_with h (run_from start z))) (all text)
-    (letters_noted m t h start text (length text) (omega arith) index)
+pub run_noted : (m : FinMap id_cmp Position) (h : List Op) (start : RunStart) (text : List ℕ) → ArePositions m h
+    → ArePositions (with_positions start.id (length h) (length text) m) (history_with h (run_from start text))
+run_noted m h start text are =
+    subst (λ z. ArePositions (with_positions start.id (length h) (length text) m) (history_with h (run_from start z))) (all text)
+    (letters_noted m h start text (length text) (omega arith) are)
   where
     all : (text : List ℕ) → take (length text) text ≡ text
     all [] = refl
@@ -104,37 +103,15 @@ back_again ops run new old n is len gone =
     let k : length (ops ++ run) - n ≡ length ops = omega (arith, len, length-append ops run) in
     gone ∙ (λ i. take (length (is i) - n) (is i)) ∙ ap (λ j. take j (ops ++ run)) k ∙ take-append_seam ops run
 
--- Deletes of neighbours that are Ready in their turn are not there
-row_new : (k n : ℕ) (x : Identifier) (h : List Op) → ReadyInTurn h (deletes_up x n) → k < n → has_op h (Delete (id_behind x k)) ≡ false
-row_new k zero x h ready less = absurd (omega (arith, less))
-row_new zero (suc n) x h ready less = ap (λ y. has_op h (Delete y)) (none_behind x) ∙ (is_new h (Delete x) ready.0).0
-row_new (suc k) (suc n) x h ready less =
-    let later : has_op (Delete x ∷ h) (Delete (id_behind (next_id x) k)) ≡ false = row_new k n (next_id x) (Delete x ∷ h) ready.1 (omega (arith, less)) in
-    false_from_ne_true _ (λ t. true≢false (sym (or_right _ _ t) ∙ ap (λ y. has_op (Delete x ∷ h) (Delete y)) (sym (one_behind x k)) ∙ later))
-
--- so their targets have no positions
-pub row_free : (m t : FinMap id_cmp Position) (h : List Op) (x : Identifier) (n : ℕ) → IsHistoryIndex m t h → ReadyInTurn h (deletes_up x n) → AreFree (get t) x n
-row_free m t h x n index ready = untargeted_free m t h x n index (λ k less. row_new k n x h ready less)
-
--- none of them is a Section or a Note
+-- no Delete is a Section or a Note
 pub row_listed : (n : ℕ) (x : Identifier) (h : List Op) → sections_and_notes (history_with h (deletes_up x n)) ≡ sections_and_notes h
 row_listed zero x h = refl
 row_listed (suc n) x h = row_listed n (next_id x) (Delete x ∷ h) ∙ append-nil (sections_and_notes h)
 
--- their positions
-pub row_noted : (m t : FinMap id_cmp Position) (h : List Op) (x : Identifier) (n : ℕ) → IsHistoryIndex m t h
-    → IsHistoryIndex m (with_positions x (length h) n t) (history_with h (deletes_up x n))
-row_noted m t h x zero index = index
-row_noted m t h x (suc n) index =
-    let before : List Op = history_with h (deletes_up x n) in
-    let last : Op = Delete (id_behind x n) in
-    let up : suc n ≡ n + 1 = omega arith in
-    let longer : history_with h (deletes_up x (suc n)) ≡ last ∷ before =
-    ap (λ k. history_with h (deletes_up x k)) up ∙ ap (history_with h) (deletes-append false x n 1) ∙ extended-append h (deletes_up x n) (last ∷ []) in
-    let len : length before ≡ length h + length (deletes_up x n) = length-extended (deletes_up x n) h in
-    subst (IsHistoryIndex m (with_positions x (length h) (suc n) t)) (sym longer)
-    (noted_target last (id_behind x n) before m (with_positions x (length h) n t) (with_positions x (length h) (suc n) t) (length h + n) refl refl
-    (row_noted m t h x n index) (omega (arith, len, length-deletes false x n)))
+-- or has a position
+pub row_noted : (n : ℕ) (m : FinMap id_cmp Position) (x : Identifier) (h : List Op) → ArePositions m h → ArePositions m (history_with h (deletes_up x n))
+row_noted zero m x h are = are
+row_noted (suc n) m x h are = row_noted n m (next_id x) (Delete x ∷ h) (noted_none (Delete x) h m refl are)
 
 -- operations that are appended to a list join the history that it is of
 pub appended_joins : (ops new run : List Op) → new ≡ ops ++ run → reverse new ≡ history_with (reverse ops) run

@@ -1,10 +1,9 @@
 -- Deletes of elements of a section whose identifiers follow one another.
-use Rattle.std.specs.Prelude.{◌≡◌, ℕ, zero, suc, ◌<◌, false, List, [], ◌∷◌, All}
+use Rattle.std.specs.Prelude.{ℕ, zero, suc, List, [], ◌∷◌, All}
 use Rattle.fugue_ids.specs.Identifiers.{Identifier}
-use Rattle.fugue_ids.specs.Runs.{id_behind, next_id}
+use Rattle.fugue_ids.specs.Runs.{next_id}
 use Rattle.fugue_ids.specs.declared.op.Op.{Op}
 use Rattle.origin_model.specs.order.Laws.{IsIn}
-use Rattle.origin_model.specs.order.Printed.{is_hidden}
 use Rattle.origin_model.specs.declared.operations.Place.TheVariants.{Section as within}
 
 -- the first k identifiers from x on
@@ -15,12 +14,3 @@ ids_from x (suc k) = x ∷ ids_from (next_id x) k
 -- elements of the section s
 abbrev pub AreWithin : Identifier → List Op → List Identifier → Type 0
 AreWithin s h xs = All (λ x. IsIn (within s) h x) xs
-
--- x is an element of the section s that is not deleted
-pub record IsUndeleted (s : Identifier) (h : List Op) (x : Identifier) : Type 0 where
-  pub inside : IsIn (within s) h x
-  pub shown : is_hidden h x ≡ false
-
--- so are the first n identifiers from x on
-abbrev pub AreUndeleted : Identifier → List Op → Identifier → ℕ → Type 0
-AreUndeleted s h x n = (k : ℕ) → k < n → IsUndeleted s h (id_behind x k)

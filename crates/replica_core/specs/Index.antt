@@ -1,16 +1,12 @@
--- Where accepted operations are found: the positions of those with identifiers, of the Deletes by their targets, and of
--- the Sections and Notes.
-use Rattle.std.specs.Prelude.{◌≡◌, ℕ, Bool, true, false, if◌then◌else◌, Option, Some, None, List, [], ◌∷◌, ◌++◌, length, option_map}
+-- Where accepted operations are found: the positions of those that have identifiers, and of the Sections and Notes.
+use Rattle.std.specs.Prelude.{◌≡◌, ℕ, Bool, true, false, if◌then◌else◌, Option, Some, None, IfSome, List, [], ◌∷◌, ◌++◌, length, option_map}
 use Rattle.std.specs.Prelude.{option_and_then, slice_get}
 use Rattle.std.specs.FinMap.{FinMap, get}
 use Rattle.fugue_ids.specs.Identifiers.{Identifier, id_cmp}
-use Rattle.fugue_ids.specs.Ops.{key_of}
+use Rattle.fugue_ids.specs.Ops.{id_of}
 use Rattle.fugue_ids.specs.declared.op.Op.{Op}
 use Rattle.fugue_ids.specs.declared.op.Op.TheVariants.{Section, Text, Delete, Note}
-use Rattle.fugue_ids.specs.declared.op.OpKey.{OpKey}
-use Rattle.fugue_ids.specs.declared.op.OpKey.TheVariants.{Own, Target}
 use Rattle.origin_model.specs.operations.History.{is_own}
-use Rattle.origin_model.specs.order.Printed.{deletes}
 use Rattle.stretch_map.specs.Rules.{later, with_run}
 use Rattle.stretch_map.specs.declared.follows.Position.{Position}
 
@@ -19,36 +15,21 @@ abbrev pub newest_position : (Op → Bool) → List Op → Option ℕ
 newest_position test [] = None
 newest_position test (op ∷ older) = if test op then Some (length older) else newest_position test older
 
--- an operation is looked up by the key
-abbrev pub matches_key : OpKey → Op → Bool
-matches_key (Own i) op = is_own i op
-matches_key (Target i) op = deletes i op
-
 -- a position in the history
 abbrev pub as_position : ℕ → Position
 as_position k = record { at = k }
 
--- each identifier has the position of the operation of which the test is true
-abbrev pub ArePositions : (Identifier → Op → Bool) → FinMap id_cmp Position → List Op → Type 0
-ArePositions test m history = (x : Identifier) → get m x ≡ option_map as_position (newest_position (test x) history)
-
--- the positions are those of the history's operations, and the targets those of its Deletes
-pub record IsHistoryIndex (positions targets : FinMap id_cmp Position) (history : List Op) : Type 0 where
-  pub positions_are : ArePositions is_own positions history
-  pub targets_are : ArePositions deletes targets history
+-- each identifier has the position of the operation of the history that has it
+abbrev pub ArePositions : FinMap id_cmp Position → List Op → Type 0
+ArePositions positions history = (x : Identifier) → get positions x ≡ option_map as_position (newest_position (is_own x) history)
 
 -- the map with a position for each of n identifiers that follow one another, the first at the position k
 abbrev pub with_positions : Identifier → (k n : ℕ) → FinMap id_cmp Position → FinMap id_cmp Position
 with_positions first k n m = with_run (λ first p j. later p j) first (as_position k) n m
 
--- nothing is found by the key
-abbrev pub IsFreeKey : FinMap id_cmp Position → FinMap id_cmp Position → OpKey → Type 0
-IsFreeKey positions targets (Own i) = get positions i ≡ None
-IsFreeKey positions targets (Target i) = get targets i ≡ None
-
--- the operation has no position yet
-abbrev pub IsUnnoted : FinMap id_cmp Position → FinMap id_cmp Position → Op → Type 0
-IsUnnoted positions targets op = IsFreeKey positions targets (key_of op)
+-- the identifier of the operation, if it has one, has no position yet
+abbrev pub IsUnnoted : FinMap id_cmp Position → Op → Type 0
+IsUnnoted positions op = IfSome (id_of op) (λ x. get positions x ≡ None)
 
 -- the operation is a Section or a Note
 abbrev pub is_section_or_note : Op → Bool

@@ -8,3 +8,4 @@ pub mod Keeping
 pub mod Feeding
 pub mod Edits
 pub mod Deleting
+pub mod Withdrawn

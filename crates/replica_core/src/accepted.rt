@@ -1,4 +1,5 @@
-ghost use Rattle.std.specs.Prelude.{◌≡◌, ◌<◌, ◌≤◌, ◌+◌, ◌^◌, ◌∷◌, [], drop, length, option_map, slice_get, All, IfErr, IfSome, IsSome, IsTrue, OnErr, OnOk, take, true, ◌↔◌};
+ghost use Rattle.std.specs.Prelude.{◌≡◌, ◌<◌, ◌≤◌, ◌+◌, ◌^◌, ◌∷◌, [], drop, length, option_map, slice_get, All, IfErr, IfNone, IfSome, IsSome, None, IsTrue, OnErr, OnOk, take, true, ◌↔◌};
+ghost use Rattle.std.specs.FinMap.{get};
 ghost use Rattle.fugue_ids.specs.Outs.{WritesBytes};
 ghost use Rattle.fugue_ids.specs.Runs.{run_from};
 ghost use Rattle.fugue_ids.specs.declared.op.Op.TheVariants.{Delete as DeleteOf};
@@ -6,7 +7,7 @@ ghost use Rattle.op_runs.specs.Finding.{op_of};
 ghost use Rattle.op_runs.specs.Parts.{IsOther};
 ghost use Rattle.op_runs.specs.Deletions.{deletes_up};
 ghost use Rattle.origin_model.specs.edits.Edits.{ReadyInTurn, history_with};
-ghost use Rattle.origin_model.specs.operations.History.{accepted as accepted_list, has_op, holder as holder_on, holds as holds_on, place as place_in};
+ghost use Rattle.origin_model.specs.operations.History.{accepted as accepted_list, has_op, holder as holder_on, holds as holds_on, is_own, place as place_in};
 ghost use Rattle.origin_model.specs.operations.Counters.{counters, IsGreatest};
 ghost use Rattle.origin_model.specs.order.Printed.{manuscript as manuscript_on, shown};
 ghost use Rattle.origin_model.specs.operations.Verdict.{verdict as verdict_on, Lawful};
@@ -15,38 +16,55 @@ ghost use Rattle.origin_model.specs.declared.operations.Verdict.TheVariants.{Rea
 ghost use Rattle.replica_core.specs.Deleting.{AreWithin, ids_from};
 ghost use Rattle.replica_core.specs.Due.{newest_id as newest_id_of};
 ghost use Rattle.replica_core.specs.Feeding.{AreUnheld};
-ghost use Rattle.replica_core.specs.Index.{matches_key, newest_position, sections_and_notes as positions_in};
-ghost use Rattle.section_catalogue.specs.Contents.{place_count};
+ghost use Rattle.replica_core.specs.Index.{newest_position, sections_and_notes as positions_in};
+ghost use Rattle.replica_core.specs.Withdrawn.{StandsIn, WithdrawsBy};
+ghost use Rattle.section_catalogue.specs.Contents.{place_at, place_count};
 ghost use Rattle.section_catalogue.specs.Manuscript.{GrowsBy, IsOrderedPlace, IsReadyOn, IsTextOf, Represents, RepresentsSame};
+ghost use Rattle.section_catalogue.specs.Place.{place_held};
 
 use crate::history::History;
 use crate::look_ups::ShownSection;
-use fugue_ids::{ElementId, Failed, MOST_OPERATIONS, NoMemory, Op, OpKey, RunStart};
+use fugue_ids::{ElementId, Failed, MOST_OPERATIONS, NoMemory, Op, RunStart, read_text};
 use op_runs::{OpRef, OpSlice};
-use origin_model::{Lookup, NoMemoryFor, Role, Verdict, fits_at, verdict_in};
+use origin_model::{Lookup, NoMemoryFor, Place, Role, Verdict, fits_at, verdict_in};
 use outer_ports::Sink;
 use section_catalogue::Manuscript;
 use section_list::{SectionList, StoppedAfter};
 use std::alloc::Global;
 use std::marker::Model;
+use stretch_map::{Same, StretchMap};
+
+/// What withdrawn notes have: the same, so that those with neighbouring identifiers are one entry.
+const MARK: Same = Same {
+    of: ElementId {
+        replica: 1,
+        counter: 0,
+    },
+};
 
 /// The accepted operations and the manuscript that they make. They are seen as the list of them, the newest first.
 #[derive(Drop)]
 pub(crate) struct Accepted {
     history: History,
     manuscript: Manuscript,
+    /// The notes that a Delete names. A deleted element is marked where it stands, and a note stands in no place.
+    withdrawn: StretchMap<Same>,
 }
 
 impl Model for Accepted {
     ghost use Rattle.std.specs.Prelude.{List};
     ghost use Rattle.fugue_ids.specs.declared.op.Op.{Op};
+    ghost use Rattle.replica_core.specs.Withdrawn.{HasWithdrawn};
     ghost use Rattle.section_catalogue.specs.Manuscript.{Represents};
 
     ghost Value = { List Op };
 
     ghost view = { λ accepted. accepted.history };
 
-    ghost invariant = { λ accepted. Represents accepted.manuscript accepted.history };
+    ghost invariant = { λ accepted. record {
+      stands : Represents accepted.manuscript accepted.history;
+      withdrawn_are : HasWithdrawn accepted.withdrawn.values accepted.history;
+    } };
 }
 
 /// Takes an operation that stands in a place and is Ready into the manuscript. After want of memory that is as before.
@@ -64,16 +82,23 @@ fn take_in(manuscript: &mut Manuscript, op: &OpRef<'_>) -> Result<(), NoMemory>
     }
 }
 
-/// Takes a Delete that is Ready into the manuscript: of an element, or of a note. A note stands in no place, so nothing is
-/// hidden where one is withdrawn. After want of memory the manuscript is as before.
-fn take_in_delete(manuscript: &mut Manuscript, target: ElementId) -> Result<(), NoMemory>
-    requires { IsReadyOn manuscript.old (DeleteOf target) }
+/// Takes in a Delete that is Ready: an element is hidden in its place, and a note, which stands in none, joins the
+/// withdrawn ones. After want of memory all is as before.
+fn take_in_delete(
+    manuscript: &mut Manuscript,
+    withdrawn: &mut StretchMap<Same>,
+    target: ElementId,
+) -> Result<(), NoMemory>
+    requires ready { IsReadyOn manuscript.old (DeleteOf target) }
+    requires free { place_at manuscript.old target ≡ None → get withdrawn.old.values target ≡ None }
     ensures ok { OnOk result (GrowsBy manuscript.old manuscript.new (DeleteOf target)) }
+    ensures ok_withdrawn { OnOk result (WithdrawsBy manuscript.old withdrawn.old.values withdrawn.new.values target) }
     ensures err { OnErr result (RepresentsSame manuscript.old manuscript.new) }
+    ensures err_withdrawn { OnErr result (withdrawn.new ≡ withdrawn.old) }
 {
     match manuscript.place_of(target) {
         Some(_) => manuscript.hide(target),
-        None => Ok(()),
+        None => withdrawn.insert(target, MARK),
     }
 }
 
@@ -84,8 +109,12 @@ impl Lookup for Accepted {
         self.history.equals(id, op)
     }
 
+    /// An element that a Delete names is marked where it stands. A note stands in no place.
     fn has_delete(&self, target: ElementId) -> bool {
-        self.history.has_delete(target)
+        match self.list_with(target) {
+            Some(list) => list.is_hidden(target),
+            None => self.withdrawn.get(target).is_some(),
+        }
     }
 
     /// An element fits by its place, which is found without its operation. What has no place is a note, or is not
@@ -105,6 +134,7 @@ impl Accepted {
         Accepted {
             history: History::new(alloc),
             manuscript: Manuscript::new(alloc),
+            withdrawn: StretchMap::new(alloc),
         }
     }
 
@@ -182,11 +212,11 @@ impl Accepted {
         self.history.repeats(start, text)
     }
 
-    /// How many operations are older than the one that is looked up by the key.
-    pub fn position(&self, key: OpKey) -> Option<usize>
-        ensures { result ≡ newest_position (matches_key key) self.now }
+    /// How many operations are older than the one that has the identifier.
+    pub fn position(&self, id: ElementId) -> Option<usize>
+        ensures { result ≡ newest_position (is_own id) self.now }
     {
-        self.history.position(key)
+        self.history.position(id)
     }
 
     /// The positions of the Sections and Notes, ascending.
@@ -229,6 +259,17 @@ impl Accepted {
         &self.manuscript
     }
 
+    /// The list of the place in which the element stands, hidden or not.
+    pub fn list_with(&self, id: ElementId) -> Option<&SectionList>
+        ensures some { IfSome result (λ list. StandsIn self.now id list.now) }
+        ensures none { IfNone result (place_held (holder_on self.now id) ≡ None) }
+    {
+        match self.manuscript.place_of(id)? {
+            Place::Catalogue => Some(self.manuscript.catalogue()),
+            Place::Section(section) => self.manuscript.section(section),
+        }
+    }
+
     /// Takes in an operation that is Ready.
     pub fn accept(&mut self, op: Op) -> Result<(), NoMemoryFor>
         requires ready { verdict_on self.old op ≡ Ready }
@@ -238,20 +279,9 @@ impl Accepted {
         ensures op_back { IfErr result (λ e. e.op ≡ op) }
     {
         match &op {
-            Op::Text {
-                id,
-                section,
-                left,
-                right,
-                ch,
-            } => {
-                let start = RunStart {
-                    id: *id,
-                    section: *section,
-                    left: *left,
-                    right: *right,
-                };
-                match self.accept_run(&start, &[*ch]) {
+            Op::Text { .. } => {
+                let (start, ch) = read_text(&op).unwrap();
+                match self.accept_run(&start, &[ch]) {
                     Ok(()) => Ok(()),
                     Err(NoMemory) => Err(NoMemoryFor { op }),
                 }
@@ -276,7 +306,7 @@ impl Accepted {
         // That the counter fits is told where it is read.
         let _counter = target.counter;
         self.history.push_deletes(target, 1)?;
-        match take_in_delete(&mut self.manuscript, target) {
+        match take_in_delete(&mut self.manuscript, &mut self.withdrawn, target) {
             Ok(()) => Ok(()),
             Err(NoMemory) => {
                 self.history.pop_all(1);

@@ -1,4 +1,4 @@
-//! Copies of operations, for those who save what was kept: they are made before it is known whether it is kept.
+//! Copies of the operations that a replica takes in: each is made first, and taken off again where the replica keeps none.
 ghost use Rattle.std.specs.Prelude.{◌≡◌, ◌<◌, ◌≤◌, ◌+◌, ◌-◌, ◌^◌, ◌++◌, ◌∷◌, [], List, OnErr, OnOk, length, take};
 ghost use Rattle.fugue_ids.specs.Runs.{run_from};
 ghost use Rattle.fugue_ids.specs.declared.op.Op.{Op as AnyOp};

@@ -5,17 +5,20 @@ ghost use Rattle.origin_model.specs.edits.State.{IsSound};
 ghost use Rattle.origin_model.specs.operations.History.{has_op};
 ghost use Rattle.origin_model.specs.declared.operations.Place.TheVariants.{Catalogue as InCatalogue, Section as InSection};
 ghost use Rattle.origin_model.specs.taking.Taking.{IsSettled, kept_from};
-ghost use Rattle.replica_core.specs.Deleting.{AreUndeleted, AreWithin, IsUndeleted, ids_from};
+ghost use Rattle.replica_core.specs.Deleting.{AreWithin, ids_from};
 ghost use Rattle.replica_core.specs.Edits.{CanJoin};
 ghost use Rattle.replica_core.specs.Feeding.{StopsFeeding, StopsKeeping, TakesInAll};
 ghost use Rattle.replica_core.specs.Told.{total};
+ghost use Rattle.run_store.specs.Cells.{cells_shown};
+ghost use Rattle.run_store.specs.Hiding.{AreHidden, HaveCells};
 
 use crate::copies::push_row;
 use crate::open_replica::OpenReplica;
 use crate::{FeedFault, Replica};
 use fugue_ids::{ElementId, Op};
 use op_runs::OpRuns;
-use origin_model::{Lookup, Place, Role, Tally};
+use origin_model::{Place, Tally};
+use section_list::SectionList;
 
 impl Replica {
     /// Feeds the Deletes of so many identifiers, from this one on, one after another: those at once that nothing is asked
@@ -41,7 +44,8 @@ impl Replica {
         fed
     }
 
-    /// The same, and appends copies of those that were accepted or wait to `kept`, in order.
+    /// The same, and appends copies of those that were accepted or wait to `kept`, in order. Want of memory is also the
+    /// answer where `kept` is full: it has at most `MOST_LISTED` operations.
     pub fn feed_deletes_keeping(
         &mut self,
         first: ElementId,
@@ -203,7 +207,7 @@ impl OpenReplica {
         }
     }
 
-    /// How many Deletes at the front of a row are accepted already.
+    /// How many Deletes at the front of a row are accepted already, as far as their targets are elements of one place.
     fn deleted(&self, first: ElementId, count: u32) -> u32
         requires { first.counter + count ≤ 2 ^ 32 }
         ensures within { result ≤ count }
@@ -215,11 +219,10 @@ impl OpenReplica {
         if count < 2 {
             return 0;
         }
-        let mut known = 0;
-        'known: while known < count && self.accepted.has_delete(first.behind(known)) {
-            known += 1;
-        }
-        known
+        let Some(list) = self.accepted.list_with(first) else {
+            return 0;
+        };
+        hidden_row(list, first, count)
     }
 
     /// How many Deletes at the front of a row go in at once, and the section of their targets: these are elements of it,
@@ -239,44 +242,53 @@ impl OpenReplica {
         if most < 2 {
             return None;
         }
-        let Some(place) = self.accepted.places().place_of(first) else {
+        let places = self.accepted.places();
+        let Some(place) = places.place_of(first) else {
             return None;
         };
         let Some(section) = section_of(&place) else {
             return None;
         };
-        let row = self.undeleted(&section, first, most);
+        let Some(text) = places.section(section) else {
+            return None;
+        };
+        let row = visible_row(text, first, most);
         if row == 0 {
             return None;
         }
         Some((section, row))
     }
+}
 
-    /// How many identifiers at the front of a row are of elements of the section that are not deleted.
-    fn undeleted(&self, section: &ElementId, first: ElementId, most: u32) -> u32
-        requires { first.counter + most ≤ 2 ^ 32 }
-        ensures within { result ≤ most }
-        ensures undeleted { AreUndeleted section.now self.now.state.held.history first result }
-        ensures stands { IsSound self.now.state }
-    {
-        let _ = &self.alloc;
-        let mut row = 0;
-        'row: while row < most && self.is_undeleted(section, first.behind(row)) {
-            row += 1;
-        }
-        row
+/// How many identifiers, from this one on, are those of hidden elements of the list.
+fn hidden_row(list: &SectionList, first: ElementId, most: u32) -> u32
+    requires { first.counter + most ≤ 2 ^ 32 }
+    ensures within { result ≤ most }
+    ensures hidden { AreHidden list.now.cells first result }
+{
+    let mut row = 0;
+    'row: while row < most && list.is_hidden(first.behind(row)) {
+        row += 1;
     }
+    row
+}
 
-    /// Whether the identifier is that of an element of the section that is not deleted.
-    fn is_undeleted(&self, section: &ElementId, id: ElementId) -> bool
-        ensures undeleted { IsTrue result → IsUndeleted section.now self.now.state.held.history id }
-        ensures stands { IsSound self.now.state }
-    {
-        match self.accepted.fits(id, Role::TextOf(*section)) {
-            Some(fits) => fits && !self.accepted.has_delete(id),
-            None => false,
-        }
+/// How many identifiers, from this one on, are those of visible elements of the list that stand one behind the other. One
+/// walk finds them, where a look-up of each would be a search.
+fn visible_row(list: &SectionList, first: ElementId, most: u32) -> u32
+    requires { first.counter + most ≤ 2 ^ 32 }
+    ensures within { result ≤ most }
+    ensures visible { HaveCells (cells_shown list.now.cells) first result }
+{
+    let Some(before) = list.visible_before(first) else {
+        return 0;
+    };
+    let mut walk = list.shown_from(before);
+    let mut row = 0;
+    'row: while row < most && walk.step() == Some(first.behind(row)) {
+        row += 1;
     }
+    row
 }
 
 /// The section whose elements stand in the place, if it is one.

@@ -42,7 +42,8 @@ impl Replica {
         fed
     }
 
-    /// The same, and appends copies of those that were accepted or wait to `kept`, in order.
+    /// The same, and appends copies of those that were accepted or wait to `kept`, in order. Want of memory is also the
+    /// answer where `kept` is full: it has at most `MOST_LISTED` operations.
     pub fn feed_run_keeping(
         &mut self,
         start: &RunStart,

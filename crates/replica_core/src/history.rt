@@ -1,5 +1,6 @@
 ghost use Rattle.std.specs.Prelude.{◌≡◌, ◌≢◌, ◌<◌, ◌≤◌, ◌+◌, ◌^◌, ◌∷◌, [], OnErr, OnOk, IfErr, IfNone, IfSome, IsSome, Some, drop, length};
 ghost use Rattle.std.specs.Prelude.{option_map, slice_get, All, IsTrue, take, true, ◌↔◌};
+ghost use Rattle.fugue_ids.specs.Ops.{op_eq};
 ghost use Rattle.fugue_ids.specs.Runs.{run_from};
 ghost use Rattle.fugue_ids.specs.declared.limits.TheConstants.{MOST_OPERATIONS};
 ghost use Rattle.fugue_ids.specs.declared.op.Op.{Op as AnyOp};
@@ -7,18 +8,18 @@ ghost use Rattle.op_runs.specs.Finding.{op_of};
 ghost use Rattle.op_runs.specs.Parts.{IsOther};
 ghost use Rattle.op_runs.specs.Deletions.{deletes_up};
 ghost use Rattle.origin_model.specs.edits.Edits.{ReadyInTurn, history_with};
-ghost use Rattle.origin_model.specs.operations.History.{accepted, has_op, holder as holder_on, holds as holds_on};
+ghost use Rattle.origin_model.specs.operations.History.{accepted, has_op, holder as holder_on, holds as holds_on, is_own};
 ghost use Rattle.origin_model.specs.operations.Counters.{counters, IsGreatest};
 ghost use Rattle.origin_model.specs.operations.Verdict.{fits as fits_role, verdict, Lawful};
 ghost use Rattle.origin_model.specs.declared.operations.Verdict.TheVariants.{Ready};
 ghost use Rattle.replica_core.specs.Due.{newest_id as newest_id_of};
 ghost use Rattle.replica_core.specs.Feeding.{AreUnheld};
-ghost use Rattle.replica_core.specs.Index.{matches_key, newest_position, sections_and_notes as positions_in};
+ghost use Rattle.replica_core.specs.Index.{newest_position, sections_and_notes as positions_in};
 
 use crate::index::Index;
-use fugue_ids::{ElementId, NoMemory, Op, OpKey, RunStart};
+use fugue_ids::{ElementId, NoMemory, Op, RunStart};
 use op_runs::{OpRef, OpRuns, OpSlice};
-use origin_model::{Lookup, NoMemoryFor, Role, fits};
+use origin_model::{NoMemoryFor, Role, fits};
 use std::alloc::Global;
 use std::marker::Model;
 
@@ -34,7 +35,7 @@ impl Model for History {
     ghost use Rattle.fugue_ids.specs.declared.op.Op.{Op};
     ghost use Rattle.origin_model.specs.operations.Verdict.{Lawful};
     ghost use Rattle.std.specs.Prelude.{◌≡◌};
-    ghost use Rattle.replica_core.specs.Index.{IsHistoryIndex, sections_and_notes};
+    ghost use Rattle.replica_core.specs.Index.{ArePositions, sections_and_notes};
 
     ghost Value = { List Op };
 
@@ -42,7 +43,7 @@ impl Model for History {
 
     ghost invariant = { λ history. record {
       lawful : Lawful (reverse history.ops);
-      indexed : IsHistoryIndex history.index.positions.values history.index.targets.values (reverse history.ops);
+      indexed : ArePositions history.index.positions.values (reverse history.ops);
       listed : history.index.sections_and_notes.items ≡ sections_and_notes (reverse history.ops);
     } };
 }
@@ -55,28 +56,6 @@ fn fits_ref(role: Role, op: &OpRef<'_>) -> bool
         OpRef::Letter(start, ch) => fits(role, &start.text(*ch)),
         OpRef::Deletion(target) => fits(role, &Op::Delete { target: *target }),
         OpRef::Whole(op) => fits(role, op),
-    }
-}
-
-impl Lookup for History {
-    ghost history = { λ history. history };
-
-    fn equals(&self, id: ElementId, op: &Op) -> Option<bool> {
-        match self.holder(id) {
-            Some(holder) => Some(holder.equals(op)),
-            None => None,
-        }
-    }
-
-    fn has_delete(&self, target: ElementId) -> bool {
-        self.index.is_target(target)
-    }
-
-    fn fits(&self, id: ElementId, role: Role) -> Option<bool> {
-        match self.holder(id) {
-            Some(holder) => Some(fits_ref(role, &holder)),
-            None => None,
-        }
     }
 }
 
@@ -130,6 +109,27 @@ impl History {
         }
     }
 
+    /// Whether the operation that has the identifier is equal to another one.
+    pub fn equals(&self, id: ElementId, op: &Op) -> Option<bool>
+        ensures held { result ≡ option_map (λ holder. op_eq holder op.now) (holder_on self.now id) }
+        ensures lawful { Lawful self.now }
+    {
+        match self.holder(id) {
+            Some(holder) => Some(holder.equals(op)),
+            None => None,
+        }
+    }
+
+    /// Whether the operation that has the identifier fits the role.
+    pub fn fits(&self, id: ElementId, role: Role) -> Option<bool>
+        ensures { result ≡ option_map (fits_role role) (holder_on self.now id) }
+    {
+        match self.holder(id) {
+            Some(holder) => Some(fits_ref(role, &holder)),
+            None => None,
+        }
+    }
+
     /// Whether an operation has the identifier.
     pub fn holds(&self, id: ElementId) -> bool
         ensures { result ≡ holds_on self.now id }
@@ -137,11 +137,11 @@ impl History {
         self.index.position(id).is_some()
     }
 
-    /// How many operations are older than the one that is looked up by the key.
-    pub fn position(&self, key: OpKey) -> Option<usize>
-        ensures { result ≡ newest_position (matches_key key) self.now }
+    /// How many operations are older than the one that has the identifier.
+    pub fn position(&self, id: ElementId) -> Option<usize>
+        ensures { result ≡ newest_position (is_own id) self.now }
     {
-        self.index.find(key)
+        self.index.position(id)
     }
 
     /// The positions of the Sections and Notes, ascending.
@@ -217,8 +217,8 @@ impl History {
         Ok(())
     }
 
-    /// The Deletes of so many identifiers from this one on, which are Ready in their turn: their positions are noted as
-    /// one. After want of memory all is as before.
+    /// The Deletes of so many identifiers from this one on, which are Ready in their turn. They have no positions. After
+    /// want of memory all is as before.
     pub fn push_deletes(&mut self, first: ElementId, count: u32) -> Result<(), NoMemory>
         requires counters { first.counter + count ≤ 2 ^ 32 }
         requires room { length self.old + count ≤ MOST_OPERATIONS }
@@ -226,16 +226,7 @@ impl History {
         ensures ok { OnOk result (self.new ≡ history_with self.old (deletes_up first count)) }
         ensures err { OnErr result (self.new ≡ self.old) }
     {
-        if count == 0 {
-            return Ok(());
-        }
-        let position = self.ops.len();
-        self.ops.push_deletes(first, count)?;
-        let Ok(()) = self.index.note_deletes(first, count, position) else {
-            self.ops.pop(count as usize);
-            return Err(NoMemory);
-        };
-        Ok(())
+        self.ops.push_deletes(first, count)
     }
 
     /// The greatest counter of the replica among the identifiers that the operations have or name. What one names is

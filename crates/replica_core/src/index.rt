@@ -1,14 +1,14 @@
-ghost use Rattle.std.specs.Prelude.{◌≡◌, ◌<◌, ◌≤◌, ◌+◌, ◌^◌, ◌↔◌, ◌∷◌, ◌++◌, [], ℕ, List, is_some, length, option_map, IsTrue, OnOk, OnErr};
+ghost use Rattle.std.specs.Prelude.{◌≡◌, ◌<◌, ◌≤◌, ◌+◌, ◌^◌, ◌↔◌, ◌∷◌, ◌++◌, [], ℕ, List, length, option_map, IsTrue, OnOk, OnErr};
 ghost use Rattle.std.specs.FinMap.{get};
 ghost use Rattle.fugue_ids.specs.declared.op.Op.{Op as AnyOp};
 ghost use Rattle.op_runs.specs.Finding.{op_of};
 ghost use Rattle.origin_model.specs.operations.Verdict.{verdict};
 ghost use Rattle.origin_model.specs.declared.operations.Verdict.TheVariants.{Ready};
-ghost use Rattle.replica_core.specs.Index.{matches_key, IsHistoryIndex, IsUnnoted, is_section_or_note as is_either, position_if, newest_position, with_positions};
+ghost use Rattle.replica_core.specs.Index.{ArePositions, IsUnnoted, is_section_or_note as is_either, position_if, with_positions};
 ghost use Rattle.replica_core.specs.Index.{sections_and_notes as positions_in};
 ghost use Rattle.stretch_map.specs.Rules.{AreFree, IsGreatestIn};
 
-use fugue_ids::{ElementId, NoMemory, Op, OpKey};
+use fugue_ids::{ElementId, NoMemory, Op};
 use op_runs::OpRef;
 use std::alloc::Global;
 use stretch_map::{Position, StretchMap};
@@ -16,10 +16,8 @@ use stretch_map::{Position, StretchMap};
 /// Where accepted operations are found, the oldest at 0. What was typed in one go is found by one entry.
 #[derive(Drop)]
 pub(crate) struct Index {
-    /// The position of each operation that has an identifier.
+    /// The position of each operation that has an identifier of its own, as all but Deletes have.
     positions: StretchMap<Position>,
-    /// That of each Delete, by its target.
-    targets: StretchMap<Position>,
     /// Those of the Sections and Notes, ascending.
     sections_and_notes: Vec<usize>,
 }
@@ -35,12 +33,11 @@ fn is_section_or_note(op: &Op) -> bool
 
 impl Index {
     pub fn new(alloc: Global) -> Index
-        ensures found { IsHistoryIndex result.positions.values result.targets.values [] }
+        ensures found { ArePositions result.positions.values [] }
         ensures listed { result.sections_and_notes.items ≡ [] }
     {
         Index {
             positions: StretchMap::new(alloc),
-            targets: StretchMap::new(alloc),
             sections_and_notes: Vec::new(alloc),
         }
     }
@@ -52,6 +49,7 @@ impl Index {
         self.sections_and_notes.as_slice()
     }
 
+    /// The position of the operation that has the identifier.
     pub fn position(&self, id: ElementId) -> Option<usize>
         ensures { result ≡ option_map (λ p. p.at) (get self.now.positions.values id) }
     {
@@ -59,27 +57,6 @@ impl Index {
             Some(position) => Some(position.at),
             None => None,
         }
-    }
-
-    /// The position of the operation that is looked up by the key.
-    pub fn find(&self, key: OpKey) -> Option<usize>
-        ensures { (h : List AnyOp) → IsHistoryIndex self.now.positions.values self.now.targets.values h
-            → result ≡ newest_position (matches_key key) h }
-    {
-        let found = match key {
-            OpKey::Own(id) => self.positions.get(id),
-            OpKey::Target(target) => self.targets.get(target),
-        };
-        match found {
-            Some(position) => Some(position.at),
-            None => None,
-        }
-    }
-
-    pub fn is_target(&self, id: ElementId) -> bool
-        ensures { result ≡ is_some (get self.now.targets.values id) }
-    {
-        self.targets.get(id).is_some()
     }
 
     /// The greatest counter of the replica among the identifiers that have a position.
@@ -100,15 +77,14 @@ impl Index {
 
     /// One operation more, at that position. After want of memory all is as before.
     pub fn note(&mut self, op: &Op, position: usize) -> Result<(), NoMemory>
-        requires { IsUnnoted self.old.positions.values self.old.targets.values op.now }
-        ensures ok { OnOk result ((h : List AnyOp) → IsHistoryIndex self.old.positions.values self.old.targets.values h
+        requires { IsUnnoted self.old.positions.values op.now }
+        ensures ok { OnOk result ((h : List AnyOp) → ArePositions self.old.positions.values h
             → length h ≡ position
-            → IsHistoryIndex self.new.positions.values self.new.targets.values (op.now ∷ h)) }
+            → ArePositions self.new.positions.values (op.now ∷ h)) }
         ensures listed { OnOk result ((h : List AnyOp) → self.old.sections_and_notes.items ≡ positions_in h
             → length h ≡ position
             → self.new.sections_and_notes.items ≡ positions_in (op.now ∷ h)) }
         ensures err_positions { OnErr result (self.new.positions ≡ self.old.positions) }
-        ensures err_targets { OnErr result (self.new.targets ≡ self.old.targets) }
         ensures err_listed { OnErr result (self.new.sections_and_notes.items ≡ self.old.sections_and_notes.items) }
     {
         self.list(op, position)?;
@@ -135,7 +111,6 @@ impl Index {
         requires free { AreFree (get self.old.positions.values) first count }
         ensures ok { OnOk result (self.new.positions.values
             ≡ with_positions first position count self.old.positions.values) }
-        ensures targets { self.new.targets ≡ self.old.targets }
         ensures listed { self.new.sections_and_notes ≡ self.old.sections_and_notes }
         ensures err { OnErr result (self.new ≡ self.old) }
     {
@@ -143,33 +118,11 @@ impl Index {
         self.positions.insert_run(first, count, position)
     }
 
-    /// The positions of the Deletes of so many neighbours, the first at that position: by one entry. After want of memory
-    /// all is as before.
-    pub fn note_deletes(
-        &mut self,
-        first: ElementId,
-        count: u32,
-        position: usize,
-    ) -> Result<(), NoMemory>
-        requires some { 0 < count }
-        requires counters { first.counter + count ≤ 2 ^ 32 }
-        requires positions { position + count < 2 ^ 64 }
-        requires free { AreFree (get self.old.targets.values) first count }
-        ensures ok { OnOk result (self.new.targets.values
-            ≡ with_positions first position count self.old.targets.values) }
-        ensures positions { self.new.positions ≡ self.old.positions }
-        ensures listed { self.new.sections_and_notes ≡ self.old.sections_and_notes }
-        ensures err { OnErr result (self.new ≡ self.old) }
-    {
-        let position = Position { at: position };
-        self.targets.insert_run(first, count, position)
-    }
-
     /// The newest operation less. This wants no memory, since no other one has the position behind it.
     pub fn forget(&mut self, op: &Op)
-        ensures found { (h : List AnyOp) → IsHistoryIndex self.old.positions.values self.old.targets.values (op.now ∷ h)
+        ensures found { (h : List AnyOp) → ArePositions self.old.positions.values (op.now ∷ h)
             → verdict h op.now ≡ Ready
-            → IsHistoryIndex self.new.positions.values self.new.targets.values h }
+            → ArePositions self.new.positions.values h }
         ensures listed { (h : List AnyOp) → self.old.sections_and_notes.items ≡ positions_in (op.now ∷ h)
             → self.new.sections_and_notes.items ≡ positions_in h }
     {
@@ -179,9 +132,9 @@ impl Index {
 
     /// The same of an operation as it stands in the list.
     pub fn forget_found(&mut self, op: &OpRef<'_>)
-        ensures found { (h : List AnyOp) → IsHistoryIndex self.old.positions.values self.old.targets.values (op_of op.now ∷ h)
+        ensures found { (h : List AnyOp) → ArePositions self.old.positions.values (op_of op.now ∷ h)
             → verdict h (op_of op.now) ≡ Ready
-            → IsHistoryIndex self.new.positions.values self.new.targets.values h }
+            → ArePositions self.new.positions.values h }
         ensures listed { (h : List AnyOp) → self.old.sections_and_notes.items ≡ positions_in (op_of op.now ∷ h)
             → self.new.sections_and_notes.items ≡ positions_in h }
     {
@@ -195,7 +148,6 @@ impl Index {
     /// The position of an operation, where that is a Section or a Note.
     fn list(&mut self, op: &Op, position: usize) -> Result<(), NoMemory>
         ensures positions { self.new.positions ≡ self.old.positions }
-        ensures targets { self.new.targets ≡ self.old.targets }
         ensures ok { OnOk result (self.new.sections_and_notes.items ≡ self.old.sections_and_notes.items
             ++ position_if (is_either op.now) position) }
         ensures err { OnErr result (self.new.sections_and_notes.items ≡ self.old.sections_and_notes.items) }
@@ -209,7 +161,6 @@ impl Index {
     /// The last position less, where the operation is a Section or a Note.
     fn unlist(&mut self, op: &Op)
         ensures positions { self.new.positions ≡ self.old.positions }
-        ensures targets { self.new.targets ≡ self.old.targets }
         ensures listed { (xs : List ℕ) (k : ℕ)
             → self.old.sections_and_notes.items ≡ xs ++ position_if (is_either op.now) k
             → self.new.sections_and_notes.items ≡ xs }
@@ -219,32 +170,30 @@ impl Index {
         }
     }
 
-    /// The position of an operation, by its key.
+    /// The position of an operation, where that has an identifier.
     fn place(&mut self, op: &Op, position: usize) -> Result<(), NoMemory>
-        requires { IsUnnoted self.old.positions.values self.old.targets.values op.now }
-        ensures ok { OnOk result ((h : List AnyOp) → IsHistoryIndex self.old.positions.values self.old.targets.values h
+        requires { IsUnnoted self.old.positions.values op.now }
+        ensures ok { OnOk result ((h : List AnyOp) → ArePositions self.old.positions.values h
             → length h ≡ position
-            → IsHistoryIndex self.new.positions.values self.new.targets.values (op.now ∷ h)) }
+            → ArePositions self.new.positions.values (op.now ∷ h)) }
         ensures err { OnErr result (self.new ≡ self.old) }
         ensures listed { self.new.sections_and_notes ≡ self.old.sections_and_notes }
     {
-        let position = Position { at: position };
-        match op.key() {
-            OpKey::Own(id) => self.positions.insert(id, position),
-            OpKey::Target(target) => self.targets.insert(target, position),
+        match op.id() {
+            Some(id) => self.positions.insert(id, Position { at: position }),
+            None => Ok(()),
         }
     }
 
-    /// The newest operation's position less, by its key.
+    /// The newest operation's position less, where that has an identifier.
     fn remove(&mut self, op: &Op)
-        ensures found { (h : List AnyOp) → IsHistoryIndex self.old.positions.values self.old.targets.values (op.now ∷ h)
+        ensures found { (h : List AnyOp) → ArePositions self.old.positions.values (op.now ∷ h)
             → verdict h op.now ≡ Ready
-            → IsHistoryIndex self.new.positions.values self.new.targets.values h }
+            → ArePositions self.new.positions.values h }
         ensures listed { self.new.sections_and_notes ≡ self.old.sections_and_notes }
     {
-        let _sure = match op.key() {
-            OpKey::Own(id) => self.positions.remove(id),
-            OpKey::Target(target) => self.targets.remove(target),
-        };
+        if let Some(id) = op.id() {
+            let _sure = self.positions.remove(id);
+        }
     }
 }

@@ -2,17 +2,17 @@
 ghost use Rattle.std.specs.Prelude.{◌≡◌, drop, length, option_and_then, option_copied, option_map, slice_get, string_bytes, IfOk, IfSome};
 ghost use Rattle.std.specs.Str.{encode_utf8_all};
 ghost use Rattle.op_runs.specs.Finding.{op_of};
-ghost use Rattle.origin_model.specs.operations.History.{accepted as accepted_list, holder as holder_on, holds as holds_on};
+ghost use Rattle.origin_model.specs.operations.History.{accepted as accepted_list, holder as holder_on, holds as holds_on, is_own};
 ghost use Rattle.origin_model.specs.order.Printed.{is_withdrawn as withdrawn_in, shown, text as text_on};
 ghost use Rattle.origin_model.specs.declared.operations.Place.TheVariants.{Catalogue as catalogue, Section as within};
-ghost use Rattle.replica_core.specs.Index.{matches_key, if_section_or_note, newest_position, section_or_note_at, sections_and_notes as positions_in};
+ghost use Rattle.replica_core.specs.Index.{if_section_or_note, newest_position, section_or_note_at, sections_and_notes as positions_in};
 ghost use Rattle.run_store.specs.Cells.{cell_text};
 ghost use Rattle.section_catalogue.specs.Manuscript.{IsOrderedPlace, IsTextOf, LookUpsAgree, Represents};
 ghost use Rattle.origin_model.specs.edits.Refusal.{section_shown};
 ghost use Rattle.origin_model.specs.edits.State.{IsSound};
 
 use crate::Replica;
-use fugue_ids::{ElementId, NoMemory, Op, OpKey};
+use fugue_ids::{ElementId, NoMemory, Op};
 use op_runs::{OpRef, OpSlice};
 use origin_model::Lookup;
 use outer_ports::MemSink;
@@ -62,13 +62,12 @@ impl Replica {
         self.inner.accepted.holds(id)
     }
 
-    /// How many operations were accepted before the one that is looked up by the key. A `Delete` is looked up by its
-    /// target.
-    pub fn position(&self, key: OpKey) -> Option<usize>
-        ensures position { result ≡ newest_position (matches_key key) self.now.held.history }
+    /// How many operations were accepted before the one that has the identifier.
+    pub fn position(&self, id: ElementId) -> Option<usize>
+        ensures position { result ≡ newest_position (is_own id) self.now.held.history }
         ensures stands { IsSound self.now }
     {
-        self.inner.accepted.position(key)
+        self.inner.accepted.position(id)
     }
 
     /// The positions of the Sections and Notes among the accepted operations, ascending. Where letters are many and these

@@ -135,10 +135,10 @@ at_rest_still ops (Some h) p same = λ content means. subst (λ o. LeavesOnlyTo 
 no_calls : (disk : DiskView) (Lasts : RoomView → Type 0) (failed : Type 0) → (failed → ⊥) → AccountsForFaults disk disk Lasts failed
 no_calls disk Lasts failed none = record {
   later = omega arith;
-  rose = λ fails. absurd (none fails);
+  faulted = λ fails. absurd (none fails);
   sure = each (λ room lasts fails. none fails) disk.room;
-  calm = each (λ room lasts. refl) disk.room;
-  calm_told = λ tells not. refl;
+  counts_no_fault = each (λ room lasts. refl) disk.room;
+  specified_no_fault = λ tells not. refl;
 }
   where
     each : {P : RoomView → Type 0} → ((room : RoomView) → P room) → (o : Option RoomView) → IfSome o P
@@ -216,10 +216,10 @@ module _ (end : End) (ops : List Op) (have : All HasFrame ops) (short : length (
   module _ (old new : DiskView) (some : ops ≢ []) (ends : IfSome old.past (λ h. EndsAtGate h.last end))
       (moments : IfSome old.past (λ h. LeavesOnlyTo h new.past (BeforeOrWritten h.last.seen end.at bytes)))
       (honest : IfSome old.past (λ h. IsHonest h.last) → IfSome new.past (λ k. IsHonest k.last)) (later : old.faults ≤ new.faults)
-      (calm : IfSome old.room (λ room. LastsForCalls bytes room → new.faults ≡ old.faults)) where
+      (counts_no_fault : IfSome old.room (λ room. LastsForCalls bytes room → new.faults ≡ old.faults)) where
     -- a call failed
     pub append_failed : Faulted old.faults new.faults → IfSome old.room (λ room. LastsForCalls bytes room → ⊥) → AppendMeets end ops old new (Err DiskFault)
-    append_failed rose sure = record {
+    append_failed faulted sure = record {
       none = λ is. absurd (some is);
       too_long = λ not. (λ is. cc is, λ long. absurd (fits long));
       untouched = λ which. elim which [ inl is ↦ cc is | inr is ↦ cc is ];
@@ -229,17 +229,17 @@ module _ (end : End) (ops : List Op) (have : All HasFrame ops) (short : length (
       honest = honest;
       faults = record {
         later = later;
-        rose = λ fails. rose;
+        faulted = λ fails. faulted;
         sure = IfSome_then old.room (subst (λ (b : List ℕ). IfSome old.room (λ room. LastsForCalls b room → ⊥)) is sure) (λ room never lasts fails. never lasts);
-        calm = subst (λ (b : List ℕ). IfSome old.room (λ room. LastsForCalls b room → new.faults ≡ old.faults)) is calm;
-        calm_told = λ tells not. absurd (not refl);
+        counts_no_fault = subst (λ (b : List ℕ). IfSome old.room (λ room. LastsForCalls b room → new.faults ≡ old.faults)) is counts_no_fault;
+        specified_no_fault = λ tells not. absurd (not refl);
       };
     }
 
     -- the batch was written, and its gate opened
     pub append_done : (last : End) → last ≡ next_end end ops → IsWithinReach end → new.past ≡ gate_opened end.at bytes old.past → new.room ≡ spent_opening bytes old.room
         → IfSome old.past (λ h. OpenedTo h.last.seen end.at bytes new.past) → (DiskTells old → new.faults ≡ old.faults) → AppendMeets end ops old new (Ok last)
-    append_done last last_is reach calls room opened calm_told = record {
+    append_done last last_is reach calls room opened specified_no_fault = record {
       none = λ is. absurd (some is);
       too_long = λ not. (λ is. cc is, λ long. absurd (fits long));
       untouched = λ which. elim which [ inl is ↦ cc is | inr is ↦ cc is ];
@@ -254,9 +254,9 @@ module _ (end : End) (ops : List Op) (have : All HasFrame ops) (short : length (
       honest = honest;
       faults = record {
         later = later;
-        rose = λ fails. cc fails;
-        sure = IfSome_then old.room calm (λ room same lasts fails. cc fails);
-        calm = subst (λ (b : List ℕ). IfSome old.room (λ room. LastsForCalls b room → new.faults ≡ old.faults)) is calm;
-        calm_told = λ tells not. calm_told tells;
+        faulted = λ fails. cc fails;
+        sure = IfSome_then old.room counts_no_fault (λ room same lasts fails. cc fails);
+        counts_no_fault = subst (λ (b : List ℕ). IfSome old.room (λ room. LastsForCalls b room → new.faults ≡ old.faults)) is counts_no_fault;
+        specified_no_fault = λ tells not. specified_no_fault tells;
       };
     }

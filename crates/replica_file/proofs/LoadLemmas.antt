@@ -86,10 +86,10 @@ sync_fails {E} {T} most old new e sync = record {
   no_size = sync.unread.sizes;
   faults = record {
     later = sync.cause.later;
-    rose = λ failed. sync.cause.failed;
+    faulted = λ failed. sync.cause.failed;
     sure = never (◌≡◌ {A = Result (State × End) LoadFault} (Err DiskFault) (Err DiskFault) → ⊥) old.room sync.sure;
-    calm = never (new.faults ≡ old.faults) old.room sync.sure;
-    calm_told = λ tells not. absurd (not refl);
+    counts_no_fault = never (new.faults ≡ old.faults) old.room sync.sure;
+    specified_no_fault = λ tells not. absurd (not refl);
   };
 }
   where
@@ -107,10 +107,11 @@ module _ {E T M : Type 0} (most : ℕ) (old synced new : DiskView) (done : T) (s
   faults : AccountsForFaults old new LastsToLoad (loaded_of result ≡ Err DiskFault)
   faults = record {
     later = omega (arith, sync.cause.later, looks.later);
-    rose = λ failed. omega (arith, sync.cause.later, looks.rose (alone result failed));
+    faulted = λ failed. omega (arith, sync.cause.later, looks.faulted (alone result failed));
     sure = sure old.room synced.room sync.room looks.sure;
-    calm = calm old.room synced.room sync.room sync.sure looks.calm;
-    calm_told = λ tells not. looks.calm_told (tells_settled old.past synced.past sync.settled tells) (λ failed. not (ap loaded_of failed)) ∙ sync.calm_told tells;
+    counts_no_fault = counts_no_fault old.room synced.room sync.room sync.sure looks.counts_no_fault;
+    specified_no_fault = λ tells not. looks.specified_no_fault (tells_settled old.past synced.past sync.settled tells) (λ failed. not (ap loaded_of failed))
+        ∙ sync.specified_no_fault tells;
   }
     where
       sure : (o p : Option RoomView) → p ≡ room_after_write 0 o → IfSome p (λ room. result ≡ Err DiskFault → ⊥)
@@ -118,11 +119,11 @@ module _ {E T M : Type 0} (most : ℕ) (old synced new : DiskView) (done : T) (s
       sure None p is none = tt
       sure (Some room) p is none = λ lasts failed. subst (λ q. IfSome q (λ room. result ≡ Err DiskFault → ⊥)) is none (alone result failed)
 
-      calm : (o p : Option RoomView) → p ≡ room_after_write 0 o → IfSome o (λ room. IsSureStep {E = E} {T = T} room 0 old synced (Ok done))
+      counts_no_fault : (o p : Option RoomView) → p ≡ room_after_write 0 o → IfSome o (λ room. IsSureStep {E = E} {T = T} room 0 old synced (Ok done))
           → IfSome p (λ room. new.faults ≡ synced.faults)
           → IfSome o (λ room. LastsToLoad room → new.faults ≡ old.faults)
-      calm None p is first then = tt
-      calm (Some room) p is first then = λ lasts. subst (λ q. IfSome q (λ room. new.faults ≡ synced.faults)) is then ∙ first.calm
+      counts_no_fault None p is first then = tt
+      counts_no_fault (Some room) p is first then = λ lasts. subst (λ q. IfSome q (λ room. new.faults ≡ synced.faults)) is then ∙ first.counts_no_fault
 
   pub settled_past : new.past ≡ past_after_step durable old.past
   settled_past = looks.past ∙ sync.settled

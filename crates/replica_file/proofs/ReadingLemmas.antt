@@ -18,10 +18,11 @@ looks_then F a b c one two = record {
   room = two.room ∙ one.room;
   sizes = two.sizes ∙ one.sizes;
   later = omega (arith, one.later, two.later);
-  rose = λ failed. let up = two.rose failed in let low = one.later in omega (arith, up, low);
+  faulted = λ failed. let up = two.faulted failed in let low = one.later in omega (arith, up, low);
   sure = both a.room b.room (⊥ → ⊥) (F → ⊥) (F → ⊥) one.room (λ p q. q) one.sure two.sure;
-  calm = both a.room b.room (b.faults ≡ a.faults) (c.faults ≡ b.faults) (c.faults ≡ a.faults) one.room (λ p q. q ∙ p) one.calm two.calm;
-  calm_told = λ told calm. two.calm_told (subst (λ (o : Option History). IsSome o) (sym one.past) told) calm ∙ one.calm_told told (λ none. none);
+  counts_no_fault = both a.room b.room (b.faults ≡ a.faults) (c.faults ≡ b.faults) (c.faults ≡ a.faults) one.room (λ p q. q ∙ p) one.counts_no_fault two.counts_no_fault;
+  specified_no_fault = λ told counts_no_fault. two.specified_no_fault (subst (λ (o : Option History). IsSome o) (sym one.past) told) counts_no_fault
+      ∙ one.specified_no_fault told (λ none. none);
 }
 
 -- a call that only looks, and went well
@@ -31,10 +32,10 @@ looked b c x looks sizes = record {
   room = looks.room;
   sizes = sizes;
   later = looks.count.cause.later;
-  rose = λ failed. absurd failed;
+  faulted = λ failed. absurd failed;
   sure = never b.room;
-  calm = looks.count.calm;
-  calm_told = λ told calm. looks.calm_told told;
+  counts_no_fault = looks.count.counts_no_fault;
+  specified_no_fault = λ told counts_no_fault. looks.specified_no_fault told;
 }
   where
     never : (o : Option RoomView) → IfSome o (λ r. ⊥ → ⊥)
@@ -52,10 +53,10 @@ well F b c fine one = record {
   room = one.room;
   sizes = one.sizes;
   later = one.later;
-  rose = λ failed. absurd failed;
+  faulted = λ failed. absurd failed;
   sure = never b.room;
-  calm = one.calm;
-  calm_told = λ told calm. one.calm_told told fine;
+  counts_no_fault = one.counts_no_fault;
+  specified_no_fault = λ told counts_no_fault. one.specified_no_fault told fine;
 }
   where
     never : (o : Option RoomView) → IfSome o (λ r. ⊥ → ⊥)

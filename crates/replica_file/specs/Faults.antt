@@ -8,10 +8,10 @@ pub record AccountsForFaults (old new : DiskView) (Lasts : RoomView → Type 0) 
   -- the count never falls
   pub later : old.faults ≤ new.faults
   -- it rose where a call failed
-  pub rose : failed → Faulted old.faults new.faults
+  pub faulted : failed → Faulted old.faults new.faults
   -- where calls are sure and the room lasts, none fails
   pub sure : IfSome old.room (λ room. Lasts room → failed → ⊥)
   -- and no fault is counted
-  pub calm : IfSome old.room (λ room. Lasts room → new.faults ≡ old.faults)
+  pub counts_no_fault : IfSome old.room (λ room. Lasts room → new.faults ≡ old.faults)
   -- nor by a disk that tells, where none failed
-  pub calm_told : DiskTells old → (failed → ⊥) → new.faults ≡ old.faults
+  pub specified_no_fault : DiskTells old → (failed → ⊥) → new.faults ≡ old.faults

@@ -20,10 +20,10 @@ pub record LooksOnly (old new : DiskView) (failed : Type 0) : Type 0 where
   pub room : new.room ≡ old.room
   pub sizes : new.sizes ≡ old.sizes
   pub later : old.faults ≤ new.faults
-  pub rose : failed → Faulted old.faults new.faults
+  pub faulted : failed → Faulted old.faults new.faults
   pub sure : IfSome old.room (λ room. failed → ⊥)
-  pub calm : IfSome old.room (λ room. new.faults ≡ old.faults)
-  pub calm_told : DiskTells old → (failed → ⊥) → new.faults ≡ old.faults
+  pub counts_no_fault : IfSome old.room (λ room. new.faults ≡ old.faults)
+  pub specified_no_fault : DiskTells old → (failed → ⊥) → new.faults ≡ old.faults
 
 -- a read into what is left of a buffer
 pub record ReadsMore {E : Type 0} (old new : DiskView) (result : Result ℕ E) (at filled : ℕ) (before after : List ℕ) : Type 0 where

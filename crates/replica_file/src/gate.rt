@@ -36,9 +36,9 @@ pub(crate) fn write_behind<H: Disk>(disk: &mut H, gate: u64, bytes: &[u8]) -> Re
     ensures room { OnOk result ((H.seen disk.new).room ≡ spent_opening bytes.now (H.seen disk.old).room) }
     ensures cause { HasCause (H.seen disk.old).faults (H.seen disk.new).faults result }
     ensures sure { IfSome (H.seen disk.old).room (λ room. LastsForCalls bytes.now room → OnErr result ⊥) }
-    ensures calm { IfSome (H.seen disk.old).room (λ room.
+    ensures counts_no_fault { IfSome (H.seen disk.old).room (λ room.
         LastsForCalls bytes.now room → (H.seen disk.new).faults ≡ (H.seen disk.old).faults) }
-    ensures calm_told { DiskTells (H.seen disk.old)
+    ensures specified_no_fault { DiskTells (H.seen disk.old)
         → OnOk result ((H.seen disk.new).faults ≡ (H.seen disk.old).faults) }
 {
     disk.write_at(gate + 1, bytes)?;

@@ -28,7 +28,7 @@ abbrev pub scalar_held : Option Op → ℕ
 scalar_held (Some (Text id section left right ch)) = ch
 scalar_held _ = 32
 
--- the cell has the scalar of its element, and is hidden where a Delete names that
+-- the cell has the scalar of its element, and is hidden exactly where a Delete names that
 pub record IsCellIn (h : List Op) (c : Cell) : Type 0 where
   pub ch : c.ch ≡ scalar_held (holder h c.id)
   pub hidden : c.hidden ≡ is_hidden h c.id

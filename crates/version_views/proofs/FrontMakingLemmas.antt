@@ -1,8 +1,7 @@
 -- A front is made of the operations that were accepted first, one after another; and these stay the first.
-use Rattle.version_views.proofs.Words.{Lawful, List, None, Op, Some, [], ap, arith, drop, length, refl, subst, sym, take, take-append-drop, ℕ, ◌+◌, ◌++◌, ◌-◌, ◌<◌, ◌∙◌, ◌∷◌, ◌≡◌}
+use Rattle.version_views.proofs.Words.{Lawful, List, Op, [], ap, arith, drop, length, refl, subst, sym, take, take-append-drop, ℕ, ◌+◌, ◌++◌, ◌-◌, ◌∙◌, ◌∷◌, ◌≡◌}
 use Rattle.version_views.proofs.Words.{◌≤◌}
 use Rattle.std.proofs.Common.{append_assoc, length-drop, length-take, reverse}
-use Rattle.std.proofs.lemmas.Bool.{le-ltb, lt-ltb}
 use Rattle.std.proofs.lemmas.List.{length-reverse, reverse-append, reverse-reverse}
 use Rattle.origin_model.specs.edits.Edits.{ReadyInTurn, history_with}
 use Rattle.origin_model.specs.edits.Effect.{Gains, with_ops}
@@ -10,7 +9,7 @@ use Rattle.origin_model.specs.edits.State.{State, IsSound}
 use Rattle.origin_model.specs.taking.Taking.{Held, held, held_from, nothing_held}
 use Rattle.origin_model.proofs.SharedLemmas.{Lawful-append, first_accepted, held-append}
 use Rattle.version_views.specs.Accepting.{CanAccept}
-use Rattle.version_views.specs.Fronts.{EditsGrow, FilesGrow, FirstStay, GrowsHistory, IntakesGrow, NotesGrow, PartsGrow, front_at, front_most, replica_at}
+use Rattle.version_views.specs.Fronts.{EditsGrow, FilesGrow, FirstStay, GrowsHistory, IntakesGrow, NotesGrow, PartsGrow, front_most, replica_at}
 use Rattle.version_views.specs.Views.{first_ops}
 use Rattle.version_views.proofs.AcceptingLemmas.{from_nothing, ready_of}
 use Rattle.version_views.proofs.ViewLemmas.{first_stay, parts}
@@ -58,12 +57,6 @@ first_can n s begun l st stands b =
       ready = subst (λ (t : State). ReadyInTurn t.held.history first) (sym b) (ready_of [] first lawful);
       room = subst (λ (t : State). length t.held.history + length first ≤ t.most) (sym b) room;
     }
-
-pub some_front : (n : ℕ) (s new : State) → n ≤ length s.held.history → new ≡ replica_at n s → Some new ≡ front_at n s
-some_front n s new l e = rw (le-ltb (length s.held.history) n l) (ap Some e)
-
-pub no_front : (n : ℕ) (s : State) → length s.held.history < n → None ≡ front_at n s
-no_front n s l = rw (lt-ltb (length s.held.history) n l) refl
 
 -- ---- what was accepted stays
 grown_by : (ops h : List Op) → GrowsHistory h (history_with h ops)

@@ -5,8 +5,6 @@ pub mod VersionLemmas
 pub mod GivenLemmas
 pub mod NamingLemmas
 pub mod LineLemmas
-pub mod FrontLemmas
 pub mod AcceptingLemmas
 pub mod FrontMakingLemmas
 pub mod WalkLemmas
-pub mod PartLemmas

@@ -1,13 +1,10 @@
 -- What the operations that were accepted first have, read off the lists of all.
-use Rattle.version_views.proofs.Words.{Bool, Identifier, Lawful, List, Op, [], ap, arith, drop, filter, holds, is_hidden, length, length-append, manuscript, not, order, refl}
-use Rattle.version_views.proofs.Words.{subst, sym, take, take-append-drop, true, ℕ, ◌++◌, ◌+◌, ◌-◌, ◌∙◌, ◌∷◌, ◌≡◌, ◌≤◌, false}
+use Rattle.version_views.proofs.Words.{Lawful, List, Op, ap, arith, drop, filter, holds, is_hidden, length, length-append, manuscript, not, order}
+use Rattle.version_views.proofs.Words.{subst, sym, take, take-append-drop, ℕ, ◌++◌, ◌+◌, ◌-◌, ◌∙◌, ◌≡◌, ◌≤◌}
 use Rattle.fugue_ids.proofs.ListLemmas.{filter-both}
 use Rattle.origin_model.proofs.SharedLemmas.{Lawful-append, part_at_end, parts_keep_order}
 use Rattle.std.proofs.Math.Seq.{drop-append-add}
 use Rattle.version_views.specs.Laws.{FirstByFilter, LaterOpsLeaveView, OrderByFilter, ShownByFilter}
-use Rattle.std.specs.Prelude.{Some, if◌then◌else◌, is_some, ◌||◌}
-use Rattle.origin_model.specs.order.Printed.{deletes}
-use Rattle.replica_core.specs.Index.{newest_position}
 use Rattle.version_views.specs.Views.{first_ops}
 
 -- the order of a lawful front is the order of the whole, filtered
@@ -36,9 +33,3 @@ first_stay n new h l =
 
 pub later_ops_leave_view : LaterOpsLeaveView
 later_ops_leave_view n new h l = ap manuscript (first_stay n new h l)
-
--- a target has a position where a Delete names it
-pub has_position : (h : List Op) (x : Identifier) → is_some (newest_position (deletes x) h) ≡ is_hidden h x
-has_position [] x = refl
-has_position (op ∷ h) x =
-    elim (deletes x op) as (λ (b : Bool). is_some (if b then Some (length h) else newest_position (deletes x) h) ≡ (b || is_hidden h x)) [ true ↦ refl | false ↦ has_position h x ]

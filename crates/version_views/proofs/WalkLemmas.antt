@@ -1,6 +1,6 @@
 -- A walk along a list that has each element once, by what follows an element.
-use Rattle.version_views.proofs.Words.{Bool, Identifier, List, None, Option, Some, [], ap, arith, cases_Bool, false, flat_map, if◌then◌else◌, inl, inr, length, refl, subst, suc}
-use Rattle.version_views.proofs.Words.{sym, true, true≢false, ℕ, ◌++◌, ◌<◌, ◌∙◌, ◌∷◌, ◌≡◌}
+use Rattle.version_views.proofs.Words.{Bool, Identifier, List, None, Option, Some, [], ap, arith, cases_Bool, false, if◌then◌else◌, inl, inr, length, refl, subst, suc}
+use Rattle.version_views.proofs.Words.{sym, true, true≢false, ◌<◌, ◌∙◌, ◌∷◌, ◌≡◌}
 use Rattle.std.specs.Prelude.{IfSome, ◌≢◌, ◌⊎◌}
 use Rattle.std.specs.List.{All, AllPairs, Contains}
 use Rattle.std.proofs.lemmas.List.Elements.{All-contains}
@@ -66,16 +66,12 @@ from_following (e ∷ es) x once c =
 
 module _ (es : List Identifier) (o : Option Identifier) (x : Identifier) (once : AllPairs (λ a b. a ≢ b) es) (c : IfSome o (Contains es)) (e : o ≡ Some x) where
   -- this one is among the elements
-  pub next_in : Contains es x
+  next_in : Contains es x
   next_in = subst (λ (z : Option Identifier). IfSome z (Contains es)) e c
 
   -- it is the first of those to come
   pub turn : from_next es o ≡ x ∷ from_next es (following es (Some x))
   turn = ap (from_next es) e ∙ from_following es x once next_in
-
-  -- the parts to come begin with its part
-  pub next_parts : (f : Identifier → List ℕ) → flat_map f (from_next es o) ≡ f x ++ flat_map f (from_next es (following es (Some x)))
-  next_parts f = ap (flat_map f) turn
 
   -- one less is to come then
   pub one_less : length (from_next es (following es (Some x))) < length (from_next es o)

@@ -1,11 +1,12 @@
 -- The manuscript of the operations that were accepted first, and what is written of the versions of a file.
-use Rattle.std.specs.Prelude.{ℕ, ◌-◌, Option, Some, None, if◌then◌else◌, List, ◌++◌, [], ◌∷◌, decimal, drop, flat_map, length}
-use Rattle.std.specs.Str.{encode_utf8_all}
-use Rattle.fugue_ids.specs.Identifiers.{Identifier}
+use Rattle.std.specs.Prelude.{◌≡◌, ℕ, ◌-◌, Some, None, Result, Ok, Err, List, ◌++◌, [], ◌∷◌, decimal, drop, flat_map, length}
+use Rattle.fugue_ids.specs.Outs.{OutView, WritesBytes}
 use Rattle.fugue_ids.specs.declared.op.Op.{Op}
-use Rattle.origin_model.specs.operations.History.{holder}
-use Rattle.origin_model.specs.order.Printed.{is_hidden, manuscript, printed_section, scalar_of}
+use Rattle.fugue_ids.specs.declared.out.Failed.{Failed}
+use Rattle.origin_model.specs.order.Printed.{manuscript}
 use Rattle.version_views.specs.Versions.{Version, name_in, name_in_at, versions}
+use Rattle.version_views.specs.declared.viewing.ViewFault.{ViewFault}
+use Rattle.version_views.specs.declared.viewing.ViewFault.TheVariants.{SinkFault, NoMemory}
 
 -- the n operations that were accepted first
 abbrev pub first_ops : ℕ → List Op → List Op
@@ -15,17 +16,11 @@ first_ops n history = drop (length history - n) history
 abbrev pub view : List Op → ℕ → List ℕ
 view history n = manuscript (first_ops n history)
 
--- the operation of an element that the history shows
-abbrev pub shown_holder : List Op → Identifier → Option Op
-shown_holder h x = if is_hidden h x then None else holder h x
-
--- what an element adds to its section's text
-abbrev pub scalar_part : List Op → Identifier → List ℕ
-scalar_part h x = encode_utf8_all (scalar_of (shown_holder h x))
-
--- what a section adds to the manuscript
-abbrev pub section_part : List Op → Identifier → List ℕ
-section_part h x = elim (shown_holder h x) [ None ↦ [] | Some op ↦ printed_section h x ]
+-- the text goes out, or the output fails with a front of it gone out, or memory is wanting and nothing went out
+abbrev pub WritesView : OutView → OutView → Result (Unit {0}) ViewFault → List ℕ → Type 0
+WritesView old new (Ok done) text = WritesBytes {E = Failed} {T = Unit {0}} old new (Ok done) text
+WritesView old new (Err SinkFault) text = WritesBytes {E = Failed} {T = Unit {0}} old new (Err (record {})) text
+WritesView old new (Err NoMemory) text = new ≡ old
 
 -- the line of a version: how many operations it has, a space, its name, LF
 abbrev pub version_line : Version → List ℕ

@@ -35,8 +35,24 @@ fn new_front(alloc: Global, replica: &Replica, count: usize) -> Replica
     }
 }
 
-/// The replica as it was when it had accepted so many operations, with nothing pending. None is the answer where it
-/// did not accept so many.
+/// The replica as it was when it had accepted so many operations, with nothing pending.
+pub(crate) fn front_of(alloc: Global, replica: &Replica, count: usize) -> Result<Replica, NoMemory>
+    requires { count ≤ length replica.now.held.history }
+    ensures front { IfOk result (λ front. front ≡ replica_at count replica.now) }
+    ensures front_stands { IfOk result IsSound }
+    ensures stands { IsSound replica.now }
+{
+    let mut front = new_front(alloc, replica, count);
+    match accept_all(alloc, &mut front, replica.accepted(), count) {
+        Ok(()) => Ok(front),
+        Err(NoMemory) => {
+            front.discard();
+            Err(NoMemory)
+        }
+    }
+}
+
+/// The same, for any number: None is the answer where the replica did not accept so many.
 ///
 /// It has the number and the hold of the whole, and leaves room for what the whole holds besides, so that the whole has
 /// room for what is made on it. Where the whole has no room and `count` is 0, it may hold one operation nevertheless.
@@ -49,16 +65,8 @@ pub fn front(alloc: Global, replica: &Replica, count: usize) -> Result<Option<Re
     ensures fronts_stand { IfOk result (λ front. IfSome front (λ f. IsSound f)) }
     ensures stands { IsSound replica.now }
 {
-    let ops = replica.accepted();
-    if ops.len() < count {
+    if replica.accepted().len() < count {
         return Ok(None);
     }
-    let mut front = new_front(alloc, replica, count);
-    match accept_all(alloc, &mut front, ops, count) {
-        Ok(()) => Ok(Some(front)),
-        Err(NoMemory) => {
-            front.discard();
-            Err(NoMemory)
-        }
-    }
+    Ok(Some(front_of(alloc, replica, count)?))
 }

@@ -6,7 +6,7 @@ use Rattle.outer_ports.specs.dock.Docks.{DockView, out_to, Listens, Takes, Sends
 use Rattle.outer_ports.specs.declared.dock.DockStep.{DockStep}
 use Rattle.fugue_ids.proofs.JoinLemmas.{took_none}
 
-module _ {E : Type 0} (dock : DockView) (faults : ℕ) (apart : dock.ends ≡ None) (later : dock.faults ≤ faults) (rose : risen dock.faults ≤ faults) where
+module _ {E : Type 0} (dock : DockView) (faults : ℕ) (apart : dock.ends ≡ None) (later : dock.faults ≤ faults) (faulted : risen dock.faults ≤ faults) where
   pub refused_takes : (result : Result DockStep E) (buf : List ℕ) → IsErr result → Takes {E = E} dock (record dock { faults = faults }) result buf
   refused_takes (Ok step) buf is = absurd (cc is)
   refused_takes (Err e) buf is = record {
@@ -19,8 +19,8 @@ module _ {E : Type 0} (dock : DockView) (faults : ℕ) (apart : dock.ends ≡ No
     ended = refl;
     ended_at = refl;
     ends = refl;
-    count = record { cause = record { later = later; failed = rose }; excused = rw apart tt; calm = rw apart tt };
-    calm_told = λ tells. tt;
+    count = record { cause = record { later = later; failed = faulted }; excused = rw apart tt; counts_no_fault = rw apart tt };
+    specified_no_fault = λ tells. tt;
   }
 
   pub refused_ends : {T : Type 0} (result : Result T E) (session : ℕ) → IsErr result → EndsSession {E = E} {T = T} dock (record dock { faults = faults }) result session
@@ -35,8 +35,8 @@ module _ {E : Type 0} (dock : DockView) (faults : ℕ) (apart : dock.ends ≡ No
     nothing_sent = record { sent = λ s. refl; room = λ s. refl };
     nothing_taken = record { taken = refl; coming = refl };
     listens = refl;
-    count = record { cause = record { later = later; failed = rose }; excused = rw apart tt; calm = rw apart tt };
-    calm_told = λ tells. tt;
+    count = record { cause = record { later = later; failed = faulted }; excused = rw apart tt; counts_no_fault = rw apart tt };
+    specified_no_fault = λ tells. tt;
     within = rw apart tt;
   }
 
@@ -50,8 +50,8 @@ module _ {E : Type 0} (dock : DockView) (faults : ℕ) (apart : dock.ends ≡ No
     ended = refl;
     ended_at = refl;
     ends = refl;
-    count = record { cause = record { later = later; failed = rose }; excused = rw apart tt; calm = rw apart tt };
-    calm_told = λ tells. tt;
+    count = record { cause = record { later = later; failed = faulted }; excused = rw apart tt; counts_no_fault = rw apart tt };
+    specified_no_fault = λ tells. tt;
   }
 
   pub refused_sends : (alone : (session : ℕ) → dock.room session ≡ None) (result : Result ℕ E) (session : ℕ) (piece : List ℕ) → IsErr result
@@ -63,11 +63,11 @@ module _ {E : Type 0} (dock : DockView) (faults : ℕ) (apart : dock.ends ≡ No
       some = tt;
       took = tt;
       none = took_none (out_to session dock) (out_to session (record dock { faults = faults })) refl refl;
-      cause = record { later = later; failed = rose };
+      cause = record { later = later; failed = faulted };
       full = rw (alone session) tt;
       within = rw (alone session) tt;
-      calm = rw (alone session) tt;
-      calm_told = λ tells. tt;
+      counts_no_fault = rw (alone session) tt;
+      specified_no_fault = λ tells. tt;
     };
     others = λ other differs. (refl, refl);
     nothing_taken = record { taken = refl; coming = refl };

@@ -72,8 +72,9 @@ greeting_read log (first ∷ number) =
 abbrev pub log_joined : (limit : ℕ) → List (List ℕ) → (cursor : ℕ) → List Op → Taken
 log_joined limit log cursor [] = session_goes_on log cursor
 log_joined limit log cursor (op ∷ ops) =
-    if is_logged log (frame op) then log_joined limit log cursor ops else if nat_eq (length log) limit then session_refused log 2 else
-    log_joined limit (log ++ frame op ∷ []) cursor ops
+    if is_logged log (frame op) then log_joined limit log cursor ops
+    else if nat_eq (length log) limit then session_refused log 2
+    else log_joined limit (log ++ frame op ∷ []) cursor ops
 
 -- what the bytes since the last whole message are: a frame of these operations, the closing byte, a proper front of a
 -- frame, or none of them

@@ -67,8 +67,8 @@ abbrev pub GapByKeys : Type 0
 GapByKeys =
     (p : Place) (op : Op) (older : List Op) (x : Identifier) → Lawful (op ∷ older) → element_of p op ≡ Some x → AllFit p older
     → let s = slot_of older op in
-    IsPlace (gap_by_keys (with_keys older (order p older)) s (slot_key older s) (goes_before (order p older) older op x)) x (order p older)
-    (order p (op ∷ older))
+    let listed = order p older in
+    IsPlace (gap_by_keys (with_keys older listed) s (slot_key older s) (goes_before listed older op x)) x listed (order p (op ∷ older))
 
 -- the key of a new element is known from those of its origins
 abbrev pub NewKey : Type 0

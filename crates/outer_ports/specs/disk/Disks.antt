@@ -51,13 +51,13 @@ pub record Looks {E T : Type 0} (old new : DiskView) (result : Result T E) : Typ
   pub past : new.past ≡ old.past
   pub room : new.room ≡ old.room
   pub count : FailsOnlyFor old.room (λ room. ⊥) old.faults new.faults result
-  pub calm_told : DiskTells old → OnOk result (new.faults ≡ old.faults)
+  pub specified_no_fault : DiskTells old → OnOk result (new.faults ≡ old.faults)
 
 -- where calls are sure, a step that fits is taken, and one that does not fit fails and does nothing
 pub record IsSureStep {E T : Type 0} (room : RoomView) (n : ℕ) (old new : DiskView) (result : Result T E) : Type 0 where
   pub fits : n ≤ room.bytes → 0 < room.calls → OnErr result ⊥
   pub within : OnOk result ((n ≤ room.bytes) × (0 < room.calls))
-  pub calm : OnOk result (new.faults ≡ old.faults)
+  pub counts_no_fault : OnOk result (new.faults ≡ old.faults)
   pub kept : OnErr result (new.past ≡ old.past)
 
 -- the length
@@ -92,7 +92,7 @@ pub record WritesAt {E T : Type 0} (old new : DiskView) (result : Result T E) (a
   pub unread : IsUnread old new
   pub cause : HasCause old.faults new.faults result
   pub sure : IfSome old.room (λ room. IsSureStep room (length bytes) old new result)
-  pub calm_told : DiskTells old → OnOk result (new.faults ≡ old.faults)
+  pub specified_no_fault : DiskTells old → OnOk result (new.faults ≡ old.faults)
 
 -- what a read gives was one of the images, and is now the only one
 pub record Syncs {E T : Type 0} (old new : DiskView) (result : Result T E) : Type 0 where
@@ -104,4 +104,4 @@ pub record Syncs {E T : Type 0} (old new : DiskView) (result : Result T E) : Typ
   pub unread : IsUnread old new
   pub cause : HasCause old.faults new.faults result
   pub sure : IfSome old.room (λ room. IsSureStep room 0 old new result)
-  pub calm_told : DiskTells old → OnOk result (new.faults ≡ old.faults)
+  pub specified_no_fault : DiskTells old → OnOk result (new.faults ≡ old.faults)

@@ -49,7 +49,7 @@ pub record Dials {E T : Type 0} (old new : WireView) (result : Result T E) (port
   pub said : new.said ≡ old.said
   pub room : new.room ≡ old.room
   pub count : FailsOnlyFor old.room (λ room. ⊥) old.faults new.faults result
-  pub calm_told : IsSome old.said → OnOk result (new.faults ≡ old.faults)
+  pub specified_no_fault : IsSome old.said → OnOk result (new.faults ≡ old.faults)
 
 -- a read, as of a source
 pub record WireReads {E : Type 0} (old new : WireView) (result : Result ℕ E) (buf : List ℕ) : Type 0 where

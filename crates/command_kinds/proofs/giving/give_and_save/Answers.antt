@@ -33,7 +33,8 @@ returns-in_err-append-clause-given g c file holds =
 pub returns-in_err-append-clause-told : goal.returns-in_err-append-clause-told
 returns-in_err-append-clause-told g c tells inside =
     let p = err_from_is_err_and c.from_residual-in_err-append.result c.from_residual-in_err-append.ensures.1 in
-    c.in_err-append.ensures.faults.calm_told tells (λ is. let failed : c.in_err-append.field-0.0 ≡ DiskFault = cc is in inside (p.1 ∙ ap Err (p.2 ∙ ap append_refusal failed)))
+    c.in_err-append.ensures.faults.specified_no_fault tells (λ is. let failed : c.in_err-append.field-0.0 ≡ DiskFault = cc is in
+    inside (p.1 ∙ ap Err (p.2 ∙ ap append_refusal failed)))
 
 pub returns-clause-given : goal.returns-clause-given
 returns-clause-given g c file holds =
@@ -46,4 +47,4 @@ returns-clause-given g c file holds =
     )
 
 pub returns-clause-told : goal.returns-clause-told
-returns-clause-told g c tells inside = c.in_ok-append.ensures.faults.calm_told tells (λ is. cc is)
+returns-clause-told g c tells inside = c.in_ok-append.ensures.faults.specified_no_fault tells (λ is. cc is)

@@ -8,7 +8,8 @@ use Rattle.command_kinds.specs.Findings.{Refuses}
 use Rattle.command_kinds.specs.Changes.{change}
 use Rattle.command_kinds.specs.declared.refusal.Refusal.TheVariants.{NoMemory}
 use Rattle.command_kinds.proofs.FoundLemmas.{holds_or_refuses}
-use Rattle.command_kinds.proofs.GivingLemmas.{load_stops, noted_comes}
+use Rattle.command_kinds.proofs.GivingLemmas.{load_stops}
+use Rattle.command_kinds.proofs.SavingLemmas.{noted_comes}
 use Rattle.command_kinds.proofs.giving.load_and_save.Goals as goal
 
 pub returns-clause-saves : goal.returns-clause-saves
@@ -32,9 +33,10 @@ returns-clause-unused g c told why refuses = absurd (holds_or_refuses (g.H.Disk.
 pub returns-clause-told : goal.returns-clause-told
 returns-clause-told g c tells inside =
     c.give_and_save-saved.ensures.told (tells_settled _ _ (loaded_synced _ _ _ _ c.in_ok-replica.ensures).0 tells) inside
-    ∙ c.in_ok-replica.ensures.faults.calm_told tells (λ is. cc is)
+    ∙ c.in_ok-replica.ensures.faults.specified_no_fault tells (λ is. cc is)
 
 pub returns-in_err-replica-clause-told : goal.returns-in_err-replica-clause-told
 returns-in_err-replica-clause-told g c tells inside =
     let p = err_from_is_err_and c.from_residual.result c.from_residual.ensures.1 in
-    c.in_err-replica.ensures.faults.calm_told tells (λ is. let failed : c.in_err-replica.field-0.0 ≡ DiskFault = cc is in inside (p.1 ∙ ap Err (p.2 ∙ ap load_refusal failed)))
+    c.in_err-replica.ensures.faults.specified_no_fault tells (λ is. let failed : c.in_err-replica.field-0.0 ≡ DiskFault = cc is in
+    inside (p.1 ∙ ap Err (p.2 ∙ ap load_refusal failed)))

@@ -12,7 +12,7 @@ returns-in-Ok g c =
     record {
       result = Ok tt;
       did = subst (GoesOut (manuscript c.args.replica.now.held.history) output) c.in-Ok.is (c.gone_out.ensures _ _ _ c.write_manuscript.ensures.text);
-      told = record { noted = rw c.of.ensures at c.note.ensures.meets; calm = c.note.ensures.calm; blameless = c.note.ensures.blameless };
+      told = record { noted = rw c.of.ensures at c.note.ensures.meets; counts_no_fault = c.note.ensures.counts_no_fault; blameless = c.note.ensures.blameless };
     }
 
 pub returns-in-Err : goal.returns-in-Err

@@ -19,12 +19,12 @@ frames-init g c =
       };
       count = record {
         later = omega arith;
-        rose = λ failed. absurd failed;
+        faulted = λ failed. absurd failed;
         sure = refl;
         succeeds = λ sure failed. failed;
-        calm = λ sure. refl;
+        counts_no_fault = λ sure. refl;
         tells = λ tells. tells;
-        calm_told = λ tells none. refl;
+        specified_no_fault = λ tells none. refl;
       };
     }
 
@@ -44,12 +44,12 @@ frames-preserved g c =
       ready = one.ready;
       count = record {
         later = omega (arith, kept.count.later, c.in_ok-step.ensures.count.later);
-        rose = λ failed. absurd failed;
+        faulted = λ failed. absurd failed;
         sure = c.in_ok-step.ensures.count.sure ∙ kept.count.sure;
         succeeds = λ sure failed. failed;
-        calm = λ sure. c.in_ok-step.ensures.count.calm (kept.count.sure ∙ sure) ∙ kept.count.calm sure;
+        counts_no_fault = λ sure. c.in_ok-step.ensures.count.counts_no_fault (kept.count.sure ∙ sure) ∙ kept.count.counts_no_fault sure;
         tells = λ tells. c.in_ok-step.ensures.count.tells (kept.count.tells tells);
-        calm_told = λ tells none. c.in_ok-step.ensures.count.calm_told (kept.count.tells tells) (λ is. cc is) ∙ kept.count.calm_told tells none;
+        specified_no_fault = λ tells none. c.in_ok-step.ensures.count.specified_no_fault (kept.count.tells tells) (λ is. cc is) ∙ kept.count.specified_no_fault tells none;
       };
     }
 

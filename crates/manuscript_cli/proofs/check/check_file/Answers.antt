@@ -29,7 +29,7 @@ returns-in-Ok g c =
             synced = synced;
             keeps = keeps;
             crash = kept_never_torn _ _ keeps (λ done. synced);
-            file_blameless = λ tells not. loaded.faults.calm_told tells (λ is. cc is);
+            file_blameless = λ tells not. loaded.faults.specified_no_fault tells (λ is. cc is);
           }))
     ]
 

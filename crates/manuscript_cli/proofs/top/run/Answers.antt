@@ -1,7 +1,7 @@
 use Rattle.std.proofs.Common.{refl}
 use Rattle.std.specs.Prelude.{None, Some, map, string_bytes}
 use Rattle.manuscript_cli.specs.declared.command.Command.TheVariants.{Arrange, Print, Show}
-use Rattle.manuscript_cli.proofs.HeadlineLemmas.{decided, headline}
+use Rattle.manuscript_cli.proofs.HeadlineLemmas.{headline}
 use Rattle.manuscript_cli.proofs.RunBlameLemmas.{meets_blameless}
 use Rattle.manuscript_cli.proofs.RunLemmas.{arranges_by_set, meets_named, prints_by_set}
 use Rattle.manuscript_cli.proofs.top.run.Goals as goal
@@ -32,7 +32,7 @@ returns-in-Some-clause-blameless g c = meets_blameless (map string_bytes c.args.
 -- The command that was read is the one that is named.
 pub returns-in-Some-clause-decided : goal.returns-in-Some-clause-decided
 returns-in-Some-clause-decided g c hold named =
-    decided _ _ _ _ (meets_named (map string_bytes c.args.words.now) _ (Show hold) _ _ _ (c.in-Some.ensures.only (Show hold) named) c.obey.ensures.meets).does.performs
+    (meets_named (map string_bytes c.args.words.now) _ (Show hold) _ _ _ (c.in-Some.ensures.only (Show hold) named) c.obey.ensures.meets).does.decided
 
 pub returns-in-Some-clause-headline : goal.returns-in-Some-clause-headline
 returns-in-Some-clause-headline g c hold named =

@@ -12,13 +12,13 @@ returns-in_err-step-clause-partly g c =
     rw (p.1, p.2) (unheard_stops _ _ _ _ _ c.in_err-step.ensures.err.0 refl c.in_err-step.ensures.err.1 c.in_err-step.ensures.err.2 c.in_err-step.ensures.err.3)
 
 pub returns-in_default-clause-partly : goal.returns-in_default-clause-partly
-returns-in_default-clause-partly g c = unheard_stops NoMemory _ _ _ _ _ c.in_default.ensures.unchanged c.in_ok-step.ensures.ok (omega arith) c.in_ok-step.ensures.calm
+returns-in_default-clause-partly g c = unheard_stops NoMemory _ _ _ _ _ c.in_default.ensures.unchanged c.in_ok-step.ensures.ok (omega arith) c.in_ok-step.ensures.counts_no_fault
 
 pub returns-in_err-answer-clause-partly : goal.returns-in_err-answer-clause-partly
 returns-in_err-answer-clause-partly g c =
     let p = err_from_is_err_and c.from_residual-in_err-answer.result c.from_residual-in_err-answer.ensures.1 in
     let s = c.in-Ok.ensures.ok in
-    rw (p.1, p.2) (reply_stops _ _ _ _ _ _ c.in_ok-step.step s.reply c.in_ok-step.ensures.ok c.in_ok-step.ensures.calm
+    rw (p.1, p.2) (reply_stops _ _ _ _ _ _ c.in_ok-step.step s.reply c.in_ok-step.ensures.ok c.in_ok-step.ensures.counts_no_fault
     (subst (λ e. RelaySteps c.args.relay.now e c.step.new.self s.reply) c.event_of.ensures s.steps)
     (c.in_err-answer.ensures.partly s.reply (c.deref.ensures.value ∙ s.replies_are)))
 
@@ -26,7 +26,7 @@ pub returns-in_default-note_gone-clause-partly : goal.returns-in_default-note_go
 returns-in_default-note_gone-clause-partly g c =
     let s = c.in-Ok.ensures.ok in
     turn_stops NoMemory _ _ _ _ _ (λ is. cc is)
-    (turn_serves _ _ _ _ _ c.in_ok-step.step s.reply c.in_ok-step.ensures.ok c.in_ok-step.ensures.calm
+    (turn_serves _ _ _ _ _ c.in_ok-step.step s.reply c.in_ok-step.ensures.ok c.in_ok-step.ensures.counts_no_fault
     (subst (λ e. RelaySteps c.args.relay.now e c.step.new.self s.reply) c.event_of.ensures s.steps)
     (c.in_ok-answer.ensures.ok s.reply (c.deref.ensures.value ∙ s.replies_are)).0)
 
@@ -35,7 +35,7 @@ returns-clause-ok g c =
     let s = c.in-Ok.ensures.ok in
     let answered = c.in_ok-answer.ensures.ok s.reply (c.deref.ensures.value ∙ s.replies_are) in (
       record { step = c.in_ok-step.step; reply = s.reply },
-      turn_serves _ _ _ _ _ c.in_ok-step.step s.reply c.in_ok-step.ensures.ok c.in_ok-step.ensures.calm
+      turn_serves _ _ _ _ _ c.in_ok-step.step s.reply c.in_ok-step.ensures.ok c.in_ok-step.ensures.counts_no_fault
           (subst (λ e. RelaySteps c.args.relay.now e c.step.new.self s.reply) c.event_of.ensures s.steps) answered.0,
       λ sessions is. rw (c.gone_by-gone.ensures (with_closed sessions s.reply)) (c.in-Ok-note_gone.ensures (with_closed sessions s.reply) (answered.1 sessions is)),
     )

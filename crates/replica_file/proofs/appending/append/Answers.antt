@@ -32,7 +32,8 @@ returns-in_err-write_behind g c =
     let wrote = c.in_err-write_behind.ensures in
     rw (p.1, p.2) (append_failed c.args.end c.args.ops made.have_frames made.short (omega (arith, c.if-end-eq4294967295.false)) _ (c.deref.ensures.value ∙ made.bytes)
     (g.H.Disk.seen c.args.disk.now)
-    (g.H.Disk.seen c.write_behind.new.disk) (λ is. c.if-len-eq0.false (c.len.ensures ∙ ap length is)) c.requires.ends wrote.moments wrote.honest wrote.cause.later wrote.calm
+    (g.H.Disk.seen c.write_behind.new.disk) (λ is. c.if-len-eq0.false (c.len.ensures ∙ ap length is))
+    c.requires.ends wrote.moments wrote.honest wrote.cause.later wrote.counts_no_fault
     wrote.cause.failed
     wrote.sure)
 
@@ -43,5 +44,6 @@ returns g c =
     let long : c.len-2.result ≡ length (behind_gate c.args.ops) = omega (arith, c.len-2.ensures, c.in_ok-bytes.bytes.ok.0, ap length made.bytes) in
     append_done c.args.end c.args.ops made.have_frames made.short (omega (arith, c.if-end-eq4294967295.false)) _ (c.deref.ensures.value ∙ made.bytes)
     (g.H.Disk.seen c.args.disk.now)
-    (g.H.Disk.seen c.write_behind.new.disk) (λ is. c.if-len-eq0.false (c.len.ensures ∙ ap length is)) c.requires.ends wrote.moments wrote.honest wrote.cause.later wrote.calm _
-    (λ i. record { at = c.args.end.at + long i; slots = c.args.end.slots + 1 }) c.requires.reaches wrote.past wrote.room wrote.opened wrote.calm_told
+    (g.H.Disk.seen c.write_behind.new.disk) (λ is. c.if-len-eq0.false (c.len.ensures ∙ ap length is))
+    c.requires.ends wrote.moments wrote.honest wrote.cause.later wrote.counts_no_fault _
+    (λ i. record { at = c.args.end.at + long i; slots = c.args.end.slots + 1 }) c.requires.reaches wrote.past wrote.room wrote.opened wrote.specified_no_fault

@@ -17,7 +17,7 @@ returns-clause-gives g c home last holds =
 pub returns-clause-leaves : goal.returns-clause-leaves
 returns-clause-leaves g c home last holds end may = record {
   keeps = keeps_file (change (g.G.Disk.seen c.args.from.now) (g.G.Disk.seen c.load.new.disk)) _ c.in_ok-other.ensures;
-  blameless = λ tells inside. c.in_ok-other.ensures.faults.calm_told tells (λ is. cc is);
+  blameless = λ tells inside. c.in_ok-other.ensures.faults.specified_no_fault tells (λ is. cc is);
 }
 
 pub returns-in_err-other-clause-gives : goal.returns-in_err-other-clause-gives
@@ -35,6 +35,6 @@ returns-in_err-other-clause-leaves g c home last holds end may =
     let meets = c.in_err-other.ensures in
     record {
       keeps = keeps_file (change (g.G.Disk.seen c.args.from.now) (g.G.Disk.seen c.load.new.disk)) _ meets;
-      blameless = λ tells inside. meets.faults.calm_told tells
+      blameless = λ tells inside. meets.faults.specified_no_fault tells
           (λ is. let blamed : c.in_err-other.field-0.0 ≡ DiskFault = cc is in inside (ends_outside _ _ _ end p.1 p.2 may (ap load_refusal blamed)));
     }

@@ -18,7 +18,7 @@ returns-in_err-answered-clause-gives g c home last holds =
     rw (p.1, p.2) (
       Refuses NoMemory,
       reply_gives_none c.in_err-answered.field-0.0 c.args.self.now.port c.args.self.now.cursor c.args.replica.now c.args.replica.now _ _ _ last home
-          (change (g.W.Wire.seen c.args.from.now) (g.W.Wire.seen c.sync.new.wire)) None holds e.err.1 e.up_to.1 (λ is. e.wire.rose (ap Err is))
+          (change (g.W.Wire.seen c.args.from.now) (g.W.Wire.seen c.sync.new.wire)) None holds e.err.1 e.up_to.1 (λ is. e.wire.faulted (ap Err is))
           (λ fits is. e.wire.sure fits (ap Err is)),
     )
 
@@ -32,10 +32,10 @@ returns-in_err-answered-clause-leaves g c home last holds end may =
         last,
         holds,
         speaks_front c.args.self.now.port c.args.self.now.cursor (g.W.Wire.seen c.args.from.now) (g.W.Wire.seen c.sync.new.wire)
-            (taking_begun c.args.replica.now c.new-ops.result.items) _ _ e.wire.calm
+            (taking_begun c.args.replica.now c.new-ops.result.items) _ _ e.wire.counts_no_fault
             c.in_err-answered.field-0.0 e.err.1 (unfinished _ _ end p.1 may),
       );
-      blameless = λ tells inside. e.told.calm_told tells (λ blamed. inside (ends_outside _ _ _ end p.1 p.2 may (ap sync_refusal blamed)));
+      blameless = λ tells inside. e.told.specified_no_fault tells (λ blamed. inside (ends_outside _ _ _ end p.1 p.2 may (ap sync_refusal blamed)));
     }
 
 pub returns-clause-gives : goal.returns-clause-gives
@@ -57,7 +57,7 @@ returns-clause-leaves g c home last holds end may =
         last,
         holds,
         speaks_whole c.args.self.now.port c.args.self.now.cursor (g.W.Wire.seen c.args.from.now) (g.W.Wire.seen c.sync.new.wire)
-            (taking_begun c.args.replica.now c.new-ops.result.items) _ _ e.wire.calm _ e.ok,
+            (taking_begun c.args.replica.now c.new-ops.result.items) _ _ e.wire.counts_no_fault _ e.ok,
       );
-      blameless = λ tells inside. e.told.calm_told tells (λ never. never);
+      blameless = λ tells inside. e.told.specified_no_fault tells (λ never. never);
     }

@@ -10,12 +10,12 @@ write_view-requires g c =
     let within = version_is_within replica.held.history replica.number c.args.self.now.name.now c.in-Some.count (sym c.find_version.ensures.version ∙ c.in-Some.is) in
     omega (arith, within)
 
-pub returns : goal.returns
-returns g c =
+pub returns-in-Ok : goal.returns-in-Ok
+returns-in-Ok g c =
     let replica = c.args.replica.now in
     let text = view replica.held.history c.in-Some.count in
     inl (
       text,
       sym (ap (version_text c.args.self.now.name.now replica) (sym c.find_version.ensures.version ∙ c.in-Some.is)),
-      c.view_gone_out.ensures _ _ text c.write_view.ensures.text,
+      c.gone_out.ensures _ _ text c.in-Ok.ensures.text,
     )

@@ -1,5 +1,5 @@
 use Rattle.std.proofs.Common.{None, ap, subst, ◌∙◌, ◌≡◌, ◌+◌}
-use Rattle.op_frame.specs.Heads.{IsHeld}
+use Rattle.op_frame.specs.Headers.{IsHeld}
 use Rattle.op_frame.specs.Readers.{FrameReading}
 use Rattle.op_frame.proofs.GatherLemmas.{GathersSome, gathers_frame_at, gathers_held_at}
 use Rattle.op_frame.proofs.ReaderLemmas.{reading_at}
@@ -14,8 +14,8 @@ returns-else-not-take_held_texts-clause-gathers c =
     subst (λ (v : FrameReading). GathersSome c.args.start.now c.args.text.now.items c.take_held_texts.new.text.items v
     (reading_at r.grammar r.limit None bytes r.offset r.last r.fault)) c.self.view_is
     (gathers_held_at r.grammar r.limit r.offset r.last c.args.start.now c.args.text.now.items c.take_held_texts.new.text.items r.unread.bytes bytes r.held r.fault none
-    c.self.invariant.0 c.in-Some.head c.in-Some.is
-    (some_is (IsHeld r.unread.bytes) r.held c.in-Some.head c.self.invariant.2 c.in-Some.is) c.if-not-take_held_texts.ensures.takes)
+    c.self.invariant.0 c.in-Some.header c.in-Some.is
+    (some_is (IsHeld r.unread.bytes) r.held c.in-Some.header c.self.invariant.2 c.in-Some.is) c.if-not-take_held_texts.ensures.takes)
 
 pub returns-in-Some-take_texts-clause-gathers : goal.returns-in-Some-take_texts-clause-gathers
 returns-in-Some-take_texts-clause-gathers c =

@@ -18,7 +18,7 @@ returns-in-Some-held-clause-in_order g c no_fault =
     (subst (λ (v : FrameReading). Nexts v (reading_at r.grammar r.limit given.result.1 given.new.unread.bytes r.offset r.last r.fault) (g.S.Source.seen c.args.source.now)
     (g.S.Source.seen c.args.source.now) (Ok (Some given.result.0)))
     c.self.view_is
-    (nexts_held r.grammar r.limit r.offset r.last r.fault r.unread.bytes given.new.unread.bytes _ r.held c.in-Some-held.head given.result.0 given.result.1 c.in-Some-held.is
+    (nexts_held r.grammar r.limit r.offset r.last r.fault r.unread.bytes given.new.unread.bytes _ r.held c.in-Some-held.header given.result.0 given.result.1 c.in-Some-held.is
     c.self.invariant.0
     (ap (λ (v : FrameReading). v.fault) c.self.view_is ∙ no_fault) given.ensures))
 
@@ -30,6 +30,6 @@ returns-in-Some-held-clause-chains g c no_fault =
     (subst (λ (v : FrameReading). Nexts v (reading_at r.grammar r.limit given.result.1 given.new.unread.bytes r.offset r.last r.fault) (g.S.Source.seen c.args.source.now)
     (g.S.Source.seen c.args.source.now) (Ok (Some given.result.0)))
     c.self.view_is
-    (nexts_held r.grammar r.limit r.offset r.last r.fault r.unread.bytes given.new.unread.bytes _ r.held c.in-Some-held.head given.result.0 given.result.1 c.in-Some-held.is
+    (nexts_held r.grammar r.limit r.offset r.last r.fault r.unread.bytes given.new.unread.bytes _ r.held c.in-Some-held.header given.result.0 given.result.1 c.in-Some-held.is
     c.self.invariant.0
     (ap (λ (v : FrameReading). v.fault) c.self.view_is ∙ no_fault) given.ensures))

@@ -1,9 +1,7 @@
-use Rattle.std.proofs.Common.{◌≡◌, ◌∙◌, ◌-◌, ap, arith, length, subst, sym, take, List, ℕ}
-use Rattle.op_runs.specs.Growing.{IsLastPart, letters_of_part}
-use Rattle.op_runs.specs.Parts.{ops_of, others_in}
-use Rattle.fugue_ids.specs.declared.op.Op.{Op}
+use Rattle.std.proofs.Common.{◌∙◌, ◌-◌, ap, arith, length, subst, take, List, ℕ}
+use Rattle.op_runs.specs.Growing.{IsLastPart}
 use Rattle.op_runs.specs.declared.part.Part.{Part}
-use Rattle.op_runs.proofs.PopLemmas.{IsPopped, letters_there, others_there, taken_most, taken_off, taken_some}
+use Rattle.op_runs.proofs.PopLemmas.{letters_there, others_there, popped_off, taken_most, taken_some}
 use Rattle.op_runs.proofs.list.OpRuns.pop_some.Goals as goal
 
 pub overflow_sub-letters : goal.overflow_sub-letters
@@ -31,23 +29,11 @@ overflow_sub-others c =
 
 pub invariant_of-self : goal.invariant_of-self
 invariant_of-self c =
-    let is : IsLastPart c.self.inside.parts.items c.in-Some.last = subst (λ (ps : List Part). IsLastPart ps c.in-Some.last) c.deref.ensures.value c.in-Some.ensures.some in
-    let k : ℕ = c.take_off-count.result in
-    let letters : take (length c.self.inside.letters.items - letters_of_part c.in-Some.last k) c.self.inside.letters.items ≡ c.truncate.new.self.items =
-    sym (c.truncate.ensures.items ∙ (λ i. take (length (c.as_slice.ensures.value i) - c.letters_of.ensures i) c.self.inside.letters.items)) in
-    let others : take (length c.self.inside.others.items - others_in c.in-Some.last) c.self.inside.others.items ≡ c.truncate-2.new.self.items =
-    sym (c.truncate-2.ensures.items ∙ (λ i. take (length (c.as_slice-2.ensures.value i) - c.others_in.ensures i) c.self.inside.others.items)) in
-    let popped : IsPopped c.truncate.new.self.items c.truncate-2.new.self.items c.take_off-count.new.parts.items c.take_off-count.new.firsts.items c.self.inside.count
-    (ops_of c.self.inside.letters.items c.self.inside.others.items c.self.inside.parts.items) k =
-    subst (λ (l : List ℕ). IsPopped l c.truncate-2.new.self.items c.take_off-count.new.parts.items c.take_off-count.new.firsts.items c.self.inside.count
-    (ops_of c.self.inside.letters.items c.self.inside.others.items c.self.inside.parts.items) k) letters
-    (subst (λ (o : List Op). IsPopped (take (length c.self.inside.letters.items - letters_of_part c.in-Some.last k) c.self.inside.letters.items) o c.take_off-count.new.parts.items
-    c.take_off-count.new.firsts.items c.self.inside.count
-    (ops_of c.self.inside.letters.items c.self.inside.others.items c.self.inside.parts.items) k) others
-    (taken_off c.self.inside.letters.items c.self.inside.others.items c.self.inside.parts.items c.take_off-count.new.parts.items c.self.inside.firsts.items
-    c.take_off-count.new.firsts.items c.self.inside.count c.args.most k c.in-Some.last
-    c.self.invariant c.requires.some c.take_off-count.ensures)) in
-    popped.are
+    (popped_off c.self.inside.letters.items c.truncate.new.self.items c.self.inside.others.items c.truncate-2.new.self.items c.self.inside.parts.items
+    c.take_off-count.new.parts.items c.self.inside.firsts.items c.take_off-count.new.firsts.items c.self.inside.count c.args.most c.take_off-count.result c.in-Some.last
+    c.self.invariant c.requires.some c.take_off-count.ensures
+    (c.truncate.ensures.items ∙ (λ i. take (length (c.as_slice.ensures.value i) - c.letters_of.ensures i) c.self.inside.letters.items))
+    (c.truncate-2.ensures.items ∙ (λ i. take (length (c.as_slice-2.ensures.value i) - c.others_in.ensures i) c.self.inside.others.items))).are
 
 pub returns-clause-some : goal.returns-clause-some
 returns-clause-some c =
@@ -63,20 +49,10 @@ returns-clause-within c =
 
 pub returns-clause-others : goal.returns-clause-others
 returns-clause-others c =
-    let is : IsLastPart c.self.inside.parts.items c.in-Some.last = subst (λ (ps : List Part). IsLastPart ps c.in-Some.last) c.deref.ensures.value c.in-Some.ensures.some in
     let k : ℕ = c.take_off-count.result in
-    let letters : take (length c.self.inside.letters.items - letters_of_part c.in-Some.last k) c.self.inside.letters.items ≡ c.truncate.new.self.items =
-    sym (c.truncate.ensures.items ∙ (λ i. take (length (c.as_slice.ensures.value i) - c.letters_of.ensures i) c.self.inside.letters.items)) in
-    let others : take (length c.self.inside.others.items - others_in c.in-Some.last) c.self.inside.others.items ≡ c.truncate-2.new.self.items =
-    sym (c.truncate-2.ensures.items ∙ (λ i. take (length (c.as_slice-2.ensures.value i) - c.others_in.ensures i) c.self.inside.others.items)) in
-    let popped : IsPopped c.truncate.new.self.items c.truncate-2.new.self.items c.take_off-count.new.parts.items c.take_off-count.new.firsts.items c.self.inside.count
-    (ops_of c.self.inside.letters.items c.self.inside.others.items c.self.inside.parts.items) k =
-    subst (λ (l : List ℕ). IsPopped l c.truncate-2.new.self.items c.take_off-count.new.parts.items c.take_off-count.new.firsts.items c.self.inside.count
-    (ops_of c.self.inside.letters.items c.self.inside.others.items c.self.inside.parts.items) k) letters
-    (subst (λ (o : List Op). IsPopped (take (length c.self.inside.letters.items - letters_of_part c.in-Some.last k) c.self.inside.letters.items) o c.take_off-count.new.parts.items
-    c.take_off-count.new.firsts.items c.self.inside.count
-    (ops_of c.self.inside.letters.items c.self.inside.others.items c.self.inside.parts.items) k) others
-    (taken_off c.self.inside.letters.items c.self.inside.others.items c.self.inside.parts.items c.take_off-count.new.parts.items c.self.inside.firsts.items
-    c.take_off-count.new.firsts.items c.self.inside.count c.args.most k c.in-Some.last
-    c.self.invariant c.requires.some c.take_off-count.ensures)) in
-    popped.ops ∙ (λ i. take (length (c.self.view_is i) - k) (c.self.view_is i))
+    (popped_off c.self.inside.letters.items c.truncate.new.self.items c.self.inside.others.items c.truncate-2.new.self.items c.self.inside.parts.items
+    c.take_off-count.new.parts.items c.self.inside.firsts.items c.take_off-count.new.firsts.items c.self.inside.count c.args.most c.take_off-count.result c.in-Some.last
+    c.self.invariant c.requires.some c.take_off-count.ensures
+    (c.truncate.ensures.items ∙ (λ i. take (length (c.as_slice.ensures.value i) - c.letters_of.ensures i) c.self.inside.letters.items))
+    (c.truncate-2.ensures.items ∙ (λ i. take (length (c.as_slice-2.ensures.value i) - c.others_in.ensures i) c.self.inside.others.items))).ops
+    ∙ (λ i. take (length (c.self.view_is i) - k) (c.self.view_is i))

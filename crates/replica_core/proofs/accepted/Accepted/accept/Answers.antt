@@ -1,23 +1,30 @@
-use Rattle.std.proofs.Common.{Err, Ok, OnErr, OnOk, Result, subst, sym, ◌∙◌, ◌∷◌, ◌≡◌}
+use Rattle.std.proofs.Common.{refl, subst, sym, ◌∙◌, ◌∷◌, ◌≡◌}
 use Rattle.fugue_ids.specs.declared.op.Op.TheVariants.{Note}
 use Rattle.origin_model.specs.operations.Verdict.{verdict}
 use Rattle.origin_model.specs.declared.operations.Verdict.TheVariants.{Ready}
 use Rattle.section_catalogue.specs.Manuscript.{Represents}
 use Rattle.section_catalogue.proofs.GrowthLemmas.{note_stands}
+use Rattle.section_catalogue.proofs.UnchangedLemmas.{either}
+use Rattle.replica_core.specs.Withdrawn.{HasWithdrawn}
+use Rattle.replica_core.proofs.WithdrawnLemmas.{stays_withdrawn}
 use Rattle.replica_core.proofs.accepted.Accepted.accept.Goals as goal
-
--- what follows, however it came out
-either_way : {T E : Type 0} (A B Q : Type 0) (r : Result T E) → OnOk r A → OnErr r B → (A → Q) → (B → Q) → Q
-either_way A B Q (Ok x) a b f g = f a
-either_way A B Q (Err e) a b f g = g b
 
 pub invariant_of-self : goal.invariant_of-self
 invariant_of-self c =
-    let m = c.self.inside.manuscript in
-    let h = c.self.inside.history in
+    let i = c.self.inside in
+    let h = i.history in
+    let w = i.withdrawn.values in
     let note = Note c.in-Note.id c.in-Note.names c.in-Note.code c.in-Note.body in
     let ready : verdict h note ≡ Ready = (λ i. verdict (c.self.view_is i) (sym c.in-Note.is i)) ∙ c.requires.ready in
-    let stands : Represents m (note ∷ h) = note_stands m h c.in-Note.id c.in-Note.names c.in-Note.code c.in-Note.body c.self.invariant ready in
-    either_way (c.push.new.self ≡ c.args.op ∷ h) (c.push.new.self ≡ h) (Represents m c.push.new.self) c.push.result c.push.ensures.ok c.push.ensures.err
-    (λ ok. subst (Represents m) (sym ok) (subst (λ o. Represents m (o ∷ h)) (sym c.in-Note.is) stands))
-    (λ err. subst (Represents m) (sym err) c.self.invariant)
+    let stands : Represents i.manuscript (note ∷ h) =
+    note_stands i.manuscript h c.in-Note.id c.in-Note.names c.in-Note.code c.in-Note.body c.self.invariant.stands ready in
+    let withdrawn : HasWithdrawn w (note ∷ h) = stays_withdrawn w note h ready (λ x none. refl) c.self.invariant.withdrawn_are in
+    either c.push.result (c.push.new.self ≡ c.args.op ∷ h) (c.push.new.self ≡ h) _ c.push.ensures.ok c.push.ensures.err
+    (λ ok. record {
+      stands = subst (Represents i.manuscript) (sym ok) (subst (λ o. Represents i.manuscript (o ∷ h)) (sym c.in-Note.is) stands);
+      withdrawn_are = subst (HasWithdrawn w) (sym ok) (subst (λ o. HasWithdrawn w (o ∷ h)) (sym c.in-Note.is) withdrawn);
+    })
+    (λ err. record {
+      stands = subst (Represents i.manuscript) (sym err) c.self.invariant.stands;
+      withdrawn_are = subst (HasWithdrawn w) (sym err) c.self.invariant.withdrawn_are;
+    })

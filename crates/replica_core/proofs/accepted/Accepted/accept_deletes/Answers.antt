@@ -4,13 +4,15 @@ use Rattle.op_runs.proofs.DeletionLemmas.{length-deletes}
 use Rattle.origin_model.specs.edits.Edits.{ReadyInTurn, history_with}
 use Rattle.section_catalogue.specs.Manuscript.{Represents}
 use Rattle.replica_core.specs.Deleting.{AreWithin, ids_from}
+use Rattle.replica_core.specs.Withdrawn.{HasWithdrawn}
 use Rattle.replica_core.proofs.DeletingLemmas.{others_taken_back, placed_each, stands_deleted}
 use Rattle.replica_core.proofs.RunLemmas.{length-extended}
+use Rattle.replica_core.proofs.WithdrawnLemmas.{front_withdrawn}
 use Rattle.replica_core.proofs.accepted.Accepted.accept_deletes.Goals as goal
 
 pub hide_run-requires-clause-placed : goal.hide_run-requires-clause-placed
 hide_run-requires-clause-placed c =
-    placed_each c.args.count c.args.first c.args.section.now c.self.inside.manuscript c.self.inside.history c.self.invariant
+    placed_each c.args.count c.args.first c.args.section.now c.self.inside.manuscript c.self.inside.history c.self.invariant.stands
     (subst (λ h. AreWithin c.args.section.now h (ids_from c.args.first c.args.count)) (sym c.self.view_is) c.requires.within)
 
 pub pop_all-requires : goal.pop_all-requires
@@ -34,17 +36,29 @@ invariant_of-self-in-Err c =
     let x = c.args.first in
     let n = c.args.count in
     let done = c.in-Err.stopped.done in
-    let h = c.self.inside.history in
+    let i = c.self.inside in
+    let h = i.history in
     let l : done ≤ n = omega (arith, c.in-Err.ensures.fewer) in
     let ready = subst (λ z. ReadyInTurn z (deletes_up x n)) (sym c.self.view_is) c.requires.ready in
-    subst (Represents c.hide_run.new.self) (ap (λ z. history_with z (deletes_up x done)) c.self.view_is ∙ sym (returns-in-Err-clause-err c))
-    (stands_deleted c.self.inside.manuscript c.hide_run.new.self n done x h l ready c.self.invariant c.in-Err.ensures.err)
+    let inside = subst (λ z. AreWithin c.args.section.now z (ids_from x n)) (sym c.self.view_is) c.requires.within in
+    let same = ap (λ z. history_with z (deletes_up x done)) c.self.view_is ∙ sym (returns-in-Err-clause-err c) in
+    record {
+      stands = subst (Represents c.hide_run.new.self) same (stands_deleted i.manuscript c.hide_run.new.self n done x h l ready c.self.invariant.stands c.in-Err.ensures.err);
+      withdrawn_are = subst (HasWithdrawn i.withdrawn.values) same (front_withdrawn i.withdrawn.values n done x c.args.section.now h l ready inside c.self.invariant.withdrawn_are);
+    }
 
 pub invariant_of-self-in-Ok-hide_run : goal.invariant_of-self-in-Ok-hide_run
 invariant_of-self-in-Ok-hide_run c =
     let x = c.args.first in
     let n = c.args.count in
-    let h = c.self.inside.history in
+    let i = c.self.inside in
+    let h = i.history in
     let ready = subst (λ z. ReadyInTurn z (deletes_up x n)) (sym c.self.view_is) c.requires.ready in
-    subst (Represents c.hide_run.new.self) (sym c.in-Ok.ensures.ok)
-    (stands_deleted c.self.inside.manuscript c.hide_run.new.self n n x h (omega arith) ready c.self.invariant c.in-Ok-hide_run.ensures.ok)
+    let inside = subst (λ z. AreWithin c.args.section.now z (ids_from x n)) (sym c.self.view_is) c.requires.within in
+    let same = sym c.in-Ok.ensures.ok in
+    record {
+      stands = subst (Represents c.hide_run.new.self) same
+          (stands_deleted i.manuscript c.hide_run.new.self n n x h (omega arith) ready c.self.invariant.stands c.in-Ok-hide_run.ensures.ok);
+      withdrawn_are = subst (HasWithdrawn i.withdrawn.values) same
+          (front_withdrawn i.withdrawn.values n n x c.args.section.now h (omega arith) ready inside c.self.invariant.withdrawn_are);
+    }

@@ -6,5 +6,4 @@ use Rattle.replica_core.proofs.history.History.greatest.Goals as goal
 pub returns : goal.returns
 returns c =
     subst (λ h. IsGreatest (counters c.args.replica h) c.greatest.result) c.self.view_is
-    (greatest_held c.args.replica c.self.inside.index.positions.values c.self.inside.index.targets.values _ c.greatest.result c.self.invariant.indexed c.self.invariant.lawful
-    c.greatest.ensures)
+    (greatest_held c.args.replica c.self.inside.index.positions.values _ c.greatest.result c.self.invariant.indexed c.self.invariant.lawful c.greatest.ensures)

@@ -10,8 +10,8 @@ returns c =
     let first = c.args.first in
     let n = c.args.count in (
       λ yes. subst (λ h. AreUnheld h first n) c.self.view_is
-          (free_unheld i.index.positions.values i.index.targets.values (reverse i.ops) first n c.self.invariant.indexed (c.is_free.ensures.0 yes)),
+          (free_unheld i.index.positions.values (reverse i.ops) first n c.self.invariant.indexed (c.is_free.ensures.0 yes)),
       λ unheld. c.is_free.ensures.1
-          (unheld_free i.index.positions.values i.index.targets.values (reverse i.ops) first n c.self.invariant.indexed
+          (unheld_free i.index.positions.values (reverse i.ops) first n c.self.invariant.indexed
           (subst (λ h. AreUnheld h first n) (sym c.self.view_is) unheld)),
     )

@@ -2,7 +2,7 @@ use Rattle.std.proofs.Common.{◌∙◌, ◌≡◌, ◌∷◌, ap, drop, subst, 
 use Rattle.std.specs.Prelude.{reverse}
 use Rattle.op_runs.specs.Finding.{op_of}
 use Rattle.origin_model.specs.operations.Verdict.{Lawful}
-use Rattle.replica_core.specs.Index.{IsHistoryIndex, sections_and_notes}
+use Rattle.replica_core.specs.Index.{ArePositions, sections_and_notes}
 use Rattle.replica_core.proofs.NotingLemmas.{newest_apart}
 use Rattle.replica_core.proofs.history.History.pop.Goals as goal
 
@@ -14,7 +14,7 @@ invariant_of-self c =
     record {
       lawful = lawful.1;
       indexed = c.forget_found.ensures.found (reverse c.pop.new.self)
-          (subst (IsHistoryIndex i.index.positions.values i.index.targets.values) apart c.self.invariant.indexed) lawful.0;
+          (subst (ArePositions i.index.positions.values) apart c.self.invariant.indexed) lawful.0;
       listed = c.forget_found.ensures.listed (reverse c.pop.new.self) (c.self.invariant.listed ∙ ap sections_and_notes apart);
     }
 

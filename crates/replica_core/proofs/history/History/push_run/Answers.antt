@@ -5,7 +5,7 @@ use Rattle.fugue_ids.specs.Runs.{run_from}
 use Rattle.origin_model.specs.edits.Edits.{ReadyInTurn, history_with}
 use Rattle.origin_model.specs.operations.Verdict.{Lawful}
 use Rattle.origin_model.proofs.edits.MadeLemmas.{ready_lawful}
-use Rattle.replica_core.specs.Index.{IsHistoryIndex, sections_and_notes, with_positions}
+use Rattle.replica_core.specs.Index.{ArePositions, sections_and_notes, with_positions}
 use Rattle.replica_core.proofs.FeedingLemmas.{length-run}
 use Rattle.replica_core.proofs.NotingLemmas.{appended_joins, back_again, run_free, run_listed, run_noted}
 use Rattle.replica_core.proofs.history.History.push_run.Goals as goal
@@ -15,7 +15,7 @@ note_run-requires-clause-free c =
     let i = c.self.inside in
     let start = c.args.start.now in
     let text = c.args.text.now in
-    run_free i.index.positions.values i.index.targets.values (reverse i.ops) start text c.self.invariant.indexed
+    run_free i.index.positions.values (reverse i.ops) start text c.self.invariant.indexed
     (subst (λ h. ReadyInTurn h (run_from start text)) (sym c.self.view_is) c.requires.ready)
 
 pub invariant_of-self-in-Ok : goal.invariant_of-self-in-Ok
@@ -30,14 +30,11 @@ invariant_of-self-in-Ok c =
     let at : c.len-position.result ≡ length h = c.len-position.ensures ∙ sym (length-reverse i.ops) in
     let positions : c.note_run.new.self.positions.values ≡ with_positions start.id (length h) (length text) i.index.positions.values =
     c.in-Ok.ensures.ok ∙ ap (λ n. with_positions start.id n (length text) i.index.positions.values) at in
-    let noted = run_noted i.index.positions.values i.index.targets.values h start text c.self.invariant.indexed in
-    let moved : IsHistoryIndex c.note_run.new.self.positions.values i.index.targets.values (history_with h run) =
-    subst (λ z. IsHistoryIndex z i.index.targets.values (history_with h run)) (sym positions) noted in
-    let kept : IsHistoryIndex c.note_run.new.self.positions.values c.note_run.new.self.targets.values (history_with h run) =
-    subst (λ z. IsHistoryIndex c.note_run.new.self.positions.values z.values (history_with h run)) (sym c.in-Ok.ensures.targets) moved in
+    let noted : ArePositions c.note_run.new.self.positions.values (history_with h run) =
+    subst (λ z. ArePositions z (history_with h run)) (sym positions) (run_noted i.index.positions.values h start text c.self.invariant.indexed) in
     record {
       lawful = subst Lawful (sym joins) (ready_lawful h run c.self.invariant.lawful ready);
-      indexed = subst (IsHistoryIndex c.note_run.new.self.positions.values c.note_run.new.self.targets.values) (sym joins) kept;
+      indexed = subst (ArePositions c.note_run.new.self.positions.values) (sym joins) noted;
       listed = ap (λ z. z.items) c.in-Ok.ensures.listed ∙ c.self.invariant.listed ∙ sym (run_listed h start text) ∙ ap sections_and_notes (sym joins);
     }
 
@@ -66,7 +63,7 @@ invariant_of-self-in_default c =
     let index : c.note_run.new.self ≡ i.index = c.in_default.ensures.err in
     record {
       lawful = subst (λ ops. Lawful (reverse ops)) (sym same) c.self.invariant.lawful;
-      indexed = subst (λ ops. IsHistoryIndex c.note_run.new.self.positions.values c.note_run.new.self.targets.values (reverse ops)) (sym same)
-          (subst (λ z. IsHistoryIndex z.positions.values z.targets.values (reverse i.ops)) (sym index) c.self.invariant.indexed);
+      indexed = subst (λ ops. ArePositions c.note_run.new.self.positions.values (reverse ops)) (sym same)
+          (subst (λ z. ArePositions z.positions.values (reverse i.ops)) (sym index) c.self.invariant.indexed);
       listed = ap (λ z. z.sections_and_notes.items) index ∙ c.self.invariant.listed ∙ ap (λ ops. sections_and_notes (reverse ops)) (sym same);
     }

@@ -1,7 +1,7 @@
 use Rattle.std.proofs.Common.{ap, subst, sym, ◌∙◌, ◌≡◌, ◌∷◌}
 use Rattle.std.specs.Prelude.{reverse, slice_get}
 use Rattle.origin_model.specs.operations.Verdict.{Lawful}
-use Rattle.replica_core.specs.Index.{IsHistoryIndex, sections_and_notes}
+use Rattle.replica_core.specs.Index.{ArePositions, sections_and_notes}
 use Rattle.replica_core.proofs.NotingLemmas.{last_found, newest_behind}
 use Rattle.replica_core.proofs.history.History.take_newest.Goals as goal
 
@@ -14,7 +14,7 @@ invariant_of-self-2 c =
     record {
       lawful = lawful.1;
       indexed = c.forget.ensures.found (reverse c.take_last.new.self)
-          (subst (IsHistoryIndex i.index.positions.values i.index.targets.values) apart c.self.invariant.indexed) lawful.0;
+          (subst (ArePositions i.index.positions.values) apart c.self.invariant.indexed) lawful.0;
       listed = c.forget.ensures.listed (reverse c.take_last.new.self) (c.self.invariant.listed ∙ ap sections_and_notes apart);
     }
 

@@ -4,8 +4,4 @@ use Rattle.fugue_ids.specs.Identifiers.{id_cmp}
 use Rattle.replica_core.proofs.index.Index.new.Goals as goal
 
 pub returns-clause-found : goal.returns-clause-found
-returns-clause-found c =
-    record {
-      positions_are = λ x. ap (λ m. get m x) c.new.ensures.values ∙ get-empty id_cmp x;
-      targets_are = λ x. ap (λ m. get m x) c.new-2.ensures.values ∙ get-empty id_cmp x;
-    }
+returns-clause-found c x = ap (λ m. get m x) c.new.ensures.values ∙ get-empty id_cmp x

@@ -18,5 +18,5 @@ returns-in-Err-clause-writes c =
       unread = record { sizes = refl; reach = refl };
       cause = record { later = c.begin.ensures.later; failed = omega (arith, faults) };
       sure = tt;
-      calm_told = λ tells. tt;
+      specified_no_fault = λ tells. tt;
     })

@@ -29,7 +29,7 @@ returns-clause-ends c =
       nothing_sent = record { sent = λ s. refl; room = λ s. refl };
       nothing_taken = record { taken = refl; coming = refl };
       listens = refl;
-      count = record { cause = record { later = c.begin.ensures.later; failed = tt }; excused = tt; calm = tt };
-      calm_told = λ tells. faults;
+      count = record { cause = record { later = c.begin.ensures.later; failed = tt }; excused = tt; counts_no_fault = tt };
+      specified_no_fault = λ tells. faults;
       within = tt;
     })

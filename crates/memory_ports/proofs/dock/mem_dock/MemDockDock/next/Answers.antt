@@ -29,6 +29,6 @@ returns-in-Some-clause-takes c =
       ended = refl;
       ended_at = refl;
       ends = refl;
-      count = record { cause = record { later = c.begin.ensures.later; failed = tt }; excused = tt; calm = tt };
-      calm_told = λ tells. faults;
+      count = record { cause = record { later = c.begin.ensures.later; failed = tt }; excused = tt; counts_no_fault = tt };
+      specified_no_fault = λ tells. faults;
     })
