@@ -12,7 +12,7 @@ use Rattle.std.proofs.lemmas.Bool.{cases_eq, ne_eqb}
 use Rattle.std.proofs.lemmas.List.Elements.{filter-append}
 use Rattle.fugue_ids.specs.declared.op.Op.{Op}
 use Rattle.fugue_ids.proofs.IdentifierLemmas.{nat_at-other, nat_at-same}
-use Rattle.batch_moments.specs.Counts.{count, is_delete, is_note, is_section_operation, is_letter_by, replicas, text_parts, told_of_count}
+use Rattle.batch_moments.specs.Counts.{count, is_delete, is_note, is_section_operation, is_letter_by, replicas, text_parts, part_of_count}
 use Rattle.batch_moments.specs.Steps.{AreOf, HaveRoom, some_of}
 use Rattle.batch_moments.specs.declared.counting.Counts.{Counts}
 use Rattle.batch_moments.specs.declared.part.Part.{Part}
@@ -24,15 +24,15 @@ count_more is ops op =
     ap length (filter-append is ops (op ∷ [])) ∙ length-append (filter is ops) (filter is (op ∷ []))
     ∙ ap (λ n. count is ops + n) (elim (is op) as (λ (b : Bool). length (cond b (op ∷ []) []) ≡ cond b 1 0) [ true ↦ refl | false ↦ refl ])
 
--- what is told of so many, by whether a count of them is kept
-told_none : (part : ℕ → Part) (n : ℕ) → some_of n ≡ None → told_of_count part n ≡ []
-told_none part n = elim (nat_eq n 0) as (λ (b : Bool). (if b then None else Some n) ≡ None → (if b then [] else part n ∷ []) ≡ []) [
+-- what is reported of so many, by whether a count of them is kept
+reported_none : (part : ℕ → Part) (n : ℕ) → some_of n ≡ None → part_of_count part n ≡ []
+reported_none part n = elim (nat_eq n 0) as (λ (b : Bool). (if b then None else Some n) ≡ None → (if b then [] else part n ∷ []) ≡ []) [
   | true ↦ λ e. refl
   | false ↦ λ e. cc e
 ]
 
-told_some : (part : ℕ → Part) (n v : ℕ) → some_of n ≡ Some v → told_of_count part n ≡ part v ∷ []
-told_some part n v = elim (nat_eq n 0) as (λ (b : Bool). (if b then None else Some n) ≡ Some v → (if b then [] else part n ∷ []) ≡ part v ∷ []) [
+reported_some : (part : ℕ → Part) (n v : ℕ) → some_of n ≡ Some v → part_of_count part n ≡ part v ∷ []
+reported_some part n v = elim (nat_eq n 0) as (λ (b : Bool). (if b then None else Some n) ≡ Some v → (if b then [] else part n ∷ []) ≡ part v ∷ []) [
   | true ↦ λ e. cc e
   | false ↦ λ e. let same : n ≡ v = cc e in ap (λ (m : ℕ). part m ∷ []) same
 ]
@@ -67,37 +67,37 @@ abbrev pub as_part : ℕ × ℕ → Part
 as_part e = Texts e.0 e.1
 
 module _ (f : ℕ → ℕ) where
-  abbrev told_of : ℕ → List Part
-  told_of r = told_of_count (Texts r) (f r)
+  abbrev reported_of : ℕ → List Part
+  reported_of r = part_of_count (Texts r) (f r)
 
-  -- what is kept at ascending numbers, of which each is one of k from a on, is what is told of those
-  told_each : (a k : ℕ) (es : List (ℕ × ℕ)) → IsStrictlySortedBy nat_cmp (keys_of es) → AllByRecursion (λ y. a ≤ y) (keys_of es)
+  -- what is kept at ascending numbers, of which each is one of k from a on, is what is reported of those
+  reported_each : (a k : ℕ) (es : List (ℕ × ℕ)) → IsStrictlySortedBy nat_cmp (keys_of es) → AllByRecursion (λ y. a ≤ y) (keys_of es)
       → ((r : ℕ) → a ≤ r → r < a + k → at r es ≡ some_of (f r))
-      → ((r : ℕ) → a + k ≤ r → at r es ≡ None) → map as_part es ≡ flat_map told_of (range_with_len a k)
+      → ((r : ℕ) → a + k ≤ r → at r es ≡ None) → map as_part es ≡ flat_map reported_of (range_with_len a k)
   unfolding IsStrictlySortedBy
-  told_each a zero [] sorted from within beyond = refl
-  told_each a zero ((x, v) ∷ es) sorted from within beyond = let none : Some v ≡ None = sym (at_here x v es) ∙ beyond x (omega (arith, from.0)) in cc none
-  told_each a (suc k) [] sorted from within beyond =
-      told_each (a + 1) k [] tt tt (λ r l u. within r (omega (arith, l)) (omega (arith, u))) (λ r l. refl)
-      ∙ ap (λ (l : List Part). l ++ flat_map told_of (range_with_len (a + 1) k)) (sym (told_none (Texts a) (f a) (sym (within a (omega arith) (omega arith)))))
-  told_each a (suc k) ((x, v) ∷ es) sorted from within beyond =
+  reported_each a zero [] sorted from within beyond = refl
+  reported_each a zero ((x, v) ∷ es) sorted from within beyond = let none : Some v ≡ None = sym (at_here x v es) ∙ beyond x (omega (arith, from.0)) in cc none
+  reported_each a (suc k) [] sorted from within beyond =
+      reported_each (a + 1) k [] tt tt (λ r l u. within r (omega (arith, l)) (omega (arith, u))) (λ r l. refl)
+      ∙ ap (λ (l : List Part). l ++ flat_map reported_of (range_with_len (a + 1) k)) (sym (reported_none (Texts a) (f a) (sym (within a (omega arith) (omega arith)))))
+  reported_each a (suc k) ((x, v) ∷ es) sorted from within beyond =
       let above = all_above x (keys_of es) sorted.0 in
       elim (cases_eq a x) [
         | inl e ↦
-            let one : told_of a ≡ Texts x v ∷ [] =
-            told_some (Texts a) (f a) v (sym (within a (omega arith) (omega arith)) ∙ ap (λ (y : ℕ). at y ((x, v) ∷ es)) e ∙ at_here x v es)
+            let one : reported_of a ≡ Texts x v ∷ [] =
+            reported_some (Texts a) (f a) v (sym (within a (omega arith) (omega arith)) ∙ ap (λ (y : ℕ). at y ((x, v) ∷ es)) e ∙ at_here x v es)
             ∙ ap (λ (y : ℕ). Texts y v ∷ []) e in
-            let rest : map as_part es ≡ flat_map told_of (range_with_len (a + 1) k) =
-            told_each (a + 1) k es sorted.1 (all_from (λ y. x < y) (λ y. a + 1 ≤ y) (keys_of es) (λ y l. omega (arith, l, e)) above)
+            let rest : map as_part es ≡ flat_map reported_of (range_with_len (a + 1) k) =
+            reported_each (a + 1) k es sorted.1 (all_from (λ y. x < y) (λ y. a + 1 ≤ y) (keys_of es) (λ y l. omega (arith, l, e)) above)
             (λ r l u. sym (at_there r x v es (λ same. omega (arith, l, e, same))) ∙ within r (omega (arith, l)) (omega (arith, u)))
             (λ r l. sym (at_there r x v es (λ same. omega (arith, l, e, same))) ∙ beyond r (omega (arith, l))) in
-            ap (λ (l : List Part). Texts x v ∷ l) rest ∙ ap (λ (l : List Part). l ++ flat_map told_of (range_with_len (a + 1) k)) (sym one)
+            ap (λ (l : List Part). Texts x v ∷ l) rest ∙ ap (λ (l : List Part). l ++ flat_map reported_of (range_with_len (a + 1) k)) (sym one)
         | inr apart ↦
             let later : a < x = omega (arith, from.0, apart) in
             let none : at a ((x, v) ∷ es) ≡ None = at_none a ((x, v) ∷ es) (later, all_from (λ y. x < y) (λ y. a < y) (keys_of es) (λ y l. omega (arith, l, later)) above) in
-            told_each (a + 1) k ((x, v) ∷ es) sorted (omega (arith, later), all_from (λ y. x < y) (λ y. a + 1 ≤ y) (keys_of es) (λ y l. omega (arith, l, later)) above)
+            reported_each (a + 1) k ((x, v) ∷ es) sorted (omega (arith, later), all_from (λ y. x < y) (λ y. a + 1 ≤ y) (keys_of es) (λ y l. omega (arith, l, later)) above)
             (λ r l u. within r (omega (arith, l)) (omega (arith, u))) (λ r l. beyond r (omega (arith, l)))
-            ∙ ap (λ (l : List Part). l ++ flat_map told_of (range_with_len (a + 1) k)) (sym (told_none (Texts a) (f a) (sym (within a (omega arith) (omega arith)) ∙ none)))
+            ∙ ap (λ (l : List Part). l ++ flat_map reported_of (range_with_len (a + 1) k)) (sym (reported_none (Texts a) (f a) (sym (within a (omega arith) (omega arith)) ∙ none)))
       ]
 
 all_from_zero : (ys : List ℕ) → AllByRecursion (λ y. 0 ≤ y) ys
@@ -105,10 +105,10 @@ all_from_zero [] = tt
 all_from_zero (y ∷ ys) = (omega arith, all_from_zero ys)
 
 -- the entries of a map of counts are the parts that tell of the Texts
-pub entries_told : (counts : Counts) (ops : List Op) → IsOrdered nat_cmp counts.texts → AreOf ops counts → map as_part counts.texts.entries ≡ text_parts ops
+pub entries_reported : (counts : Counts) (ops : List Op) → IsOrdered nat_cmp counts.texts → AreOf ops counts → map as_part counts.texts.entries ≡ text_parts ops
 unfolding replicas
-entries_told counts ops ordered are =
-    told_each (λ r. count (is_letter_by r) ops) 0 (2 ^ 32) counts.texts.entries ordered (all_from_zero (keys_of counts.texts.entries)) (λ r l u. are.texts r)
+entries_reported counts ops ordered are =
+    reported_each (λ r. count (is_letter_by r) ops) 0 (2 ^ 32) counts.texts.entries ordered (all_from_zero (keys_of counts.texts.entries)) (λ r l u. are.texts r)
     (λ r l. are.beyond r l)
 
 filter_short : (is : Op → Bool) (ops : List Op) → count is ops ≤ length ops

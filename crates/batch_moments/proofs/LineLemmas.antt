@@ -1,7 +1,7 @@
 -- Lines that are written one after another.
 use Rattle.std.proofs.Common.{suc, take, ◌-◌, List, add-one, ap, arith, drop, drop-cons, get_or, length, sym, ℕ, ◌+◌, ◌<◌, ◌∙◌, ◌∷◌, ◌≡◌}
 use Rattle.fugue_ids.specs.declared.op.Op.{Op}
-use Rattle.batch_moments.specs.Counts.{told_parts}
+use Rattle.batch_moments.specs.Counts.{reported_parts}
 use Rattle.batch_moments.specs.Lines.{ops_between, lines_of_moments}
 
 -- the next one of some moments
@@ -10,7 +10,7 @@ module _ (moments : List ℕ) (i next : ℕ) (below : i < length moments) (is : 
   left = drop-cons moments i 0 below ∙ (λ k. sym is k ∷ drop (sym (add-one i) k) moments)
 
   pub lines_next : (from : ℕ) (ops : List Op)
-      → lines_of_moments from (drop i moments) ops ≡ record { moment = next; parts = told_parts (ops_between from next ops) } ∷ lines_of_moments next (drop (i + 1) moments) ops
+      → lines_of_moments from (drop i moments) ops ≡ record { moment = next; parts = reported_parts (ops_between from next ops) } ∷ lines_of_moments next (drop (i + 1) moments) ops
   lines_next from ops = ap (λ (l : List ℕ). lines_of_moments from l ops) left
 
 -- without the first of them

@@ -30,9 +30,9 @@ is_note _ = false
 abbrev pub count : (Op → Bool) → List Op → ℕ
 count is ops = length (filter is ops)
 
--- what is told of so many: nothing where there are none
-abbrev pub told_of_count : (ℕ → Part) → ℕ → List Part
-told_of_count part n = if nat_eq n 0 then [] else part n ∷ []
+-- what is reported of so many: nothing where there are none
+abbrev pub part_of_count : (ℕ → Part) → ℕ → List Part
+part_of_count part n = if nat_eq n 0 then [] else part n ∷ []
 
 -- the numbers that a replica may have, in ascending order
 unfoldable pub replicas : List ℕ
@@ -40,9 +40,10 @@ replicas = range_with_len 0 (2 ^ 32)
 
 -- how many Texts each replica made that made some, in ascending order of the replicas
 abbrev pub text_parts : List Op → List Part
-text_parts ops = flat_map (λ replica. told_of_count (Texts replica) (count (is_letter_by replica) ops)) replicas
+text_parts ops = flat_map (λ replica. part_of_count (Texts replica) (count (is_letter_by replica) ops)) replicas
 
--- what is told of the operations
-abbrev pub told_parts : List Op → List Part
-told_parts ops = text_parts ops ++ told_of_count Deletes (count is_delete ops) ++ told_of_count Sections (count is_section_operation ops)
-    ++ told_of_count Notes (count is_note ops)
+-- what is reported of the operations
+abbrev pub reported_parts : List Op → List Part
+reported_parts ops = text_parts ops ++ part_of_count Deletes (count is_delete ops)
+    ++ part_of_count Sections (count is_section_operation ops)
+    ++ part_of_count Notes (count is_note ops)

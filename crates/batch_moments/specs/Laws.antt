@@ -7,36 +7,37 @@ use Rattle.batch_moments.specs.declared.part.Part.{Part}
 use Rattle.batch_moments.specs.declared.part.Part.TheVariants.{Texts, Deletes, Sections, Notes}
 
 -- how many operations of a kind a part tells of
-abbrev pub texts_told : (replica : ℕ) → Part → ℕ
-texts_told replica (Texts r n) = if nat_eq r replica then n else 0
-texts_told replica _ = 0
+abbrev pub texts_reported : (replica : ℕ) → Part → ℕ
+texts_reported replica (Texts r n) = if nat_eq r replica then n else 0
+texts_reported replica _ = 0
 
 -- how many Deletes a part of a line tells of
-abbrev pub deletes_told : Part → ℕ
-deletes_told (Deletes n) = n
-deletes_told _ = 0
+abbrev pub deletes_reported : Part → ℕ
+deletes_reported (Deletes n) = n
+deletes_reported _ = 0
 
 -- how many Sections a part of a line tells of
-abbrev pub sections_told : Part → ℕ
-sections_told (Sections n) = n
-sections_told _ = 0
+abbrev pub sections_reported : Part → ℕ
+sections_reported (Sections n) = n
+sections_reported _ = 0
 
 -- how many Notes a part of a line tells of
-abbrev pub notes_told : Part → ℕ
-notes_told (Notes n) = n
-notes_told _ = 0
+abbrev pub notes_reported : Part → ℕ
+notes_reported (Notes n) = n
+notes_reported _ = 0
 
 -- the sum of what the lines tell
-abbrev pub sum_told : (Part → ℕ) → List Line → ℕ
-sum_told told ls = sum_by told (flat_map (λ (line : Line). line.parts) ls)
+abbrev pub sum_reported : (Part → ℕ) → List Line → ℕ
+sum_reported reported ls = sum_by reported (flat_map (λ (line : Line). line.parts) ls)
 
 -- each moment has its line, and the lines tell of all operations, each once
 pub record TellAll (moments : List ℕ) (ops : List Op) : Type 0 where
   pub each : map (λ (line : Line). line.moment) (moment_lines moments ops) ≡ moments
-  pub texts : (replica : ℕ) → replica < 2 ^ 32 → sum_told (texts_told replica) (moment_lines moments ops) ≡ count (is_letter_by replica) ops
-  pub deletes : sum_told deletes_told (moment_lines moments ops) ≡ count is_delete ops
-  pub sections : sum_told sections_told (moment_lines moments ops) ≡ count is_section_operation ops
-  pub notes : sum_told notes_told (moment_lines moments ops) ≡ count is_note ops
+  pub texts : (replica : ℕ) → replica < 2 ^ 32
+      → sum_reported (texts_reported replica) (moment_lines moments ops) ≡ count (is_letter_by replica) ops
+  pub deletes : sum_reported deletes_reported (moment_lines moments ops) ≡ count is_delete ops
+  pub sections : sum_reported sections_reported (moment_lines moments ops) ≡ count is_section_operation ops
+  pub notes : sum_reported notes_reported (moment_lines moments ops) ≡ count is_note ops
 
 -- where moments rise to the number of the operations, their lines tell of all of them
 abbrev pub MomentsTellAll : Type 0

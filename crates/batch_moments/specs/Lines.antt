@@ -2,7 +2,7 @@
 use Rattle.std.specs.Prelude.{◌≡◌, ℕ, ◌<◌, List, [], ◌∷◌, ◌++◌, codes, decimal, flat_map}
 use Rattle.std.specs.List.{slice_range}
 use Rattle.fugue_ids.specs.declared.op.Op.{Op}
-use Rattle.batch_moments.specs.Counts.{told_parts}
+use Rattle.batch_moments.specs.Counts.{reported_parts}
 use Rattle.batch_moments.specs.declared.part.Part.{Part}
 use Rattle.batch_moments.specs.declared.part.Part.TheVariants.{Texts, Deletes, Sections, Notes}
 
@@ -24,7 +24,7 @@ ops_between from to ops = slice_range ops from to
 abbrev pub lines_of_moments : (from : ℕ) → List ℕ → List Op → List Line
 lines_of_moments from [] ops = []
 lines_of_moments from (moment ∷ moments) ops =
-    record { moment = moment; parts = told_parts (ops_between from moment ops) } ∷ lines_of_moments moment moments ops
+    record { moment = moment; parts = reported_parts (ops_between from moment ops) } ∷ lines_of_moments moment moments ops
 
 -- a line for each moment: what came between the moment before it and this one
 abbrev pub moment_lines : List ℕ → List Op → List Line

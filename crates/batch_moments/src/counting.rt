@@ -2,7 +2,7 @@
 ghost use Rattle.std.specs.Prelude.{◌≡◌, ◌++◌, ◌∷◌, [], drop, nat_eq, if◌then◌else◌, List, OnOk, IfOk, take};
 ghost use Rattle.op_runs.specs.Finding.{op_of};
 ghost use Rattle.fugue_ids.specs.declared.op.Op.{Op as AnyOp};
-ghost use Rattle.batch_moments.specs.Counts.{told_parts as parts_told, text_parts as text_parts_of};
+ghost use Rattle.batch_moments.specs.Counts.{reported_parts as parts_reported, text_parts as text_parts_of};
 ghost use Rattle.batch_moments.specs.Steps.{AreOf, HasTextMore, HaveRoom};
 
 use crate::Part;
@@ -88,7 +88,7 @@ impl Counts {
     }
 }
 
-/// Appends what is told of so many, where there are some.
+/// Appends what is reported of so many, where there are some.
 fn tell(parts: &mut Vec<Part>, count: usize, part: Part) -> Result<(), NoMemory>
     ensures { OnOk result (parts.new.items ≡ parts.old.items ++ (if nat_eq count 0 then [] else part ∷ [])) }
 {
@@ -98,7 +98,7 @@ fn tell(parts: &mut Vec<Part>, count: usize, part: Part) -> Result<(), NoMemory>
     Ok(())
 }
 
-/// What is told of the Texts.
+/// What is reported of the Texts.
 fn text_parts(alloc: Global, counts: &Counts) -> Result<Vec<Part>, NoMemory>
     ensures { IfOk result (λ parts. (ops : List AnyOp) → AreOf ops counts.now → parts.items ≡ text_parts_of ops) }
 {
@@ -109,13 +109,13 @@ fn text_parts(alloc: Global, counts: &Counts) -> Result<Vec<Part>, NoMemory>
     Ok(parts)
 }
 
-/// What is told of so many operations at the front, which are taken off.
+/// What is reported of so many operations at the front, which are taken off.
 pub(crate) fn parts_of(
     alloc: Global,
     ops: &mut OpSlice<'_>,
     count: usize,
 ) -> Result<Vec<Part>, NoMemory>
-    ensures parts { IfOk result (λ parts. parts.items ≡ parts_told (take count ops.old)) }
+    ensures parts { IfOk result (λ parts. parts.items ≡ parts_reported (take count ops.old)) }
     ensures rest { OnOk result (ops.new ≡ drop count ops.old) }
 {
     let counts = Counts::of(alloc, ops, count)?;

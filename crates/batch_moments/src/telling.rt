@@ -1,6 +1,6 @@
 //! What came between moments, as lines.
 ghost use Rattle.std.specs.Prelude.{◌≡◌, ◌++◌, ◌-◌, IfOk, OnOk, drop, take};
-ghost use Rattle.batch_moments.specs.Counts.{told_parts};
+ghost use Rattle.batch_moments.specs.Counts.{reported_parts};
 ghost use Rattle.batch_moments.specs.Lines.{line_text, moments_text as text_of};
 
 use crate::counting::parts_of;
@@ -19,7 +19,7 @@ fn put_line(
     count: usize,
 ) -> Result<(), NoMemory>
     ensures line { OnOk result (text.new.items
-        ≡ text.old.items ++ line_text (record { moment = moment; parts = told_parts (take count ops.old) })) }
+        ≡ text.old.items ++ line_text (record { moment = moment; parts = reported_parts (take count ops.old) })) }
     ensures rest { OnOk result (ops.new ≡ drop count ops.old) }
 {
     let parts = parts_of(alloc, ops, count)?;
@@ -62,7 +62,7 @@ fn behind_moment<'a>(ops: &OpSlice<'a>, rest: &OpSlice<'a>, from: usize, to: usi
 /// Texts of each replica, Deletes, Sections and notes came since the one before it.
 ///
 /// A moment is the number of operations that were accepted then. It is meant for moments that rise, of which the last one
-/// has all operations: then each operation is told of once.
+/// has all operations: then each operation is reported once.
 pub fn moments_text(alloc: Global, moments: &[u32], ops: OpSlice<'_>) -> Result<Vec<u8>, NoMemory>
     ensures { IfOk result (λ text. text.items ≡ text_of moments.now ops.entry) }
 {

@@ -15,7 +15,7 @@ use Rattle.list_spec.proofs.WorldLemmas.{events_further}
 use Rattle.bulk_world.specs.declared.making.TheConstants.{HOLD}
 use Rattle.fugue_ids.specs.declared.limits.TheConstants.{MOST_OPERATIONS}
 use Rattle.bulk_world.specs.Turns.{TurnsLead, all_turns, among, authors, bulk_world, delivers, events, hearing, made_over, two_begin, opening_turn, turns}
-use Rattle.bulk_world.specs.Summary.{summary, told_of}
+use Rattle.bulk_world.specs.Summary.{summary, summary_of}
 use Rattle.bulk_world.proofs.TurnLemmas.{IsTurned, numbered, turned}
 use Rattle.origin_model.proofs.SharedLemmas.{first_accepted}
 use Rattle.bulk_world.proofs.HearingLemmas.{IsPooled, behind_first, behind_first_of, first_hears, made_pooled, second_hears}
@@ -134,11 +134,11 @@ none_goes s heard ops e =
     omega (arith, ap (λ (x : State). length (accepted x.held.history)) e, ap length more.1, length-append (accepted s.held.history) more.0)
 
 -- the calls that make a bulk manuscript come to its world
-pub told_is : (seed count : ℕ) (f s a b a_heard b_heard : State) → f ≡ two_begin 1 → s ≡ two_begin 2 → TurnsLead count 1 seed f s a b
+pub summary_is : (seed count : ℕ) (f s a b a_heard b_heard : State) → f ≡ two_begin 1 → s ≡ two_begin 2 → TurnsLead count 1 seed f s a b
     → b_heard ≡ heard_by b (take (length (accepted a.held.history) - 1) (drop 1 (accepted a.held.history)))
     → a_heard ≡ heard_by a (take (length (accepted b.held.history) - 1) (drop 1 (accepted b_heard.held.history)))
-    → told_of a_heard b_heard ≡ summary (bulk_world seed count)
-told_is seed count f s a b a_heard b_heard fe se leads b_hears a_hears =
+    → summary_of a_heard b_heard ≡ summary (bulk_world seed count)
+summary_is seed count f s a b a_heard b_heard fe se leads b_hears a_hears =
     let k = are_behind seed count f s a b fe se leads in
     let two_is : b_heard ≡ numbered 2 (two_hears seed count) =
     b_hears ∙ (λ i. heard_by (k.second i) (take (length (accepted (k.first i).held.history) - 1) (drop 1 (accepted (k.first i).held.history))))
@@ -146,4 +146,4 @@ told_is seed count f s a b a_heard b_heard fe se leads b_hears a_hears =
     let one_is : a_heard ≡ numbered 1 (one_hears seed count) =
     a_hears ∙ (λ i. heard_by (k.first i) (take (length (accepted (k.second i).held.history) - 1) (drop 1 (accepted (two_is i).held.history))))
     ∙ ap (heard_by (numbered 1 (one seed count))) (two_tells seed count) in
-    (λ i. told_of (one_is i) (two_is i)) ∙ ap summary (sym (heard seed count))
+    (λ i. summary_of (one_is i) (two_is i)) ∙ ap summary (sym (heard seed count))

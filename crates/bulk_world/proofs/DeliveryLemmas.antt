@@ -7,7 +7,7 @@ use Rattle.origin_model.specs.edits.State.{State}
 use Rattle.origin_model.specs.taking.Taking.{IsSettled, TooMany as IsOneTooMany, answer, settle, held_after}
 use Rattle.origin_model.proofs.SharedLemmas.{settle-settled}
 use Rattle.list_spec.specs.Worlds.{replica_after_delivery}
-use Rattle.replica_core.specs.Told.{StandsPartly}
+use Rattle.replica_core.specs.Answering.{StandsPartly}
 use Rattle.replica_core.specs.declared.keeping.FeedFault.{FeedFault}
 use Rattle.replica_core.specs.declared.keeping.FeedFault.TheVariants.{NoMemory, TooMany}
 use Rattle.bulk_world.specs.Deliveries.{CallsAreDeliveries, IsFeedCall, settled_replica}
@@ -20,7 +20,7 @@ nothing_delivered op s z e = ap (λ h. record s { held = h }) (ap (λ a. settle 
 still_settles : (op : Op) (old new : State) (before after : Tally) → new ≡ record old { held = new.held }
     → ((new ≡ old) × (after ≡ before)) ⊎ StandsPartly old.hold old.most old.held new.held op before after → (new ≡ old) ⊎ (settled_replica new ≡ replica_after_delivery op old)
 still_settles op old new before after others (inl same) = inl same.0
-still_settles op old new before after others (inr stands) = inr (ap settled_replica others ∙ ap (λ h. record old { held = h }) stands.goes_on)
+still_settles op old new before after others (inr partly) = inr (ap settled_replica others ∙ ap (λ h. record old { held = h }) partly.goes_on)
 
 pub calls_are_deliveries : CallsAreDeliveries
 calls_are_deliveries op old new before after (Ok kept) z call = record { is = λ enough. call.held; partly = λ e. cc e }

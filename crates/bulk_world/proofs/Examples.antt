@@ -17,6 +17,6 @@ text_of_four : first_text (numbered_replica 2 (bulk_world 7 4).replicas) ≡ cod
 unfolding order chain verdict settle
 text_of_four = refl
 
-told_of_four : summary (bulk_world 7 4) ≡ record { operations = 5; scalars = 4; sum = 1074; is_equal = true }
+summary_of_four : summary (bulk_world 7 4) ≡ record { operations = 5; scalars = 4; sum = 1074; is_equal = true }
 unfolding order chain verdict settle manuscript encode
-told_of_four = refl
+summary_of_four = refl

@@ -1,4 +1,4 @@
--- What is told of two replicas.
+-- What is reported of two replicas.
 use Rattle.std.proofs.Common.{Bool, List, [], ap, length, refl, sym, ◌∙◌, ◌≡◌, ℕ}
 use Rattle.std.specs.Prelude.{None, Option, Some, option_map}
 use Rattle.std.specs.Str.{IsUtf8, chars, encode_utf8_all}
@@ -9,9 +9,9 @@ use Rattle.origin_model.specs.operations.History.{accepted}
 use Rattle.origin_model.specs.order.Printed.{manuscript, text}
 use Rattle.origin_model.specs.edits.State.{State}
 use Rattle.origin_model.specs.edits.Refusal.{section_shown}
-use Rattle.bulk_world.specs.Summary.{are_same, sum_of, told_of}
+use Rattle.bulk_world.specs.Summary.{are_same, sum_of, summary_of}
 use Rattle.bulk_world.specs.Turns.{first_text}
-use Rattle.bulk_world.specs.declared.telling.Summary.{Summary}
+use Rattle.bulk_world.specs.declared.summary.Summary.{Summary}
 
 -- the bytes of the first section, where there is one
 abbrev bytes_of : State → Option Identifier → Option (List ℕ)
@@ -43,8 +43,9 @@ no_text s e = by_section (section_shown s 0) refl
     by_section (Some x) f = let k : None ≡ Some (encode_utf8_all (text s.held.history x)) = e ∙ ap (bytes_of s) f in cc k
 
 -- the summary by its parts
-pub told_by : (one two : State) (operations : ℕ) (chs : List ℕ) (same : Bool) (told : Summary)
-    → told ≡ record { operations = operations; scalars = length chs; sum = sum_of chs; is_equal = same } → operations ≡ length (accepted one.held.history) → chs ≡ first_text one
-    → same ≡ are_same (manuscript one.held.history) (manuscript two.held.history) → told ≡ told_of one two
-told_by one two operations chs same told e o c s =
+pub summed_by : (one two : State) (operations : ℕ) (chs : List ℕ) (same : Bool) (reported : Summary)
+    → reported ≡ record { operations = operations; scalars = length chs; sum = sum_of chs; is_equal = same } → operations ≡ length (accepted one.held.history)
+    → chs ≡ first_text one
+    → same ≡ are_same (manuscript one.held.history) (manuscript two.held.history) → reported ≡ summary_of one two
+summed_by one two operations chs same reported e o c s =
     e ∙ (λ i. record { operations = (o ∙ length-reverse one.held.history) i; scalars = length (c i); sum = sum_of (c i); is_equal = s i })

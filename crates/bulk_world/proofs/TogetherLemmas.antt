@@ -19,7 +19,7 @@ use Rattle.list_spec.specs.Worlds.{Event, World, after_event, effect, pool_with}
 use Rattle.list_spec.proofs.PoolLemmas.{IsBy}
 use Rattle.bulk_world.specs.Generator.{next}
 use Rattle.bulk_world.specs.Laws.{ComesTogether}
-use Rattle.bulk_world.specs.Summary.{summary, told_of}
+use Rattle.bulk_world.specs.Summary.{summary, summary_of}
 use Rattle.bulk_world.specs.Turns.{among, bulk_world, made_over, turns}
 use Rattle.bulk_world.specs.declared.making.TheConstants.{HOLD, MOST_TURNS}
 use Rattle.bulk_world.proofs.BulkLemmas.{after, heard, made, one_hears, the_section, two_hears}
@@ -134,13 +134,13 @@ module _ (by_set : OrderBySet) (seed count : ℕ) (few : count ≤ MOST_TURNS) w
       (comes_behind 2 1 section (made seed count 2) (made seed count 1) (λ e. cc e) lawful both.second both.first))
       (same_behind section (made seed count 1) (made seed count 2))).same_manuscript
 
-  told : summary (bulk_world seed count) ≡ told_of (quiet_author 1 here) (quiet_author 2 there)
-  told = ap summary (heard seed count) ∙ (λ i. told_of (numbered 1 (first_all i)) (numbered 2 (second_all i)))
+  reported : summary (bulk_world seed count) ≡ summary_of (quiet_author 1 here) (quiet_author 2 there)
+  reported = ap summary (heard seed count) ∙ (λ i. summary_of (numbered 1 (first_all i)) (numbered 2 (second_all i)))
 
   pub together : ComesTogether seed count
   together = record {
-    operations = ap (λ s. s.operations) told ∙ sized;
-    equal = ap (λ s. s.is_equal) told ∙ (bytes_decides (manuscript here) (manuscript there)).1 same_text;
+    operations = ap (λ s. s.operations) reported ∙ sized;
+    equal = ap (λ s. s.is_equal) reported ∙ (bytes_decides (manuscript here) (manuscript there)).1 same_text;
   }
     where
       sized : length here ≡ count + 1

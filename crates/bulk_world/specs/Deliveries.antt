@@ -6,7 +6,7 @@ use Rattle.origin_model.specs.declared.taking.Tally.{Tally}
 use Rattle.origin_model.specs.edits.State.{State}
 use Rattle.origin_model.specs.taking.Taking.{IsSettled, TooMany as IsOneTooMany, answer, intake, settle}
 use Rattle.list_spec.specs.Worlds.{replica_after_delivery}
-use Rattle.replica_core.specs.Told.{LeavesAfterFault}
+use Rattle.replica_core.specs.Answering.{LeavesAfterFault}
 use Rattle.replica_core.specs.declared.keeping.FeedFault.{FeedFault}
 use Rattle.replica_core.specs.declared.keeping.FeedFault.TheVariants.{NoMemory, TooMany}
 

@@ -3,8 +3,8 @@
 
 mod generator;
 mod making;
-mod telling;
+mod summary;
 mod turn;
 
 pub use making::{MOST_TURNS, bulk, bulk_comes_together, feeds_are_deliveries};
-pub use telling::{Summary, write_summary};
+pub use summary::{Summary, write_summary};

@@ -1,3 +1,4 @@
+//! The manuscript made from a seed: two replicas edit concurrently and exchange operations; its theorems.
 ghost use Rattle.std.specs.Prelude.{◌≡◌, IfOk, ◌≢◌, codes, OnOk, take};
 ghost use Rattle.op_runs.specs.Finding.{op_of};
 ghost use Rattle.bulk_world.specs.Summary.{summary};
@@ -8,7 +9,7 @@ ghost use Rattle.bulk_world.specs.Laws.{WorldMeetsNoLimit};
 
 use crate::Summary;
 use crate::generator::unless_memory_wants;
-use crate::telling::tell_of;
+use crate::summary::summarize;
 use crate::turn::take_turns;
 use fugue_ids::{MOST_OPERATIONS, NoMemory, Title, TitleFault};
 use op_runs::{OpRef, OpSlice};
@@ -24,23 +25,23 @@ pub const MOST_TURNS: u32 = 1_000_000;
 
 /// Makes the manuscript that the seed leads to in so many turns, and tells of it.
 pub fn bulk(alloc: Global, seed: u32, count: u32) -> Result<Summary, NoMemory>
-    ensures { IfOk result (λ told. told ≡ summary (bulk_world seed count)) }
+    ensures { IfOk result (λ reported. reported ≡ summary (bulk_world seed count)) }
 {
     let mut first = new_author(alloc, 1);
-    let told = bulk_by(alloc, &mut first, seed, count);
+    let reported = bulk_by(alloc, &mut first, seed, count);
     first.discard();
-    told
+    reported
 }
 
 /// The same, with the first author's replica.
 fn bulk_by(alloc: Global, first: &mut Replica, seed: u32, count: u32) -> Result<Summary, NoMemory>
     requires { first.old ≡ author 1 }
-    ensures { IfOk result (λ told. told ≡ summary (bulk_world seed count)) }
+    ensures { IfOk result (λ reported. reported ≡ summary (bulk_world seed count)) }
 {
     let mut second = new_author(alloc, 2);
-    let told = bulk_among(alloc, first, &mut second, seed, count);
+    let reported = bulk_among(alloc, first, &mut second, seed, count);
     second.discard();
-    told
+    reported
 }
 
 /// The same, with the replicas of both.
@@ -53,7 +54,7 @@ fn bulk_among(
 ) -> Result<Summary, NoMemory>
     requires first { first.old ≡ author 1 }
     requires second { second.old ≡ author 2 }
-    ensures { IfOk result (λ told. told ≡ summary (bulk_world seed count)) }
+    ensures { IfOk result (λ reported. reported ≡ summary (bulk_world seed count)) }
 {
     open(alloc, first, second)?;
     take_turns(first, second, seed, count)?;
@@ -61,7 +62,7 @@ fn bulk_among(
     let others = first.accepted().len();
     hear(alloc, second, first.accepted_from(1), others - 1)?;
     hear(alloc, first, second.accepted_from(1), made - 1)?;
-    tell_of(alloc, first, second)
+    summarize(alloc, first, second)
 }
 
 /// A replica that holds nothing.

@@ -14,10 +14,10 @@ use Rattle.catalogue_notes.specs.Arranging.{Arranges, IsStamped, MovesStay}
 use Rattle.catalogue_notes.specs.Lift.{moves}
 use Rattle.catalogue_notes.specs.Lifting.{IsLiftOf}
 use Rattle.catalogue_notes.specs.Placing.{AreWinners}
-use Rattle.catalogue_notes.specs.Readings.{bid_of}
-use Rattle.catalogue_notes.specs.Winning.{winning_bid}
+use Rattle.catalogue_notes.specs.Readings.{candidate_of}
+use Rattle.catalogue_notes.specs.Winning.{winning_candidate}
 use Rattle.catalogue_notes.specs.declared.arranger.Arranger.{Arranger}
-use Rattle.catalogue_notes.specs.declared.reading.Bid.{Bid}
+use Rattle.catalogue_notes.specs.declared.reading.Candidate.{Candidate}
 use Rattle.catalogue_notes.specs.declared.stamped.Stamped.{Stamped}
 use Rattle.catalogue_notes.proofs.PartLemmas.{filter_same}
 use Rattle.catalogue_notes.proofs.PlacingLemmas.{positions_are}
@@ -25,14 +25,14 @@ use Rattle.catalogue_notes.proofs.WinningLemmas.{won_by}
 
 module _ (old new : List Op) (stay : MovesStay old new) where
   -- the same is lifted
-  lifted_still : (list : Listing) (bids : List Bid) → IsLiftOf old list bids → IsLiftOf new list bids
-  lifted_still list bids was = record {
+  lifted_still : (list : Listing) (candidates : List Candidate) → IsLiftOf old list candidates → IsLiftOf new list candidates
+  lifted_still list candidates was = record {
     lifting = record {
       nodes_are = was.lifting.nodes_are ∙ ap (nodes catalogue) (sym stay.lifted);
       few = omega (arith, was.lifting.few, stay.grew);
       shown = was.lifting.shown;
       in_order = was.lifting.in_order;
-      bids_are = was.lifting.bids_are ∙ ap (map bid_of) (sym stay.moved);
+      candidates_are = was.lifting.candidates_are ∙ ap (map candidate_of) (sym stay.moved);
     };
     all = was.all ∙ ap (order catalogue) (sym stay.lifted);
     visible = was.visible ∙ ap (order catalogue) (sym stay.lifted);
@@ -42,24 +42,25 @@ module _ (old new : List Op) (stay : MovesStay old new) where
   winner_still : (s : Identifier) → winner new s (moves old) ≡ winner old s (moves old)
   winner_still s = ap best (filter_same (counts new s) (counts old s) (moves old) (λ c m. ap (λ b. id_eq c.section s && not b) (stay.withdrawn c m)))
 
-  winners_still : (list : Listing) (bids : List Bid) (winners : Identifier → Option Bid) → IsLiftOf old list bids → AreWinners old bids winners → AreWinners new bids winners
-  winners_still list bids winners was are s =
-      won_by old (moves old) bids winners was.lifting.bids_are are s
-      ∙ ap (option_map bid_of) (sym (winner_still s))
-      ∙ sym (won_by new (moves old) bids (λ t. winning_bid (λ x. not (is_withdrawn new x)) t (reverse bids)) was.lifting.bids_are (λ t. refl) s)
+  winners_still : (list : Listing) (candidates : List Candidate) (winners : Identifier → Option Candidate) → IsLiftOf old list candidates → AreWinners old candidates winners
+      → AreWinners new candidates winners
+  winners_still list candidates winners was are s =
+      won_by old (moves old) candidates winners was.lifting.candidates_are are s
+      ∙ ap (option_map candidate_of) (sym (winner_still s))
+      ∙ sym (won_by new (moves old) candidates (λ t. winning_candidate (λ x. not (is_withdrawn new x)) t (reverse candidates)) was.lifting.candidates_are (λ t. refl) s)
 
   stamped_still : (found : Stamped) → IsStamped old found → IsStamped new found
   stamped_still found was =
       let list : Listing = found.arrangement.lifted.list in
-      let bids : List Bid = found.arrangement.lifted.moves.items in
-      let lifted = lifted_still list bids was.arranged.lifted in
-      let winners = winners_still list bids (get id_cmp found.arrangement.winners) was.arranged.lifted was.arranged.winners_are in
+      let candidates : List Candidate = found.arrangement.lifted.moves.items in
+      let lifted = lifted_still list candidates was.arranged.lifted in
+      let winners = winners_still list candidates (get id_cmp found.arrangement.winners) was.arranged.lifted was.arranged.winners_are in
       record {
         arranged = record {
           sections = was.arranged.sections ∙ sym stay.arranged_as;
           lifted = lifted;
           winners_are = winners;
-          positions = positions_are new list bids (get id_cmp found.arrangement.winners) lifted winners;
+          positions = positions_are new list candidates (get id_cmp found.arrangement.winners) lifted winners;
         };
         stamp_is = was.stamp_is ∙ sym stay.stamps;
       }

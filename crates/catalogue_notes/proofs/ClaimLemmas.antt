@@ -75,7 +75,7 @@ module _ {V : Type 0} (says : Op → Option (Claim V)) (test : List Op → Claim
         owns_x : Op → Bool
         owns_x o = is_own x o
 
-    -- a claim is told by its identifier
+    -- a claim is fixed by its identifier
     pub one_claim : (h : List Op) (c d : Claim V) → Lawful h → Contains (claims says test h) c → Contains (claims says test h) d → c.id ≡ d.id → c ≡ d
     one_claim h c d w m n k =
         let a = claim_found h c w m in
@@ -171,7 +171,7 @@ module _ {V : Type 0} where
         | inr f ↦ ap (λ o. Some (better c o)) f.1 ∙ ap (λ z. Some (if z then c else f.0)) (w f.0 (best_in cs f.0 f.1))
       ]
 
-  -- two lists with the same members have the same best, where members are told by their identifiers
+  -- two lists with the same members have the same best, where members are specified by their identifiers
   pub best-same : (cs ds : List (Claim V)) → ((c : Claim V) → Contains cs c → Contains ds c) → ((d : Claim V) → Contains ds d → Contains cs d)
       → ((c d : Claim V) → Contains cs c → Contains cs d → c.id ≡ d.id → c ≡ d) → best cs ≡ best ds
   best-same cs ds f g one =

@@ -17,7 +17,7 @@ use Rattle.origin_model.specs.operations.Verdict.{Lawful, fits, given_as, names}
 use Rattle.origin_model.specs.order.Order.{order}
 use Rattle.origin_model.proofs.SharedLemmas.{Fits, all_fit, becomes_ready, fits_element, found, has-holder, holder-other, holder-own, holder_owns, order_total, own_id}
 use Rattle.catalogue_notes.specs.Claims.{Move, Origins, claim, move_in, move_of, origins_of, stamp_of}
-use Rattle.catalogue_notes.specs.Lift.{as_section, is_section, is_valid, lifted_of, passing, stands}
+use Rattle.catalogue_notes.specs.Lift.{as_section, is_section, is_valid, lifted_of, passing, is_present}
 use Rattle.catalogue_notes.specs.Lift.{lift}
 use Rattle.catalogue_notes.specs.declared.limits.TheConstants.{MOVE_CODE}
 use Rattle.catalogue_notes.proofs.HolderLemmas.{IsHeld, Joins, anything, cases_option, joins, names_held, not_both, not_own, same_value, section_by}
@@ -167,9 +167,9 @@ lift-own e h x w k =
     ]
 
 -- one more operation leaves which moves are valid
-stands-kept : (e : Op) (h : List Op) (o : Option Identifier) → Joins h e → ((l : Identifier) → o ≡ Some l → IsHeld h l) → stands (lift (e ∷ h)) o ≡ stands (lift h) o
-stands-kept e h None w k = refl
-stands-kept e h (Some l) w k = let f = k l refl in ap is_some (lift-other e h l (not_own e f.0 h l w f.1))
+is_present-kept : (e : Op) (h : List Op) (o : Option Identifier) → Joins h e → ((l : Identifier) → o ≡ Some l → IsHeld h l) → is_present (lift (e ∷ h)) o ≡ is_present (lift h) o
+is_present-kept e h None w k = refl
+is_present-kept e h (Some l) w k = let f = k l refl in ap is_some (lift-other e h l (not_own e f.0 h l w f.1))
 
 pub section-kept : (e : Op) (h : List Op) (s : Identifier) → Joins h e → IsHeld h s → is_section (e ∷ h) s ≡ is_section h s
 section-kept e h s w f = ap section_by (holder-other e h s (not_own e f.0 h s w f.1))
@@ -177,8 +177,8 @@ section-kept e h s w f = ap section_by (holder-other e h s (not_own e f.0 h s w 
 valid-kept : (e : Op) (h : List Op) (m : Move) → Joins h e → Rests h m → is_valid (e ∷ h) (lift (e ∷ h)) m ≡ is_valid h (lift h) m
 valid-kept e h m w r =
     let s = section-kept e h m.section w r.section in
-    let a = stands-kept e h m.value.left w r.left in
-    let b = stands-kept e h m.value.right w r.right in
+    let a = is_present-kept e h m.value.left w r.left in
+    let b = is_present-kept e h m.value.right w r.right in
     λ i. s i && (a i && b i)
 
 pub move-kept : (e : Op) (h : List Op) (f : Op) → Joins h e → All (Fits h) (names f)
@@ -257,7 +257,7 @@ fit_section h (Some i) w all =
     All-cons (Fits (lift h)) (i, SectionRole) [] (f.0, section_lifts h i f.0 w f.1 f.2, f.2) (All-nil (Fits (lift h)))
 
 -- so are those of a valid move
-pub fit_lifted : (h : List Op) (o : Option Identifier) → Lawful h → stands (lift h) o ≡ true → IsFit (lift h) o
+pub fit_lifted : (h : List Op) (o : Option Identifier) → Lawful h → is_present (lift h) o ≡ true → IsFit (lift h) o
 fit_lifted h None w k = All-nil (Fits (lift h))
 fit_lifted h (Some i) w k =
     let f = found (holder (lift h) i) k in
@@ -276,8 +276,8 @@ new_lawful h (Note id named code body) op w v e k =
     let r = map_from as_section (passing (is_valid h (lift h)) (move_in n)) op k in
     let p = passing_from (is_valid h (lift h)) (move_in n) r.0 r.1 in
     let m : Move = r.0 in
-    let q = and_parts (is_section h m.section) (stands (lift h) m.value.left && stands (lift h) m.value.right) p.1 in
-    let s = and_parts (stands (lift h) m.value.left) (stands (lift h) m.value.right) q.1 in
+    let q = and_parts (is_section h m.section) (is_present (lift h) m.value.left && is_present (lift h) m.value.right) p.1 in
+    let s = and_parts (is_present (lift h) m.value.left) (is_present (lift h) m.value.right) q.1 in
     subst (λ z. Lawful (z ∷ lift h)) r.2
     (one_more (lift h) m.id m.value.left m.value.right (codes "-") v (unlifted h m.id (e.fresh m.id (shape n m p.0).own))
     (fit_lifted h m.value.left w s.0) (fit_lifted h m.value.right w s.1))

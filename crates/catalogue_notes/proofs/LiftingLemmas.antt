@@ -23,12 +23,12 @@ use Rattle.run_store.specs.declared.cell.Cell.{Cell}
 use Rattle.section_list.specs.SectionList.{IsInOrder, Listing, empty_listing, newest_cell, with_element}
 use Rattle.replica_core.specs.Index.{is_section_or_note}
 use Rattle.catalogue_notes.specs.Claims.{Move, move_in}
-use Rattle.catalogue_notes.specs.Lift.{as_section, is_section, is_valid, lift, moves, passing, stands}
+use Rattle.catalogue_notes.specs.Lift.{as_section, is_section, is_valid, lift, moves, passing, is_present}
 use Rattle.catalogue_notes.specs.Lift.{claims}
 use Rattle.catalogue_notes.specs.Lifting.{IsLiftOf, IsLifting, lift_by, lift_move, node_at}
-use Rattle.catalogue_notes.specs.Readings.{bid_of}
+use Rattle.catalogue_notes.specs.Readings.{candidate_of}
 use Rattle.catalogue_notes.specs.declared.lifting.Lift.{Lift}
-use Rattle.catalogue_notes.specs.declared.reading.Bid.{Bid}
+use Rattle.catalogue_notes.specs.declared.reading.Candidate.{Candidate}
 use Rattle.catalogue_notes.proofs.ArrangedLemmas.{move_test}
 use Rattle.catalogue_notes.proofs.ClaimLemmas.{claims-none, claims-some}
 use Rattle.catalogue_notes.proofs.HolderLemmas.{IsHeld, cases_option, holder-kept, joins}
@@ -51,35 +51,35 @@ node_held h x w =
     let q = found (holder (lift h) x) k in
     (n.same_members x).0 (((order_total catalogue (lift h) v).lists x).1 (in_order (lift h) x q.0 v (lift_fits h x q.0 w q.1) q.1)))
 
-origin_there : (h : List Op) (o : Option Identifier) → Lawful h → has_origin (N h) o ≡ stands (lift h) o
+origin_there : (h : List Op) (o : Option Identifier) → Lawful h → has_origin (N h) o ≡ is_present (lift h) o
 origin_there h None w = refl
 origin_there h (Some x) w = node_held h x w
 
--- the node that is added, and the bid
+-- the node that is added, and the candidate
 abbrev node_in : Option Lift → List Node
 node_in o = option_to_list (option_map (λ (l : Lift). l.node) o)
 
-abbrev bid_in : Option Lift → List Bid
-bid_in o = elim o [ None ↦ [] | Some l ↦ option_to_list l.bid ]
+abbrev candidate_in : Option Lift → List Candidate
+candidate_in o = elim o [ None ↦ [] | Some l ↦ option_to_list l.candidate ]
 
 -- what is lifted of one operation more
 record IsStep (h : List Op) (op : Op) (o : Option Lift) : Type 0 where
   pub grows : N (op ∷ h) ≡ node_in o ++ N h
-  pub bids : map bid_of (moves (op ∷ h)) ≡ bid_in o ++ map bid_of (moves h)
+  pub candidates : map candidate_of (moves (op ∷ h)) ≡ candidate_in o ++ map candidate_of (moves h)
 
 step : (known : Identifier → Bool) (h : List Op) (op : Op) → Lawful h → ((m : Move) → move_in op ≡ Some m → known m.section ≡ is_section h m.section)
     → IsStep h op (lift_by known (N h) op)
 step known h (Section i l r t) w k = record {
   grows = ap (nodes catalogue) (lift-some (Section i l r t) h (Section i l r t) refl);
-  bids = ap (map bid_of) (claims-none move_in move_test (Section i l r t) h refl);
+  candidates = ap (map candidate_of) (claims-none move_in move_test (Section i l r t) h refl);
 }
 step known h (Text i s l r c) w k = record {
   grows = ap (nodes catalogue) (lift-none (Text i s l r c) h refl);
-  bids = ap (map bid_of) (claims-none move_in move_test (Text i s l r c) h refl);
+  candidates = ap (map candidate_of) (claims-none move_in move_test (Text i s l r c) h refl);
 }
 step known h (Delete i) w k = record {
   grows = ap (nodes catalogue) (lift-none (Delete i) h refl);
-  bids = ap (map bid_of) (claims-none move_in move_test (Delete i) h refl);
+  candidates = ap (map candidate_of) (claims-none move_in move_test (Delete i) h refl);
 }
 step known h (Note id named code body) w k =
     let e : Op = Note id named code body in
@@ -88,27 +88,28 @@ step known h (Note id named code body) w k =
     elim (cases_option (move_in e)) [
       | inl n ↦ record {
         grows = ap (nodes catalogue) (lift-none e h (ap lifted n)) ∙ sym (ap (λ o. node_in (lift_move known (N h) o) ++ N h) n);
-        bids = ap (map bid_of) (claims-none move_in move_test e h (ap valid n)) ∙ sym (ap (λ o. bid_in (lift_move known (N h) o) ++ map bid_of (moves h)) n);
+        candidates = ap (map candidate_of) (claims-none move_in move_test e h (ap valid n))
+            ∙ sym (ap (λ o. candidate_in (lift_move known (N h) o) ++ map candidate_of (moves h)) n);
       }
       | inr m ↦
           let l = origin_there h m.0.value.left w in
           let r = origin_there h m.0.value.right w in
           let s = k m.0 m.1 in
           let same' : (known m.0.section && (has_origin (N h) m.0.value.left && has_origin (N h) m.0.value.right)) ≡ is_valid h (lift h) m.0 = λ i. s i && (l i && r i) in
-          let pick : Bool → Option Lift = λ b. if b then Some (record { node = node_at m.0.id m.0.value.left m.0.value.right; bid = Some (bid_of m.0) }) else None in
+          let pick : Bool → Option Lift = λ b. if b then Some (record { node = node_at m.0.id m.0.value.left m.0.value.right; candidate = Some (candidate_of m.0) }) else None in
           let is : lift_move known (N h) (move_in e) ≡ pick (is_valid h (lift h) m.0) = ap (lift_move known (N h)) m.1 ∙ ap pick same' in
           elim (cases_Bool (is_valid h (lift h) m.0)) [
             | inl t ↦ record {
               grows = ap (nodes catalogue) (lift-some e h (as_section m.0) (ap lifted m.1 ∙ ap (λ b. option_map as_section (if b then Some m.0 else None)) t))
                   ∙ sym (ap (λ o. node_in o ++ N h) (is ∙ ap pick t));
-              bids = ap (map bid_of) (claims-some move_in move_test e h m.0 (ap valid m.1 ∙ ap (λ b. if b then Some m.0 else None) t))
-                  ∙ sym (ap (λ o. bid_in o ++ map bid_of (moves h)) (is ∙ ap pick t));
+              candidates = ap (map candidate_of) (claims-some move_in move_test e h m.0 (ap valid m.1 ∙ ap (λ b. if b then Some m.0 else None) t))
+                  ∙ sym (ap (λ o. candidate_in o ++ map candidate_of (moves h)) (is ∙ ap pick t));
             }
             | inr t ↦ record {
               grows = ap (nodes catalogue) (lift-none e h (ap lifted m.1 ∙ ap (λ b. option_map as_section (if b then Some m.0 else None)) t))
                   ∙ sym (ap (λ o. node_in o ++ N h) (is ∙ ap pick t));
-              bids = ap (map bid_of) (claims-none move_in move_test e h (ap valid m.1 ∙ ap (λ b. if b then Some m.0 else None) t))
-                  ∙ sym (ap (λ o. bid_in o ++ map bid_of (moves h)) (is ∙ ap pick t));
+              candidates = ap (map candidate_of) (claims-none move_in move_test e h (ap valid m.1 ∙ ap (λ b. if b then Some m.0 else None) t))
+                  ∙ sym (ap (λ o. candidate_in o ++ map candidate_of (moves h)) (is ∙ ap pick t));
             }
           ]
     ]
@@ -163,10 +164,10 @@ step_at ops i op known w k l e =
     k m.section ∙ section_at ops i op m.section w l e r.section)
 
 -- its node is new
-pub new_at : (ops : List Op) (i : ℕ) (op : Op) (known : Identifier → Bool) (list : Listing) (bids : List Bid) (x : Lift) → Lawful (reverse ops)
+pub new_at : (ops : List Op) (i : ℕ) (op : Op) (known : Identifier → Bool) (list : Listing) (candidates : List Candidate) (x : Lift) → Lawful (reverse ops)
     → ((s : Identifier) → known s ≡ is_section (reverse ops) s) → i < length ops → op ≡ get_or ops i op
-    → IsLifting (Passed ops i) list bids → lift_by known list.nodes op ≡ Some x → IsNew list.nodes x.node
-new_at ops i op known list bids x w k l e f q =
+    → IsLifting (Passed ops i) list candidates → lift_by known list.nodes op ≡ Some x → IsNew list.nodes x.node
+new_at ops i op known list candidates x w k l e f q =
     let h : List Op = Passed ops i in
     let s = step_at ops i op known w k l e in
     let v = lawful_at ops i op w l e in
@@ -179,10 +180,10 @@ length-insert : (cs : List Cell) (i : ℕ) (c : Cell) → length (insert cs i c)
 length-insert cs i c = omega (arith, length-append (take i cs) (c ∷ drop i cs), length-append (take i cs) (drop i cs), ap length (take-append-drop i cs))
 
 -- a step that adds nothing
-pub lifting_same : (ops : List Op) (i : ℕ) (op : Op) (known : Identifier → Bool) (list : Listing) (bids : List Bid) → Lawful (reverse ops)
+pub lifting_same : (ops : List Op) (i : ℕ) (op : Op) (known : Identifier → Bool) (list : Listing) (candidates : List Candidate) → Lawful (reverse ops)
     → ((s : Identifier) → known s ≡ is_section (reverse ops) s) → i < length ops → op ≡ get_or ops i op
-    → IsLifting (Passed ops i) list bids → lift_by known list.nodes op ≡ None → IsLifting (op ∷ Passed ops i) list bids
-lifting_same ops i op known list bids w k l e f q =
+    → IsLifting (Passed ops i) list candidates → lift_by known list.nodes op ≡ None → IsLifting (op ∷ Passed ops i) list candidates
+lifting_same ops i op known list candidates w k l e f q =
     let h : List Op = Passed ops i in
     let s = step_at ops i op known w k l e in
     let q' : lift_by known (N h) op ≡ None = ap (λ z. lift_by known z op) (sym f.nodes_are) ∙ q in
@@ -192,7 +193,7 @@ lifting_same ops i op known list bids w k l e f q =
       few = omega (arith, few);
       shown = f.shown;
       in_order = f.in_order;
-      bids_are = f.bids_are ∙ sym (s.bids ∙ ap (λ o. bid_in o ++ map bid_of (moves h)) q');
+      candidates_are = f.candidates_are ∙ sym (s.candidates ∙ ap (λ o. candidate_in o ++ map candidate_of (moves h)) q');
     }
 
 -- what is neither a Section nor a Note adds nothing
@@ -203,18 +204,20 @@ nothing_lifted known ns (Delete i) e = refl
 nothing_lifted known ns (Note i ns' c b) e = absurd (true≢false e)
 
 -- so it is passed over
-pub lifting_between : (ops : List Op) (known : Identifier → Bool) (list : Listing) (bids : List Bid) → Lawful (reverse ops)
+pub lifting_between : (ops : List Op) (known : Identifier → Bool) (list : Listing) (candidates : List Candidate) → Lawful (reverse ops)
     → ((s : Identifier) → known s ≡ is_section (reverse ops) s)
-    → (i : ℕ) (op : Op) → i < length ops → op ≡ get_or ops i op → is_section_or_note op ≡ false → IsLifting (Passed ops i) list bids → IsLifting (Passed ops (i + 1)) list bids
-lifting_between ops known list bids w k i op l e other f =
-    passed_step (λ h. IsLifting h list bids) ops i op l e (lifting_same ops i op known list bids w k l e f (nothing_lifted known list.nodes op other))
+    → (i : ℕ) (op : Op) → i < length ops → op ≡ get_or ops i op → is_section_or_note op ≡ false → IsLifting (Passed ops i) list candidates
+    → IsLifting (Passed ops (i + 1)) list candidates
+lifting_between ops known list candidates w k i op l e other f =
+    passed_step (λ h. IsLifting h list candidates) ops i op l e (lifting_same ops i op known list candidates w k l e f (nothing_lifted known list.nodes op other))
 
 -- and one that adds a node
-pub lifting_more : (ops : List Op) (i : ℕ) (op : Op) (known : Identifier → Bool) (list more : Listing) (bids longer : List Bid) (x : Lift) → Lawful (reverse ops)
+pub lifting_more : (ops : List Op) (i : ℕ) (op : Op) (known : Identifier → Bool) (list more : Listing) (candidates longer : List Candidate) (x : Lift) → Lawful (reverse ops)
     → ((s : Identifier) → known s ≡ is_section (reverse ops) s) → i < length ops → op ≡ get_or ops i op
-    → IsLifting (Passed ops i) list bids → lift_by known list.nodes op ≡ Some x → more ≡ with_element x.node 45 list → IsInOrder more → longer ≡ bids ++ option_to_list x.bid
+    → IsLifting (Passed ops i) list candidates → lift_by known list.nodes op ≡ Some x → more ≡ with_element x.node 45 list → IsInOrder more → longer ≡ candidates
+    ++ option_to_list x.candidate
     → IsLifting (op ∷ Passed ops i) more longer
-lifting_more ops i op known list more bids longer x w k l e f q is o b =
+lifting_more ops i op known list more candidates longer x w k l e f q is o b =
     let h : List Op = Passed ops i in
     let s = step_at ops i op known w k l e in
     let q' : lift_by known (N h) op ≡ Some x = ap (λ z. lift_by known z op) (sym f.nodes_are) ∙ q in
@@ -227,11 +230,11 @@ lifting_more ops i op known list more bids longer x w k l e f q is o b =
       few = omega (arith, few, count);
       shown = subst (λ (z : Listing). All (λ (c : Cell). c.hidden ≡ false) z.cells) (sym is) (all_insert (λ (c : Cell). c.hidden ≡ false) list.cells at c refl f.shown);
       in_order = o;
-      bids_are = ap reverse b ∙ reverse-append bids (option_to_list x.bid) ∙ (λ i. reverse-one x.bid i ++ f.bids_are i)
-          ∙ sym (s.bids ∙ ap (λ o. bid_in o ++ map bid_of (moves h)) q');
+      candidates_are = ap reverse b ∙ reverse-append candidates (option_to_list x.candidate) ∙ (λ i. reverse-one x.candidate i ++ f.candidates_are i)
+          ∙ sym (s.candidates ∙ ap (λ o. candidate_in o ++ map candidate_of (moves h)) q');
     }
   where
-    reverse-one : (o : Option Bid) → reverse (option_to_list o) ≡ option_to_list o
+    reverse-one : (o : Option Candidate) → reverse (option_to_list o) ≡ option_to_list o
     reverse-one None = refl
     reverse-one (Some b) = refl
 
@@ -240,13 +243,13 @@ unfolding claims
 moves-nil = refl
 
 -- nothing is lifted yet
-pub lifting_none : (list : Listing) (bids : List Bid) → list ≡ empty_listing → IsInOrder list → bids ≡ [] → IsLifting [] list bids
-lifting_none list bids is o b = record {
+pub lifting_none : (list : Listing) (candidates : List Candidate) → list ≡ empty_listing → IsInOrder list → candidates ≡ [] → IsLifting [] list candidates
+lifting_none list candidates is o b = record {
   nodes_are = ap (λ (z : Listing). z.nodes) is ∙ sym (ap (nodes catalogue) lift-nil);
   few = subst (λ (z : Listing). length z.cells ≤ 0) (sym is) (omega arith);
   shown = subst (λ (z : Listing). All (λ (c : Cell). c.hidden ≡ false) z.cells) (sym is) (All-nil (λ (c : Cell). c.hidden ≡ false));
   in_order = o;
-  bids_are = ap reverse b ∙ sym (ap (map bid_of) moves-nil);
+  candidates_are = ap reverse b ∙ sym (ap (map candidate_of) moves-nil);
 }
 
 -- where none is hidden all are visible
@@ -254,8 +257,8 @@ all_visible : (cs : List Cell) → All (λ (c : Cell). c.hidden ≡ false) cs �
 all_visible cs all = filter_full (λ (c : Cell). not c.hidden) cs (λ c m. ap not (All-contains (λ (c : Cell). c.hidden ≡ false) cs c all m))
 
 -- all is lifted
-pub lifting_all : (h : List Op) (list : Listing) (bids : List Bid) → Lawful h → IsLifting h list bids → IsLiftOf h list bids
-lifting_all h list bids w f =
+pub lifting_all : (h : List Op) (list : Listing) (candidates : List Candidate) → Lawful h → IsLifting h list candidates → IsLiftOf h list candidates
+lifting_all h list candidates w f =
     let all : cell_ids list.cells ≡ order catalogue (lift h) =
     f.in_order.in_order ∙ ap node_order f.nodes_are ∙ sym (order_by_nodes catalogue (lift h) (lift_lawful h w)).same_order in
     record { lifting = f; all = all; visible = ap cell_ids (all_visible list.cells f.shown) ∙ all }

@@ -28,7 +28,7 @@ use Rattle.origin_model.proofs.edits.NotedLemmas.{note_orders, note_ready}
 use Rattle.catalogue_notes.specs.Arranged.{arranged, best, counts, heading, position, sections_at, winner}
 use Rattle.catalogue_notes.specs.Claims.{Move, Origins, Retitle, claim, move_in, retitle_in}
 use Rattle.catalogue_notes.specs.Laws.{MoveLands}
-use Rattle.catalogue_notes.specs.Lift.{as_section, greatest, is_section, is_valid_title, lift, moves, passing, retitles, stamp, stands}
+use Rattle.catalogue_notes.specs.Lift.{as_section, greatest, is_section, is_valid_title, lift, moves, passing, retitles, stamp, is_present}
 use Rattle.catalogue_notes.specs.Making.{left_of_move, move_body, move_names, move_of_member, without_member}
 use Rattle.catalogue_notes.specs.declared.limits.TheConstants.{MOVE_CODE}
 use Rattle.catalogue_notes.proofs.ArrangedLemmas.{IsSection, apart, arranged_once, arranged_shown, move_test, position_by, position_in, shown_is, shown_once}
@@ -62,7 +62,7 @@ note_read id s n None (Some r) k = ap (λ z. Some (claim id s z (record { left =
 note_read id s n (Some l) (Some r) k = ap (λ z. Some (claim id s z (record { left = Some l; right = Some r }))) (from_be_bytes-to_be_bytes_4 n k)
 
 -- an origin that is lifted is held
-origin_held : (h : List Op) (o : Option Identifier) → Lawful h → stands (lift h) o ≡ true → All (IsHeld h) (option_to_list o)
+origin_held : (h : List Op) (o : Option Identifier) → Lawful h → is_present (lift h) o ≡ true → All (IsHeld h) (option_to_list o)
 origin_held h None w k = All-nil (IsHeld h)
 origin_held h (Some i) w k =
     let o = found (holder (lift h) i) k in
@@ -71,7 +71,7 @@ origin_held h (Some i) w k =
 
 -- the move, on a lawful history
 module _ (h : List Op) (id s : Identifier) (n : ℕ) (l r : Option Identifier) (w : Lawful h) (new : holder h id ≡ None) (fits : n < 2 ^ 32) (later : stamp h < n)
-    (here : Contains (shown catalogue h) s) (left_is : stands (lift h) l ≡ true) (right_is : stands (lift h) r ≡ true) where
+    (here : Contains (shown catalogue h) s) (left_is : is_present (lift h) l ≡ true) (right_is : is_present (lift h) r ≡ true) where
   abbrev o : Origins
   o = record { left = l; right = r }
 
@@ -97,8 +97,8 @@ module _ (h : List Op) (id s : Identifier) (n : ℕ) (l r : Option Identifier) (
 
   valid : passing (move_test h) (move_in e) ≡ Some m
   valid = passing_to (move_test h) (move_in e) m read
-      (and_from (is_section h s) (stands (lift h) l && stands (lift h) r) (is_section-held h s is_here.0 is_here.1 is_here.2)
-      (and_from (stands (lift h) l) (stands (lift h) r) left_is right_is))
+      (and_from (is_section h s) (is_present (lift h) l && is_present (lift h) r) (is_section-held h s is_here.0 is_here.1 is_here.2)
+      (and_from (is_present (lift h) l) (is_present (lift h) r) left_is right_is))
 
   lifted : lift (e ∷ h) ≡ as_section m ∷ lift h
   lifted = lift-some e h (as_section m) (ap (option_map as_section) valid)
@@ -250,7 +250,7 @@ left_stands h s k (suc i) w at below =
     (position_in h t.0 w (shown_is h t.0 w (arranged_shown h t.0 kept.0)))
 
 -- an element of the order stands among what was lifted
-stands_in : (h : List Op) (o : Option Identifier) → Lawful h → ((x : Identifier) → o ≡ Some x → Contains (order catalogue (lift h)) x) → stands (lift h) o ≡ true
+stands_in : (h : List Op) (o : Option Identifier) → Lawful h → ((x : Identifier) → o ≡ Some x → Contains (order catalogue (lift h)) x) → is_present (lift h) o ≡ true
 stands_in h None w k = refl
 stands_in h (Some x) w k = ap is_some (order_held (lift h) x (lift_lawful h w) (k x refl)).1
 
@@ -265,8 +265,8 @@ move_lands h id s k j w absent left_over at below =
     let r : Option Identifier = following (order catalogue (lift h)) l in
     let n : ℕ = stamp h + 1 in
     let has_left = left_stands h s k j w at below in
-    let left_is : stands (lift h) l ≡ true = stands_in h l w (λ x q. if_some (λ l. Contains (order catalogue (lift h)) l) l x has_left q) in
-    let right_is : stands (lift h) r ≡ true = stands_in h r w (following_in (order catalogue (lift h)) l) in
+    let left_is : is_present (lift h) l ≡ true = stands_in h l w (λ x q. if_some (λ l. Contains (order catalogue (lift h)) l) l x has_left q) in
+    let right_is : is_present (lift h) r ≡ true = stands_in h r w (following_in (order catalogue (lift h)) l) in
     let here : Contains (shown catalogue h) s = arranged_shown h s (get_in (arranged h) k s at) in
     let later : stamp h < n = omega arith in
     let e : Op = move_of_member h id s k j in

@@ -93,15 +93,15 @@ note_refuses_ok s n r = record {
       cc k;
 }
 
--- want of memory is told as such
-memory_told : (fault : EditFault) → fault ≡ EditNoMemory → as_move_fault fault ≡ NoMemory
-memory_told fault e = ap as_move_fault e
+-- want of memory is reported as such
+memory_reported : (fault : EditFault) → fault ≡ EditNoMemory → as_move_fault fault ≡ NoMemory
+memory_reported fault e = ap as_move_fault e
 
 pub note_refuses_err : (s : State) (fault : EditFault) → RefusesNote s (Err fault) → NoteRefusesAs s (Err (as_move_fault fault))
 note_refuses_err s fault r = record {
   only = λ f d e.
       let same : as_move_fault fault ≡ f = err_inj (as_move_fault fault) f e in
-      ap (option_map as_move_fault) ((r fault (λ z. d (sym same ∙ memory_told fault z))).0 refl) ∙ ap Some same;
+      ap (option_map as_move_fault) ((r fault (λ z. d (sym same ∙ memory_reported fault z))).0 refl) ∙ ap Some same;
   always = λ f e.
       let g = map_from as_move_fault (note_refusal s) f e in
       let k : Err fault ≡ Err g.0 = (r g.0 (not_for_memory s g.0 g.1)).1 g.1 in

@@ -20,15 +20,15 @@ use Rattle.catalogue_notes.specs.Claims.{Move, move_in}
 use Rattle.catalogue_notes.specs.Lift.{is_section}
 use Rattle.catalogue_notes.specs.Lifting.{IsLiftOf, IsLifting, lift_by, lift_move, node_at}
 use Rattle.catalogue_notes.specs.Placing.{AreWinners}
-use Rattle.catalogue_notes.specs.Readings.{bid_of}
-use Rattle.catalogue_notes.specs.Winning.{better_bid, winning_bid}
+use Rattle.catalogue_notes.specs.Readings.{candidate_of}
+use Rattle.catalogue_notes.specs.Winning.{better_candidate, winning_candidate}
 use Rattle.catalogue_notes.specs.declared.arrangement.Arrangement.{Arrangement}
 use Rattle.catalogue_notes.specs.declared.lifting.Lift.{Lift}
-use Rattle.catalogue_notes.specs.declared.reading.Bid.{Bid}
+use Rattle.catalogue_notes.specs.declared.reading.Candidate.{Candidate}
 use Rattle.catalogue_notes.proofs.HolderLemmas.{joins, not_both}
 use Rattle.catalogue_notes.proofs.LiftLemmas.{if_so, shape, some_inj}
 use Rattle.catalogue_notes.proofs.LiftingLemmas.{Passed, lifting_all, lifting_more, lifting_same, new_at}
-use Rattle.catalogue_notes.proofs.WinningLemmas.{bid_taken}
+use Rattle.catalogue_notes.proofs.WinningLemmas.{candidate_taken}
 
 -- the newest operation is the last of the list, and the older ones are those before it
 pub newest_at : (ops older : List Op) (note op : Op) (i : ℕ) → reverse ops ≡ note ∷ older → i < length ops → length ops ≤ i + 1 → op ≡ get_or ops i op
@@ -43,35 +43,37 @@ newest_at ops older note op i is below last at =
     tails : {x y : Op} {xs ys : List Op} → x ∷ xs ≡ y ∷ ys → xs ≡ ys
     tails e = cc
 
--- what is lifted with a bid is the operation of the bid
-pub lifted_bid : (known : Identifier → Bool) (ns : List Node) (op : Op) (l : Lift) (b : Bid) → lift_by known ns op ≡ Some l → l.bid ≡ Some b → id_of op ≡ Some b.id
-lifted_bid known ns (Section i left right t) l b e k = let none : None ≡ Some b = cc in absurd (not_both None b refl none)
-lifted_bid known ns (Text i s left right c) l b e k = absurd (not_both None l refl e)
-lifted_bid known ns (Delete i) l b e k = absurd (not_both None l refl e)
-lifted_bid known ns (Note i ns' c body) l b e k = by (move_in (Note i ns' c body)) refl e
+-- what is lifted with a candidate is the operation of the candidate
+pub lifted_candidate : (known : Identifier → Bool) (ns : List Node) (op : Op) (l : Lift) (b : Candidate) → lift_by known ns op ≡ Some l → l.candidate ≡ Some b
+    → id_of op ≡ Some b.id
+lifted_candidate known ns (Section i left right t) l b e k = let none : None ≡ Some b = cc in absurd (not_both None b refl none)
+lifted_candidate known ns (Text i s left right c) l b e k = absurd (not_both None l refl e)
+lifted_candidate known ns (Delete i) l b e k = absurd (not_both None l refl e)
+lifted_candidate known ns (Note i ns' c body) l b e k = by (move_in (Note i ns' c body)) refl e
   where
     by : (o : Option Move) → move_in (Note i ns' c body) ≡ o → lift_move known ns o ≡ Some l → id_of (Note i ns' c body) ≡ Some b.id
     by None is e = absurd (not_both None l refl e)
     by (Some m) is e =
-        let lift : Lift = record { node = node_at m.id m.value.left m.value.right; bid = Some (bid_of m) } in
+        let lift : Lift = record { node = node_at m.id m.value.left m.value.right; candidate = Some (candidate_of m) } in
         let same : lift ≡ l = some_inj lift l (if_so (known m.section && (has_origin ns m.value.left && has_origin ns m.value.right)) (Some lift) l e) in
-        let bid : bid_of m ≡ b = some_inj (bid_of m) b (ap (λ (z : Lift). z.bid) same ∙ k) in
-        (shape (Note i ns' c body) m is).own ∙ ap (λ (z : Bid). Some z.id) bid
+        let candidate : candidate_of m ≡ b = some_inj (candidate_of m) b (ap (λ (z : Lift). z.candidate) same ∙ k) in
+        (shape (Note i ns' c body) m is).own ∙ ap (λ (z : Candidate). Some z.id) candidate
 
--- without a bid the winners stay
-pub winners_same : (older : List Op) (id : Identifier) (named : List Identifier) (code : ℕ) (body : List ℕ) (bids : List Bid) (winners : Identifier → Option Bid)
-    → AreWinners older bids winners → AreWinners (Note id named code body ∷ older) bids winners
-winners_same older id named code body bids winners are = are
+-- without a candidate the winners stay
+pub winners_same : (older : List Op) (id : Identifier) (named : List Identifier) (code : ℕ) (body : List ℕ) (candidates : List Candidate) (winners : Identifier → Option Candidate)
+    → AreWinners older candidates winners → AreWinners (Note id named code body ∷ older) candidates winners
+winners_same older id named code body candidates winners are = are
 
--- with one they are those of one bid more
-pub winners_more : (older : List Op) (id : Identifier) (named : List Identifier) (code : ℕ) (body : List ℕ) (bids : List Bid) (b : Bid) (old new : Identifier → Option Bid)
-    → Lawful (Note id named code body ∷ older) → id_of (Note id named code body) ≡ Some b.id → AreWinners older bids old
-    → IsReplaced old new b.section (Some (better_bid b (old b.section))) → AreWinners (Note id named code body ∷ older) (bids ++ b ∷ []) new
-winners_more older id named code body bids b old new w own are r s =
+-- with one they are those of one candidate more
+pub winners_more : (older : List Op) (id : Identifier) (named : List Identifier) (code : ℕ) (body : List ℕ) (candidates : List Candidate) (b : Candidate)
+    (old new : Identifier → Option Candidate)
+    → Lawful (Note id named code body ∷ older) → id_of (Note id named code body) ≡ Some b.id → AreWinners older candidates old
+    → IsReplaced old new b.section (Some (better_candidate b (old b.section))) → AreWinners (Note id named code body ∷ older) (candidates ++ b ∷ []) new
+winners_more older id named code body candidates b old new w own are r s =
     let j = joins older (Note id named code body) w.0 in
     let stays : Identifier → Bool = λ x. not (is_withdrawn older x) in
-    bid_taken stays b (reverse bids) old new are (ap not (not_hidden_before older b.id w.1 (ap is_some (j.fresh b.id own)))) r s
-    ∙ ap (winning_bid stays s) (sym (reverse-append bids (b ∷ [])))
+    candidate_taken stays b (reverse candidates) old new are (ap not (not_hidden_before older b.id w.1 (ap is_some (j.fresh b.id own)))) r s
+    ∙ ap (winning_candidate stays s) (sym (reverse-append candidates (b ∷ [])))
 
 -- the operation at the end of the list is the newest one
 pub record IsNewest (h ops older : List Op) (note op : Op) (i : ℕ) : Type 0 where
@@ -126,28 +128,28 @@ module _ (h : List Op) (a : Arrangement) (r : IsBehindNote h a) (w : Lawful h) w
   abbrev list : Listing
   list = a.lifted.list
 
-  abbrev bids : List Bid
-  bids = a.lifted.moves.items
+  abbrev candidates : List Candidate
+  candidates = a.lifted.moves.items
 
-  before : IsLifting (Passed ops i) list bids
-  before = subst (λ z. IsLifting z list bids) (sym at_end.before) r.arranged.lifted.lifting
+  before : IsLifting (Passed ops i) list candidates
+  before = subst (λ z. IsLifting z list candidates) (sym at_end.before) r.arranged.lifted.lifting
 
   tells : (s : Identifier) → is_section h s ≡ is_section (reverse ops) s
   tells s = ap (λ z. is_section z s) (sym at_end.list)
 
-  whole : (more : Listing) (longer : List Bid) → IsLifting (op ∷ Passed ops i) more longer → IsLiftOf h more longer
+  whole : (more : Listing) (longer : List Candidate) → IsLifting (op ∷ Passed ops i) more longer → IsLiftOf h more longer
   whole more longer g =
       lifting_all h more longer w
       (subst (λ z. IsLifting z more longer) (sym (passed_more ops i op at_end.below there) ∙ passed_all ops (i + 1) at_end.last ∙ at_end.list) g)
 
   -- it adds nothing
-  pub noted_same : lift_by (is_section h) list.nodes op ≡ None → IsLiftOf h list bids
-  noted_same q = whole list bids (lifting_same ops i op (is_section h) list bids at_end.lawful tells at_end.below there before q)
+  pub noted_same : lift_by (is_section h) list.nodes op ≡ None → IsLiftOf h list candidates
+  noted_same q = whole list candidates (lifting_same ops i op (is_section h) list candidates at_end.lawful tells at_end.below there before q)
 
   -- or one element, which is new
   pub noted_new : (x : Lift) → lift_by (is_section h) list.nodes op ≡ Some x → IsNew list.nodes x.node
-  noted_new x q = new_at ops i op (is_section h) list bids x at_end.lawful tells at_end.below there before q
+  noted_new x q = new_at ops i op (is_section h) list candidates x at_end.lawful tells at_end.below there before q
 
-  pub noted_more : (more : Listing) (longer : List Bid) (x : Lift) → lift_by (is_section h) list.nodes op ≡ Some x → more ≡ with_element x.node 45 list → IsInOrder more
-      → longer ≡ bids ++ option_to_list x.bid → IsLiftOf h more longer
-  noted_more more longer x q is o b = whole more longer (lifting_more ops i op (is_section h) list more bids longer x at_end.lawful tells at_end.below there before q is o b)
+  pub noted_more : (more : Listing) (longer : List Candidate) (x : Lift) → lift_by (is_section h) list.nodes op ≡ Some x → more ≡ with_element x.node 45 list → IsInOrder more
+      → longer ≡ candidates ++ option_to_list x.candidate → IsLiftOf h more longer
+  noted_more more longer x q is o b = whole more longer (lifting_more ops i op (is_section h) list more candidates longer x at_end.lawful tells at_end.below there before q is o b)

@@ -19,7 +19,7 @@ use Rattle.run_store.specs.declared.cell.Cell.{Cell}
 use Rattle.catalogue_notes.specs.Arranged.{arranged, heading}
 use Rattle.catalogue_notes.specs.Outlining.{AreEntries, IsEntry, entry_sections}
 use Rattle.catalogue_notes.specs.declared.entry.Entry.{Entry}
-use Rattle.catalogue_notes.specs.Printing.{IsLayout, title_giver, title_of_op}
+use Rattle.catalogue_notes.specs.Printing.{IsLayout, title_source, title_of_op}
 use Rattle.catalogue_notes.specs.declared.layout.Layout.{Layout}
 use Rattle.catalogue_notes.proofs.PartLemmas.{filter_no, filter_yes}
 use Rattle.catalogue_notes.proofs.PrintingLemmas.{heading_found}
@@ -84,7 +84,7 @@ member_at xs i x below is = (i, below, sym is)
 
 -- the entry of an arranged section, by the number and the title that were found
 pub section_entry : (h : List Op) (l : Layout) (e : Entry) (s : Identifier) → Lawful h → IsLayout h l → Contains l.arrangement.sections.items s → e.section ≡ s
-    → slice_get (shown catalogue h) e.number ≡ Some s → string_bytes e.heading ≡ title_of_op (title_giver h l s) → IsEntry h e
+    → slice_get (shown catalogue h) e.number ≡ Some s → string_bytes e.heading ≡ title_of_op (title_source h l s) → IsEntry h e
 section_entry h l e s w f m is number heading_is =
     let arranged_here : Contains (arranged h) s = subst (λ z. Contains z s) f.arranged.sections m in
     record {

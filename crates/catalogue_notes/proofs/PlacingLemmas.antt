@@ -16,10 +16,10 @@ use Rattle.catalogue_notes.specs.Arranged.{arranged, position, sections_at, winn
 use Rattle.catalogue_notes.specs.Claims.{Move}
 use Rattle.catalogue_notes.specs.Lift.{lift, moves}
 use Rattle.catalogue_notes.specs.Lifting.{IsLiftOf}
-use Rattle.catalogue_notes.specs.Placing.{HaveOwnPositions, IsPlacing, bid_position, position_in}
-use Rattle.catalogue_notes.specs.Readings.{bid_of}
-use Rattle.catalogue_notes.specs.Winning.{winning_bid}
-use Rattle.catalogue_notes.specs.declared.reading.Bid.{Bid}
+use Rattle.catalogue_notes.specs.Placing.{HaveOwnPositions, IsPlacing, candidate_position, position_in}
+use Rattle.catalogue_notes.specs.Readings.{candidate_of}
+use Rattle.catalogue_notes.specs.Winning.{winning_candidate}
+use Rattle.catalogue_notes.specs.declared.reading.Candidate.{Candidate}
 use Rattle.section_list.specs.SectionList.{Listing}
 use Rattle.catalogue_notes.proofs.ArrangedLemmas.{apart, at_position, shown_is}
 use Rattle.catalogue_notes.proofs.HolderLemmas.{cases_option, not_both, same_value}
@@ -103,12 +103,12 @@ pub arranged_by : (h : List Op) (placing : Identifier → Option Identifier) →
     → flat_map (λ x. option_to_list (placing x)) (order catalogue (lift h)) ≡ arranged h
 arranged_by h placing w st = sym (parts_same (sections_at h) (λ x. option_to_list (placing x)) (order catalogue (lift h)) (λ x m. at_element h placing w st x))
 
--- the positions by the winning bids are those of the definitions
-pub positions_are : (h : List Op) (list : Listing) (bids : List Bid) (winners : Identifier → Option Bid) → IsLiftOf h list bids
-    → ((s : Identifier) → winners s ≡ winning_bid (λ x. not (is_withdrawn h x)) s (reverse bids)) → (s : Identifier) → position_in winners s ≡ position h s
-positions_are h list bids winners f is s = ap (bid_position s) (won_by h (moves h) bids winners f.lifting.bids_are is s) ∙ by_winner (winner h s (moves h))
+-- the positions by the winning candidates are those of the definitions
+pub positions_are : (h : List Op) (list : Listing) (candidates : List Candidate) (winners : Identifier → Option Candidate) → IsLiftOf h list candidates
+    → ((s : Identifier) → winners s ≡ winning_candidate (λ x. not (is_withdrawn h x)) s (reverse candidates)) → (s : Identifier) → position_in winners s ≡ position h s
+positions_are h list candidates winners f is s = ap (candidate_position s) (won_by h (moves h) candidates winners f.lifting.candidates_are is s) ∙ by_winner (winner h s (moves h))
   where
-    by_winner : (o : Option Move) → bid_position s (option_map bid_of o) ≡ (elim o [ None ↦ s | Some m ↦ m.id ])
+    by_winner : (o : Option Move) → candidate_position s (option_map candidate_of o) ≡ (elim o [ None ↦ s | Some m ↦ m.id ])
     by_winner None = refl
     by_winner (Some m) = refl
 

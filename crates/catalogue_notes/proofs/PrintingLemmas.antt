@@ -22,10 +22,10 @@ use Rattle.catalogue_notes.specs.Arranged.{arranged, arranged_section, arranged_
 use Rattle.catalogue_notes.specs.Claims.{Retitle, claim, is_title, retitle_in, retitle_of, stamp_of}
 use Rattle.catalogue_notes.specs.Laws.{IsValidRetitle, IsWinner}
 use Rattle.catalogue_notes.specs.Lift.{is_section, retitles}
-use Rattle.catalogue_notes.specs.Printing.{IsLayout, page, printed_by, title_giver, title_in, title_of_op, utf8_or_none}
-use Rattle.catalogue_notes.specs.Readings.{bid_of}
+use Rattle.catalogue_notes.specs.Printing.{IsLayout, page, printed_by, title_source, title_in, title_of_op, utf8_or_none}
+use Rattle.catalogue_notes.specs.Readings.{candidate_of}
 use Rattle.catalogue_notes.specs.declared.layout.Layout.{Layout}
-use Rattle.catalogue_notes.specs.declared.reading.Bid.{Bid}
+use Rattle.catalogue_notes.specs.declared.reading.Candidate.{Candidate}
 use Rattle.catalogue_notes.specs.declared.limits.TheConstants.{RETITLE_CODE}
 use Rattle.catalogue_notes.proofs.ArrangedLemmas.{arranged_shown}
 use Rattle.catalogue_notes.proofs.HolderLemmas.{cases_option, not_both, section_held}
@@ -63,24 +63,24 @@ section_title (Note i ns c b) k = cc
 abbrev value_by : List ℕ → Option Retitle → List ℕ
 value_by own o = elim o [ None ↦ own | Some r ↦ r.value ]
 
-abbrev giver_by : List Op → Identifier → Option Bid → Option Op
-giver_by h s o = elim o [ None ↦ holder h s | Some b ↦ holder h b.id ]
+abbrev source_by : List Op → Identifier → Option Candidate → Option Op
+source_by h s o = elim o [ None ↦ holder h s | Some b ↦ holder h b.id ]
 
 -- the title that was found is the heading
-pub heading_found : (h : List Op) (l : Layout) (s : Identifier) → Lawful h → IsLayout h l → is_section h s ≡ true → title_of_op (title_giver h l s) ≡ encode_utf8_all (heading h s)
+pub heading_found : (h : List Op) (l : Layout) (s : Identifier) → Lawful h → IsLayout h l → is_section h s ≡ true → title_of_op (title_source h l s) ≡ encode_utf8_all (heading h s)
 heading_found h l s w f k =
     elim (cases_option (winner h s (retitles h))) [
       | inl n ↦
           let own = section_held h s k in
-          let giver : title_giver h l s ≡ holder h s = ap (giver_by h s) (f.winners s ∙ ap (option_map bid_of) n) in
-          ap title_of_op (giver ∙ own.1)
+          let ops_source : title_source h l s ≡ holder h s = ap (source_by h s) (f.winners s ∙ ap (option_map candidate_of) n) in
+          ap title_of_op (ops_source ∙ own.1)
           ∙ section_title own.0 own.2
           ∙ sym (ap (λ o. encode_utf8_all (value_by (title_of (holder h s)) o)) n ∙ ap (λ o. encode_utf8_all (title_of o)) own.1)
       | inr r ↦
-          let giver : title_giver h l s ≡ holder h r.0.id = ap (giver_by h s) (f.winners s ∙ ap (option_map bid_of) r.1) in
+          let ops_source : title_source h l s ≡ holder h r.0.id = ap (source_by h s) (f.winners s ∙ ap (option_map candidate_of) r.1) in
           let won : IsWinner h s (retitles h) r.0 = subst (λ o. IfSome o (λ c. IsWinner h s (retitles h) c)) r.1 (winners h s w).1.is in
           let valid : IsValidRetitle h r.0 = ((valid_in_whole h w).retitles_are r.0).0 won.member in
-          ap title_of_op (giver ∙ valid.held)
+          ap title_of_op (ops_source ∙ valid.held)
           ∙ retitle_title valid.op r.0 valid.says
           ∙ sym (ap (λ o. encode_utf8_all (value_by (title_of (holder h s)) o)) r.1)
     ]
@@ -105,5 +105,5 @@ printed_all m h l w a f =
     ∙ parts_same (printed_by m h l) (arranged_section h) (arranged h) (λ s k.
     let t = text_found m h s w a k in
     let head = heading_found h l s w f (arranged_held h s w k) in
-    ap (page (title_of_op (title_giver h l s))) t.1
+    ap (page (title_of_op (title_source h l s))) t.1
     ∙ (λ i. codes "# " ++ head i ++ 10 ∷ encode_utf8_all (t.2.text i) ++ 10 ∷ []))

@@ -74,9 +74,9 @@ no_top n l = grind (arith, nat_tests)
 pub stamps_left : (s : State) → stamp s.held.history + 1 < 2 ^ 32 → stamps_cause s ≡ None
 stamps_left s l = ap (λ b. if b then Some StampsSpent else None) (no_top (stamp s.held.history) l)
 
--- what is not there was told
-pub absence_told : (cause : Option MoveFault) (fault : MoveFault) → cause ≡ Some fault → TellsAbsence cause (Err fault)
-absence_told cause fault k g a = (λ e. k ∙ ap Some (err_inj fault g e), λ e. ap Err (same_value cause fault g k e))
+-- what is not there was reported
+pub absence_reported : (cause : Option MoveFault) (fault : MoveFault) → cause ≡ Some fault → TellsAbsence cause (Err fault)
+absence_reported cause fault k g a = (λ e. k ∙ ap Some (err_inj fault g e), λ e. ap Err (same_value cause fault g k e))
 
 -- or all is there
 all_there : (cause : Option MoveFault) (result : Result ℕ MoveFault) → cause ≡ None → ((fault : MoveFault) → result ≡ Err fault → is_absence fault ≡ false)

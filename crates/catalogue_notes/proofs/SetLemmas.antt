@@ -24,7 +24,7 @@ use Rattle.catalogue_notes.specs.Arranged.{arranged, counts, heading, winner}
 use Rattle.catalogue_notes.specs.Arranged.{arranged_text}
 use Rattle.catalogue_notes.specs.Claims.{Claim, Move, move_in, retitle_in}
 use Rattle.catalogue_notes.specs.Laws.{ArrangedBySet, LiftedOrderStays}
-use Rattle.catalogue_notes.specs.Lift.{as_section, claims, is_section, is_valid_title, lift, lifted_of, moves, passing, retitles, stands}
+use Rattle.catalogue_notes.specs.Lift.{as_section, claims, is_section, is_valid_title, lift, lifted_of, moves, passing, retitles, is_present}
 use Rattle.catalogue_notes.proofs.ArrangedLemmas.{move_test, position_by}
 use Rattle.catalogue_notes.proofs.ClaimLemmas.{best-same, claim_found, found_claim, one_claim}
 use Rattle.catalogue_notes.proofs.HolderLemmas.{Joins, cases_option, holder-kept, is_section-held, joins, not_both, same_value, section_held}
@@ -44,9 +44,10 @@ same_option None (Some x) f g = g x refl
 same_option (Some x) q f g = sym (f x refl)
 
 -- what is lifted of a part is lifted of the whole
-stands-within : (g k : List Op) (o : Option Identifier) → ((x : Identifier) (op : Op) → holder g x ≡ Some op → holder k x ≡ Some op) → stands g o ≡ true → stands k o ≡ true
-stands-within g k None f t = refl
-stands-within g k (Some x) f t = let r = found (holder g x) t in ap is_some (f x r.0 r.1)
+is_present-within : (g k : List Op) (o : Option Identifier) → ((x : Identifier) (op : Op) → holder g x ≡ Some op → holder k x ≡ Some op) → is_present g o ≡ true
+    → is_present k o ≡ true
+is_present-within g k None f t = refl
+is_present-within g k (Some x) f t = let r = found (holder g x) t in ap is_some (f x r.0 r.1)
 
 section-within : (a b : List Op) (s : Identifier) → IsWithin a b → is_section a s ≡ true → is_section b s ≡ true
 section-within a b s f t = let r = section_held a s t in is_section-held b s r.0 (f s r.0 r.1) r.2
@@ -54,11 +55,11 @@ section-within a b s f t = let r = section_held a s t in is_section-held b s r.0
 valid-within : (a b : List Op) (m : Move) → IsWithin a b → ((x : Identifier) (op : Op) → holder (lift a) x ≡ Some op → holder (lift b) x ≡ Some op) → move_test a m ≡ true
     → move_test b m ≡ true
 valid-within a b m f g t =
-    let p = and_parts (is_section a m.section) (stands (lift a) m.value.left && stands (lift a) m.value.right) t in
-    let q = and_parts (stands (lift a) m.value.left) (stands (lift a) m.value.right) p.1 in
-    and_from (is_section b m.section) (stands (lift b) m.value.left && stands (lift b) m.value.right) (section-within a b m.section f p.0)
-    (and_from (stands (lift b) m.value.left) (stands (lift b) m.value.right) (stands-within (lift a) (lift b) m.value.left g q.0)
-    (stands-within (lift a) (lift b) m.value.right g q.1))
+    let p = and_parts (is_section a m.section) (is_present (lift a) m.value.left && is_present (lift a) m.value.right) t in
+    let q = and_parts (is_present (lift a) m.value.left) (is_present (lift a) m.value.right) p.1 in
+    and_from (is_section b m.section) (is_present (lift b) m.value.left && is_present (lift b) m.value.right) (section-within a b m.section f p.0)
+    (and_from (is_present (lift b) m.value.left) (is_present (lift b) m.value.right) (is_present-within (lift a) (lift b) m.value.left g q.0)
+    (is_present-within (lift a) (lift b) m.value.right g q.1))
 
 lifted-within : (a b : List Op) (e : Op) (op : Op) → IsWithin a b → ((x : Identifier) (op : Op) → holder (lift a) x ≡ Some op → holder (lift b) x ≡ Some op)
     → lifted_of a (lift a) e ≡ Some op → lifted_of b (lift b) e ≡ Some op

@@ -16,7 +16,7 @@ use Rattle.origin_model.proofs.SharedLemmas.{found, holder_owns, own_id}
 use Rattle.catalogue_notes.specs.Arranged.{beats, counts, winner}
 use Rattle.catalogue_notes.specs.Claims.{Claim, Move, Retitle, move_in, retitle_in}
 use Rattle.catalogue_notes.specs.Laws.{HasWinner, IsOrigin, IsValidMove, IsValidRetitle, IsWinner, ClaimStays, ValidInWhole, Winners}
-use Rattle.catalogue_notes.specs.Lift.{as_section, is_section, is_valid_title, lift, lifted_of, moves, passing, retitles, stands}
+use Rattle.catalogue_notes.specs.Lift.{as_section, is_section, is_valid_title, lift, lifted_of, moves, passing, retitles, is_present}
 use Rattle.catalogue_notes.proofs.ArrangedLemmas.{found_move, lifts, move_found, move_test, one_move}
 use Rattle.catalogue_notes.proofs.ClaimLemmas.{beats-stamp, best_in, best_some, best_top, claim_found, found_claim, one_claim}
 use Rattle.catalogue_notes.proofs.HolderLemmas.{is_section-held, not_both, section_held}
@@ -35,14 +35,14 @@ lifted_cases h x (Note id named code body) op w k q =
     inr (r.0, found_move h x n r.0 w k r.1, some_inj r.0.id x (sym (shape n r.0 p.0).own ∙ own_id n x (holder_owns h x n k)))
 
 -- an origin stands among what was lifted exactly where it is a Section or a valid move
-origin_is : (h : List Op) (o : Option Identifier) → Lawful h → stands (lift h) o ≡ true → IsOrigin h o
+origin_is : (h : List Op) (o : Option Identifier) → Lawful h → is_present (lift h) o ≡ true → IsOrigin h o
 origin_is h None w k = tt
 origin_is h (Some x) w k =
     let q = found (holder (lift h) x) k in
     let f = lifted_from h x q.0 w q.1 in
     lifted_cases h x f.0 q.0 w f.1 f.2
 
-origin_stands : (h : List Op) (o : Option Identifier) → Lawful h → IsOrigin h o → stands (lift h) o ≡ true
+origin_stands : (h : List Op) (o : Option Identifier) → Lawful h → IsOrigin h o → is_present (lift h) o ≡ true
 origin_stands h None w k = refl
 origin_stands h (Some x) w (inl k) = let f = section_held h x k in ap is_some (section_lifts h x f.0 w f.1 f.2)
 origin_stands h (Some x) w (inr m) =
@@ -54,13 +54,13 @@ moves_are h m w = (
   λ k.
       let f = move_found h m w k in
       let p = passing_from (move_test h) (move_in f.0) m f.2 in
-      let q = and_parts (is_section h m.section) (stands (lift h) m.value.left && stands (lift h) m.value.right) p.1 in
-      let s = and_parts (stands (lift h) m.value.left) (stands (lift h) m.value.right) q.1 in
+      let q = and_parts (is_section h m.section) (is_present (lift h) m.value.left && is_present (lift h) m.value.right) p.1 in
+      let s = and_parts (is_present (lift h) m.value.left) (is_present (lift h) m.value.right) q.1 in
       record { op = f.0; held = f.1; says = p.0; section = q.0; left = origin_is h m.value.left w s.0; right = origin_is h m.value.right w s.1 },
   λ v. found_move h m.id v.op m w v.held
       (passing_to (move_test h) (move_in v.op) m v.says
-      (and_from (is_section h m.section) (stands (lift h) m.value.left && stands (lift h) m.value.right) v.section
-      (and_from (stands (lift h) m.value.left) (stands (lift h) m.value.right) (origin_stands h m.value.left w v.left) (origin_stands h m.value.right w v.right)))),
+      (and_from (is_section h m.section) (is_present (lift h) m.value.left && is_present (lift h) m.value.right) v.section
+      (and_from (is_present (lift h) m.value.left) (is_present (lift h) m.value.right) (origin_stands h m.value.left w v.left) (origin_stands h m.value.right w v.right)))),
 )
 
 retitles_are : (h : List Op) (r : Retitle) → Lawful h → Contains (retitles h) r ↔ IsValidRetitle h r

@@ -21,7 +21,7 @@ pub record Origins : Type 0 where
   pub left : Option Identifier
   pub right : Option Identifier
 
--- a move claims a place, and a retitle a title
+-- a move claims a position, and a retitle a title
 abbrev pub Move : Type 0
 Move = Claim Origins
 
@@ -29,7 +29,7 @@ Move = Claim Origins
 abbrev pub Retitle : Type 0
 Retitle = Claim (List ℕ)
 
--- the origins that the names after the section are: a left one in the forms 1 and 3, a right one in the forms 2 and 3
+-- the origins by the form, from the names after the section: the forms 1 and 3 have a left one, 2 and 3 a right one
 abbrev pub origins_of : (form : ℕ) → List Identifier → Option Origins
 origins_of zero [] = Some (record { left = None; right = None })
 origins_of (suc zero) (l ∷ []) = Some (record { left = Some l; right = None })
@@ -37,7 +37,7 @@ origins_of (suc (suc zero)) (r ∷ []) = Some (record { left = None; right = Som
 origins_of (suc (suc (suc zero))) (l ∷ r ∷ []) = Some (record { left = Some l; right = Some r })
 origins_of _ _ = None
 
--- a stamp has four bytes, the greatest first
+-- a stamp has four bytes, the most significant first
 abbrev pub stamp_of : (a b c d : ℕ) → ℕ
 stamp_of a b c d = from_be_bytes w32 (a ∷ b ∷ c ∷ d ∷ [])
 

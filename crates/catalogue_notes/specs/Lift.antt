@@ -20,13 +20,13 @@ passing test None = None
 passing test (Some x) = if test x then Some x else None
 
 -- the origin is the start or the end, or stands among what was lifted
-abbrev pub stands : List Op → Option Identifier → Bool
-stands lifted None = true
-stands lifted (Some o) = holds lifted o
+abbrev pub is_present : List Op → Option Identifier → Bool
+is_present lifted None = true
+is_present lifted (Some o) = holds lifted o
 
 -- a move is valid where its section is a Section, and each origin a Section or a valid move
 abbrev pub is_valid : List Op → List Op → Move → Bool
-is_valid older lifted m = is_section older m.section && (stands lifted m.value.left && stands lifted m.value.right)
+is_valid older lifted m = is_section older m.section && (is_present lifted m.value.left && is_present lifted m.value.right)
 
 -- a retitle is valid where its section is a Section
 abbrev pub is_valid_title : List Op → Retitle → Bool

@@ -67,7 +67,7 @@ is_absence (IdsSpent counter) = false
 is_absence (TooMany held) = false
 is_absence NoMemory = false
 
--- a section or a place that is not there is told exactly where that is the cause
+-- a section or a place that is not there is reported exactly where that is the cause
 abbrev pub TellsAbsence : Option MoveFault → Result ℕ MoveFault → Type 0
 TellsAbsence cause result = (fault : MoveFault) → is_absence fault ≡ true → (result ≡ Err fault) ↔ (cause ≡ Some fault)
 

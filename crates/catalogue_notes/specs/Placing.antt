@@ -1,4 +1,4 @@
--- Which section stands at which element, by the winning bids.
+-- Which section stands at which element, by the winning candidates.
 use Rattle.std.specs.Prelude.{◌≡◌, ◌↔◌, Option, Some, None, List, not, reverse}
 use Rattle.std.specs.BTreeMap.{get}
 use Rattle.std.specs.List.{Contains}
@@ -7,17 +7,17 @@ use Rattle.fugue_ids.specs.declared.op.Op.{Op}
 use Rattle.origin_model.specs.order.Printed.{is_withdrawn}
 use Rattle.catalogue_notes.specs.Arranged.{arranged, position}
 use Rattle.catalogue_notes.specs.Lifting.{IsLiftOf}
-use Rattle.catalogue_notes.specs.Winning.{winning_bid}
+use Rattle.catalogue_notes.specs.Winning.{winning_candidate}
 use Rattle.catalogue_notes.specs.declared.arrangement.Arrangement.{Arrangement}
-use Rattle.catalogue_notes.specs.declared.reading.Bid.{Bid}
+use Rattle.catalogue_notes.specs.declared.reading.Candidate.{Candidate}
 
--- where a section stands: at the winning bid, or at its own element where it has none
-abbrev pub bid_position : Identifier → Option Bid → Identifier
-bid_position s o = elim o [ None ↦ s | Some b ↦ b.id ]
+-- where a section stands: at the winning candidate, or at its own element where it has none
+abbrev pub candidate_position : Identifier → Option Candidate → Identifier
+candidate_position s o = elim o [ None ↦ s | Some b ↦ b.id ]
 
 -- where a section stands by the winning moves
-abbrev pub position_in : (Identifier → Option Bid) → Identifier → Identifier
-position_in winners s = bid_position s (winners s)
+abbrev pub position_in : (Identifier → Option Candidate) → Identifier → Identifier
+position_in winners s = candidate_position s (winners s)
 
 -- no two of the sections have one position
 abbrev pub HaveOwnPositions : (Identifier → Identifier) → List Identifier → Type 0
@@ -27,9 +27,9 @@ HaveOwnPositions at sections = (s t : Identifier) → Contains sections s → Co
 abbrev pub IsPlacing : (Identifier → Identifier) → List Identifier → (Identifier → Option Identifier) → Type 0
 IsPlacing at sections placing = (x s : Identifier) → (placing x ≡ Some s) ↔ (Contains sections s × (at s ≡ x))
 
--- the winners are those of the bids that no Delete names
-abbrev pub AreWinners : List Op → List Bid → (Identifier → Option Bid) → Type 0
-AreWinners h bids winners = (s : Identifier) → winners s ≡ winning_bid (λ x. not (is_withdrawn h x)) s (reverse bids)
+-- the winners are those of the candidates that no Delete names
+abbrev pub AreWinners : List Op → List Candidate → (Identifier → Option Candidate) → Type 0
+AreWinners h candidates winners = (s : Identifier) → winners s ≡ winning_candidate (λ x. not (is_withdrawn h x)) s (reverse candidates)
 
 -- the arrangement of a history
 pub record IsArranged (h : List Op) (a : Arrangement) : Type 0 where

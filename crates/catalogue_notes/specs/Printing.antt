@@ -14,7 +14,7 @@ use Rattle.section_catalogue.specs.Contents.{Contents, text_at}
 use Rattle.catalogue_notes.specs.Arranged.{winner}
 use Rattle.catalogue_notes.specs.Lift.{retitles}
 use Rattle.catalogue_notes.specs.Placing.{IsArranged}
-use Rattle.catalogue_notes.specs.Readings.{bid_of}
+use Rattle.catalogue_notes.specs.Readings.{candidate_of}
 use Rattle.catalogue_notes.specs.declared.layout.Layout.{Layout}
 use Rattle.catalogue_notes.specs.declared.printing.ArrangeFault.{ArrangeFault}
 use Rattle.catalogue_notes.specs.declared.printing.ArrangeFault.TheVariants.{SinkFault, NoMemory}
@@ -36,13 +36,13 @@ title_of_op None = []
 title_of_op (Some op) = title_in op
 
 -- what gives a section its title: its winning retitle, or its Section
-abbrev pub title_giver : List Op → Layout → Identifier → Option Op
-title_giver h l s = elim (get id_cmp l.winners s) [ None ↦ holder h s | Some b ↦ holder h b.id ]
+abbrev pub title_source : List Op → Layout → Identifier → Option Op
+title_source h l s = elim (get id_cmp l.winners s) [ None ↦ holder h s | Some b ↦ holder h b.id ]
 
 -- the arrangement of a history, and the winning retitles
 pub record IsLayout (h : List Op) (l : Layout) : Type 0 where
   pub arranged : IsArranged h l.arrangement
-  pub winners : (s : Identifier) → get id_cmp l.winners s ≡ option_map bid_of (winner h s (retitles h))
+  pub winners : (s : Identifier) → get id_cmp l.winners s ≡ option_map candidate_of (winner h s (retitles h))
 
 -- a hash sign, a space, the title, LF, the text, LF
 abbrev pub page : List ℕ → Option Listing → List ℕ
@@ -51,7 +51,7 @@ page title (Some l) = codes "# " ++ title ++ 10 ∷ encode_utf8_all (cell_text l
 
 -- what is printed of a section
 abbrev pub printed_by : Contents → List Op → Layout → Identifier → List ℕ
-printed_by m h l s = page (title_of_op (title_giver h l s)) (text_at m s)
+printed_by m h l s = page (title_of_op (title_source h l s)) (text_at m s)
 
 -- the text goes out, or the output fails with a front of it gone out, or memory is wanting and nothing went out
 abbrev pub WritesText : OutView → OutView → Result (Unit {0}) ArrangeFault → List ℕ → Type 0

@@ -8,11 +8,11 @@ ghost use Rattle.run_store.specs.Cells.{cell_ids, cells_shown};
 ghost use Rattle.catalogue_notes.specs.Arranging.{IsBehindNote};
 ghost use Rattle.catalogue_notes.specs.Lifting.{IsLiftOf};
 ghost use Rattle.catalogue_notes.specs.Making.{without_member};
-ghost use Rattle.catalogue_notes.specs.Placing.{HaveOwnPositions, AreWinners, IsArranged, IsPlacing, bid_position, position_in};
+ghost use Rattle.catalogue_notes.specs.Placing.{HaveOwnPositions, AreWinners, IsArranged, IsPlacing, candidate_position, position_in};
 
 use crate::lifting::{Lifted, lift_at};
-use crate::reading::Bid;
-use crate::winning::{take_bid, winners_among};
+use crate::reading::Candidate;
+use crate::winning::{take_candidate, winners_among};
 use fugue_ids::{ElementId, NoMemory};
 use replica_core::Replica;
 use section_list::SectionList;
@@ -25,15 +25,15 @@ pub(crate) struct Arrangement {
     /// The shown sections in their order.
     pub sections: Vec<ElementId>,
     pub lifted: Lifted,
-    pub winners: BTreeMap<ElementId, Bid>,
+    pub winners: BTreeMap<ElementId, Candidate>,
 }
 
 /// The element at which a section stands.
-pub(crate) fn position_of(winners: &BTreeMap<ElementId, Bid>, section: ElementId) -> ElementId
+pub(crate) fn position_of(winners: &BTreeMap<ElementId, Candidate>, section: ElementId) -> ElementId
     ensures { result ≡ position_in (get id_cmp winners.now) section }
 {
     match winners.get(&section) {
-        Some(bid) => bid.id,
+        Some(candidate) => candidate.id,
         None => section,
     }
 }
@@ -41,7 +41,7 @@ pub(crate) fn position_of(winners: &BTreeMap<ElementId, Bid>, section: ElementId
 /// The section that stands at each element, of those that are visible.
 fn placing_of(
     alloc: Global,
-    winners: &BTreeMap<ElementId, Bid>,
+    winners: &BTreeMap<ElementId, Candidate>,
     catalogue: &SectionList,
 ) -> Result<BTreeMap<ElementId, ElementId>, NoMemory>
     requires { HaveOwnPositions (position_in (get id_cmp winners.now)) (cell_ids (cells_shown catalogue.now.cells)) }
@@ -79,7 +79,7 @@ impl Arrangement {
     /// That of the accepted operations.
     pub fn of(alloc: Global, replica: &Replica) -> Result<Arrangement, NoMemory>
         ensures arranged { IfOk result (λ a. IsArranged replica.now.held.history a) }
-        ensures stands { IsSound replica.now }
+        ensures sound { IsSound replica.now }
     {
         let lifted = Lifted::of(alloc, replica)?;
         let winners = winners_among(alloc, replica, &lifted.moves)?;
@@ -105,10 +105,10 @@ impl Arrangement {
         let Some(lift) = lift_at(&self.lifted.list, replica, newest) else {
             return Ok(());
         };
-        let bid = lift.bid;
+        let candidate = lift.candidate;
         self.lifted.take(lift)?;
-        if let Some(bid) = bid {
-            take_bid(&mut self.winners, bid)?;
+        if let Some(candidate) = candidate {
+            take_candidate(&mut self.winners, candidate)?;
         }
         Ok(())
     }

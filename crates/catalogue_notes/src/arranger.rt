@@ -48,7 +48,7 @@ impl Arranger {
         ensures unmade { OnErr result (replica.new ≡ replica.old) }
         ensures arranges { Arranges replica.new.held.history self.new }
         ensures settled { IsSettled replica.new.held }
-        ensures stands { IsSound replica.new }
+        ensures sound { IsSound replica.new }
     {
         find_place(replica, k, j)?;
         let mut found = self.take(alloc, replica)?;
@@ -76,7 +76,7 @@ impl Arranger {
         ensures unmade { OnErr result (replica.new ≡ replica.old) }
         ensures arranges { Arranges replica.new.held.history self.new }
         ensures settled { IsSettled replica.new.held }
-        ensures stands { IsSound replica.new }
+        ensures sound { IsSound replica.new }
     {
         find_section(replica, k)?;
         let mut found = self.take(alloc, replica)?;

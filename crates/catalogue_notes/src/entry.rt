@@ -1,3 +1,4 @@
+//! `Outline`: the visible sections in their arranged order, with their numbers and headings.
 ghost use Rattle.std.specs.Prelude.{◌≡◌};
 
 use fugue_ids::ElementId;

@@ -40,7 +40,7 @@ impl<'a> Headings<'a> {
     /// Those of the accepted operations.
     pub fn of(alloc: Global, replica: &'a Replica) -> Result<Headings<'a>, NoMemory>
         ensures history { IfOk result (λ found. found ≡ replica.now.held.history) }
-        ensures stands { IsSound replica.now }
+        ensures sound { IsSound replica.now }
     {
         let layout = Layout::of(alloc, replica)?;
         Ok(Headings { replica, layout })

@@ -5,10 +5,10 @@ ghost use Rattle.fugue_ids.specs.Identifiers.{id_cmp};
 ghost use Rattle.op_runs.specs.Finding.{op_of};
 ghost use Rattle.origin_model.specs.edits.State.{IsSound};
 ghost use Rattle.origin_model.specs.operations.History.{holder};
-ghost use Rattle.catalogue_notes.specs.Printing.{IsLayout, title_giver as title_giver_in};
+ghost use Rattle.catalogue_notes.specs.Printing.{IsLayout, title_source as title_source_in};
 
 use crate::arrangement::Arrangement;
-use crate::reading::Bid;
+use crate::reading::Candidate;
 use crate::retitles::retitles_of;
 use crate::winning::winners_among;
 use fugue_ids::{ElementId, NoMemory};
@@ -21,18 +21,18 @@ use std::collections::BTreeMap;
 pub(crate) struct Layout {
     pub arrangement: Arrangement,
     /// The winning retitle of each section that has one.
-    pub winners: BTreeMap<ElementId, Bid>,
+    pub winners: BTreeMap<ElementId, Candidate>,
 }
 
 impl Layout {
     /// That of the accepted operations.
     pub(crate) fn of(alloc: Global, replica: &Replica) -> Result<Layout, NoMemory>
         ensures layout { IfOk result (λ l. IsLayout replica.now.held.history l) }
-        ensures stands { IsSound replica.now }
+        ensures sound { IsSound replica.now }
     {
         let arrangement = Arrangement::of(alloc, replica)?;
-        let bids = retitles_of(alloc, replica)?;
-        let winners = winners_among(alloc, replica, &bids)?;
+        let candidates = retitles_of(alloc, replica)?;
+        let winners = winners_among(alloc, replica, &candidates)?;
         Ok(Layout {
             arrangement,
             winners,
@@ -40,15 +40,15 @@ impl Layout {
     }
 
     /// The operation that gives a section its title.
-    pub(crate) fn title_giver<'a>(
+    pub(crate) fn title_source<'a>(
         &self,
         replica: &'a Replica,
         section: ElementId,
     ) -> Option<OpRef<'a>>
-        ensures { option_map op_of result ≡ title_giver_in replica.now.held.history self.now section }
+        ensures { option_map op_of result ≡ title_source_in replica.now.held.history self.now section }
     {
         match self.winners.get(&section) {
-            Some(bid) => replica.holder(bid.id),
+            Some(candidate) => replica.holder(candidate.id),
             None => replica.holder(section),
         }
     }

@@ -9,7 +9,7 @@ mod laws;
 mod layout;
 mod lifting;
 mod limits;
-mod making;
+mod move_note;
 mod moving;
 mod outlining;
 mod printing;
@@ -30,5 +30,5 @@ pub use laws::{
 pub use limits::{MOVE_CODE, RETITLE_CODE};
 pub use moving::{MoveFault, move_section};
 pub use outlining::outline;
-pub use printing::{ArrangeFault, told, write_arranged};
+pub use printing::{ArrangeFault, or_sink_fault, write_arranged};
 pub use retitling::retitle;

@@ -9,7 +9,7 @@ ghost use Rattle.catalogue_notes.specs.Lift.{is_section as is_section_in};
 ghost use Rattle.catalogue_notes.specs.Lifting.{IsLiftOf, lift_by, lift_move};
 ghost use Rattle.catalogue_notes.specs.Readings.{move_claim};
 
-use crate::reading::{Bid, Move, move_in};
+use crate::reading::{Candidate, Move, move_in};
 use crate::sections::is_section;
 use fugue_ids::{ElementId, MOST_OPERATIONS, NoMemory, Op};
 use origin_model::{Node, element_of};
@@ -24,18 +24,18 @@ const MARK: char = '-';
 #[derive(Clone, Copy)]
 pub(crate) struct Lift {
     pub node: Node,
-    /// That of a move.
-    pub bid: Option<Bid>,
+    /// Some for a move, None for a Section.
+    pub candidate: Option<Candidate>,
 }
 
 /// The elements in order, and the valid moves, the oldest first.
 #[derive(Drop)]
 pub(crate) struct Lifted {
     pub list: SectionList,
-    pub moves: Vec<Bid>,
+    pub moves: Vec<Candidate>,
 }
 
-fn stands(list: &SectionList, origin: Option<ElementId>) -> bool
+fn is_present(list: &SectionList, origin: Option<ElementId>) -> bool
     ensures { result ≡ has_origin list.now.nodes origin }
 {
     match origin {
@@ -47,17 +47,20 @@ fn stands(list: &SectionList, origin: Option<ElementId>) -> bool
 fn lift_of_move(list: &SectionList, replica: &Replica, found: &Move) -> Option<Lift>
     ensures { result ≡ lift_move (is_section_in replica.now.held.history) list.now.nodes (Some (move_claim found.now)) }
 {
-    let Move { bid, gap } = *found;
-    if !is_section(replica, bid.section) || !stands(list, gap.left) || !stands(list, gap.right) {
+    let Move { candidate, gap } = *found;
+    if !is_section(replica, candidate.section)
+        || !is_present(list, gap.left)
+        || !is_present(list, gap.right)
+    {
         return None;
     }
     Some(Lift {
         node: Node {
-            id: bid.id,
+            id: candidate.id,
             left: gap.left,
             right: gap.right,
         },
-        bid: Some(bid),
+        candidate: Some(candidate),
     })
 }
 
@@ -67,7 +70,10 @@ fn lift_of(list: &SectionList, replica: &Replica, op: &Op) -> Option<Lift>
 {
     match op {
         Op::Section { .. } => match element_of(op) {
-            Some((_, node)) => Some(Lift { node, bid: None }),
+            Some((_, node)) => Some(Lift {
+                node,
+                candidate: None,
+            }),
             None => None,
         },
         Op::Text { .. } | Op::Delete { .. } => None,
@@ -90,26 +96,26 @@ pub(crate) fn lift_at(list: &SectionList, replica: &Replica, at: usize) -> Optio
 }
 
 impl Lifted {
-    /// After want of memory the bid may be wanting.
+    /// Adds what one operation adds. If memory runs out, the element may be there without its candidate.
     pub(crate) fn take(&mut self, lift: Lift) -> Result<(), NoMemory>
         requires new { IsNew self.old.list.nodes lift.node }
         requires room { length self.old.list.cells < MOST_OPERATIONS }
         ensures list { OnOk result (self.new.list ≡ with_element lift.node 45 self.old.list) }
         ensures in_order { OnOk result (IsInOrder self.new.list) }
-        ensures moves { OnOk result (self.new.moves.items ≡ self.old.moves.items ++ option_to_list lift.bid) }
+        ensures moves { OnOk result (self.new.moves.items ≡ self.old.moves.items ++ option_to_list lift.candidate) }
     {
         let Node { id, left, right } = lift.node;
         self.list.insert(id, left, right, MARK)?;
-        if let Some(bid) = lift.bid {
-            self.moves.push(bid)?;
+        if let Some(candidate) = lift.candidate {
+            self.moves.push(candidate)?;
         }
         Ok(())
     }
 
-    /// What is lifted of the accepted operations.
+    /// The elements and the moves of the accepted operations.
     pub(crate) fn of(alloc: Global, replica: &Replica) -> Result<Lifted, NoMemory>
         ensures lifted { IfOk result (λ lifted. IsLiftOf replica.now.held.history lifted.list lifted.moves.items) }
-        ensures stands { IsSound replica.now }
+        ensures sound { IsSound replica.now }
     {
         let mut lifted = Lifted {
             list: SectionList::new(alloc),

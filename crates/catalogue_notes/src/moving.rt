@@ -10,7 +10,7 @@ ghost use Rattle.catalogue_notes.specs.Moving.{as_move_fault, move_refusal, plac
 
 use crate::MOVE_CODE;
 use crate::arranger::Arranger;
-use crate::making::{body_of, gap_for, names_of, section_at};
+use crate::move_note::{body_of, gap_for, names_of, section_at};
 use crate::stamped::Stamped;
 use fugue_ids::{Body, NoMemory, NoteNames};
 use origin_model::EditFault;
@@ -66,7 +66,7 @@ pub(crate) struct Plan {
 pub(crate) fn find_section(replica: &Replica, k: usize) -> Result<(), MoveFault>
     ensures ok { OnOk result (section_cause replica.now k ≡ None) }
     ensures err { IfErr result (λ fault. section_cause replica.now k ≡ Some fault) }
-    ensures stands { IsSound replica.now }
+    ensures sound { IsSound replica.now }
 {
     if k >= replica.section_count() {
         return Err(MoveFault::NoSection);
@@ -78,7 +78,7 @@ pub(crate) fn find_section(replica: &Replica, k: usize) -> Result<(), MoveFault>
 pub(crate) fn find_place(replica: &Replica, k: usize, j: usize) -> Result<(), MoveFault>
     ensures ok { OnOk result (place_cause replica.now k j ≡ None) }
     ensures err { IfErr result (λ fault. place_cause replica.now k j ≡ Some fault) }
-    ensures stands { IsSound replica.now }
+    ensures sound { IsSound replica.now }
 {
     find_section(replica, k)?;
     if j >= replica.section_count() {
@@ -118,7 +118,7 @@ pub(crate) fn make(replica: &mut Replica, code: u8, plan: Plan) -> Result<u32, M
     ensures refused { NoteRefusesAs replica.old result }
     ensures unmade { OnErr result (replica.new ≡ replica.old) }
     ensures settled { IsSettled replica.new.held }
-    ensures stands { IsSound replica.new }
+    ensures sound { IsSound replica.new }
 {
     match replica.note(plan.names, code, plan.body) {
         Ok(count) => Ok(count),
@@ -135,7 +135,7 @@ pub(crate) fn make_move(
     j: usize,
 ) -> Result<u32, MoveFault>
     requires settled { IsSettled replica.old.held }
-    requires stands { IsSound replica.old }
+    requires sound { IsSound replica.old }
     requires place { place_cause replica.old k j ≡ None }
     requires found { IsStamped replica.old.held.history found.now }
     ensures made { IfOk result (λ n. IsMoveMade replica.old replica.new k j n) }
@@ -145,7 +145,7 @@ pub(crate) fn make_move(
     ensures unmade { OnErr result (replica.new ≡ replica.old) }
     ensures left_over { OnOk result (stamp replica.old.held.history + 1 < 2 ^ 32) }
     ensures settled { IsSettled replica.new.held }
-    ensures stands { IsSound replica.new }
+    ensures sound { IsSound replica.new }
 {
     let plan = plan_move(alloc, replica, found, k, j)?;
     make(replica, MOVE_CODE, plan)
@@ -165,7 +165,7 @@ pub fn move_section(
     ensures refused { RefusesFor (move_refusal replica.old k j) result }
     ensures unmade { OnErr result (replica.new ≡ replica.old) }
     ensures settled { IsSettled replica.new.held }
-    ensures stands { IsSound replica.new }
+    ensures sound { IsSound replica.new }
 {
     Arranger::new().move_section(alloc, replica, k, j)
 }

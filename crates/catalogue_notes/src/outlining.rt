@@ -7,7 +7,7 @@ ghost use Rattle.origin_model.specs.operations.Verdict.{Lawful};
 ghost use Rattle.section_catalogue.specs.Manuscript.{IsOrderedPlace};
 ghost use Rattle.run_store.specs.Cells.{cell_ids, cells_shown};
 ghost use Rattle.catalogue_notes.specs.Outlining.{IsOutline};
-ghost use Rattle.catalogue_notes.specs.Printing.{IsLayout, title_giver, title_of_op};
+ghost use Rattle.catalogue_notes.specs.Printing.{IsLayout, title_source, title_of_op};
 
 use crate::entry::{Entry, Outline};
 use crate::layout::Layout;
@@ -43,7 +43,7 @@ fn entry_of(
     ensures number { IfOk result (λ entry.
         slice_get (cell_ids (cells_shown catalogue.now.cells)) entry.number ≡ Some section) }
     ensures heading { IfOk result (λ entry.
-        string_bytes entry.heading ≡ title_of_op (title_giver replica.now.held.history layout.now section)) }
+        string_bytes entry.heading ≡ title_of_op (title_source replica.now.held.history layout.now section)) }
 {
     let title = title_of(replica, layout, section);
     Ok(Entry {
@@ -75,7 +75,7 @@ fn entries_of(
 /// The shown sections as they are arranged, each with its number and its heading.
 pub fn outline(alloc: Global, replica: &Replica) -> Result<Outline, NoMemory>
     ensures outline { IfOk result (λ found. IsOutline replica.now.held.history found) }
-    ensures stands { IsSound replica.now }
+    ensures sound { IsSound replica.now }
 {
     let catalogue = replica.places().catalogue();
     let layout = Layout::of(alloc, replica)?;

@@ -5,7 +5,7 @@ ghost use Rattle.fugue_ids.specs.Outs.{OutView, WritesBytes};
 ghost use Rattle.op_runs.specs.Finding.{op_of};
 ghost use Rattle.origin_model.specs.edits.State.{IsSound};
 ghost use Rattle.catalogue_notes.specs.Arranged.{arranged_text};
-ghost use Rattle.catalogue_notes.specs.Printing.{WritesText, page, printed_by, title_giver, title_in as title_in_op, title_of_op, utf8_or_none};
+ghost use Rattle.catalogue_notes.specs.Printing.{WritesText, page, printed_by, title_source, title_in as title_in_op, title_of_op, utf8_or_none};
 
 use crate::layout::Layout;
 use fugue_ids::{ElementId, Failed, Gather, NoMemory, Op, Out};
@@ -68,10 +68,10 @@ fn title_in(op: &Op) -> &str
 }
 
 /// The same of an operation that is given by value.
-fn title_given<'a>(giver: &OpRef<'a>) -> &'a str
-    ensures { result.now ≡ title_in_op (op_of giver.now) }
+fn title_given<'a>(ops_source: &OpRef<'a>) -> &'a str
+    ensures { result.now ≡ title_in_op (op_of ops_source.now) }
 {
-    match giver {
+    match ops_source {
         OpRef::Whole(op) => title_in(op),
         OpRef::Letter(_, _) | OpRef::Deletion(_) => "",
     }
@@ -79,10 +79,10 @@ fn title_given<'a>(giver: &OpRef<'a>) -> &'a str
 
 /// The title of a section.
 pub(crate) fn title_of<'a>(replica: &'a Replica, layout: &Layout, section: ElementId) -> &'a str
-    ensures { result.now ≡ title_of_op (title_giver replica.now.held.history layout.now section) }
+    ensures { result.now ≡ title_of_op (title_source replica.now.held.history layout.now section) }
 {
-    match layout.title_giver(replica, section) {
-        Some(giver) => title_given(&giver),
+    match layout.title_source(replica, section) {
+        Some(ops_source) => title_given(&ops_source),
         None => "",
     }
 }
@@ -162,7 +162,7 @@ fn write_sections<O: Out>(
 }
 
 /// What became of a text, as a fault of printing it.
-pub fn told(written: Result<(), Failed>) -> Result<(), ArrangeFault>
+pub fn or_sink_fault(written: Result<(), Failed>) -> Result<(), ArrangeFault>
     ensures { (old new : OutView) (text : List ℕ) → WritesBytes old new written text → WritesText old new result text }
 {
     match written {
@@ -180,8 +180,8 @@ pub fn write_arranged<O: Sink>(
 ) -> Result<(), ArrangeFault>
     ensures text { WritesText (O.seen output.old) (O.seen output.new) result
         (arranged_text replica.now.held.history) }
-    ensures stands { IsSound replica.now }
+    ensures sound { IsSound replica.now }
 {
     let layout = Layout::of(alloc, replica)?;
-    told(write_sections(output, replica, replica.places(), &layout))
+    or_sink_fault(write_sections(output, replica, replica.places(), &layout))
 }

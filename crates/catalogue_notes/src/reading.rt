@@ -2,14 +2,14 @@
 ghost use Rattle.std.specs.Prelude.{◌≡◌, option_map};
 ghost use Rattle.catalogue_notes.specs.Claims.{move_in as move_on, move_of as move_with, origins_of as origins_with};
 ghost use Rattle.catalogue_notes.specs.Claims.{retitle_in as retitle_on, retitle_of as retitle_with};
-ghost use Rattle.catalogue_notes.specs.Readings.{move_claim, read_origins, retitle_bid};
+ghost use Rattle.catalogue_notes.specs.Readings.{move_claim, read_origins, retitle_candidate};
 
 use crate::{MOVE_CODE, RETITLE_CODE};
 use fugue_ids::{ElementId, LONGEST_TITLE, Op, is_line};
 
 /// A note on a section, by what the winner is chosen by.
 #[derive(Clone, Copy)]
-pub(crate) struct Bid {
+pub(crate) struct Candidate {
     pub id: ElementId,
     pub section: ElementId,
     pub stamp: u32,
@@ -24,7 +24,7 @@ pub(crate) struct Gap {
 
 #[derive(Clone, Copy)]
 pub(crate) struct Move {
-    pub bid: Bid,
+    pub candidate: Candidate,
     pub gap: Gap,
 }
 
@@ -65,7 +65,7 @@ fn move_of(id: ElementId, names: &[ElementId], body: &[u8]) -> Option<Move>
     let gap = gap_of(*form, origins)?;
     let stamp = u32::from_be_bytes([*a, *b, *c, *d]);
     Some(Move {
-        bid: Bid {
+        candidate: Candidate {
             id,
             section: *section,
             stamp,
@@ -89,8 +89,8 @@ pub(crate) fn move_in(op: &Op) -> Option<Move>
     }
 }
 
-fn retitle_of(id: ElementId, names: &[ElementId], body: &[u8]) -> Option<Bid>
-    ensures { result ≡ option_map retitle_bid (retitle_with id names.now body.now) }
+fn retitle_of(id: ElementId, names: &[ElementId], body: &[u8]) -> Option<Candidate>
+    ensures { result ≡ option_map retitle_candidate (retitle_with id names.now body.now) }
 {
     let [section] = names else {
         return None;
@@ -102,7 +102,7 @@ fn retitle_of(id: ElementId, names: &[ElementId], body: &[u8]) -> Option<Bid>
         return None;
     }
     let stamp = u32::from_be_bytes([*a, *b, *c, *d]);
-    Some(Bid {
+    Some(Candidate {
         id,
         section: *section,
         stamp,
@@ -110,8 +110,8 @@ fn retitle_of(id: ElementId, names: &[ElementId], body: &[u8]) -> Option<Bid>
 }
 
 /// What the operation says but the title, where it has the shape of a retitle.
-pub(crate) fn retitle_in(op: &Op) -> Option<Bid>
-    ensures { result ≡ option_map retitle_bid (retitle_on op.now) }
+pub(crate) fn retitle_in(op: &Op) -> Option<Candidate>
+    ensures { result ≡ option_map retitle_candidate (retitle_on op.now) }
 {
     match op {
         Op::Note {

@@ -13,7 +13,7 @@ ghost use Rattle.catalogue_notes.specs.Moving.{retitle_refusal, section_cause, s
 
 use crate::RETITLE_CODE;
 use crate::arranger::Arranger;
-use crate::making::section_at;
+use crate::move_note::section_at;
 use crate::moving::{MoveFault, Plan, make};
 use crate::stamped::Stamped;
 use fugue_ids::{Body, ElementId, NoMemory, NoteNames, Title};
@@ -40,7 +40,7 @@ fn body_of(alloc: Global, stamp: u32, title: &Title) -> Result<Body, NoMemory>
     }
 }
 
-/// What gives the section k the title.
+/// The names and the body of the note that gives section k the title.
 fn plan_retitle(
     alloc: Global,
     replica: &Replica,
@@ -69,7 +69,7 @@ pub(crate) fn make_retitle(
     title: &Title,
 ) -> Result<u32, MoveFault>
     requires settled { IsSettled replica.old.held }
-    requires stands { IsSound replica.old }
+    requires sound { IsSound replica.old }
     requires section { section_cause replica.old k ≡ None }
     requires found { IsStamped replica.old.held.history found.now }
     ensures made { IfOk result (λ n. IsRetitleMade replica.old replica.new k title.now n) }
@@ -79,13 +79,13 @@ pub(crate) fn make_retitle(
     ensures unmade { OnErr result (replica.new ≡ replica.old) }
     ensures left_over { OnOk result (stamp replica.old.held.history + 1 < 2 ^ 32) }
     ensures settled { IsSettled replica.new.held }
-    ensures stands { IsSound replica.new }
+    ensures sound { IsSound replica.new }
 {
     let plan = plan_retitle(alloc, replica, found, k, title)?;
     make(replica, RETITLE_CODE, plan)
 }
 
-/// Gives the section k, counted from 0 as sections are arranged, the title. The answer is 1.
+/// Gives section k, counted from 0 as sections are arranged, the title. Returns how many operations it made: 1.
 pub fn retitle(
     alloc: Global,
     replica: &mut Replica,
@@ -99,7 +99,7 @@ pub fn retitle(
     ensures refused { RefusesFor (retitle_refusal replica.old k) result }
     ensures unmade { OnErr result (replica.new ≡ replica.old) }
     ensures settled { IsSettled replica.new.held }
-    ensures stands { IsSound replica.new }
+    ensures sound { IsSound replica.new }
 {
     Arranger::new().retitle(alloc, replica, k, title)
 }

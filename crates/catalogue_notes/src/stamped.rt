@@ -7,7 +7,7 @@ ghost use Rattle.catalogue_notes.specs.Lift.{stamp as stamp_on};
 ghost use Rattle.catalogue_notes.specs.Moving.{stamps_cause};
 
 use crate::arrangement::Arrangement;
-use crate::making::stamp_of;
+use crate::move_note::stamp_of;
 use crate::moving::MoveFault;
 use fugue_ids::{NoMemory, Title};
 use replica_core::Replica;
@@ -24,7 +24,7 @@ impl Stamped {
     /// That of the accepted operations.
     pub fn of(alloc: Global, replica: &Replica) -> Result<Stamped, NoMemory>
         ensures found { IfOk result (λ found. IsStamped replica.now.held.history found) }
-        ensures stands { IsSound replica.now }
+        ensures sound { IsSound replica.now }
     {
         let arrangement = Arrangement::of(alloc, replica)?;
         let stamp = stamp_of(alloc, replica, &arrangement)?;
@@ -47,7 +47,7 @@ impl Stamped {
     /// The same behind a move of the section k to j. After want of memory it is of no use.
     pub fn take_move(&mut self, replica: &Replica, k: usize, j: usize) -> Result<(), NoMemory>
         requires behind { IsBehindMove replica.now self.old k j }
-        requires stands { IsSound replica.now }
+        requires sound { IsSound replica.now }
         ensures { OnOk result (IsStamped replica.now.held.history self.new) }
     {
         self.arrangement.take_note(replica)?;
@@ -64,7 +64,7 @@ impl Stamped {
         title: &Title,
     ) -> Result<(), NoMemory>
         requires behind { IsBehindRetitle replica.now self.old k title.now }
-        requires stands { IsSound replica.now }
+        requires sound { IsSound replica.now }
         ensures { OnOk result (IsStamped replica.now.held.history self.new) }
     {
         self.arrangement.take_note(replica)?;

@@ -4,36 +4,39 @@ ghost use Rattle.std.specs.BTreeMap.{get};
 ghost use Rattle.fugue_ids.specs.Identifiers.{Identifier, id_cmp};
 ghost use Rattle.fugue_ids.specs.Keyed.{IsReplaced};
 ghost use Rattle.origin_model.specs.order.Printed.{is_withdrawn};
-ghost use Rattle.catalogue_notes.specs.Winning.{better_bid, bid_wins, winning_bid};
+ghost use Rattle.catalogue_notes.specs.Winning.{better_candidate, candidate_wins, winning_candidate};
 
-use crate::reading::Bid;
+use crate::reading::Candidate;
 use fugue_ids::{ElementId, NoMemory};
 use replica_core::Replica;
 use std::alloc::Global;
 use std::collections::BTreeMap;
 
-fn is_greater(a: &Bid, b: &Bid) -> bool
-    ensures { result ≡ bid_wins a.now b.now }
+fn is_greater(a: &Candidate, b: &Candidate) -> bool
+    ensures { result ≡ candidate_wins a.now b.now }
 {
     b.stamp < a.stamp || (b.stamp == a.stamp && b.id < a.id)
 }
 
-fn better(bid: Bid, other: Option<&Bid>) -> Bid
-    ensures { result ≡ better_bid bid (option_copied other.entry) }
+fn better(candidate: Candidate, other: Option<&Candidate>) -> Candidate
+    ensures { result ≡ better_candidate candidate (option_copied other.entry) }
 {
     match other {
-        Some(other) if !is_greater(&bid, other) => *other,
-        _ => bid,
+        Some(other) if !is_greater(&candidate, other) => *other,
+        _ => candidate,
     }
 }
 
 /// One note more, which is not withdrawn.
-pub(crate) fn take_bid(winners: &mut BTreeMap<ElementId, Bid>, bid: Bid) -> Result<(), NoMemory>
-    ensures ok { OnOk result (IsReplaced (get id_cmp winners.old) (get id_cmp winners.new) bid.section
-        (Some (better_bid bid (get id_cmp winners.old bid.section)))) }
+pub(crate) fn take_candidate(
+    winners: &mut BTreeMap<ElementId, Candidate>,
+    candidate: Candidate,
+) -> Result<(), NoMemory>
+    ensures ok { OnOk result (IsReplaced (get id_cmp winners.old) (get id_cmp winners.new) candidate.section
+        (Some (better_candidate candidate (get id_cmp winners.old candidate.section)))) }
 {
-    let best = better(bid, winners.get(&bid.section));
-    winners.insert(bid.section, best)?;
+    let best = better(candidate, winners.get(&candidate.section));
+    winners.insert(candidate.section, best)?;
     Ok(())
 }
 
@@ -41,15 +44,15 @@ pub(crate) fn take_bid(winners: &mut BTreeMap<ElementId, Bid>, bid: Bid) -> Resu
 pub(crate) fn winners_among(
     alloc: Global,
     replica: &Replica,
-    bids: &[Bid],
-) -> Result<BTreeMap<ElementId, Bid>, NoMemory>
+    candidates: &[Candidate],
+) -> Result<BTreeMap<ElementId, Candidate>, NoMemory>
     ensures { IfOk result (λ winners. (s : Identifier) → get id_cmp winners s
-        ≡ winning_bid (λ x. not (is_withdrawn replica.now.held.history x)) s (reverse bids.now)) }
+        ≡ winning_candidate (λ x. not (is_withdrawn replica.now.held.history x)) s (reverse candidates.now)) }
 {
     let mut winners = BTreeMap::new(alloc);
-    'notes: for bid in bids {
-        if !replica.is_withdrawn(bid.id) {
-            take_bid(&mut winners, *bid)?;
+    'notes: for candidate in candidates {
+        if !replica.is_withdrawn(candidate.id) {
+            take_candidate(&mut winners, *candidate)?;
         }
     }
     Ok(winners)

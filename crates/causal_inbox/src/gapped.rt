@@ -1,3 +1,4 @@
+//! A list whose items are removed in any order: each leaves a hole, and the holes are closed together.
 ghost use Rattle.std.specs.Prelude.{◌≡◌, ◌<◌, ◌≤◌, ◌+◌, ◌++◌, ◌∷◌, [], Some, drop, get_or, take, length, insert};
 ghost use Rattle.std.specs.Prelude.{remove as without, set as with_item, slice_get, OnOk, OnErr, IfErr, IsTrue};
 ghost use Rattle.std.specs.Prelude.{vec_len, vec_capacity};

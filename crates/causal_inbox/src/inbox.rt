@@ -1,3 +1,4 @@
+//! The pending operations of a replica in order of arrival, in one slice, and which of them can leave.
 ghost use Rattle.std.specs.Prelude.{◌≡◌, ◌↔◌, ◌<◌, ◌≤◌, ◌++◌, ◌∷◌, [], Some, true, false, length, position as first_position};
 ghost use Rattle.std.specs.Prelude.{remove as without, slice_get, OnOk, OnErr, IfErr, List};
 ghost use Rattle.fugue_ids.specs.Ops.{id_of};

@@ -1,3 +1,4 @@
+//! The pending operations while many leave: indexed, and with holes that are closed afterwards.
 ghost use Rattle.std.specs.Prelude.{◌≡◌, ◌↔◌, ◌<◌, ◌≤◌, ◌++◌, ◌∷◌, [], None, Some, true, false, length};
 ghost use Rattle.std.specs.Prelude.{remove as without, slice_get, OnOk, OnErr, IfErr, IsTrue, ◌+◌, ◌^◌};
 ghost use Rattle.fugue_ids.specs.Ops.{id_of};

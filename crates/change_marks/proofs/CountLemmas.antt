@@ -100,7 +100,7 @@ same_counts f h s w l all some =
     → is_shown f x ≡ not (is_hidden h x) = same_kept (is_shown f) (λ x. not (is_hidden h x)) xs narrower (sym (ap length then_shown) ∙ some) in
     marks_by_elements (mark_of f h) xs ∙ none_changed (mark_of f h) xs (λ x c. no_marks (holds f x) (is_hidden f x) (is_hidden h x) x.replica (had x c) (same x c))
 
--- so where its head has no mark, nothing is told of it; both histories may be given by other names
+-- so where its head has no mark, nothing is reported of it; both histories may be given by other names
 pub counted_same : (f h : List Op) {f_is h_is : List Op} (s : Identifier) → f_is ≡ f → h_is ≡ h → Lawful h_is → IsLater f h → head_is_marked f h s ≡ false
     → length (order (within s) f_is) ≡ length (order (within s) h_is) → length (shown (within s) f_is) ≡ length (shown (within s) h_is) → is_changed f h s ≡ false
 counted_same f h s a b w l head all some =

@@ -46,9 +46,9 @@ unfolding changes_text order chain lift claims encode digits
 all_is_new = refl
 
 -- a section that was dropped shows what a co-author wrote into it
-dropped_is_told : changes_text before dropped ≡ codes "# {--T--}" ++ 10 ∷ codes "{--ab--}{++cd++}{>>2<<}" ++ 10 ∷ []
+dropped_is_printed : changes_text before dropped ≡ codes "# {--T--}" ++ 10 ∷ codes "{--ab--}{++cd++}{>>2<<}" ++ 10 ∷ []
 unfolding changes_text order chain lift claims encode digits
-dropped_is_told = refl
+dropped_is_printed = refl
 
 -- a new title
 title_is_marked : changes_text before retitled ≡ codes "# {--T--}{++U++}" ++ 10 ∷ codes "ab" ++ 10 ∷ []
@@ -56,6 +56,6 @@ unfolding changes_text order chain lift claims is_utf8 chars encode digits
 title_is_marked = refl
 
 -- who wrote it
-authors_are_told : authors_text changed ≡ codes "1 1.0" ++ 10 ∷ codes "  1 1" ++ 10 ∷ codes "  2 2" ++ 10 ∷ []
+authors_are_printed : authors_text changed ≡ codes "1 1.0" ++ 10 ∷ codes "  1 1" ++ 10 ∷ codes "  2 2" ++ 10 ∷ []
 unfolding order chain lift claims encode digits
-authors_are_told = refl
+authors_are_printed = refl

@@ -21,7 +21,8 @@ use Rattle.catalogue_notes.proofs.PartLemmas.{parts_same}
 use Rattle.catalogue_notes.proofs.RetitlingLemmas.{arranged_section}
 use Rattle.version_views.specs.Laws.{is_shown}
 use Rattle.version_views.proofs.ViewLemmas.{shown_by_filter}
-use Rattle.change_marks.specs.Changes.{IsLater, arranges, changes_text, dropped_told, head, heading_bytes, is_changed, is_marked, is_moved, is_retitled, section_told, change_text}
+use Rattle.change_marks.specs.Changes.{IsLater, arranges, changes_text, dropped_changes, head, heading_bytes, is_changed, is_marked}
+use Rattle.change_marks.specs.Changes.{is_moved, is_retitled, section_changes, change_text}
 use Rattle.change_marks.specs.Laws.{AllSinceTheBeginning, AuthorsTellAll, ChangesByFilter, NothingSinceNow, is_new, is_of_now, is_of_then, section_new}
 use Rattle.change_marks.specs.Marks.{letter_of, mark_of, marked_as, runs}
 use Rattle.change_marks.specs.Steps.{is_changed_element}
@@ -115,11 +116,11 @@ none_left test (x ∷ xs) e = rw (e x (contains_here x xs)) (none_left test xs (
 pub nothing_since_now : NothingSinceNow
 unfolding changes_text
 nothing_since_now h w =
-    let sections : flat_map (section_told h h) (arranged h) ≡ [] =
-    nothing_in (section_told h h) (arranged h)
+    let sections : flat_map (section_changes h h) (arranged h) ≡ [] =
+    nothing_in (section_changes h h) (arranged h)
     (λ s m. ap (λ (b : Bool). if b then change_text h (head h h s) (runs false h h s) else []) (unchanged h s w (arranged_section h s w m))) in
-    let dropped : flat_map (dropped_told h h) (filter (λ s. not (arranges h s)) (arranged h)) ≡ [] =
-    ap (flat_map (dropped_told h h)) (none_left (λ s. not (arranges h s)) (arranged h) (λ s m. ap not (has_from_contains (arranged h) s m))) in
+    let dropped : flat_map (dropped_changes h h) (filter (λ s. not (arranges h s)) (arranged h)) ≡ [] =
+    ap (flat_map (dropped_changes h h)) (none_left (λ s. not (arranges h s)) (arranged h) (λ s m. ap not (has_from_contains (arranged h) s m))) in
     (λ i. sections i ++ dropped i)
 
 new_marks : (is : Bool) (r : ℕ) (k : Mark) → marked_as false false is r ≡ Some k → is_new k ≡ true

@@ -6,4 +6,5 @@ pub mod LongestLemmas
 pub mod LaterLemmas
 pub mod LawLemmas
 pub mod CountLemmas
+pub mod WalkLemmas
 pub mod WritingLemmas

@@ -116,7 +116,7 @@ drop_here xs i s below is =
     let place : suc i ≡ i + 1 = omega arith in
     drop-cons xs i s below ∙ (λ j. sym is j ∷ drop (place j) xs)
 
--- what is told of sections from one on is what is told of it, and of those behind it
+-- what is reported of sections from one on is what is reported of it, and of those behind it
 pub authors_next : (h : List Op) (xs : List Identifier) (i : ℕ) (s : Identifier) → i < length xs → s ≡ get_or xs i s
     → authors_from h (suc i) (drop i xs) ≡ section_authors h (i + 1) s ++ authors_from h (suc (i + 1)) (drop (i + 1) xs)
 authors_next h xs i s below is =

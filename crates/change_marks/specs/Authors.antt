@@ -23,11 +23,11 @@ author_line passage = passage_line passage.key (length passage.elements)
 abbrev pub section_line : (place : ℕ) → Identifier → List ℕ
 section_line place s = decimal place ++ 32 ∷ decimal s.replica ++ codes "." ++ decimal s.counter ++ 10 ∷ []
 
--- what is told of a section
+-- what is reported of a section
 abbrev pub section_authors : List Op → (place : ℕ) → Identifier → List ℕ
 section_authors h place s = section_line place s ++ flat_map author_line (passages h s)
 
--- what is told of sections, of which the first stands at the place
+-- what is reported of sections, of which the first stands at the place
 abbrev pub authors_from : List Op → (place : ℕ) → List Identifier → List ℕ
 authors_from h place [] = []
 authors_from h place (s ∷ ss) = section_authors h place s ++ authors_from h (suc place) ss

@@ -55,7 +55,7 @@ head_is_marked f h s = not (is_section f s) || (is_retitled f h s || is_moved f 
 abbrev pub is_marked : Stretch Mark → Bool
 is_marked run = not (mark_eq run.key Kept)
 
--- something is to be told of a section
+-- something is to be reported of a section
 abbrev pub is_changed : (f h : List Op) → Identifier → Bool
 is_changed f h s = head_is_marked f h s || list_any is_marked (runs false f h s)
 
@@ -63,13 +63,13 @@ is_changed f h s = head_is_marked f h s || list_any is_marked (runs false f h s)
 abbrev pub change_text : List Op → List ℕ → List (Stretch Mark) → List ℕ
 change_text h title rs = codes "# " ++ title ++ 10 ∷ text_with_marks h rs ++ 10 ∷ []
 
--- what is told of a section that h arranges
-abbrev pub section_told : (f h : List Op) → Identifier → List ℕ
-section_told f h s = if is_changed f h s then change_text h (head f h s) (runs false f h s) else []
+-- what is reported of a section that h arranges
+abbrev pub section_changes : (f h : List Op) → Identifier → List ℕ
+section_changes f h s = if is_changed f h s then change_text h (head f h s) (runs false f h s) else []
 
--- what is told of one that f arranges, and h does not
-abbrev pub dropped_told : (f h : List Op) → Identifier → List ℕ
-dropped_told f h s = change_text h (codes "{--" ++ heading_bytes f s ++ codes "--}") (runs true f h s)
+-- what is reported of one that f arranges, and h does not
+abbrev pub dropped_changes : (f h : List Op) → Identifier → List ℕ
+dropped_changes f h s = change_text h (codes "{--" ++ heading_bytes f s ++ codes "--}") (runs true f h s)
 
 -- h arranges the section
 abbrev pub arranges : List Op → Identifier → Bool
@@ -81,4 +81,4 @@ dropped_sections f h = filter (λ s. not (arranges h s)) (arranged f)
 
 -- what changed since f: of each section of h that is another, and then of each that was dropped
 unfoldable pub changes_text : (f h : List Op) → List ℕ
-changes_text f h = flat_map (section_told f h) (arranged h) ++ flat_map (dropped_told f h) (dropped_sections f h)
+changes_text f h = flat_map (section_changes f h) (arranged h) ++ flat_map (dropped_changes f h) (dropped_sections f h)

@@ -49,7 +49,7 @@ ChangesByFilter = (f h : List Op) (s : Identifier) → Lawful h → IsLater f h 
 abbrev pub NothingSinceNow : Type 0
 NothingSinceNow = (h : List Op) → Lawful h → changes_text h h ≡ []
 
--- what is told of a new section
+-- what is reported of a new section
 abbrev pub section_new : List Op → Identifier → List ℕ
 section_new h s = change_text h (head_of_new h s) (runs false [] h s)
 

@@ -36,14 +36,14 @@ as_dropped Kept = Gone
 as_dropped (New replica) = New replica
 as_dropped Gone = Gone
 
--- the mark of an element as it is told, by whether its section was dropped
-abbrev pub told_mark : Bool → (f h : List Op) → Identifier → Option Mark
-told_mark false f h x = mark_of f h x
-told_mark true f h x = option_map as_dropped (mark_of f h x)
+-- the mark of an element as it is printed, by whether its section was dropped
+abbrev pub printed_mark : Bool → (f h : List Op) → Identifier → Option Mark
+printed_mark false f h x = mark_of f h x
+printed_mark true f h x = option_map as_dropped (mark_of f h x)
 
 -- the runs of a section's elements
 abbrev pub runs : Bool → (f h : List Op) → Identifier → List (Stretch Mark)
-runs is_dropped f h s = stretches mark_eq (told_mark is_dropped f h) (order (within s) h)
+runs is_dropped f h s = stretches mark_eq (printed_mark is_dropped f h) (order (within s) h)
 
 -- what begins a run, and what ends it
 abbrev pub opening : Mark → List ℕ

@@ -5,7 +5,7 @@ use Rattle.fugue_ids.specs.Identifiers.{Identifier}
 use Rattle.fugue_ids.specs.declared.op.Op.{Op}
 use Rattle.change_marks.specs.Authors.{passage_line}
 use Rattle.origin_model.specs.order.Printed.{is_hidden}
-use Rattle.change_marks.specs.Changes.{dropped_told}
+use Rattle.change_marks.specs.Changes.{dropped_changes}
 use Rattle.change_marks.specs.Marks.{closing_mark, letter_of, mark_eq, opening}
 use Rattle.change_marks.specs.declared.mark.Mark.{Mark}
 use Rattle.change_marks.specs.declared.mark.Mark.TheVariants.{Kept}
@@ -77,6 +77,6 @@ abbrev pub is_changed_element : Option Mark → Bool
 is_changed_element None = false
 is_changed_element (Some mark) = not (mark_eq mark Kept)
 
--- what is told of a section of f where h hides it
+-- what is reported of a section of f where h hides it
 abbrev pub dropped_part : (f h : List Op) → Identifier → List ℕ
-dropped_part f h s = if is_hidden h s then dropped_told f h s else []
+dropped_part f h s = if is_hidden h s then dropped_changes f h s else []

@@ -11,8 +11,8 @@ ghost use Rattle.catalogue_notes.specs.Printing.{WritesText};
 ghost use Rattle.change_marks.specs.Authors.{authors_text, section_authors, section_line};
 
 use crate::passages::put_passages;
-use crate::told::elements_of;
-use catalogue_notes::{ArrangeFault, Headings, told};
+use crate::sections::elements_of;
+use catalogue_notes::{ArrangeFault, Headings, or_sink_fault};
 use fugue_ids::{ElementId, Failed, Gather, Out};
 use itoa::Buffer;
 use outer_ports::Sink;
@@ -40,7 +40,7 @@ fn put_section_line<O: Out>(
     gather.put_pieces(output, &[place, b" ", replica, b".", counter, b"\n"])
 }
 
-/// Puts what is told of the section at the place, which counts from 1.
+/// Puts what is reported of the section at the place, which counts from 1.
 fn put_section<O: Out>(
     gather: &mut Gather,
     output: &mut O,
@@ -57,7 +57,7 @@ fn put_section<O: Out>(
     put_passages(gather, output, list)
 }
 
-/// Puts what is told of all sections.
+/// Puts what is reported of all sections.
 fn put_sections<O: Out>(gather: &mut Gather, output: &mut O, now: &Headings) -> Result<(), Failed>
     ensures { GathersText (O.seen output.old) (O.seen output.new) gather.old gather.new result
         (authors_text now.now) }
@@ -88,8 +88,8 @@ pub fn write_authors<O: Sink>(
     output: &mut O,
 ) -> Result<(), ArrangeFault>
     ensures text { WritesText (O.seen output.old) (O.seen output.new) result (authors_text replica.now.held.history) }
-    ensures stands { IsSound replica.now }
+    ensures sound { IsSound replica.now }
 {
     let now = Headings::of(alloc, replica)?;
-    told(write_sections(output, &now))
+    or_sink_fault(write_sections(output, &now))
 }

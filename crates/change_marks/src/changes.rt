@@ -6,11 +6,11 @@ ghost use Rattle.origin_model.specs.edits.State.{IsSound};
 ghost use Rattle.origin_model.specs.operations.Verdict.{Lawful};
 ghost use Rattle.catalogue_notes.specs.Arranged.{arranged};
 ghost use Rattle.catalogue_notes.specs.Printing.{WritesText};
-ghost use Rattle.change_marks.specs.Changes.{IsLater, changes_text, section_told};
+ghost use Rattle.change_marks.specs.Changes.{IsLater, changes_text, section_changes};
 ghost use Rattle.change_marks.specs.Steps.{dropped_part};
 
-use crate::told::{put_dropped, put_section};
-use catalogue_notes::{ArrangeFault, Headings, told};
+use crate::sections::{put_dropped, put_section};
+use catalogue_notes::{ArrangeFault, Headings, or_sink_fault};
 use fugue_ids::{ElementId, Failed, Gather, Out};
 use outer_ports::Sink;
 use replica_core::Replica;
@@ -26,7 +26,7 @@ fn put_sections<'a, O: Out>(
     requires lawful { Lawful now.now }
     requires later { IsLater then.now now.now }
     ensures { GathersText (O.seen output.old) (O.seen output.new) gather.old gather.new result
-        (flat_map (section_told then.now now.now) (arranged now.now)) }
+        (flat_map (section_changes then.now now.now) (arranged now.now)) }
 {
     let sections = now.sections();
     'walk: for section in sections {
@@ -35,7 +35,7 @@ fn put_sections<'a, O: Out>(
     Ok(())
 }
 
-/// Puts what is told of a section that was arranged then, where it was dropped.
+/// Puts what is reported of a section that was arranged then, where it was dropped.
 fn put_where_dropped<O: Out>(
     gather: &mut Gather,
     output: &mut O,
@@ -55,7 +55,7 @@ fn put_where_dropped<O: Out>(
     }
 }
 
-/// Puts what is told of the sections that were dropped.
+/// Puts what is reported of the sections that were dropped.
 fn put_all_dropped<O: Out>(
     gather: &mut Gather,
     output: &mut O,
@@ -101,9 +101,9 @@ pub fn write_changes<O: Sink>(
     requires { IsLater then.now.held.history now.now.held.history }
     ensures text { WritesText (O.seen output.old) (O.seen output.new) result
         (changes_text then.now.held.history now.now.held.history) }
-    ensures stands { IsSound now.now }
+    ensures sound { IsSound now.now }
 {
     let new = Headings::of(alloc, now)?;
     let old = Headings::of(alloc, then)?;
-    told(write_sections(output, &old, &new))
+    or_sink_fault(write_sections(output, &old, &new))
 }

@@ -12,7 +12,7 @@ pub fn changes_of_all()
     ensures beginning { AllSinceTheBeginning }
 {}
 
-/// The numbers of letters that are told of a section add up to its text.
+/// The numbers of letters that are reported of a section add up to its text.
 pub fn authors_tell_all()
     ensures { AuthorsTellAll }
 {}

@@ -9,7 +9,7 @@ mod mark;
 mod marking;
 mod passages;
 mod runs;
-mod told;
+mod sections;
 
 pub use authors::write_authors;
 pub use changes::write_changes;

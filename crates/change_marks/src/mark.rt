@@ -1,6 +1,6 @@
 //! What became of an element.
 ghost use Rattle.std.specs.Prelude.{◌≡◌};
-ghost use Rattle.change_marks.specs.Marks.{as_dropped as dropped_as, mark_of as mark_in, told_mark as told_in};
+ghost use Rattle.change_marks.specs.Marks.{as_dropped as dropped_as, mark_of as mark_in, printed_mark as printed_in};
 
 use fugue_ids::ElementId;
 use replica_core::Replica;
@@ -16,7 +16,7 @@ pub enum Mark {
     Gone,
 }
 
-/// The mark of an element that the replica has. It counts for nothing where it was deleted then, or came and went since.
+/// The mark of an element that the replica has. It has none if it was deleted then, or came and went since.
 fn mark_of(front: &Replica, replica: &Replica, id: ElementId) -> Option<Mark>
     ensures { result ≡ mark_in front.now.held.history replica.now.held.history id }
 {
@@ -47,14 +47,14 @@ fn as_dropped(mark: Mark) -> Mark
     }
 }
 
-/// The mark as it is told, by whether the element's section was dropped.
-pub(crate) fn told_mark(
+/// The mark as it is printed, by whether the element's section was dropped.
+pub(crate) fn printed_mark(
     is_dropped: bool,
     front: &Replica,
     replica: &Replica,
     id: ElementId,
 ) -> Option<Mark>
-    ensures { result ≡ told_in is_dropped front.now.held.history replica.now.held.history id }
+    ensures { result ≡ printed_in is_dropped front.now.held.history replica.now.held.history id }
 {
     let mark = mark_of(front, replica, id)?;
     if is_dropped {

@@ -4,12 +4,12 @@ ghost use Rattle.std.specs.List.{list_any};
 ghost use Rattle.fugue_ids.specs.Gathers.{GathersText};
 ghost use Rattle.run_store.specs.Cells.{cell_ids};
 ghost use Rattle.change_marks.specs.Changes.{is_marked};
-ghost use Rattle.change_marks.specs.Marks.{mark_eq, mark_of, text_with_marks, told_mark as told_in};
+ghost use Rattle.change_marks.specs.Marks.{mark_eq, mark_of, text_with_marks, printed_mark as printed_in};
 ghost use Rattle.change_marks.specs.Steps.{element_part, is_changed_element, open_behind};
 ghost use Rattle.change_marks.specs.Stretches.{stretches};
 
 use crate::Mark;
-use crate::mark::told_mark;
+use crate::mark::printed_mark;
 use crate::marking::{put_closing, put_marked};
 use fugue_ids::{ElementId, Failed, Gather, Out};
 use replica_core::Replica;
@@ -27,11 +27,11 @@ fn put_element<O: Out>(
 ) -> Result<(), Failed>
     ensures text { GathersText (O.seen output.old) (O.seen output.new) gather.old gather.new result
         (element_part replica.now.held.history begun.old
-        (told_in is_dropped front.now.held.history replica.now.held.history id) id) }
+        (printed_in is_dropped front.now.held.history replica.now.held.history id) id) }
     ensures begun { OnOk result (begun.new
-        ≡ open_behind begun.old (told_in is_dropped front.now.held.history replica.now.held.history id)) }
+        ≡ open_behind begun.old (printed_in is_dropped front.now.held.history replica.now.held.history id)) }
 {
-    match told_mark(is_dropped, front, replica, id) {
+    match printed_mark(is_dropped, front, replica, id) {
         Some(mark) => {
             put_marked(gather, output, replica, *begun, mark, id)?;
             *begun = Some(mark);
@@ -53,7 +53,7 @@ pub(crate) fn put_runs<O: Out>(
     requires once { AllPairs (λ x y. x ≢ y) (cell_ids list.now.cells) }
     ensures { GathersText (O.seen output.old) (O.seen output.new) gather.old gather.new result
         (text_with_marks replica.now.held.history
-        (stretches mark_eq (told_in is_dropped front.now.held.history replica.now.held.history)
+        (stretches mark_eq (printed_in is_dropped front.now.held.history replica.now.held.history)
         (cell_ids list.now.cells))) }
 {
     let mut begun = None;
@@ -69,7 +69,7 @@ pub(crate) fn put_runs<O: Out>(
 fn is_changed(front: &Replica, replica: &Replica, id: ElementId) -> bool
     ensures { result ≡ is_changed_element (mark_of front.now.held.history replica.now.held.history id) }
 {
-    match told_mark(false, front, replica, id) {
+    match printed_mark(false, front, replica, id) {
         Some(Mark::New(_) | Mark::Gone) => true,
         Some(Mark::Kept) | None => false,
     }

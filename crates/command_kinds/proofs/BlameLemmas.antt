@@ -1,4 +1,4 @@
--- A count of faults that rises is told by an outside fault, where the object tells: what a giver's answer leads to.
+-- A count of faults that rises is reported as an outside fault, where the object is specified: what a source's answer leads to.
 use Rattle.std.proofs.Common.{◌≡◌, ◌≢◌, [], ap, ◌∙◌}
 use Rattle.std.specs.Prelude.{Err, IfSome, IsErrOf, Result}
 use Rattle.outer_ports.specs.Sources.{KeepsCount, SourceView}
@@ -17,7 +17,7 @@ use Rattle.command_kinds.specs.declared.status.Status.TheVariants as status
 pub not_blamed : {T : Type 0} (why : Refusal) → status_of why ≢ status.OutsideFault → IsErrOf {T = T} (Err why) refusal.Outside → ⊥
 not_blamed why inside is = let outside : why ≡ refusal.Outside = cc is in inside (ap status_of outside)
 
--- a command whose giver blamed the outside ends with an outside fault
+-- a command whose source blamed the outside ends with an outside fault
 pub ends_outside : (answer : Result Note Refusal) (given why : Refusal) (end : Status) → answer ≡ Err given → given ≡ why → MayEnd answer end → why ≡ refusal.Outside
     → end ≡ status.OutsideFault
 ends_outside answer given why end is from may outside = may.blames (is ∙ ap Err (from ∙ outside))

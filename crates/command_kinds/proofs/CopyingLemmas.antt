@@ -14,7 +14,7 @@ use Rattle.origin_model.specs.taking.Taking.{MeetsNoLimit, Held, IsSettled, TooM
 use Rattle.origin_model.specs.edits.State.{State}
 use Rattle.origin_model.proofs.SharedLemmas.{held-append, kept-append, places-append}
 use Rattle.replica_core.specs.Feeding.{TakesInAll}
-use Rattle.replica_core.specs.Told.{total}
+use Rattle.replica_core.specs.Answering.{total}
 use Rattle.replica_core.specs.declared.keeping.FeedFault.{FeedFault}
 use Rattle.replica_core.specs.declared.keeping.FeedFault.TheVariants as feed_fault
 use Rattle.replica_core.proofs.FeedingLemmas.{takes_none_in, takes_on}

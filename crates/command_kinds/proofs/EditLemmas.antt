@@ -44,19 +44,20 @@ not_both replica script why outcome (inl long) runs = omega (arith, long.1, runs
 not_both replica script why outcome (inr faulty) runs =
     scripts_run_once.apart replica runs.last faulty.last script (length runs.made) faulty.fault faulty.no_want runs.runs faulty.stops
 
--- what is so of the script that is left is so of told bytes
-told : (P : List ℕ → Type 0) (left : Option (List ℕ)) (bytes : List ℕ) → left ≡ Some bytes → (script : List ℕ) × IfSome left (λ b. b ≡ script) × P script → P bytes
-told P left bytes is p = subst P (sym (subst (λ (l : Option (List ℕ)). IfSome l (λ b. b ≡ p.0)) is p.1)) p.2
+-- what is so of the script that is left is so of specified bytes
+specified : (P : List ℕ → Type 0) (left : Option (List ℕ)) (bytes : List ℕ) → left ≡ Some bytes → (script : List ℕ) × IfSome left (λ b. b ≡ script) × P script → P bytes
+specified P left bytes is p = subst P (sym (subst (λ (l : Option (List ℕ)). IfSome l (λ b. b ≡ p.0)) is p.1)) p.2
 
 pub script_once : (input : Change SourceView) → GivesOnce (script input)
 script_once input is replica (Refuses f) (Refuses g) a b =
-    ap Refuses (one_refusal replica is.0 f g (told (λ s. ScriptRefuses replica s f) input.old.left is.0 is.1 a) (told (λ s. ScriptRefuses replica s g) input.old.left is.0 is.1 b))
+    ap Refuses (one_refusal replica is.0 f g (specified (λ s. ScriptRefuses replica s f) input.old.left is.0 is.1 a)
+    (specified (λ s. ScriptRefuses replica s g) input.old.left is.0 is.1 b))
 script_once input is replica (Refuses f) (Does g) a b =
-    absurd (not_both replica is.0 f g (told (λ s. ScriptRefuses replica s f) input.old.left is.0 is.1 a) (told (λ s. RunsScript replica s g) input.old.left is.0 is.1 b))
+    absurd (not_both replica is.0 f g (specified (λ s. ScriptRefuses replica s f) input.old.left is.0 is.1 a) (specified (λ s. RunsScript replica s g) input.old.left is.0 is.1 b))
 script_once input is replica (Does f) (Refuses g) a b =
-    absurd (not_both replica is.0 g f (told (λ s. ScriptRefuses replica s g) input.old.left is.0 is.1 b) (told (λ s. RunsScript replica s f) input.old.left is.0 is.1 a))
+    absurd (not_both replica is.0 g f (specified (λ s. ScriptRefuses replica s g) input.old.left is.0 is.1 b) (specified (λ s. RunsScript replica s f) input.old.left is.0 is.1 a))
 script_once input is replica (Does f) (Does g) a b =
-    ap Does (one_outcome replica is.0 f g (told (λ s. RunsScript replica s f) input.old.left is.0 is.1 a) (told (λ s. RunsScript replica s g) input.old.left is.0 is.1 b))
+    ap Does (one_outcome replica is.0 f g (specified (λ s. RunsScript replica s f) input.old.left is.0 is.1 a) (specified (λ s. RunsScript replica s g) input.old.left is.0 is.1 b))
 
 -- a script that was read whole was left
 pub read_whole : (script : List ℕ) (before after : Option (List ℕ)) → before ≡ prepend_known script after → IfSome after (λ (left : List ℕ). left ≡ [])
@@ -70,7 +71,7 @@ module _ (replica last : Replica) (before after : SourceView) (n : ℕ) (run : S
   pub gives_outcome : ScriptGives before replica (Does (made_outcome last run.2.ops))
   gives_outcome = (
     run.0,
-    read_whole run.0 before.left after.left run.1.told run.1.ended,
+    read_whole run.0 before.left after.left run.1.split run.1.ended,
     record {
       short = run.1.short;
       made = run.2.ops;
@@ -83,8 +84,8 @@ module _ (replica last : Replica) (before after : SourceView) (n : ℕ) (run : S
 
   -- and saved, it suffices
   pub outcome_suffices : IsSound replica → IsSettled replica.held → Suffices replica (made_outcome last run.2.ops)
-  outcome_suffices stands settled =
-      let taken = scripts_are_taken_in replica last run.0 n run.2.ops stands settled run.2 run.2.accepted_are in
+  outcome_suffices sound settled =
+      let taken = scripts_are_taken_in replica last run.0 n run.2.ops sound settled run.2 run.2.accepted_are in
       record { same_state = taken.state; place = all_find_place replica last run.2.ops settled taken }
 
   pub has_made : ReportsOutcome (made_outcome last run.2.ops) (note.Made n)
@@ -101,11 +102,11 @@ pub gives_refusal : (replica last : Replica) (before after : SourceView) (fault 
 gives_refusal replica last before after script_fault.ReadFault no_want no_fault stops = absurd (no_fault refl)
 gives_refusal replica last before after script_fault.NoMemory no_want no_fault stops = absurd (no_want refl)
 gives_refusal replica last before after script_fault.TooLong no_want no_fault stops =
-    let left = read_more stops.1.front before.left after.left stops.1.told in
+    let left = read_more stops.1.front before.left after.left stops.1.split in
     (stops.1.front ++ left.0, left.1, inl (refl, omega (arith, stops.1.long, length-append stops.1.front left.0)))
 gives_refusal replica last before after fault no_want no_fault stops = (
   stops.0,
-  read_whole stops.0 before.left after.left stops.1.told stops.1.ended,
+  read_whole stops.0 before.left after.left stops.1.split stops.1.ended,
   inr (record { short = stops.1.short; fault = fault; why_is = refl; no_want = no_want; last = last; stops = stops.2 }),
 )
 
@@ -113,12 +114,12 @@ gives_refusal replica last before after fault no_want no_fault stops = (
 pub script_gives : (input : Change SourceView) (replica last : Replica) (n : ℕ) (run : ScriptRuns replica last input.old input.new n) → IsSound replica → IsSettled replica.held
     → (kept : Option (List Op))
     → GivesTo (script input) replica last kept (Ok (note.Made n))
-script_gives input replica last n run stands settled kept =
+script_gives input replica last n run sound settled kept =
     let made = has_made replica last input.old input.new n run in
     record {
       outcome = made_outcome last run.2.ops;
       gives = gives_outcome replica last input.old input.new n run;
-      suffices = outcome_suffices replica last input.old input.new n run stands settled;
+      suffices = outcome_suffices replica last input.old input.new n run sound settled;
       saved = ap (drop (length (accepted replica.held.history))) run.2.accepted_are
           ∙ drop_at (accepted replica.held.history) run.2.ops (length (accepted replica.held.history)) refl;
       noted = made;

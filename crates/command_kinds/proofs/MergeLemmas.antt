@@ -74,9 +74,9 @@ held_gives_once other replica (Refuses why) (Does outcome) a b = absurd (a.1 b.0
 held_gives_once other replica (Does outcome) (Refuses why) a b = absurd (b.1 a.0)
 held_gives_once other replica (Does outcome) (Does last) a b = ap Does (a.1 ∙ sym b.1)
 
--- and so does another file that is told
+-- and so does another file that is specified
 pub file_once : (guest : Change DiskView) → GivesOnce (other_file guest)
-file_once guest told replica = finds_once (λ other end. ReplicaGives other replica) guest.old told (λ other end holds. held_gives_once other replica)
+file_once guest reported replica = finds_once (λ other end. ReplicaGives other replica) guest.old reported (λ other end holds. held_gives_once other replica)
 
 -- another file that was not loaded gives its refusal
 pub file_gives_none : (guest : Change DiskView) (replica now : State) (kept : Option (List Op)) (fault : LoadFault) → HasNotLoaded guest fault

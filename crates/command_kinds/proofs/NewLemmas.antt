@@ -18,7 +18,7 @@ use Rattle.command_kinds.specs.Refusal.{create_refusal, refusal_line, status_of,
 use Rattle.command_kinds.specs.Changes.{HasDiskRoom, change}
 use Rattle.command_kinds.specs.declared.refusal.Refusal.TheVariants as refusal
 use Rattle.command_kinds.specs.declared.status.Status.TheVariants as status
-use Rattle.command_kinds.proofs.ActLemmas.{told_performs}
+use Rattle.command_kinds.proofs.ActLemmas.{reported_performs}
 
 -- what was found: a file is not empty exactly where that is answered, but for a fault
 abbrev Finds : Result (Unit {0}) CreateFault → Option History → Type 0
@@ -97,7 +97,7 @@ created replica hold old new notes x meets =
           at_rest = meets.made.at_rest;
           safe = safe_where replica hold new.past meets.made.holds meets.made.at_rest;
         };
-        told = record { noted = (refl, refl); counts_no_fault = λ has. refl; blameless = λ tells not. inl refl };
+        reported = record { noted = (refl, refl); counts_no_fault = λ has. refl; blameless = λ tells not. inl refl };
       };
       decided = record { empty = λ is. inl refl; not_empty = λ bytes is filled. absurd (empty_only old empty bytes is filled) };
       filled = keeps_filled old new meets.overwrites_none;
@@ -110,14 +110,14 @@ created replica hold old new notes x meets =
 abbrev failed : Result (Unit {0}) CreateFault
 failed = Err DiskFault
 
--- a file was not made, and why was told
+-- a file was not made, and why was reported
 pub not_created : (replica hold : ℕ) (old new : DiskView) (notes notes' : OutView) (fault : CreateFault) → CreateMeets replica hold old new (Err fault)
     → Reported notes notes' (refusal_line (create_refusal fault)) → Creates replica hold (change old new) (change notes notes') (status_of (create_refusal fault))
-not_created replica hold old new notes notes' NotEmpty meets told =
+not_created replica hold old new notes notes' NotEmpty meets reported =
     let filled = found_filled old.past meets.not_empty in
     record {
-      performs = told_performs (creating replica hold (change old new)) (change notes notes') refusal.NotEmpty
-          (record { found = filled; kept = (meets.kept refl).0 }) told;
+      performs = reported_performs (creating replica hold (change old new)) (change notes notes') refusal.NotEmpty
+          (record { found = filled; kept = (meets.kept refl).0 }) reported;
       decided = record { empty = λ is. absurd (same_bytes (λ b. b ≢ []) old.past [] filled is refl); not_empty = λ bytes is some. inl refl };
       filled = keeps_filled old new meets.overwrites_none;
       crash = still_never_torn (change old new) status.BadFile (λ done. elim done [ inl is ↦ cc is | inr is ↦ cc is ]) meets.overwrites_none;
@@ -125,11 +125,11 @@ not_created replica hold old new notes notes' NotEmpty meets told =
       never_outside = λ has is. cc is;
       blameless = λ tells not. meets.faults.specified_no_fault tells (λ is. cc is);
     }
-not_created replica hold old new notes notes' DiskFault meets told =
+not_created replica hold old new notes notes' DiskFault meets reported =
     let no_room : HasDiskRoom 14 old → ⊥ = λ has. by_room (failed ≡ failed → ⊥) old meets.faults.sure has refl in
     record {
-      performs = told_performs (creating replica hold (change old new)) (change notes notes') refusal.Outside
-          (record { torn = meets.torn; faulted = meets.faults.faulted refl; no_room = no_room }) told;
+      performs = reported_performs (creating replica hold (change old new)) (change notes notes') refusal.Outside
+          (record { torn = meets.torn; faulted = meets.faults.faulted refl; no_room = no_room }) reported;
       decided = record { empty = λ is. inr (refl, meets.faults.faulted refl); not_empty = λ bytes is filled. inr (refl, meets.faults.faulted refl) };
       filled = keeps_filled old new meets.overwrites_none;
       crash = still_never_torn (change old new) status.OutsideFault (λ done. elim done [ inl is ↦ cc is | inr is ↦ cc is ]) meets.overwrites_none;

@@ -18,7 +18,7 @@ use Rattle.edit_script.specs.Laws.{AreTakenIn}
 use Rattle.command_kinds.specs.Edit.{made_outcome}
 use Rattle.command_kinds.specs.Findings.{Does}
 use Rattle.command_kinds.specs.Giving.{GivesTo}
-use Rattle.command_kinds.specs.Notes.{MadeNote, NoteComes, NoteOn, note_giver, note_outcome}
+use Rattle.command_kinds.specs.Notes.{MadeNote, NoteComes, NoteOn, note_source, note_outcome}
 use Rattle.command_kinds.specs.Saving.{Suffices}
 use Rattle.command_kinds.specs.declared.counts.Note.TheVariants as note
 use Rattle.command_kinds.specs.declared.refusal.Refusal.{Refusal}
@@ -29,25 +29,25 @@ module _ (note_on : NoteOn) (old new : Replica) (op : Op) (found_is : note_on ol
     (fits : length old.held.history + length old.held.waiting + 1 ≤ old.most) (gained : Gains old new (op ∷ []))
   where
     pub op_suffices : IsSound old → IsSettled old.held → Suffices old (made_outcome new (op ∷ []))
-    op_suffices stands settled =
+    op_suffices sound settled =
         let h = old.held in
         let turn = comes (op ∷ []) h.history h.waiting settled (ready, tt) (All-cons (IsUnknown h.waiting) op [] unknown (All-nil (IsUnknown h.waiting))) in
         let taken = takes old.hold old.most (op ∷ []) h.history h.waiting settled turn fits in
         let are : AreTakenIn old new (op ∷ []) = record { state = taken.state ∙ ap (λ (s : Replica). s.held) (sym gained.others); all_kept = taken.all_kept } in
         record { same_state = are.state; place = all_find_place old new (op ∷ []) settled are }
 
-    pub op_gives : IsSound old → IsSettled old.held → (kept : Option (List Op)) → GivesTo (note_giver note_on) old new kept (Ok (note.Made 1))
-    op_gives stands settled kept =
+    pub op_gives : IsSound old → IsSettled old.held → (kept : Option (List Op)) → GivesTo (note_source note_on) old new kept (Ok (note.Made 1))
+    op_gives sound settled kept =
         record {
           outcome = made_outcome new (op ∷ []);
           gives = ap (λ (s : Replica). Does (made_outcome s (op ∷ []))) gained.others ∙ sym (ap (note_outcome old) found_is);
-          suffices = op_suffices stands settled;
+          suffices = op_suffices sound settled;
           saved = ap (drop (length (accepted old.held.history))) gained.accepted_are ∙ drop_at (accepted old.held.history) (op ∷ []) (length (accepted old.held.history)) refl;
           noted = record { line = refl; status = refl };
         }
 
 pub note_gives : (note_on : NoteOn) (old new : Replica) → MadeNote (note_on old) old new → IsSound old → IsSettled old.held → (kept : Option (List Op))
-    → GivesTo (note_giver note_on) old new kept (Ok (note.Made 1))
+    → GivesTo (note_source note_on) old new kept (Ok (note.Made 1))
 note_gives note_on old new made =
     let h = old.held in
     op_gives note_on old new (note_by old made.named made.code made.body) made.found_is made.ready (noted_unknown old.number h.history h.waiting made.named made.code made.body)
@@ -55,7 +55,7 @@ note_gives note_on old new made =
 
 -- no note was made, and why
 pub note_gives_none : (note_on : NoteOn) (old new : Replica) (kept : Option (List Op)) (why : Refusal) → NoteComes (note_on old) old new (Err why)
-    → GivesTo (note_giver note_on) old new kept (Err why)
+    → GivesTo (note_source note_on) old new kept (Err why)
 note_gives_none note_on old new kept refusal.Outside never = absurd never
 note_gives_none note_on old new kept refusal.NoMemory comes = tt
 note_gives_none note_on old new kept refusal.Words never = never

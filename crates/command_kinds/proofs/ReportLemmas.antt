@@ -14,9 +14,9 @@ use Rattle.replica_file.specs.declared.load_file.LoadFault.TheVariants as load_f
 use Rattle.command_kinds.proofs.CrashLemmas.{kept_never_torn}
 use Rattle.command_kinds.proofs.FoundLemmas.{finds_once, loaded_lawful}
 use Rattle.command_kinds.proofs.LoadedLemmas.{HasLoaded, HasNotLoaded, keeps_file, load_failed}
-use Rattle.command_kinds.specs.Report.{Reports, Telling, TextFound, bytes_found, ReportComes, WroteHeld, report_basis, reporting}
+use Rattle.command_kinds.specs.Report.{Reports, ReportText, TextFound, bytes_found, ReportComes, WroteHeld, report_basis, reporting}
 use Rattle.command_kinds.specs.Files.{HolderFinds, KeepsFile}
-use Rattle.command_kinds.specs.Findings.{Basis, Finding, Refuses, Does, WhereTold}
+use Rattle.command_kinds.specs.Findings.{Basis, Finding, Refuses, Does, WhereSpecified}
 use Rattle.command_kinds.specs.Refusal.{Reported, load_refusal, refusal_line, status_of}
 use Rattle.command_kinds.specs.TextOut.{HasNoText, WritesReport, ReportGoesOut, TextComes}
 use Rattle.command_kinds.specs.Changes.{Change, HasRoom, IsSpecified, CountsNoFault, DiskBlameless, OutBlameless}
@@ -24,34 +24,34 @@ use Rattle.command_kinds.specs.declared.refusal.Refusal.{Refusal}
 use Rattle.command_kinds.specs.declared.refusal.Refusal.TheVariants as refusal
 use Rattle.command_kinds.specs.declared.status.Status.{Status}
 use Rattle.command_kinds.specs.declared.status.Status.TheVariants as status
-use Rattle.command_kinds.specs.Acts.{Performs, TellsResult, all_done, no_line}
+use Rattle.command_kinds.specs.Acts.{Performs, ReportsResult, all_done, no_line}
 use Rattle.command_kinds.specs.Printing.{WroteFront}
-use Rattle.command_kinds.proofs.ActLemmas.{Answers, decided_by, did_all, first_fails, goes_blameless, inside_by, inside_result, told_performs}
+use Rattle.command_kinds.proofs.ActLemmas.{Answers, decided_by, did_all, first_fails, goes_blameless, inside_by, inside_result, reported_performs}
 
--- of a lawful history one thing is told
-abbrev pub TellsOnce : Telling → Type 0
-TellsOnce tells = (replica : Replica) → Lawful replica.held.history → (a b : Finding (List ℕ)) → tells replica a → tells replica b → a ≡ b
+-- of a lawful history one thing is reported
+abbrev pub ReportsOnce : ReportText → Type 0
+ReportsOnce tells = (replica : Replica) → Lawful replica.held.history → (a b : Finding (List ℕ)) → tells replica a → tells replica b → a ≡ b
 
-text_once : (tells : Telling) → TellsOnce tells → (file : DiskView) → IsSpecified file → (a b : Finding (List ℕ)) → TextFound tells file a → TextFound tells file b → a ≡ b
-text_once tells once file told = finds_once (λ replica at. tells replica) file told (λ replica at holds. once replica (loaded_lawful file told replica at holds))
+text_once : (tells : ReportText) → ReportsOnce tells → (file : DiskView) → IsSpecified file → (a b : Finding (List ℕ)) → TextFound tells file a → TextFound tells file b → a ≡ b
+text_once tells once file specified = finds_once (λ replica at. tells replica) file specified (λ replica at holds. once replica (loaded_lawful file specified replica at holds))
 
 -- what follows from what came of a report
-module _ (tells : Telling) (once : TellsOnce tells) (file : Change DiskView) (output notes : Change OutView) (end : Status)
+module _ (tells : ReportText) (once : ReportsOnce tells) (file : Change DiskView) (output notes : Change OutView) (end : Status)
     (performs : Performs (reporting tells file output) notes end) (keeps : KeepsFile file) where
   abbrev basis : Basis (List ℕ)
   basis = report_basis tells file output
 
-  answers : (result : Result (List ℕ) Refusal) → ReportComes tells file output result → WhereTold basis (λ found. Answers basis found result)
-  answers (Ok bytes) did told found is = text_once tells once file.old told found (Does bytes) is did.found
-  answers (Err refusal.Outside) (inl load) told found is = (first_fails _ _ found load.0.faulted, λ sure. load.0.no_room sure.0)
-  answers (Err refusal.Outside) (inr (bytes, wrote)) told found is =
-      let same = text_once tells once file.old told (Does bytes) found wrote.found is in
+  answers : (result : Result (List ℕ) Refusal) → ReportComes tells file output result → WhereSpecified basis (λ found. Answers basis found result)
+  answers (Ok bytes) did specified found is = text_once tells once file.old specified found (Does bytes) is did.found
+  answers (Err refusal.Outside) (inl load) specified found is = (first_fails _ _ found load.0.faulted, λ sure. load.0.no_room sure.0)
+  answers (Err refusal.Outside) (inr (bytes, wrote)) specified found is =
+      let same = text_once tells once file.old specified (Does bytes) found wrote.found is in
       (subst basis.Failed same (inr wrote.came.faulted), λ sure. wrote.came.no_room (subst (λ f. HasRoom (length (bytes_found f)) output.old) (sym same) sure.1))
-  answers (Err refusal.NoMemory) did told found is = tt
-  answers (Err refusal.Words) did told found is = absurd did
-  answers (Err why) did told found is = text_once tells once file.old told found (Refuses why) is did.0.found
+  answers (Err refusal.NoMemory) did specified found is = tt
+  answers (Err refusal.Words) did specified found is = absurd did
+  answers (Err why) did specified found is = text_once tells once file.old specified found (Refuses why) is did.0.found
 
-  reports : WhereTold basis (λ found. CountsNoFault (length (bytes_found found)) output.old output.new) → DiskBlameless file end → OutBlameless output end
+  reports : WhereSpecified basis (λ found. CountsNoFault (length (bytes_found found)) output.old output.new) → DiskBlameless file end → OutBlameless output end
       → Reports tells file output notes end
   reports output_no_fault file_blameless output_blameless = record {
     performs = performs;
@@ -65,8 +65,8 @@ module _ (tells : Telling) (once : TellsOnce tells) (file : Change DiskView) (ou
     output_blameless = output_blameless;
   }
 
--- the file was loaded, and what is told of its replica was written, or nothing
-module _ (tells : Telling) (once : TellsOnce tells) (file : Change DiskView) (replica : Replica) (at : End) (output : Change OutView)
+-- the file was loaded, and what is reported of its replica was written, or nothing
+module _ (tells : ReportText) (once : ReportsOnce tells) (file : Change DiskView) (replica : Replica) (at : End) (output : Change OutView)
     (loaded : HasLoaded file replica at) where
   keeps : KeepsFile file
   keeps = keeps_file file (Ok (replica, at)) loaded
@@ -74,8 +74,8 @@ module _ (tells : Telling) (once : TellsOnce tells) (file : Change DiskView) (re
   synced : file.new.past ≡ past_after_step durable file.old.past
   synced = (loaded_synced _ file.old file.new (replica, at) loaded).0
 
-  held : (told : Finding (List ℕ)) → tells replica told → HolderFinds (λ replica at. tells replica) file.old told
-  held told is = (replica, at, loaded.cause, is)
+  held : (reported : Finding (List ℕ)) → tells replica reported → HolderFinds (λ replica at. tells replica) file.old reported
+  held reported is = (replica, at, loaded.cause, is)
 
   wrote : (bytes : List ℕ) → tells replica (Does bytes) → (Wrote : Type 0) → Wrote → WroteHeld tells file bytes Wrote
   wrote bytes is Wrote came = record { found = held (Does bytes) is; synced = synced; came = came }
@@ -98,36 +98,36 @@ module _ (tells : Telling) (once : TellsOnce tells) (file : Change DiskView) (re
       let same : why ≡ none.0 = cc none.1 in subst (λ w. ReportComes tells file output (Err w)) (sym same) (none_comes none.0 none.2 none.3)
 
   performs_so : (notes : Change OutView) (end : Status) (result : Result (Unit {0}) Refusal) → ReportGoesOut (tells replica) output result
-      → TellsResult no_line all_done result notes end → Performs (reporting tells file output) notes end
-  performs_so notes end (Ok done) (inl out) told = record {
+      → ReportsResult no_line all_done result notes end → Performs (reporting tells file output) notes end
+  performs_so notes end (Ok done) (inl out) reported = record {
     result = Ok out.0;
     did = wrote out.0 out.1 (Took output.old output.new out.0) out.2.comes;
-    told = record { noted = told.noted; counts_no_fault = told.counts_no_fault; blameless = told.blameless };
+    reported = record { noted = reported.noted; counts_no_fault = reported.counts_no_fault; blameless = reported.blameless };
   }
-  performs_so notes end (Ok done) (inr none) told = cc none.1
-  performs_so notes end (Err why) did told =
-      record { result = Err why; did = stops why did; told = record { noted = told.noted; counts_no_fault = told.counts_no_fault; blameless = told.blameless } }
+  performs_so notes end (Ok done) (inr none) reported = cc none.1
+  performs_so notes end (Err why) did reported =
+      record { result = Err why; did = stops why did; reported = record { noted = reported.noted; counts_no_fault = reported.counts_no_fault; blameless = reported.blameless } }
 
   output_no_fault : (result : Result (Unit {0}) Refusal) → ReportGoesOut (tells replica) output result → IsSpecified file.old → (found : Finding (List ℕ))
       → TextFound tells file.old found → CountsNoFault (length (bytes_found found)) output.old output.new
-  output_no_fault result (inl out) told found is has =
-      let same = text_once tells once file.old told (Does out.0) found (held (Does out.0) out.1) is in
+  output_no_fault result (inl out) specified found is has =
+      let same = text_once tells once file.old specified (Does out.0) found (held (Does out.0) out.1) is in
       out.2.counts_no_fault (subst (λ f. HasRoom (length (bytes_found f)) output.old) (sym same) has)
-  output_no_fault result (inr none) told found is has = ap (λ (o : OutView). o.faults) none.3
+  output_no_fault result (inr none) specified found is has = ap (λ (o : OutView). o.faults) none.3
 
-  output_told : (result : Result (Unit {0}) Refusal) (end : Status) → ReportGoesOut (tells replica) output result
+  output_reported : (result : Result (Unit {0}) Refusal) (end : Status) → ReportGoesOut (tells replica) output result
       → (end ≢ status.OutsideFault → result ≢ Err refusal.Outside) → OutBlameless output end
-  output_told result end (inl out) met = goes_blameless out.0 output result end out.2 met
-  output_told result end (inr none) met = λ tells not. ap (λ (o : OutView). o.faults) none.3
+  output_reported result end (inl out) met = goes_blameless out.0 output result end out.2 met
+  output_reported result end (inr none) met = λ tells not. ap (λ (o : OutView). o.faults) none.3
 
   pub report_written : (notes : Change OutView) (end : Status) → WritesReport (tells replica) output notes end → Reports tells file output notes end
   report_written notes end written =
-      reports tells once file output notes end (performs_so notes end written.result written.did written.told) keeps (output_no_fault written.result written.did)
+      reports tells once file output notes end (performs_so notes end written.result written.did written.reported) keeps (output_no_fault written.result written.did)
       (λ disk not. loaded.faults.specified_no_fault disk (λ is. cc is))
-      (output_told written.result end written.did (inside_result no_line all_done written.result notes end written.told.noted))
+      (output_reported written.result end written.did (inside_result no_line all_done written.result notes end written.reported.noted))
 
--- the file was not loaded: nothing was written, and why was told
-module _ (tells : Telling) (once : TellsOnce tells) (file : Change DiskView) (output notes : Change OutView) (same : output.new ≡ output.old) where
+-- the file was not loaded: nothing was written, and why was reported
+module _ (tells : ReportText) (once : ReportsOnce tells) (file : Change DiskView) (output notes : Change OutView) (same : output.new ≡ output.old) where
   not_loaded : (fault : LoadFault) → HasNotLoaded file fault → ReportComes tells file output (Err (load_refusal fault))
   not_loaded load_fault.DiskFault meets = inl (load_failed file meets, same)
   not_loaded load_fault.NoMemory meets = same
@@ -137,9 +137,9 @@ module _ (tells : Telling) (once : TellsOnce tells) (file : Change DiskView) (ou
 
   pub load_refused : (fault : LoadFault) → HasNotLoaded file fault → Reported notes.old notes.new (refusal_line (load_refusal fault))
       → Reports tells file output notes (status_of (load_refusal fault))
-  load_refused fault meets told =
+  load_refused fault meets reported =
       let why = load_refusal fault in
-      reports tells once file output notes (status_of why) (told_performs (reporting tells file output) notes why (not_loaded fault meets) told) (keeps_file file _ meets)
+      reports tells once file output notes (status_of why) (reported_performs (reporting tells file output) notes why (not_loaded fault meets) reported) (keeps_file file _ meets)
       (λ is other found has. ap (λ (o : OutView). o.faults) same) (λ disk inside. meets.faults.specified_no_fault disk
       (λ is. let failed : fault ≡ load_fault.DiskFault = cc is in inside (ap (λ f. status_of (load_refusal f)) failed)))
       (λ is not. ap (λ (o : OutView). o.faults) same)

@@ -154,7 +154,7 @@ still_loads replica end outcome h new loads suffices nothing_held is =
           (sym (append-nil loads.content.ops) ∙ ap (λ l. loads.content.ops ++ l) nothing_held),
     )
 
--- where nothing is told at first, nothing is told then
+-- where nothing is specified at first, nothing is specified then
 untold : (end : End) (ops : List Op) (mid new : Option History) → mid ≡ None → (ops ≡ [] → new ≡ mid) → (ops ≢ [] → new ≡ gate_opened end.at (behind_gate ops) mid) → new ≡ None
 untold end [] mid new is none calls = none refl ∙ is
 untold end (op ∷ ops) mid new is none calls = calls (λ e. cc e) ∙ ap (gate_opened end.at (behind_gate (op ∷ ops))) is

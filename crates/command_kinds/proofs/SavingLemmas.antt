@@ -15,7 +15,7 @@ use Rattle.replica_file.specs.declared.load_file.End.{End}
 use Rattle.command_kinds.specs.Files.{FileRefuses, KeepsFile}
 use Rattle.command_kinds.specs.Findings.{Refuses, Does}
 use Rattle.command_kinds.specs.Giving.{GivenNoted, SavesNoted}
-use Rattle.command_kinds.specs.Saving.{GivenTo, Giver, IsDone, Outcome, SaveFailed, SavingFound, StopsSaving, Suffices}
+use Rattle.command_kinds.specs.Saving.{GivenTo, OpsSource, IsDone, Outcome, SaveFailed, SavingFound, StopsSaving, Suffices}
 use Rattle.command_kinds.specs.Changes.{change}
 use Rattle.command_kinds.specs.declared.counts.Note.{Note}
 use Rattle.command_kinds.specs.declared.refusal.Refusal.{Refusal}
@@ -23,7 +23,7 @@ use Rattle.command_kinds.specs.declared.refusal.Refusal.TheVariants as refusal
 use Rattle.command_kinds.proofs.LoadedLemmas.{HasLoaded, keeps_file}
 use Rattle.command_kinds.proofs.SavedLemmas.{no_fault_so, gains_so, later_so, saved_so, with_room}
 
-module _ (giver : Giver) (a b c : DiskView) (replica : Replica) (end : End) (loaded : HasLoaded (change a b) replica end) where
+module _ (ops_source : OpsSource) (a b c : DiskView) (replica : Replica) (end : End) (loaded : HasLoaded (change a b) replica end) where
   keeps : KeepsFile (change a b)
   keeps = keeps_file (change a b) (Ok (replica, end)) loaded
 
@@ -36,8 +36,8 @@ module _ (giver : Giver) (a b c : DiskView) (replica : Replica) (end : End) (loa
   same_past : c ≡ b → c.past ≡ b.past
   same_past same = ap (λ (d : DiskView). d.past) same
 
-  done_so : (outcome : Outcome) → giver.Gives replica (Does outcome) → Suffices replica outcome → (last : End) → AppendMeets end outcome.saved b c (Ok last)
-      → IsDone giver (change a c) outcome
+  done_so : (outcome : Outcome) → ops_source.Gives replica (Does outcome) → Suffices replica outcome → (last : End) → AppendMeets end outcome.saved b c (Ok last)
+      → IsDone ops_source (change a c) outcome
   done_so outcome gives suffices last saves = record {
     replica = replica;
     end = end;
@@ -53,7 +53,7 @@ module _ (giver : Giver) (a b c : DiskView) (replica : Replica) (end : End) (loa
     counts_no_fault = no_fault_so outcome.saved a b c keeps.counts_no_fault room (λ is. (saves.none is).1) saves.faults.counts_no_fault;
   }
 
-  failed_so : (outcome : Outcome) → giver.Gives replica (Does outcome) → AppendMeets end outcome.saved b c (Err append_fault.DiskFault) → SaveFailed giver (change a c)
+  failed_so : (outcome : Outcome) → ops_source.Gives replica (Does outcome) → AppendMeets end outcome.saved b c (Err append_fault.DiskFault) → SaveFailed ops_source (change a c)
   failed_so outcome gives fails = record {
     replica = replica;
     end = end;
@@ -70,11 +70,11 @@ module _ (giver : Giver) (a b c : DiskView) (replica : Replica) (end : End) (loa
   still_kept : c ≡ b → KeepsFile (change a c)
   still_kept same = subst (λ (d : DiskView). KeepsFile (change a d)) (sym same) keeps
 
-  refused_so : (why : Refusal) → GivenTo giver replica end (Refuses why) × (c ≡ b)
-      → SavingFound giver a (Refuses why) × KeepsFile (change a c) × (FileRefuses a why ⊎ (c.past ≡ past_after_step durable a.past))
+  refused_so : (why : Refusal) → GivenTo ops_source replica end (Refuses why) × (c ≡ b)
+      → SavingFound ops_source a (Refuses why) × KeepsFile (change a c) × (FileRefuses a why ⊎ (c.past ≡ past_after_step durable a.past))
   refused_so why given = (inr (replica, end, loaded.cause, given.0), still_kept given.1, inr (same_past given.1 ∙ synced))
 
-  stops_so : (why : Refusal) → GivenNoted giver replica end (change b c) (Err why) → StopsSaving giver (change a c) why
+  stops_so : (why : Refusal) → GivenNoted ops_source replica end (change b c) (Err why) → StopsSaving ops_source (change a c) why
   stops_so refusal.Outside (inl none) = inr (inl (record {
     replica = replica;
     end = end;
@@ -90,6 +90,6 @@ module _ (giver : Giver) (a b c : DiskView) (replica : Replica) (end : End) (loa
   stops_so why given = refused_so why given
 
   -- what was given to a loaded file was saved, or why not
-  pub noted_comes : (result : Result Note Refusal) → GivenNoted giver replica end (change b c) result → SavesNoted giver (change a c) result
+  pub noted_comes : (result : Result Note Refusal) → GivenNoted ops_source replica end (change b c) result → SavesNoted ops_source (change a c) result
   noted_comes (Ok note) given = (given.0, given.1, done_so given.0 given.2 given.3 given.4.0 given.4.1)
   noted_comes (Err why) given = stops_so why given

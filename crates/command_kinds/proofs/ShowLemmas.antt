@@ -11,14 +11,14 @@ use Rattle.origin_model.specs.edits.State.{State}
 use Rattle.command_kinds.specs.Counts.{is_done}
 use Rattle.fugue_ids.specs.declared.limits.TheConstants.{MOST_OPERATIONS}
 use Rattle.command_kinds.specs.Show.{ShowComes, Shows, brought_to_output, reader, show_basis, showing}
-use Rattle.command_kinds.specs.Findings.{Basis, Does, Finding, Refuses, WhereTold}
+use Rattle.command_kinds.specs.Findings.{Basis, Does, Finding, Refuses, WhereSpecified}
 use Rattle.command_kinds.specs.Intake.{TakesInStream, IntakeStopsFor}
 use Rattle.command_kinds.specs.Changes.{Streams, HasRoom, CountsNoFault, Change, OutBlameless, SourceBlameless, change}
 use Rattle.command_kinds.specs.declared.refusal.Refusal.{Refusal}
 use Rattle.command_kinds.specs.declared.refusal.Refusal.TheVariants as refusal
 use Rattle.command_kinds.specs.declared.status.Status.{Status}
 use Rattle.command_kinds.specs.declared.status.Status.TheVariants as status
-use Rattle.command_kinds.specs.Acts.{Performs, TellsResult}
+use Rattle.command_kinds.specs.Acts.{Performs, ReportsResult}
 use Rattle.command_kinds.specs.TextOut.{TextComes, printing}
 use Rattle.command_kinds.proofs.ActLemmas.{Answers, decided_by, first_fails, inside_by}
 use Rattle.command_kinds.proofs.TakeLemmas.{stream_found_once}
@@ -36,7 +36,7 @@ pub printed_performs : (hold : ℕ) (old new : Streams) (replica : State) (count
 printed_performs hold old new replica counts kept kept_after end taken prints =
     let shown = subst (λ (c : Tally). Performs (printing state c output) notes end) taken.counts_are
     (subst (λ (s : State). Performs (printing s.held counts output) notes end) taken.replica_is prints) in
-    by_result shown.result shown.did.comes shown.told
+    by_result shown.result shown.did.comes shown.reported
   where
     output : Change OutView
     output = change old.output new.output
@@ -47,27 +47,27 @@ printed_performs hold old new replica counts kept kept_after end taken prints =
     state : Held
     state = held hold MOST_OPERATIONS taken.ops
 
-    Told : Result (Unit {0}) Refusal → Type 0
-    Told result = let act = printing state (tally hold MOST_OPERATIONS taken.ops) output in TellsResult act.line act.status result notes end
+    Specified : Result (Unit {0}) Refusal → Type 0
+    Specified result = let act = printing state (tally hold MOST_OPERATIONS taken.ops) output in ReportsResult act.line act.status result notes end
 
-    by_result : (result : Result (Unit {0}) Refusal) → TextComes (manuscript state.history) output result → Told result
+    by_result : (result : Result (Unit {0}) Refusal) → TextComes (manuscript state.history) output result → Specified result
         → Performs (showing hold old new) notes end
-    by_result (Ok done) wrote told = record {
+    by_result (Ok done) wrote reported = record {
       result = Ok taken.ops;
       did = record { came = taken.came; read = taken.read; output = wrote };
-      told = record { noted = told.noted; counts_no_fault = told.counts_no_fault; blameless = told.blameless };
+      reported = record { noted = reported.noted; counts_no_fault = reported.counts_no_fault; blameless = reported.blameless };
     }
-    by_result (Err refusal.Outside) front told = record {
+    by_result (Err refusal.Outside) front reported = record {
       result = Err refusal.Outside;
       did = inr (record { ops = taken.ops; came = taken.came; front = front });
-      told = record { noted = told.noted; counts_no_fault = told.counts_no_fault; blameless = told.blameless };
+      reported = record { noted = reported.noted; counts_no_fault = reported.counts_no_fault; blameless = reported.blameless };
     }
-    by_result (Err refusal.NoMemory) same told = record {
+    by_result (Err refusal.NoMemory) same reported = record {
       result = Err refusal.NoMemory;
       did = same;
-      told = record { noted = told.noted; counts_no_fault = told.counts_no_fault; blameless = told.blameless };
+      reported = record { noted = reported.noted; counts_no_fault = reported.counts_no_fault; blameless = reported.blameless };
     }
-    by_result (Err _) none told = absurd none
+    by_result (Err _) none reported = absurd none
 
 -- the stream was refused
 pub refused_comes : (why : Refusal) (hold : ℕ) (old new : Streams) → IntakeStopsFor why (reader hold) old.input
@@ -81,31 +81,31 @@ module _ (hold : ℕ) (old new : Streams) where
   abbrev basis : Basis (List Op)
   basis = show_basis hold old new
 
-  once : basis.Told → (one two : Finding (List Op)) → basis.Leads one → basis.Leads two → one ≡ two
-  once told = stream_found_once old.input told (reader hold)
+  once : basis.Specified → (one two : Finding (List Op)) → basis.Leads one → basis.Leads two → one ≡ two
+  once specified = stream_found_once old.input specified (reader hold)
 
   -- what came of the input is what it leads to
-  answers : (result : Result (List Op) Refusal) → ShowComes hold old new result → WhereTold basis (λ found. Answers basis found result)
-  answers (Ok ops) did told found is = once told found (Does ops) is did.came
-  answers (Err refusal.Outside) (inl read) told found is = (first_fails _ _ found read.faulted, λ sure. read.not_sure sure.0)
-  answers (Err refusal.Outside) (inr write) told found is =
-      let same = once told (Does write.ops) found write.came is in
+  answers : (result : Result (List Op) Refusal) → ShowComes hold old new result → WhereSpecified basis (λ found. Answers basis found result)
+  answers (Ok ops) did specified found is = once specified found (Does ops) is did.came
+  answers (Err refusal.Outside) (inl read) specified found is = (first_fails _ _ found read.faulted, λ sure. read.not_sure sure.0)
+  answers (Err refusal.Outside) (inr write) specified found is =
+      let same = once specified (Does write.ops) found write.came is in
       (subst basis.Failed same (inr write.front.faulted), λ sure. write.front.no_room (subst (λ f. HasRoom (length (brought_to_output hold f)) old.output) (sym same) sure.1))
-  answers (Err refusal.NoMemory) did told found is = tt
-  answers (Err why) did told found is = once told found (Refuses why) is did.0
+  answers (Err refusal.NoMemory) did specified found is = tt
+  answers (Err why) did specified found is = once specified found (Refuses why) is did.0
 
   -- where the manuscript has room, the output counts no fault
   pub output_no_fault : (replica : State) (counts : Tally) (kept kept_after : Option (List Op)) → TakesInStream (reader hold) old.input new.input replica counts kept kept_after
       → CountsNoFault (length (manuscript replica.held.history)) old.output new.output
-      → WhereTold basis (λ found. CountsNoFault (length (brought_to_output hold found)) old.output new.output)
-  output_no_fault replica counts kept kept_after taken counts_no_fault told found is has =
-      let same = once told found (Does taken.ops) is taken.came in
+      → WhereSpecified basis (λ found. CountsNoFault (length (brought_to_output hold found)) old.output new.output)
+  output_no_fault replica counts kept kept_after taken counts_no_fault specified found is has =
+      let same = once specified found (Does taken.ops) is taken.came in
       counts_no_fault (subst (λ text. HasRoom (length text) old.output) (ap (brought_to_output hold) same
       ∙ ap (λ (r : State). manuscript r.held.history) (sym taken.replica_is)) has)
 
   -- the rest follows from that
   pub shows : (end : Status) → Performs (showing hold old new) (change old.notes new.notes) end → (old.input.sure ≡ true → new.input.faults ≡ old.input.faults)
-      → WhereTold basis (λ found. CountsNoFault (length (brought_to_output hold found)) old.output new.output)
+      → WhereSpecified basis (λ found. CountsNoFault (length (brought_to_output hold found)) old.output new.output)
       → SourceBlameless (change old.input new.input) end → OutBlameless (change old.output new.output) end → Shows hold old new end
   shows end performs input_no_fault output_no_fault input_blameless output_blameless = record {
     performs = performs;

@@ -89,14 +89,14 @@ module _ (port cursor : ℕ) (old new : WireView) (before after : OpsTaking) (do
   }
 
 -- the operations of a reply that was heard to its end
-pub reply_ops : (told : Option (List ℕ)) (before after : OpsTaking) (end : ReplyEnd) (ops : List Op) → TakesIn before after ops → HeardTo told before after end
-    → (all : List Op) × IfSome told (λ bytes. ReplyComes before.replica.hold before.replica.most before.replica.held bytes all end) × TakesIn before after all
+pub reply_ops : (reported : Option (List ℕ)) (before after : OpsTaking) (end : ReplyEnd) (ops : List Op) → TakesIn before after ops → HeardTo reported before after end
+    → (all : List Op) × IfSome reported (λ bytes. ReplyComes before.replica.hold before.replica.most before.replica.held bytes all end) × TakesIn before after all
 reply_ops None before after end ops takes heard = (ops, tt, takes)
 reply_ops (Some bytes) before after end ops takes heard = (heard.ops, heard.comes, heard.takes)
 
 -- those that were taken in before a fault
-cause_ops : (told : Option (List ℕ)) (before after : OpsTaking) (end : ReplyEnd) → HeardTo told before after end
-    → (all : List Op) × IfSome told (λ bytes. ReplyComes before.replica.hold before.replica.most before.replica.held bytes all end)
+cause_ops : (reported : Option (List ℕ)) (before after : OpsTaking) (end : ReplyEnd) → HeardTo reported before after end
+    → (all : List Op) × IfSome reported (λ bytes. ReplyComes before.replica.hold before.replica.most before.replica.held bytes all end)
 cause_ops None before after end heard = ([], tt)
 cause_ops (Some bytes) before after end heard = (heard.ops, heard.comes)
 
@@ -166,13 +166,13 @@ comes_to wire replica (Refuses (refusal.TooMany most)) gives =
     record { ops = gives.1; end = TooMany; came = gives.2; finding_is = ap (λ (n : ℕ). Refuses (refusal.TooMany n)) gives.0 }
 comes_to wire replica (Refuses _) gives = absurd gives
 
--- a reply that is told gives one thing
+-- a reply that is specified gives one thing
 pub reply_once : (cursor : ℕ) (home : DiskView) (wire : Change WireView) → GivesOnce (reply cursor home wire)
-reply_once cursor home wire told replica one two gives others =
+reply_once cursor home wire reported replica one two gives others =
     let a = comes_to wire.old replica one gives in
     let b = comes_to wire.old replica two others in
-    let same = reply_comes_once replica.hold replica.most replica.held told.0 a.ops b.ops a.end b.end (by_bytes a.ops a.end a.came) (by_bytes b.ops b.end b.came) in
+    let same = reply_comes_once replica.hold replica.most replica.held reported.0 a.ops b.ops a.end b.end (by_bytes a.ops a.end a.came) (by_bytes b.ops b.end b.came) in
     a.finding_is ∙ (λ i. reply_finding replica (same.0 i) (same.1 i)) ∙ sym b.finding_is
   where
-    by_bytes : (ops : List Op) (end : ReplyEnd) → AnswerComes replica wire.old ops end → ReplyComes replica.hold replica.most replica.held told.0 ops end
-    by_bytes ops end came = subst (λ o. IfSome o (λ bytes. ReplyComes replica.hold replica.most replica.held bytes ops end)) told.1 came
+    by_bytes : (ops : List Op) (end : ReplyEnd) → AnswerComes replica wire.old ops end → ReplyComes replica.hold replica.most replica.held reported.0 ops end
+    by_bytes ops end came = subst (λ o. IfSome o (λ bytes. ReplyComes replica.hold replica.most replica.held bytes ops end)) reported.1 came

@@ -9,14 +9,14 @@ use Rattle.origin_model.specs.declared.taking.Tally.{Tally}
 use Rattle.origin_model.specs.taking.Taking.{Answer, Full, IsSettled, TooMany as AnswersTooMany, answers_from, kept_from}
 use Rattle.origin_model.proofs.SharedLemmas.{kept_suffice}
 use Rattle.outer_ports.specs.Sources.{KeepsCount, SourceView}
-use Rattle.op_frame.specs.Courses.{BadFrame, Comes, IntakeOutcome, CutShort, TooLong, TooMany, Whole}
-use Rattle.op_frame.proofs.CourseLemmas.{comes_once}
+use Rattle.op_frame.specs.IntakeOutcomes.{BadFrame, Comes, IntakeOutcome, CutShort, TooLong, TooMany, Whole}
+use Rattle.op_frame.proofs.ComesLemmas.{comes_once}
 use Rattle.origin_model.specs.edits.State.{State as Replica}
 use Rattle.command_kinds.specs.Findings.{Finding, Refuses, Does}
 use Rattle.command_kinds.specs.Giving.{GivesTo, ReportsOutcome}
 use Rattle.command_kinds.specs.Input.{SourceComes, StreamFound}
 use Rattle.command_kinds.specs.Intake.{IntakeStopsFor, TakesInStream, copies_of_kept, ops_in}
-use Rattle.command_kinds.specs.Saving.{Giver, GivesOnce, Outcome, Suffices}
+use Rattle.command_kinds.specs.Saving.{OpsSource, GivesOnce, Outcome, Suffices}
 use Rattle.command_kinds.specs.Take.{StreamGives, counts_in, noted_in, stream, taken_in, waiting_in}
 use Rattle.command_kinds.specs.Changes.{Change}
 use Rattle.command_kinds.specs.declared.counts.Counts.{Counts}
@@ -36,11 +36,12 @@ taken_suffices replica ops cursor settled =
     }
 
 -- what was taken in was given
-pub taken_gives : (giver : Giver) (replica now : Replica) (ops : List Op) (cursor : Option ℕ) → giver.Gives replica (Does (noted_in replica ops cursor)) → IsSettled replica.held
+pub taken_gives : (ops_source : OpsSource) (replica now : Replica) (ops : List Op) (cursor : Option ℕ) → ops_source.Gives replica (Does (noted_in replica ops cursor))
+    → IsSettled replica.held
     → (kept : Option (List Op)) → ops_in kept ≡ (taken_in replica ops).saved → (counts : Counts)
     → counts ≡ record { tally = counts_in replica ops; waiting = waiting_in replica ops; cursor = cursor }
-    → GivesTo giver replica now kept (Ok (note.Counted counts))
-taken_gives giver replica now ops cursor gives settled kept kept_are counts is = record {
+    → GivesTo ops_source replica now kept (Ok (note.Counted counts))
+taken_gives ops_source replica now ops cursor gives settled kept kept_are counts is = record {
   outcome = noted_in replica ops cursor;
   gives = gives;
   suffices = taken_suffices replica ops cursor settled;
@@ -59,39 +60,39 @@ stream_finding replica ops TooMany = Refuses (refusal.TooMany replica.most)
 -- the end to which a stream came
 record ComesTo (input : SourceView) (replica : Replica) (finding : Finding (List Op)) : Type 0 where
   ops : List Op
-  course : IntakeOutcome
-  came : SourceComes replica input ops course
-  finding_is : finding ≡ stream_finding replica ops course
+  outcome : IntakeOutcome
+  came : SourceComes replica input ops outcome
+  finding_is : finding ≡ stream_finding replica ops outcome
 
 comes_to : (input : SourceView) (replica : Replica) (finding : Finding (List Op)) → StreamFound replica input finding → ComesTo input replica finding
-comes_to input replica (Does ops) found = record { ops = ops; course = Whole; came = found; finding_is = refl }
-comes_to input replica (Refuses (refusal.BadFrame k)) found = record { ops = found.0; course = BadFrame k; came = found.1; finding_is = refl }
-comes_to input replica (Refuses (refusal.CutShort k)) found = record { ops = found.0; course = CutShort k; came = found.1; finding_is = refl }
-comes_to input replica (Refuses refusal.TooLong) found = record { ops = found.0; course = TooLong; came = found.1; finding_is = refl }
+comes_to input replica (Does ops) found = record { ops = ops; outcome = Whole; came = found; finding_is = refl }
+comes_to input replica (Refuses (refusal.BadFrame k)) found = record { ops = found.0; outcome = BadFrame k; came = found.1; finding_is = refl }
+comes_to input replica (Refuses (refusal.CutShort k)) found = record { ops = found.0; outcome = CutShort k; came = found.1; finding_is = refl }
+comes_to input replica (Refuses refusal.TooLong) found = record { ops = found.0; outcome = TooLong; came = found.1; finding_is = refl }
 comes_to input replica (Refuses (refusal.TooMany count)) found =
-    record { ops = found.1; course = TooMany; came = found.2; finding_is = ap (λ (n : ℕ). Refuses (refusal.TooMany n)) found.0 }
+    record { ops = found.1; outcome = TooMany; came = found.2; finding_is = ap (λ (n : ℕ). Refuses (refusal.TooMany n)) found.0 }
 comes_to input replica (Refuses _) found = absurd found
 
--- a stream that is told leads to one thing
+-- a stream that is specified leads to one thing
 pub stream_found_once : (input : SourceView) → (bytes : List ℕ) × (input.left ≡ Some bytes) → (replica : Replica) (one two : Finding (List Op))
     → StreamFound replica input one → StreamFound replica input two → one ≡ two
-stream_found_once input told replica one two found others =
+stream_found_once input reported replica one two found others =
     let a = comes_to input replica one found in
     let b = comes_to input replica two others in
-    let same = comes_once Version2 replica.hold replica.most replica.held STREAM_LIMIT told.0 a.ops b.ops a.course b.course (by_bytes a.ops a.course a.came)
-    (by_bytes b.ops b.course b.came) in
+    let same = comes_once Version2 replica.hold replica.most replica.held STREAM_LIMIT reported.0 a.ops b.ops a.outcome b.outcome (by_bytes a.ops a.outcome a.came)
+    (by_bytes b.ops b.outcome b.came) in
     a.finding_is ∙ (λ i. stream_finding replica (same.0 i) (same.1 i)) ∙ sym b.finding_is
   where
-    by_bytes : (ops : List Op) (course : IntakeOutcome) → SourceComes replica input ops course
-        → Comes Version2 replica.hold replica.most replica.held STREAM_LIMIT told.0 ops course
-    by_bytes ops course came = subst (λ o. IfSome o (λ bytes. Comes Version2 replica.hold replica.most replica.held STREAM_LIMIT bytes ops course)) told.1 came
+    by_bytes : (ops : List Op) (outcome : IntakeOutcome) → SourceComes replica input ops outcome
+        → Comes Version2 replica.hold replica.most replica.held STREAM_LIMIT reported.0 ops outcome
+    by_bytes ops outcome came = subst (λ o. IfSome o (λ bytes. Comes Version2 replica.hold replica.most replica.held STREAM_LIMIT bytes ops outcome)) reported.1 came
 
 -- and gives one thing
 pub stream_once : (input : Change SourceView) → GivesOnce (stream input)
-stream_once input told replica = by_finding
+stream_once input reported replica = by_finding
   where
     once : (one two : Finding (List Op)) → StreamFound replica input.old one → StreamFound replica input.old two → one ≡ two
-    once = stream_found_once input.old told replica
+    once = stream_found_once input.old reported replica
 
     by_finding : (one two : Finding Outcome) → StreamGives input.old replica one → StreamGives input.old replica two → one ≡ two
     by_finding (Refuses why) (Refuses other) a b = let same : why ≡ other = cc (once (Refuses why) (Refuses other) a b) in ap Refuses same

@@ -29,9 +29,9 @@ pub whole_front : (old new : OutView) (text : List ℕ) → Took old new text �
 whole_front old new text took = record { count = length text; within = omega arith; took = subst (Took old new) (sym (take_all (length text) text (omega arith))) took }
 
 -- the notes' count rose only where the refusal's line was not written
-pub told_blameless : (why : Refusal) (notes : Change OutView) → Reported notes.old notes.new (refusal_line why) → NotesBlameless notes (status_of why)
-told_blameless why notes told tells not =
-    elim (told.exact tells) [ inl same ↦ inl same | inr faulted ↦ inr (record { why = why; end_is = refl; front = told.front; faulted = faulted }) ]
+pub reported_blameless : (why : Refusal) (notes : Change OutView) → Reported notes.old notes.new (refusal_line why) → NotesBlameless notes (status_of why)
+reported_blameless why notes reported tells not =
+    elim (reported.exact tells) [ inl same ↦ inl same | inr faulted ↦ inr (record { why = why; end_is = refl; front = reported.front; faulted = faulted }) ]
 
 -- a line did not go out whole, and behind it another did or did not
 pub fronts_joined : (old mid new : OutView) (first second : List ℕ) → TookFront old mid first → TookFront mid new second → TookFronts old new first second
@@ -43,13 +43,13 @@ fronts_joined old mid new first second a b = record {
   took = took_joins old mid new (take a.count first) (take b.count second) a.took b.took;
 }
 
--- a line of notes did not go out whole, and the fault was told
+-- a line of notes did not go out whole, and the fault was reported
 pub not_noted : (e : Failed) (old mid new : OutView) (line : List ℕ) (status end : Status) → WritesBytes {E = Failed} {T = Unit {0}} old mid (Err e) line → length line ≤ notes_room
     → Reported mid new (refusal_line refusal.Outside) → end ≡ status_of refusal.Outside → NoteMeets line status old new end
-not_noted e old mid new line status end wrote short told is = inr (
+not_noted e old mid new line status end wrote short reported is = inr (
   record {
-    took = fronts_joined old mid new line (refusal_line refusal.Outside) wrote.err told.front;
-    faulted = omega (arith, wrote.cause.failed, told.later);
+    took = fronts_joined old mid new line (refusal_line refusal.Outside) wrote.err reported.front;
+    faulted = omega (arith, wrote.cause.failed, reported.later);
     no_room = text_has_no_room e old mid line notes_room wrote short;
   },
   is,

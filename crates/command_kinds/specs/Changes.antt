@@ -1,10 +1,10 @@
 -- What a command did to the objects that it touches, as contracts see it.
 use Rattle.std.specs.Prelude.{◌≡◌, ◌≢◌, ℕ, ◌≤◌, Some}
-use Rattle.fugue_ids.specs.Outs.{OutTells, OutView}
-use Rattle.outer_ports.specs.Sources.{SourceTells, SourceView}
-use Rattle.outer_ports.specs.disk.Disks.{DiskTells, DiskView, RoomView}
+use Rattle.fugue_ids.specs.Outs.{OutIsSpecified, OutView}
+use Rattle.outer_ports.specs.Sources.{SourceIsSpecified, SourceView}
+use Rattle.outer_ports.specs.disk.Disks.{DiskIsSpecified, DiskView, RoomView}
 use Rattle.outer_ports.specs.disk.Moments.{History}
-use Rattle.outer_ports.specs.wire.Wires.{WireTells, WireView}
+use Rattle.outer_ports.specs.wire.Wires.{WireIsSpecified, WireView}
 use Rattle.command_kinds.specs.declared.status.Status.{Status}
 use Rattle.command_kinds.specs.declared.status.Status.TheVariants.{OutsideFault}
 
@@ -48,23 +48,23 @@ pub record HasDiskRoom (count : ℕ) (disk : DiskView) : Type 0 where
 abbrev pub DiskCountsNoFault : (count : ℕ) → Change DiskView → Type 0
 DiskCountsNoFault count disk = HasDiskRoom count disk.old → disk.new.faults ≡ disk.old.faults
 
--- what stands on the disk is told
+-- what stands on the disk is specified
 abbrev pub IsSpecified : DiskView → Type 0
 IsSpecified disk = (h : History) × (disk.past ≡ Some h)
 
--- Each object's count of faults rises with an outside fault alone, where the object tells: no call that failed is made once
--- more, and none is told as another fault.
+-- Each object's count of faults rises with an outside fault alone, where the object is specified: no call that failed is made once
+-- more, and none is reported as another fault.
 abbrev pub SourceBlameless : Change SourceView → Status → Type 0
-SourceBlameless source end = SourceTells source.old → end ≢ OutsideFault → source.new.faults ≡ source.old.faults
+SourceBlameless source end = SourceIsSpecified source.old → end ≢ OutsideFault → source.new.faults ≡ source.old.faults
 
--- an output that tells its faults had none, unless the status says so
+-- an output that is specified had none, unless the status says so
 abbrev pub OutBlameless : Change OutView → Status → Type 0
-OutBlameless out end = OutTells out.old → end ≢ OutsideFault → out.new.faults ≡ out.old.faults
+OutBlameless out end = OutIsSpecified out.old → end ≢ OutsideFault → out.new.faults ≡ out.old.faults
 
--- a disk that tells its faults had none, unless the status says so
+-- a disk that is specified had none, unless the status says so
 abbrev pub DiskBlameless : Change DiskView → Status → Type 0
-DiskBlameless disk end = DiskTells disk.old → end ≢ OutsideFault → disk.new.faults ≡ disk.old.faults
+DiskBlameless disk end = DiskIsSpecified disk.old → end ≢ OutsideFault → disk.new.faults ≡ disk.old.faults
 
--- a wire that tells its faults had none, unless the status says so
+-- a wire that is specified had none, unless the status says so
 abbrev pub WireBlameless : Change WireView → Status → Type 0
-WireBlameless wire end = WireTells wire.old → end ≢ OutsideFault → wire.new.faults ≡ wire.old.faults
+WireBlameless wire end = WireIsSpecified wire.old → end ≢ OutsideFault → wire.new.faults ≡ wire.old.faults

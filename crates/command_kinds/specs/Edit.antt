@@ -12,7 +12,7 @@ use Rattle.origin_model.specs.edits.State.{State as Replica}
 use Rattle.command_kinds.specs.Counts.{made_line}
 use Rattle.command_kinds.specs.Findings.{Finding, Refuses, Does}
 use Rattle.command_kinds.specs.Refusal.{script_refusal}
-use Rattle.command_kinds.specs.Saving.{Giver, Outcome}
+use Rattle.command_kinds.specs.Saving.{OpsSource, Outcome}
 use Rattle.command_kinds.specs.Changes.{Change}
 use Rattle.command_kinds.specs.declared.refusal.Refusal.{Refusal}
 use Rattle.command_kinds.specs.declared.refusal.Refusal.TheVariants as refusal
@@ -45,20 +45,20 @@ pub record HasFaultyLine (replica : Replica) (script : List ℕ) (why : Refusal)
 abbrev pub ScriptRefuses : Replica → List ℕ → Refusal → Type 0
 ScriptRefuses replica script why = ((why ≡ refusal.TooLong) × (LONGEST_SCRIPT < length script)) ⊎ HasFaultyLine replica script why
 
--- the script is all that the source has left, where that is told
+-- the script is all that the source has left, where that is specified
 abbrev pub IsLeftScript : SourceView → List ℕ → Type 0
 IsLeftScript input script = IfSome input.left (λ bytes. bytes ≡ script)
 
--- what a script gives: that of one script, also where the source tells none
+-- what a script gives: that of one script, also where the source is not specified
 abbrev pub ScriptGives : SourceView → Replica → Finding Outcome → Type 0
 ScriptGives input replica (Refuses why) = (script : List ℕ) × IsLeftScript input script × ScriptRefuses replica script why
 ScriptGives input replica (Does outcome) = (script : List ℕ) × IsLeftScript input script × RunsScript replica script outcome
 
 -- a script that is read from a source, as what gives the operations
-abbrev pub script : Change SourceView → Giver
+abbrev pub script : Change SourceView → OpsSource
 script input = record {
   Gives = ScriptGives input.old;
-  Told = (bytes : List ℕ) × (input.old.left ≡ Some bytes);
+  Specified = (bytes : List ℕ) × (input.old.left ≡ Some bytes);
   Failed = Faulted input.old.faults input.new.faults;
   Sure = input.old.sure ≡ true;
 }

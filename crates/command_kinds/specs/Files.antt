@@ -17,11 +17,11 @@ use Rattle.command_kinds.specs.declared.refusal.Refusal.{Refusal}
 use Rattle.command_kinds.specs.declared.refusal.Refusal.TheVariants.{NotReplica, BadBatch, TooMany}
 use Rattle.command_kinds.specs.declared.status.Status.{Status}
 
--- the file, where it is told, is loaded as this replica, and its meaning ends there
+-- the file, where it is specified, is loaded as this replica, and its meaning ends there
 abbrev pub FileHolds : DiskView → Replica → End → Type 0
 FileHolds disk replica end = IfSome disk.past (λ h. Loads MOST_OPERATIONS h.last.seen replica end)
 
--- the file, where it is told, is the cause of this refusal
+-- the file, where it is specified, is the cause of this refusal
 abbrev pub FileRefuses : DiskView → Refusal → Type 0
 FileRefuses disk NotReplica = IfSome disk.past (λ h. LoadAnswerIs MOST_OPERATIONS h.last.seen (Err load_fault.NotReplica))
 FileRefuses disk (BadBatch slot) = IfSome disk.past (λ h. LoadAnswerIs MOST_OPERATIONS h.last.seen (Err (load_fault.BadBatch slot)))
@@ -37,7 +37,7 @@ abbrev pub FileFinds : {T : Type 0} → (Gives : Replica → End → Finding T �
 FileFinds Gives disk (Refuses why) = FileRefuses disk why ⊎ HolderFinds Gives disk (Refuses why)
 FileFinds Gives disk (Does done) = HolderFinds Gives disk (Does done)
 
--- what stands in the file, where it is told
+-- what stands in the file, where it is specified
 abbrev pub bytes_of : Option History → Option (List ℕ)
 bytes_of past = option_map (λ (h : History). h.last.seen) past
 

@@ -1,4 +1,4 @@
--- What the objects of a command, where they are told, lead it to, and the status that follows.
+-- What the objects of a command, where they are specified, lead it to, and the status that follows.
 use Rattle.std.specs.Prelude.{◌≡◌, ◌⊎◌}
 use Rattle.command_kinds.specs.declared.refusal.Refusal.{Refusal}
 use Rattle.command_kinds.specs.declared.status.Status.{Status}
@@ -9,14 +9,14 @@ pub data Finding (T : Type 0) : Type 0 where
   Refuses : Refusal → Finding T
   Does : T → Finding T
 
--- the status follows, but for want of memory and for faults of objects in use
+-- the command ends with this status, unless memory runs out or an object in use fails
 abbrev pub IsDecided : (status : Status) (failed : Type 0) → Status → Type 0
 IsDecided status failed end = (end ≡ status) ⊎ (end ≡ NoMemory) ⊎ ((end ≡ OutsideFault) × failed)
 
 -- what decides a command before it notes anything: its objects
 pub record Basis (T : Type 0) : Type 1 where
-  -- they are told
-  pub Told : Type 0
+  -- they are specified
+  pub Specified : Type 0
   -- and lead to this
   pub Leads : Finding T → Type 0
   -- a call on one of those in use failed, where they lead to this
@@ -24,9 +24,9 @@ pub record Basis (T : Type 0) : Type 1 where
   -- no call on them fails then
   pub Sure : Finding T → Type 0
 
--- this holds of whatever the objects lead to, where they are told
-abbrev pub WhereTold : {T : Type 0} → Basis T → (Finding T → Type 0) → Type 0
-WhereTold basis Holds = basis.Told → (found : Finding _) → basis.Leads found → Holds found
+-- this holds of whatever the objects lead to, where they are specified
+abbrev pub WhereSpecified : {T : Type 0} → Basis T → (Finding T → Type 0) → Type 0
+WhereSpecified basis Holds = basis.Specified → (found : Finding _) → basis.Leads found → Holds found
 
 -- a call failed: the first one, or a later one, which comes only where something is done
 abbrev pub EitherFails : {T : Type 0} → (first later : Type 0) → Finding T → Type 0

@@ -1,4 +1,4 @@
--- What a giver gives to a replica that was loaded, as its note tells it.
+-- What a source gives to a replica that was loaded, as its line reports it.
 use Rattle.std.specs.Prelude.{◌≡◌, ◌⊎◌, ℕ, ◌-◌, List, Option, length, drop, Result, Ok, Err, IsErrOf, IsOk}
 use Rattle.fugue_ids.specs.declared.op.Op.{Op}
 use Rattle.origin_model.specs.operations.History.{accepted}
@@ -11,7 +11,7 @@ use Rattle.command_kinds.specs.Counts.{counts_text, made_line, revised_text, sta
 use Rattle.command_kinds.specs.Crashes.{IsFinished}
 use Rattle.command_kinds.specs.Findings.{Refuses, Does}
 use Rattle.command_kinds.specs.Intake.{ops_in}
-use Rattle.command_kinds.specs.Saving.{GivenTo, Giver, IsDone, Outcome, StopsSaving, Suffices}
+use Rattle.command_kinds.specs.Saving.{GivenTo, OpsSource, IsDone, Outcome, StopsSaving, Suffices}
 use Rattle.command_kinds.specs.Changes.{Change}
 use Rattle.command_kinds.specs.declared.counts.Note.{Note}
 use Rattle.command_kinds.specs.declared.counts.Note.TheVariants as note
@@ -39,47 +39,47 @@ to_save (note.Counted counts) before after kept = ops_in kept
 to_save (note.Made count) before after kept = drop before (accepted after.held.history)
 to_save (note.Revised count sections) before after kept = drop (length (accepted after.held.history) - count) (accepted after.held.history)
 
--- a note tells of an outcome
+-- a line reports an outcome
 pub record ReportsOutcome (outcome : Outcome) (note : Note) : Type 0 where
   pub line : outcome.line ≡ note_line note
   pub status : outcome.status ≡ note_status note
 
 -- the outcome was given, and what is to be saved is its operations
-pub record IsGiven (giver : Giver) (before after : Replica) (kept : Option (List Op)) (note : Note) : Type 0 where
+pub record IsGiven (ops_source : OpsSource) (before after : Replica) (kept : Option (List Op)) (note : Note) : Type 0 where
   pub outcome : Outcome
-  pub gives : giver.Gives before (Does outcome)
+  pub gives : ops_source.Gives before (Does outcome)
   pub suffices : Suffices before outcome
   pub saved : to_save note (length (accepted before.held.history)) after kept ≡ outcome.saved
   pub noted : ReportsOutcome outcome note
 
--- what a giver gave to a replica, or why it gave nothing
-abbrev pub GivesTo : Giver → (before after : Replica) → (kept : Option (List Op)) → Result Note Refusal → Type 0
-GivesTo giver before after kept (Ok note) = IsGiven giver before after kept note
-GivesTo giver before after kept (Err refusal.Outside) = giver.Failed × (giver.Sure → ⊥)
-GivesTo giver before after kept (Err refusal.NoMemory) = Unit {0}
-GivesTo giver before after kept (Err refusal.Words) = ⊥
-GivesTo giver before after kept (Err why) = giver.Gives before (Refuses why)
+-- what a source gave to a replica, or why it gave nothing
+abbrev pub GivesTo : OpsSource → (before after : Replica) → (kept : Option (List Op)) → Result Note Refusal → Type 0
+GivesTo ops_source before after kept (Ok note) = IsGiven ops_source before after kept note
+GivesTo ops_source before after kept (Err refusal.Outside) = ops_source.Failed × (ops_source.Sure → ⊥)
+GivesTo ops_source before after kept (Err refusal.NoMemory) = Unit {0}
+GivesTo ops_source before after kept (Err refusal.Words) = ⊥
+GivesTo ops_source before after kept (Err why) = ops_source.Gives before (Refuses why)
 
--- A command whose giver came to this answer may end so: it does not do all where nothing was given, and an outside
--- fault that was met is told.
+-- A command whose source came to this answer may end so: it does not do all where nothing was given, and an outside
+-- fault that was met is reported.
 pub record MayEnd (answer : Result Note Refusal) (end : Status) : Type 0 where
   pub finished : IsFinished end → IsOk answer
   pub blames : IsErrOf answer refusal.Outside → end ≡ status.OutsideFault
 
--- what was given to a file that is loaded, as its note tells it: the outcome, whose operations were appended, or why it stopped
-abbrev pub GivenNoted : Giver → Replica → End → Change DiskView → Result Note Refusal → Type 0
-GivenNoted giver replica end file (Ok note) =
-    (outcome : Outcome) × ReportsOutcome outcome note × giver.Gives replica (Does outcome) × Suffices replica outcome
+-- what was given to a file that is loaded, as its line reports it: the outcome, whose operations were appended, or why it stopped
+abbrev pub GivenNoted : OpsSource → Replica → End → Change DiskView → Result Note Refusal → Type 0
+GivenNoted ops_source replica end file (Ok note) =
+    (outcome : Outcome) × ReportsOutcome outcome note × ops_source.Gives replica (Does outcome) × Suffices replica outcome
     × ((last : End) × AppendMeets end outcome.saved file.old file.new (Ok last))
-GivenNoted giver replica end file (Err refusal.Outside) =
-    (giver.Failed × (giver.Sure → ⊥) × (file.new ≡ file.old))
-    ⊎ ((outcome : Outcome) × giver.Gives replica (Does outcome)
+GivenNoted ops_source replica end file (Err refusal.Outside) =
+    (ops_source.Failed × (ops_source.Sure → ⊥) × (file.new ≡ file.old))
+    ⊎ ((outcome : Outcome) × ops_source.Gives replica (Does outcome)
     × AppendMeets end outcome.saved file.old file.new (Err append_fault.DiskFault))
-GivenNoted giver replica end file (Err refusal.NoMemory) = file.new ≡ file.old
-GivenNoted giver replica end file (Err refusal.Words) = ⊥
-GivenNoted giver replica end file (Err why) = GivenTo giver replica end (Refuses why) × (file.new ≡ file.old)
+GivenNoted ops_source replica end file (Err refusal.NoMemory) = file.new ≡ file.old
+GivenNoted ops_source replica end file (Err refusal.Words) = ⊥
+GivenNoted ops_source replica end file (Err why) = GivenTo ops_source replica end (Refuses why) × (file.new ≡ file.old)
 
--- what was given and saved, as its note tells it, or why not
-abbrev pub SavesNoted : Giver → Change DiskView → Result Note Refusal → Type 0
-SavesNoted giver file (Ok note) = (outcome : Outcome) × ReportsOutcome outcome note × IsDone giver file outcome
-SavesNoted giver file (Err why) = StopsSaving giver file why
+-- what was given and saved, as its line reports it, or why not
+abbrev pub SavesNoted : OpsSource → Change DiskView → Result Note Refusal → Type 0
+SavesNoted ops_source file (Ok note) = (outcome : Outcome) × ReportsOutcome outcome note × IsDone ops_source file outcome
+SavesNoted ops_source file (Err why) = StopsSaving ops_source file why

@@ -5,15 +5,17 @@ use Rattle.fugue_ids.specs.declared.limits.TheConstants.{STREAM_LIMIT}
 use Rattle.outer_ports.specs.Sources.{SourceView}
 use Rattle.origin_model.specs.declared.grammar.Grammar.TheVariants.{Version2}
 use Rattle.origin_model.specs.edits.State.{State}
-use Rattle.op_frame.specs.Courses.{Comes, IntakeOutcome, Whole, CutShort as IsCutShort, BadFrame as HasBadFrame, TooLong as IsTooLong}
-use Rattle.op_frame.specs.Courses.{TooMany as HasTooMany}
+use Rattle.op_frame.specs.IntakeOutcomes.{Comes, IntakeOutcome, Whole, CutShort as IsCutShort}
+use Rattle.op_frame.specs.IntakeOutcomes.{BadFrame as HasBadFrame, TooLong as IsTooLong}
+use Rattle.op_frame.specs.IntakeOutcomes.{TooMany as HasTooMany}
 use Rattle.command_kinds.specs.Findings.{Does, Finding, Refuses}
 use Rattle.command_kinds.specs.declared.refusal.Refusal.{Refusal}
 use Rattle.command_kinds.specs.declared.refusal.Refusal.TheVariants.{BadFrame, CutShort, TooLong, TooMany}
 
--- the source, where it is told, comes to this end
+-- the source, where it is specified, comes to this end
 abbrev pub SourceComes : State → SourceView → List Op → IntakeOutcome → Type 0
-SourceComes start old ops course = IfSome old.left (λ bytes. Comes Version2 start.hold start.most start.held STREAM_LIMIT bytes ops course)
+SourceComes start old ops outcome =
+    IfSome old.left (λ bytes. Comes Version2 start.hold start.most start.held STREAM_LIMIT bytes ops outcome)
 
 -- the source comes to an end that is the cause of this refusal
 abbrev pub StreamRefuses : State → SourceView → Refusal → Type 0

@@ -7,7 +7,7 @@ use Rattle.origin_model.specs.declared.grammar.Grammar.TheVariants.{Version2}
 use Rattle.origin_model.specs.taking.Taking.{MeetsNoLimit, TooMany as AnswersTooMany, IsSettled, answer, held_from, kept_from, tally_from}
 use Rattle.origin_model.specs.taking.Taking.{no_counts}
 use Rattle.origin_model.specs.declared.taking.Tally.{Tally}
-use Rattle.op_frame.specs.Courses.{Whole}
+use Rattle.op_frame.specs.IntakeOutcomes.{Whole}
 use Rattle.op_frame.specs.Readers.{FrameReading, Nexts}
 use Rattle.op_frame.specs.NextRuns.{GivesMany, IsReachedOp}
 use Rattle.op_frame.specs.declared.fault.FrameFault.TheVariants as frame_fault
@@ -15,7 +15,7 @@ use Rattle.replica_core.specs.declared.keeping.FeedFault.{FeedFault}
 use Rattle.replica_core.specs.declared.keeping.FeedFault.TheVariants as feed_fault
 use Rattle.origin_model.specs.edits.State.{State}
 use Rattle.replica_core.specs.Feeding.{TakesInAll}
-use Rattle.replica_core.specs.Told.{total}
+use Rattle.replica_core.specs.Answering.{total}
 use Rattle.fugue_ids.specs.declared.limits.TheConstants.{GREATEST_HOLD, STREAM_LIMIT}
 use Rattle.command_kinds.specs.Input.{SourceComes, StreamRefuses}
 use Rattle.command_kinds.specs.declared.refusal.Refusal.{Refusal}

@@ -9,7 +9,7 @@ use Rattle.origin_model.specs.edits.State.{State as Replica}
 use Rattle.origin_model.specs.operations.Verdict.{verdict}
 use Rattle.command_kinds.specs.Edit.{made_outcome}
 use Rattle.command_kinds.specs.Findings.{Finding, Refuses, Does}
-use Rattle.command_kinds.specs.Saving.{Giver, Outcome}
+use Rattle.command_kinds.specs.Saving.{OpsSource, Outcome}
 use Rattle.command_kinds.specs.declared.refusal.Refusal.{Refusal}
 use Rattle.command_kinds.specs.declared.refusal.Refusal.TheVariants as refusal
 
@@ -27,11 +27,11 @@ abbrev pub note_outcome : Replica → Finding Op → Finding Outcome
 note_outcome replica (Refuses why) = Refuses why
 note_outcome replica (Does note) = Does (made_outcome (with_ops replica (note ∷ [])) (note ∷ []))
 
--- the words give it, which are always told
-abbrev pub note_giver : NoteOn → Giver
-note_giver note_on = record {
+-- the words give it, which are always specified
+abbrev pub note_source : NoteOn → OpsSource
+note_source note_on = record {
   Gives = λ replica found. found ≡ note_outcome replica (note_on replica);
-  Told = Unit {0};
+  Specified = Unit {0};
   Failed = ⊥;
   Sure = Unit {0};
 }

@@ -1,7 +1,7 @@
 -- What came of a line of notes, and of an output that failed.
 use Rattle.std.specs.Prelude.{◌≡◌, ◌≢◌, ◌⊎◌, ℕ, List, length}
 use Rattle.fugue_ids.specs.Causes.{Faulted}
-use Rattle.fugue_ids.specs.Outs.{OutTells, OutView, Took, TookFront}
+use Rattle.fugue_ids.specs.Outs.{OutIsSpecified, OutView, Took, TookFront}
 use Rattle.command_kinds.specs.Refusal.{refusal_line, status_of, TookFronts}
 use Rattle.command_kinds.specs.Changes.{Change, HasRoom, notes_room}
 use Rattle.command_kinds.specs.declared.refusal.Refusal.{Refusal}
@@ -37,7 +37,7 @@ pub record NotReported (notes : Change OutView) (end : Status) : Type 0 where
   pub front : TookFront notes.old notes.new (refusal_line why)
   pub faulted : Faulted notes.old.faults notes.new.faults
 
--- the notes' count of faults rises with an outside fault alone, where they tell, and but for the line of a refusal
+-- specified notes count a fault only where the status is OutsideFault, or where the line of a refusal was not written
 abbrev pub NotesBlameless : Change OutView → Status → Type 0
 NotesBlameless notes end =
-    OutTells notes.old → end ≢ status.OutsideFault → (notes.new.faults ≡ notes.old.faults) ⊎ NotReported notes end
+    OutIsSpecified notes.old → end ≢ status.OutsideFault → (notes.new.faults ≡ notes.old.faults) ⊎ NotReported notes end

@@ -1,7 +1,7 @@
 -- What a refusal answers, and the line that it writes to the notes.
 use Rattle.std.specs.Prelude.{◌≡◌, ◌⊎◌, ℕ, ◌≤◌, List, [], ◌∷◌, ◌++◌, length, take, drop, replicate, codes, decimal}
 use Rattle.fugue_ids.specs.Causes.{Faulted}
-use Rattle.fugue_ids.specs.Outs.{OutTells, OutView, Took, TookFront}
+use Rattle.fugue_ids.specs.Outs.{OutIsSpecified, OutView, Took, TookFront}
 use Rattle.op_frame.specs.declared.fault.FrameFault.{FrameFault}
 use Rattle.op_frame.specs.declared.fault.FrameFault.TheVariants as frame_fault
 use Rattle.replica_core.specs.declared.keeping.FeedFault.{FeedFault}
@@ -18,6 +18,8 @@ use Rattle.replica_file.specs.declared.creating.CreateFault.{CreateFault}
 use Rattle.replica_file.specs.declared.creating.CreateFault.TheVariants as create_fault
 use Rattle.replica_file.specs.declared.load_file.LoadFault.{LoadFault}
 use Rattle.replica_file.specs.declared.load_file.LoadFault.TheVariants as load_fault
+use Rattle.replica_file.specs.declared.reading.ReadFault.{ReadFault}
+use Rattle.replica_file.specs.declared.reading.ReadFault.TheVariants as read_fault
 use Rattle.command_kinds.specs.Changes.{HasRoom, CountsNoFault, notes_room}
 use Rattle.command_kinds.specs.declared.refusal.Detail.{Detail}
 use Rattle.command_kinds.specs.declared.refusal.Detail.TheVariants.{Nothing, Number, Times, Name}
@@ -33,7 +35,7 @@ use Rattle.command_kinds.specs.declared.version_name.VersionName.{VersionName}
 use Rattle.version_views.specs.declared.limits.TheConstants.{LONGEST_NAME}
 use Rattle.command_kinds.specs.declared.status.Status.TheVariants as status
 
--- what is told of a refusal: the status that it answers, and the words of its line with what stands behind them
+-- what is reported of a refusal: the status that it answers, and the words of its line with what stands behind them
 pub record Row : Type 0 where
   pub status : Status
   pub words : List ℕ
@@ -152,6 +154,11 @@ append_refusal append_fault.BatchTooLong = BatchTooLong
 append_refusal append_fault.DiskFault = Outside
 append_refusal append_fault.NoMemory = NoMemory
 
+-- the refusal of a file whose bytes were not read
+abbrev pub read_refusal : ReadFault → Refusal
+read_refusal read_fault.DiskFault = Outside
+read_refusal read_fault.NoMemory = NoMemory
+
 -- why an exchange with a relay stopped, as a refusal
 abbrev pub sync_refusal : SyncFault → Refusal
 sync_refusal sync_fault.WireFault = Outside
@@ -175,8 +182,8 @@ pub record Reported (old new : OutView) (line : List ℕ) : Type 0 where
   pub front : TookFront old new line
   pub sure : HasRoom (length line) old → (new.faults ≡ old.faults) × Took old new line
   pub counts_no_fault : CountsNoFault notes_room old new
-  -- an object that tells counts a fault only where the line is not whole
-  pub exact : OutTells old → (new.faults ≡ old.faults) ⊎ Faulted old.faults new.faults
+  -- an object that is specified counts a fault only where the line is not whole
+  pub exact : OutIsSpecified old → (new.faults ≡ old.faults) ⊎ Faulted old.faults new.faults
 
 -- a front of one line went out, behind it a front of another, and nothing else
 pub record TookFronts (old new : OutView) (first second : List ℕ) : Type 0 where

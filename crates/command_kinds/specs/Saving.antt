@@ -15,7 +15,7 @@ use Rattle.replica_file.specs.Gates.{gate_opened}
 use Rattle.replica_file.specs.declared.load_file.End.{End}
 use Rattle.command_kinds.specs.Crashes.{IsFinished, NeverTorn}
 use Rattle.command_kinds.specs.Files.{FileFinds, FileHolds, FileRefuses, GainsAllOrNone, AreSavedOps, KeepsFile, LoadFailed}
-use Rattle.command_kinds.specs.Findings.{Basis, Finding, Refuses, Does, IsDecided, WhereTold}
+use Rattle.command_kinds.specs.Findings.{Basis, Finding, Refuses, Does, IsDecided, WhereSpecified}
 use Rattle.command_kinds.specs.Refusal.{status_of}
 use Rattle.command_kinds.specs.Changes.{Change, DiskBlameless, DiskCountsNoFault, HasDiskRoom, IsSpecified, SourceBlameless, change}
 use Rattle.command_kinds.specs.declared.refusal.Refusal.{Refusal}
@@ -34,31 +34,32 @@ pub record Outcome : Type 0 where
   pub status : Status
 
 -- the other object of a command, which gives what is taken in
-pub record Giver : Type 1 where
+pub record OpsSource : Type 1 where
   -- what it gives to a replica: a refusal, or the outcome
   pub Gives : Replica → Finding Outcome → Type 0
-  -- it is told
-  pub Told : Type 0
+  -- it is specified
+  pub Specified : Type 0
   -- a call on it failed
   pub Failed : Type 0
   -- no call on it fails
   pub Sure : Type 0
 
--- a giver that is told gives one thing
-abbrev pub GivesOnce : Giver → Type 0
-GivesOnce giver = giver.Told → (replica : Replica) (one two : Finding Outcome) → giver.Gives replica one → giver.Gives replica two
+-- a source that is specified gives one thing
+abbrev pub GivesOnce : OpsSource → Type 0
+GivesOnce ops_source = ops_source.Specified → (replica : Replica) (one two : Finding Outcome) → ops_source.Gives replica one
+    → ops_source.Gives replica two
     → one ≡ two
 
--- what a giver gives to a replica whose file ends there: what it has saved is refused where that is no batch
-abbrev pub GivenTo : Giver → Replica → End → Finding Outcome → Type 0
-GivenTo giver replica end (Refuses why) =
-    giver.Gives replica (Refuses why)
-    ⊎ ((why ≡ refusal.BatchTooLong) × (outcome : Outcome) × giver.Gives replica (Does outcome) × IsTooLong end outcome.saved)
-GivenTo giver replica end (Does outcome) = giver.Gives replica (Does outcome) × (IsTooLong end outcome.saved → ⊥)
+-- what a source gives to a replica whose file ends there: what it has saved is refused where that is no batch
+abbrev pub GivenTo : OpsSource → Replica → End → Finding Outcome → Type 0
+GivenTo ops_source replica end (Refuses why) =
+    ops_source.Gives replica (Refuses why)
+    ⊎ ((why ≡ refusal.BatchTooLong) × (outcome : Outcome) × ops_source.Gives replica (Does outcome) × IsTooLong end outcome.saved)
+GivenTo ops_source replica end (Does outcome) = ops_source.Gives replica (Does outcome) × (IsTooLong end outcome.saved → ⊥)
 
--- what the file and the giver lead to: the file is refused, or what is given to it
-abbrev pub SavingFound : Giver → DiskView → Finding Outcome → Type 0
-SavingFound giver file found = FileFinds (GivenTo giver) file found
+-- what the file and the source lead to: the file is refused, or what is given to it
+abbrev pub SavingFound : OpsSource → DiskView → Finding Outcome → Type 0
+SavingFound ops_source file found = FileFinds (GivenTo ops_source) file found
 
 -- the room of a file that is loaded, and gains these operations
 abbrev pub room_to_save : List Op → ℕ
@@ -71,11 +72,11 @@ room_needed (Refuses why) = 1
 room_needed (Does outcome) = room_to_save outcome.saved
 
 -- The outcome came, and its operations were saved: a later load comes to its state.
-pub record IsDone (giver : Giver) (file : Change DiskView) (outcome : Outcome) : Type 0 where
+pub record IsDone (ops_source : OpsSource) (file : Change DiskView) (outcome : Outcome) : Type 0 where
   pub replica : Replica
   pub end : End
   pub holds : FileHolds file.old replica end
-  pub gives : giver.Gives replica (Does outcome)
+  pub gives : ops_source.Gives replica (Does outcome)
   pub fits : IsTooLong end outcome.saved → ⊥
   pub saves : IfSome file.old.past (λ h. AreSavedOps outcome.saved h file.new.past)
   -- the file was settled, and then one batch was appended where its meaning ends, or none
@@ -85,34 +86,34 @@ pub record IsDone (giver : Giver) (file : Change DiskView) (outcome : Outcome) :
   pub counts_no_fault : DiskCountsNoFault (room_to_save outcome.saved) file
 
 -- a call on the file failed while it gained the operations: it has all of them or none
-pub record SaveFailed (giver : Giver) (file : Change DiskView) : Type 0 where
+pub record SaveFailed (ops_source : OpsSource) (file : Change DiskView) : Type 0 where
   pub replica : Replica
   pub end : End
   pub holds : FileHolds file.old replica end
   pub outcome : Outcome
-  pub gives : giver.Gives replica (Does outcome)
+  pub gives : ops_source.Gives replica (Does outcome)
   pub fits : IsTooLong end outcome.saved → ⊥
   pub moments : IfSome file.old.past (λ h. GainsAllOrNone outcome.saved h file.new.past)
   pub faulted : Faulted file.old.faults file.new.faults
   pub no_room : HasDiskRoom (room_to_save outcome.saved) file.old → ⊥
 
--- a call on the giver failed, behind the loading of the file, which settles it
-pub record GivingFailed (giver : Giver) (file : Change DiskView) : Type 0 where
+-- a call on the source failed, behind the loading of the file, which settles it
+pub record GivingFailed (ops_source : OpsSource) (file : Change DiskView) : Type 0 where
   pub replica : Replica
   pub end : End
   pub holds : FileHolds file.old replica end
   pub synced : file.new.past ≡ past_after_step durable file.old.past
-  pub failed : giver.Failed
-  pub not_sure : giver.Sure → ⊥
+  pub failed : ops_source.Failed
+  pub not_sure : ops_source.Sure → ⊥
   pub keeps : KeepsFile file
 
 -- why nothing was done, or not all of it: but for failures the file is as it was, and settled where it was not refused
-abbrev pub StopsSaving : Giver → Change DiskView → Refusal → Type 0
-StopsSaving giver file refusal.Outside = LoadFailed file ⊎ GivingFailed giver file ⊎ SaveFailed giver file
-StopsSaving giver file refusal.NoMemory = KeepsFile file
-StopsSaving giver file refusal.Words = ⊥
-StopsSaving giver file why =
-    SavingFound giver file.old (Refuses why) × KeepsFile file
+abbrev pub StopsSaving : OpsSource → Change DiskView → Refusal → Type 0
+StopsSaving ops_source file refusal.Outside = LoadFailed file ⊎ GivingFailed ops_source file ⊎ SaveFailed ops_source file
+StopsSaving ops_source file refusal.NoMemory = KeepsFile file
+StopsSaving ops_source file refusal.Words = ⊥
+StopsSaving ops_source file why =
+    SavingFound ops_source file.old (Refuses why) × KeepsFile file
     × (FileRefuses file.old why ⊎ (file.new.past ≡ past_after_step durable file.old.past))
 
 -- a replica that takes in the outcome's operations too comes to its state
@@ -121,48 +122,48 @@ pub record Suffices (replica : Replica) (outcome : Outcome) : Type 0 where
   pub place : MeetsNoLimit replica.hold replica.most replica.held outcome.saved
 
 -- what came of a command: the outcome of one that did all, or why it did not come
-abbrev pub SavesOutcome : Giver → Change DiskView → Result Outcome Refusal → Type 0
-SavesOutcome giver file (Ok outcome) = IsDone giver file outcome × IsFinished outcome.status
-SavesOutcome giver file (Err why) = StopsSaving giver file why
+abbrev pub SavesOutcome : OpsSource → Change DiskView → Result Outcome Refusal → Type 0
+SavesOutcome ops_source file (Ok outcome) = IsDone ops_source file outcome × IsFinished outcome.status
+SavesOutcome ops_source file (Err why) = StopsSaving ops_source file why
 
 -- the act of a command that saves
-abbrev pub saving : Giver → Change DiskView → Act Outcome
-saving giver file = record {
-  Comes = SavesOutcome giver file;
+abbrev pub saving : OpsSource → Change DiskView → Act Outcome
+saving ops_source file = record {
+  Comes = SavesOutcome ops_source file;
   line = λ outcome. Some outcome.line;
   status = λ outcome. outcome.status;
 }
 
--- what decides it: the file and the giver
-abbrev pub saving_basis : Giver → Change DiskView → Basis Outcome
-saving_basis giver file = record {
-  Told = IsSpecified file.old × giver.Told;
-  Leads = SavingFound giver file.old;
-  Failed = λ found. Faulted file.old.faults file.new.faults ⊎ giver.Failed;
-  Sure = λ found. giver.Sure × HasDiskRoom (room_needed found) file.old;
+-- what decides it: the file and the source
+abbrev pub saving_basis : OpsSource → Change DiskView → Basis Outcome
+saving_basis ops_source file = record {
+  Specified = IsSpecified file.old × ops_source.Specified;
+  Leads = SavingFound ops_source file.old;
+  Failed = λ found. Faulted file.old.faults file.new.faults ⊎ ops_source.Failed;
+  Sure = λ found. ops_source.Sure × HasDiskRoom (room_needed found) file.old;
 }
 
--- a file that is the cause of a refusal decides it alone, whatever the giver does, which comes behind it
+-- a file that is the cause of a refusal decides it alone, whatever the source does, which comes behind it
 abbrev pub FileIsRefused : Change DiskView → Status → Type 0
 FileIsRefused file end =
     IsSpecified file.old → (why : Refusal) → FileRefuses file.old why
     → IsDecided (status_of why) (Faulted file.old.faults file.new.faults) end
 
 -- what a command gave to be saved: the outcome's operations, or nothing where it did not do all
-abbrev pub GaveOutcome : Giver → DiskView → Status → List Op → Type 0
-GaveOutcome giver file end ops =
+abbrev pub GaveOutcome : OpsSource → DiskView → Status → List Op → Type 0
+GaveOutcome ops_source file end ops =
     ((IsFinished end → ⊥) × (ops ≡ []))
-    ⊎ ((replica : Replica) × (end : End) × FileHolds file replica end × (outcome : Outcome) × giver.Gives replica (Does outcome)
+    ⊎ ((replica : Replica) × (end : End) × FileHolds file replica end × (outcome : Outcome) × ops_source.Gives replica (Does outcome)
     × (ops ≡ outcome.saved))
 
 -- a command that loads a file and saves what it was given
-pub record SavesGiven (giver : Giver) (file : Change DiskView) (notes : Change OutView) (end : Status) : Type 0 where
-  pub performs : Performs (saving giver file) notes end
-  pub crash : NeverTorn (GaveOutcome giver file.old end) file end
+pub record SavesGiven (ops_source : OpsSource) (file : Change DiskView) (notes : Change OutView) (end : Status) : Type 0 where
+  pub performs : Performs (saving ops_source file) notes end
+  pub crash : NeverTorn (GaveOutcome ops_source file.old end) file end
   -- a sure file with room counts no fault, however the command ends
-  pub counts_no_fault : WhereTold (saving_basis giver file) (λ found. DiskCountsNoFault (room_needed found) file)
-  pub never_outside : NeverOutside (saving giver file) (saving_basis giver file) notes end
-  pub decided : IsDecidedBy (saving giver file) (saving_basis giver file) notes end
+  pub counts_no_fault : WhereSpecified (saving_basis ops_source file) (λ found. DiskCountsNoFault (room_needed found) file)
+  pub never_outside : NeverOutside (saving ops_source file) (saving_basis ops_source file) notes end
+  pub decided : IsDecidedBy (saving ops_source file) (saving_basis ops_source file) notes end
   pub refused : FileIsRefused file end
   pub blameless : DiskBlameless file end
 

@@ -8,7 +8,7 @@ use Rattle.origin_model.specs.taking.Taking.{Held, nothing_held, held_from, tall
 use Rattle.origin_model.specs.edits.State.{State}
 use Rattle.command_kinds.specs.Counts.{counts_line, status_by}
 use Rattle.fugue_ids.specs.declared.limits.TheConstants.{MOST_OPERATIONS}
-use Rattle.command_kinds.specs.Findings.{Basis, Does, EitherFails, Finding, Refuses, WhereTold}
+use Rattle.command_kinds.specs.Findings.{Basis, Does, EitherFails, Finding, Refuses, WhereSpecified}
 use Rattle.command_kinds.specs.Input.{StreamFound}
 use Rattle.command_kinds.specs.Printing.{WroteFront}
 use Rattle.command_kinds.specs.Changes.{HasRoom, OutBlameless, SourceBlameless, CountsNoFault, Streams, change}
@@ -76,7 +76,7 @@ brought_to_output hold (Does ops) = shown_output hold nothing_held ops
 -- what decides `show`: the input, and where that is whole the output
 abbrev pub show_basis : (hold : ℕ) → Streams → Streams → Basis (List Op)
 show_basis hold old new = record {
-  Told = (bytes : List ℕ) × (old.input.left ≡ Some bytes);
+  Specified = (bytes : List ℕ) × (old.input.left ≡ Some bytes);
   Leads = StreamFound (reader hold) old.input;
   Failed = EitherFails (Faulted old.input.faults new.input.faults) (Faulted old.output.faults new.output.faults);
   Sure = λ found. (old.input.sure ≡ true) × HasRoom (length (brought_to_output hold found)) old.output;
@@ -91,7 +91,7 @@ pub record Shows (hold : ℕ) (old new : Streams) (end : Status) : Type 0 where
   pub performs : Performs (showing hold old new) (change old.notes new.notes) end
   -- sure objects with room count no fault, however the command ends
   pub input_no_fault : old.input.sure ≡ true → new.input.faults ≡ old.input.faults
-  pub output_no_fault : WhereTold (show_basis hold old new)
+  pub output_no_fault : WhereSpecified (show_basis hold old new)
       (λ found. CountsNoFault (length (brought_to_output hold found)) old.output new.output)
   pub never_outside : NeverOutside (showing hold old new) (show_basis hold old new) (change old.notes new.notes) end
   pub decided : ShowIsDecided hold old new end

@@ -14,14 +14,14 @@ use Rattle.replica_file.specs.declared.load_file.End.{End}
 use Rattle.command_kinds.specs.Crashes.{IsFinished}
 use Rattle.command_kinds.specs.Files.{FileHolds}
 use Rattle.command_kinds.specs.Findings.{Finding, Refuses, Does}
-use Rattle.command_kinds.specs.Saving.{Giver, Outcome}
+use Rattle.command_kinds.specs.Saving.{OpsSource, Outcome}
 use Rattle.command_kinds.specs.Take.{noted_in}
 use Rattle.command_kinds.specs.Changes.{Change, WireBlameless}
 use Rattle.command_kinds.specs.declared.refusal.Refusal.{Refusal}
 use Rattle.command_kinds.specs.declared.refusal.Refusal.TheVariants as refusal
 use Rattle.command_kinds.specs.declared.status.Status.{Status}
 
--- what the wire has left, where it is told, comes to this end when a replica takes it in
+-- what the wire has left, where it is specified, comes to this end when a replica takes it in
 abbrev pub AnswerComes : Replica → WireView → List Op → ReplyEnd → Type 0
 AnswerComes replica wire ops end = IfSome wire.left (λ bytes. ReplyComes replica.hold replica.most replica.held bytes ops end)
 
@@ -41,10 +41,10 @@ ReplyGives wire replica (Does outcome) =
     (ops : List Op) × (cursor : ℕ) × AnswerComes replica wire ops (Ended cursor) × (outcome ≡ noted_in replica ops (Some cursor))
 
 -- the reply to what the replica of a file says: no call on the wire fails where it has room for that
-abbrev pub reply : (cursor : ℕ) → DiskView → Change WireView → Giver
+abbrev pub reply : (cursor : ℕ) → DiskView → Change WireView → OpsSource
 reply cursor home wire = record {
   Gives = ReplyGives wire.old;
-  Told = (bytes : List ℕ) × (wire.old.left ≡ Some bytes);
+  Specified = (bytes : List ℕ) × (wire.old.left ≡ Some bytes);
   Failed = Faulted wire.old.faults wire.new.faults;
   Sure = (replica : Replica) (end : End) → FileHolds home replica end → FitsBytes (length (request_for cursor replica.held)) wire.old;
 }

@@ -12,7 +12,7 @@ use Rattle.command_kinds.specs.Counts.{counts_text, status_by}
 use Rattle.command_kinds.specs.Files.{FileFinds}
 use Rattle.command_kinds.specs.Findings.{Finding, Refuses, Does}
 use Rattle.command_kinds.specs.Input.{StreamFound}
-use Rattle.command_kinds.specs.Saving.{Giver, Outcome}
+use Rattle.command_kinds.specs.Saving.{OpsSource, Outcome}
 use Rattle.command_kinds.specs.Changes.{Change, HasDiskRoom, IsSpecified}
 use Rattle.command_kinds.specs.declared.refusal.Refusal.TheVariants as refusal
 
@@ -43,10 +43,10 @@ StreamGives input replica (Refuses why) = StreamFound replica input (Refuses why
 StreamGives input replica (Does outcome) = (ops : List Op) × StreamFound replica input (Does ops) × (outcome ≡ taken_in replica ops)
 
 -- a stream that is read from a source, as what gives the operations
-abbrev pub stream : Change SourceView → Giver
+abbrev pub stream : Change SourceView → OpsSource
 stream input = record {
   Gives = StreamGives input.old;
-  Told = (bytes : List ℕ) × (input.old.left ≡ Some bytes);
+  Specified = (bytes : List ℕ) × (input.old.left ≡ Some bytes);
   Failed = Faulted input.old.faults input.new.faults;
   Sure = input.old.sure ≡ true;
 }
@@ -70,14 +70,14 @@ abbrev pub FileGives : DiskView → Replica → Finding Outcome → Type 0
 FileGives guest replica found = FileFinds (λ other end. ReplicaGives other replica) guest found
 
 -- the other replica alone, which is no object of the outside
-abbrev pub all_held_by : (other : Replica) → Giver
-all_held_by other = record { Gives = ReplicaGives other; Told = Unit {0}; Failed = ⊥; Sure = Unit {0} }
+abbrev pub all_held_by : (other : Replica) → OpsSource
+all_held_by other = record { Gives = ReplicaGives other; Specified = Unit {0}; Failed = ⊥; Sure = Unit {0} }
 
 -- another manuscript's file, as what gives the operations
-abbrev pub other_file : Change DiskView → Giver
+abbrev pub other_file : Change DiskView → OpsSource
 other_file guest = record {
   Gives = FileGives guest.old;
-  Told = IsSpecified guest.old;
+  Specified = IsSpecified guest.old;
   Failed = Faulted guest.old.faults guest.new.faults;
   Sure = HasDiskRoom 1 guest.old;
 }

@@ -1,6 +1,6 @@
 -- A text that goes to the output: what came of it, and the acts of commands that write one.
 use Rattle.std.specs.Prelude.{◌≡◌, ◌≢◌, ◌⊎◌, ℕ, List, length, Result, Ok, Err, Some}
-use Rattle.fugue_ids.specs.Outs.{OutTells, OutView, Took}
+use Rattle.fugue_ids.specs.Outs.{OutIsSpecified, OutView, Took}
 use Rattle.command_kinds.specs.Findings.{Finding, Refuses, Does}
 use Rattle.command_kinds.specs.Printing.{WroteFront}
 use Rattle.command_kinds.specs.Refusal.{status_of}
@@ -22,11 +22,11 @@ TextComes bytes output (Err refusal.Outside) = WroteFront bytes output
 TextComes bytes output (Err refusal.NoMemory) = output.new ≡ output.old
 TextComes bytes output (Err _) = ⊥
 
--- the call that writes a text: a sure output that has room for it counts no fault, and one that tells none but where it failed
+-- the call that writes a text: a sure output that has room for it counts no fault, and one that is specified none but where it failed
 pub record GoesOut (bytes : List ℕ) (output : Change OutView) (result : Result (Unit {0}) Refusal) : Type 0 where
   pub comes : TextComes bytes output result
   pub counts_no_fault : CountsNoFault (length bytes) output.old output.new
-  pub told : OutTells output.old → result ≢ Err refusal.Outside → output.new.faults ≡ output.old.faults
+  pub reported : OutIsSpecified output.old → result ≢ Err refusal.Outside → output.new.faults ≡ output.old.faults
 
 -- the act of a command that writes a text: only a failure is noted
 abbrev pub writing : (bytes : List ℕ) → Change OutView → Act (Unit {0})
@@ -49,16 +49,16 @@ abbrev pub HasNoText : (tells : Finding (List ℕ) → Type 0) → Refusal → T
 HasNoText tells refusal.NoMemory = Unit {0}
 HasNoText tells why = (status_of why ≡ status.BadInput) × tells (Refuses why)
 
--- the call that writes what is told: a text, or nothing
+-- the call that writes what is reported: a text, or nothing
 abbrev pub ReportGoesOut : (tells : Finding (List ℕ) → Type 0) → Change OutView → Result (Unit {0}) Refusal → Type 0
 ReportGoesOut tells output result =
     ((bytes : List ℕ) × tells (Does bytes) × GoesOut bytes output result)
     ⊎ ((why : Refusal) × (result ≡ Err why) × HasNoText tells why × (output.new ≡ output.old))
 
--- the act of a command that writes what is told
+-- the act of a command that writes what is reported
 abbrev pub writing_found : (tells : Finding (List ℕ) → Type 0) → Change OutView → Act (Unit {0})
 writing_found tells output = record { Comes = ReportGoesOut tells output; line = no_line; status = all_done }
 
--- what is told was written, or nothing
+-- what is reported was written, or nothing
 abbrev pub WritesReport : (tells : Finding (List ℕ) → Type 0) → (output notes : Change OutView) → Status → Type 0
 WritesReport tells output notes end = Performs (writing_found tells output) notes end

@@ -4,7 +4,7 @@ ghost use Rattle.op_runs.specs.Deletions.{CountersFit, deletes_by, deletes_down}
 ghost use Rattle.op_runs.specs.Slices.{HasCounters, stretch_ops};
 ghost use Rattle.origin_model.specs.taking.Taking.{IsSettled, kept_from};
 ghost use Rattle.replica_core.specs.Feeding.{TakesInAll};
-ghost use Rattle.replica_core.specs.Told.{total};
+ghost use Rattle.replica_core.specs.Answering.{total};
 ghost use Rattle.command_kinds.specs.Intake.{FeedsNotAll, copies_of_kept};
 
 use crate::kept::Kept;

@@ -1,3 +1,4 @@
+//! The counts that commands report of their operations, as lines, and the status that they imply.
 ghost use Rattle.std.specs.Prelude.{◌≡◌, ◌≤◌, ◌+◌, ◌++◌, length, None, Some};
 ghost use Rattle.fugue_ids.specs.Outs.{WritesBytes};
 ghost use Rattle.command_kinds.specs.Counts.{are_none, counts_line, counts_text, cursor_line, made_line, revised_text};
@@ -47,7 +48,7 @@ impl Counts {
 pub enum Note {
     /// What became of the operations that it took in.
     Counted(Counts),
-    /// How many operations the command made: by a script, or the one note.
+    /// How many operations the command made: those of a script, one note, or the Delete of one.
     Made(u32),
     /// How many operations a draft took, and how many of them were made on sections.
     Revised(u32, SectionCounts),

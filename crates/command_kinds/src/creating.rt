@@ -1,3 +1,4 @@
+//! The command `new`: creates the file of a replica without operations.
 ghost use Rattle.std.specs.Prelude.{◌≤◌};
 ghost use Rattle.fugue_ids.specs.declared.limits.TheConstants.{GREATEST_HOLD as greatest_hold};
 ghost use Rattle.command_kinds.specs.New.{Creates};

@@ -23,7 +23,7 @@ pub struct Script;
 impl<S: Source> Gives<S> for Script {
     ghost Leaves = { λ what home before after end. ReadsInput (S.seen before) (S.seen after) end };
 
-    ghost giver = { λ what home before after course. script (change (S.seen before) (S.seen after)) };
+    ghost ops_source = { λ what home before after finding. script (change (S.seen before) (S.seen after)) };
 
     fn give(
         &self,

@@ -1,7 +1,7 @@
 //! The commands that save: something is given to the replica of the home file, and what came of it is saved and noted.
 ghost use Rattle.std.specs.Prelude.{◌≡◌, ◌≢◌, ◌-◌, [], drop, length, Some, IfSome};
 ghost use Rattle.origin_model.specs.operations.History.{accepted};
-ghost use Rattle.outer_ports.specs.disk.Disks.{DiskTells, DiskView};
+ghost use Rattle.outer_ports.specs.disk.Disks.{DiskIsSpecified, DiskView};
 ghost use Rattle.replica_file.specs.declared.load_file.End.{End as FileEnd};
 ghost use Rattle.replica_file.specs.Ends.{EndsAtGate, IsWithinReach};
 ghost use Rattle.replica_file.specs.Loading.{CanTake};
@@ -11,7 +11,7 @@ ghost use Rattle.command_kinds.specs.Giving.{GivenNoted, GivesTo, MayEnd, SavesN
 ghost use Rattle.command_kinds.specs.Giving.{note_line, note_status, to_save as ops_to_save};
 ghost use Rattle.command_kinds.specs.Printing.{NoteMeets, NotesBlameless};
 ghost use Rattle.command_kinds.specs.Findings.{Finding};
-ghost use Rattle.command_kinds.specs.Saving.{Giver, GivesOnce, Outcome, SavesGiven};
+ghost use Rattle.command_kinds.specs.Saving.{OpsSource, GivesOnce, Outcome, SavesGiven};
 ghost use Rattle.command_kinds.specs.Changes.{IsSpecified, CountsNoFault, change, notes_room};
 ghost use Rattle.command_kinds.specs.declared.refusal.Refusal.{Refusal as AnyRefusal};
 ghost use Rattle.command_kinds.specs.declared.refusal.Refusal.TheVariants.{Outside};
@@ -32,14 +32,14 @@ use std::alloc::Global;
 
 /// What a command gives to the replica of its home file, from an object of the outside.
 pub trait Gives<F> {
-    /// What is given, by the home file at entry, by the object before and after, and by the course that giving took:
-    /// where several are right, the giver is of the one that came.
-    ghost giver: { Self → DiskView → F → F → Finding Outcome → Giver };
+    /// What is given, by the home file at entry, by the object before and after, and by the finding that giving came to:
+    /// where several are right, the source is of the one that came.
+    ghost ops_source: { Self → DiskView → F → F → Finding Outcome → OpsSource };
 
     /// How the object is left, where the command ends so.
     ghost Leaves: { Self → DiskView → F → F → AnyStatus → Type 0 };
 
-    /// Gives to a replica that was loaded. What is to be saved comes into `kept`, but for what a script made.
+    /// Gives to a replica that was loaded. What is to be saved goes into `kept`, except what the replica itself made.
     fn give(
         &self,
         alloc: Global,
@@ -50,36 +50,37 @@ pub trait Gives<F> {
         requires ready { CanTake replica.old }
         requires none_kept { kept.old ≡ Some [] }
         ensures gives { (home : DiskView) (last : FileEnd) → FileHolds home replica.old last
-            → (course : Finding Outcome)
-            × GivesTo (giver self.now home from.old from.new course) replica.old replica.new kept.new result }
+            → (finding : Finding Outcome)
+            × GivesTo (ops_source self.now home from.old from.new finding) replica.old replica.new kept.new result }
         ensures leaves { (home : DiskView) (last : FileEnd) → FileHolds home replica.old last
             → (end : AnyStatus) → MayEnd result end → Leaves self.now home from.old from.new end };
 
-    /// The laws of a giver: what is told gives one thing, and an object that is not used is left as it should be.
+    /// The laws of a source of operations: one that is specified gives one thing, and an object that is not used is
+    /// left as it should be.
     fn laws(&self)
-        ensures once { (home : DiskView) (before after : F) (course : Finding Outcome)
-            → GivesOnce (giver self.now home before after course) }
+        ensures once { (home : DiskView) (before after : F) (finding : Finding Outcome)
+            → GivesOnce (ops_source self.now home before after finding) }
         ensures idle { (home : DiskView) (from : F) (end : AnyStatus) → (IsFinished end → ⊥)
             → Leaves self.now home from from end };
 }
 
-/// Loads the home file, lets the giver give to its replica, saves what came of it by one append, and notes it.
+/// Loads the home file, lets the source give to its replica, saves what came of it by one append, and notes it.
 pub fn save_given<F, T: Gives<F>, H: Disk, N: Sink>(
     alloc: Global,
-    giver: &T,
+    ops_source: &T,
     from: &mut F,
     home: &mut H,
     notes: &mut N,
 ) -> Status
-    ensures saves { (course : Finding Outcome)
-        × SavesGiven (T.giver giver.now (H.seen home.old) from.old from.new course)
+    ensures saves { (finding : Finding Outcome)
+        × SavesGiven (T.ops_source ops_source.now (H.seen home.old) from.old from.new finding)
         (change (H.seen home.old) (H.seen home.new)) (change (N.seen notes.old) (N.seen notes.new)) result }
-    ensures leaves { T.Leaves giver.now (H.seen home.old) from.old from.new result }
+    ensures leaves { T.Leaves ops_source.now (H.seen home.old) from.old from.new result }
     ensures unused { IsSpecified (H.seen home.old) → (why : AnyRefusal) → FileRefuses (H.seen home.old) why
         → from.new ≡ from.old }
 {
-    giver.laws();
-    match load_and_save(alloc, giver, from, home) {
+    ops_source.laws();
+    match load_and_save(alloc, ops_source, from, home) {
         Ok(note) => note_down(&note, notes),
         Err(why) => tell(notes, why),
     }
@@ -88,24 +89,24 @@ pub fn save_given<F, T: Gives<F>, H: Disk, N: Sink>(
 /// Loads the home file, and saves what was given to its replica. The answer is what is to be noted.
 fn load_and_save<F, T: Gives<F>, H: Disk>(
     alloc: Global,
-    giver: &T,
+    ops_source: &T,
     from: &mut F,
     home: &mut H,
 ) -> Result<Note, Refusal>
-    ensures saves { (course : Finding Outcome)
-        × SavesNoted (T.giver giver.now (H.seen home.old) from.old from.new course)
+    ensures saves { (finding : Finding Outcome)
+        × SavesNoted (T.ops_source ops_source.now (H.seen home.old) from.old from.new finding)
         (change (H.seen home.old) (H.seen home.new)) result }
-    ensures told { DiskTells (H.seen home.old) → result ≢ Err Outside
+    ensures specified { DiskIsSpecified (H.seen home.old) → result ≢ Err Outside
         → (H.seen home.new).faults ≡ (H.seen home.old).faults }
     ensures leaves { (end : AnyStatus) → MayEnd result end
-        → T.Leaves giver.now (H.seen home.old) from.old from.new end }
+        → T.Leaves ops_source.now (H.seen home.old) from.old from.new end }
     ensures unused { IsSpecified (H.seen home.old) → (why : AnyRefusal) → FileRefuses (H.seen home.old) why
         → from.new ≡ from.old }
 {
-    giver.laws();
+    ops_source.laws();
     let (mut replica, end) = load(alloc, home, MOST_OPERATIONS)?;
     let mut kept = Kept::copied(alloc);
-    let saved = give_and_save(alloc, giver, from, &mut replica, end, home, &mut kept);
+    let saved = give_and_save(alloc, ops_source, from, &mut replica, end, home, &mut kept);
     replica.discard();
     saved
 }
@@ -113,7 +114,7 @@ fn load_and_save<F, T: Gives<F>, H: Disk>(
 /// Saves what was given to the replica of the home file, which was loaded and ends there.
 fn give_and_save<F, T: Gives<F>, H: Disk>(
     alloc: Global,
-    giver: &T,
+    ops_source: &T,
     from: &mut F,
     replica: &mut Replica,
     end: End,
@@ -124,16 +125,16 @@ fn give_and_save<F, T: Gives<F>, H: Disk>(
     requires reaches { IsWithinReach end }
     requires ends { IfSome (H.seen home.old).past (λ h. EndsAtGate h.last end) }
     requires none_kept { kept.old ≡ Some [] }
-    ensures given { (file : DiskView) → FileHolds file replica.old end → (course : Finding Outcome)
-        × GivenNoted (T.giver giver.now file from.old from.new course) replica.old end
+    ensures given { (file : DiskView) → FileHolds file replica.old end → (finding : Finding Outcome)
+        × GivenNoted (T.ops_source ops_source.now file from.old from.new finding) replica.old end
         (change (H.seen home.old) (H.seen home.new)) result }
-    ensures told { DiskTells (H.seen home.old) → result ≢ Err Outside
+    ensures specified { DiskIsSpecified (H.seen home.old) → result ≢ Err Outside
         → (H.seen home.new).faults ≡ (H.seen home.old).faults }
     ensures leaves { (file : DiskView) → FileHolds file replica.old end
-        → (status : AnyStatus) → MayEnd result status → T.Leaves giver.now file from.old from.new status }
+        → (status : AnyStatus) → MayEnd result status → T.Leaves ops_source.now file from.old from.new status }
 {
     let before = replica.accepted().len();
-    let note = giver.give(alloc, from, replica, kept)?;
+    let note = ops_source.give(alloc, from, replica, kept)?;
     append(alloc, home, end, to_save(&note, before, replica, kept))?;
     Ok(note)
 }

@@ -1,3 +1,4 @@
+//! `Kept`: delivers operations to a replica and, for saving, copies those that are accepted or pending.
 ghost use Rattle.std.specs.Prelude.{◌≡◌, ◌≢◌, ◌+◌, ◌^◌, ◌≤◌, ◌∷◌, [], length, Some, None, IfErr, IfOk, OnOk};
 ghost use Rattle.fugue_ids.specs.Runs.{run_from};
 ghost use Rattle.op_runs.specs.Deletions.{deletes_up};
@@ -5,7 +6,7 @@ ghost use Rattle.origin_model.specs.taking.Taking.{IsSettled, TooMany as Answers
 ghost use Rattle.origin_model.specs.taking.Taking.{intake, intake_counted, kept_from};
 ghost use Rattle.op_frame.specs.NextRuns.{AreSoundNextOps, ops_given};
 ghost use Rattle.replica_core.specs.Feeding.{TakesInAll};
-ghost use Rattle.replica_core.specs.Told.{StaysBelow, total};
+ghost use Rattle.replica_core.specs.Answering.{StaysBelow, total};
 ghost use Rattle.command_kinds.specs.Intake.{FeedsNot, FeedsNotAll, copies_of_kept, ops_in};
 
 use crate::kept_ops::{KeptOps, runs_of};
@@ -18,7 +19,7 @@ use std::alloc::Global;
 use std::marker::Model;
 use std::mem::replace;
 
-/// The operations that were kept, in order, for a command that saves them. Where they are forgotten, as by one that only
+/// The operations that were kept, in order, for a command that saves them. If they are forgotten, as by one that only
 /// shows, they take no memory.
 #[derive(Drop)]
 pub struct Kept {
@@ -72,7 +73,7 @@ impl Kept {
         self.ops = KeptOps::Given(ops);
     }
 
-    /// Takes out what is kept, where operations are not forgotten, so that copies can go behind it. Without memory nothing
+    /// Takes out what is kept, unless operations are forgotten, so that copies can be appended. Without memory nothing
     /// is kept any more: the caller must stop.
     fn take_runs(&mut self) -> Result<Option<OpRuns>, NoMemory>
         ensures taken { IfOk result (λ runs. runs ≡ self.old) }

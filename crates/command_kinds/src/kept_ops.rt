@@ -1,3 +1,4 @@
+//! The storage behind `Kept`: nothing, copies in a list of runs, or a list that was given.
 ghost use Rattle.std.specs.Prelude.{◌≡◌, IfOk};
 
 use fugue_ids::{NoMemory, Op};

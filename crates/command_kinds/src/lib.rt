@@ -33,7 +33,7 @@ pub use noting::{MakesNote, save_note};
 pub use print::Manuscript;
 pub use printing::noted;
 pub use refusal::{Refusal, tell};
-pub use report::{Report, Told, write_held, write_report};
+pub use report::{Report, ReportResult, write_held, write_report};
 pub use send::Frames;
 pub use showing::show;
 pub use status::Status;

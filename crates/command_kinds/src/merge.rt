@@ -23,7 +23,7 @@ use std::alloc::Global;
 pub struct OtherFile;
 
 impl<G: Disk> Gives<G> for OtherFile {
-    ghost giver = { λ what home before after course. other_file (change (G.seen before) (G.seen after)) };
+    ghost ops_source = { λ what home before after finding. other_file (change (G.seen before) (G.seen after)) };
 
     ghost Leaves = { λ what home before after end. LeavesFile (change (G.seen before) (G.seen after)) end };
 

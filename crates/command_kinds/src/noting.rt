@@ -1,6 +1,6 @@
 //! The commands that make a note: one call on the replica of the home file makes it, and it is saved.
 ghost use Rattle.std.specs.Prelude.{◌≡◌, OnErr};
-ghost use Rattle.command_kinds.specs.Notes.{NoteComes, NoteOn, note_giver};
+ghost use Rattle.command_kinds.specs.Notes.{NoteComes, NoteOn, note_source};
 ghost use Rattle.command_kinds.specs.Saving.{SavesGiven};
 ghost use Rattle.command_kinds.specs.Changes.{change};
 ghost use Rattle.replica_file.specs.Loading.{CanTake};
@@ -33,7 +33,7 @@ struct Noting<'a, T> {
 }
 
 impl<'a, T: MakesNote> Gives<()> for Noting<'a, T> {
-    ghost giver = { λ what home before after course. note_giver (T.note_on what.maker.now) };
+    ghost ops_source = { λ what home before after finding. note_source (T.note_on what.maker.now) };
 
     ghost Leaves = { λ what home before after end. Unit {0} };
 
@@ -58,7 +58,7 @@ pub fn save_note<T: MakesNote, H: Disk, N: Sink>(
     home: &mut H,
     notes: &mut N,
 ) -> Status
-    ensures { SavesGiven (note_giver (T.note_on maker.now)) (change (H.seen home.old) (H.seen home.new))
+    ensures { SavesGiven (note_source (T.note_on maker.now)) (change (H.seen home.old) (H.seen home.new))
         (change (N.seen notes.old) (N.seen notes.new)) result }
 {
     save_given(alloc, &Noting { maker }, &mut (), home, notes)

@@ -1,3 +1,4 @@
+//! How a command ends: the manuscript printed, the counts written as diagnostics, the status returned.
 ghost use Rattle.std.specs.Prelude.{◌≤◌, List, ℕ, length};
 ghost use Rattle.fugue_ids.specs.Outs.{OutView, WritesBytes};
 ghost use Rattle.command_kinds.specs.Acts.{Performs};
@@ -42,7 +43,7 @@ pub(crate) fn note<N: Sink>(counts: &Counts, notes: &mut N) -> Status
     noted(written, status_of(counts), notes)
 }
 
-/// The status, where the line of notes was written. Where it was not, that is told as a fault outside.
+/// The status, where the line of notes was written. Where it was not, that is reported as a fault outside.
 pub fn noted<N: Sink>(written: Result<(), Failed>, status: Status, notes: &mut N) -> Status
     ensures meets { (before : OutView) (line : List ℕ) → WritesBytes before (N.seen notes.old) written line
         → length line ≤ notes_room → NoteMeets line status before (N.seen notes.new) result }

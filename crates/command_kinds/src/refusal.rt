@@ -1,7 +1,8 @@
+//! `Refusal`: each reason why a command fails, with its exit status and its line of diagnostics.
 ghost use Rattle.std.specs.Prelude.{◌≡◌, ◌≤◌, length};
 ghost use Rattle.fugue_ids.specs.Outs.{WritesBytes};
 ghost use Rattle.command_kinds.specs.Refusal.{append_refusal, create_refusal, feed_refusal, frame_refusal};
-ghost use Rattle.command_kinds.specs.Refusal.{load_refusal, script_refusal, serve_refusal, sync_refusal};
+ghost use Rattle.command_kinds.specs.Refusal.{load_refusal, read_refusal, script_refusal, serve_refusal, sync_refusal};
 ghost use Rattle.command_kinds.specs.Refusal.{detail_of, refusal_line, status_of, words_of, Reported};
 ghost use Rattle.command_kinds.specs.Changes.{notes_room};
 ghost use Rattle.command_kinds.specs.declared.refusal.Refusal.TheVariants.{NoMemory as NoMemoryFound};
@@ -14,9 +15,9 @@ use itoa::Buffer;
 use op_frame::FrameFault;
 use relay_sync::{ServeFault, SyncFault};
 use replica_core::FeedFault;
-use replica_file::{AppendFault, CreateFault, LoadFault};
+use replica_file::{AppendFault, CreateFault, LoadFault, ReadFault};
 
-/// Why a command did not do all: every cause that there is, with the number that is told.
+/// Why a command failed: every cause, with the number that its line reports.
 #[derive(Clone, Copy)]
 pub enum Refusal {
     Words,
@@ -58,7 +59,7 @@ pub enum Refusal {
     NoPlace(u32),
     /// No stamp is left for a move or a new title.
     StampsSpent,
-    /// The text that a draft was written from is another than what is shown, from this byte on, counted from 0.
+    /// The base of a draft differs from what is shown, from this byte on, counted from 0.
     BaseDiffers(u64),
     /// The line of a draft, counted from 1, is not UTF-8, is a heading with no title, or is the first and no heading.
     BadDraft(u64),
@@ -66,7 +67,7 @@ pub enum Refusal {
     EmptyDraft,
     /// Fewer operations were accepted than this.
     NoMoment(u32),
-    /// The replica made operations behind so many.
+    /// The replica made operations of its own after so many.
     OwnSince(u32),
     /// The section has fewer characters.
     OutOfRange,
@@ -255,6 +256,17 @@ impl From<AppendFault> for Refusal {
     }
 }
 
+impl From<ReadFault> for Refusal {
+    ghost from_gives = { λ fault refusal. refusal ≡ read_refusal fault };
+
+    fn from(fault: ReadFault) -> Refusal {
+        match fault {
+            ReadFault::DiskFault => Refusal::Outside,
+            ReadFault::NoMemory => Refusal::NoMemory,
+        }
+    }
+}
+
 impl From<SyncFault> for Refusal {
     ghost from_gives = { λ fault refusal. refusal ≡ sync_refusal fault };
 
@@ -294,7 +306,7 @@ impl From<NoMemory> for Refusal {
 /// Writes the refusal's line to the notes, as far as they take it, and answers its status.
 pub fn tell<N: Out>(notes: &mut N, refusal: Refusal) -> Status
     ensures status { result ≡ status_of refusal }
-    ensures told { Reported (N.seen notes.old) (N.seen notes.new) (refusal_line refusal) }
+    ensures reported { Reported (N.seen notes.old) (N.seen notes.new) (refusal_line refusal) }
 {
     let Row(status, ..) = refusal.row();
     let _ = write_line(notes, refusal);

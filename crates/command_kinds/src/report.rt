@@ -1,3 +1,4 @@
+//! `Report`: the kind of command that loads a file and writes one text about its replica.
 ghost use Rattle.std.specs.Prelude.{◌≡◌, List, ℕ};
 ghost use Rattle.origin_model.specs.operations.Verdict.{Lawful};
 ghost use Rattle.origin_model.specs.edits.State.{State as AnyReplica};
@@ -16,19 +17,19 @@ use replica_file::load;
 use std::alloc::Global;
 
 /// Whether a text was written, or why there is none.
-pub type Told = Result<(), Refusal>;
+pub type ReportResult = Result<(), Refusal>;
 
-/// What a command tells of what a file's replica holds.
+/// What a command reports of what a file's replica holds.
 pub trait Report {
     /// The text that it is, or why there is none.
     ghost Tells: { Self → AnyReplica → Finding (List ℕ) → Type 0 };
 
     /// Writes the text. Where there is none, or memory is wanting, nothing goes out.
-    fn write<O: Sink>(&self, alloc: Global, replica: &Replica, output: &mut O) -> Told
+    fn write<O: Sink>(&self, alloc: Global, replica: &Replica, output: &mut O) -> ReportResult
         ensures { ReportGoesOut (Tells self.now replica.now)
             (change (O.seen output.old) (O.seen output.new)) result };
 
-    /// The law of a report: of a lawful history one thing is told.
+    /// The law of a report: of a lawful history one thing is reported.
     fn laws(&self)
         ensures { (replica : AnyReplica) → Lawful replica.held.history → (a b : Finding (List ℕ))
             → Tells self.now replica a → Tells self.now replica b → a ≡ b };

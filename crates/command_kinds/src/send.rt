@@ -1,8 +1,9 @@
+//! The command `send`: the frames of all accepted and pending operations of a file, as a report.
 ghost use Rattle.std.specs.Prelude.{◌≡◌, IfOk};
-ghost use Rattle.command_kinds.specs.Report.{frames_held, send_tells};
+ghost use Rattle.command_kinds.specs.Report.{frames_held, send_reports};
 
 use crate::refusal::Refusal;
-use crate::report::{Report, Told};
+use crate::report::{Report, ReportResult};
 use crate::text_out::gone_out;
 use fugue_ids::{NoMemory, write_whole};
 use op_frame::encode_all;
@@ -15,9 +16,9 @@ use std::alloc::Global;
 pub struct Frames;
 
 impl Report for Frames {
-    ghost Tells = { λ what. send_tells };
+    ghost Tells = { λ what. send_reports };
 
-    fn write<O: Sink>(&self, alloc: Global, replica: &Replica, output: &mut O) -> Told {
+    fn write<O: Sink>(&self, alloc: Global, replica: &Replica, output: &mut O) -> ReportResult {
         let frames = frames_of(alloc, replica)?;
         gone_out(write_whole(output, &frames))
     }

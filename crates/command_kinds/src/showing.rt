@@ -1,3 +1,4 @@
+//! The command `show`: prints the manuscript of a stream of frames, without any file.
 ghost use Rattle.std.specs.Prelude.{◌≡◌, ◌≤◌};
 ghost use Rattle.fugue_ids.specs.declared.limits.TheConstants.{GREATEST_HOLD as greatest_hold};
 ghost use Rattle.command_kinds.specs.Show.{reader, Shows};

@@ -1,3 +1,4 @@
+//! `Status`: how a command ended, and the exit code of the process for it.
 ghost use Rattle.std.specs.Prelude.{◌≡◌};
 ghost use Rattle.command_kinds.specs.Status.{exit_code};
 
@@ -8,7 +9,7 @@ pub enum Status {
     Done,
     /// The words are those of no command.
     Usage,
-    /// The input is not what it has to be: its first fault is told.
+    /// The input or a reply is invalid, or the words name what does not exist.
     BadInput,
     /// All was done, and some operation waits or was refused.
     Partial,

@@ -20,7 +20,7 @@ pub struct Reply {
 }
 
 impl<W: Wire> Gives<W> for Reply {
-    ghost giver = { λ what home before after course. reply what.cursor home (change (W.seen before) (W.seen after)) };
+    ghost ops_source = { λ what home before after finding. reply what.cursor home (change (W.seen before) (W.seen after)) };
 
     ghost Leaves = { λ what home before after end.
         LeavesWire what.port what.cursor home (change (W.seen before) (W.seen after)) end };

@@ -16,7 +16,7 @@ use std::alloc::Global;
 pub struct Stream;
 
 impl<S: Source> Gives<S> for Stream {
-    ghost giver = { λ what home before after course. stream (change (S.seen before) (S.seen after)) };
+    ghost ops_source = { λ what home before after finding. stream (change (S.seen before) (S.seen after)) };
 
     ghost Leaves = { λ what home before after end. ReadsInput (S.seen before) (S.seen after) end };
 

@@ -1,3 +1,4 @@
+//! Reads a stream of frames to its end, delivers its operations to a replica, and counts the results.
 ghost use Rattle.std.specs.Prelude.{◌≡◌, ◌≤◌, length, IfOk, IfErr, IsErrOf};
 ghost use Rattle.fugue_ids.specs.declared.limits.TheConstants.{GREATEST_HOLD};
 ghost use Rattle.outer_ports.specs.Sources.{KeepsCount};

@@ -1,7 +1,7 @@
 //! A text that goes to the output, and how a command ends that writes no more than that.
 ghost use Rattle.std.specs.Prelude.{List, ℕ};
 ghost use Rattle.fugue_ids.specs.Outs.{OutView, WritesBytes};
-ghost use Rattle.command_kinds.specs.Acts.{TellsResult, all_done, no_line};
+ghost use Rattle.command_kinds.specs.Acts.{ReportsResult, all_done, no_line};
 ghost use Rattle.command_kinds.specs.TextOut.{GoesOut};
 ghost use Rattle.command_kinds.specs.Changes.{change};
 
@@ -21,9 +21,9 @@ pub fn gone_out(written: Result<(), Failed>) -> Result<(), Refusal>
     }
 }
 
-/// Done, where a text went out. Where it did not, why is told.
+/// Done, where a text went out. Where it did not, why is reported.
 pub fn ended<N: Sink>(gone: Result<(), Refusal>, notes: &mut N) -> Status
-    ensures { TellsResult no_line all_done gone (change (N.seen notes.old) (N.seen notes.new)) result }
+    ensures { ReportsResult no_line all_done gone (change (N.seen notes.old) (N.seen notes.new)) result }
 {
     match gone {
         Ok(()) => Status::Done,

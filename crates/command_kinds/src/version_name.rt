@@ -1,3 +1,4 @@
+//! `VersionName`: the name of a version in a fixed-size array, so that a refusal with it can be copied.
 ghost use Rattle.std.specs.Prelude.{◌≡◌, ◌↔◌, ◌<◌, ◌≤◌, length, IfSome, IsNone};
 ghost use Rattle.command_kinds.specs.Refusal.{kept_name, name_bytes};
 

@@ -1,3 +1,4 @@
+//! Tests of the relay's loop over a listener: sessions served, cut short or lost, and failing calls.
 mod run_replies;
 mod syncs;
 

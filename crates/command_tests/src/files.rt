@@ -1,3 +1,4 @@
+//! Tests of replica files: their bytes, loading, corruption, version 1, and a crash at each call of a save.
 ghost use Rattle.std.specs.Prelude.{◌<◌, ◌≤◌, IfSome, IfOk};
 ghost use Rattle.fugue_ids.specs.declared.limits.TheConstants.{MOST_OPERATIONS as most_operations};
 ghost use Rattle.replica_file.specs.Ends.{EndsAtGate, IsWithinReach};

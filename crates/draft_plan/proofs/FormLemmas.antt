@@ -149,14 +149,14 @@ none_bad_first (l ∷ ls) e g =
     let here : is_bad_at 1 l ≡ false = or_from (is_bad l) (not (is_heading l)) (All-head (λ l. is_bad l ≡ false) l ls g) (not_from_true (is_heading l) e) in
     ap (λ t. cond t (Some 1) (first_bad 2 ls)) here ∙ none_bad 2 ls (omega arith) (All-tail (λ l. is_bad l ≡ false) l ls g)
 
-abbrev told : Option ℕ → List Part → Result (List Part) ℕ
-told o ps = elim o [ None ↦ Ok ps | Some line ↦ Err line ]
+abbrev form_result : Option ℕ → List Part → Result (List Part) ℕ
+form_result o ps = elim o [ None ↦ Ok ps | Some line ↦ Err line ]
 
 pub parts_of_form : PartsOfForm
 parts_of_form ps h =
     let f = formed ps h in
-    let read : List (List ℕ) → Result (List Part) ℕ = λ ls. told (first_bad 1 ls) (parts_of ls) in
-    ap read (pieces_closed (form ps)) ∙ ap (λ o. told o (parts_of (pieces (form ps)))) (none_bad_first (pieces (form ps)) f.at_heading f.good) ∙ ap Ok f.parts
+    let read : List (List ℕ) → Result (List Part) ℕ = λ ls. form_result (first_bad 1 ls) (parts_of ls) in
+    ap read (pieces_closed (form ps)) ∙ ap (λ o. form_result o (parts_of (pieces (form ps)))) (none_bad_first (pieces (form ps)) f.at_heading f.good) ∙ ap Ok f.parts
 
 -- lines, joined by LF, with LF behind them
 join_block : (b : List ℕ) (bs : List (List ℕ)) → join_with_byte 10 (b ∷ bs) ++ 10 ∷ [] ≡ ended_lines (b ∷ bs)
@@ -217,13 +217,13 @@ reform (l ∷ ls) =
           ∙ ap (λ ps. ended_lines (before_heading (l ∷ ls)) ++ form ps) (sym (ap (λ t. cond t (part_under l ls ∷ parts_of ls) (parts_of ls)) e))
     ]
 
-told_ok : (o : Option ℕ) (ps qs : List Part) → told o ps ≡ Ok qs → (o ≡ None) × (ps ≡ qs)
-told_ok None ps qs e = (refl, cc)
-told_ok (Some line) ps qs e = cc
+form_ok : (o : Option ℕ) (ps qs : List Part) → form_result o ps ≡ Ok qs → (o ≡ None) × (ps ≡ qs)
+form_ok None ps qs e = (refl, cc)
+form_ok (Some line) ps qs e = cc
 
 pub form_of_parts : FormOfParts
 form_of_parts d ps h =
-    let is = told_ok (first_bad 1 (draft_lines d)) (parts_of (draft_lines d)) ps h in
+    let is = form_ok (first_bad 1 (draft_lines d)) (parts_of (draft_lines d)) ps h in
     let none : before_heading (draft_lines d) ≡ [] = before_all [] (draft_lines d) (All-nil (λ l. is_heading l ≡ false)) (heading_first (draft_lines d) is.0) in
     record {
       draft = closed_ended d;

@@ -22,8 +22,8 @@ all_parts : (ps : List Part) → All (λ (p : Part). (is_title p.title ≡ true)
 all_parts [] t e = All-nil IsPart
 all_parts (p ∷ ps) t e =
     let both = or_parts (has_heading p.text) (list_any (λ q. has_heading q.text) ps) e in
-    let told = All-head (λ (p : Part). (is_title p.title ≡ true) × (is_utf8 p.text ≡ true)) p ps t in
-    All-cons IsPart p ps (record { title = told.0; text = told.1; no_heading = both.0 })
+    let parts_are = All-head (λ (p : Part). (is_title p.title ≡ true) × (is_utf8 p.text ≡ true)) p ps t in
+    All-cons IsPart p ps (record { title = parts_are.0; text = parts_are.1; no_heading = both.0 })
     (all_parts ps (All-tail (λ (p : Part). (is_title p.title ≡ true) × (is_utf8 p.text ≡ true)) p ps t) both.1)
 
 pub arranged_reads : ArrangedReads

@@ -78,7 +78,7 @@ fn order_of(
 ) -> Result<Vec<usize>, NoMemory>
     requires { (s : Identifier) → Contains (arranged replica.now.held.history) s → Contains sections.now s }
     ensures order { IfOk result (λ order. IsOrderOf sections.now (arranged replica.now.held.history) order.items) }
-    ensures stands { IsSound replica.now }
+    ensures sound { IsSound replica.now }
 {
     let outline = outline(alloc, replica)?;
     Ok(numbers_of(alloc, outline.entries(), sections)?)
@@ -144,7 +144,7 @@ fn move_one(
     step: Step,
 ) -> Result<u32, ReviseFault>
     requires settled { IsSettled replica.old.held }
-    requires stands { IsSound replica.old }
+    requires sound { IsSound replica.old }
     requires arranges { Arranges replica.old.held.history arranger.old }
     requires from_within { step.from < length (arranged replica.old.held.history) }
     requires to_within { step.to < length (arranged replica.old.held.history) }
@@ -154,7 +154,7 @@ fn move_one(
     ensures shown { OnOk result (shown catalogue replica.new.held.history ≡ shown catalogue replica.old.held.history) }
     ensures arranges { Arranges replica.new.held.history arranger.new }
     ensures settled { IsSettled replica.new.held }
-    ensures stands { IsSound replica.new }
+    ensures sound { IsSound replica.new }
 {
     Ok(arranger.move_section(alloc, replica, step.from, step.to)?)
 }
@@ -171,7 +171,7 @@ fn move_next(
     sections: &[ElementId],
 ) -> Result<u32, ReviseFault>
     requires settled { IsSettled replica.old.held }
-    requires stands { IsSound replica.old }
+    requires sound { IsSound replica.old }
     requires arranges { Arranges replica.old.held.history arranger.old }
     requires order { IsOrder order.old.items }
     requires arranged { IsOrderOf sections.now (arranged replica.old.held.history) order.old.items }
@@ -189,7 +189,7 @@ fn move_next(
     ensures shown { OnOk result (shown catalogue replica.new.held.history ≡ shown catalogue replica.old.held.history) }
     ensures arranges { Arranges replica.new.held.history arranger.new }
     ensures settled { IsSettled replica.new.held }
-    ensures stands { IsSound replica.new }
+    ensures sound { IsSound replica.new }
 {
     let step = place_next(order, stays, part, near)?;
     let Some(step) = step else {
@@ -207,7 +207,7 @@ pub(crate) fn arrange(
     sections: &[ElementId],
 ) -> Result<u32, ReviseFault>
     requires settled { IsSettled replica.old.held }
-    requires stands { IsSound replica.old }
+    requires sound { IsSound replica.old }
     requires shown { (s : Identifier) → Contains (shown catalogue replica.old.held.history) s ↔ Contains sections.now s }
     requires once { AreDistinct sections.now }
     ensures shapes { Shapes replica.old replica.new result }
@@ -215,7 +215,7 @@ pub(crate) fn arrange(
     ensures arranged { OnOk result (arranged replica.new.held.history ≡ sections.now) }
     ensures few { OnOk result (ArrangesFew replica.old.held.history replica.new.held.history pairs.now sections.now) }
     ensures settled { IsSettled replica.new.held }
-    ensures stands { IsSound replica.new }
+    ensures sound { IsSound replica.new }
 {
     let mut order = order_of(alloc, replica, sections)?;
     let stays = stays_of(alloc, pairs, order.as_slice())?;

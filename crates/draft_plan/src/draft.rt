@@ -1,3 +1,4 @@
+//! `Draft`: a draft read into its parts, as slices of its bytes, or the first line that is not valid.
 ghost use Rattle.std.specs.Prelude.{◌≡◌, ◌↔◌, ℕ, Ok, Err, IfOk, map};
 ghost use Rattle.draft_plan.specs.Drafts.{parts as parts_in};
 ghost use Rattle.draft_plan.specs.Readings.{seen_part};

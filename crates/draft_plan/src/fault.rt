@@ -1,3 +1,4 @@
+//! `ReviseFault`: why a revision stopped, with conversions from the faults of its edits and moves.
 use catalogue_notes::MoveFault;
 use fugue_ids::NoMemory;
 use origin_model::EditFault;

@@ -39,14 +39,14 @@ fn number_of(replica: &Replica, section: ElementId) -> usize
 /// Drops a shown section.
 fn drop_one(replica: &mut Replica, section: ElementId) -> Result<u32, ReviseFault>
     requires settled { IsSettled replica.old.held }
-    requires stands { IsSound replica.old }
+    requires sound { IsSound replica.old }
     requires there { Contains (shown catalogue replica.old.held.history) section }
     ensures shapes { Reshapes replica.old replica.new result }
     ensures costs { CostsShaping replica.old replica.new (cost 1 0 0) result }
     ensures places { OnOk result (KeepsPlaces replica.old.held.history replica.new.held.history) }
     ensures gone { OnOk result (IsWithout section (shown catalogue replica.old.held.history) (shown catalogue replica.new.held.history)) }
     ensures settled { IsSettled replica.new.held }
-    ensures stands { IsSound replica.new }
+    ensures sound { IsSound replica.new }
 {
     let number = number_of(replica, section);
     Ok(replica.drop_section(number)?)
@@ -55,14 +55,14 @@ fn drop_one(replica: &mut Replica, section: ElementId) -> Result<u32, ReviseFaul
 /// Drops the sections without a part.
 fn drop_free(replica: &mut Replica, entries: &[Entry], pairs: &Pairs) -> Result<u32, ReviseFault>
     requires settled { IsSettled replica.old.held }
-    requires stands { IsSound replica.old }
+    requires sound { IsSound replica.old }
     requires outline { IsOutline replica.old.held.history entries.now }
     ensures shapes { Reshapes replica.old replica.new result }
     ensures costs { CostsShaping replica.old replica.new (cost (dropped_count pairs.now (length entries.now)) 0 0) result }
     ensures places { OnOk result (KeepsPlaces replica.old.held.history replica.new.held.history) }
     ensures left { OnOk result (AreLeft (entry_sections entries.now) pairs.now (length entries.now) (shown catalogue replica.new.held.history)) }
     ensures settled { IsSettled replica.new.held }
-    ensures stands { IsSound replica.new }
+    ensures sound { IsSound replica.new }
 {
     let mut made = 0;
     'entries: for (place, entry) in entries.iter().enumerate() {
@@ -93,14 +93,14 @@ fn add_one(
     title: &str,
 ) -> Result<ElementId, ReviseFault>
     requires settled { IsSettled replica.old.held }
-    requires stands { IsSound replica.old }
+    requires sound { IsSound replica.old }
     requires within { number ≤ length (shown catalogue replica.old.held.history) }
     ensures added { IfOk result (λ section. IsAdded replica.old replica.new number title.now section) }
     ensures stops { IfErr result (λ why. StopsAtLimit replica.old replica.new why) }
     ensures costs { OnOk result (CostsShaping replica.old replica.new (cost 1 1 0) (Ok 1)) }
     ensures lacks { IfErr result (λ why. LacksRoom replica.old (cost 1 1 0) why) }
     ensures settled { IsSettled replica.new.held }
-    ensures stands { IsSound replica.new }
+    ensures sound { IsSound replica.new }
 {
     let title = title_of(alloc, title)?;
     replica.add(number, title)?;
@@ -158,7 +158,7 @@ fn take_part(
     anchor: &mut Option<ElementId>,
 ) -> Result<u32, ReviseFault>
     requires settled { IsSettled replica.old.held }
-    requires stands { IsSound replica.old }
+    requires sound { IsSound replica.old }
     requires there { (s : Identifier) → Contains sections.old.items s → Contains (shown catalogue replica.old.held.history) s }
     requires anchor { IfSome anchor.old (λ s. Contains sections.old.items s) }
     requires within { (i : ℕ) → section_of pairs.now part ≡ Some i → i < length entries.now }
@@ -170,7 +170,7 @@ fn take_part(
         sections.old.items sections.new.items) }
     ensures anchor { OnOk result (IfSome anchor.new (λ s. Contains sections.new.items s)) }
     ensures settled { IsSettled replica.new.held }
-    ensures stands { IsSound replica.new }
+    ensures sound { IsSound replica.new }
 {
     if let Some(place) = pairs.section_of(part) {
         let section = entries[place].section;
@@ -195,7 +195,7 @@ fn add_missing(
     sections: &mut Vec<ElementId>,
 ) -> Result<u32, ReviseFault>
     requires settled { IsSettled replica.old.held }
-    requires stands { IsSound replica.old }
+    requires sound { IsSound replica.old }
     requires matching { IsMatching (length entries.now) (length parts.now) pairs.now }
     requires left { AreLeft (entry_sections entries.now) pairs.now (length entries.now) (shown catalogue replica.old.held.history) }
     requires once { AreDistinct (entry_sections entries.now) }
@@ -206,7 +206,7 @@ fn add_missing(
     ensures places { OnOk result (KeepsPlaces replica.old.held.history replica.new.held.history) }
     ensures targets { OnOk result (AreTargets replica.old replica.new (entry_sections entries.now) pairs.now (map seen_part parts.now) sections.new.items) }
     ensures settled { IsSettled replica.new.held }
-    ensures stands { IsSound replica.new }
+    ensures sound { IsSound replica.new }
 {
     let stays = staying_parts(alloc, pairs, parts.len())?;
     let mut anchor = None;
@@ -238,7 +238,7 @@ pub(crate) fn resize(
     sections: &mut Vec<ElementId>,
 ) -> Result<u32, ReviseFault>
     requires settled { IsSettled replica.old.held }
-    requires stands { IsSound replica.old }
+    requires sound { IsSound replica.old }
     requires outline { IsOutline replica.old.held.history entries.now }
     requires matching { IsMatching (length entries.now) (length parts.now) pairs.now }
     requires none { sections.old.items ≡ [] }
@@ -249,7 +249,7 @@ pub(crate) fn resize(
     ensures places { OnOk result (KeepsPlaces replica.old.held.history replica.new.held.history) }
     ensures targets { OnOk result (AreTargets replica.old replica.new (arranged replica.old.held.history) pairs.now (map seen_part parts.now) sections.new.items) }
     ensures settled { IsSettled replica.new.held }
-    ensures stands { IsSound replica.new }
+    ensures sound { IsSound replica.new }
 {
     let dropped = drop_free(replica, entries, pairs)?;
     let added = add_missing(alloc, replica, entries, parts, pairs, sections)?;

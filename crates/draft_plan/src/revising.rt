@@ -49,7 +49,7 @@ fn revise_hunk(
     new: &[char],
 ) -> Result<u32, EditFault>
     requires settled { IsSettled replica.old.held }
-    requires stands { IsSound replica.old }
+    requires sound { IsSound replica.old }
     requires old { IsWithinText replica.old section (hunk.old_at + hunk.old_len) }
     requires new { hunk.new_at + hunk.new_len ≤ length new.now }
     ensures made { IfOk result (λ n. OfSection replica.old section
@@ -58,7 +58,7 @@ fn revise_hunk(
     ensures limits { IfErr result (λ fault. IsLimit fault) }
     ensures costs { Costs replica.old replica.new (hunk_cost hunk) (by_edit result) }
     ensures settled { IsSettled replica.new.held }
-    ensures stands { IsSound replica.new }
+    ensures sound { IsSound replica.new }
 {
     let text = text_of(alloc, &new[hunk.new_at..hunk.new_at + hunk.new_len])?;
     let cut = replica.cut(section, hunk.old_at, hunk.old_len)?;
@@ -75,7 +75,7 @@ fn revise_hunks(
     new: &[char],
 ) -> Result<u32, EditFault>
     requires settled { IsSettled replica.old.held }
-    requires stands { IsSound replica.old }
+    requires sound { IsSound replica.old }
     requires hunks { OfSection replica.old section (λ x.
         Transforms nat_eq (text_on replica.old.held.history x) new.now hunks.now) }
     ensures made { IfOk result (λ n. OfSection replica.old section
@@ -84,7 +84,7 @@ fn revise_hunks(
     ensures limits { IfErr result (λ fault. IsLimit fault) }
     ensures costs { Costs replica.old replica.new (hunks_cost hunks.now) (by_edit result) }
     ensures settled { IsSettled replica.new.held }
-    ensures stands { IsSound replica.new }
+    ensures sound { IsSound replica.new }
 {
     let mut left = hunks.len();
     let mut made = 0;
@@ -120,7 +120,7 @@ pub fn revise_text(
     ensures costs { (x : Identifier) → section_shown replica.old section ≡ Some x
         → CostsText replica.old replica.new x (chars new.now) result }
     ensures settled { IsSettled replica.new.held }
-    ensures stands { IsSound replica.new }
+    ensures sound { IsSound replica.new }
 {
     let Some(old) = replica.text_of(section)? else {
         return Err(EditFault::NoSection);

@@ -35,7 +35,7 @@ use std::alloc::Global;
 
 /// Revises what the replica shows until it is the draft. Answers how many operations that took.
 ///
-/// Sections with the text of a part are matched with it first, then those with its title. A matched section is moved and
+/// Sections are matched by heading and text, text, shared words, heading, and likeness. A matched section is moved and
 /// retitled only where it has to be, and its text is changed only where it differs.
 pub fn revise(alloc: Global, replica: &mut Replica, draft: &Draft<'_>) -> Result<u32, ReviseFault>
     requires { IsSettled replica.old.held }
@@ -48,7 +48,7 @@ pub fn revise(alloc: Global, replica: &mut Replica, draft: &Draft<'_>) -> Result
     ensures planned { IfErr result (λ why. LacksPlan replica.old draft.now why) }
     ensures spared { arranged_parts replica.old.held.history ≡ draft.now → IfErr result (λ why. IsOutOfMemory why) }
     ensures settled { IsSettled replica.new.held }
-    ensures stands { IsSound replica.new }
+    ensures sound { IsSound replica.new }
 {
     let parts = draft.parts();
     let outline = outline(alloc, replica)?;
@@ -164,7 +164,7 @@ fn has_title(entry: &Entry, title: &str) -> bool
 /// Gives the sections the titles and the texts of the parts, where there are as many of them.
 fn fill_shaped(alloc: Global, replica: &mut Replica, parts: &[Part<'_>]) -> Result<u32, ReviseFault>
     requires settled { IsSettled replica.old.held }
-    requires stands { IsSound replica.old }
+    requires sound { IsSound replica.old }
     requires count { length (arranged replica.old.held.history) ≡ length parts.now }
     ensures revised { IfOk result (λ n. IsRevision replica.old replica.new (map seen_part parts.now) n) }
     ensures arranged { OnOk result (arranged replica.new.held.history ≡ arranged replica.old.held.history) }
@@ -174,7 +174,7 @@ fn fill_shaped(alloc: Global, replica: &mut Replica, parts: &[Part<'_>]) -> Resu
     ensures costs { CostsFilling replica.old replica.new (slice_get (arranged replica.old.held.history))
         (map seen_part parts.now) result }
     ensures settled { IsSettled replica.new.held }
-    ensures stands { IsSound replica.new }
+    ensures sound { IsSound replica.new }
 {
     let outline = outline(alloc, replica)?;
     fill(alloc, replica, outline.entries(), parts)
@@ -190,7 +190,7 @@ fn fill(
     requires outline { IsOutline replica.old.held.history entries.now }
     requires count { length entries.now ≡ length parts.now }
     requires settled { IsSettled replica.old.held }
-    requires stands { IsSound replica.old }
+    requires sound { IsSound replica.old }
     ensures revised { IfOk result (λ n. IsRevision replica.old replica.new (map seen_part parts.now) n) }
     ensures same { IfOk result (λ n. MakesNothing replica.old replica.new (map seen_part parts.now) n) }
     ensures arranged { OnOk result (arranged replica.new.held.history ≡ arranged replica.old.held.history) }
@@ -200,7 +200,7 @@ fn fill(
     ensures costs { CostsFilling replica.old replica.new (slice_get (arranged replica.old.held.history))
         (map seen_part parts.now) result }
     ensures settled { IsSettled replica.new.held }
-    ensures stands { IsSound replica.new }
+    ensures sound { IsSound replica.new }
 {
     let mut arranger = Arranger::new();
     let mut made = 0;
@@ -229,7 +229,7 @@ fn fill_section(
     text: &str,
 ) -> Result<u32, ReviseFault>
     requires settled { IsSettled replica.old.held }
-    requires stands { IsSound replica.old }
+    requires sound { IsSound replica.old }
     requires arranges { Arranges replica.old.held.history arranger.old }
     requires placed { section_placed replica.old place ≡ Some entry.now.section }
     requires numbered { section_shown replica.old entry.now.number ≡ Some entry.now.section }
@@ -242,7 +242,7 @@ fn fill_section(
         (record { title = title.now; text = text.now }) result }
     ensures arranges { OnOk result (Arranges replica.new.held.history arranger.new) }
     ensures settled { IsSettled replica.new.held }
-    ensures stands { IsSound replica.new }
+    ensures sound { IsSound replica.new }
 {
     let retitled = retitle_other(alloc, replica, arranger, place, entry, title)?;
     let revised = revise_text(alloc, replica, entry.number, text)?;
@@ -259,7 +259,7 @@ fn retitle_other(
     title: &str,
 ) -> Result<u32, ReviseFault>
     requires settled { IsSettled replica.old.held }
-    requires stands { IsSound replica.old }
+    requires sound { IsSound replica.old }
     requires arranges { Arranges replica.old.held.history arranger.old }
     requires placed { section_placed replica.old place ≡ Some entry.now.section }
     requires headed { string_bytes entry.now.heading
@@ -270,7 +270,7 @@ fn retitle_other(
         (filling (retitle_count replica.old.held.history (Some entry.now.section) (Some title.now)) []) result }
     ensures arranges { Arranges replica.new.held.history arranger.new }
     ensures settled { IsSettled replica.new.held }
-    ensures stands { IsSound replica.new }
+    ensures sound { IsSound replica.new }
 {
     if has_title(entry, title) {
         return Ok(0);

@@ -27,7 +27,7 @@ pub(crate) fn shape(
     pairs: &Pairs,
 ) -> Result<u32, ReviseFault>
     requires settled { IsSettled replica.old.held }
-    requires stands { IsSound replica.old }
+    requires sound { IsSound replica.old }
     requires outline { IsOutline replica.old.held.history entries.now }
     requires matching { IsMatching (length entries.now) (length parts.now) pairs.now }
     ensures shapes { Reshapes replica.old replica.new result }
@@ -35,7 +35,7 @@ pub(crate) fn shape(
     ensures stand_as { OnOk result (StandsAs replica.old.held.history replica.new.held.history pairs.now (map seen_part parts.now)) }
     ensures moves { OnOk result (MovesFew replica.old.held.history replica.new.held.history) }
     ensures settled { IsSettled replica.new.held }
-    ensures stands { IsSound replica.new }
+    ensures sound { IsSound replica.new }
 {
     let mut sections = Vec::new(alloc);
     let resized = resize(alloc, replica, entries, parts, pairs, &mut sections)?;

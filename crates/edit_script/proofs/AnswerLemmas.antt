@@ -49,21 +49,22 @@ exact old bytes result cause by answer other = (
   λ is. kinds_once old bytes result answer (kind old bytes result by cause) (kind old bytes answer other is),
 )
 
--- what a source had left that tells its bytes
-all_told : (bytes : List ℕ) (left : Option (List ℕ)) (script : List ℕ) → Some bytes ≡ prepend_known script left → IfSome left (λ l. l ≡ []) → script ≡ bytes
-all_told bytes None script told ended = absurd (let no : Some bytes ≡ None = told in cc no)
-all_told bytes (Some rest) script told ended = let is : Some bytes ≡ Some (script ++ rest) = told in sym (append-nil script) ∙ ap (λ (l : List ℕ). script ++ l) (sym ended) ∙ sym cc
+-- what a source had left whose bytes are specified
+all_reported : (bytes : List ℕ) (left : Option (List ℕ)) (script : List ℕ) → Some bytes ≡ prepend_known script left → IfSome left (λ l. l ≡ []) → script ≡ bytes
+all_reported bytes None script split ended = absurd (let no : Some bytes ≡ None = split in cc no)
+all_reported bytes (Some rest) script split ended = let is : Some bytes ≡ Some (script ++ rest) = split in sym (append-nil script) ∙ ap (λ (l : List ℕ). script ++ l) (sym ended)
+    ∙ sym cc
 
 longer : (bytes : List ℕ) (left : Option (List ℕ)) (front : List ℕ) → Some bytes ≡ prepend_known front left → length front ≡ LONGEST_SCRIPT + 1 → LONGEST_SCRIPT < length bytes
-longer bytes None front told long = absurd (let no : Some bytes ≡ None = told in cc no)
-longer bytes (Some rest) front told long =
-    let is : Some bytes ≡ Some (front ++ rest) = told in
+longer bytes None front split long = absurd (let no : Some bytes ≡ None = split in cc no)
+longer bytes (Some rest) front split long =
+    let is : Some bytes ≡ Some (front ++ rest) = split in
     let same : bytes ≡ front ++ rest = cc in
     omega (arith, ap length same, length-append front rest, long)
 
-module _ (old new : State) (bytes : List ℕ) (before after : SourceView) (told : before.left ≡ Some bytes) where
+module _ (old new : State) (bytes : List ℕ) (before after : SourceView) (split : before.left ≡ Some bytes) where
   script_is : (script : List ℕ) → IsScript before after script → (script ≡ bytes)
-  script_is script is = all_told bytes after.left script (sym told ∙ is.told) is.ended
+  script_is script is = all_reported bytes after.left script (sym split ∙ is.split) is.ended
 
   short : (script : List ℕ) → IsScript before after script → length bytes ≤ LONGEST_SCRIPT
   short script is = subst (λ (l : List ℕ). length l ≤ LONGEST_SCRIPT) (script_is script is) is.short
@@ -80,18 +81,18 @@ module _ (old new : State) (bytes : List ℕ) (before after : SourceView) (told 
   answer_is (Err (fault.IdsSpent n)) ok err = ends_in (fault.IdsSpent n) err
   answer_is (Err (fault.TooMany n)) ok err = ends_in (fault.TooMany n) err
   answer_is (Err fault.ReadFault) ok err = tt
-  answer_is (Err fault.TooLong) ok err = longer bytes after.left err.1.front (sym told ∙ err.1.told) err.1.long
+  answer_is (Err fault.TooLong) ok err = longer bytes after.left err.1.front (sym split ∙ err.1.split) err.1.long
   answer_is (Err fault.NoMemory) ok err = tt
 
--- where the source tells its bytes, these decide the answer
+-- where the source's bytes are specified, these decide the answer
 pub answers_exactly : (old new : State) (before after : SourceView) (result : Result ℕ ScriptFault) → IfOk result (ScriptRuns old new before after)
     → IfErr result (ScriptStops old new before after)
     → IfSome before.left (ScriptAnswersBy result old)
 answers_exactly old new before after result ok err = by before.left refl
   where
     by : (left : Option (List ℕ)) → before.left ≡ left → IfSome left (ScriptAnswersBy result old)
-    by None told = tt
-    by (Some bytes) told = exact old bytes result (answer_is old new bytes before after told result ok err)
+    by None split = tt
+    by (Some bytes) split = exact old bytes result (answer_is old new bytes before after split result ok err)
 
 -- a script that was not read stops so
 pub unread_stops : (s : State) (before after : SourceView) (f : ScriptFault) → LacksScript before after f → ScriptStops s s before after f
@@ -104,7 +105,7 @@ unread_stops s before after fault.ReadFault unread = refl
 unread_stops s before after fault.TooLong unread = (refl, unread)
 unread_stops s before after fault.NoMemory unread = inl (refl, unread)
 
--- and its bytes, where they are told, are the cause
+-- and its bytes, where they are specified, are the cause
 pub unread_exactly : (s : State) (before after : SourceView) (f g : ScriptFault) (result : Result ℕ ScriptFault) → result ≡ Err g → g ≡ f → LacksScript before after f
     → IfSome before.left (ScriptAnswersBy result s)
 unread_exactly s before after f g result is same unread =

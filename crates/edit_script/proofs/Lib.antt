@@ -6,7 +6,7 @@ pub mod MakingLemmas
 pub mod SectionLemmas
 pub mod RunLemmas
 pub mod DecideLemmas
-pub mod CourseLemmas
+pub mod ComesLemmas
 pub mod OnceLemmas
 pub mod AnswerLemmas
 pub mod TakenInLemmas

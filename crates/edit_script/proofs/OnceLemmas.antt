@@ -1,4 +1,4 @@
--- A line asks for one edit at most, and a script has one course.
+-- A line asks for one edit at most, and a script has one outcome.
 use Rattle.std.proofs.Common.{◌≡◌, ◌≢◌, ◌<◌, ◌+◌, ◌^◌, ◌⊎◌, inl, inr, ℕ, suc, List, [], ◌∷◌, ◌++◌, length, refl, sym, ap, ap₂, subst, ◌∙◌, arith, append-nil}
 use Rattle.std.specs.Prelude.{decimal, encode_utf8_all}
 use Rattle.std.specs.List.{flat_map}
@@ -20,7 +20,7 @@ use Rattle.edit_script.specs.Grammar.{Asks, HasNoSpace, IsFaultyLine, IsNote, es
 use Rattle.edit_script.specs.Laws.{AsksOnce, RunsOnce}
 use Rattle.edit_script.specs.Lines.{fault_at}
 use Rattle.edit_script.specs.Scripts.{Does, IsRefusedEdit, LinesLead, RunsUpTo, RunsWhole, StopsAtLine, by_scalars, line_refusal}
-use Rattle.edit_script.proofs.CourseLemmas.{script_course}
+use Rattle.edit_script.proofs.ComesLemmas.{script_outcome}
 use Rattle.edit_script.proofs.DecideLemmas.{line_is_one}
 use Rattle.edit_script.proofs.EscapeLemmas.{all_read, other_head}
 use Rattle.edit_script.proofs.LineLemmas.{adds, cuts, drops, puts}
@@ -209,4 +209,4 @@ whole_once old a b script m n x y =
     (same.0, x.count ∙ ap length same.1 ∙ sym y.count)
 
 pub scripts_run_once : RunsOnce
-scripts_run_once = record { some = script_course; whole = whole_once; stops = stops_once; apart = stops_or_runs }
+scripts_run_once = record { some = script_outcome; whole = whole_once; stops = stops_once; apart = stops_or_runs }

@@ -165,9 +165,9 @@ made_lines old new (line ∷ ls) ops lawful settled leads =
 
 -- what a script made is taken in
 pub scripts_are_taken_in : ScriptsAreTakenIn
-scripts_are_taken_in old new script n made stands settled runs joined =
+scripts_are_taken_in old new script n made sound settled runs joined =
     let same = append_cancel_left (accepted old.held.history) runs.ops made (sym runs.accepted_are ∙ joined) in
-    subst (AreTakenIn old new) same (made_lines old new (lines script) runs.ops stands.lawful settled runs.leads).taken
+    subst (AreTakenIn old new) same (made_lines old new (lines script) runs.ops sound.lawful settled runs.leads).taken
 
 -- what is kept whole finds its place
 pub all_find_place : (old new : State) (made : List Op) → IsSettled old.held → AreTakenIn old new made → MeetsNoLimit old.hold old.most old.held made

@@ -18,20 +18,20 @@ pub record Placed {E : Type 0} (old new : List ℕ) (from : ℕ) (before after :
 pub record FilledFromSource {E : Type 0} (size : ℕ) (buffer : List ℕ) (before after : SourceView) (result : Result ℕ E) : Type 0 where
   pub len : length buffer ≡ size
   pub bound : IfOk result (λ n. n ≤ size)
-  pub told : IfOk result (λ n. before.left ≡ prepend_known (take n buffer) after.left)
+  pub split : IfOk result (λ n. before.left ≡ prepend_known (take n buffer) after.left)
   pub ends : IfOk result (λ n. n < size → IfSome after.left (λ left. left ≡ []))
   pub count : KeepsCount before after (IsErr result)
 
 -- the script is all that the source had left
 pub record IsScript (before after : SourceView) (script : List ℕ) : Type 0 where
-  pub told : before.left ≡ prepend_known script after.left
+  pub split : before.left ≡ prepend_known script after.left
   pub ended : IfSome after.left (λ left. left ≡ [])
   pub short : length script ≤ LONGEST_SCRIPT
 
 -- the source had more than a script may have: one byte past the limit was taken
 pub record IsLonger (before after : SourceView) : Type 0 where
   pub front : List ℕ
-  pub told : before.left ≡ prepend_known front after.left
+  pub split : before.left ≡ prepend_known front after.left
   pub long : length front ≡ LONGEST_SCRIPT + 1
 
 -- why no script was read

@@ -1,3 +1,4 @@
+//! The edits that script lines ask for (`add`, `put`, `cut`, `drop`), and the parser of such a line.
 ghost use Rattle.std.specs.Prelude.{◌≡◌, ℕ, List, ◌++◌, ◌∷◌, ◌+◌, ◌<◌, ◌^◌, true, Some, IfOk, IfSome, IsNone};
 ghost use Rattle.std.specs.Prelude.{IsSomeAnd, option_map, codes, decimal, encode_utf8_all};
 ghost use Rattle.std.specs.Str.{all_scalars};

@@ -1,3 +1,4 @@
+//! Edits of script lines applied to a replica, with cluster positions looked up in the section's index.
 ghost use Rattle.std.specs.Prelude.{◌≡◌, IfOk, IfErr, OnOk};
 ghost use Rattle.std.specs.Str.{chars};
 ghost use Rattle.origin_model.specs.edits.Edits.{Put, Cut};

@@ -1,3 +1,4 @@
+//! Decimal numbers without sign or leading zeros, and ordinals from 1 read as indices from 0.
 ghost use Rattle.std.specs.Prelude.{◌≡◌, ◌<◌, ◌+◌, ◌^◌, ◌↔◌, ℕ, Some, IfSome, IsTrue, decimal};
 
 use itoa::Buffer;

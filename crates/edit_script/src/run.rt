@@ -1,3 +1,4 @@
+//! Scripts run line by line up to the first invalid line, why one stops, and theorems on scripts.
 ghost use Rattle.std.specs.Prelude.{◌≡◌, ◌≤◌, ◌==◌, length, IfOk, IfErr, IfSome, IsErrOf, position, ◌++◌, ◌⊎◌, ◌↔◌, ℕ};
 ghost use Rattle.std.specs.Prelude.{List, [], IsTrue, OnOk, codes};
 ghost use Rattle.std.specs.Option.{option_copied};

@@ -1,3 +1,4 @@
+//! A whole script read from a source into one buffer, up to the size limit.
 ghost use Rattle.std.specs.Prelude.{◌≡◌, ◌≤◌, length, IfOk, IfErr, IsErrOf};
 ghost use Rattle.outer_ports.specs.Sources.{KeepsCount};
 ghost use Rattle.edit_script.specs.Sources.{FilledFromSource, IsScript, LacksScript, Placed};

@@ -1,3 +1,4 @@
+//! The text of a `put` line, with the escapes `\n` and `\\` decoded.
 ghost use Rattle.std.specs.Prelude.{◌≡◌, ◌≢◌, ℕ, List, ◌∷◌, ◌++◌, encode_utf8, IfOk, IfSome, IsNone, IsSomeAnd};
 ghost use Rattle.std.specs.Prelude.{MatchOption, string_bytes};
 ghost use Rattle.std.specs.List.{flat_map};

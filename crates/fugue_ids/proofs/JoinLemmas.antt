@@ -4,7 +4,7 @@ use Rattle.std.proofs.Common.{ap, sym, subst, ◌∙◌, append_assoc, arith, le
 use Rattle.std.proofs.lemmas.List.{append-nil, take-append-le, take_all, take-append-drop, length-take-le}
 use Rattle.std.proofs.Math.Seq.{take-append-add, take-add}
 use Rattle.std.specs.Io.KnownBytes.{append_known, prepend_known}
-use Rattle.fugue_ids.specs.Outs.{OutView, OutTells, room_after, Took, TookFront, IsSure, WritesSome, WritesBytes}
+use Rattle.fugue_ids.specs.Outs.{OutView, OutIsSpecified, room_after, Took, TookFront, IsSure, WritesSome, WritesBytes}
 
 append_known-nil : (w : Option (List ℕ)) → append_known w [] ≡ w
 append_known-nil None = refl
@@ -31,7 +31,7 @@ pub tells_more : (w v : Option (List ℕ)) (bytes : List ℕ) → v ≡ append_k
 tells_more None v bytes is tells = absurd (cc tells)
 tells_more (Some held) v bytes is tells = subst (λ (o : Option (List ℕ)). IsSome o) (sym is) refl
 
-pub took_tells : (v w : OutView) (bytes : List ℕ) → Took v w bytes → OutTells v → OutTells w
+pub took_tells : (v w : OutView) (bytes : List ℕ) → Took v w bytes → OutIsSpecified v → OutIsSpecified w
 took_tells v w bytes t = tells_more v.written w.written bytes t.written
 
 -- two parts went out
@@ -150,12 +150,12 @@ call_failed {E} {S} e v w piece t = record {
 }
 
 -- what takes a text goes on telling
-pub text_tells : {E T : Type 0} (result : Result T E) (v w : OutView) (text : List ℕ) → WritesBytes {E = E} {T = T} v w result text → OutTells v → OutTells w
+pub text_tells : {E T : Type 0} (result : Result T E) (v w : OutView) (text : List ℕ) → WritesBytes {E = E} {T = T} v w result text → OutIsSpecified v → OutIsSpecified w
 text_tells (Ok x) v w text t = took_tells v w text t.ok
 text_tells (Err e) v w text t = took_tells v w (take t.err.count text) t.err.took
 
 -- so does what takes a front of a piece
-pub write_tells : {E : Type 0} (result : Result ℕ E) (v w : OutView) (piece : List ℕ) → WritesSome {E = E} v w result piece → OutTells v → OutTells w
+pub write_tells : {E : Type 0} (result : Result ℕ E) (v w : OutView) (piece : List ℕ) → WritesSome {E = E} v w result piece → OutIsSpecified v → OutIsSpecified w
 write_tells (Ok n) v w piece t = took_tells v w (take n piece) t.took
 write_tells (Err e) v w piece t = took_tells v w (take 0 piece) t.none
 

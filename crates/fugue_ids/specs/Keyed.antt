@@ -8,7 +8,7 @@ pub record IsReplaced {K X : Type 0} (old new : K → X) (key : K) (value : X) :
   pub here : new key ≡ value
   pub others : (k : K) → (k ≡ key → ⊥) → new k ≡ old k
 
--- the same where keys are told apart by an order alone
+-- the same where keys are specified apart by an order alone
 pub record IsReplacedBy {K X : Type 0} (cmp : K → K → Ordering) (old new : K → X) (key : K) (value : X) : Type 0 where
   pub here : new key ≡ value
   pub others : (k : K) → is_eq (cmp key k) ≡ false → new k ≡ old k

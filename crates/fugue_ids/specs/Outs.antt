@@ -13,8 +13,8 @@ pub record OutView : Type 0 where
   pub room : Option ℕ
 
 -- it tells what was written
-abbrev pub OutTells : OutView → Type 0
-OutTells out = IsSome out.written
+abbrev pub OutIsSpecified : OutView → Type 0
+OutIsSpecified out = IsSome out.written
 
 -- the room that n bytes leave
 abbrev pub room_after : ℕ → Option ℕ → Option ℕ
@@ -49,7 +49,7 @@ pub record WritesSome {E : Type 0} (old new : OutView) (result : Result ℕ E) (
   pub full : IfSome old.room (λ room. OnErr result ((0 < length piece) × (room ≡ 0)))
   pub within : IfSome old.room (λ room. IfOk result (λ n. n ≤ room))
   pub counts_no_fault : IfSome old.room (λ room. OnOk result (new.faults ≡ old.faults))
-  pub specified_no_fault : OutTells old → OnOk result (new.faults ≡ old.faults)
+  pub specified_no_fault : OutIsSpecified old → OnOk result (new.faults ≡ old.faults)
 
 -- A whole text: it goes out, or an error comes with a front of it gone out. Where the object tells, the count rises only
 -- with an error: no call that failed is made once more.
@@ -58,4 +58,4 @@ pub record WritesBytes {E T : Type 0} (old new : OutView) (result : Result T E) 
   pub err : OnErr result (TookFront old new text)
   pub cause : HasCause old.faults new.faults result
   pub sure : IfSome old.room (λ room. IsSure room (length text) old.faults new.faults result)
-  pub specified_no_fault : OutTells old → OnOk result (new.faults ≡ old.faults)
+  pub specified_no_fault : OutIsSpecified old → OnOk result (new.faults ≡ old.faults)

@@ -30,9 +30,9 @@ use Rattle.command_kinds.specs.declared.status.Status.{Status}
 use Rattle.command_kinds.specs.declared.status.Status.TheVariants as status
 use Rattle.outer_ports.specs.Sources.{SourceView}
 use Rattle.outer_ports.specs.disk.Disks.{DiskView}
-use Rattle.manuscript_cli.specs.Check.{ChecksText, IsTextRead, check_tells, nothing_said}
+use Rattle.manuscript_cli.specs.Check.{ChecksText, IsTextRead, check_reports, nothing_said}
 use Rattle.manuscript_cli.specs.Run.{Checking, MeetsAs, family}
-use Rattle.manuscript_cli.specs.Why.{why_tells}
+use Rattle.manuscript_cli.specs.Why.{why_reports}
 use Rattle.kept_promises.specs.Certificates.{CertificatesPass, FileCertificatesStay, WhyPassesCheck}
 use Rattle.kept_promises.specs.Keeping.{IsFileOf}
 use Rattle.kept_promises.proofs.CameLemmas.{Came, came}
@@ -71,10 +71,10 @@ certificates_stay was now runs b x y text is =
 
 -- ---- a command that did all
 wrote_yes : (replica : Replica) (text : List ℕ) (output notes : Change OutView) (end : Status) → IsValidText replica.held.history text → IsFinished end
-    → WritesReport (check_tells text replica) output notes end → Took output.old output.new (codes "yes" ++ 10 ∷ [])
-wrote_yes replica text output notes end valid done wrote = all (did_all (writing_found (check_tells text replica) output) notes end wrote done)
+    → WritesReport (check_reports text replica) output notes end → Took output.old output.new (codes "yes" ++ 10 ∷ [])
+wrote_yes replica text output notes end valid done wrote = all (did_all (writing_found (check_reports text replica) output) notes end wrote done)
   where
-    all : (d : Unit {0}) × ReportGoesOut (check_tells text replica) output (Ok d) × NotesLine None status.Done notes end → Took output.old output.new (codes "yes" ++ 10 ∷ [])
+    all : (d : Unit {0}) × ReportGoesOut (check_reports text replica) output (Ok d) × NotesLine None status.Done notes end → Took output.old output.new (codes "yes" ++ 10 ∷ [])
     all (d, inl out, noted) = subst (Took output.old output.new) (elim out.1 [ inl is ↦ is.1 | inr is ↦ absurd (is.0 valid) ]) out.2.comes
     all (d, inr none, noted) = cc none.1
 
@@ -84,7 +84,7 @@ nothing_reported file output notes end done performs = (did_all (reporting nothi
 
 -- the text that was read is what the input had
 read_whole : (input : Change SourceView) (text read : List ℕ) → input.old.left ≡ Some text → IsTextRead input read → read ≡ text
-read_whole input text read is r = by input.new.left r.ended (sym is ∙ r.told)
+read_whole input text read is r = by input.new.left r.ended (sym is ∙ r.split)
   where
     by : (o : Option (List ℕ)) → IfSome o (λ left. left ≡ []) → Some text ≡ prepend_known read o → read ≡ text
     by None none e = cc e
@@ -96,16 +96,17 @@ read_whole input text read is r = by input.new.left r.ended (sym is ∙ r.told)
 pub why_passes_check : WhyPassesCheck
 why_passes_check why check between s t k p q text follow of printed check_of given done = by meets.does
   where
-    a : Reported (why_tells (k - 1) p q) why text
-    a = reported (why_tells (k - 1) p q) why text (ap (family why.words) of) printed
+    a : Reported (why_reports (k - 1) p q) why text
+    a = reported (why_reports (k - 1) p q) why text (ap (family why.words) of) printed
 
     meets : MeetsAs Checking check.old check.new check.end
     meets = subst (λ f. MeetsAs f check.old check.new check.end) (ap (family check.words) check_of) check.meets
 
     valid : (now : Replica) (end : End) → FileHolds check.old.home now end → IsValidText now.held.history text
     valid now end holds =
-        certificates_stay a.replica now between (read_between why check between s t follow printed.no_crash a.synced a.replica now a.end end a.holds holds) a.told.0 a.told.1 text
-        a.told.3
+        certificates_stay a.replica now between
+        (read_between why check between s t follow printed.no_crash a.synced a.replica now a.end end a.holds holds) a.gives.0 a.gives.1 text
+        a.gives.3
 
     by : ChecksText (change check.old.streams.input check.new.streams.input) (change check.old.home check.new.home) (change check.old.streams.output check.new.streams.output)
         (change check.old.streams.notes check.new.streams.notes) check.end → Took check.old.streams.output check.new.streams.output (codes "yes" ++ 10 ∷ [])
@@ -113,7 +114,7 @@ why_passes_check why check between s t k p q text follow of printed check_of giv
         let l = checked.loaded in
         let same : checked.text ≡ text = read_whole (change check.old.streams.input check.new.streams.input) text checked.text given checked.read in
         wrote_yes l.0 text (change check.old.streams.output check.new.streams.output) (change check.old.streams.notes check.new.streams.notes) check.end (valid l.0 l.1 l.2) done.1
-        (subst (λ z. WritesReport (check_tells z l.0) (change check.old.streams.output check.new.streams.output)
+        (subst (λ z. WritesReport (check_reports z l.0) (change check.old.streams.output check.new.streams.output)
         (change check.old.streams.notes check.new.streams.notes) check.end) same l.3)
     by (inr (inl unread)) = absurd (refusal_unfinished unread.none.why (subst IsFinished unread.none.end_is done.1))
     by (inr (inr unloaded)) =

@@ -100,16 +100,17 @@ parted (run ∷ runs) more s t follow =
     let rest = parted runs more follow.1 t follow.4 in
     (rest.0, (follow.0, follow.1, follow.2, follow.3, rest.1), rest.2)
 
--- what a file that is told holds, told of its bytes
-pub holds_told : (disk : DiskView) (h : History) (replica : Replica) (end : End) → disk.past ≡ Some h → FileHolds disk replica end → Loads MOST_OPERATIONS h.last.seen replica end
-holds_told disk h replica end told holds = subst (λ o. IfSome o (λ (k : History). Loads MOST_OPERATIONS k.last.seen replica end)) told holds
+-- what a file that is specified holds, by its bytes
+pub holds_reported : (disk : DiskView) (h : History) (replica : Replica) (end : End) → disk.past ≡ Some h → FileHolds disk replica end
+    → Loads MOST_OPERATIONS h.last.seen replica end
+holds_reported disk h replica end specified holds = subst (λ o. IfSome o (λ (k : History). Loads MOST_OPERATIONS k.last.seen replica end)) specified holds
 
 read_meanwhile : (m found : DiskState) → IsHonest m → IsMeanwhile m found → IsCrashImage m found.seen
 read_meanwhile m found honest (inl same) = subst (λ (s : DiskState). IsCrashImage m s.seen) (sym same) honest
 read_meanwhile m found honest (inr crash) = subst (λ (s : DiskState). IsCrashImage m s.seen) (sym crash.2) crash.1
 
 module _ (first later : CommandRun) (between : List CommandRun) (s t : DiskState) (follow : FollowEachOther (first ∷ between ++ later ∷ []) s t) where
-  -- the first one is told, and settled the file; the later one reads what it became
+  -- the first one is specified, and settled the file; the later one reads what it became
   pub read_between : first.crash ≡ None → first.new.home.past ≡ past_after_step durable first.old.home.past → (was now : Replica) (at end : End)
       → FileHolds first.old.home was at → FileHolds later.old.home now end → Became was between now
   read_between ended synced was now at end had has =
@@ -119,7 +120,7 @@ module _ (first later : CommandRun) (between : List CommandRun) (s t : DiskState
       let stands : follow.1 ≡ leads.stood.last = subst (λ o. StandsAfterRun o leads.began leads.stood follow.1) ended leads.behind in
       let settled : Some leads.stood ≡ past_after_step durable (Some leads.began) = sym leads.stood_is ∙ synced ∙ ap (past_after_step durable) leads.began_is in
       let lies : follow.1 ≡ at_rest image = stands ∙ last_settled leads.stood leads.began settled in
-      let began : Loads MOST_OPERATIONS image was at = holds_told first.old.home leads.began was at leads.began_is had in
+      let began : Loads MOST_OPERATIONS image was at = holds_reported first.old.home leads.began was at leads.began_is had in
       let runs : FollowEachOther between (at_rest image) rest.0 = subst (λ z. FollowEachOther between z rest.0) lies rest.1 in
       let keeps = files_keep_operations (new_file_header began.content) began.content.ops image between rest.0 (loaded_has was image at began) runs in
       let last = rest.2 in
@@ -132,7 +133,7 @@ module _ (first later : CommandRun) (between : List CommandRun) (s t : DiskState
         follow = runs;
         left = last.0.seen;
         may_be = read_meanwhile rest.0 last.0 keeps.0 last.2;
-        ended = (end, subst (λ bytes. Loads MOST_OPERATIONS bytes now end) seen (holds_told later.old.home read.began now end read.began_is has));
+        ended = (end, subst (λ bytes. Loads MOST_OPERATIONS bytes now end) seen (holds_reported later.old.home read.began now end read.began_is has));
       }
     where
       last_settled : (stood began : History) → Some stood ≡ past_after_step durable (Some began) → stood.last ≡ at_rest began.last.seen

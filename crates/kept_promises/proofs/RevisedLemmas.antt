@@ -234,10 +234,10 @@ module _ (n : ℕ) (was : Replica) (revised : Outcome) (w : Lawful was.held.hist
       }
 
 -- ---- what a draft with a number gives
-pub since_is : (n : ℕ) (guest : DiskView) (input : SourceView) (course : Finding Outcome) (was : Replica) (whole : Outcome)
-    → Lawful was.held.history → IsSettled was.held → count was.held ≤ was.most → SinceGives n guest input course was (Does whole)
-    → IsRevisedThenMerged n guest input course was whole.held
-since_is n guest input course was whole w settled few gives = by_moment (moment_refusal n was) gives
+pub since_is : (n : ℕ) (guest : DiskView) (input : SourceView) (finding : Finding Outcome) (was : Replica) (whole : Outcome)
+    → Lawful was.held.history → IsSettled was.held → count was.held ≤ was.most → SinceGives n guest input finding was (Does whole)
+    → IsRevisedThenMerged n guest input finding was whole.held
+since_is n guest input finding was whole w settled few gives = by_moment (moment_refusal n was) gives
   where
     past : Replica
     past = replica_at n was
@@ -249,11 +249,11 @@ since_is n guest input course was whole w settled few gives = by_moment (moment_
     came_by draft revised (inl back) = came_back (replica_at n was) draft revised refl past_lawful back
     came_by draft revised (inr revises) = came_revised (replica_at n was) draft revised refl past_lawful revises
 
-    by_given : (given : Finding Outcome) → RevisionGives guest input course (replica_at n was) given → ComesInWhole was given (Does whole)
-        → IsRevisedThenMerged n guest input course was whole.held
+    by_given : (given : Finding Outcome) → RevisionGives guest input finding (replica_at n was) given → ComesInWhole was given (Does whole)
+        → IsRevisedThenMerged n guest input finding was whole.held
     by_given (Refuses why) gives comes = no_outcome comes
       where
-        no_outcome : {why : Refusal} → Does whole ≡ Refuses why → IsRevisedThenMerged n guest input course was whole.held
+        no_outcome : {why : Refusal} → Does whole ≡ Refuses why → IsRevisedThenMerged n guest input finding was whole.held
         no_outcome e = cc e
     by_given (Does revised) gives comes =
         let came : Reached (replica_at n was) revised = came_by gives.2 revised gives.4.2 in
@@ -265,9 +265,9 @@ since_is n guest input course was whole w settled few gives = by_moment (moment_
           merged = merged_comes n was revised w settled few came whole.held is comes.2;
         }
 
-    by_moment : (m : Option Refusal) → GivesSince m n guest input course was (Does whole) → IsRevisedThenMerged n guest input course was whole.held
+    by_moment : (m : Option Refusal) → GivesSince m n guest input finding was (Does whole) → IsRevisedThenMerged n guest input finding was whole.held
     by_moment (Some why) e = cc e
     by_moment None g = by_given g.0 g.1 g.2
 
 pub since_is_revise_then_merge : SinceIsReviseThenMerge
-since_is_revise_then_merge n guest input course was whole ready gives = since_is n guest input course was whole ready.stands.lawful ready.settled ready.stands.few gives
+since_is_revise_then_merge n guest input finding was whole ready gives = since_is n guest input finding was whole ready.sound.lawful ready.settled ready.sound.few gives

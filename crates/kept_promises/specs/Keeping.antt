@@ -1,6 +1,6 @@
 -- What a file keeps while commands run on it, one after another, and crashes come as they may.
 use Rattle.std.specs.Prelude.{◌≡◌, ℕ, List, ◌++◌, None}
-use Rattle.fugue_ids.specs.Outs.{OutTells, Took}
+use Rattle.fugue_ids.specs.Outs.{OutIsSpecified, Took}
 use Rattle.fugue_ids.specs.declared.limits.TheConstants.{MOST_OPERATIONS}
 use Rattle.fugue_ids.specs.declared.op.Op.{Op}
 use Rattle.outer_ports.specs.disk.States.{DiskState, IsCrashImage, IsHonest, at_rest}
@@ -38,5 +38,5 @@ pub record Became (was : Replica) (runs : List CommandRun) (now : Replica) : Typ
 pub record PrintedBytes (run : CommandRun) (text : List ℕ) : Type 0 where
   pub no_crash : run.crash ≡ None
   pub done : run.end ≡ Done
-  pub told : OutTells run.old.streams.output
+  pub specified : OutIsSpecified run.old.streams.output
   pub took : Took run.old.streams.output run.new.streams.output text

@@ -40,23 +40,23 @@ behind_first n held = drop n (accepted held.history)
 
 -- A revision of the replica as it was when n operations were accepted came to this state. If it then takes in what was accepted
 -- behind these, or merges all that the file holds, it comes to what the file has now.
-pub record IsRevisedThenMerged (n : ℕ) (guest : DiskView) (input : SourceView) (course : Finding Outcome) (was : Replica)
+pub record IsRevisedThenMerged (n : ℕ) (guest : DiskView) (input : SourceView) (finding : Finding Outcome) (was : Replica)
     (now : Held) : Type 0 where
   pub revised : Outcome
-  pub gives : RevisionGives guest input course (replica_at n was) (Does revised)
+  pub gives : RevisionGives guest input finding (replica_at n was) (Does revised)
   pub rest : ComesTo was revised.held (behind_first n was.held) now.history
   pub merged : ComesTo was revised.held (all_held_ops was.held) now.history
 
 -- what a draft with a number gives
 abbrev pub SinceIsReviseThenMerge : Type 0
 SinceIsReviseThenMerge =
-    (n : ℕ) (guest : DiskView) (input : SourceView) (course : Finding Outcome) (was : Replica) (whole : Outcome)
-    → CanTake was → SinceGives n guest input course was (Does whole)
-    → IsRevisedThenMerged n guest input course was whole.held
+    (n : ℕ) (guest : DiskView) (input : SourceView) (finding : Finding Outcome) (was : Replica) (whole : Outcome)
+    → CanTake was → SinceGives n guest input finding was (Does whole)
+    → IsRevisedThenMerged n guest input finding was whole.held
 
 -- and what `revise` with a number does to a file
 abbrev pub RevisingSinceIsReviseThenMerge : Type 0
 RevisingSinceIsReviseThenMerge =
     (words : List (List ℕ)) (n : ℕ) (old new : Touched) → Meets words (Some (ReviseSince n)) old new Done → IsSpecified old.home
     → (was now : Replica) × (at end : End) × FileHolds old.home was at × FileHolds new.home now end
-    × (course : Finding Outcome) × IsRevisedThenMerged n old.guest old.streams.input course was now.held
+    × (finding : Finding Outcome) × IsRevisedThenMerged n old.guest old.streams.input finding was now.held

@@ -1,3 +1,4 @@
+//! Tests of grapheme clusters: spans by example, and an index compared with its text after each edit.
 use crate::assertions::{equal, equal_at};
 use crate::dice::Dice;
 use cluster_text::{ClusterIndex, cluster_span};

@@ -3,7 +3,7 @@
 
 ghost use Rattle.std.specs.Prelude.{◌≤◌, ◌+◌, ◌^◌, IsTrue, length};
 ghost use Rattle.origin_model.specs.taking.Taking.{IsSettled};
-ghost use Rattle.replica_core.specs.Told.{StaysBelow, total};
+ghost use Rattle.replica_core.specs.Answering.{StaysBelow, total};
 
 use crate::assertions::{equal_at, holds_at};
 use crate::ids::{id, text};

@@ -1,3 +1,4 @@
+//! Shorthands for the identifiers and the `Text` operations that the tests use.
 ghost use Rattle.std.specs.Prelude.{◌≡◌, ◌<◌};
 
 use fugue_ids::{ElementId, Op};

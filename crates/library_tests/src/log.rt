@@ -1,3 +1,4 @@
+//! Tests of the relay's log and its sessions, by example and against a slow reference implementation.
 use crate::assertions::{equal, holds_at};
 use crate::dice::Dice;
 use Happens::{Goes, Opens, Says};
@@ -309,7 +310,7 @@ const TEXTS: [&[u8]; 4] = [
 
 /// What a text is at its last byte, read from its start.
 #[derive(Drop)]
-enum Told {
+enum TextState {
     Partly,
     /// The greeting ends there.
     Cursor(u32),
@@ -320,11 +321,11 @@ enum Told {
     Bad,
 }
 
-fn read_text(alloc: Global, text: &[u8]) -> Result<Told, Fail> {
+fn read_text(alloc: Global, text: &[u8]) -> Result<TextState, Fail> {
     let [0x48, a, b, c, d, messages @ ..] = text else {
         return Ok(match text {
-            [] | [0x48, ..] => Told::Partly,
-            _ => Told::Bad,
+            [] | [0x48, ..] => TextState::Partly,
+            _ => TextState::Bad,
         });
     };
     let cursor = u32::from_be_bytes([*a, *b, *c, *d]);
@@ -332,13 +333,13 @@ fn read_text(alloc: Global, text: &[u8]) -> Result<Told, Fail> {
     for _ in 0..messages.len() {
         match first_frame(alloc, rest)? {
             First::Whole(_, len) if len < rest.len() => rest = &rest[len..],
-            First::Whole(ops, _) => return Ok(Told::Frame(ops)),
-            First::Prefix => return Ok(Told::Partly),
-            First::Bad if matches!(rest, [0x44]) => return Ok(Told::Closing(cursor)),
-            First::Bad => return Ok(Told::Bad),
+            First::Whole(ops, _) => return Ok(TextState::Frame(ops)),
+            First::Prefix => return Ok(TextState::Partly),
+            First::Bad if matches!(rest, [0x44]) => return Ok(TextState::Closing(cursor)),
+            First::Bad => return Ok(TextState::Bad),
         }
     }
-    Ok(Told::Cursor(cursor))
+    Ok(TextState::Cursor(cursor))
 }
 
 /// The reply to a text at its last byte, by reading it anew; no bytes where there is none. The operations of a frame join
@@ -346,21 +347,21 @@ fn read_text(alloc: Global, text: &[u8]) -> Result<Told, Fail> {
 fn slow_reply(alloc: Global, log: &mut Vec<Vec<u8>>, text: &[u8]) -> Result<Vec<u8>, Fail> {
     let mut reply = Vec::new(alloc);
     match read_text(alloc, text)? {
-        Told::Partly => {}
-        Told::Bad => reply.extend_from_slice(&[0x58, 1])?,
-        Told::Cursor(cursor) => {
+        TextState::Partly => {}
+        TextState::Bad => reply.extend_from_slice(&[0x58, 1])?,
+        TextState::Cursor(cursor) => {
             if cursor as usize > log.len() {
                 reply.extend_from_slice(&[0x58, 3])?;
             }
         }
-        Told::Closing(cursor) => {
+        TextState::Closing(cursor) => {
             for frame in log.iter().skip(cursor as usize) {
                 reply.extend_from_slice(frame.as_slice())?;
             }
             reply.push(0x55)?;
             reply.extend_from_slice(&(log.len().min(FEW) as u32).to_be_bytes())?;
         }
-        Told::Frame(ops) => {
+        TextState::Frame(ops) => {
             for op in &ops {
                 let mut own = Vec::new(alloc);
                 encode(op, &mut own)?;

@@ -165,8 +165,8 @@ fn accept(plain: &mut PlainReplica, op: Op) -> Result<bool, Fail> {
 
 /// The heading of a section.
 fn heading(alloc: Global, ops: &[Op], claims: &Claims, section: ElementId) -> Result<Title, Fail> {
-    let giver = winner(ops, &claims.retitles, section);
-    let title = match ops.iter().find(|op| op.id() == Some(giver)) {
+    let ops_source = winner(ops, &claims.retitles, section);
+    let title = match ops.iter().find(|op| op.id() == Some(ops_source)) {
         Some(Op::Section { title, .. }) => Some(title.clone_in(alloc)?),
         Some(op) => new_title(alloc, op),
         None => None,

@@ -1,7 +1,7 @@
 //! What a replica takes in, refuses and shows.
 
 ghost use Rattle.std.specs.Prelude.{◌<◌, IsTrue};
-ghost use Rattle.replica_core.specs.Told.{StaysBelow};
+ghost use Rattle.replica_core.specs.Answering.{StaysBelow};
 
 use crate::assertions::{equal, equal_at, holds_at};
 use crate::op_lines::Line::{Delete, Note, Text};

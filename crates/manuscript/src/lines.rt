@@ -10,7 +10,7 @@ use std::{fmt, str};
 pub(crate) struct Lines<'a> {
     rt: &'a HostRuntime,
     program: &'a str,
-    is_told: Cell<bool>,
+    is_reported: Cell<bool>,
 }
 
 impl<'a> Lines<'a> {
@@ -18,7 +18,7 @@ impl<'a> Lines<'a> {
         Lines {
             rt,
             program,
-            is_told: Cell::new(false),
+            is_reported: Cell::new(false),
         }
     }
 
@@ -59,7 +59,7 @@ impl<'a> Lines<'a> {
     /// Writes lines in one piece. Those for which there is no memory, or which are not taken, are left out: the
     /// diagnostic and the status tell the failure too.
     pub(crate) fn write(&self, lines: &str) {
-        if !self.is_told.replace(true) {
+        if !self.is_reported.replace(true) {
             let _ = self.rt.stderr().write_all(lines.as_bytes());
         }
     }

@@ -5,6 +5,9 @@ use lines::{Lines, PortLines};
 use manuscript_cli::{Command, Refusal, Status, read_words, run, tell};
 use outer_ports::{FileDisk, Opening, StdSink, StdSource, TcpDock, TcpWire};
 use reasons::Reasons;
+use reporting::{
+    COPY_IT, INPUT, MAKE_ANOTHER, MERGE_IT, OUTPUT, ReportingFile, ReportingNotes, ReportingStream,
+};
 use seen::{Role, Seen};
 use standard::{Held, hold_closed};
 use std::env;
@@ -12,14 +15,13 @@ use std::hash::RandomState;
 use std::io::{self, ErrorKind};
 use std::process::ExitCode;
 use std::rt::Env;
-use told::{COPY_IT, INPUT, MAKE_ANOTHER, MERGE_IT, OUTPUT, ToldFile, ToldNotes, ToldStream};
 use usage::tell_usage;
 
 mod lines;
 mod reasons;
+mod reporting;
 mod seen;
 mod standard;
-mod told;
 mod usage;
 
 /// The words of the command line, the first of which names the program.
@@ -95,7 +97,7 @@ fn port_of(command: Option<Command>, words: &[String]) -> &str {
     }
 }
 
-/// Opens the file, where there is one. Why the system refused it is told once the file is asked.
+/// Opens the file, where there is one. Why the system refused it is reported once the file is asked.
 fn open_file<'a>(
     rt: &HostRuntime,
     path: Option<&'a str>,
@@ -103,7 +105,7 @@ fn open_file<'a>(
     role: Role,
     lines: &'a Lines<'a>,
     seen: &'a Seen,
-) -> ToldFile<'a> {
+) -> ReportingFile<'a> {
     let (opening, way_out) = match role {
         Role::Home => (opening_of(command), way_out_of_home(command)),
         Role::Guest => (Opening::Reading, way_out_of_guest(command)),
@@ -114,7 +116,7 @@ fn open_file<'a>(
         Some(Err(error)) => (FileDisk::closed(), Some(cause_of(error, command, role))),
     };
     let name = path.unwrap_or("");
-    ToldFile::new(file, refused, role, name, way_out, lines, seen)
+    ReportingFile::new(file, refused, role, name, way_out, lines, seen)
 }
 
 /// Does what the words ask for on the streams of the process, the files that the words name, and the network of this
@@ -143,14 +145,14 @@ fn obey(
     let mut home = open_file(rt, path, command, Role::Home, lines, &seen);
     let other = if home.file().is_open() { other } else { None };
     let mut guest = open_file(rt, other, command, Role::Guest, lines, &seen);
-    let input = ToldStream::new(rt.stdin(), INPUT, held.input.is_some(), lines, &seen);
-    let output = ToldStream::new(rt.stdout(), OUTPUT, held.output.is_some(), lines, &seen);
+    let input = ReportingStream::new(rt.stdin(), INPUT, held.input.is_some(), lines, &seen);
+    let output = ReportingStream::new(rt.stdout(), OUTPUT, held.output.is_some(), lines, &seen);
     let status = run(
         rt.alloc(),
         words,
         &mut StdSource::new(input),
         &mut StdSink::new(output),
-        &mut StdSink::new(ToldNotes::new(rt.stderr(), reasons)),
+        &mut StdSink::new(ReportingNotes::new(rt.stderr(), reasons)),
         &mut home,
         &mut guest,
         &mut TcpWire::new(*rt, PortLines::new(lines)),

@@ -1,8 +1,8 @@
 //! Why a command was refused, in words: what is wrong, what is left, and a way on.
 
 use crate::lines::Lines;
+use crate::reporting::INPUT;
 use crate::seen::{Content, Role, Seen};
-use crate::told::INPUT;
 use manuscript_cli::Command;
 use std::str;
 

@@ -255,7 +255,7 @@ const FORMS: [Form; 30] = [
     },
 ];
 
-/// What is told where no command is named. It fits a screen.
+/// What is reported where no command is named. It fits a screen.
 const HELP: &str = "\
 begin, and look
   new FILE REPLICA HOLD       makes the file of an author: new ann.ms 1 100
@@ -295,7 +295,7 @@ pub(crate) fn tell_usage(lines: &Lines<'_>, words: &[String]) {
     }
 }
 
-/// What is told where a title, a comment or a name is followed by more words.
+/// What is reported where a title, a comment or a name is followed by more words.
 const QUOTES: &str = "    (quotes make one word of several: 'two words')";
 
 fn tell_help(lines: &Lines<'_>) {

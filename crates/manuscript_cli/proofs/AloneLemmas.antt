@@ -30,7 +30,7 @@ written_alone text output notes end writes = record {
       (λ why goes. refused text output why goes.comes) (λ done did some. absurd (some refl));
 }
 
--- an output that tells its faults counted none, unless that is what was told
-pub written_told : (text : List ℕ) (output notes : Change OutView) (end : Status) → WritesOut text output notes end → OutBlameless output end
-written_told text output notes end writes =
-    goes_blameless text output writes.result end writes.did (inside_result no_line all_done writes.result notes end writes.told.noted)
+-- an output whose faults are specified counted none, unless that is what was reported
+pub written_reported : (text : List ℕ) (output notes : Change OutView) (end : Status) → WritesOut text output notes end → OutBlameless output end
+written_reported text output notes end writes =
+    goes_blameless text output writes.result end writes.did (inside_result no_line all_done writes.result notes end writes.reported.noted)

@@ -7,7 +7,7 @@ use Rattle.origin_model.specs.declared.grammar.Grammar.TheVariants.{Version2}
 use Rattle.origin_model.specs.order.Laws.{OrderBySet}
 use Rattle.origin_model.specs.order.Printed.{manuscript}
 use Rattle.origin_model.specs.taking.Taking.{held, nothing_held}
-use Rattle.op_frame.specs.Courses.{Comes, Whole}
+use Rattle.op_frame.specs.IntakeOutcomes.{Comes, Whole}
 use Rattle.command_kinds.proofs.LawfulLemmas.{held_lawful}
 use Rattle.manuscript_cli.proofs.BySetLemmas.{manuscript_by_set, printed_by_set}
 use Rattle.manuscript_cli.specs.Headline.{Headline, CountedNoFault}
@@ -41,7 +41,7 @@ module _ (hold : ℕ) (old new : Streams) (end : Status) (bytes : List ℕ) (ops
   no_refusal why did ends = cc (same (Refuses why) did.0)
 
   whole_shown : Performs (showing hold old new) (change old.notes new.notes) end → IsShown
-  whole_shown performs = by_result performs.result performs.did performs.told.noted
+  whole_shown performs = by_result performs.result performs.did performs.reported.noted
     where
       Noted : Result (List Op) Refusal → Type 0
       Noted result = let act = showing hold old new in NotesResult act.line act.status result (change old.notes new.notes) end

@@ -15,7 +15,6 @@ pub mod NamedVersionLemmas
 pub mod PastLemmas
 pub mod ChangedLemmas
 pub mod ListingLemmas
-pub mod PlainFileLemmas
 pub mod RevisionTakenLemmas
 pub mod RevisingLemmas
 pub mod DraftSizeLemmas

@@ -1,4 +1,4 @@
--- The moments of a file that is told, and of one that is not.
+-- The moments of a file that is specified, and of one that is not.
 use Rattle.std.proofs.Common.{◌≡◌, ℕ, ◌≤◌, List, [], ◌∷◌, ◌++◌, ap, arith, append_assoc, inl, inr, length, length-append, subst, sym, ◌∙◌}
 use Rattle.std.specs.Prelude.{Bool, IfSome, None, Option, Some, if◌then◌else◌}
 use Rattle.std.proofs.lemmas.Bool.{cases_lt, le-ltb, lt-ltb}
@@ -21,11 +21,11 @@ use Rattle.replica_file.specs.Load.{Loads}
 use Rattle.replica_file.specs.Moments.{HasMoments, accepted_by, new_moment, moments_behind, moments_of}
 use Rattle.replica_file.specs.declared.load_file.End.{End}
 use Rattle.replica_file.proofs.MomentLemmas.{some_moments}
-use Rattle.command_kinds.proofs.ReportLemmas.{TellsOnce}
-use Rattle.manuscript_cli.specs.Moments.{AreMomentsOf, MomentsTellFile, moments_tells}
+use Rattle.command_kinds.proofs.ReportLemmas.{ReportsOnce}
+use Rattle.manuscript_cli.specs.Moments.{AreMomentsOf, MomentsTellFile, moments_reports}
 
-pub moments_told_once : (moments : List ℕ) → TellsOnce (moments_tells moments)
-moments_told_once moments replica lawful a b one two = one ∙ sym two
+pub moments_reported_once : (moments : List ℕ) → ReportsOnce (moments_reports moments)
+moments_reported_once moments replica lawful a b one two = one ∙ sym two
 
 -- some moments are those of a file, whatever it is
 pub moments_of_some : (file : DiskView) → (moments : List ℕ) × AreMomentsOf file moments

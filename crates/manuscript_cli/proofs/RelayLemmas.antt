@@ -6,7 +6,7 @@ use Rattle.fugue_ids.specs.Causes.{Faulted}
 use Rattle.fugue_ids.specs.Outs.{OutView, Took, room_after}
 use Rattle.origin_model.specs.relay.Relay.{Relay, new_relay}
 use Rattle.outer_ports.specs.Latest.{once_more}
-use Rattle.outer_ports.specs.dock.Docks.{DockTells, DockView, listening_of, out_to}
+use Rattle.outer_ports.specs.dock.Docks.{DockIsSpecified, DockView, listening_of, out_to}
 use Rattle.outer_ports.specs.declared.dock.Listening.{Listening}
 use Rattle.outer_ports.specs.declared.latest.Latest.{Latest}
 use Rattle.outer_ports.specs.declared.dock.MemStep.{MemStep}
@@ -17,7 +17,7 @@ use Rattle.relay_sync.specs.Serving.{closed_in, count_over, ended_in, ends_behin
 use Rattle.relay_sync.specs.declared.serving.ServeFault.{ServeFault}
 use Rattle.relay_sync.specs.declared.serving.ServeFault.TheVariants as serve_fault
 use Rattle.command_kinds.proofs.ActLemmas.{inside_result, performs_inside}
-use Rattle.command_kinds.specs.Acts.{Performs, TellsResult}
+use Rattle.command_kinds.specs.Acts.{Performs, ReportsResult}
 use Rattle.command_kinds.specs.Refusal.{serve_refusal}
 use Rattle.manuscript_cli.specs.Relay.{CallsAreSure, IsEnough, IsIdle, NeverBlamed, Relays, RiseOutside, ServingMeets, listening, most_steps, ready_line, serving}
 use Rattle.command_kinds.specs.Changes.{Change, CountsNoFault, change}
@@ -206,8 +206,8 @@ module _ (port sessions : ℕ) (output : Change OutView) (dock : Change DockView
       dock_fault serve_fault.TooLong is = absurd (cc is)
       dock_fault serve_fault.NoMemory is = absurd (cc is)
 
--- a dock that tells does so once it listens
-still_tells : (port : ℕ) (old new : DockView) → IsIdle (listening port old) new → DockTells old → DockTells new
+-- a dock that is specified is so once it listens
+still_tells : (port : ℕ) (old new : DockView) → IsIdle (listening port old) new → DockIsSpecified old → DockIsSpecified new
 still_tells port old new idle tells = record {
   listens = subst IsSome (sym idle.listens) (some_listens old.listens tells.listens);
   taken = subst IsSome (sym idle.nothing_taken.taken) tells.taken;
@@ -224,8 +224,8 @@ still_tells port old new idle tells = record {
 -- what rose while a port was listened on and served
 module _ (port : ℕ) (output : Change OutView) (dock : Change DockView) (second : DockView) (idle : IsIdle (listening port dock.old) second)
     (opened : RiseOutside {T = Unit {0}} output (change dock.old second) (Ok tt)) where
-  pub stopped_told : (fault : ServeFault) → DockRisesFor (fault ≡ serve_fault.DockFault) second dock.new → RiseOutside {T = ℕ} output dock (Err (serve_refusal fault))
-  stopped_told fault rises = record {
+  pub stopped_reported : (fault : ServeFault) → DockRisesFor (fault ≡ serve_fault.DockFault) second dock.new → RiseOutside {T = ℕ} output dock (Err (serve_refusal fault))
+  stopped_reported fault rises = record {
     of_output = λ tells not. opened.of_output tells (λ is. cc is);
     of_dock = λ tells not. rises.specified_no_fault (still_tells port dock.old second idle tells) (λ blamed. not (ap (λ f. Err (serve_refusal f)) blamed))
         ∙ opened.of_dock tells (λ is. cc is);
@@ -234,16 +234,16 @@ module _ (port : ℕ) (output : Change OutView) (dock : Change DockView) (second
 -- from what was served to the ends of the command
 pub relay_ends : (port sessions : ℕ) (output notes : Change OutView) (dock : Change DockView) (end : Status) (result : Result ℕ Refusal)
     → CountsNoFault (length ready_line) output.old output.new → ServingMeets port sessions output dock result → NeverBlamed sessions output dock result
-    → RiseOutside output dock result → (let act = serving port sessions output dock in TellsResult act.line act.status result notes end)
+    → RiseOutside output dock result → (let act = serving port sessions output dock in ReportsResult act.line act.status result notes end)
     → Relays port sessions output notes dock end
-relay_ends port sessions output notes dock end result output_no_fault served blameless rise told =
+relay_ends port sessions output notes dock end result output_no_fault served blameless rise reported =
     let act = serving port sessions output dock in
-    let performs : Performs act notes end = record { result = result; did = served; told = told } in
+    let performs : Performs act notes end = record { result = result; did = served; reported = reported } in
     record {
       performs = performs;
       output_no_fault = output_no_fault;
       dock_no_fault = blameless.counts_no_fault;
       never_outside = λ enough has room. performs_inside act notes end performs (λ logged did. inl refl) (λ logged did some. room) (blameless.sure enough has);
-      output_blameless = λ tells not. rise.of_output tells (inside_result act.line act.status result notes end told.noted not);
-      dock_blameless = λ tells not. rise.of_dock tells (inside_result act.line act.status result notes end told.noted not);
+      output_blameless = λ tells not. rise.of_output tells (inside_result act.line act.status result notes end reported.noted not);
+      dock_blameless = λ tells not. rise.of_dock tells (inside_result act.line act.status result notes end reported.noted not);
     }

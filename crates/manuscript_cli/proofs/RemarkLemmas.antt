@@ -15,7 +15,7 @@ use Rattle.passage_remarks.specs.declared.withdrawing.WithdrawFault.{WithdrawFau
 use Rattle.passage_remarks.specs.declared.withdrawing.WithdrawFault.TheVariants as fault
 use Rattle.command_kinds.specs.Findings.{Does}
 use Rattle.command_kinds.specs.Giving.{GivesTo}
-use Rattle.command_kinds.specs.Notes.{NoteComes, note_giver}
+use Rattle.command_kinds.specs.Notes.{NoteComes, note_source}
 use Rattle.command_kinds.specs.declared.counts.Note.TheVariants as note
 use Rattle.command_kinds.proofs.NoteLemmas.{note_gives_none, op_gives}
 use Rattle.manuscript_cli.specs.Remarks.{withdraw_on, withdraw_refused, withdrawal}
@@ -36,14 +36,14 @@ has_room s e = by (nat_lt s.most (held_count s + 1)) refl e
     by false k e = grind (arith, nat_tests)
 
 pub withdrawal_made : (n : ℕ) (old new : Replica) → IsWithdrawn old new n → RefusesWithdrawal old n (Ok tt) → IsSound old → IsSettled old.held → (kept : Option (List Op))
-    → GivesTo (note_giver (withdraw_on n)) old new kept (Ok (note.Made 1))
-withdrawal_made n old new made refuses stands settled kept =
+    → GivesTo (note_source (withdraw_on n)) old new kept (Ok (note.Made 1))
+withdrawal_made n old new made refuses sound settled kept =
     let r : Remark = made.remark in
     let none : withdraw_refusal old n ≡ None = none_refused (withdraw_refusal old n) refuses.always in
     let found_is : withdraw_on n old ≡ Does (Delete r.id) = λ i. withdrawal n (none i) (made.numbered i) in
     let room : option_map as_withdraw_fault (refused_ops old 1) ≡ None =
     sym (ap (λ o. elim o [ None ↦ Some fault.NoComment | Some q ↦ option_map as_withdraw_fault (refused_ops old 1) ]) made.numbered) ∙ none in
-    op_gives (withdraw_on n) old new (Delete r.id) found_is made.ready (delete_unknown old.held.waiting r.id) (has_room old room) made.gained stands settled kept
+    op_gives (withdraw_on n) old new (Delete r.id) found_is made.ready (delete_unknown old.held.waiting r.id) (has_room old room) made.gained sound settled kept
 
 -- nothing was withdrawn, and why
 comes_none : (n : ℕ) (old new : Replica) (f : WithdrawFault) → RefusesWithdrawal old n (Err f) → NoteComes (withdraw_on n old) old new (Err (withdraw_refused n f))
@@ -52,5 +52,5 @@ comes_none n old new (fault.TooMany held) refuses = ap (λ o. withdrawal n o (re
 comes_none n old new fault.NoMemory refuses = tt
 
 pub withdrawal_none : (n : ℕ) (old new : Replica) (kept : Option (List Op)) (f : WithdrawFault) → RefusesWithdrawal old n (Err f)
-    → GivesTo (note_giver (withdraw_on n)) old new kept (Err (withdraw_refused n f))
+    → GivesTo (note_source (withdraw_on n)) old new kept (Err (withdraw_refused n f))
 withdrawal_none n old new kept f refuses = note_gives_none (withdraw_on n) old new kept (withdraw_refused n f) (comes_none n old new f refuses)

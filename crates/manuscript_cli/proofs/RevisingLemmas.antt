@@ -45,7 +45,7 @@ use Rattle.command_kinds.specs.Giving.{GivesTo}
 use Rattle.manuscript_cli.specs.Revising.{BaseStops, DraftGives, HasBytes, IsHandedBack, IsRevisedTo, LooksAtBase, MeetsLimit, RevisionGives, Revises, TextStops, base_refusal}
 use Rattle.manuscript_cli.specs.Revising.{draft_refusal, empties, is_too_large, parts_fault_refusal, parts_refusal, revise_refusal, revised_outcome, revision, text_refusal}
 use Rattle.manuscript_cli.specs.SectionCounts.{section_counts}
-use Rattle.command_kinds.specs.Saving.{Giver, GivesOnce, Outcome, ReadsInput}
+use Rattle.command_kinds.specs.Saving.{OpsSource, GivesOnce, Outcome, ReadsInput}
 use Rattle.command_kinds.specs.Changes.{Change}
 use Rattle.manuscript_cli.specs.declared.check.TheConstants.{LONGEST_TEXT}
 use Rattle.command_kinds.specs.declared.counts.Note.TheVariants as note
@@ -56,15 +56,16 @@ use Rattle.command_kinds.specs.declared.status.Status.TheVariants as status
 use Rattle.command_kinds.proofs.EditLemmas.{read_more, read_whole}
 use Rattle.manuscript_cli.proofs.RevisionTakenLemmas.{changed_suffice}
 
--- a giver's refusal is what it gave
-pub refused : (giver : Giver) (before after : Replica) (kept : Option (List Op)) (why : Refusal) → giver.Gives before (Refuses why) → why ≢ refusal.Words → why ≢ refusal.Outside
-    → GivesTo giver before after kept (Err why)
-refused giver before after kept refusal.Words gives no_words inside = absurd (no_words refl)
-refused giver before after kept refusal.Outside gives no_words inside = absurd (inside refl)
-refused giver before after kept refusal.NoMemory gives no_words inside = tt
-refused giver before after kept why gives no_words inside = gives
+-- a source's refusal is what it gave
+pub refused : (ops_source : OpsSource) (before after : Replica) (kept : Option (List Op)) (why : Refusal) → ops_source.Gives before (Refuses why) → why ≢ refusal.Words
+    → why ≢ refusal.Outside
+    → GivesTo ops_source before after kept (Err why)
+refused ops_source before after kept refusal.Words gives no_words inside = absurd (no_words refl)
+refused ops_source before after kept refusal.Outside gives no_words inside = absurd (inside refl)
+refused ops_source before after kept refusal.NoMemory gives no_words inside = tt
+refused ops_source before after kept why gives no_words inside = gives
 
--- what stands in a file and on an input, where they are told
+-- what stands in a file and on an input, where they are specified
 left_bytes : (left : Option (List ℕ)) → (draft : List ℕ) × IfSome left (λ b. b ≡ draft)
 left_bytes None = ([], tt)
 left_bytes (Some b) = (b, refl)
@@ -75,13 +76,13 @@ file_bytes (Some h) = (h.last.seen, refl)
 
 module _ (guest : DiskView) (input : SourceView) (replica : Replica) (base : List ℕ) (has : HasBytes guest base) where
   -- the base is refused
-  pub gives_base : (course : Finding Outcome) (why : Refusal) → base_refusal replica.held.history base ≡ Some why → RevisionGives guest input course replica (Refuses why)
-  gives_base course why e = let d = left_bytes input.left in (base, has, d.0, d.1, inl (ap (λ o. option_or o (text_refusal replica d.0)) e))
+  pub gives_base : (finding : Finding Outcome) (why : Refusal) → base_refusal replica.held.history base ≡ Some why → RevisionGives guest input finding replica (Refuses why)
+  gives_base finding why e = let d = left_bytes input.left in (base, has, d.0, d.1, inl (ap (λ o. option_or o (text_refusal replica d.0)) e))
 
   -- or the text
-  pub gives_text : (course : Finding Outcome) (draft : List ℕ) (why : Refusal) → IsLeftScript input draft → base_refusal replica.held.history base ≡ None
-      → text_refusal replica draft ≡ Some why → RevisionGives guest input course replica (Refuses why)
-  gives_text course draft why left good e = (base, has, draft, left, inl (ap (λ o. option_or o (text_refusal replica draft)) good ∙ e))
+  pub gives_text : (finding : Finding Outcome) (draft : List ℕ) (why : Refusal) → IsLeftScript input draft → base_refusal replica.held.history base ≡ None
+      → text_refusal replica draft ≡ Some why → RevisionGives guest input finding replica (Refuses why)
+  gives_text finding draft why left good e = (base, has, draft, left, inl (ap (λ o. option_or o (text_refusal replica draft)) good ∙ e))
 
   allows : (draft : List ℕ) → base_refusal replica.held.history base ≡ None → text_refusal replica draft ≡ None → draft_refusal replica base draft ≡ None
   allows draft good e = ap (λ o. option_or o (text_refusal replica draft)) good ∙ e
@@ -146,11 +147,11 @@ text_long replica draft long =
 
 -- what was read of the input was left
 pub text_left : (input : Change SourceView) (text : List ℕ) → IsTextRead input text → IsLeftScript input.old text
-text_left input text read = read_whole text input.old.left input.new.left read.told read.ended
+text_left input text read = read_whole text input.old.left input.new.left read.split read.ended
 
 pub longer_left : (input : Change SourceView) → IsTextLonger input → (draft : List ℕ) × IsLeftScript input.old draft × (LONGEST_TEXT < length draft)
 longer_left input long =
-    let more = read_more long.front input.old.left input.new.left long.told in
+    let more = read_more long.front input.old.left input.new.left long.split in
     (long.front ++ more.0, more.1, omega (arith, long.long, length-append long.front more.0))
 
 -- what is read of the base decides as all of it
@@ -201,13 +202,13 @@ pub draft_gives : (guest : Change DiskView) (input : Change SourceView) (replica
     → HasBytes guest.old base
     → IsLeftScript input.old draft → base_refusal replica.held.history base ≡ None → length draft ≤ LONGEST_TEXT → draft ≢ arranged_text replica.held.history → parts draft ≡ Ok ps
     → empties replica.held.history ps ≡ false → is_too_large ps ≡ false → IsSettled replica.held → IsRevisedTo replica last ps n
-    → (course : Finding Outcome) × GivesTo (revision guest input course) replica last kept
+    → (finding : Finding Outcome) × GivesTo (revision guest input finding) replica last kept
     (Ok (note.Revised n (section_counts last.held.history (drop (length (accepted replica.held.history)) (accepted last.held.history)))))
 draft_gives guest input replica last base draft ps n kept has left good short other e some fits settled r =
     let makes = r.revised.makes in
     let made : List Op = all_made replica makes.changes in
     let outcome : Outcome = revised_outcome last made in
-    let enough = changed_suffice replica last makes.changes settled r.stands makes.changed in
+    let enough = changed_suffice replica last makes.changes settled r.sound makes.changed in
     let last_made : length (accepted last.held.history) - n ≡ length (accepted replica.held.history) =
     omega (arith, ap length makes.changed.gained.accepted_are, length-append (accepted replica.held.history) made, makes.count) in
     let behind : drop (length (accepted replica.held.history)) (accepted last.held.history) ≡ made =
@@ -229,33 +230,33 @@ draft_gives guest input replica last base draft ps n kept has left good short ot
 pub same_gives : (guest : Change DiskView) (input : Change SourceView) (replica : Replica) (base draft : List ℕ) (kept : Option (List Op)) → HasBytes guest.old base
     → IsLeftScript input.old draft
     → base_refusal replica.held.history base ≡ None → length draft ≤ LONGEST_TEXT → draft ≡ arranged_text replica.held.history → IsSettled replica.held → IsSound replica
-    → (course : Finding Outcome) × GivesTo (revision guest input course) replica replica kept (Ok (note.Revised 0 (record { added = 0; dropped = 0; moved = 0; retitled = 0 })))
-same_gives guest input replica base draft kept has left good short same settled stands =
+    → (finding : Finding Outcome) × GivesTo (revision guest input finding) replica replica kept (Ok (note.Revised 0 (record { added = 0; dropped = 0; moved = 0; retitled = 0 })))
+same_gives guest input replica base draft kept has left good short same settled sound =
     let none = changed_none replica in
     let outcome : Outcome = made_outcome replica [] in (
       Does outcome,
       record {
         outcome = outcome;
         gives = gives_draft guest.old input.old replica base has draft outcome left good (text_same replica draft short same) (inl (record { same = same; outcome_is = refl }));
-        suffices = changed_suffice replica replica [] settled stands none;
+        suffices = changed_suffice replica replica [] settled sound none;
         saved = ap (drop (length (accepted replica.held.history) - 0)) none.gained.accepted_are
             ∙ drop_at (accepted replica.held.history) [] (length (accepted replica.held.history) - 0) (omega arith);
         noted = record { line = refl; status = refl };
       },
     )
 
--- what is told gives one thing
-one_gives : (base draft : List ℕ) (course : Finding Outcome) (replica : Replica) (a b : Finding Outcome) → DraftGives base draft course replica a
-    → DraftGives base draft course replica b → a ≡ b
-one_gives base draft course replica (Refuses why) (Refuses other) (inl x) (inl y) = let e : Some why ≡ Some other = sym x ∙ y in cc e
-one_gives base draft course replica (Refuses why) (Refuses other) (inl x) (inr y) = let e : Some why ≡ None = sym x ∙ y.0 in cc e
-one_gives base draft course replica (Refuses why) (Refuses other) (inr x) (inl y) = let e : Some other ≡ None = sym y ∙ x.0 in cc e
-one_gives base draft course replica (Refuses why) (Refuses other) (inr x) (inr y) = sym x.1 ∙ y.1
-one_gives base draft course replica (Refuses why) (Does other) (inl x) y = let e : Some why ≡ None = sym x ∙ y.0 in cc e
-one_gives base draft course replica (Refuses why) (Does other) (inr x) y = sym x.1 ∙ y.1
-one_gives base draft course replica (Does outcome) (Refuses why) x (inl y) = let e : Some why ≡ None = sym y ∙ x.0 in cc e
-one_gives base draft course replica (Does outcome) (Refuses why) x (inr y) = sym x.1 ∙ y.1
-one_gives base draft course replica (Does outcome) (Does other) x y = sym x.1 ∙ y.1
+-- what is specified gives one thing
+one_gives : (base draft : List ℕ) (finding : Finding Outcome) (replica : Replica) (a b : Finding Outcome) → DraftGives base draft finding replica a
+    → DraftGives base draft finding replica b → a ≡ b
+one_gives base draft finding replica (Refuses why) (Refuses other) (inl x) (inl y) = let e : Some why ≡ Some other = sym x ∙ y in cc e
+one_gives base draft finding replica (Refuses why) (Refuses other) (inl x) (inr y) = let e : Some why ≡ None = sym x ∙ y.0 in cc e
+one_gives base draft finding replica (Refuses why) (Refuses other) (inr x) (inl y) = let e : Some other ≡ None = sym y ∙ x.0 in cc e
+one_gives base draft finding replica (Refuses why) (Refuses other) (inr x) (inr y) = sym x.1 ∙ y.1
+one_gives base draft finding replica (Refuses why) (Does other) (inl x) y = let e : Some why ≡ None = sym x ∙ y.0 in cc e
+one_gives base draft finding replica (Refuses why) (Does other) (inr x) y = sym x.1 ∙ y.1
+one_gives base draft finding replica (Does outcome) (Refuses why) x (inl y) = let e : Some why ≡ None = sym y ∙ x.0 in cc e
+one_gives base draft finding replica (Does outcome) (Refuses why) x (inr y) = sym x.1 ∙ y.1
+one_gives base draft finding replica (Does outcome) (Does other) x y = sym x.1 ∙ y.1
 
 file_is : (past : Option History) (h : History) (base : List ℕ) → past ≡ Some h → IfSome past (λ h. h.last.seen ≡ base) → h.last.seen ≡ base
 file_is past h base is has = subst (λ (o : Option History). IfSome o (λ h. h.last.seen ≡ base)) is has
@@ -263,12 +264,12 @@ file_is past h base is has = subst (λ (o : Option History). IfSome o (λ h. h.l
 left_is : (left : Option (List ℕ)) (bytes draft : List ℕ) → left ≡ Some bytes → IfSome left (λ b. b ≡ draft) → bytes ≡ draft
 left_is left bytes draft is has = subst (λ (o : Option (List ℕ)). IfSome o (λ b. b ≡ draft)) is has
 
-pub revision_once : (guest : Change DiskView) (input : Change SourceView) (course : Finding Outcome) → GivesOnce (revision guest input course)
-revision_once guest input course told replica one two a b =
-    let base : a.0 ≡ b.0 = sym (file_is guest.old.past told.0.0 a.0 told.0.1 a.1) ∙ file_is guest.old.past told.0.0 b.0 told.0.1 b.1 in
-    let draft : a.2 ≡ b.2 = sym (left_is input.old.left told.1.0 a.2 told.1.1 a.3) ∙ left_is input.old.left told.1.0 b.2 told.1.1 b.3 in
-    one_gives b.0 b.2 course replica one two
-    (subst (λ (z : List ℕ). DraftGives z b.2 course replica one) base (subst (λ (z : List ℕ). DraftGives a.0 z course replica one) draft a.4)) b.4
+pub revision_once : (guest : Change DiskView) (input : Change SourceView) (finding : Finding Outcome) → GivesOnce (revision guest input finding)
+revision_once guest input finding specified replica one two a b =
+    let base : a.0 ≡ b.0 = sym (file_is guest.old.past specified.0.0 a.0 specified.0.1 a.1) ∙ file_is guest.old.past specified.0.0 b.0 specified.0.1 b.1 in
+    let draft : a.2 ≡ b.2 = sym (left_is input.old.left specified.1.0 a.2 specified.1.1 a.3) ∙ left_is input.old.left specified.1.0 b.2 specified.1.1 b.3 in
+    one_gives b.0 b.2 finding replica one two
+    (subst (λ (z : List ℕ). DraftGives z b.2 finding replica one) base (subst (λ (z : List ℕ). DraftGives a.0 z finding replica one) draft a.4)) b.4
 
 -- a base is refused for itself, and a limit is no other cause
 never_words : (h : List Op) (base : List ℕ) → base_refusal h base ≡ Some refusal.Words → ⊥
@@ -426,7 +427,7 @@ revised_of : (n : ℕ) (replica last : Replica) (ps : List Part) → ArrangedRea
     → Costs replica last (revision_cost replica.held.history ps) (Ok n)
     → IsSound last → IsSettled last.held → IsRevisedTo replica last ps n
 revised_of n replica last ps law r same costs st settled =
-    record { revised = r; prints = (law last.held.history).form_is ∙ ap form r.reads; same = same; costs = costs; stands = st; settled = settled }
+    record { revised = r; prints = (law last.held.history).form_is ∙ ap form r.reads; same = same; costs = costs; sound = st; settled = settled }
 
 pub revised_to : (result : Result ℕ ReviseFault) (n : ℕ) (replica last : Replica) (ps : List Part) → result ≡ Ok n → ArrangedReads
     → IfOk result (λ m. IsRevision replica last ps m) → IfOk result (λ m. MakesNothing replica last ps m)
@@ -438,16 +439,16 @@ revised_to result n replica last ps is law r same costs st settled =
 -- a place of a byte that was read is one in the base
 pub base_is : (past : Option History) (a bytes : List ℕ) (most : ℕ) → most ≡ length a + 1 → IfSome past (λ h. bytes ≡ take most h.last.seen)
     → (base : List ℕ) × IfSome past (λ h. h.last.seen ≡ base) × (first_difference a bytes ≡ first_difference a base)
-base_is None a bytes most is told = (bytes, tt, refl)
-base_is (Some h) a bytes most is told = (h.last.seen, refl, ap (first_difference a) (told ∙ ap (λ n. take n h.last.seen) is) ∙ base_read a h.last.seen)
+base_is None a bytes most is specified = (bytes, tt, refl)
+base_is (Some h) a bytes most is specified = (h.last.seen, refl, ap (first_difference a) (specified ∙ ap (λ n. take n h.last.seen) is) ∙ base_read a h.last.seen)
 
 -- why a base is refused, or that it is not, by what was read
 module _ (past : Option History) (h : List Op) (a bytes : List ℕ) (most : ℕ) (a_is : a ≡ arranged_text h) (is : most ≡ length a + 1)
-    (told : IfSome past (λ h. bytes ≡ take most h.last.seen)) where
+    (specified : IfSome past (λ h. bytes ≡ take most h.last.seen)) where
   there : (o : Option ℕ) → first_difference a bytes ≡ o
       → (base : List ℕ) × IfSome past (λ h. h.last.seen ≡ base) × (base_refusal h base ≡ option_map refusal.BaseDiffers o)
   there o e =
-      let b = base_is past a bytes most is told in
+      let b = base_is past a bytes most is specified in
       (b.0, b.1, ap (option_map refusal.BaseDiffers) (ap (λ t. first_difference t b.0) (sym a_is) ∙ sym b.2 ∙ e))
 
   pub differs_there : (at : ℕ) → first_difference a bytes ≡ Some at

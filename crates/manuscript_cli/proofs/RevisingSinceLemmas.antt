@@ -11,7 +11,7 @@ use Rattle.origin_model.specs.taking.Taking.{MeetsNoLimit, Held, TooMany as Answ
 use Rattle.origin_model.proofs.SharedLemmas.{held-append, no_place_left, places-append, places-none, places-one}
 use Rattle.origin_model.specs.taking.Taking.{IsSettled}
 use Rattle.origin_model.specs.declared.taking.Tally.{Tally}
-use Rattle.replica_core.specs.Told.{LeavesAfterFault}
+use Rattle.replica_core.specs.Answering.{LeavesAfterFault}
 use Rattle.version_views.specs.Fronts.{replica_at}
 use Rattle.command_kinds.specs.Changes.{Change}
 use Rattle.command_kinds.specs.Findings.{Finding, Refuses, Does}
@@ -32,15 +32,15 @@ use Rattle.outer_ports.specs.Sources.{SourceView}
 use Rattle.outer_ports.specs.disk.Disks.{DiskView}
 use Rattle.manuscript_cli.specs.Revising.{RevisionGives, revision}
 use Rattle.manuscript_cli.specs.RevisingSince.{BringsRevision, ComesInWhole, HasNoPlaceFor, FindsNoRoom, GivesSince, MomentDecidesAlone, SinceGives, moment_refusal, noted_revision}
-use Rattle.manuscript_cli.specs.RevisingSince.{revision_since, told_of_whole}
+use Rattle.manuscript_cli.specs.RevisingSince.{revision_since, refusal_of_whole}
 use Rattle.manuscript_cli.specs.declared.revise.Revised.{Revised}
 use Rattle.replica_file.specs.Loading.{CanTake}
 use Rattle.manuscript_cli.proofs.RevisingLemmas.{revision_once}
 use Rattle.manuscript_cli.proofs.WholeLemmas.{comes_behind}
 
-abbrev told_fault : Refusal → FeedFault → Refusal
-told_fault why (feed_fault.TooMany limit) = why
-told_fault why feed_fault.NoMemory = refusal.NoMemory
+abbrev fault_of_whole : Refusal → FeedFault → Refusal
+fault_of_whole why (feed_fault.TooMany limit) = why
+fault_of_whole why feed_fault.NoMemory = refusal.NoMemory
 
 -- an operation that was not fed: one that is too many, or memory was wanting
 abbrev fed_fault : FeedFault → Result Bool FeedFault
@@ -98,7 +98,7 @@ taken_all start now ops rest was none = subst (MeetsNoLimit start.hold start.mos
 
 -- why what was made has no place
 pub full_room : (fault : FeedFault) (replica : Replica) (ops : List Op) (why : Refusal) → why ≡ refusal.TooMany (held_count replica) → HasNoPlaceFor fault replica ops
-    → FindsNoRoom (told_fault why fault) replica ops
+    → FindsNoRoom (fault_of_whole why fault) replica ops
 full_room (feed_fault.TooMany limit) replica ops why is none = subst (λ (w : Refusal). FindsNoRoom w replica ops) (sym is) (refl, none)
 full_room feed_fault.NoMemory replica ops why is none = tt
 
@@ -110,42 +110,42 @@ moment_is false true n why e = inr (cc e)
 moment_is false false n why e = cc e
 
 module _ (n : ℕ) (guest : Change DiskView) (input : Change SourceView) (replica : Replica) where
-  gives_moment : (course : Finding Outcome) (why : Refusal) → moment_refusal n replica ≡ Some why → SinceGives n guest.old input.old course replica (Refuses why)
-  gives_moment course why e = subst (λ (m : Option Refusal). GivesSince m n guest.old input.old course replica (Refuses why)) (sym e) refl
+  gives_moment : (finding : Finding Outcome) (why : Refusal) → moment_refusal n replica ≡ Some why → SinceGives n guest.old input.old finding replica (Refuses why)
+  gives_moment finding why e = subst (λ (m : Option Refusal). GivesSince m n guest.old input.old finding replica (Refuses why)) (sym e) refl
 
-  pub moment_gives : (course : Finding Outcome) (after : Replica) (kept : Option (List Op)) (why : Refusal) → (why ≡ refusal.NoMemory) ⊎ (moment_refusal n replica ≡ Some why)
-      → GivesTo (revision_since n guest input course) replica after kept (Err why)
-  moment_gives course after kept why (inl none) = subst (λ w. GivesTo (revision_since n guest input course) replica after kept (Err w)) (sym none) tt
-  moment_gives course after kept why (inr e) =
+  pub moment_gives : (finding : Finding Outcome) (after : Replica) (kept : Option (List Op)) (why : Refusal) → (why ≡ refusal.NoMemory) ⊎ (moment_refusal n replica ≡ Some why)
+      → GivesTo (revision_since n guest input finding) replica after kept (Err why)
+  moment_gives finding after kept why (inl none) = subst (λ w. GivesTo (revision_since n guest input finding) replica after kept (Err w)) (sym none) tt
+  moment_gives finding after kept why (inr e) =
       elim (moment_is (nat_lt (length replica.held.history) n) _ n why e) [
         | inl is ↦
-            subst (λ w. GivesTo (revision_since n guest input course) replica after kept (Err w)) (sym is) (gives_moment course (refusal.NoMoment n) (e ∙ ap Some is))
+            subst (λ w. GivesTo (revision_since n guest input finding) replica after kept (Err w)) (sym is) (gives_moment finding (refusal.NoMoment n) (e ∙ ap Some is))
         | inr is ↦
-            subst (λ w. GivesTo (revision_since n guest input course) replica after kept (Err w)) (sym is) (gives_moment course (refusal.OwnSince n) (e ∙ ap Some is))
+            subst (λ w. GivesTo (revision_since n guest input finding) replica after kept (Err w)) (sym is) (gives_moment finding (refusal.OwnSince n) (e ∙ ap Some is))
       ]
 
   -- ---- what comes of a revision of the replica as it was
-  module _ (course : Finding Outcome) (may : moment_refusal n replica ≡ None) (ready : CanTake replica) where
-    gives_since : (given found : Finding Outcome) → RevisionGives guest.old input.old course (replica_at n replica) given → ComesInWhole replica given found
-        → SinceGives n guest.old input.old course replica found
-    gives_since given found gives comes = subst (λ (m : Option Refusal). GivesSince m n guest.old input.old course replica found) (sym may) (given, gives, comes)
+  module _ (finding : Finding Outcome) (may : moment_refusal n replica ≡ None) (ready : CanTake replica) where
+    gives_since : (given found : Finding Outcome) → RevisionGives guest.old input.old finding (replica_at n replica) given → ComesInWhole replica given found
+        → SinceGives n guest.old input.old finding replica found
+    gives_since given found gives comes = subst (λ (m : Option Refusal). GivesSince m n guest.old input.old finding replica found) (sym may) (given, gives, comes)
 
-    told_gives : (past after : Replica) (kept : Option (List Op)) (why : Refusal) → GivesTo (revision guest input course) (replica_at n replica) past kept (Err why)
-        → GivesTo (revision_since n guest input course) replica after kept (Err (told_of_whole replica why))
-    told_gives past after kept refusal.Outside gave = gave
-    told_gives past after kept refusal.NoMemory gave = tt
-    told_gives past after kept refusal.Words gave = gave
-    told_gives past after kept why gave = gives_since (Refuses why) (Refuses (told_of_whole replica why)) gave refl
+    gives_refused : (past after : Replica) (kept : Option (List Op)) (why : Refusal) → GivesTo (revision guest input finding) (replica_at n replica) past kept (Err why)
+        → GivesTo (revision_since n guest input finding) replica after kept (Err (refusal_of_whole replica why))
+    gives_refused past after kept refusal.Outside gave = gave
+    gives_refused past after kept refusal.NoMemory gave = tt
+    gives_refused past after kept refusal.Words gave = gave
+    gives_refused past after kept why gave = gives_since (Refuses why) (Refuses (refusal_of_whole replica why)) gave refl
 
     pub brought_gives : (past after : Replica) (kept : Option (List Op)) (given result : Result Revised Refusal)
-        → GivesTo (revision guest input course) (replica_at n replica) past kept (noted_revision given)
-        → BringsRevision replica after past given result → GivesTo (revision_since n guest input course) replica after kept (noted_revision result)
+        → GivesTo (revision guest input finding) (replica_at n replica) past kept (noted_revision given)
+        → BringsRevision replica after past given result → GivesTo (revision_since n guest input finding) replica after kept (noted_revision result)
     brought_gives past after kept (Ok revised) (Ok brought) gave brings =
         let place = subst (MeetsNoLimit replica.hold replica.most replica.held) gave.saved brings.2 in
-        let behind = comes_behind n replica ready.settled ready.stands may gave.gives.2 gave.outcome gave.suffices gave.gives.4.2 place in
+        let behind = comes_behind n replica ready.settled ready.sound may gave.gives.2 gave.outcome gave.suffices gave.gives.4.2 place in
         let outcome : Outcome = record gave.outcome { held = held_from replica.hold replica.most replica.held gave.outcome.saved } in
-        subst (λ (r : Revised). GivesTo (revision_since n guest input course) replica after kept (noted_revision (Ok r))) (sym brings.0)
-        (subst (λ (s : Replica). GivesTo (revision_since n guest input course) replica s kept (noted_revision (Ok revised))) (sym brings.1)
+        subst (λ (r : Revised). GivesTo (revision_since n guest input finding) replica after kept (noted_revision (Ok r))) (sym brings.0)
+        (subst (λ (s : Replica). GivesTo (revision_since n guest input finding) replica s kept (noted_revision (Ok revised))) (sym brings.1)
         (record {
           outcome = outcome;
           gives = gives_since (Does gave.outcome) (Does outcome) gave.gives (place, refl, behind);
@@ -158,8 +158,8 @@ module _ (n : ℕ) (guest : Change DiskView) (input : Change SourceView) (replic
     brought_gives past after kept (Ok revised) (Err refusal.NoMemory) gave brings = tt
     brought_gives past after kept (Ok revised) (Err _) gave brings = absurd brings
     brought_gives past after kept (Err why) (Ok brought) gave brings = absurd brings
-    brought_gives past after kept (Err why) (Err told) gave brings =
-        subst (λ (w : Refusal). GivesTo (revision_since n guest input course) replica after kept (Err w)) (sym brings) (told_gives past after kept why gave)
+    brought_gives past after kept (Err why) (Err specified) gave brings =
+        subst (λ (w : Refusal). GivesTo (revision_since n guest input finding) replica after kept (Err w)) (sym brings) (gives_refused past after kept why gave)
 
 -- where the whole may end so, the revision of the replica as it was may
 pub may_bring : (old new past : Replica) (given result : Result Revised Refusal) (end : Status) → BringsRevision old new past given result → MayEnd (noted_revision result) end
@@ -169,12 +169,12 @@ may_bring old new past (Ok revised) result end brings may = record { finished = 
     no_error : IsErrOf {T = Note} (Ok (note.Revised revised.made revised.sections)) refusal.Outside → ⊥
     no_error is = cc is
 may_bring old new past (Err why) (Ok brought) end brings may = absurd brings
-may_bring old new past (Err why) (Err told) end brings may =
+may_bring old new past (Err why) (Err specified) end brings may =
     record {
-      finished = λ done. absurd (unfinished (Err told) told end refl may done);
+      finished = λ done. absurd (unfinished (Err specified) specified end refl may done);
       blames = λ blamed.
           let outside : why ≡ refusal.Outside = cc blamed in
-          may.blames (ap Err (brings ∙ ap (told_of_whole old) outside));
+          may.blames (ap Err (brings ∙ ap (refusal_of_whole old) outside));
     }
 
 -- ---- where the moment refuses
@@ -182,10 +182,10 @@ may_bring old new past (Err why) (Err told) end brings may =
 pub moment_may : (n : ℕ) (home : DiskView) (replica : Replica) (end : End) (guest : Change DiskView) (input : Change SourceView) → FileHolds home replica end
     → moment_refusal n replica ≡ None → MomentDecidesAlone n home guest input
 moment_may n home replica end guest input holds may refuses =
-    let same : refuses.replica ≡ replica = ap (λ (l : Replica × End). l.0) (holds_once home refuses.told (refuses.replica, refuses.end) (replica, end) refuses.holds holds) in
+    let same : refuses.replica ≡ replica = ap (λ (l : Replica × End). l.0) (holds_once home refuses.specified (refuses.replica, refuses.end) (replica, end) refuses.holds holds) in
     absurd (cc (sym refuses.refused ∙ ap (moment_refusal n) same ∙ may))
 
--- ---- what is told gives one thing
+-- ---- what is specified gives one thing
 comes_once : (replica : Replica) (given one two : Finding Outcome) → ComesInWhole replica given one → ComesInWhole replica given two → one ≡ two
 comes_once replica (Refuses why) one two a b = a ∙ sym b
 comes_once replica (Does outcome) (Does whole) (Does other) a b = ap Does (a.1 ∙ sym b.1)
@@ -193,11 +193,11 @@ comes_once replica (Does outcome) (Does whole) (Refuses why) a b = absurd (b.1 a
 comes_once replica (Does outcome) (Refuses why) (Does whole) a b = absurd (a.1 b.0)
 comes_once replica (Does outcome) (Refuses why) (Refuses other) a b = ap Refuses (a.0 ∙ sym b.0)
 
-pub since_once : (n : ℕ) (guest : Change DiskView) (input : Change SourceView) (course : Finding Outcome) → GivesOnce (revision_since n guest input course)
-since_once n guest input course told replica one two a b = by (moment_refusal n replica) a b
+pub since_once : (n : ℕ) (guest : Change DiskView) (input : Change SourceView) (finding : Finding Outcome) → GivesOnce (revision_since n guest input finding)
+since_once n guest input finding specified replica one two a b = by (moment_refusal n replica) a b
   where
-    by : (m : Option Refusal) → GivesSince m n guest.old input.old course replica one → GivesSince m n guest.old input.old course replica two → one ≡ two
+    by : (m : Option Refusal) → GivesSince m n guest.old input.old finding replica one → GivesSince m n guest.old input.old finding replica two → one ≡ two
     by (Some why) x y = x ∙ sym y
     by None x y =
-        let same : x.0 ≡ y.0 = revision_once guest input course told (replica_at n replica) x.0 y.0 x.1 y.1 in
+        let same : x.0 ≡ y.0 = revision_once guest input finding specified (replica_at n replica) x.0 y.0 x.1 y.1 in
         comes_once replica y.0 one two (subst (λ (g : Finding Outcome). ComesInWhole replica g one) same x.2) y.2

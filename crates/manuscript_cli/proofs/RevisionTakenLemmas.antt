@@ -55,17 +55,17 @@ all_unknown s (change ∷ changes) =
     All-append (IsUnknown s.held.waiting) (made_of s change) (all_made (replica_behind s change) changes) (change_unknown s change) (all_unknown (replica_behind s change) changes)
 
 -- so a later load comes to the state in which the revision ended
-module _ (old new : Replica) (changes : List PlanChange) (settled : IsSettled old.held) (stands : IsSound new) (changed : MakesChanges old new changes) where
+module _ (old new : Replica) (changes : List PlanChange) (settled : IsSettled old.held) (sound : IsSound new) (changed : MakesChanges old new changes) where
   abbrev made : List Op
   made = all_made old changes
 
   lawful : Lawful (history_with old.held.history made)
-  lawful = subst (λ (s : Replica). Lawful s.held.history) changed.gained.others stands.lawful
+  lawful = subst (λ (s : Replica). Lawful s.held.history) changed.gained.others sound.lawful
 
   fits : length old.held.history + length old.held.waiting + length made ≤ old.most
   fits =
       let few : length (history_with old.held.history made) + length old.held.waiting ≤ old.most =
-      subst (λ (s : Replica). length s.held.history + length s.held.waiting ≤ s.most) changed.gained.others stands.few in
+      subst (λ (s : Replica). length s.held.history + length s.held.waiting ≤ s.most) changed.gained.others sound.few in
       omega (arith, few, extended_length old.held.history made)
 
   taken : AreTakenIn old new made

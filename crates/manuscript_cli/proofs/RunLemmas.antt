@@ -18,7 +18,7 @@ use Rattle.command_kinds.specs.Findings.{Does}
 use Rattle.manuscript_cli.specs.Command.{Names}
 use Rattle.manuscript_cli.specs.Headline.{PrintedBySet, PrintsBySet}
 use Rattle.command_kinds.proofs.ActLemmas.{did_all}
-use Rattle.command_kinds.specs.Report.{Telling, WroteHeld, reporting}
+use Rattle.command_kinds.specs.Report.{ReportText, WroteHeld, reporting}
 use Rattle.manuscript_cli.specs.Run.{Meets, RunsReport}
 use Rattle.command_kinds.specs.Changes.{Change, IsSpecified, change}
 use Rattle.manuscript_cli.specs.Touched.{Touched}
@@ -40,23 +40,23 @@ same_text : (a b : List ℕ) → Does a ≡ Does b → a ≡ b
 same_text a b e = cc
 
 -- what a report tells that is a text of the history
-abbrev TellsText : (text : List Op → List ℕ) → Telling
-TellsText text replica found = found ≡ Does (text replica.held.history)
+abbrev ReportsText : (text : List Op → List ℕ) → ReportText
+ReportsText text replica found = found ≡ Does (text replica.held.history)
 
 -- what was printed of a file is fixed by the set of what was accepted
 file_by_set : (text : List Op → List ℕ) → IsFixedBySet text → (file : Change DiskView) (output : Change OutView) (bytes : List ℕ)
-    → WroteHeld (TellsText text) file bytes (Took output.old output.new bytes) → IsSpecified file.old
+    → WroteHeld (ReportsText text) file bytes (Took output.old output.new bytes) → IsSpecified file.old
     → (replica : Replica) (at : End) → FileHolds file.old replica at → PrintedBySet text replica.held.history output
-file_by_set text fixed file output bytes wrote told replica at holds =
-    let same = holds_once file.old told (replica, at) (wrote.found.0, wrote.found.1) holds wrote.found.2 in
+file_by_set text fixed file output bytes wrote reported replica at holds =
+    let same = holds_once file.old reported (replica, at) (wrote.found.0, wrote.found.1) holds wrote.found.2 in
     let is : bytes ≡ text replica.held.history =
     same_text bytes (text wrote.found.0.held.history) wrote.found.3 ∙ sym (ap (λ (l : Replica × End). text l.0.held.history) same) in
-    printed_by_set text fixed replica.held.history output (loaded_lawful file.old told replica at holds) (subst (Took output.old output.new) is wrote.came)
+    printed_by_set text fixed replica.held.history output (loaded_lawful file.old reported replica at holds) (subst (Took output.old output.new) is wrote.came)
 
-report_by_set : (text : List Op → List ℕ) → IsFixedBySet text → (old new : Touched) (end : Status) → RunsReport (TellsText text) old new end
+report_by_set : (text : List Op → List ℕ) → IsFixedBySet text → (old new : Touched) (end : Status) → RunsReport (ReportsText text) old new end
     → PrintsBySet text old.home (change old.streams.output new.streams.output) end
 report_by_set text fixed old new end meets done =
-    let did = did_all (reporting (TellsText text) _ _) _ end meets.does.performs (inl done) in
+    let did = did_all (reporting (ReportsText text) _ _) _ end meets.does.performs (inl done) in
     file_by_set text fixed (change old.home new.home) (change old.streams.output new.streams.output) did.0 did.1
 
 pub prints_by_set : OrderBySet → (words : List (List ℕ)) (old new : Touched) (end : Status) → Meets words (Some Print) old new end

@@ -106,7 +106,7 @@ module _ (header : Header) (ops more : List Op) (began stood : History) (safe : 
     finished = λ done. inr (refl, safe);
   })
 
--- a run on a file that is told, and safe at entry
+-- a run on a file that is specified, and safe at entry
 module _ (old new : Touched) (end : Status) (began stood : History) (began_is : old.home.past ≡ Some began) (stood_is : new.home.past ≡ Some stood) (header : Header)
     (ops more : List Op)
     (safe : IsSafe header ops more began.last) where

@@ -288,13 +288,13 @@ none_behind old =
       waiting = refl;
     }
 
-module _ (n : ℕ) (replica : Replica) (settled : IsSettled replica.held) (stands : IsSound replica) (may : moment_refusal n replica ≡ None) where
+module _ (n : ℕ) (replica : Replica) (settled : IsSettled replica.held) (sound : IsSound replica) (may : moment_refusal n replica ≡ None) where
   abbrev past : Replica
   past = replica_at n replica
 
   past_lawful : Lawful past.held.history
   past_lawful = Lawful-append (take (length replica.held.history - n) replica.held.history) (first_ops n replica.held.history)
-      (subst Lawful (sym (parts n replica.held.history)) stands.lawful)
+      (subst Lawful (sym (parts n replica.held.history)) sound.lawful)
 
   past_part : IsPartOf past.held.history replica.held.history
   past_part = subst (IsPartOf (first_ops n replica.held.history)) (parts n replica.held.history)
@@ -316,14 +316,14 @@ module _ (n : ℕ) (replica : Replica) (settled : IsSettled replica.held) (stand
       let unknown : All (IsUnknown old) ops = All-weaker (IsFrom r c) (IsUnknown old) (λ op f. unknown_from r c old op (history_below r old w) f) ops from in
       let apart : All (IsUnknown w) ops = All-weaker (IsFrom r c) (IsUnknown w) (λ op f. unknown_from r c w op (waiting_below r old w) f) ops from in
       let turn : ReadyInTurn past.held.history ops = in_turn ops past.held.history (subst (λ (s : Replica). Lawful s.held.history) changed.gained.others lawful) in
-      let beside : IsBeside replica.hold replica.most old w past.held.history old = record { lawful = stands.lawful; part = past_part; own = λ i k. inl k } in
+      let beside : IsBeside replica.hold replica.most old w past.held.history old = record { lawful = sound.lawful; part = past_part; own = λ i k. inl k } in
       let all = all_taken replica.hold replica.most old w ops past.held.history old beside settled turn unknown apart place in
       subst (ComesAfterAccepted replica.held ops) (sym all.state)
       (record {
         behind = join_at_end old (lacking_ops old ops);
         each = All-weaker (λ op. has_op (history_with past.held.history ops) op ≡ true) (λ op. has_op (history_with old (lacking_ops old ops)) op ≡ true)
             (λ op m. all.part op m) ops (all_in ops past.held.history);
-        had = All-weaker (IsUnknown old) (λ op. has_op old op ≡ true → (x : Identifier) × (op ≡ Delete x)) (λ op u m. is_delete old op stands.lawful u m) ops unknown;
+        had = All-weaker (IsUnknown old) (λ op. has_op old op ≡ true → (x : Identifier) × (op ≡ Delete x)) (λ op u m. is_delete old op sound.lawful u m) ops unknown;
         waiting = refl;
       })
 

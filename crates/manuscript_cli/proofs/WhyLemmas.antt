@@ -13,7 +13,7 @@ use Rattle.order_proof.specs.Texts.{proof_text}
 use Rattle.order_proof.proofs.OnceLemmas.{has_one_certificate}
 use Rattle.order_proof.proofs.ShownLemmas.{shown_before}
 use Rattle.command_kinds.specs.Findings.{Finding, Refuses, Does}
-use Rattle.manuscript_cli.specs.Why.{HasPlaces, IsWhy, why_tells}
+use Rattle.manuscript_cli.specs.Why.{HasPlaces, IsWhy, why_reports}
 
 module _ (h : List Op) (p q : ℕ) (x y : Identifier) where
   -- both are in one section
@@ -36,8 +36,8 @@ text_once h w x y before a b one two =
 same_places : (h : List Op) (k p q : ℕ) (x y u v : Identifier) → HasPlaces h k p q x y → HasPlaces h k p q u v → (u ≡ x) × (v ≡ y)
 same_places h k p q x y u v one two = (same_Some u x (sym two.first ∙ one.first), same_Some v y (sym two.second ∙ one.second))
 
--- one thing is told
-pub why_once : (k p q : ℕ) (replica : Replica) → Lawful replica.held.history → (a b : Finding (List ℕ)) → why_tells k p q replica a → why_tells k p q replica b → a ≡ b
+-- one thing is reported
+pub why_once : (k p q : ℕ) (replica : Replica) → Lawful replica.held.history → (a b : Finding (List ℕ)) → why_reports k p q replica a → why_reports k p q replica b → a ≡ b
 why_once k p q replica w (Does a) (Does b) one two =
     let h = replica.held.history in
     let same = same_places h k p q one.0 one.1 two.0 two.1 one.2 two.2 in

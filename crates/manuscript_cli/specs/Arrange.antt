@@ -12,7 +12,7 @@ use Rattle.catalogue_notes.specs.declared.moving.MoveFault.{MoveFault}
 use Rattle.catalogue_notes.specs.declared.moving.MoveFault.TheVariants as fault
 use Rattle.command_kinds.specs.Findings.{Finding, Refuses, Does}
 use Rattle.command_kinds.specs.Notes.{NoteOn}
-use Rattle.command_kinds.specs.Report.{Telling}
+use Rattle.command_kinds.specs.Report.{ReportText}
 use Rattle.command_kinds.specs.declared.refusal.Refusal.{Refusal}
 use Rattle.command_kinds.specs.declared.refusal.Refusal.TheVariants as refusal
 
@@ -44,5 +44,5 @@ retitle_on k title replica =
     (λ section. note_by replica (section ∷ []) RETITLE_CODE (retitle_body (stamp replica.held.history + 1) title))
 
 -- `arrange` reports the sections as they are arranged
-abbrev pub arrange_tells : Telling
-arrange_tells replica found = found ≡ Does (arranged_text replica.held.history)
+abbrev pub arrange_reports : ReportText
+arrange_reports replica found = found ≡ Does (arranged_text replica.held.history)

@@ -13,7 +13,7 @@ use Rattle.command_kinds.specs.Crashes.{NeverTorn}
 use Rattle.command_kinds.specs.Files.{FileHolds, KeepsFile}
 use Rattle.command_kinds.specs.Findings.{Refuses, Does}
 use Rattle.command_kinds.specs.Refusal.{Reported, refusal_line, status_of}
-use Rattle.command_kinds.specs.Report.{Reports, Telling}
+use Rattle.command_kinds.specs.Report.{Reports, ReportText}
 use Rattle.command_kinds.specs.TextOut.{WritesReport}
 use Rattle.command_kinds.specs.Changes.{Change, DiskBlameless}
 use Rattle.manuscript_cli.specs.declared.check.TheConstants.{LONGEST_TEXT}
@@ -22,22 +22,22 @@ use Rattle.command_kinds.specs.declared.refusal.Refusal.TheVariants as refusal
 use Rattle.command_kinds.specs.declared.status.Status.{Status}
 
 -- what `check` tells of a text: `yes` exactly where it is that of a valid certificate, else `no`
-abbrev pub check_tells : (text : List ℕ) → Telling
-check_tells text replica (Does bytes) =
+abbrev pub check_reports : (text : List ℕ) → ReportText
+check_reports text replica (Does bytes) =
     (IsValidText replica.held.history text × (bytes ≡ codes "yes" ++ 10 ∷ []))
     ⊎ (¬ (IsValidText replica.held.history text) × (bytes ≡ codes "no" ++ 10 ∷ []))
-check_tells text replica (Refuses why) = ⊥
+check_reports text replica (Refuses why) = ⊥
 
 -- the text is all that the input had left
 pub record IsTextRead (input : Change SourceView) (text : List ℕ) : Type 0 where
-  pub told : input.old.left ≡ prepend_known text input.new.left
+  pub split : input.old.left ≡ prepend_known text input.new.left
   pub ended : IfSome input.new.left (λ left. left ≡ [])
   pub short : length text ≤ LONGEST_TEXT
 
 -- the input had more than a text may have: one byte past the limit was taken
 pub record IsTextLonger (input : Change SourceView) : Type 0 where
   pub front : List ℕ
-  pub told : input.old.left ≡ prepend_known front input.new.left
+  pub split : input.old.left ≡ prepend_known front input.new.left
   pub long : length front ≡ LONGEST_TEXT + 1
 
 -- why no text was read: a read failed, or memory was wanting, or the input is too long
@@ -61,9 +61,9 @@ pub record HeldText (input : Change SourceView) (replica : Replica) (output note
   pub text : List ℕ
   pub read : IsTextRead input text
   pub count : KeepsCount input.old input.new ⊥
-  pub writes : WritesReport (check_tells text replica) output notes end
+  pub writes : WritesReport (check_reports text replica) output notes end
 
--- no text was read, and why was told
+-- no text was read, and why was reported
 pub record NoTextRead (input : Change SourceView) (output notes : Change OutView) (end : Status) : Type 0 where
   pub why : Refusal
   pub cause : HasNoInputText input why
@@ -72,21 +72,21 @@ pub record NoTextRead (input : Change SourceView) (output notes : Change OutView
   pub noted : Reported notes.old notes.new (refusal_line why)
   pub end_is : end ≡ status_of why
 
--- behind a file that was loaded the text is read, and what it is is told
+-- behind a file that was loaded the text is read, and what it is is reported
 abbrev pub ChecksHeld : Change SourceView → Replica → (output notes : Change OutView) → Status → Type 0
 ChecksHeld input replica output notes end = HeldText input replica output notes end ⊎ NoTextRead input output notes end
 
--- no replica is there of which something might be told
-abbrev pub nothing_said : Telling
+-- no replica is there of which something might be reported
+abbrev pub nothing_said : ReportText
 nothing_said replica found = ⊥
 
--- the file was loaded, the text was read, and what it is was told
+-- the file was loaded, the text was read, and what it is was reported
 pub record CheckedText (input : Change SourceView) (file : Change DiskView) (output notes : Change OutView) (end : Status) : Type 0 where
   pub text : List ℕ
   pub read : IsTextRead input text
   pub count : KeepsCount input.old input.new ⊥
-  pub loaded : (replica : Replica) × (at : End) × FileHolds file.old replica at × WritesReport (check_tells text replica) output notes end
-  pub reports : Reports (check_tells text) file output notes end
+  pub loaded : (replica : Replica) × (at : End) × FileHolds file.old replica at × WritesReport (check_reports text replica) output notes end
+  pub reports : Reports (check_reports text) file output notes end
 
 -- the file was loaded, which settles it, and no text was read
 pub record ReadNoText (input : Change SourceView) (file : Change DiskView) (output notes : Change OutView) (end : Status) : Type 0 where
@@ -97,7 +97,7 @@ pub record ReadNoText (input : Change SourceView) (file : Change DiskView) (outp
   pub crash : NeverTorn (λ gave. gave ≡ []) file end
   pub file_blameless : DiskBlameless file end
 
--- the file was not loaded, why was told, and the input was not asked
+-- the file was not loaded, why was reported, and the input was not asked
 pub record LoadedNone (input : Change SourceView) (file : Change DiskView) (output notes : Change OutView) (end : Status) : Type 0 where
   pub unread : input.new ≡ input.old
   pub reports : Reports nothing_said file output notes end

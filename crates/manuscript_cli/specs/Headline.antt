@@ -1,4 +1,4 @@
--- What `show` promises of a stream whose bytes are told, and `print` and `arrange` of a file that is.
+-- What `show` promises of a stream whose bytes are specified, and `print` and `arrange` of a file that is.
 use Rattle.std.specs.Prelude.{◌≡◌, ◌≢◌, ℕ, ◌≤◌, List, length, Some}
 use Rattle.fugue_ids.specs.Causes.{Faulted}
 use Rattle.fugue_ids.specs.Outs.{OutView, Took}
@@ -48,7 +48,7 @@ Headline hold old new end =
     → MeetsNoLimit hold MOST_OPERATIONS nothing_held ops
     → CountedNoFault old new → end ≢ status.NoMemory → ShowedBySet hold ops old new end
 
--- what was printed of a file that is told, in this form, is fixed by the set of the operations that its replica accepted
+-- what was printed of a file that is specified, in this form, is fixed by the set of the operations that its replica accepted
 abbrev pub PrintsBySet : (text : List Op → List ℕ) → DiskView → (output : Change OutView) → Status → Type 0
 PrintsBySet text home output end =
     end ≡ status.Done → IsSpecified home → (replica : Replica) (at : End) → FileHolds home replica at

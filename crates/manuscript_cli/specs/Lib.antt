@@ -5,7 +5,6 @@ pub mod Headline
 pub mod Why
 pub mod Changed
 pub mod Check
-pub mod PlainFile
 pub mod Revising
 pub mod RevisingSince
 pub mod SectionCounts

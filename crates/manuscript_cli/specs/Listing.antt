@@ -12,7 +12,7 @@ use Rattle.cluster_text.specs.Clusters.{clusters}
 use Rattle.catalogue_notes.specs.Arranged.{arranged, heading}
 use Rattle.catalogue_notes.specs.declared.entry.Entry.{Entry}
 use Rattle.command_kinds.specs.Findings.{Does}
-use Rattle.command_kinds.specs.Report.{Telling}
+use Rattle.command_kinds.specs.Report.{ReportText}
 use Rattle.manuscript_cli.specs.declared.list.Counted.{Counted}
 
 -- the replica's number, how many operations may wait, how many were accepted, and how many wait
@@ -48,8 +48,8 @@ abbrev pub list_text : Replica → List ℕ
 list_text replica = replica_line replica ++ section_lines replica.held.history 1 (arranged replica.held.history)
 
 -- `list` reports what a replica holds
-abbrev pub list_tells : Telling
-list_tells replica found = found ≡ Does (list_text replica)
+abbrev pub list_reports : ReportText
+list_reports replica found = found ≡ Does (list_text replica)
 
 -- the line of an entry, whose place counts from 0
 abbrev pub entry_line : (at : ℕ) → Entry → (clusters : ℕ) → List ℕ

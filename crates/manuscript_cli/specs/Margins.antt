@@ -13,7 +13,7 @@ use Rattle.margin_notes.specs.declared.commenting.CommentFault.TheVariants as fa
 use Rattle.margin_notes.specs.declared.limits.TheConstants.{COMMENT_CODE}
 use Rattle.command_kinds.specs.Findings.{Does}
 use Rattle.command_kinds.specs.Notes.{NoteOn, unless_refused}
-use Rattle.command_kinds.specs.Report.{Telling}
+use Rattle.command_kinds.specs.Report.{ReportText}
 use Rattle.command_kinds.specs.declared.refusal.Refusal.{Refusal}
 use Rattle.command_kinds.specs.declared.refusal.Refusal.TheVariants as refusal
 
@@ -43,5 +43,5 @@ comment_on k p n text replica =
     (note_by replica (passage_names replica (k - 1) p n) COMMENT_CODE text)
 
 -- `comments` reports where the comments stand, and what they say
-abbrev pub comments_tells : Telling
-comments_tells replica found = found ≡ Does (margins replica.held.history)
+abbrev pub comments_reports : ReportText
+comments_reports replica found = found ≡ Does (margins replica.held.history)

@@ -12,7 +12,7 @@ use Rattle.version_views.specs.declared.naming.VersionFault.TheVariants as versi
 use Rattle.command_kinds.specs.Findings.{Finding, Refuses, Does}
 use Rattle.command_kinds.specs.Notes.{NoteOn, unless_refused}
 use Rattle.command_kinds.specs.Refusal.{kept_name}
-use Rattle.command_kinds.specs.Report.{Telling}
+use Rattle.command_kinds.specs.Report.{ReportText}
 use Rattle.command_kinds.specs.declared.refusal.Refusal.{Refusal}
 use Rattle.command_kinds.specs.declared.refusal.Refusal.TheVariants as refusal
 
@@ -33,8 +33,8 @@ abbrev pub version_on : List ℕ → NoteOn
 version_on name replica = unless_refused (option_map note_refused (note_refusal replica)) (note_by replica [] VERSION_CODE name)
 
 -- `versions` reports the names, each with how many operations it has
-abbrev pub versions_tells : Telling
-versions_tells replica found = found ≡ Does (versions_text replica.held.history replica.number)
+abbrev pub versions_reports : ReportText
+versions_reports replica found = found ≡ Does (versions_text replica.held.history replica.number)
 
 -- the manuscript of so many operations, where there is a version with the name
 abbrev pub version_text : List ℕ → Replica → Option ℕ → Finding (List ℕ)
@@ -42,5 +42,5 @@ version_text name replica None = Refuses (refusal.NoVersion (kept_name name))
 version_text name replica (Some n) = Does (view replica.held.history n)
 
 -- `view` reports the manuscript of a version
-abbrev pub view_tells : List ℕ → Telling
-view_tells name replica found = found ≡ version_text name replica (version_with replica.held.history replica.number name)
+abbrev pub view_reports : List ℕ → ReportText
+view_reports name replica found = found ≡ version_text name replica (version_with replica.held.history replica.number name)

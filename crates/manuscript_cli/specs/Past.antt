@@ -5,7 +5,7 @@ use Rattle.origin_model.specs.taking.Taking.{held}
 use Rattle.catalogue_notes.specs.Arranged.{arranged_text}
 use Rattle.version_views.specs.Views.{first_ops}
 use Rattle.command_kinds.specs.Findings.{Finding, Refuses, Does}
-use Rattle.command_kinds.specs.Report.{Telling}
+use Rattle.command_kinds.specs.Report.{ReportText}
 use Rattle.command_kinds.specs.declared.refusal.Refusal.TheVariants.{NoMoment}
 
 -- the first n operations as they are arranged, where so many were accepted
@@ -13,8 +13,8 @@ abbrev pub past_of : ℕ → List Op → Finding (List ℕ)
 past_of n history = if nat_lt (length history) n then Refuses (NoMoment n) else Does (arranged_text (first_ops n history))
 
 -- `past` reports the manuscript of the first n operations
-abbrev pub past_tells : ℕ → Telling
-past_tells n replica found = found ≡ past_of n replica.held.history
+abbrev pub past_reports : ℕ → ReportText
+past_reports n replica found = found ≡ past_of n replica.held.history
 
 -- It is what `arrange` prints when n operations are accepted.
 abbrev pub PastIsArranged : Type 0

@@ -2,10 +2,10 @@
 use Rattle.std.specs.Prelude.{◌≡◌, ◌≢◌, ◌⊎◌, ℕ, ◌<◌, ◌≤◌, List, [], ◌∷◌, ◌++◌, length, Result, Ok, Err, is_some, true, codes, decimal, Some}
 use Rattle.std.specs.Prelude.{option_map}
 use Rattle.fugue_ids.specs.Causes.{Faulted}
-use Rattle.fugue_ids.specs.Outs.{OutTells, OutView, Took}
+use Rattle.fugue_ids.specs.Outs.{OutIsSpecified, OutView, Took}
 use Rattle.origin_model.specs.relay.Relay.{Relay, new_relay}
 use Rattle.outer_ports.specs.Latest.{once_more}
-use Rattle.outer_ports.specs.dock.Docks.{DockTells, DockView, SendsNothing, TakesNothing, listening_of}
+use Rattle.outer_ports.specs.dock.Docks.{DockIsSpecified, DockView, SendsNothing, TakesNothing, listening_of}
 use Rattle.relay_core.specs.declared.relay.TheConstants.{MOST_LOGGED}
 use Rattle.relay_sync.specs.Serving.{NoneAfter, Serves, ServingStops, DockSuffices, ServedStep, count_over}
 use Rattle.relay_sync.specs.declared.serving.ServeFault.{ServeFault}
@@ -113,16 +113,16 @@ ServingMeets port sessions output dock (Err _) = ⊥
 abbrev pub IsEnough : (sessions : ℕ) → DockView → Type 0
 IsEnough sessions dock = DockSuffices sessions (new_relay MOST_LOGGED) dock
 
--- where they are enough no fault of the dock is counted, and none is told where the output has room
+-- where they are enough no fault of the dock is counted, and none is reported where the output has room
 pub record NeverBlamed {T : Type 0} (sessions : ℕ) (output : Change OutView) (dock : Change DockView)
     (result : Result T Refusal) : Type 0 where
   pub counts_no_fault : IsEnough sessions dock.old → dock.new.faults ≡ dock.old.faults
   pub sure : IsEnough sessions dock.old → HasRoom (length ready_line) output.old → result ≢ Err refusal.Outside
 
--- of an output and a dock that tell, the counts rise with an outside fault alone
+-- of an output and a dock that are specified, the counts rise with an outside fault alone
 pub record RiseOutside {T : Type 0} (output : Change OutView) (dock : Change DockView) (result : Result T Refusal) : Type 0 where
-  pub of_output : OutTells output.old → result ≢ Err refusal.Outside → output.new.faults ≡ output.old.faults
-  pub of_dock : DockTells dock.old → result ≢ Err refusal.Outside → dock.new.faults ≡ dock.old.faults
+  pub of_output : OutIsSpecified output.old → result ≢ Err refusal.Outside → output.new.faults ≡ output.old.faults
+  pub of_dock : DockIsSpecified dock.old → result ≢ Err refusal.Outside → dock.new.faults ≡ dock.old.faults
 
 -- the act of `relay`: how many frames its log has is noted
 abbrev pub serving : (port sessions : ℕ) → (output : Change OutView) → Change DockView → Act ℕ
@@ -132,9 +132,9 @@ serving port sessions output dock = record {
   status = λ logged. status.Done;
 }
 
--- where the dock tells, its count of faults rises with an outside fault alone
+-- where the dock is specified, its count of faults rises with an outside fault alone
 abbrev pub DockBlameless : Change DockView → Status → Type 0
-DockBlameless dock end = DockTells dock.old → end ≢ status.OutsideFault → dock.new.faults ≡ dock.old.faults
+DockBlameless dock end = DockIsSpecified dock.old → end ≢ status.OutsideFault → dock.new.faults ≡ dock.old.faults
 
 -- the command `relay`
 pub record Relays (port sessions : ℕ) (output notes : Change OutView) (dock : Change DockView) (end : Status) : Type 0 where

@@ -7,14 +7,14 @@ use Rattle.passage_remarks.specs.declared.withdrawing.WithdrawFault.{WithdrawFau
 use Rattle.passage_remarks.specs.declared.withdrawing.WithdrawFault.TheVariants as fault
 use Rattle.command_kinds.specs.Findings.{Finding, Refuses, Does}
 use Rattle.command_kinds.specs.Notes.{NoteOn}
-use Rattle.command_kinds.specs.Report.{Telling}
+use Rattle.command_kinds.specs.Report.{ReportText}
 use Rattle.command_kinds.specs.declared.refusal.Refusal.{Refusal}
 use Rattle.command_kinds.specs.declared.refusal.Refusal.TheVariants as refusal
 use Rattle.fugue_ids.specs.declared.op.Op.{Op}
 
 -- `remarks` reports the remarks on the manuscript
-abbrev pub remarks_tells : Telling
-remarks_tells replica found = found ≡ Does (remarks_text replica.held.history)
+abbrev pub remarks_reports : ReportText
+remarks_reports replica found = found ≡ Does (remarks_text replica.held.history)
 
 -- a fault as a refusal, by the number in the words
 abbrev pub withdraw_refused : ℕ → WithdrawFault → Refusal

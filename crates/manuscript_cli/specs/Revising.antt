@@ -28,7 +28,7 @@ use Rattle.draft_plan.specs.declared.fault.ReviseFault.TheVariants as revise_fau
 use Rattle.command_kinds.specs.Counts.{revised_text}
 use Rattle.command_kinds.specs.Edit.{IsLeftScript, made_outcome}
 use Rattle.command_kinds.specs.Findings.{Finding, Refuses, Does}
-use Rattle.command_kinds.specs.Saving.{Giver, Outcome}
+use Rattle.command_kinds.specs.Saving.{OpsSource, Outcome}
 use Rattle.command_kinds.specs.Changes.{Change, DiskBlameless, IsSpecified}
 use Rattle.manuscript_cli.specs.declared.check.TheConstants.{LONGEST_TEXT}
 use Rattle.command_kinds.specs.declared.refusal.Refusal.{Refusal}
@@ -93,7 +93,7 @@ pub record IsRevisedTo (replica last : Replica) (ps : List Part) (n : ℕ) : Typ
   pub prints : arranged_text last.held.history ≡ form ps
   pub same : MakesNothing replica last ps n
   pub costs : Costs replica last (revision_cost replica.held.history ps) (Ok n)
-  pub stands : IsSound last
+  pub sound : IsSound last
   pub settled : IsSettled last.held
 
 -- the outcome of what was printed, handed back as it is: nothing was made
@@ -140,29 +140,29 @@ pub record MeetsLimit (replica : Replica) (draft : List ℕ) (why : Refusal) : T
   pub lacks : LacksRoom replica (revision_cost replica.held.history ps) fault
   pub changes : arranged_parts replica.held.history ≢ ps
 
--- What a draft gives. There are many ways from what is shown to the draft: this one came to that course.
-abbrev pub DraftGives : (base draft : List ℕ) → (course : Finding Outcome) → Replica → Finding Outcome → Type 0
-DraftGives base draft course replica (Refuses why) =
+-- What a draft gives. There are many ways from what is shown to the draft: this one came to that finding.
+abbrev pub DraftGives : (base draft : List ℕ) → (finding : Finding Outcome) → Replica → Finding Outcome → Type 0
+DraftGives base draft finding replica (Refuses why) =
     (draft_refusal replica base draft ≡ Some why)
-    ⊎ ((draft_refusal replica base draft ≡ None) × (course ≡ Refuses why) × MeetsLimit replica draft why)
-DraftGives base draft course replica (Does outcome) =
-    (draft_refusal replica base draft ≡ None) × (course ≡ Does outcome)
+    ⊎ ((draft_refusal replica base draft ≡ None) × (finding ≡ Refuses why) × MeetsLimit replica draft why)
+DraftGives base draft finding replica (Does outcome) =
+    (draft_refusal replica base draft ≡ None) × (finding ≡ Does outcome)
     × (IsHandedBack replica draft outcome ⊎ Revises replica draft outcome)
 
--- the file, where it is told, has these bytes
+-- the file, where it is specified, has these bytes
 abbrev pub HasBytes : DiskView → List ℕ → Type 0
 HasBytes disk bytes = IfSome disk.past (λ h. h.last.seen ≡ bytes)
 
 -- a revision gives what the base, a file, and the draft, from the input, ask for
-abbrev pub RevisionGives : DiskView → SourceView → (course : Finding Outcome) → Replica → Finding Outcome → Type 0
-RevisionGives guest input course replica found =
-    (base : List ℕ) × HasBytes guest base × (draft : List ℕ) × IsLeftScript input draft × DraftGives base draft course replica found
+abbrev pub RevisionGives : DiskView → SourceView → (finding : Finding Outcome) → Replica → Finding Outcome → Type 0
+RevisionGives guest input finding replica found =
+    (base : List ℕ) × HasBytes guest base × (draft : List ℕ) × IsLeftScript input draft × DraftGives base draft finding replica found
 
 -- a base and a draft, as what gives the operations
-abbrev pub revision : Change DiskView → Change SourceView → (course : Finding Outcome) → Giver
-revision guest input course = record {
-  Gives = RevisionGives guest.old input.old course;
-  Told = IsSpecified guest.old × ((bytes : List ℕ) × (input.old.left ≡ Some bytes));
+abbrev pub revision : Change DiskView → Change SourceView → (finding : Finding Outcome) → OpsSource
+revision guest input finding = record {
+  Gives = RevisionGives guest.old input.old finding;
+  Specified = IsSpecified guest.old × ((bytes : List ℕ) × (input.old.left ≡ Some bytes));
   Failed = Faulted guest.old.faults guest.new.faults ⊎ Faulted input.old.faults input.new.faults;
   Sure = ((room : RoomView) × (guest.old.room ≡ Some room)) × (input.old.sure ≡ true);
 }

@@ -16,7 +16,7 @@ use Rattle.replica_core.specs.declared.keeping.FeedFault.TheVariants as feed_fau
 use Rattle.replica_file.specs.declared.load_file.End.{End}
 use Rattle.version_views.specs.Fronts.{replica_at}
 use Rattle.command_kinds.specs.Findings.{Finding, Refuses, Does}
-use Rattle.command_kinds.specs.Saving.{Giver, Outcome}
+use Rattle.command_kinds.specs.Saving.{OpsSource, Outcome}
 use Rattle.command_kinds.specs.Changes.{Change, IsSpecified}
 use Rattle.command_kinds.specs.Files.{FileHolds}
 use Rattle.command_kinds.specs.Take.{IsOneTooMany}
@@ -42,13 +42,13 @@ moment_refusal n replica =
     (if made_since n replica then Some (refusal.OwnSince n) else None)
 
 -- a limit tells how many operations the whole holds
-abbrev pub told_of_whole : Replica → Refusal → Refusal
-told_of_whole replica (refusal.TooMany held) = refusal.TooMany (held_count replica)
-told_of_whole replica why = why
+abbrev pub refusal_of_whole : Replica → Refusal → Refusal
+refusal_of_whole replica (refusal.TooMany held) = refusal.TooMany (held_count replica)
+refusal_of_whole replica why = why
 
 -- the home file holds a replica that takes no draft of this moment
 pub record RefusesMoment (n : ℕ) (home : DiskView) : Type 0 where
-  pub told : IsSpecified home
+  pub specified : IsSpecified home
   pub replica : Replica
   pub end : End
   pub holds : FileHolds home replica end
@@ -74,7 +74,7 @@ pub record ComesAfterAccepted (old : Held) (made : List Op) (new : Held) : Type 
 -- what comes in the whole of what a draft gives to the replica as it was: what it makes is saved as it is, and taken in
 -- behind all that the whole holds, if there is room for it
 abbrev pub ComesInWhole : Replica → (given found : Finding Outcome) → Type 0
-ComesInWhole replica (Refuses why) found = found ≡ Refuses (told_of_whole replica why)
+ComesInWhole replica (Refuses why) found = found ≡ Refuses (refusal_of_whole replica why)
 ComesInWhole replica (Does outcome) (Does whole) =
     MeetsNoLimit replica.hold replica.most replica.held outcome.saved
     × (whole ≡ record outcome { held = held_from replica.hold replica.most replica.held outcome.saved })
@@ -82,19 +82,19 @@ ComesInWhole replica (Does outcome) (Does whole) =
 ComesInWhole replica (Does outcome) (Refuses why) = (why ≡ refusal.TooMany (held_count replica)) × IsOneTooMany replica outcome.saved
 
 -- a revision since a moment gives what the replica as it was then gave, taken in by the whole
-abbrev pub GivesSince : (moment : Option Refusal) → ℕ → DiskView → SourceView → (course : Finding Outcome) → Replica → Finding Outcome
+abbrev pub GivesSince : (moment : Option Refusal) → ℕ → DiskView → SourceView → (finding : Finding Outcome) → Replica → Finding Outcome
     → Type 0
-GivesSince (Some why) n guest input course replica found = found ≡ Refuses why
-GivesSince None n guest input course replica found =
-    (given : Finding Outcome) × RevisionGives guest input course (replica_at n replica) given × ComesInWhole replica given found
+GivesSince (Some why) n guest input finding replica found = found ≡ Refuses why
+GivesSince None n guest input finding replica found =
+    (given : Finding Outcome) × RevisionGives guest input finding (replica_at n replica) given × ComesInWhole replica given found
 
 -- what such a draft gives: what it gives to the replica as it was, in the whole
-abbrev pub SinceGives : ℕ → DiskView → SourceView → (course : Finding Outcome) → Replica → Finding Outcome → Type 0
-SinceGives n guest input course replica found = GivesSince (moment_refusal n replica) n guest input course replica found
+abbrev pub SinceGives : ℕ → DiskView → SourceView → (finding : Finding Outcome) → Replica → Finding Outcome → Type 0
+SinceGives n guest input finding replica found = GivesSince (moment_refusal n replica) n guest input finding replica found
 
 -- it reads the same objects as a draft of what is shown now
-abbrev pub revision_since : ℕ → Change DiskView → Change SourceView → (course : Finding Outcome) → Giver
-revision_since n guest input course = record (revision guest input course) { Gives = SinceGives n guest.old input.old course }
+abbrev pub revision_since : ℕ → Change DiskView → Change SourceView → (finding : Finding Outcome) → OpsSource
+revision_since n guest input finding = record (revision guest input finding) { Gives = SinceGives n guest.old input.old finding }
 
 -- what is noted of a revision
 abbrev pub noted_revision : Result Revised Refusal → Result Note Refusal
@@ -122,4 +122,4 @@ BringsRevision old new past (Ok revised) (Ok brought) =
     (brought ≡ revised) × (new ≡ past) × MeetsNoLimit old.hold old.most old.held (made_last past revised)
 BringsRevision old new past (Ok revised) (Err why) = FindsNoRoom why old (made_last past revised)
 BringsRevision old new past (Err why) (Ok brought) = ⊥
-BringsRevision old new past (Err why) (Err told) = told ≡ told_of_whole old why
+BringsRevision old new past (Err why) (Err specified) = specified ≡ refusal_of_whole old why

@@ -1,32 +1,32 @@
 -- What `run` does for each command, and without one.
 use Rattle.std.specs.Prelude.{◌≡◌, ◌-◌, ℕ, List, Option, Some, None}
-use Rattle.manuscript_cli.specs.Arrange.{arrange_tells, move_on, retitle_on}
+use Rattle.manuscript_cli.specs.Arrange.{arrange_reports, move_on, retitle_on}
 use Rattle.command_kinds.specs.Findings.{Finding}
-use Rattle.manuscript_cli.specs.Listing.{list_tells}
-use Rattle.manuscript_cli.specs.Margins.{comment_on, comments_tells}
-use Rattle.manuscript_cli.specs.NamedVersions.{version_on, versions_tells, view_tells}
+use Rattle.manuscript_cli.specs.Listing.{list_reports}
+use Rattle.manuscript_cli.specs.Margins.{comment_on, comments_reports}
+use Rattle.manuscript_cli.specs.NamedVersions.{version_on, versions_reports, view_reports}
 use Rattle.manuscript_cli.specs.Alone.{WritesAlone, about_text}
 use Rattle.bulk_world.specs.Summary.{bulk_text}
-use Rattle.manuscript_cli.specs.Changed.{authors_tells, changes_tells}
+use Rattle.manuscript_cli.specs.Changed.{authors_reports, changes_reports}
 use Rattle.manuscript_cli.specs.Check.{ChecksText}
 use Rattle.manuscript_cli.specs.Command.{last_word, third_word}
 use Rattle.command_kinds.specs.New.{Creates}
-use Rattle.manuscript_cli.specs.Moments.{TellsMoments}
-use Rattle.manuscript_cli.specs.Past.{past_tells}
+use Rattle.manuscript_cli.specs.Moments.{ReportsMoments}
+use Rattle.manuscript_cli.specs.Past.{past_reports}
 use Rattle.command_kinds.specs.Printing.{NotesBlameless}
 use Rattle.command_kinds.specs.Refusal.{refusal_line, Reported}
 use Rattle.manuscript_cli.specs.Relay.{DockBlameless, Relays}
-use Rattle.command_kinds.specs.Report.{Reports, Telling, print_tells, send_tells}
+use Rattle.command_kinds.specs.Report.{Reports, ReportText, print_reports, send_reports}
 use Rattle.manuscript_cli.specs.Savers.{RunsSaving, Saver, edit_saver, merge_saver, note_saver, revise_saver, revise_since_saver}
 use Rattle.manuscript_cli.specs.Savers.{sync_saver, take_saver}
 use Rattle.command_kinds.specs.Saving.{Outcome}
 use Rattle.command_kinds.specs.Show.{Shows}
 use Rattle.command_kinds.specs.Changes.{DiskBlameless, OutBlameless, SourceBlameless, WireBlameless, change}
 use Rattle.manuscript_cli.specs.Remark.{remark_on}
-use Rattle.manuscript_cli.specs.Remarks.{remarks_tells, withdraw_on}
+use Rattle.manuscript_cli.specs.Remarks.{remarks_reports, withdraw_on}
 use Rattle.manuscript_cli.specs.Touched.{Touched}
 use Rattle.passage_remarks.specs.Spelling.{passage_of}
-use Rattle.manuscript_cli.specs.Why.{why_tells}
+use Rattle.manuscript_cli.specs.Why.{why_reports}
 use Rattle.manuscript_cli.specs.declared.command.Command.{Command}
 use Rattle.manuscript_cli.specs.declared.command.Command.TheVariants.{Show, New, Edit, Print, Take, Send, Merge, Relay, Sync, Bulk, Why}
 use Rattle.manuscript_cli.specs.declared.command.Command.TheVariants.{Check, Move, Retitle, Arrange, Authors, Changes, Past, Moments}
@@ -53,7 +53,7 @@ pub record RunsNew (replica hold : ℕ) (old new : Touched) (end : Status) : Typ
   pub does : Creates replica hold (change old.home new.home) (change old.streams.notes new.streams.notes) end
 
 -- a command that reports uses the file, the output, and the notes
-pub record RunsReport (tells : Telling) (old new : Touched) (end : Status) : Type 0 where
+pub record RunsReport (tells : ReportText) (old new : Touched) (end : Status) : Type 0 where
   pub others : new ≡ record old { streams = record old.streams { output = new.streams.output; notes = new.streams.notes }; home = new.home }
   pub does : Reports tells (change old.home new.home) (change old.streams.output new.streams.output)
       (change old.streams.notes new.streams.notes) end
@@ -78,7 +78,7 @@ pub record RunsCheck (old new : Touched) (end : Status) : Type 0 where
 -- `moments` uses the file, the output, and the notes
 pub record RunsMoments (old new : Touched) (end : Status) : Type 0 where
   pub others : new ≡ record old { streams = record old.streams { output = new.streams.output; notes = new.streams.notes }; home = new.home }
-  pub does : TellsMoments (change old.home new.home) (change old.streams.output new.streams.output)
+  pub does : ReportsMoments (change old.home new.home) (change old.streams.output new.streams.output)
       (change old.streams.notes new.streams.notes) end
 
 -- the commands, by what they promise
@@ -89,7 +89,7 @@ pub data Family : Type 1 where
   Saving : (Touched → Touched → Saver) → Family
   -- one that saves, and may come to its end in several ways
   Choosing : (Finding Outcome → Touched → Touched → Saver) → Family
-  Reporting : (tells : Telling) → Family
+  Reporting : (tells : ReportText) → Family
   Serving : (port sessions : ℕ) → Family
   Alone : (text : List ℕ) → Family
   Checking : Family
@@ -102,33 +102,33 @@ family words None = NoCommand
 family words (Some (Show hold)) = Showing hold
 family words (Some (New replica hold)) = Making replica hold
 family words (Some Edit) = Saving edit_saver
-family words (Some Print) = Reporting print_tells
+family words (Some Print) = Reporting print_reports
 family words (Some Take) = Saving take_saver
-family words (Some Send) = Reporting send_tells
+family words (Some Send) = Reporting send_reports
 family words (Some Merge) = Saving merge_saver
 family words (Some (Relay port sessions)) = Serving port sessions
 family words (Some (Sync port cursor)) = Saving (sync_saver port cursor)
 family words (Some (Bulk seed count)) = Alone (bulk_text seed count)
-family words (Some (Why k p q)) = Reporting (why_tells (k - 1) p q)
+family words (Some (Why k p q)) = Reporting (why_reports (k - 1) p q)
 family words (Some Check) = Checking
 family words (Some (Move k j)) = Saving (note_saver (move_on k j))
 family words (Some (Retitle k)) = Saving (note_saver (retitle_on k (last_word words)))
-family words (Some Arrange) = Reporting arrange_tells
-family words (Some Authors) = Reporting authors_tells
-family words (Some (Changes n)) = Reporting (changes_tells n)
-family words (Some (Past n)) = Reporting (past_tells n)
+family words (Some Arrange) = Reporting arrange_reports
+family words (Some Authors) = Reporting authors_reports
+family words (Some (Changes n)) = Reporting (changes_reports n)
+family words (Some (Past n)) = Reporting (past_reports n)
 family words (Some Moments) = TellingMoments
 family words (Some Revise) = Choosing revise_saver
 family words (Some (ReviseSince n)) = Choosing (revise_since_saver n)
-family words (Some ListCommand) = Reporting list_tells
+family words (Some ListCommand) = Reporting list_reports
 family words (Some (Comment k p n)) = Saving (note_saver (comment_on k p n (last_word words)))
-family words (Some Comments) = Reporting comments_tells
-family words (Some Remarks) = Reporting remarks_tells
+family words (Some Comments) = Reporting comments_reports
+family words (Some Remarks) = Reporting remarks_reports
 family words (Some (Withdraw n)) = Saving (note_saver (withdraw_on n))
 family words (Some Remark) = Saving (note_saver (remark_on (passage_of (third_word words)) (last_word words)))
 family words (Some Version) = Saving (note_saver (version_on (last_word words)))
-family words (Some Versions) = Reporting versions_tells
-family words (Some View) = Reporting (view_tells (last_word words))
+family words (Some Versions) = Reporting versions_reports
+family words (Some View) = Reporting (view_reports (last_word words))
 family words (Some About) = Alone about_text
 
 -- a command of the family did what it should with the objects that it uses, and left the others as they were
@@ -137,7 +137,7 @@ MeetsAs NoCommand old new end = UsageMeets old new end
 MeetsAs (Showing hold) old new end = RunsShow hold old new end
 MeetsAs (Making replica hold) old new end = RunsNew replica hold old new end
 MeetsAs (Saving saver) old new end = RunsSaving (saver old new) old new end
-MeetsAs (Choosing saver) old new end = (course : Finding Outcome) × RunsSaving (saver course old new) old new end
+MeetsAs (Choosing saver) old new end = (finding : Finding Outcome) × RunsSaving (saver finding old new) old new end
 MeetsAs (Reporting tells) old new end = RunsReport tells old new end
 MeetsAs (Serving port sessions) old new end = RunsRelay port sessions old new end
 MeetsAs (Alone text) old new end = RunsAlone text old new end
@@ -148,7 +148,7 @@ MeetsAs TellingMoments old new end = RunsMoments old new end
 abbrev pub Meets : List (List ℕ) → Option Command → Touched → Touched → Status → Type 0
 Meets words command = MeetsAs (family words command)
 
--- No object that tells counts a fault that is not told: its count rises with an outside fault alone, or for a refusal
+-- No object that is specified counts a fault that is not reported: its count rises with an outside fault alone, or for a refusal
 -- that the notes did not take.
 pub record IsBlameless (old new : Touched) (end : Status) : Type 0 where
   pub input : SourceBlameless (change old.streams.input new.streams.input) end

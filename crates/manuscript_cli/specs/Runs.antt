@@ -17,9 +17,10 @@ use Rattle.command_kinds.specs.declared.status.Status.TheVariants.{Done}
 
 -- what a command gave to be saved in its home file: but for one that saves, nothing
 abbrev pub GaveAs : Family → Touched → Touched → Status → List Op → Type 0
-GaveAs (Saving saver) old new end ops = GaveOutcome (saver old new).giver old.home end ops
+GaveAs (Saving saver) old new end ops = GaveOutcome (saver old new).ops_source old.home end ops
 GaveAs (Choosing saver) old new end ops =
-    (course : Finding Outcome) × RunsSaving (saver course old new) old new end × GaveOutcome (saver course old new).giver old.home end ops
+    (finding : Finding Outcome) × RunsSaving (saver finding old new) old new end
+    × GaveOutcome (saver finding old new).ops_source old.home end ops
 GaveAs _ old new end ops = ops ≡ []
 
 -- the operations that the run of a command gave to be saved

@@ -7,7 +7,7 @@ use Rattle.origin_model.specs.declared.operations.Place.TheVariants.{Catalogue a
 use Rattle.order_proof.specs.Certificates.{Certificate, Claims, IsValid}
 use Rattle.order_proof.specs.Texts.{proof_text}
 use Rattle.command_kinds.specs.Findings.{Refuses, Does}
-use Rattle.command_kinds.specs.Report.{Telling}
+use Rattle.command_kinds.specs.Report.{ReportText}
 use Rattle.command_kinds.specs.declared.refusal.Refusal.TheVariants.{NoSuchPlaces}
 
 -- the element of the scalar with p shown ones before it, in the section with k shown ones before it
@@ -28,7 +28,7 @@ pub record IsWhy (history : List Op) (x y : Identifier) (bytes : List ℕ) : Typ
   pub text_is : bytes ≡ proof_text proof
 
 -- what `why` tells of the scalars at p and at q of a section: the certificate of their elements, or that there are none in this order
-abbrev pub why_tells : (k p q : ℕ) → Telling
-why_tells k p q replica (Does bytes) =
+abbrev pub why_reports : (k p q : ℕ) → ReportText
+why_reports k p q replica (Does bytes) =
     (x : Identifier) × (y : Identifier) × HasPlaces replica.held.history k p q x y × IsWhy replica.held.history x y bytes
-why_tells k p q replica (Refuses why) = (why ≡ NoSuchPlaces) × ((x y : Identifier) → ¬ (HasPlaces replica.held.history k p q x y))
+why_reports k p q replica (Refuses why) = (why ≡ NoSuchPlaces) × ((x y : Identifier) → ¬ (HasPlaces replica.held.history k p q x y))

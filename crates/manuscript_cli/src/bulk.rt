@@ -1,3 +1,4 @@
+//! The command `bulk`: generates a large manuscript from a seed and prints its summary.
 ghost use Rattle.bulk_world.specs.Summary.{bulk_text};
 ghost use Rattle.manuscript_cli.specs.Alone.{WritesAlone};
 ghost use Rattle.command_kinds.specs.TextOut.{GoesOut};
@@ -8,7 +9,7 @@ use command_kinds::{Refusal, Status, ended, gone_out};
 use outer_ports::Sink;
 use std::alloc::Global;
 
-/// Makes the manuscript that a seed leads to in so many turns, and writes what is told of it.
+/// Makes the manuscript that a seed leads to in so many turns, and writes what is reported of it.
 pub(crate) fn bulk<O: Sink, N: Sink>(
     alloc: Global,
     seed: u32,

@@ -2,11 +2,11 @@
 ghost use Rattle.change_marks.specs.Changes.{IsLater, changes_text};
 ghost use Rattle.command_kinds.specs.Changes.{change};
 ghost use Rattle.command_kinds.specs.TextOut.{GoesOut};
-ghost use Rattle.manuscript_cli.specs.Changed.{authors_tells, changes_tells};
+ghost use Rattle.manuscript_cli.specs.Changed.{authors_reports, changes_reports};
 
 use catalogue_notes::ArrangeFault;
 use change_marks::{write_authors, write_changes};
-use command_kinds::{Refusal, Report, Told, gone_out};
+use command_kinds::{Refusal, Report, ReportResult, gone_out};
 use fugue_ids::Failed;
 use outer_ports::Sink;
 use replica_core::Replica;
@@ -20,22 +20,27 @@ pub(crate) struct Changes {
 }
 
 impl Report for Changes {
-    ghost Tells = { λ what. changes_tells what.count };
+    ghost Tells = { λ what. changes_reports what.count };
 
-    fn write<O: Sink>(&self, alloc: Global, replica: &Replica, output: &mut O) -> Told {
+    fn write<O: Sink>(&self, alloc: Global, replica: &Replica, output: &mut O) -> ReportResult {
         let Some(then) = front(alloc, replica, self.count as usize)? else {
             return Err(Refusal::NoMoment(self.count));
         };
-        let told = put_changes(alloc, &then, replica, output);
+        let reported = put_changes(alloc, &then, replica, output);
         then.discard();
-        told
+        reported
     }
 
     fn laws(&self) {}
 }
 
 /// Writes what changed since the replica was the other one.
-fn put_changes<O: Sink>(alloc: Global, then: &Replica, now: &Replica, output: &mut O) -> Told
+fn put_changes<O: Sink>(
+    alloc: Global,
+    then: &Replica,
+    now: &Replica,
+    output: &mut O,
+) -> ReportResult
     requires { IsLater then.now.held.history now.now.held.history }
     ensures { GoesOut (changes_text then.now.held.history now.now.held.history)
         (change (O.seen output.old) (O.seen output.new)) result }
@@ -51,9 +56,9 @@ fn put_changes<O: Sink>(alloc: Global, then: &Replica, now: &Replica, output: &m
 pub(crate) struct Authors;
 
 impl Report for Authors {
-    ghost Tells = { λ what. authors_tells };
+    ghost Tells = { λ what. authors_reports };
 
-    fn write<O: Sink>(&self, alloc: Global, replica: &Replica, output: &mut O) -> Told {
+    fn write<O: Sink>(&self, alloc: Global, replica: &Replica, output: &mut O) -> ReportResult {
         match write_authors(alloc, replica, output) {
             Ok(()) => gone_out(Ok(())),
             Err(ArrangeFault::SinkFault) => gone_out(Err(Failed)),

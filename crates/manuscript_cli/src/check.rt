@@ -3,12 +3,12 @@ ghost use Rattle.std.specs.Prelude.{◌≡◌, ◌↔◌, ◌≤◌, ◌⊎◌, 
 ghost use Rattle.std.specs.Prelude.{IfErr, IfOk, IsErrOf, OnOk};
 ghost use Rattle.outer_ports.specs.Sources.{KeepsCount};
 ghost use Rattle.order_proof.specs.Readings.{IsValidText};
-ghost use Rattle.manuscript_cli.specs.Check.{ChecksHeld, ChecksText, GetsPiece, HasNoInputText, IsTextRead, check_tells};
+ghost use Rattle.manuscript_cli.specs.Check.{ChecksHeld, ChecksText, GetsPiece, HasNoInputText, IsTextRead, check_reports};
 ghost use Rattle.command_kinds.specs.Changes.{change};
 ghost use Rattle.command_kinds.specs.declared.refusal.Refusal.TheVariants.{Outside, NoMemory as NoMemoryFound};
 
 use crate::held::Held;
-use command_kinds::{Refusal, Report, Status, Told, gone_out, tell, write_held};
+use command_kinds::{Refusal, Report, ReportResult, Status, gone_out, tell, write_held};
 use fugue_ids::{BUFFER, MOST_OPERATIONS, NoMemory, write_whole};
 use order_proof::check_text;
 use outer_ports::{Disk, Sink, Source};
@@ -70,9 +70,9 @@ struct Verdict {
 }
 
 impl Report for Verdict {
-    ghost Tells = { λ what. check_tells what.text.items };
+    ghost Tells = { λ what. check_reports what.text.items };
 
-    fn write<O: Sink>(&self, alloc: Global, replica: &Replica, output: &mut O) -> Told {
+    fn write<O: Sink>(&self, alloc: Global, replica: &Replica, output: &mut O) -> ReportResult {
         let valid = is_valid(alloc, replica, &self.text)?;
         gone_out(write_whole(output, answer(valid)))
     }
@@ -129,7 +129,7 @@ fn read_piece<S: Source>(text: &mut Vec<u8>, source: &mut S) -> Result<usize, Re
 }
 
 /// Puts bytes behind a text.
-pub(crate) fn append(text: &mut Vec<u8>, bytes: &[u8]) -> Result<(), NoMemory>
+fn append(text: &mut Vec<u8>, bytes: &[u8]) -> Result<(), NoMemory>
     ensures { OnOk result (text.new.items ≡ text.old.items ++ bytes.now) }
 {
     text.extend_from_slice(bytes)?;

@@ -1,3 +1,4 @@
+//! `Command`: the commands with their numeric arguments, and the files that each of them opens and for what.
 ghost use Rattle.std.specs.Prelude.{◌≡◌, map, string_bytes};
 ghost use Rattle.std.specs.Option.{option_copied};
 ghost use Rattle.manuscript_cli.specs.Command.{guest_word, home_word, opening_for};

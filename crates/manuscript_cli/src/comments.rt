@@ -1,10 +1,10 @@
 //! The commands `comment` and `comments`: a comment is made, and all comments are printed with where they stand.
 ghost use Rattle.std.specs.Prelude.{◌≡◌, IfSome, true};
 ghost use Rattle.margin_notes.specs.Comments.{is_text as is_text_of};
-ghost use Rattle.manuscript_cli.specs.Margins.{comment_on, comment_refused, comments_tells};
+ghost use Rattle.manuscript_cli.specs.Margins.{comment_on, comment_refused, comments_reports};
 
 use crate::number::index_of;
-use command_kinds::{MakesNote, Refusal, Report, Told, gone_out};
+use command_kinds::{MakesNote, Refusal, Report, ReportResult, gone_out};
 use fugue_ids::{Body, Failed};
 use margin_notes::{CommentFault, MarginFault, comment, is_text, write_comments};
 use outer_ports::Sink;
@@ -71,9 +71,9 @@ fn refusal_of(fault: CommentFault, section: u32) -> Refusal
 pub(crate) struct Comments;
 
 impl Report for Comments {
-    ghost Tells = { λ what. comments_tells };
+    ghost Tells = { λ what. comments_reports };
 
-    fn write<O: Sink>(&self, alloc: Global, replica: &Replica, output: &mut O) -> Told {
+    fn write<O: Sink>(&self, alloc: Global, replica: &Replica, output: &mut O) -> ReportResult {
         match write_comments(alloc, replica, output) {
             Ok(()) => gone_out(Ok(())),
             Err(MarginFault::SinkFault) => gone_out(Err(Failed)),

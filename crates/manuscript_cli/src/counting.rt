@@ -1,3 +1,4 @@
+//! The number of extended grapheme clusters of a text.
 ghost use Rattle.std.specs.Prelude.{◌≡◌, length};
 ghost use Rattle.cluster_text.specs.Clusters.{clusters};
 

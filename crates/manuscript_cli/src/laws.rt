@@ -68,12 +68,12 @@ pub fn past_stays()
 {}
 
 /// What `moments` prints of a file, added up, is what the file has: the last moment is the number of operations that are
-/// accepted, and each of these is told of once.
+/// accepted, and each of these is reported once.
 pub fn moments_tell_file()
     ensures { MomentsTellFile }
 {}
 
-/// A draft with more sections and letters than a replica may hold operations is one that none shows: no way leads to it.
+/// No replica shows a draft with more sections and letters than a replica may hold operations.
 pub fn replicas_show_no_more()
     ensures { ShowsNoMore }
 {}

@@ -17,7 +17,6 @@ mod moments;
 mod moving;
 mod number;
 mod past;
-mod plain_file;
 mod relay;
 mod remark;
 mod remarks;

@@ -7,7 +7,7 @@ ghost use Rattle.origin_model.specs.edits.State.{IsSound};
 ghost use Rattle.catalogue_notes.specs.Outlining.{IsEntry, IsOutline, entry_sections};
 ghost use Rattle.catalogue_notes.specs.declared.entry.Entry.{Entry as AnyEntry};
 ghost use Rattle.manuscript_cli.specs.Listing.{cluster_count as clusters_in, counted_from, counted_line, entry_line};
-ghost use Rattle.manuscript_cli.specs.Listing.{list_tells, list_text, replica_line};
+ghost use Rattle.manuscript_cli.specs.Listing.{list_reports, list_text, replica_line};
 
 use crate::counting::cluster_count;
 use catalogue_notes::{Entry, outline};
@@ -22,7 +22,7 @@ use std::alloc::Global;
 pub(crate) struct Contents;
 
 impl Report for Contents {
-    ghost Tells = { λ what. list_tells };
+    ghost Tells = { λ what. list_reports };
 
     fn write<O: Sink>(
         &self,
@@ -165,7 +165,7 @@ fn write_list<O: Out>(
 ) -> Result<(), Failed>
     requires outline { IsOutline replica.now.held.history entries.now }
     requires counts { counts.now ≡ counted_from replica.now.held.history 0 (entry_sections entries.now) }
-    requires stands { IsSound replica.now }
+    requires sound { IsSound replica.now }
     ensures { WritesBytes (O.seen output.old) (O.seen output.new) result (list_text replica.now) }
 {
     let mut gather = Gather::new();

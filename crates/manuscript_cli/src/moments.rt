@@ -1,9 +1,9 @@
 //! The command `moments`: what came when.
 ghost use Rattle.command_kinds.specs.Changes.{change};
-ghost use Rattle.manuscript_cli.specs.Moments.{TellsMoments, moments_tells};
+ghost use Rattle.manuscript_cli.specs.Moments.{ReportsMoments, moments_reports};
 
 use batch_moments::moments_text;
-use command_kinds::{Refusal, Report, Status, Told, gone_out, tell, write_held};
+use command_kinds::{Refusal, Report, ReportResult, Status, gone_out, tell, write_held};
 use fugue_ids::{MOST_OPERATIONS, write_whole};
 use outer_ports::{Disk, Sink};
 use replica_core::Replica;
@@ -17,7 +17,7 @@ pub(crate) fn write_moments<O: Sink, N: Sink, H: Disk>(
     output: &mut O,
     notes: &mut N,
 ) -> Status
-    ensures { TellsMoments (change (H.seen home.old) (H.seen home.new))
+    ensures { ReportsMoments (change (H.seen home.old) (H.seen home.new))
         (change (O.seen output.old) (O.seen output.new)) (change (N.seen notes.old) (N.seen notes.new)) result }
 {
     match load_moments(alloc, home, MOST_OPERATIONS) {
@@ -39,9 +39,9 @@ struct Moments {
 }
 
 impl Report for Moments {
-    ghost Tells = { λ what. moments_tells what.moments.items };
+    ghost Tells = { λ what. moments_reports what.moments.items };
 
-    fn write<O: Sink>(&self, alloc: Global, replica: &Replica, output: &mut O) -> Told {
+    fn write<O: Sink>(&self, alloc: Global, replica: &Replica, output: &mut O) -> ReportResult {
         let text = moments_text(alloc, &self.moments, replica.accepted())?;
         gone_out(write_whole(output, text.as_slice()))
     }

@@ -38,7 +38,7 @@ impl<'a> MakesNote for Retitle<'a> {
     ghost note_on = { λ what. retitle_on what.section what.title.now };
 
     fn make(&self, alloc: Global, replica: &mut Replica) -> Result<(), Refusal> {
-        // The word was read as a title's text, so memory alone can be wanting.
+        // The word was already accepted as a title, so this fails only without memory.
         let Ok(title) = Title::read(alloc, self.title) else {
             return Err(Refusal::NoMemory);
         };

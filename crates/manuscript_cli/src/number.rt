@@ -1,3 +1,4 @@
+//! Numbers on the command line: parsed within bounds, and turned from 1-based into 0-based indices.
 ghost use Rattle.std.specs.Prelude.{◌≡◌, ◌-◌, ℕ, Some, IfSome};
 ghost use Rattle.manuscript_cli.specs.Number.{IsNumber};
 

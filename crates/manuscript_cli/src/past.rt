@@ -1,8 +1,8 @@
 //! The command `past`: a file's manuscript as it was.
-ghost use Rattle.manuscript_cli.specs.Past.{past_tells};
+ghost use Rattle.manuscript_cli.specs.Past.{past_reports};
 
 use crate::arrange::put_arrangement;
-use command_kinds::{Refusal, Report, Told};
+use command_kinds::{Refusal, Report, ReportResult};
 use outer_ports::Sink;
 use replica_core::Replica;
 use std::alloc::Global;
@@ -15,15 +15,15 @@ pub(crate) struct Past {
 }
 
 impl Report for Past {
-    ghost Tells = { λ what. past_tells what.count };
+    ghost Tells = { λ what. past_reports what.count };
 
-    fn write<O: Sink>(&self, alloc: Global, replica: &Replica, output: &mut O) -> Told {
+    fn write<O: Sink>(&self, alloc: Global, replica: &Replica, output: &mut O) -> ReportResult {
         let Some(past) = front(alloc, replica, self.count as usize)? else {
             return Err(Refusal::NoMoment(self.count));
         };
-        let told = put_arrangement(alloc, &past, output);
+        let reported = put_arrangement(alloc, &past, output);
         past.discard();
-        told
+        reported
     }
 
     fn laws(&self) {}

@@ -1,3 +1,4 @@
+//! The command `relay`: listens on a port, serves some sessions, and reports the length of the log.
 ghost use Rattle.std.specs.Prelude.{◌≡◌, ◌≤◌, length};
 ghost use Rattle.fugue_ids.specs.Outs.{WritesBytes};
 ghost use Rattle.origin_model.specs.relay.Relay.{new_relay};
@@ -50,7 +51,7 @@ fn served<O: Sink, D: Dock, B: BuildHasher + Drop>(
     ensures counts_no_fault { CountsNoFault (length ready_line) (O.seen output.old) (O.seen output.new) }
     ensures dock { NeverBlamed sessions (change (O.seen output.old) (O.seen output.new))
         (change (D.seen dock.old) (D.seen dock.new)) result }
-    ensures told { RiseOutside (change (O.seen output.old) (O.seen output.new))
+    ensures reported { RiseOutside (change (O.seen output.old) (O.seen output.new))
         (change (D.seen dock.old) (D.seen dock.new)) result }
 {
     let mut relay = Relay::new(alloc, hasher, MOST_LOGGED);
@@ -69,7 +70,7 @@ fn serve_by<O: Sink, D: Dock, B: BuildHasher + Drop>(
     relay: &mut Relay<B>,
 ) -> Result<u32, Refusal>
     requires { relay.old ≡ new_relay most_logged }
-    ensures told { RiseOutside (change (O.seen output.old) (O.seen output.new))
+    ensures reported { RiseOutside (change (O.seen output.old) (O.seen output.new))
         (change (D.seen dock.old) (D.seen dock.new)) result }
     ensures dock { NeverBlamed sessions (change (O.seen output.old) (O.seen output.new))
         (change (D.seen dock.old) (D.seen dock.new)) result }
@@ -89,7 +90,7 @@ fn open<O: Sink, D: Dock>(port: u16, output: &mut O, dock: &mut D) -> Result<(),
     ensures meets { OpeningMeets port (change (O.seen output.old) (O.seen output.new))
         (change (D.seen dock.old) (D.seen dock.new)) result }
     ensures counts_no_fault { CountsNoFault (length ready_line) (O.seen output.old) (O.seen output.new) }
-    ensures told { RiseOutside (change (O.seen output.old) (O.seen output.new))
+    ensures reported { RiseOutside (change (O.seen output.old) (O.seen output.new))
         (change (D.seen dock.old) (D.seen dock.new)) result }
 {
     let Ok(()) = dock.listen(port) else {

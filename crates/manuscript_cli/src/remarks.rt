@@ -1,12 +1,14 @@
 //! The commands `remarks` and `withdraw`: comments as a reader comes to them, and one of them is withdrawn.
 ghost use Rattle.std.specs.Prelude.{◌≡◌};
 ghost use Rattle.command_kinds.specs.Changes.{change};
-ghost use Rattle.command_kinds.specs.Notes.{note_giver};
+ghost use Rattle.command_kinds.specs.Notes.{note_source};
 ghost use Rattle.command_kinds.specs.Saving.{SavesGiven};
-ghost use Rattle.manuscript_cli.specs.Remarks.{remarks_tells, withdraw_on, withdraw_refused};
+ghost use Rattle.manuscript_cli.specs.Remarks.{remarks_reports, withdraw_on, withdraw_refused};
 
 use catalogue_notes::ArrangeFault;
-use command_kinds::{Gives, Kept, Note, Refusal, Report, Status, Told, gone_out, save_given};
+use command_kinds::{
+    Gives, Kept, Note, Refusal, Report, ReportResult, Status, gone_out, save_given,
+};
 use fugue_ids::Failed;
 use outer_ports::{Disk, Sink};
 use passage_remarks::{WithdrawFault, withdraw, write_remarks};
@@ -17,9 +19,9 @@ use std::alloc::Global;
 pub(crate) struct Remarks;
 
 impl Report for Remarks {
-    ghost Tells = { λ what. remarks_tells };
+    ghost Tells = { λ what. remarks_reports };
 
-    fn write<O: Sink>(&self, alloc: Global, replica: &Replica, output: &mut O) -> Told {
+    fn write<O: Sink>(&self, alloc: Global, replica: &Replica, output: &mut O) -> ReportResult {
         match write_remarks(alloc, replica, output) {
             Ok(()) => gone_out(Ok(())),
             Err(ArrangeFault::SinkFault) => gone_out(Err(Failed)),
@@ -37,7 +39,7 @@ struct Withdrawal {
 }
 
 impl Gives<()> for Withdrawal {
-    ghost giver = { λ what home before after course. note_giver (withdraw_on what.number) };
+    ghost ops_source = { λ what home before after finding. note_source (withdraw_on what.number) };
 
     ghost Leaves = { λ what home before after end. Unit {0} };
 
@@ -75,7 +77,7 @@ pub(crate) fn withdraw_remark<H: Disk, N: Sink>(
     home: &mut H,
     notes: &mut N,
 ) -> Status
-    ensures { SavesGiven (note_giver (withdraw_on number)) (change (H.seen home.old) (H.seen home.new))
+    ensures { SavesGiven (note_source (withdraw_on number)) (change (H.seen home.old) (H.seen home.new))
         (change (N.seen notes.old) (N.seen notes.new)) result }
 {
     save_given(alloc, &Withdrawal { number }, &mut (), home, notes)

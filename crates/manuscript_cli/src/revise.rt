@@ -21,7 +21,6 @@ ghost use Rattle.command_kinds.specs.declared.refusal.Refusal.TheVariants.{Outsi
 
 use crate::check::read_text;
 use crate::draft_size;
-use crate::plain_file::read_start;
 use crate::section_counts::section_counts;
 use catalogue_notes::{MoveFault, write_arranged};
 use command_kinds::{Gives, Kept, Note, Refusal, SectionCounts, Status, save_given};
@@ -30,6 +29,7 @@ use fugue_ids::{BUFFER, NoMemory};
 use origin_model::EditFault;
 use outer_ports::{Disk, MemSink, Sink, Source};
 use replica_core::Replica;
+use replica_file::read_piece;
 use std::alloc::Global;
 
 /// The draft on the input.
@@ -43,9 +43,9 @@ pub(crate) struct DraftSources<'a, G, S> {
 }
 
 impl<'a, G: Disk, S: Source> Gives<DraftSources<'a, G, S>> for Revision {
-    ghost giver = { λ what home before after course. revision
+    ghost ops_source = { λ what home before after finding. revision
         (change (G.seen before.base.now) (G.seen after.base.now))
-        (change (S.seen before.draft.now) (S.seen after.draft.now)) course };
+        (change (S.seen before.draft.now) (S.seen after.draft.now)) finding };
 
     // The references stay the same.
     ghost Leaves = { λ what home before after end.
@@ -77,9 +77,9 @@ pub(crate) fn revise_file<S: Source, N: Sink, H: Disk, G: Disk>(
     base: &mut G,
     notes: &mut N,
 ) -> Status
-    ensures saves { (course : Finding Outcome)
+    ensures saves { (finding : Finding Outcome)
         × SavesGiven (revision (change (G.seen base.old) (G.seen base.new)) (change (S.seen input.old) (S.seen input.new))
-        course) (change (H.seen home.old) (H.seen home.new)) (change (N.seen notes.old) (N.seen notes.new)) result }
+        finding) (change (H.seen home.old) (H.seen home.new)) (change (N.seen notes.old) (N.seen notes.new)) result }
     ensures looks { LooksAtBase (change (G.seen base.old) (G.seen base.new)) result }
     ensures reads { ReadsInput (S.seen input.old) (S.seen input.new) result }
     ensures unused { IsSpecified (H.seen home.old) → (why : AnyRefusal) → FileRefuses (H.seen home.old) why
@@ -117,14 +117,14 @@ pub(crate) fn revise_by<G: Disk, S: Source>(
     replica: &mut Replica,
 ) -> Result<Revised, Refusal>
     requires ready { CanTake replica.old }
-    ensures gives { (kept : Option (List Op)) → (course : Finding Outcome)
+    ensures gives { (kept : Option (List Op)) → (finding : Finding Outcome)
         × GivesTo (revision (change (G.seen base.old) (G.seen base.new)) (change (S.seen draft.old) (S.seen draft.new))
-        course) replica.old replica.new kept (noted_revision result) }
+        finding) replica.old replica.new kept (noted_revision result) }
     ensures looks { (end : AnyStatus) → MayEnd (noted_revision result) end
         → LooksAtBase (change (G.seen base.old) (G.seen base.new)) end }
     ensures reads { (end : AnyStatus) → MayEnd (noted_revision result) end
         → ReadsInput (S.seen draft.old) (S.seen draft.new) end }
-    ensures stands { OnOk result (IsSound replica.new) }
+    ensures sound { OnOk result (IsSound replica.new) }
 {
     let shown = check_base(alloc, replica, base)?;
     let text = read_text(alloc, draft)?;
@@ -159,7 +159,7 @@ fn check_base<G: Disk>(alloc: Global, replica: &Replica, base: &mut G) -> Result
 {
     let text = shown_text(alloc, replica)?;
     let shown = text.written();
-    let bytes = read_start(alloc, base, shown.len() + 1)?;
+    let bytes = read_piece(alloc, base, 0, shown.len() + 1)?;
     if let Some(at) = first_difference(shown, &bytes) {
         return Err(Refusal::BaseDiffers(at as u64));
     }
@@ -175,7 +175,7 @@ fn is_same(shown: &[u8], text: &[u8]) -> bool
 /// Whether the draft has nothing, and sections are shown.
 fn drops_all(replica: &Replica, draft: &Draft<'_>) -> bool
     ensures drops { result ≡ empties replica.now.held.history draft.now }
-    ensures stands { IsSound replica.now }
+    ensures sound { IsSound replica.now }
 {
     let shown = replica.section_count();
     draft.parts().is_empty() && shown > 0

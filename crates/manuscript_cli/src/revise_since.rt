@@ -14,7 +14,7 @@ ghost use Rattle.command_kinds.specs.declared.refusal.Refusal.{Refusal as AnyRef
 ghost use Rattle.command_kinds.specs.declared.refusal.Refusal.TheVariants.{NoMemory as NoMemoryFound};
 ghost use Rattle.manuscript_cli.specs.Revising.{LooksAtBase};
 ghost use Rattle.manuscript_cli.specs.RevisingSince.{BringsRevision, FindsNoRoom, HasNoPlaceFor, MomentDecidesAlone, moment_refusal};
-ghost use Rattle.manuscript_cli.specs.RevisingSince.{revision_since, same_next, told_of_whole as told_of};
+ghost use Rattle.manuscript_cli.specs.RevisingSince.{revision_since, same_next, refusal_of_whole as reported_of};
 
 use crate::revise::{DraftSources, Revised, revise_by, too_many};
 use command_kinds::{Gives, Kept, Note, Refusal, Status, last_of, save_given};
@@ -33,9 +33,9 @@ struct RevisionSince {
 }
 
 impl<'a, G: Disk, S: Source> Gives<DraftSources<'a, G, S>> for RevisionSince {
-    ghost giver = { λ what home before after course. revision_since what.count
+    ghost ops_source = { λ what home before after finding. revision_since what.count
         (change (G.seen before.base.now) (G.seen after.base.now))
-        (change (S.seen before.draft.now) (S.seen after.draft.now)) course };
+        (change (S.seen before.draft.now) (S.seen after.draft.now)) finding };
 
     // The references stay the same.
     ghost Leaves = { λ what home before after end.
@@ -73,9 +73,9 @@ pub(crate) fn revise_file_since<S: Source, N: Sink, H: Disk, G: Disk>(
     base: &mut G,
     notes: &mut N,
 ) -> Status
-    ensures saves { (course : Finding Outcome)
+    ensures saves { (finding : Finding Outcome)
         × SavesGiven (revision_since count (change (G.seen base.old) (G.seen base.new))
-        (change (S.seen input.old) (S.seen input.new)) course)
+        (change (S.seen input.old) (S.seen input.new)) finding)
         (change (H.seen home.old) (H.seen home.new)) (change (N.seen notes.old) (N.seen notes.new)) result }
     ensures looks { LooksAtBase (change (G.seen base.old) (G.seen base.new)) result }
     ensures reads { ReadsInput (S.seen input.old) (S.seen input.new) result }
@@ -149,14 +149,14 @@ fn bring(
         }
         Err(why) => {
             past.discard();
-            Err(told_of_whole(replica, why))
+            Err(refusal_of_whole(replica, why))
         }
     }
 }
 
-/// A refusal as it is told of the whole.
-fn told_of_whole(replica: &Replica, why: Refusal) -> Refusal
-    ensures { result ≡ told_of replica.now why }
+/// A refusal as it is reported of the whole.
+fn refusal_of_whole(replica: &Replica, why: Refusal) -> Refusal
+    ensures { result ≡ reported_of replica.now why }
 {
     match why {
         Refusal::TooMany(_) => too_many(replica),
@@ -178,7 +178,7 @@ fn take_made(alloc: Global, replica: &mut Replica, ops: OpSlice<'_>) -> Result<(
     }
 }
 
-/// The same, where one that finds no place is told by the replica.
+/// The same, where one that finds no place is reported by the replica.
 fn take_all(alloc: Global, replica: &mut Replica, ops: OpSlice<'_>) -> Result<(), FeedFault>
     requires settled { IsSettled replica.old.held }
     ensures ok { OnOk result (MeetsNoLimit replica.old.hold replica.old.most replica.old.held ops.entry) }

@@ -1,3 +1,4 @@
+//! `run`: parses the command line and runs that command on the given streams, disks and connections.
 ghost use Rattle.std.specs.Prelude.{◌≡◌, ◌≢◌, ◌↔◌, ℕ, Option, Some, map, string_bytes};
 ghost use Rattle.origin_model.specs.order.Printed.{manuscript};
 ghost use Rattle.catalogue_notes.specs.Arranged.{arranged_text};
@@ -72,7 +73,7 @@ pub fn run<S: Source, O: Sink, N: Sink, H: Disk, G: Disk, W: Wire, D: Dock, B: B
         (all_objects (S.seen input.new) (O.seen output.new) (N.seen notes.new) (H.seen home.new) (G.seen guest.new)
         (W.seen wire.new) (D.seen dock.new)) result }
 
-    // Where an object tells, a count of faults that rises is told by an outside fault.
+    // Where an object is specified, a count of faults that rises is reported as an outside fault.
     ensures blameless { IsBlameless
         (all_objects (S.seen input.old) (O.seen output.old) (N.seen notes.old) (H.seen home.old) (G.seen guest.old)
         (W.seen wire.old) (D.seen dock.old))

@@ -1,11 +1,11 @@
 //! The commands `version`, `versions` and `view`: what a file said gets a name, and is printed by it.
 ghost use Rattle.std.specs.Prelude.{◌≡◌, ◌⊎◌, IfSome, true};
 ghost use Rattle.version_views.specs.Versions.{is_name as is_name_of};
-ghost use Rattle.manuscript_cli.specs.NamedVersions.{version_on, version_refused, versions_tells, view_tells};
+ghost use Rattle.manuscript_cli.specs.NamedVersions.{version_on, version_refused, versions_reports, view_reports};
 ghost use Rattle.command_kinds.specs.Refusal.{kept_name};
 ghost use Rattle.command_kinds.specs.declared.refusal.Refusal.TheVariants.{NoMemory as NoMemoryFound, NoVersion};
 
-use command_kinds::{MakesNote, Refusal, Report, Told, VersionName, gone_out};
+use command_kinds::{MakesNote, Refusal, Report, ReportResult, VersionName, gone_out};
 use fugue_ids::{Body, Failed};
 use outer_ports::Sink;
 use replica_core::Replica;
@@ -59,9 +59,9 @@ fn refusal_of(fault: VersionFault) -> Refusal
 pub(crate) struct Versions;
 
 impl Report for Versions {
-    ghost Tells = { λ what. versions_tells };
+    ghost Tells = { λ what. versions_reports };
 
-    fn write<O: Sink>(&self, _alloc: Global, replica: &Replica, output: &mut O) -> Told {
+    fn write<O: Sink>(&self, _alloc: Global, replica: &Replica, output: &mut O) -> ReportResult {
         gone_out(write_versions(replica, output))
     }
 
@@ -75,9 +75,9 @@ pub(crate) struct View<'a> {
 }
 
 impl<'a> Report for View<'a> {
-    ghost Tells = { λ what. view_tells what.name.now };
+    ghost Tells = { λ what. view_reports what.name.now };
 
-    fn write<O: Sink>(&self, alloc: Global, replica: &Replica, output: &mut O) -> Told {
+    fn write<O: Sink>(&self, alloc: Global, replica: &Replica, output: &mut O) -> ReportResult {
         let Some(count) = find_version(replica, self.name) else {
             return Err(none_named(self.name));
         };

@@ -2,10 +2,10 @@
 ghost use Rattle.std.specs.Prelude.{IfOk, IfSome, IsNone};
 ghost use Rattle.fugue_ids.specs.Identifiers.{Identifier};
 ghost use Rattle.order_proof.specs.Certificates.{Claims, IsValid};
-ghost use Rattle.manuscript_cli.specs.Why.{HasPlaces, why_tells};
+ghost use Rattle.manuscript_cli.specs.Why.{HasPlaces, why_reports};
 
 use crate::held::Held;
-use command_kinds::{Refusal, Report, Told, gone_out};
+use command_kinds::{Refusal, Report, ReportResult, gone_out};
 use fugue_ids::{ElementId, NoMemory};
 use order_proof::{Proof, prove, write_proof};
 use outer_ports::Sink;
@@ -53,9 +53,9 @@ impl Why {
 }
 
 impl Report for Why {
-    ghost Tells = { λ what. why_tells what.section what.first what.second };
+    ghost Tells = { λ what. why_reports what.section what.first what.second };
 
-    fn write<O: Sink>(&self, alloc: Global, replica: &Replica, output: &mut O) -> Told {
+    fn write<O: Sink>(&self, alloc: Global, replica: &Replica, output: &mut O) -> ReportResult {
         let Some((x, y)) = self.elements(replica) else {
             return Err(Refusal::NoSuchPlaces);
         };

@@ -1,3 +1,4 @@
+//! The parser of the command line: which words are a command, its arguments, and its file names.
 ghost use Rattle.std.specs.Prelude.{◌≡◌, ◌↔◌, ◌∷◌, List, [], ℕ, IfSome, IsTrue, Some, codes, map, string_bytes};
 ghost use Rattle.std.specs.Option.{option_copied};
 ghost use Rattle.manuscript_cli.specs.Command.{HasFiles, IsCommand, IsLineWord, NamesFile, NamesMoment, NamesNamed};
@@ -25,10 +26,10 @@ const GREATEST_SEED: u32 = u32::MAX;
 /// The greatest place in a relay's log.
 const GREATEST_CURSOR: u32 = u32::MAX;
 
-/// The greatest number of a section, and the greatest place in it.
+/// The greatest number of a section, of a place, or of characters.
 const GREATEST_PLACE: u32 = u32::MAX;
 
-/// The greatest number of operations after which a file is looked at.
+/// The greatest moment: a number of accepted operations.
 const GREATEST_MOMENT: u32 = u32::MAX;
 
 /// The greatest number of a remark.
@@ -96,7 +97,7 @@ fn read_show(rest: &[String]) -> Option<Command>
     }
 }
 
-/// Whether the words are a file.
+/// Whether the words are one file name.
 fn is_file(rest: &[String]) -> bool
     ensures { (name : List ℕ) → IsTrue result ↔ NamesFile name (name ∷ map string_bytes rest.now) }
 {
@@ -106,7 +107,7 @@ fn is_file(rest: &[String]) -> bool
     }
 }
 
-/// Whether the words are two files.
+/// Whether the words are two file names.
 fn are_files(rest: &[String]) -> bool
     ensures { (name : List ℕ) → IsTrue result ↔ NamesTwo name (name ∷ map string_bytes rest.now) }
 {

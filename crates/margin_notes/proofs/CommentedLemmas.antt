@@ -196,7 +196,7 @@ module _ (h : List Op) (id s a b : Identifier) (body : List ℕ) (i j : ℕ) (go
     member = contains_here (Note id (a ∷ b ∷ []) COMMENT_CODE body) h;
     says = ap (λ t. if t then Some made else None) good;
     in_section = λ t. (is_text_in whole s a (shown_in (within s) whole i a w at_a) t && is_text_in whole s b (shown_in (within s) whole j b w at_b) t) && anchors_ordered t;
-    stands = not_hidden_before h id w.1 (when_ready h (Note id (a ∷ b ∷ []) COMMENT_CODE body) w.0).fresh;
+    not_withdrawn = not_hidden_before h id w.1 (when_ready h (Note id (a ∷ b ∷ []) COMMENT_CODE body) w.0).fresh;
   })
 
   pub made_begins : (margin_span whole s a b).from ≡ i
@@ -211,7 +211,7 @@ module _ (h : List Op) (id s a b : Identifier) (body : List ℕ) (i j : ℕ) (go
 pub stands_on : (old new : State) (k at n count : ℕ) (body : List ℕ) (named : List Identifier) → is_text body ≡ true → NamesPassage old k at n named
     → IsNoted old new named COMMENT_CODE body count
     → ShowsAsBefore old new → IsSound new → IsCommented old new k at n body
-stands_on old new k at n count body named good p noted shows stands =
+stands_on old new k at n count body named good p noted shows sound =
     let q = p.passage in
     let s : Identifier = p.section in
     let r : ℕ × ℕ = range_of old.held.history s at n in
@@ -220,7 +220,7 @@ stands_on old new k at n count body named good p noted shows stands =
     noted.gained.others ∙ ap (λ ns. with_ops old (note_by old ns COMMENT_CODE body ∷ [])) p.named_are in
     let whole : List Op = Note id (p.first ∷ p.last ∷ []) COMMENT_CODE body ∷ old.held.history in
     let h : new.held.history ≡ whole = ap (λ (t : State). t.held.history) is in
-    let w : Lawful whole = subst Lawful h stands.lawful in
+    let w : Lawful whole = subst Lawful h sound.lawful in
     let same : shown (within s) old.held.history ≡ shown (within s) whole = sym (shows.lists (within s)) ∙ ap (shown (within s)) h in
     let at_a : slice_get (shown (within s) whole) r.0 ≡ Some p.first = ap (λ xs. slice_get xs r.0) (sym same) ∙ q.first_is in
     let at_b : slice_get (shown (within s) whole) (r.0 + r.1 - 1) ≡ Some p.last = ap (λ xs. slice_get xs (r.0 + r.1 - 1)) (sym same) ∙ q.last_is in

@@ -70,9 +70,9 @@ module _ (h : List Op) (op : Op) (a : Anchors) (read : Some a ≡ option_map anc
   withdrawn_none k = sym (by_comment ∙ ap (λ b. if b then None else placed_in_section h found.0) (ap (is_withdrawn h) (sym same_id) ∙ k))
 
   -- it is not withdrawn
-  module _ (stands : is_withdrawn h a.id ≡ false) where
+  module _ (not_withdrawn : is_withdrawn h a.id ≡ false) where
     by_section : placed_in h op ≡ placed_in_section h found.0
-    by_section = by_comment ∙ ap (λ b. if b then None else placed_in_section h found.0) (ap (is_withdrawn h) (sym same_id) ∙ stands)
+    by_section = by_comment ∙ ap (λ b. if b then None else placed_in_section h found.0) (ap (is_withdrawn h) (sym same_id) ∙ not_withdrawn)
 
     pub section_missing : ((c : Comment) → a ≡ anchors_of c → None ≡ commented_section h c) → None ≡ placed_in h op
     section_missing f = sym (by_section ∙ ap (option_map (placed_comment h found.0)) (sym (f found.0 found.2)))

@@ -45,7 +45,7 @@ spans : (on_it written ≡ spans_are 1 4) × (on_it moved ≡ spans_are 3 5) × 
 unfolding order before chain
 spans = (refl, refl, refl)
 
--- the comment, as it is told
+-- the comment, as it is printed
 abbrev check : Comment
 check = record { id = id 1 6; first = id 1 2; last = id 1 4; text = codes "check" }
 

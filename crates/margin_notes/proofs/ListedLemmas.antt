@@ -136,7 +136,7 @@ module _ (h : List Op) where
     pub section : Identifier
     pub comment : Comment
     pub says : comment_in op ≡ Some comment
-    pub stands : is_withdrawn h comment.id ≡ false
+    pub not_withdrawn : is_withdrawn h comment.id ≡ false
     pub at : commented_section h comment ≡ Some section
     pub number_is : section_number h section ≡ Some l.number
     pub line_is : l ≡ line_of_comment h l.number section comment
@@ -146,16 +146,25 @@ module _ (h : List Op) where
     where
       by_number : (c : Comment) (s : Identifier) (o : Option ℕ) → comment_in op ≡ Some c → is_withdrawn h c.id ≡ false → commented_section h c ≡ Some s → section_number h s ≡ o
           → option_map (λ k. line_of_comment h k s c) o ≡ Some l → IsListed op l
-      by_number c s None says stands at number is = cc
-      by_number c s (Some k) says stands at number is =
+      by_number c s None says not_withdrawn at number is = cc
+      by_number c s (Some k) says not_withdrawn at number is =
           let line : line_of_comment h k s c ≡ l = cc in
           let n : k ≡ l.number = ap (λ (x : CommentLine). x.number) line in
-          record { section = s; comment = c; says = says; stands = stands; at = at; number_is = number ∙ ap Some n; line_is = sym line ∙ ap (λ i. line_of_comment h i s c) n }
+          record {
+            section = s;
+            comment = c;
+            says = says;
+            not_withdrawn = not_withdrawn;
+            at = at;
+            number_is = number ∙ ap Some n;
+            line_is = sym line
+                ∙ ap (λ i. line_of_comment h i s c) n;
+          }
 
       by_section : (c : Comment) (o : Option Identifier) → comment_in op ≡ Some c → is_withdrawn h c.id ≡ false → commented_section h c ≡ o
           → (elim o [ None ↦ None | Some s ↦ option_map (λ k. line_of_comment h k s c) (section_number h s) ]) ≡ Some l → IsListed op l
-      by_section c None says stands at is = cc
-      by_section c (Some s) says stands at is = by_number c s (section_number h s) says stands at refl is
+      by_section c None says not_withdrawn at is = cc
+      by_section c (Some s) says not_withdrawn at is = by_number c s (section_number h s) says not_withdrawn at refl is
 
       by : (o : Option Comment) → comment_in op ≡ o → (elim o [ None ↦ None | Some c ↦ if is_withdrawn h c.id then None else line_for h c ]) ≡ Some l → IsListed op l
       by None says is = cc
@@ -172,7 +181,8 @@ module _ (h : List Op) where
         section = i.section;
         comment = i.comment;
         number_is = i.number_is;
-        listed = to_comments h i.section i.comment (record { op = op; member = m; says = i.says; in_section = section_is h i.comment i.section i.at; stands = i.stands });
+        listed = to_comments h i.section i.comment
+            (record { op = op; member = m; says = i.says; in_section = section_is h i.comment i.section i.at; not_withdrawn = i.not_withdrawn });
         line_is = i.line_is;
       }
 
@@ -193,7 +203,7 @@ module _ (h : List Op) where
       let i = from_comments h s c m in
       said_in (listed_line h) h i.op (line_of_comment h n s c) i.member
       (ap (λ o. elim o [ None ↦ None | Some d ↦ if is_withdrawn h d.id then None else line_for h d ]) i.says
-      ∙ ap (λ b. if b then None else line_for h c) i.stands
+      ∙ ap (λ b. if b then None else line_for h c) i.not_withdrawn
       ∙ ap (λ o. elim o [ None ↦ None | Some t ↦ option_map (λ k. line_of_comment h k t c) (section_number h t) ]) (has_section h c s i.in_section)
       ∙ ap (option_map (λ k. line_of_comment h k s c)) number)
 

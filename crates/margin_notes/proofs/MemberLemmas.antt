@@ -64,18 +64,18 @@ pub record IsCommentOf (h : List Op) (s : Identifier) (c : Comment) : Type 0 whe
   pub member : Contains h op
   pub says : comment_in op ≡ Some c
   pub in_section : is_in_section h s c ≡ true
-  pub stands : is_withdrawn h c.id ≡ false
+  pub not_withdrawn : is_withdrawn h c.id ≡ false
 
 pub from_comments : (h : List Op) (s : Identifier) (c : Comment) → Contains (comments_in h s) c → IsCommentOf h s c
 from_comments h s c m =
     let k = contains_filter_from (counts h s) (comments h) c m in
     let f = said_from comment_in h c k.0 in
     let b = both_parts (is_in_section h s c) (not (is_withdrawn h c.id)) k.1 in
-    record { op = f.0; member = f.1; says = f.2; in_section = b.0; stands = not-true (is_withdrawn h c.id) b.1 }
+    record { op = f.0; member = f.1; says = f.2; in_section = b.0; not_withdrawn = not-true (is_withdrawn h c.id) b.1 }
 
 pub to_comments : (h : List Op) (s : Identifier) (c : Comment) → IsCommentOf h s c → Contains (comments_in h s) c
 to_comments h s c i =
-    contains_filter (counts h s) (comments h) c (said_in comment_in h i.op c i.member i.says) (λ j. i.in_section j && not (i.stands j))
+    contains_filter (counts h s) (comments h) c (said_in comment_in h i.op c i.member i.says) (λ j. i.in_section j && not (i.not_withdrawn j))
 
 -- the section of a comment is that of its anchors
 pub section_is : (h : List Op) (c : Comment) (s : Identifier) → commented_section h c ≡ Some s → is_in_section h s c ≡ true

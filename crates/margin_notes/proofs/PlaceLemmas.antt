@@ -70,8 +70,8 @@ pub few_sections : (m : Contents) (h : List Op) (x : Identifier) → Represents 
 few_sections m h x s = omega (arith, few_before m.catalogue.cells x, places_bounded m h (Section x None None []) s)
 
 pub few_texts : (m : Contents) (h : List Op) (s x : Identifier) (l : Listing) → Represents m h → Some l ≡ text_at m s → shown_before l.cells x ≤ length h
-few_texts m h s x l stands is =
-    let bound : listed_count (text_at m s) ≤ length h = places_bounded m h (Text x s None None 0) stands in
+few_texts m h s x l represents is =
+    let bound : listed_count (text_at m s) ≤ length h = places_bounded m h (Text x s None None 0) represents in
     let here : listed_count (Some l) ≤ length h = subst (λ o. listed_count o ≤ length h) (sym is) bound in
     omega (arith, few_before l.cells x, here)
 

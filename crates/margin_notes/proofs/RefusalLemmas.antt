@@ -40,7 +40,7 @@ refuses_range s k at n NoMemory e = wants s k at n
 refuses_range s k at n (IdsSpent c) e = absurd e
 refuses_range s k at n (TooMany c) e = absurd e
 
--- and the section is not shown exactly where that is told
+-- and the section is not shown exactly where that is specified
 some_there : (o : Option Identifier) (x : Identifier) → o ≡ Some x → o ≢ None
 some_there o x e d = let no : Some x ≡ None = sym e ∙ d in cc
 

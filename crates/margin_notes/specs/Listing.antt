@@ -35,7 +35,7 @@ commented_section h c = elim (text_section (holder h c.first)) [ None ↦ None |
 -- a manuscript of no more operations than there may be
 pub record HasFew (m : Contents) : Type 0 where
   pub history : List Op
-  pub stands : Represents m history
+  pub represents : Represents m history
   pub few : length history ≤ MOST_OPERATIONS
 
 -- the number of a section among some, of which the first has the number k

@@ -59,7 +59,7 @@ fn find_range(
 ) -> Result<(usize, usize), CommentFault>
     ensures found { IfOk result (IsRange replica.now section at n) }
     ensures none { IfErr result (HasNoRange replica.now section at n) }
-    ensures stands { IsSound replica.now }
+    ensures sound { IsSound replica.now }
 {
     let Some(text) = replica.text_of(section)? else {
         return Err(CommentFault::NoSection);
@@ -80,7 +80,7 @@ fn find_names(replica: &Replica, section: usize, at: u32, n: u32) -> Result<Note
     requires { 0 < n }
     ensures found { IfOk result (λ names. NamesPassage replica.now section at n names) }
     ensures none { IfErr result (HasNoRange replica.now section at n) }
-    ensures stands { IsSound replica.now }
+    ensures sound { IsSound replica.now }
 {
     let (start, count) = find_range(replica, section, at, n)?;
     let first = scalar_at(replica, section, start);
@@ -108,7 +108,7 @@ pub fn comment(
     ensures shown { ShowsAsBefore replica.old replica.new }
     ensures unmade { OnErr result (replica.new ≡ replica.old) }
     ensures settled { IsSettled replica.new.held }
-    ensures stands { IsSound replica.new }
+    ensures sound { IsSound replica.new }
 {
     let names = find_names(replica, section, at, n)?;
     match replica.note(names, COMMENT_CODE, body) {

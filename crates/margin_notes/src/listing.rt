@@ -55,7 +55,7 @@ fn entry_at(replica: &Replica, at: usize) -> Option<Entry>
 fn entries_of(alloc: Global, replica: &Replica) -> Result<Vec<Entry>, NoMemory>
     ensures entries { IfOk result (λ entries. map (line_of_entry (reverse replica.now.held.history)) entries.items
         ≡ lines_in replica.now.held.history (reverse replica.now.held.history)) }
-    ensures stands { IsSound replica.now }
+    ensures sound { IsSound replica.now }
 {
     let mut entries = Vec::new(alloc);
     'walk: for at in replica.sections_and_notes() {
@@ -70,7 +70,7 @@ fn entries_of(alloc: Global, replica: &Replica) -> Result<Vec<Entry>, NoMemory>
 pub(crate) fn listed_entries(alloc: Global, replica: &Replica) -> Result<Vec<Entry>, NoMemory>
     ensures entries { IfOk result (λ entries. map (line_of_entry (reverse replica.now.held.history)) entries.items
         ≡ listed_comments replica.now.held.history) }
-    ensures stands { IsSound replica.now }
+    ensures sound { IsSound replica.now }
 {
     let mut entries = entries_of(alloc, replica)?;
     entries.sort_unstable();

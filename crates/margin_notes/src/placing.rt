@@ -141,7 +141,7 @@ pub(crate) fn place_at(replica: &Replica, at: usize) -> Option<CommentPlace>
 pub fn comment_places(alloc: Global, replica: &Replica) -> Result<Vec<CommentPlace>, NoMemory>
     ensures places { IfOk result (λ places. map (comment_placed (reverse replica.now.held.history)) places.items
         ≡ placed_comments replica.now.held.history) }
-    ensures stands { IsSound replica.now }
+    ensures sound { IsSound replica.now }
 {
     let mut places = Vec::new(alloc);
     'walk: for at in replica.sections_and_notes() {

@@ -81,7 +81,7 @@ fn write_lines<O: Out>(output: &mut O, replica: &Replica, entries: &[Entry]) -> 
     gather.flush(output)
 }
 
-fn told(written: Result<(), Failed>) -> Result<(), MarginFault>
+fn or_sink_fault(written: Result<(), Failed>) -> Result<(), MarginFault>
     ensures { (old new : OutView) (text : List ℕ) → WritesBytes old new written text → WritesMargins old new result text }
 {
     match written {
@@ -99,8 +99,8 @@ pub fn write_comments<O: Sink>(
     output: &mut O,
 ) -> Result<(), MarginFault>
     ensures text { WritesMargins (O.seen output.old) (O.seen output.new) result (margins replica.now.held.history) }
-    ensures stands { IsSound replica.now }
+    ensures sound { IsSound replica.now }
 {
     let entries = listed_entries(alloc, replica)?;
-    told(write_lines(output, replica, entries.as_slice()))
+    or_sink_fault(write_lines(output, replica, entries.as_slice()))
 }

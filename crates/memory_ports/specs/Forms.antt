@@ -1,4 +1,4 @@
--- A source whose calls fail where they are told to and a sink with fixed room, as contracts see them, and what a call does to each.
+-- A source whose calls fail where they are set to and a sink with fixed room, as contracts see them, and what a call does to each.
 use Rattle.std.specs.Prelude.{◌≡◌, ◌↔◌, ℕ, ◌-◌, ◌<◌, min, List, ◌++◌, length, take, drop, Result, IsErr, IfOk, OnErr}
 use Rattle.outer_ports.specs.Calls.{CallsView, FailsNext, call_passed, call_failed, risen}
 

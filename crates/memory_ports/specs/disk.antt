@@ -1,4 +1,4 @@
--- What is said of disks in memory.
+-- Specifications of disks in memory.
 pub mod Kept
 pub mod Picks
 pub mod Forms

@@ -1,4 +1,4 @@
--- What is said of docks in memory.
+-- Specifications of docks in memory.
 pub mod Arrivals
 pub mod Transcripts
 pub mod Forms

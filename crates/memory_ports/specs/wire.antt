@@ -1,2 +1,2 @@
--- What is said of wires in memory.
+-- Specifications of wires in memory.
 pub mod Forms

@@ -1,3 +1,4 @@
+//! Files in memory that can crash: one that can be set to fail, one whose I/O calls never allocate.
 mod kept;
 mod mem_disk;
 mod reaching;

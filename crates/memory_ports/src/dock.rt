@@ -1,3 +1,4 @@
+//! Listeners in memory: one that can be set to fail, one whose I/O calls never allocate.
 mod arrivals;
 mod mem_dock;
 mod sure_dock;

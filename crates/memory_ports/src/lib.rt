@@ -1,4 +1,4 @@
-//! Sources, sinks, disks, wires and docks in memory, in two forms each: one whose calls fail where they are told to, and
+//! Sources, sinks, disks, wires and docks in memory, in two forms each: one whose calls fail where they are set to, and
 //! one that is sure, which fails only for want of room. Tests run the program on them.
 #![tactic(auto)]
 

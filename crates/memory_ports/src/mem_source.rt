@@ -1,3 +1,4 @@
+//! A source that gives bytes from memory in pieces of limited size, and fails at listed calls.
 ghost use Rattle.std.specs.Prelude.{◌≡◌, ◌≤◌, Some, false};
 ghost use Rattle.outer_ports.specs.Sources.{ReadsSome};
 ghost use Rattle.memory_ports.specs.Forms.{MemReads};
@@ -6,7 +7,7 @@ use fugue_ids::Failed;
 use outer_ports::{Calls, Source, SureSource};
 use std::marker::Model;
 
-/// Gives bytes from memory, as much in each call as its piece allows. It fails at the calls that it is told to.
+/// Gives bytes from memory, as much in each call as its piece allows. It fails at the calls that it is set to.
 #[derive(Drop)]
 pub struct MemSource {
     source: SureSource,

@@ -1,3 +1,4 @@
+//! A sink in memory with reserved capacity: writes never allocate, and fail only if it is exceeded.
 ghost use Rattle.std.specs.Prelude.{◌≡◌, ◌≤◌, [], Some, IfOk};
 ghost use Rattle.fugue_ids.specs.Outs.{WritesSome};
 ghost use Rattle.memory_ports.specs.Forms.{SureWrites};

@@ -1,3 +1,4 @@
+//! Connections in memory: one that can be set to fail, one whose I/O calls never allocate.
 mod mem_wire;
 mod sure_wire;
 

@@ -8,7 +8,7 @@ use Rattle.node_rope.specs.declared.store.Store.{Store}
 use Rattle.node_rope.specs.declared.cells.Shape.{Shape}
 use Rattle.node_rope.specs.declared.cells.Link.{Link}
 use Rattle.node_rope.specs.declared.cells.Own.{Own}
-use Rattle.node_rope.specs.Made.{IsKept, IsAlike, IsLess, made_count, shapes_of, values_of}
+use Rattle.node_rope.specs.Made.{KeepsMade, IsAlike, IsLess, made_count, shapes_of, values_of}
 use Rattle.node_rope.specs.Shapes.{AreRanksFit, HasRightLinks, shape_at, nodes_in_order, IsWeighed, IsRanked}
 use Rattle.node_rope.specs.Items.{IsRope, item_at, rope_items_of}
 use Rattle.node_rope.specs.Reweighed.{AreStill, IsStill}
@@ -32,7 +32,7 @@ pub alike : {T : Type 0} (s : Store T) → IsAlike s s
 alike s = record { shapes = refl; values = refl; kept = λ l made. made }
 
 -- a node came and went
-pub unmade-alike : {T : Type 0} (s u v : Store T) (h : Shape) (value w : T) → shapes_of u ≡ shapes_of s ++ h ∷ [] → values_of u ≡ values_of s ++ value ∷ [] → IsKept s u
+pub unmade-alike : {T : Type 0} (s u v : Store T) (h : Shape) (value w : T) → shapes_of u ≡ shapes_of s ++ h ∷ [] → values_of u ≡ values_of s ++ value ∷ [] → KeepsMade s u
     → IsLess u v w → (w ≡ value) × IsAlike s v
 unmade-alike s u v h value w shapes values kept less =
     let p = same-first (shapes_of v) (shapes_of s) less.shape h (sym less.shapes ∙ shapes) in

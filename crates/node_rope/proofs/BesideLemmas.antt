@@ -8,7 +8,7 @@ use Rattle.node_rope.specs.declared.store.Store.{Store}
 use Rattle.node_rope.specs.declared.cells.Shape.{Shape}
 use Rattle.node_rope.specs.declared.cells.Link.{Link}
 use Rattle.node_rope.specs.declared.cells.Own.{Own}
-use Rattle.node_rope.specs.Made.{IsMade, IsKept, made_count, shapes_of, values_of}
+use Rattle.node_rope.specs.Made.{IsMade, KeepsMade, made_count, shapes_of, values_of}
 use Rattle.node_rope.specs.Shapes.{HasRightLinks, shape_at, tree_of, nodes_in_order, IsWeighed, IsRanked, weight_at, least_at}
 use Rattle.node_rope.specs.Walk.{HasCounts}
 use Rattle.node_rope.specs.Sums.{no_rank}
@@ -95,7 +95,7 @@ is-beside Right s u root at l key w so made fits number is =
 module _ {T : Type 0} (d : Side) (s u : Store T) (root : Option Link) (at l : Link) (key : Identifier) (w : Own) (h : Shape) (new : h ≡ new_beside d (shapes_of s) at key w)
     (sound : HasRightLinks s root) (made_at : IsMade s at) (fits : w.rank ≤ no_rank)
     (is : shapes_of u ≡ joined_beside d (shapes_of s) at l h) (number : l.number ≡ made_count s) (made : IsMade u l) (count : made_count u ≡ made_count s + 1)
-    (kept : IsKept s u) where
+    (kept : KeepsMade s u) where
   b : IsBeside d s u at l key w
   b = is-beside d s u root at l key w sound made_at fits number (is ∙ ap (joined_beside d (shapes_of s) at l) new)
 
@@ -108,7 +108,7 @@ module _ {T : Type 0} (d : Side) (s u : Store T) (root : Option Link) (at l : Li
   -- the sums are raised
   module _ (v : Store T) (cv : HasCounts (tree_of (shapes_of v))) (wv : IsWeighed (shapes_of v)) (rv : IsRanked (shapes_of v)) (links : SameLinks (shapes_of u) (shapes_of v))
       (raised : IsRaised (shapes_of u) (shapes_of v) w None)
-      (kept' : IsKept u v) (count' : made_count v ≡ made_count u) where
+      (kept' : KeepsMade u v) (count' : made_count v ≡ made_count u) where
     pub beside-grown : (value : T) → values_of v ≡ values_of s ++ value ∷ [] → IsGrown s v root key w value l
     beside-grown value values = grown s u root at l w sound b.entered kept number made made_at count v cv wv rv links raised kept' count' key value values b.key_here b.own_here
 

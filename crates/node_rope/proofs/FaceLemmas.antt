@@ -12,7 +12,7 @@ use Rattle.node_rope.specs.declared.pile.Spot.{Spot}
 use Rattle.node_rope.specs.Heaps.{Mooring}
 use Rattle.node_rope.specs.Filed.{MooringsLead, IsFiled}
 use Rattle.node_rope.specs.Shaped.{shape_of, node_value}
-use Rattle.node_rope.specs.Made.{IsKept, made_count, shapes_of, values_of}
+use Rattle.node_rope.specs.Made.{KeepsMade, made_count, shapes_of, values_of}
 use Rattle.node_rope.specs.Shapes.{HasRightLinks, shape_at, link_number, tree_of, nodes_in_order, weight_at, least_at}
 use Rattle.node_rope.specs.Walk.{Tree, all_nodes, HasCounts, IsLinked}
 use Rattle.node_rope.specs.Sums.{sum_measure, lesser, IsSummed}
@@ -98,7 +98,7 @@ values-mirrored s = values-flip s.pile.values
 pub record IsFacing {T : Type 0} (s v : Store T) : Type 0 where
   pub at : (i : ℕ) → shape_at (shapes_of v) i ≡ mirrored_shape (shape_at (shapes_of s) i)
   pub count : made_count v ≡ made_count s
-  pub kept : IsKept s v
+  pub kept : KeepsMade s v
 
 pub there : {T : Type 0} (s : Store T) → IsFacing s (mirrored s)
 there s = record { at = λ i. ap (λ hs. shape_at hs i) (shapes-mirrored s) ∙ flip-at (shapes_of s) i; count = length-map s.pile.values flip_node; kept = λ l m. m }

@@ -4,7 +4,7 @@ use Rattle.fugue_ids.specs.Identifiers.{Identifier}
 use Rattle.node_rope.specs.declared.store.Store.{Store}
 use Rattle.node_rope.specs.declared.cells.Link.{Link}
 use Rattle.node_rope.specs.declared.cells.Own.{Own}
-use Rattle.node_rope.specs.Made.{IsMade, IsKept, made_count, shapes_of, values_of}
+use Rattle.node_rope.specs.Made.{IsMade, KeepsMade, made_count, shapes_of, values_of}
 use Rattle.node_rope.specs.Shapes.{HasRightLinks, AreMade, shape_at, link_number, tree_of, nodes_in_order, IsWeighed, IsRanked}
 use Rattle.node_rope.specs.Walk.{count_of, HasCounts, with_node_before, after, mirror}
 use Rattle.node_rope.specs.Joined.{IsJoined}
@@ -37,7 +37,7 @@ are-within s root sound = record {
 
 module _ {T : Type 0} (s u : Store T) (root : Option Link) (at l : Link) (w : Own) (sound : HasRightLinks s root)
     (e : IsEntered (shape_at (shapes_of s)) (shape_at (shapes_of u)) at l w)
-    (kept : IsKept s u) (number : l.number ≡ made_count s) (made_l : IsMade u l) (made_at : IsMade s at) (count : made_count u ≡ made_count s + 1) where
+    (kept : KeepsMade s u) (number : l.number ≡ made_count s) (made_l : IsMade u l) (made_at : IsMade s at) (count : made_count u ≡ made_count s + 1) where
   came-made : (m : Link) → Came (shape_at (shapes_of s)) at l m → IsMade u m
   came-made m (inl f) = subst (λ (k : Link). IsMade u k) (sym f) made_l
   came-made m (inr (inl f)) = subst (λ (k : Link). IsMade u k) (sym f) (kept at made_at)
@@ -71,7 +71,7 @@ module _ {T : Type 0} (s u : Store T) (root : Option Link) (at l : Link) (w : Ow
 
   module _ (v : Store T) (cv : HasCounts (tree_of (shapes_of v))) (wv : IsWeighed (shapes_of v)) (rv : IsRanked (shapes_of v)) (links : SameLinks (shapes_of u) (shapes_of v))
       (raised : IsRaised (shapes_of u) (shapes_of v) w None)
-      (kept' : IsKept u v) (count' : made_count v ≡ made_count u) where
+      (kept' : KeepsMade u v) (count' : made_count v ≡ made_count u) where
     small-count : (i : ℕ) → (shape_at (shapes_of v) i).count ≤ suc (made_count v)
     small-count i =
         let k : (shape_at (shapes_of u) i).count ≤ suc (made_count s) = elim (cases_number i l.number) as (λ _. (shape_at (shapes_of u) i).count ≤ suc (made_count s)) [

@@ -15,7 +15,7 @@ use Rattle.node_rope.specs.declared.cells.Shape.{Shape}
 use Rattle.node_rope.specs.declared.cells.Link.{Link}
 use Rattle.node_rope.specs.declared.cells.Own.{Own}
 use Rattle.node_rope.specs.Shaped.{node_value}
-use Rattle.node_rope.specs.Made.{IsMade, IsKept, made_count, shapes_of, values_of}
+use Rattle.node_rope.specs.Made.{IsMade, KeepsMade, made_count, shapes_of, values_of}
 use Rattle.node_rope.specs.Shapes.{HasRightLinks, shape_at, link_number, tree_of, nodes_in_order}
 use Rattle.node_rope.specs.Walk.{Tree, count_of, all_nodes}
 use Rattle.node_rope.specs.Items.{IsRope, item_at, rope_items_of, value_under}
@@ -233,7 +233,7 @@ got-end (z ∷ xs) y (suc i) x e =
 
 -- one more node, and its key
 pub grown-roped : {T : Type 0} (wt : T → Own) (s v : Store T) (root top : Option Link) (m p : BlockMap Link) (key : Identifier) (w : Own) (value : T) (l : Link)
-    → IsRope wt s root m → IsGrown s v top key w value l → IsKept s v
+    → IsRope wt s root m → IsGrown s v top key w value l → KeepsMade s v
     → made_count s < 4194304 → w.weight < 4194305 → w.rank ≤ no_rank → w ≡ wt value → value_of m key ≡ None → IsReplaced (value_of m) (value_of p) key (Some l) → IsRope wt v top p
 grown-roped wt s v root top m p key w value l r g kept few small fits is none set = record {
   sound = g.sound;

@@ -3,7 +3,7 @@ use Rattle.std.proofs.Common.{◌≡◌, ◌≢◌, ◌⊎◌, inl, inr, ℕ, �
 use Rattle.node_rope.specs.declared.store.Store.{Store}
 use Rattle.node_rope.specs.declared.cells.Shape.{Shape}
 use Rattle.node_rope.specs.declared.cells.Link.{Link}
-use Rattle.node_rope.specs.Made.{IsKept, made_count, shapes_of}
+use Rattle.node_rope.specs.Made.{KeepsMade, made_count, shapes_of}
 use Rattle.node_rope.specs.Shapes.{shape_at, link_number, tree_of, weight_at, weights, least_at}
 use Rattle.node_rope.specs.Sums.{sum_measure, sum_of}
 use Rattle.node_rope.specs.Reweighed.{IsSoundBut, IsOff, AreOff, summed_node, reweighed_node}
@@ -117,7 +117,7 @@ pub record IsShiftedOnce {T : Type 0} (s u : Store T) (root : Option Link) (less
   pub off : AreOff (shapes_of u) less more q
 
 pub shifted-step : {T : Type 0} (s u : Store T) (root : Option Link) (less more : ℕ) (o q : Option Link) (l : Link) → o ≡ Some l → IsSoundBut s root o
-    → AreOff (shapes_of s) less more o → q ≡ (shape_at (shapes_of s) l.number).parent → made_count u ≡ made_count s → IsKept s u
+    → AreOff (shapes_of s) less more o → q ≡ (shape_at (shapes_of s) l.number).parent → made_count u ≡ made_count s → KeepsMade s u
     → shapes_of u ≡ slice_set (shapes_of s) l.number (reweighed_node less more (shape_at (shapes_of s) l.number)) → IsShiftedOnce s u root less more o q
 shifted-step s u root less more o q l is_l b off up count kept is =
     let h = shape_at (shapes_of s) l.number in

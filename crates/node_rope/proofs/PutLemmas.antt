@@ -11,7 +11,7 @@ use Rattle.node_rope.specs.declared.store.Store.{Store}
 use Rattle.node_rope.specs.declared.cells.Shape.{Shape}
 use Rattle.node_rope.specs.declared.cells.Link.{Link}
 use Rattle.node_rope.specs.declared.cells.Own.{Own}
-use Rattle.node_rope.specs.Made.{IsKept, made_count, shapes_of, values_of}
+use Rattle.node_rope.specs.Made.{KeepsMade, made_count, shapes_of, values_of}
 use Rattle.node_rope.specs.Shapes.{HasRightLinks, shape_at, nodes_in_order, IsWeighed, IsRanked}
 use Rattle.node_rope.specs.Sums.{no_rank}
 use Rattle.node_rope.specs.Items.{IsRope, item_at, rope_items_of}
@@ -46,7 +46,7 @@ set-there (z ∷ xs) (suc n) y zero ne = refl
 set-there (z ∷ xs) (suc n) y (suc i) ne = set-there xs n y i (λ e. ne (ap suc e))
 
 module _ {T : Type 0} (s u : Store T) (root : Option Link) (l : Link) (value : T) (sound : HasRightLinks s root) (shapes : shapes_of u ≡ shapes_of s)
-    (values : values_of u ≡ slice_set (values_of s) l.number value) (kept : IsKept s u) where
+    (values : values_of u ≡ slice_set (values_of s) l.number value) (kept : KeepsMade s u) where
   pub valued-count : made_count u ≡ made_count s
   valued-count = sym (length-values u) ∙ ap length values ∙ length-set (values_of s) l.number value ∙ length-values s
 
@@ -64,7 +64,7 @@ module _ {T : Type 0} (wt : T → Own) (s v : Store T) (root : Option Link) (m :
     (at : value_of m key ≡ Some l)
     (sound : HasRightLinks v root) (same : AreStill (shapes_of s) (shapes_of v)) (here : (shape_at (shapes_of v) l.number).own ≡ w)
     (others : (i : ℕ) → i ≢ l.number → (shape_at (shapes_of v) i).own ≡ (shape_at (shapes_of s) i).own)
-    (values : values_of v ≡ slice_set (values_of s) l.number value) (kept : IsKept s v) (small : w.weight < 4194305) (fits : w.rank ≤ no_rank) (is : w ≡ wt value) where
+    (values : values_of v ≡ slice_set (values_of s) l.number value) (kept : KeepsMade s v) (small : w.weight < 4194305) (fits : w.rank ≤ no_rank) (is : w ≡ wt value) where
   put-count : made_count v ≡ made_count s
   put-count = sym (length-values v) ∙ ap length values ∙ length-set (values_of s) l.number value ∙ length-values s
 

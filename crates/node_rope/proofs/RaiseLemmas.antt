@@ -5,7 +5,7 @@ use Rattle.node_rope.specs.declared.store.Store.{Store}
 use Rattle.node_rope.specs.declared.cells.Shape.{Shape}
 use Rattle.node_rope.specs.declared.cells.Link.{Link}
 use Rattle.node_rope.specs.declared.cells.Own.{Own}
-use Rattle.node_rope.specs.Made.{IsMade, IsKept, shapes_of}
+use Rattle.node_rope.specs.Made.{IsMade, KeepsMade, shapes_of}
 use Rattle.node_rope.specs.Shapes.{shape_at, lone_shape, link_number, tree_of, owns, weights, ranks, leasts}
 use Rattle.node_rope.specs.Walk.{Tree, IsLinked}
 use Rattle.node_rope.specs.Sums.{Measure, sum_measure, lesser, sum_of}
@@ -51,7 +51,7 @@ below-along ss us same below i p e =
       | inr f ↦ inr (ap link_number (same p).right ∙ f)
     ]
 
-module _ {T : Type 0} (s u : Store T) (w : Own) (l : Link) (rising : IsRising s w (Some l)) (kept : IsKept s u)
+module _ {T : Type 0} (s u : Store T) (w : Own) (l : Link) (rising : IsRising s w (Some l)) (kept : KeepsMade s u)
     (is : shapes_of u ≡ slice_set (shapes_of s) l.number (more w (shape_at (shapes_of s) l.number))) where
   abbrev ss : List Shape
   ss = shapes_of s
@@ -149,7 +149,7 @@ pub record IsRaisedOnce {T : Type 0} (s u : Store T) (w : Own) (o q : Option Lin
   pub raised : (ss₀ : List Shape) → IsRaised ss₀ (shapes_of s) w o → IsRaised ss₀ (shapes_of u) w q
   pub smaller : (ss₀ : List Shape) → IsRaised ss₀ (shapes_of s) w o → AreSmall ss₀ w.weight → left_to_rise (shapes_of u) q < left_to_rise (shapes_of s) o
 
-pub raised-step : {T : Type 0} (s u : Store T) (w : Own) (o q : Option Link) (l : Link) → o ≡ Some l → IsRising s w o → q ≡ (shape_at (shapes_of s) l.number).parent → IsKept s u
+pub raised-step : {T : Type 0} (s u : Store T) (w : Own) (o q : Option Link) (l : Link) → o ≡ Some l → IsRising s w o → q ≡ (shape_at (shapes_of s) l.number).parent → KeepsMade s u
     → shapes_of u ≡ slice_set (shapes_of s) l.number (more w (shape_at (shapes_of s) l.number)) → IsRaisedOnce s u w o q
 raised-step s u w o q l is_l rising up kept writes = subst (λ o. IsRaisedOnce s u w o q) (sym is_l) (subst (λ o. IsRaisedOnce s u w (Some l) o) (sym up) once) where
   at : IsRising s w (Some l)

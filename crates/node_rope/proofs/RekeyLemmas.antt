@@ -13,7 +13,7 @@ use Rattle.node_rope.specs.declared.store.Store.{Store}
 use Rattle.node_rope.specs.declared.cells.Shape.{Shape}
 use Rattle.node_rope.specs.declared.cells.Link.{Link}
 use Rattle.node_rope.specs.declared.cells.Own.{Own}
-use Rattle.node_rope.specs.Made.{IsMade, IsKept, made_count, shapes_of, values_of}
+use Rattle.node_rope.specs.Made.{IsMade, KeepsMade, made_count, shapes_of, values_of}
 use Rattle.node_rope.specs.Shapes.{HasRightLinks, shape_at, link_number, tree_of, nodes_in_order, weights, owns, leasts, ranks}
 use Rattle.node_rope.specs.Sums.{sum_measure, lesser}
 use Rattle.node_rope.specs.Items.{IsRope, item_at, rope_items_of, value_under}
@@ -30,7 +30,7 @@ use Rattle.fugue_ids.proofs.OptionLemmas.{cases_number}
 -- s with another key in the node l
 module _ {T : Type 0} (s v : Store T) (root : Option Link) (l : Link) (other : Identifier) (sound : HasRightLinks s root) (made : IsMade s l)
     (is : shapes_of v ≡ slice_set (shapes_of s) l.number (record (shape_at (shapes_of s) l.number) { key = other }))
-    (count : made_count v ≡ made_count s) (kept : IsKept s v) where
+    (count : made_count v ≡ made_count s) (kept : KeepsMade s v) where
   abbrev ss : List Shape
   ss = shapes_of s
 
@@ -82,7 +82,7 @@ module _ {T : Type 0} (s v : Store T) (root : Option Link) (l : Link) (other : I
 module _ {T : Type 0} (wt : T → Own) (s v : Store T) (root : Option Link) (m p : BlockMap Link) (key other : Identifier) (l : Link) (r : IsRope wt s root m)
     (at : value_of m key ≡ Some l) (none : value_of m other ≡ None)
     (is : shapes_of v ≡ slice_set (shapes_of s) l.number (record (shape_at (shapes_of s) l.number) { key = other })) (values : values_of v ≡ values_of s)
-    (count : made_count v ≡ made_count s) (kept : IsKept s v)
+    (count : made_count v ≡ made_count s) (kept : KeepsMade s v)
     (renaming : IsRenamed (value_of m) (value_of p) key other) where
   abbrev there : IsMade s l
   there = r.mapped key l at

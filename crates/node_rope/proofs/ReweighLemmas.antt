@@ -5,7 +5,7 @@ use Rattle.node_rope.specs.declared.store.Store.{Store}
 use Rattle.node_rope.specs.declared.cells.Shape.{Shape}
 use Rattle.node_rope.specs.declared.cells.Link.{Link}
 use Rattle.node_rope.specs.declared.cells.Own.{Own}
-use Rattle.node_rope.specs.Made.{IsMade, IsKept, made_count, shapes_of}
+use Rattle.node_rope.specs.Made.{IsMade, KeepsMade, made_count, shapes_of}
 use Rattle.node_rope.specs.Shapes.{HasRightLinks, IsTree, shape_at, link_number, tree_of, weight_at, weigh, least_at, nodes_in_order}
 use Rattle.node_rope.specs.Walk.{Tree, count_of, tree_walk, all_nodes}
 use Rattle.node_rope.specs.Sums.{lesser, sum_of}
@@ -29,7 +29,7 @@ pub placed : (ss us : List Shape) → AreStill ss us → AreReweighed ss us
 placed ss us f i = let a = f i in record { left = a.left; right = a.right; parent = a.parent; count = a.count }
 
 -- the same tree, with other weights and ranks
-pub tree-along : {T : Type 0} {W R W' R' : Type 0} (s u : Store T) (root : Option Link) → AreReweighed (shapes_of s) (shapes_of u) → made_count u ≡ made_count s → IsKept s u
+pub tree-along : {T : Type 0} {W R W' R' : Type 0} (s u : Store T) (root : Option Link) → AreReweighed (shapes_of s) (shapes_of u) → made_count u ≡ made_count s → KeepsMade s u
     → IsTree s root W R → W' → R' → IsTree u root W' R'
 tree-along s u root same count kept r weighed ranked = record {
   counted = λ x. omega (arith, r.counted x, (same x).count, lefts x, rights x);
@@ -93,7 +93,7 @@ weight-other : (ss us : List Shape) (x : ℕ) → ((i : ℕ) → i ≢ x → (sh
 weight-other ss us x h None ne = refl
 weight-other ss us x h (Some l) ne = h l.number (λ e. ne (ap Some e))
 
-module _ {T : Type 0} (s u : Store T) (root : Option Link) (l : Link) (b : IsSoundBut s root (Some l)) (count : made_count u ≡ made_count s) (kept : IsKept s u)
+module _ {T : Type 0} (s u : Store T) (root : Option Link) (l : Link) (b : IsSoundBut s root (Some l)) (count : made_count u ≡ made_count s) (kept : KeepsMade s u)
     (is : shapes_of u ≡ slice_set (shapes_of s) l.number (summed_node (shapes_of s) (shape_at (shapes_of s) l.number))) where
   abbrev x : ℕ
   x = l.number
@@ -141,27 +141,28 @@ module _ {T : Type 0} (s u : Store T) (root : Option Link) (l : Link) (b : IsSou
 
   step-rest : (i : ℕ) → (link_number (shape_at ss x).parent ≡ Some i → ⊥)
       → (shape_at us i).weight ≡ weight_at us (shape_at us i).left + ((shape_at us i).own.weight + weight_at us (shape_at us i).right)
-  step-rest i ne = elim (cases_number i x) as (λ _. (shape_at us i).weight ≡ weight_at us (shape_at us i).left + ((shape_at us i).own.weight + weight_at us (shape_at us i).right)) [
-    | inl e ↦ subst (λ (j : ℕ). (shape_at us j).weight ≡ weight_at us (shape_at us j).left + ((shape_at us j).own.weight + weight_at us (shape_at us j).right)) (sym e)
-        (omega (
-          arith,
-          ap (λ (h : Shape). h.weight) here,
-          ap (λ (h : Shape). h.own.weight) here,
-          ap (λ (h : Shape). weight_at us h.left) here,
-          ap (λ (h : Shape). weight_at us h.right) here,
-          other (shape_at ss x).left not-own-left,
-          other (shape_at ss x).right not-own-right,
-        ))
-    | inr e ↦ (
-        let w = ap (λ (h : Shape). h.weight) (elsewhere i e) in
-        let o = ap (λ (h : Shape). h.own.weight) (elsewhere i e) in
-        let l' = ap (λ (h : Shape). weight_at us h.left) (elsewhere i e) in
-        let r' = ap (λ (h : Shape). weight_at us h.right) (elsewhere i e) in
-        let a = other (shape_at ss i).left (λ f. ne (b.tree.linked.from_left i x f)) in
-        let c = other (shape_at ss i).right (λ f. ne (b.tree.linked.from_right i x f)) in
-        let old = b.tree.weighed i (λ f. e (sym (some-same x i f))) in
-        omega (arith, w, o, l', r', a, c, old))
-  ]
+  step-rest i ne = elim (cases_number i x) as
+      (λ _. (shape_at us i).weight ≡ weight_at us (shape_at us i).left + ((shape_at us i).own.weight + weight_at us (shape_at us i).right)) [
+        | inl e ↦ subst (λ (j : ℕ). (shape_at us j).weight ≡ weight_at us (shape_at us j).left + ((shape_at us j).own.weight + weight_at us (shape_at us j).right)) (sym e)
+            (omega (
+              arith,
+              ap (λ (h : Shape). h.weight) here,
+              ap (λ (h : Shape). h.own.weight) here,
+              ap (λ (h : Shape). weight_at us h.left) here,
+              ap (λ (h : Shape). weight_at us h.right) here,
+              other (shape_at ss x).left not-own-left,
+              other (shape_at ss x).right not-own-right,
+            ))
+        | inr e ↦ (
+            let w = ap (λ (h : Shape). h.weight) (elsewhere i e) in
+            let o = ap (λ (h : Shape). h.own.weight) (elsewhere i e) in
+            let l' = ap (λ (h : Shape). weight_at us h.left) (elsewhere i e) in
+            let r' = ap (λ (h : Shape). weight_at us h.right) (elsewhere i e) in
+            let a = other (shape_at ss i).left (λ f. ne (b.tree.linked.from_left i x f)) in
+            let c = other (shape_at ss i).right (λ f. ne (b.tree.linked.from_right i x f)) in
+            let old = b.tree.weighed i (λ f. e (sym (some-same x i f))) in
+            omega (arith, w, o, l', r', a, c, old))
+      ]
 
   abbrev IsLow : ℕ → Type 0
   IsLow i = (shape_at us i).least ≡ min (least_at us (shape_at us i).left) (min (shape_at us i).own.rank (least_at us (shape_at us i).right))
@@ -242,7 +243,7 @@ pub record IsSummedOnce {T : Type 0} (s u : Store T) (root o q : Option Link) : 
   pub smaller : left_to_sum (made_count u) (shapes_of u) q < left_to_sum (made_count s) (shapes_of s) o
 
 pub summed-step : {T : Type 0} (s u : Store T) (root o : Option Link) (l : Link) → o ≡ Some l → IsSoundBut s root o → (h g : Shape) → h ≡ shape_at (shapes_of s) l.number
-    → g ≡ summed_node (shapes_of s) h → made_count u ≡ made_count s → IsKept s u
+    → g ≡ summed_node (shapes_of s) h → made_count u ≡ made_count s → KeepsMade s u
     → shapes_of u ≡ slice_set (shapes_of s) l.number g → IsSummedOnce s u root o h.parent
 summed-step s u root o l is_l but h g read sums count kept is =
     subst (λ o. IsSummedOnce s u root o h.parent) (sym is_l) (subst (λ (k : Shape). IsSummedOnce s u root (Some l) k.parent) (sym read) once) where
@@ -283,7 +284,7 @@ link-same l m e = cc
 
 -- ---- a new weight of one node's own value
 module _ {T : Type 0} (s u : Store T) (root : Option Link) (at : Link) (w : Own) (sound : HasRightLinks s root) (made : IsMade s at) (count : made_count u ≡ made_count s)
-    (kept : IsKept s u)
+    (kept : KeepsMade s u)
     (h : Shape) (read : h ≡ shape_at (shapes_of s) at.number) (is : shapes_of u ≡ slice_set (shapes_of s) at.number (record h { own = w })) where
   writes : shapes_of u ≡ slice_set (shapes_of s) at.number (record (shape_at (shapes_of s) at.number) { own = w })
   writes = is ∙ ap (λ (g : Shape). slice_set (shapes_of s) at.number (record g { own = w })) read

@@ -7,7 +7,7 @@ use Rattle.node_rope.specs.declared.turn.Side.TheVariants.{Left, Right}
 use Rattle.node_rope.specs.declared.store.Store.{Store}
 use Rattle.node_rope.specs.declared.cells.Shape.{Shape}
 use Rattle.node_rope.specs.declared.cells.Link.{Link}
-use Rattle.node_rope.specs.Made.{IsMade, IsKept, made_count, shapes_of, values_of}
+use Rattle.node_rope.specs.Made.{IsMade, KeepsMade, made_count, shapes_of, values_of}
 use Rattle.node_rope.specs.Shapes.{HasRightLinks, AreMade, shape_at, link_number, least_at}
 use Rattle.node_rope.specs.Walk.{replaced_child}
 use Rattle.node_rope.specs.Grown.{with_parent}
@@ -78,7 +78,7 @@ risen : {T : Type 0} (d : Side) (s v : Store T) (root root' : Option Link) (p c 
     → link_number (facing_shape d (shape_at (shapes_of s) p.number)).left ≡ Some c.number
     → shapes_of v ≡ with_child (lifted_shapes d (shapes_of s) p c (facing_shape d (shape_at (shapes_of s) p.number)) (facing_shape d (shape_at (shapes_of s) c.number)))
     (shape_at (shapes_of s) p.number).parent p.number c
-    → IsKept s v → made_count v ≡ made_count s → link_number root' ≡ replaced_child p.number c.number (link_number root) → AreMade v root' → IsLifted s v root root' p c
+    → KeepsMade s v → made_count v ≡ made_count s → link_number root' ≡ replaced_child p.number c.number (link_number root) → AreMade v root' → IsLifted s v root root' p c
 risen Left s v root root' p c sound made_p made_c was is kept count moves made = risen-left s v root root' p c sound made_p made_c was is kept count moves made
 risen Right s v root root' p c sound made_p made_c was is kept count moves made =
     mirror-risen s v root root' p c (risen-left (mirrored s) (mirrored v) root root' p c (mirror-sound s (mirrored s) root (there s) sound) made_p made_c
@@ -90,7 +90,7 @@ module _ {T : Type 0} (s u v : Store T) (root : Option Link) (p c : Link) (sound
     (d : Side) (h k above below : Shape) (is_h : h ≡ shape_at (shapes_of s) p.number) (is_k : k ≡ shape_at (shapes_of s) c.number) (side : d ≡ side_of h.left c.number)
     (faced_h : above ≡ facing_shape d h) (faced_k : below ≡ facing_shape d k)
     (lifts : shapes_of u ≡ lifted_shapes d (shapes_of s) p c above below) (is : shapes_of v ≡ with_child (shapes_of u) above.parent p.number c)
-    (kept : IsKept s v) (count : made_count v ≡ made_count s) (values : values_of v ≡ values_of s) where
+    (kept : KeepsMade s v) (count : made_count v ≡ made_count s) (values : values_of v ≡ values_of s) where
   faces : link_number (facing_shape d (shape_at (shapes_of s) p.number)).left ≡ Some c.number
   faces = rw (side, is_h) (side-faces (shape_at (shapes_of s) p.number) c.number (sound.below c.number p.number child))
 

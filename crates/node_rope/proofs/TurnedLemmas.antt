@@ -4,7 +4,7 @@ use Rattle.node_rope.specs.declared.store.Store.{Store}
 use Rattle.node_rope.specs.declared.turn.Side.TheVariants.{Left}
 use Rattle.node_rope.specs.declared.cells.Shape.{Shape}
 use Rattle.node_rope.specs.declared.cells.Link.{Link}
-use Rattle.node_rope.specs.Made.{IsMade, IsKept, made_count, shapes_of}
+use Rattle.node_rope.specs.Made.{IsMade, KeepsMade, made_count, shapes_of}
 use Rattle.node_rope.specs.Shapes.{HasRightLinks, AreMade, shape_at, link_number, tree_of, weights, owns, leasts, ranks, nodes_in_order, weight_at, least_at, IsWeighed, IsRanked}
 use Rattle.node_rope.specs.Walk.{Tree, count_of, all_nodes, HasCounts, IsLinked, IsTurned, replaced_child}
 use Rattle.node_rope.specs.Sums.{sum_measure, lesser, sum_of}
@@ -31,7 +31,8 @@ module _ {T : Type 0} (s v : Store T) (root root' : Option Link) (p c : Link) (s
     (was : link_number (shape_at (shapes_of s) p.number).left ≡ Some c.number)
     (is : shapes_of v ≡ with_child (lifted_shapes Left (shapes_of s) p c (shape_at (shapes_of s) p.number) (shape_at (shapes_of s) c.number))
     (shape_at (shapes_of s) p.number).parent p.number c)
-    (kept : IsKept s v) (count : made_count v ≡ made_count s) (moves : link_number root' ≡ replaced_child p.number c.number (link_number root)) (made_root' : AreMade v root') where
+    (kept : KeepsMade s v) (count : made_count v ≡ made_count s) (moves : link_number root' ≡ replaced_child p.number c.number (link_number root))
+    (made_root' : AreMade v root') where
   abbrev ss : List Shape
   ss = shapes_of s
 

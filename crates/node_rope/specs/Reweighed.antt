@@ -3,7 +3,7 @@ use Rattle.std.specs.Prelude.{◌≡◌, ℕ, ◌+◌, ◌-◌, ◌*◌, ◌<◌
 use Rattle.node_rope.specs.declared.store.Store.{Store}
 use Rattle.node_rope.specs.declared.cells.Shape.{Shape}
 use Rattle.node_rope.specs.declared.cells.Link.{Link}
-use Rattle.node_rope.specs.Made.{IsKept, made_count, shapes_of, values_of}
+use Rattle.node_rope.specs.Made.{KeepsMade, made_count, shapes_of, values_of}
 use Rattle.node_rope.specs.Shapes.{shape_at, link_number, weight_at, least_at, AreMade, HasRightLinks, IsTree}
 
 -- the links and the count are the same
@@ -58,7 +58,7 @@ pub record IsMended {T : Type 0} (old new : Store T) (root : Option Link) : Type
   pub owns : SameOwns (shapes_of old) (shapes_of new)
   pub values : values_of new ≡ values_of old
   pub count : made_count new ≡ made_count old
-  pub kept : IsKept old new
+  pub kept : KeepsMade old new
 
 -- the node l's weight lacks `more`, and has `less` too much. Its least rank is right
 pub record IsOff (ss : List Shape) (less more : ℕ) (l : Link) : Type 0 where

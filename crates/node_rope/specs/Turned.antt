@@ -5,7 +5,7 @@ use Rattle.node_rope.specs.declared.turn.Side.TheVariants.{Left, Right}
 use Rattle.node_rope.specs.declared.cells.Shape.{Shape}
 use Rattle.node_rope.specs.declared.cells.Link.{Link}
 use Rattle.node_rope.specs.declared.store.Store.{Store}
-use Rattle.node_rope.specs.Made.{IsKept, made_count, shapes_of, values_of}
+use Rattle.node_rope.specs.Made.{KeepsMade, made_count, shapes_of, values_of}
 use Rattle.node_rope.specs.Shapes.{HasRightLinks, shape_at, link_number, tree_of, weight_at, least_at, nodes_in_order}
 use Rattle.node_rope.specs.Sides.{facing_shape}
 use Rattle.node_rope.specs.Grown.{with_parent}
@@ -68,7 +68,7 @@ pub record IsRearranged {T : Type 0} (s u : Store T) (root top : Option Link) : 
   pub items : SameItems (shapes_of s) (shapes_of u)
   pub values : values_of u ≡ values_of s
   pub count : made_count u ≡ made_count s
-  pub kept : IsKept s u
+  pub kept : KeepsMade s u
 
 -- c stands above p in the place of p
 pub record IsRisen {T : Type 0} (s u : Store T) (root top : Option Link) (p c : Link) : Type 0 where

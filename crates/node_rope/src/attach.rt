@@ -1,7 +1,7 @@
 // A new node beside another.
 ghost use Rattle.std.specs.Prelude.{◌≡◌, ◌+◌, ◌-◌, ◌^◌, ◌<◌, ◌≤◌, [], ◌∷◌, ◌++◌, flat_map, IfOk, IfErr, Some};
 ghost use Rattle.node_rope.specs.Entered.{IsGivenBack, LeadsTo};
-ghost use Rattle.node_rope.specs.Made.{IsMade, IsKept, IsMore, made_count, shapes_of, values_of};
+ghost use Rattle.node_rope.specs.Made.{IsMade, KeepsMade, IsMore, made_count, shapes_of, values_of};
 ghost use Rattle.node_rope.specs.Shapes.{HasRightLinks, AreMade, shape_at, nodes_in_order};
 ghost use Rattle.node_rope.specs.Sides.{facing_shape, beside};
 ghost use Rattle.node_rope.specs.Rising.{AreSmall};
@@ -20,7 +20,7 @@ pub(crate) fn set_parent<T: Drop>(store: &mut Store<T>, link: Option<Link>, pare
     ensures shapes { shapes_of store.new ≡ with_parent (shapes_of store.old) link parent }
     ensures values { values_of store.new ≡ values_of store.old }
     ensures count { made_count store.new ≡ made_count store.old }
-    ensures kept { IsKept store.old store.new }
+    ensures kept { KeepsMade store.old store.new }
 {
     if let Some(l) = link {
         let shape = store.shape(l);
@@ -61,7 +61,7 @@ pub(crate) fn enter<T: Drop>(
         (IsMore store.old store.new (shapes_of store.old ++ (shape ∷ [])) value) }
     ensures set { IfOk result (LeadsTo map.old map.new shape.key) }
     ensures refused { IfErr result (IsGivenBack store.old store.new map.old map.new value) }
-    ensures kept { IsKept store.old store.new }
+    ensures kept { KeepsMade store.old store.new }
 {
     let key = shape.key;
     let link = store.make(shape, value)?;
@@ -88,7 +88,7 @@ fn join<T: Drop>(
         (λ l. IsMore store.old store.new (joined_beside side (shapes_of store.old) at l shape) value l) }
     ensures set { IfOk result (LeadsTo map.old map.new shape.key) }
     ensures refused { IfErr result (IsGivenBack store.old store.new map.old map.new value) }
-    ensures kept { IsKept store.old store.new }
+    ensures kept { KeepsMade store.old store.new }
 {
     let next = facing(store.shape(at), side);
     let link = enter(store, map, shape, value)?;
@@ -122,7 +122,7 @@ pub(crate) fn attach<T: Drop>(
         (λ l. nodes_in_order store.new root ≡ flat_map (beside side at.number l.number) (nodes_in_order store.old root)) }
     ensures set { IfOk result (LeadsTo map.old map.new key) }
     ensures refused { IfErr result (IsGivenBack store.old store.new map.old map.new value) }
-    ensures kept { IsKept store.old store.new }
+    ensures kept { KeepsMade store.old store.new }
 {
     let shape = new_shape(store, side, at, key, own);
     let link = join(store, map, side, at, shape, value)?;

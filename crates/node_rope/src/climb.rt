@@ -1,7 +1,7 @@
 // Where a node stands, found by climbing from it.
 ghost use Rattle.std.specs.Prelude.{◌≡◌, ◌+◌, ◌-◌, ◌^◌, ◌<◌, ◌≤◌, length, take, slice_index_or, IsTrue, ◌↔◌, Some};
 ghost use Rattle.std.specs.Prelude.{None, ◌≢◌, ℕ};
-ghost use Rattle.node_rope.specs.Made.{IsMade, IsKept, made_count, shapes_of, values_of};
+ghost use Rattle.node_rope.specs.Made.{IsMade, KeepsMade, made_count, shapes_of, values_of};
 ghost use Rattle.node_rope.specs.Shapes.{HasRightLinks, AreMade, shape_at, link_number, tree_of, nodes_in_order, weigh};
 ghost use Rattle.node_rope.specs.Shapes.{weight_at, least_at, IsWeighed, IsRanked};
 ghost use Rattle.node_rope.specs.Walk.{count_of, HasCounts};
@@ -95,7 +95,7 @@ pub(crate) fn raise<T: Drop>(store: &mut Store<T>, from: Option<Link>, own: Own)
     ensures raised { IsRaised (shapes_of store.old) (shapes_of store.new) own None }
     ensures values { values_of store.new ≡ values_of store.old }
     ensures count { made_count store.new ≡ made_count store.old }
-    ensures kept { IsKept store.old store.new }
+    ensures kept { KeepsMade store.old store.new }
 {
     let mut cur = from;
     'up: while let Some(l) = cur {
@@ -185,7 +185,7 @@ pub(crate) fn set_own<T: Drop>(store: &mut Store<T>, root: Option<Link>, at: Lin
         → (shape_at (shapes_of store.new) i).own ≡ (shape_at (shapes_of store.old) i).own }
     ensures values { values_of store.new ≡ values_of store.old }
     ensures count { made_count store.new ≡ made_count store.old }
-    ensures kept { IsKept store.old store.new }
+    ensures kept { KeepsMade store.old store.new }
 {
     let shape = store.shape(at);
     let old = shape.own;

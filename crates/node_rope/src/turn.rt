@@ -1,6 +1,6 @@
 // Rotations.
 ghost use Rattle.std.specs.Prelude.{◌≡◌, ◌+◌, ◌-◌, ◌^◌, ◌<◌, ◌≤◌, Some};
-ghost use Rattle.node_rope.specs.Made.{IsMade, IsKept, made_count, shapes_of, values_of};
+ghost use Rattle.node_rope.specs.Made.{IsMade, KeepsMade, made_count, shapes_of, values_of};
 ghost use Rattle.node_rope.specs.Shapes.{HasRightLinks, AreMade, shape_at, link_number, weight_at};
 ghost use Rattle.node_rope.specs.Turned.{tree_count_at, relinked_child, with_child, lifted_shapes, IsRisen, side_of as side_at};
 ghost use Rattle.node_rope.specs.Sides.{facing_shape};
@@ -23,7 +23,7 @@ fn lift<T: Drop>(store: &mut Store<T>, side: Side, p: Link, c: Link, above: Shap
     ensures shapes { shapes_of store.new ≡ lifted_shapes side (shapes_of store.old) p c above below }
     ensures values { values_of store.new ≡ values_of store.old }
     ensures count { made_count store.new ≡ made_count store.old }
-    ensures kept { IsKept store.old store.new }
+    ensures kept { KeepsMade store.old store.new }
 {
     let inner = count_below(store, below.right);
     let sum = weight_below(store, below.right);
@@ -66,7 +66,7 @@ fn set_child<T: Drop>(store: &mut Store<T>, over: Option<Link>, p: Link, c: Link
     ensures shapes { shapes_of store.new ≡ with_child (shapes_of store.old) over p.number c }
     ensures values { values_of store.new ≡ values_of store.old }
     ensures count { made_count store.new ≡ made_count store.old }
-    ensures kept { IsKept store.old store.new }
+    ensures kept { KeepsMade store.old store.new }
 {
     if let Some(g) = over {
         let shape = store.shape(g);

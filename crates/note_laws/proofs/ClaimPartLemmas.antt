@@ -11,7 +11,7 @@ use Rattle.origin_model.specs.operations.History.{has_op, holder, is_own}
 use Rattle.origin_model.specs.operations.Verdict.{Lawful, names}
 use Rattle.origin_model.proofs.SharedLemmas.{Fits, has-holder, holder-has, holder-other, holder-own, is_own-id, Within, Within-part}
 use Rattle.catalogue_notes.specs.Claims.{Move, Retitle, move_in, retitle_in}
-use Rattle.catalogue_notes.specs.Lift.{as_section, is_section, lift, lifted_of, moves, retitles, stands}
+use Rattle.catalogue_notes.specs.Lift.{as_section, is_section, lift, lifted_of, moves, retitles, is_present}
 use Rattle.catalogue_notes.proofs.ArrangedLemmas.{found_move, move_found, move_test}
 use Rattle.catalogue_notes.proofs.HolderLemmas.{IsHeld, anything, holder-kept, joins, names_held, section_by}
 use Rattle.catalogue_notes.proofs.LiftLemmas.{Rests, holder-lift, lift-other, lifted-kept, lifted_at, passing-same, passing_from, passing_to, rests_of, shape}
@@ -27,7 +27,7 @@ section_alike : (part whole : List Op) (s : Identifier) → Within part whole �
 section_alike part whole s f o = ap section_by (o.1 ∙ sym (f s o.0 o.1))
 
 stands_alike : (part whole : List Op) (o : Option Identifier) → LiftsAlike part whole → ((x : Identifier) → o ≡ Some x → IsHeld part x)
-    → stands (lift part) o ≡ stands (lift whole) o
+    → is_present (lift part) o ≡ is_present (lift whole) o
 stands_alike part whole None l k = refl
 stands_alike part whole (Some x) l k = ap is_some (l x (k x refl))
 

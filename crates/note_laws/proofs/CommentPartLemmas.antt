@@ -114,11 +114,11 @@ listed_in_part s c op part whole v w f k says =
               member = member_has part op k;
               says = says;
               in_section = same ∙ i.in_section;
-              stands = stands_in_part part whole c.id f i.stands;
+              not_withdrawn = stands_in_part part whole c.id f i.not_withdrawn;
             }),
-            i.stands,
+            i.not_withdrawn,
           ),
       λ m.
           let i = from_comments part s c m.0 in
-          to_comments whole s c (record { op = op; member = member_has whole op (f op k); says = says; in_section = sym same ∙ i.in_section; stands = m.1 }),
+          to_comments whole s c (record { op = op; member = member_has whole op (f op k); says = says; in_section = sym same ∙ i.in_section; not_withdrawn = m.1 }),
     )

@@ -28,7 +28,7 @@ use Rattle.margin_notes.proofs.MemberLemmas.{from_comments, listed_apart, to_com
 use Rattle.margin_notes.proofs.PassageLemmas.{both_parts, text_in}
 use Rattle.margin_notes.proofs.SortLemmas.{Earlier, by_id_from, by_id_in, by_id_ordered, same_ordered}
 use Rattle.passage_remarks.specs.Laws.{IsRemark}
-use Rattle.passage_remarks.specs.Remarks.{Remark, remark_at, remark_told, remarks, remarks_from}
+use Rattle.passage_remarks.specs.Remarks.{Remark, remark_at, remark_text, remarks, remarks_from}
 use Rattle.passage_remarks.proofs.LawLemmas.{are_comments}
 use Rattle.passage_remarks.proofs.OrderLemmas.{Before, before_irrefl, before_trans}
 use Rattle.note_laws.specs.CommentLaws.{CommentsBySet}
@@ -66,7 +66,7 @@ module _ (a b : List Op) (v : Lawful a) (w : Lawful b) (same : SameOps a b) wher
         member = member_has b i.op (same-part a b same i.op (has_member a i.op i.member));
         says = i.says;
         in_section = sym (sections s c) ∙ i.in_section;
-        stands = sym (same_withdrawn a b same c.id) ∙ i.stands;
+        not_withdrawn = sym (same_withdrawn a b same c.id) ∙ i.not_withdrawn;
       })
 
   -- the elements of a section
@@ -141,12 +141,12 @@ module _ (a b : List Op) (v : Lawful a) (w : Lawful b) (same : SameOps a b) wher
       (λ r m. (y.members r).1 (remark_over a b v w same r ((x.members r).0 m)))
       (λ r m. (x.members r).1 (remark_over b a w v back r ((y.members r).0 m)))
 
-  told_same : (n : ℕ) (rs : List Remark) → remarks_from a n rs ≡ remarks_from b n rs
-  told_same n [] = refl
-  told_same n (r ∷ rs) =
+  printed_same : (n : ℕ) (rs : List Remark) → remarks_from a n rs ≡ remarks_from b n rs
+  printed_same n [] = refl
+  printed_same n (r ∷ rs) =
       let here = same_clusters a b v w same r.section in
-      let rest = told_same (suc n) rs in
-      λ i. remark_told (here i) n r ++ rest i
+      let rest = printed_same (suc n) rs in
+      λ i. remark_text (here i) n r ++ rest i
 
 pub comments_by_set : CommentsBySet
 comments_by_set a b v w same =
@@ -157,5 +157,5 @@ comments_by_set a b v w same =
       same_spans = spans a b v w same;
       same_margins = lines_same a b v w same 1 (shown catalogue a) ∙ ap (comment_lines b 1) (visible catalogue);
       same_remarks = remarked a b v w same;
-      same_text = told_same a b v w same 1 (remarks a) ∙ ap (remarks_from b 1) (remarked a b v w same);
+      same_text = printed_same a b v w same 1 (remarks a) ∙ ap (remarks_from b 1) (remarked a b v w same);
     }

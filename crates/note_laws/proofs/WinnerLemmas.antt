@@ -122,7 +122,7 @@ position_stays part whole s v w f k = position_left part whole s v w f k
 pub position_stays_exactly : PositionStaysExactly
 position_stays_exactly part whole s v w f = position_exactly part whole s v w f
 
--- a retitle is told by its identifier
+-- a retitle is fixed by its identifier
 one_retitle : (h : List Op) (c d : Retitle) → Lawful h → Contains (retitles h) c → Contains (retitles h) d → c.id ≡ d.id → c ≡ d
 one_retitle h = one_claim retitle_in is_valid_title (λ e r k. (title_shape e r k).own) title-kept h
 

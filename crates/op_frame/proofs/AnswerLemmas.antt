@@ -9,7 +9,7 @@ use Rattle.op_frame.specs.declared.fault.FrameFault.{FrameFault}
 use Rattle.op_frame.specs.declared.fault.FrameFault.TheVariants.{BadFrame, CutShort, ReadFault, TooLong, NoMemory}
 use Rattle.op_frame.specs.Readers.{ReadingAnswerIs, AnswersBy, IsReadByBytes, StartsWithin}
 use Rattle.op_frame.proofs.ReadingLemmas.{begins_not_partial, framed_some, no_bytes_are_partial, same_front}
-use Rattle.op_frame.proofs.ToldLemmas.{take_past}
+use Rattle.op_frame.proofs.SpecifiedLemmas.{take_past}
 
 module _ (g : Grammar) where
   -- a frame within the first bytes begins them

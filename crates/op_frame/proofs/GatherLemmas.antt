@@ -34,7 +34,7 @@ use Rattle.op_frame.proofs.HeaderLemmas.{scalars_are, text_there}
 use Rattle.op_frame.proofs.LetterLemmas.{letter_whole, letter_within}
 use Rattle.op_frame.proofs.ReaderLemmas.{advances_by, reading_at}
 use Rattle.op_frame.proofs.StreamLemmas.{gave_more, rises}
-use Rattle.op_frame.proofs.ToldLemmas.{shows}
+use Rattle.op_frame.proofs.SpecifiedLemmas.{shows}
 use Rattle.fugue_ids.proofs.JoinLemmas.{prepend_twice}
 
 -- a reader without a fault that holds these operations back
@@ -70,7 +70,7 @@ module _ (g : Grammar) (limit offset last len : ℕ) (window : List ℕ) (source
         standing g limit ops (drop len window) (offset + len) offset,
         record {
           answer = λ none. shows (AnswersBy g (Ok (Some op)) offset (limit - offset)) window source.left (prepend_known window source.left) refl
-              (λ more told. answers_by g (Ok (Some op)) offset (limit - offset) (window ++ more) (record {
+              (λ more specified. answers_by g (Ok (Some op)) offset (limit - offset) (window ++ more) (record {
                 framed = framed;
                 is_frame = is;
                 others = ops;
@@ -336,7 +336,7 @@ takes_text g start count ch len bytes old_text text new counted (fits, there) pu
 -- the frame of a run
 module _ (g : Grammar) (header : RunHeader) (len : ℕ) (bytes : List ℕ) (f : IsRunFront g header len bytes) where
   pub run_within : 3 * header.count ≤ len
-  run_within = (text_there header bytes len f.within f.head_is).within
+  run_within = (text_there header bytes len f.within f.header_is).within
 
   abbrev pub scalars_at : List ℕ → List ℕ
   scalars_at s = take (length s - (len - 3 * header.count)) (drop (len - 3 * header.count) s)
@@ -345,28 +345,28 @@ module _ (g : Grammar) (header : RunHeader) (len : ℕ) (bytes : List ℕ) (f : 
   run_held s same =
       subst (λ (b : List ℕ). IsHeld b header)
       (sym (take_all (length s - (len - 3 * header.count)) (drop (len - 3 * header.count) s) (omega (arith, length-drop (len - 3 * header.count) s))))
-      (subst (λ (b : List ℕ). IsHeld (drop (len - 3 * header.count) b) header) (sym same) (text_there header bytes len f.within f.head_is).held)
+      (subst (λ (b : List ℕ). IsHeld (drop (len - 3 * header.count) b) header) (sym same) (text_there header bytes len f.within f.header_is).held)
 
   -- it goes on with the run
   pub takes_run_texts : (start : RunStart) (s old_text text new : List ℕ) → s ≡ bytes → start_in header ≡ start_behind start (length old_text)
       → text ≡ old_text ++ text_scalars header.count (scalars_at s) → new ≡ drop len bytes
       → TakesTexts g start old_text text bytes new len
   takes_run_texts start s old_text text new same goes put rest =
-      let t = text_there header bytes len f.within f.head_is in
+      let t = text_there header bytes len f.within f.header_is in
       let scalars : List ℕ = text_scalars header.count (scalars_at s) in
       let long : length scalars ≡ header.count = scalars_long header (scalars_at s) (run_held s same) in
       let at : header.id.counter ≡ start.id.counter + length old_text = ap (λ (r : RunStart). r.id.counter) goes in
       let place : scalars_at s ≡ drop (len - 3 * header.count) bytes
       = take_all (length s - (len - 3 * header.count)) (drop (len - 3 * header.count) s) (omega (arith, length-drop (len - 3 * header.count) s))
       ∙ ap (drop (len - 3 * header.count)) same in
-      let ops : run_from (start_behind start (length old_text)) scalars ≡ run_ops (run_at header f.head_is.text)
+      let ops : run_from (start_behind start (length old_text)) scalars ≡ run_ops (run_at header f.header_is.text)
       = ap (λ (r : RunStart). run_from r scalars) (sym goes) ∙ ap (λ (b : List ℕ). run_from (start_in header) (text_scalars header.count b)) place ∙ t.ops in
       record {
         more = scalars;
         some = omega (arith, long, t.held.some);
         within = f.within;
         is_frame = same_meaning g (take len bytes) (run_from (start_behind start (length old_text)) scalars) f.is_frame
-            (record { item = Typed (run_at header f.head_is.text); is_item = f.head_is.has_frame; bytes_are = f.head_is.bytes_are; ops_are = ops });
+            (record { item = Typed (run_at header f.header_is.text); is_item = f.header_is.has_frame; bytes_are = f.header_is.bytes_are; ops_are = ops });
         text_is = put;
         rest = rest;
         counters = omega (arith, ap length put, length-append old_text scalars, long, at, t.held.counters_fit);
@@ -436,13 +436,14 @@ gathers_run op start ch one text old new is first p = record {
 -- What giving operations one after another leaves
 
 nothing_more : (r : FrameReading) (source : SourceView) → GaveMore r r source.left source.left []
-nothing_more r source told ops so = subst (λ (l : List Op). Gave told l r source.left) (sym (append-nil ops)) so
+nothing_more r source specified ops so = subst (λ (l : List Op). Gave specified l r source.left) (sym (append-nil ops)) so
 
 one_more : (old new : FrameReading) (before after : SourceView) (op : Op) → Nexts old new before after (Ok (Some op)) → GaveMore old new before.left after.left (op ∷ [])
-one_more old new before after op nexts told ops so = gave_more told ops op old new before.left after.left nexts.advances.grammar so nexts.gives
+one_more old new before after op nexts specified ops so = gave_more specified ops op old new before.left after.left nexts.advances.grammar so nexts.gives
 
 more_then : (a b c : FrameReading) (x y z : Option (List ℕ)) (front more : List Op) → GaveMore a b x y front → GaveMore b c y z more → GaveMore a c x z (front ++ more)
-more_then a b c x y z front more p q told ops so = subst (λ (l : List Op). Gave told l c z) (append_assoc ops front more) (q told (ops ++ front) (p told ops so))
+more_then a b c x y z front more p q specified ops so =
+    subst (λ (l : List Op). Gave specified l c z) (append_assoc ops front more) (q specified (ops ++ front) (p specified ops so))
 
 -- what is left behind some operations that were given without the source
 record LeftOn (old new : FrameReading) (source : SourceView) (ops : List Op) : Type 0 where

@@ -11,13 +11,13 @@ pub mod FrontLemmas
 pub mod ReadingLemmas
 pub mod RunFrameLemmas
 pub mod OpenRunLemmas
-pub mod ToldLemmas
+pub mod SpecifiedLemmas
 pub mod WindowLemmas
 pub mod StepLemmas
 pub mod StreamLemmas
 pub mod FirstLemmas
 pub mod AnswerLemmas
-pub mod CourseLemmas
+pub mod ComesLemmas
 pub mod NoteLemmas
 pub mod DueLemmas
 pub mod FrameFrontLemmas

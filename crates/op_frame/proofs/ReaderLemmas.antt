@@ -73,7 +73,7 @@ module _ (g : Grammar) (limit offset last : ℕ) (fault : Option FrameFault) (wi
   nexts_first None taken none inside no_fault t = record {
     answer = λ same. t.answer;
     at = t.at;
-    gives = read refl t.first.framed t.first.is_frame t.first.ops_are t.first.told (ap (λ (n : ℕ). offset + n) t.first.len) refl;
+    gives = read refl t.first.framed t.first.is_frame t.first.ops_are t.first.split (ap (λ (n : ℕ). offset + n) t.first.len) refl;
     moves = tt;
     advances = advances_by _ _ (Ok (Some taken.op)) refl refl inside (omega (arith, inside, t.within)) (λ is. cc is) tt no_fault;
   }

@@ -21,12 +21,12 @@ use Rattle.op_frame.proofs.AnswerLemmas.{answers_by}
 use Rattle.op_frame.proofs.DecodingLemmas.{same_meaning}
 use Rattle.op_frame.proofs.FrameFrontLemmas.{frame_short}
 use Rattle.op_frame.proofs.FrameLemmas.{bad_goes_on}
-use Rattle.op_frame.proofs.ToldLemmas.{shows, some_is, take_past}
+use Rattle.op_frame.proofs.SpecifiedLemmas.{shows, some_is, take_past}
 use Rattle.fugue_ids.proofs.JoinLemmas.{prepend_twice}
 
 -- where the reader stands within a call: nothing that was to be given is lost
 pub record Stands (old unread : List ℕ) (before now : SourceView) (room : ℕ) : Type 0 where
-  pub told : prepend_known old before.left ≡ prepend_known unread now.left
+  pub split : prepend_known old before.left ≡ prepend_known unread now.left
   pub inside : length unread ≤ room
   pub count : KeepsCount before now ⊥
 
@@ -41,10 +41,10 @@ asks_too b rest (inr body) = inr (first_stays b rest 5 body)
 module _ (g : Grammar) (old unread : List ℕ) (before now : SourceView) (offset room : ℕ) (s : Stands old unread before now room) where
   answer : (result : Result (Option Op) FrameFault) → ((rest : List ℕ) → now.left ≡ Some rest → ReadingAnswerIs g result offset room (unread ++ rest))
       → IfSome (prepend_known old before.left) (AnswersBy g result offset room)
-  answer result is = shows (AnswersBy g result offset room) unread now.left (prepend_known old before.left) s.told
+  answer result is = shows (AnswersBy g result offset room) unread now.left (prepend_known old before.left) s.split
       (λ rest left. answers_by g result offset room (unread ++ rest) (is rest left))
 
-  -- an answer that is no fault of the source, by the bytes told so far
+  -- an answer that is no fault of the source, by the bytes specified so far
   ends_so : (new : List ℕ) (result : Result (Option Taken) FrameFault) → ((rest : List ℕ) → now.left ≡ Some rest → ReadingAnswerIs g (only_op result) offset room (unread ++ rest))
       → CarriesOffset (only_op result) offset → IfOk result (λ given. IfSome given (λ taken. TakesFirst g taken old new before.left now.left))
       → Moves (only_op result) old new before.left now.left
@@ -81,7 +81,7 @@ module _ (g : Grammar) (old unread : List ℕ) (before now : SourceView) (offset
         is_frame = is;
         ops_are = refl;
         len = p.len ∙ sym long;
-        told = s.told ∙ ap (λ (l : List ℕ). prepend_known l now.left) split ∙ sym (prepend_twice (take n unread) (drop n unread) now.left)
+        split = s.split ∙ ap (λ (l : List ℕ). prepend_known l now.left) split ∙ sym (prepend_twice (take n unread) (drop n unread) now.left)
             ∙ ap (λ (l : List ℕ). prepend_known (take n unread) (prepend_known l now.left)) p.rest;
         held = p.held;
       }) tt (omega (arith, ap length p.rest, length-drop n unread, p.len, whole, s.inside)) (λ is. cc is) (λ is. cc is)
@@ -91,12 +91,12 @@ module _ (g : Grammar) (old unread : List ℕ) (before now : SourceView) (offset
   refuses bad = ends_so unread (Err (BadFrame offset)) (λ rest is. (
     refl,
     subst (IsBad g) (sym (take_past unread rest room (length unread) refl s.inside)) (bad_goes_on g unread (take (room - length unread) rest) bad),
-  )) refl tt s.told (omega (arith, s.inside)) (λ is. cc is) (λ is. cc is)
+  )) refl tt s.split (omega (arith, s.inside)) (λ is. cc is) (λ is. cc is)
 
   -- a title or a body found no memory
   wants : (new : List ℕ) → new ≡ unread → AsksMemory unread → TakesFrontFrame g old new before now offset room (Err NoMemory)
   wants new same first =
-      ends_so new (Err NoMemory) (λ rest is. asks_too unread rest first) tt tt (s.told ∙ ap (λ (l : List ℕ). prepend_known l now.left) (sym same))
+      ends_so new (Err NoMemory) (λ rest is. asks_too unread rest first) tt tt (s.split ∙ ap (λ (l : List ℕ). prepend_known l now.left) (sym same))
       (omega (arith, s.inside, ap length same))
       (λ is. cc is) (λ is. cc is)
 
@@ -115,13 +115,13 @@ module _ (g : Grammar) (old unread : List ℕ) (before now : SourceView) (offset
   pub over : (result : Result (Option Taken) FrameFault) → IsPartial g unread → IfSome now.left (λ left. left ≡ []) → IfOk result (λ given. (given ≡ None) × (unread ≡ []))
       → IfErr result (λ e. (e ≡ CutShort offset) × (unread ≢ [])) → TakesFrontFrame g old unread before now offset room result
   over (Ok None) front none is cut =
-      ends_so unread (Ok None) (λ rest left. (λ i. is.1 i ++ some_is (λ (l : List ℕ). l ≡ []) now.left rest none left i)) tt tt (is.1, none, s.told) (omega (arith, s.inside))
+      ends_so unread (Ok None) (λ rest left. (λ i. is.1 i ++ some_is (λ (l : List ℕ). l ≡ []) now.left rest none left i)) tt tt (is.1, none, s.split) (omega (arith, s.inside))
       (λ is. cc is) (λ is. cc is)
   over (Ok (Some taken)) front none is cut = absurd (cc is.0)
   over (Err e) front none is cut =
       subst (λ (fault : FrameFault). TakesFrontFrame g old unread before now offset room (Err fault)) (sym cut.0) (ends_so unread (Err (CutShort offset)) (λ rest left.
       let all : unread ≡ unread ++ rest = sym (append-nil unread) ∙ ap (λ (l : List ℕ). unread ++ l) (sym (some_is (λ (l : List ℕ). l ≡ []) now.left rest none left)) in
-      subst (ReadingAnswerIs g (Err (CutShort offset)) offset room) all (refl, cut.1, s.inside, front)) refl tt (s.told, none) (omega (arith, s.inside)) (λ is. cc is)
+      subst (ReadingAnswerIs g (Err (CutShort offset)) offset room) all (refl, cut.1, s.inside, front)) refl tt (s.split, none) (omega (arith, s.inside)) (λ is. cc is)
       (λ is. cc is))
 
   more_there : (left : Option (List ℕ)) (rest : List ℕ) (byte : ℕ) → Some rest ≡ prepend_known (byte ∷ []) left → 0 < length rest
@@ -142,7 +142,7 @@ module _ (g : Grammar) (old unread : List ℕ) (before now : SourceView) (offset
         answer = answer (Err ReadFault) (λ rest is. tt);
         at = tt;
         first = tt;
-        moves = s.told ∙ (λ i. prepend_known (sym r.kept i) (sym f.1 i));
+        moves = s.split ∙ (λ i. prepend_known (sym r.kept i) (sym f.1 i));
         within = omega (arith, s.inside, ap length r.kept);
         full = λ is. absurd (cc is);
         count = count_then _ s.count (count_so _ _ r.count (λ is. ap Err f.0) (λ is. refl));
@@ -158,7 +158,7 @@ module _ (g : Grammar) (old unread : List ℕ) (before now : SourceView) (offset
             first = tt;
             moves = (
               f.2.byte,
-              s.told ∙ ap (prepend_known unread) f.2.dropped ∙ prepend_twice unread (f.2.byte ∷ []) after.left
+              s.split ∙ ap (prepend_known unread) f.2.dropped ∙ prepend_twice unread (f.2.byte ∷ []) after.left
                   ∙ ap (λ (l : List ℕ). prepend_known (l ++ f.2.byte ∷ []) after.left) (sym r.kept),
             );
             within = omega (arith, s.inside, ap length r.kept);
@@ -169,7 +169,7 @@ module _ (g : Grammar) (old unread : List ℕ) (before now : SourceView) (offset
   -- the source took nothing from where the reader stands, or gave more
   pub at_last : (new : List ℕ) (after : SourceView) (more : ℕ) → Refills unread new now after more (Ok false) → Stands old new before after room
   at_last new after more r = record {
-    told = s.told ∙ r.told;
+    split = s.split ∙ r.split;
     inside = omega (arith, s.inside, ap length r.grew);
     count = count_then ⊥ s.count (count_so _ ⊥ r.count (λ none. absurd none) (λ is. cc is));
   }

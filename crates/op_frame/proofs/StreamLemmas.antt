@@ -16,7 +16,7 @@ use Rattle.op_frame.specs.Readers.{FrameReading, to_give, ReadingAnswerIs, AreFi
 use Rattle.op_frame.specs.Readers.{IsReadByBytes, Nexts, RisesByThree, answer_of_rest, given_with, held, raised_end, read}
 use Rattle.op_frame.proofs.FrameLemmas.{bad_goes_on}
 use Rattle.op_frame.proofs.ReadingLemmas.{bytes_of, ops_of, partial_end, reads_once, reads_some, starts_first}
-use Rattle.op_frame.proofs.ToldLemmas.{prepend_none, shows, some_is, take_past}
+use Rattle.op_frame.proofs.SpecifiedLemmas.{prepend_none, shows, some_is, take_past}
 use Rattle.fugue_ids.proofs.JoinLemmas.{prepend_twice}
 
 -- nothing was given yet
@@ -29,22 +29,23 @@ gave_none reader left todo none start = record {
   offset = start;
 }
 
-anything : (told : Option (List ℕ)) → IfSome told (λ bytes. Unit {0})
+anything : (specified : Option (List ℕ)) → IfSome specified (λ bytes. Unit {0})
 anything None = tt
 anything (Some bytes) = tt
 
 -- one operation more was given
-pub gave_more : (told : Option (List ℕ)) (ops : List Op) (op : Op) (old new : FrameReading) (before after : Option (List ℕ)) → new.grammar ≡ old.grammar → Gave told ops old before
+pub gave_more : (specified : Option (List ℕ)) (ops : List Op) (op : Op) (old new : FrameReading) (before after : Option (List ℕ)) → new.grammar ≡ old.grammar
+    → Gave specified ops old before
     → GivesOperation op old new before after
-    → Gave told (ops ++ op ∷ []) new after
-gave_more told ops op old new before after same so (held todo unread offset last left) = record {
+    → Gave specified (ops ++ op ∷ []) new after
+gave_more specified ops op old new before after same so (held todo unread offset last left) = record {
   found = so.found;
   are_frames = subst (λ (g : Grammar). All (IsFrame g) so.found) (sym same) so.are_frames;
   ops_are = append_assoc ops (op ∷ []) new.todo ∙ ap (λ (l : List Op). ops ++ l) (sym todo) ∙ so.ops_are;
   split = so.split ∙ λ i. prepend_known (bytes_of so.found) (prepend_known (sym unread i) (sym left i));
   offset = offset ∙ so.offset;
 }
-gave_more told ops op old new before after same so (read none framed is first moved offset last) =
+gave_more specified ops op old new before after same so (read none framed is first moved offset last) =
     let bytes : bytes_of so.found ++ framed.bytes ≡ bytes_of (so.found ++ framed ∷ []) = flat_map_more (λ f. f.bytes) [] so.found framed in
     let given : ops ≡ ops_of so.found = sym (append-nil ops) ∙ ap (λ (l : List Op). ops ++ l) (sym none) ∙ so.ops_are in
     record {
@@ -94,26 +95,27 @@ read_before g framed rest ops end is r =
     (subst (λ (l : List ℕ). Reads g (l ++ rest) (ops_of (framed ∷ []) ++ ops) (raised_end (length l) end)) bytes
     (frames_before g (framed ∷ []) rest ops end (All-push (IsFrame g) [] framed (All-nil (IsFrame g)) is) r))
 
--- what stands before bytes that are told
-told_behind : (front : List ℕ) (told : Option (List ℕ)) (bytes : List ℕ) → Some bytes ≡ prepend_known front told → (rest : List ℕ) × (told ≡ Some rest) × (bytes ≡ front ++ rest)
-told_behind front None bytes is = absurd (cc is)
-told_behind front (Some rest) bytes is = (rest, refl, cc is)
+-- what stands before bytes that are specified
+specified_behind : (front : List ℕ) (specified : Option (List ℕ)) (bytes : List ℕ) → Some bytes ≡ prepend_known front specified → (rest : List ℕ) × (specified ≡ Some rest)
+    × (bytes ≡ front ++ rest)
+specified_behind front None bytes is = absurd (cc is)
+specified_behind front (Some rest) bytes is = (rest, refl, cc is)
 
 -- the operation that was given was the first still to be given
 gave_first : (op : Op) (old new : FrameReading) (before after : Option (List ℕ)) (bytes : List ℕ) → new.grammar ≡ old.grammar → GivesOperation op old new before after
     → to_give old before ≡ Some bytes
     → GaveFirst op old new after bytes
-gave_first op old new before after bytes same (held todo unread offset last left) told = record {
+gave_first op old new before after bytes same (held todo unread offset last left) specified = record {
   front = [];
   rest = bytes;
   split = refl;
-  to_give_is = (λ i. prepend_known (unread i) (left i)) ∙ told;
+  to_give_is = (λ i. prepend_known (unread i) (left i)) ∙ specified;
   first = λ todo_is end p later ends q.
       let both = reads_once old.grammar bytes p.behind q.behind end ends p.reads (subst (λ (g : Grammar). Reads g bytes q.behind ends) same q.reads) in
       (p.todo_is ∙ (λ i. todo i ++ both.0 i) ∙ ap (λ (l : List Op). op ∷ l) (sym q.todo_is), both.1 ∙ raised_none ends);
 }
-gave_first op old new before after bytes same (read none framed is ops moved offset last) told =
-    let there = told_behind framed.bytes (to_give new after) bytes (sym told ∙ moved) in
+gave_first op old new before after bytes same (read none framed is ops moved offset last) specified =
+    let there = specified_behind framed.bytes (to_give new after) bytes (sym specified ∙ moved) in
     record {
       front = framed.bytes;
       rest = there.0;
@@ -134,10 +136,10 @@ rises op old new before after (held todo unread offset last left) = omega (arith
 rises op old new before after (read none framed is ops moved offset last) = omega (arith, frame_wide old.grammar framed is, ap length ops, ap length none, offset)
 
 -- the operations given, the rest behind them, and how it ends
-gave_reads : (told : Option (List ℕ)) (ops : List Op) (reader : FrameReading) (left : Option (List ℕ)) (so : Gave told ops reader left) → reader.todo ≡ []
+gave_reads : (specified : Option (List ℕ)) (ops : List Op) (reader : FrameReading) (left : Option (List ℕ)) (so : Gave specified ops reader left) → reader.todo ≡ []
     → (rest : List ℕ) (end : End)
     → EndsSo reader.grammar rest reader.offset end → Reads reader.grammar (bytes_of so.found ++ rest) ops end
-gave_reads told ops reader left so none rest end ends = record {
+gave_reads specified ops reader left so none rest end ends = record {
   found = so.found;
   are_frames = so.are_frames;
   ops_are = sym (append-nil ops) ∙ ap (λ (l : List Op). ops ++ l) (sym none) ∙ so.ops_are;
@@ -147,15 +149,16 @@ gave_reads told ops reader left so none rest end ends = record {
 }
 
 -- what was given are the first operations of the whole
-gave_are_first : (told : Option (List ℕ)) (ops : List Op) (reader : FrameReading) (left : Option (List ℕ)) → Gave told ops reader left → IfSome told (AreFirst reader.grammar ops)
-gave_are_first told ops reader left so = shows (AreFirst reader.grammar ops) (bytes_of so.found) (to_give reader left) told so.split (λ rest is all end reads.
+gave_are_first : (specified : Option (List ℕ)) (ops : List Op) (reader : FrameReading) (left : Option (List ℕ)) → Gave specified ops reader left
+    → IfSome specified (AreFirst reader.grammar ops)
+gave_are_first specified ops reader left so = shows (AreFirst reader.grammar ops) (bytes_of so.found) (to_give reader left) specified so.split (λ rest is all end reads.
     let first = starts_first reader.grammar (bytes_of so.found ++ rest) (ops_of so.found) rest all end
     (record { found = so.found; are_frames = so.are_frames; ops_are = refl; split = refl }) reads in
     (reader.todo ++ first.0, first.1 ∙ ap (λ (l : List Op). l ++ first.0) (sym so.ops_are) ∙ append_assoc ops reader.todo first.0))
 
-module _ (told : Option (List ℕ)) (ops : List Op) (old new : FrameReading) (before after : SourceView) (so : Gave told ops old before.left) where
+module _ (specified : Option (List ℕ)) (ops : List Op) (old new : FrameReading) (before after : SourceView) (so : Gave specified ops old before.left) where
   -- where the answer does not move the reader
-  gave_on : new.grammar ≡ old.grammar → new.todo ≡ old.todo → new.offset ≡ old.offset → to_give old before.left ≡ to_give new after.left → Gave told ops new after.left
+  gave_on : new.grammar ≡ old.grammar → new.todo ≡ old.todo → new.offset ≡ old.offset → to_give old before.left ≡ to_give new after.left → Gave specified ops new after.left
   gave_on grammar todo at same = record {
     found = so.found;
     are_frames = subst (λ (g : Grammar). All (IsFrame g) so.found) (sym grammar) so.are_frames;
@@ -167,8 +170,8 @@ module _ (told : Option (List ℕ)) (ops : List Op) (old new : FrameReading) (be
   -- what an answer of the reader says of the whole stream
   whole : (result : Result (Option Op) FrameFault) (by : IsReadByBytes result) → old.todo ≡ [] → Nexts old new before after result
       → ((rest : List ℕ) → ReadingAnswerIs old.grammar result old.offset (old.limit - old.offset) rest → EndsBy old.grammar old.limit ops result (bytes_of so.found ++ rest))
-      → IfSome told (EndsBy old.grammar old.limit ops result)
-  whole result by none step ends = shows (EndsBy old.grammar old.limit ops result) (bytes_of so.found) (to_give old before.left) told so.split
+      → IfSome specified (EndsBy old.grammar old.limit ops result)
+  whole result by none step ends = shows (EndsBy old.grammar old.limit ops result) (bytes_of so.found) (to_give old before.left) specified so.split
       (λ rest is. ends rest (((some_is _ (to_give old before.left) rest (step.answer none) is).exactly by result by).0 refl))
 
   -- the frames given, with the rest up to the limit
@@ -177,10 +180,10 @@ module _ (told : Option (List ℕ)) (ops : List Op) (old new : FrameReading) (be
   up_to rest end inside reads = subst (λ (l : List ℕ). Reads old.grammar l ops end) (sym (take_past (bytes_of so.found) rest old.limit old.offset so.offset inside)) reads
 
   reads_here : old.todo ≡ [] → (rest : List ℕ) (end : End) → EndsSo old.grammar rest old.offset end → Reads old.grammar (bytes_of so.found ++ rest) ops end
-  reads_here none = gave_reads told ops old before.left so none
+  reads_here none = gave_reads specified ops old before.left so none
 
-  ends_by : (result : Result (Option Op) FrameFault) → Nexts old new before after result → IfSome told (EndsBy old.grammar old.limit ops result)
-  ends_by (Ok (Some op)) step = anything told
+  ends_by : (result : Result (Option Op) FrameFault) → Nexts old new before after result → IfSome specified (EndsBy old.grammar old.limit ops result)
+  ends_by (Ok (Some op)) step = anything specified
   ends_by (Ok None) step = whole (Ok None) tt step.advances.stays.none_before step (λ rest none. (
     omega (arith, ap length none, length-append (bytes_of so.found) rest, so.offset, step.advances.inside),
     reads_here step.advances.stays.none_before rest Whole none,
@@ -201,11 +204,11 @@ module _ (told : Option (List ℕ)) (ops : List Op) (old new : FrameReading) (be
         omega (arith, long.0, so.offset, inside, length-append (bytes_of so.found) rest),
         (ends.0, up_to rest ends.0 inside (reads_here step.advances.stays.none_before (take (old.limit - old.offset) rest) ends.0 ends.1), ends.2),
       ))
-  ends_by (Err ReadFault) step = anything told
-  ends_by (Err NoMemory) step = anything told
+  ends_by (Err ReadFault) step = anything specified
+  ends_by (Err NoMemory) step = anything specified
 
-  gave_with : (result : Result (Option Op) FrameFault) → Nexts old new before after result → (IsErrOf result TooLong → ⊥) → Gave told (given_with ops result) new after.left
-  gave_with (Ok (Some op)) step other = gave_more told ops op old new before.left after.left step.advances.grammar so step.gives
+  gave_with : (result : Result (Option Op) FrameFault) → Nexts old new before after result → (IsErrOf result TooLong → ⊥) → Gave specified (given_with ops result) new after.left
+  gave_with (Ok (Some op)) step other = gave_more specified ops op old new before.left after.left step.advances.grammar so step.gives
   gave_with (Ok None) step other = let a = step.advances in gave_on a.grammar (a.stays.none_after ∙ sym a.stays.none_before) a.stays.offset step.moves.2
   gave_with (Err (CutShort k)) step other = let a = step.advances in gave_on a.grammar (a.stays.none_after ∙ sym a.stays.none_before) a.stays.offset step.moves.0
   gave_with (Err (BadFrame k)) step other = let a = step.advances in gave_on a.grammar (a.stays.none_after ∙ sym a.stays.none_before) a.stays.offset step.moves
@@ -213,24 +216,24 @@ module _ (told : Option (List ℕ)) (ops : List Op) (old new : FrameReading) (be
   gave_with (Err ReadFault) step other = let a = step.advances in gave_on a.grammar (a.stays.none_after ∙ sym a.stays.none_before) a.stays.offset step.moves
   gave_with (Err NoMemory) step other = let a = step.advances in gave_on a.grammar (a.stays.none_after ∙ sym a.stays.none_before) a.stays.offset step.moves
 
-  first_with : (result : Result (Option Op) FrameFault) → Nexts old new before after result → IfSome told (AreFirst old.grammar (given_with ops result))
+  first_with : (result : Result (Option Op) FrameFault) → Nexts old new before after result → IfSome specified (AreFirst old.grammar (given_with ops result))
   first_with (Ok (Some op)) step =
-      subst (λ (g : Grammar). IfSome told (AreFirst g (ops ++ op ∷ []))) step.advances.grammar
-      (gave_are_first told (ops ++ op ∷ []) new after.left (gave_more told ops op old new before.left after.left step.advances.grammar so step.gives))
-  first_with (Ok None) step = gave_are_first told ops old before.left so
-  first_with (Err e) step = gave_are_first told ops old before.left so
+      subst (λ (g : Grammar). IfSome specified (AreFirst g (ops ++ op ∷ []))) step.advances.grammar
+      (gave_are_first specified (ops ++ op ∷ []) new after.left (gave_more specified ops op old new before.left after.left step.advances.grammar so step.gives))
+  first_with (Ok None) step = gave_are_first specified ops old before.left so
+  first_with (Err e) step = gave_are_first specified ops old before.left so
 
-  pub follows : (result : Result (Option Op) FrameFault) → Nexts old new before after result → Follows told ops old new after result
+  pub follows : (result : Result (Option Op) FrameFault) → Nexts old new before after result → Follows specified ops old new after result
   follows result step = record { gave = gave_with result step; first = first_with result step; ends = ends_by result step }
 
 -- the chain of a reader's answers
 pub chains : (old new : FrameReading) (before after : SourceView) (result : Result (Option Op) FrameFault) → Nexts old new before after result → Chains old new before after result
-chains old new before after result step told ops so = follows told ops old new before after so result step
+chains old new before after result step specified ops so = follows specified ops old new before after so result step
 
--- what holds of bytes that are told, wherever they are
-if_told : (told : Option (List ℕ)) (P : List ℕ → Type 0) → ((bytes : List ℕ) → told ≡ Some bytes → P bytes) → IfSome told P
-if_told None P is = tt
-if_told (Some bytes) P is = is bytes refl
+-- what holds of bytes that are specified, wherever they are
+if_specified : (specified : Option (List ℕ)) (P : List ℕ → Type 0) → ((bytes : List ℕ) → specified ≡ Some bytes → P bytes) → IfSome specified P
+if_specified None P is = tt
+if_specified (Some bytes) P is = is bytes refl
 
 module _ (old new : FrameReading) (before after : SourceView) where
   -- where an end stands at once, no operation is read
@@ -247,35 +250,36 @@ module _ (old new : FrameReading) (before after : SourceView) where
   by_reading : (result : Result (Option Op) FrameFault) → Nexts old new before after result → IsByReading result → (bytes : List ℕ) → to_give old before.left ≡ Some bytes
       → (todo : List Op) (end : End)
       → HasTodo old bytes todo end → result ≡ answer_of_rest old.offset todo end
-  by_reading (Ok (Some op)) step by bytes told todo end h =
-      let p = gave_first op old new before.left after.left bytes step.advances.grammar step.gives told in
+  by_reading (Ok (Some op)) step by bytes specified todo end h =
+      let p = gave_first op old new before.left after.left bytes step.advances.grammar step.gives specified in
       let rest = reads_some new.grammar p.rest in
       let both = p.first todo end h (new.todo ++ rest.0) rest.1 (record { behind = rest.0; reads = rest.2; todo_is = refl }) in
       ap (λ (l : List Op). answer_of_rest old.offset l end) (sym both.0)
-  by_reading (Ok None) step by bytes told todo end h =
+  by_reading (Ok None) step by bytes specified todo end h =
       let none = step.advances.stays.none_before in
-      let is = ((some_is _ (to_give old before.left) bytes (step.answer none) told).exactly tt (Ok None) tt).0 refl in
+      let is = ((some_is _ (to_give old before.left) bytes (step.answer none) specified).exactly tt (Ok None) tt).0 refl in
       answer_is todo end Whole (Ok None) refl (none_read bytes end Whole todo none is h)
-  by_reading (Err (CutShort k)) step by bytes told todo end h =
+  by_reading (Err (CutShort k)) step by bytes specified todo end h =
       let none = step.advances.stays.none_before in
-      let is = ((some_is _ (to_give old before.left) bytes (step.answer none) told).exactly tt (Err (CutShort k)) tt).0 refl in
+      let is = ((some_is _ (to_give old before.left) bytes (step.answer none) specified).exactly tt (Err (CutShort k)) tt).0 refl in
       let at : k ≡ old.offset + 0 = omega (arith, is.0) in
       answer_is todo end (EndsCut 0) (Err (CutShort k)) (ap (λ (n : ℕ). Err (CutShort n)) at) (none_read bytes end (EndsCut 0) todo none (refl, is.1, is.3) h)
-  by_reading (Err (BadFrame k)) step by bytes told todo end h =
+  by_reading (Err (BadFrame k)) step by bytes specified todo end h =
       let none = step.advances.stays.none_before in
       let room : ℕ = old.limit - old.offset in
-      let is = ((some_is _ (to_give old before.left) bytes (step.answer none) told).exactly tt (Err (BadFrame k)) tt).0 refl in
+      let is = ((some_is _ (to_give old before.left) bytes (step.answer none) specified).exactly tt (Err (BadFrame k)) tt).0 refl in
       let at : k ≡ old.offset + 0 = omega (arith, is.0) in
       let bad : IsBad old.grammar bytes = subst (IsBad old.grammar) (take-append-drop room bytes) (bad_goes_on old.grammar (take room bytes) (drop room bytes) is.1) in
       answer_is todo end (EndsBad 0) (Err (BadFrame k)) (ap (λ (n : ℕ). Err (BadFrame n)) at) (none_read bytes end (EndsBad 0) todo none (refl, bad) h)
-  by_reading (Err TooLong) step by bytes told todo end h = absurd by
-  by_reading (Err ReadFault) step by bytes told todo end h = absurd by
-  by_reading (Err NoMemory) step by bytes told todo end h = absurd by
+  by_reading (Err TooLong) step by bytes specified todo end h = absurd by
+  by_reading (Err ReadFault) step by bytes specified todo end h = absurd by
+  by_reading (Err NoMemory) step by bytes specified todo end h = absurd by
 
   first_of : (result : Result (Option Op) FrameFault) → Nexts old new before after result
       → IfOk result (λ given. IfSome given (λ op. IfSome (to_give old before.left) (GaveFirst op old new after.left)))
   first_of (Ok (Some op)) step =
-      if_told (to_give old before.left) (GaveFirst op old new after.left) (λ bytes told. gave_first op old new before.left after.left bytes step.advances.grammar step.gives told)
+      if_specified (to_give old before.left) (GaveFirst op old new after.left)
+      (λ bytes specified. gave_first op old new before.left after.left bytes step.advances.grammar step.gives specified)
   first_of (Ok None) step = tt
   first_of (Err e) step = tt
 
@@ -289,10 +293,10 @@ module _ (old new : FrameReading) (before after : SourceView) where
   in_order result step = record {
     first = first_of result step;
     rises = rises_by result step;
-    exactly = λ by. if_told (to_give old before.left) _ (λ bytes told todo end h. by_reading result step by bytes told todo end h);
+    exactly = λ by. if_specified (to_give old before.left) _ (λ bytes specified todo end h. by_reading result step by bytes specified todo end h);
     over = λ is. (subst (λ (r : Result (Option Op) FrameFault). Nexts old new before after r) is step).moves.1;
     memory = λ is.
         let wants = subst (λ (r : Result (Option Op) FrameFault). Nexts old new before after r) is step in
         let none = wants.advances.stays.none_before in
-        (none, if_told (to_give old before.left) _ (λ bytes told. (some_is _ (to_give old before.left) bytes (wants.answer none) told).memory refl));
+        (none, if_specified (to_give old before.left) _ (λ bytes specified. (some_is _ (to_give old before.left) bytes (wants.answer none) specified).memory refl));
   }

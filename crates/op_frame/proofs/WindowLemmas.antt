@@ -45,7 +45,7 @@ filled_in {E} {T} e s to most len n items old new bytes before after p le some w
     ∙ placed_behind old p.part (drop to old) s e n le (omega (arith, some, within)) p.read.bound
     ∙ ap (λ (l : List ℕ). l ++ take n p.part) (ap (λ (l : List ℕ). take (e - s) (drop s l)) same ∙ sym is) in
     record {
-      told = ap (prepend_known bytes) p.read.gave ∙ prepend_twice bytes (take n p.part) after.left ∙ ap (λ (l : List ℕ). prepend_known l after.left) (sym moved);
+      split = ap (prepend_known bytes) p.read.gave ∙ prepend_twice bytes (take n p.part) after.left ∙ ap (λ (l : List ℕ). prepend_known l after.left) (sym moved);
       grew = (
         ap length moved ∙ length-append bytes (take n p.part)
             ∙ ap (λ (k : ℕ). length bytes + k) (length-take-le n p.part p.read.bound),
@@ -69,7 +69,7 @@ not_filled_in {E} {T} x y e s to most len items old new bytes before after p le 
     ∙ placed_behind old p.part (drop to old) s e 0 le (omega (arith, ordered, within)) (omega arith) ∙ append-nil (take (e - s) (drop s old))
     ∙ ap (λ (l : List ℕ). take (e - s) (drop s l)) same ∙ sym is in
     record {
-      told = ap (prepend_known bytes) (sym p.read.kept) ∙ ap (λ (l : List ℕ). prepend_known l after.left) (sym moved);
+      split = ap (prepend_known bytes) (sym p.read.kept) ∙ ap (λ (l : List ℕ). prepend_known l after.left) (sym moved);
       grew = tt;
       ends = tt;
       stays = tt;

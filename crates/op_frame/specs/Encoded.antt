@@ -2,8 +2,8 @@
 use Rattle.std.specs.Prelude.{◌≡◌, ℕ, ◌≤◌, ◌+◌, List, ◌++◌, length, Vec, vec_len, vec_capacity}
 use Rattle.std.specs.declared.alloc.Global.{Global}
 
--- the bytes were appended, and the vector has as much room as before or more: an encoder reserves the room of a frame first
-pub record AppendsInPlace (old new : Vec ℕ Global) (bytes : List ℕ) : Type 0 where
+-- the bytes were appended, and the capacity is no less than before: an encoder reserves the room of a frame first
+pub record AppendsKeepingCapacity (old new : Vec ℕ Global) (bytes : List ℕ) : Type 0 where
   pub items : new.items ≡ old.items ++ bytes
   pub len : vec_len new ≡ vec_len old + length bytes
   pub capacity : vec_capacity old ≤ vec_capacity new

@@ -6,7 +6,7 @@ use Rattle.origin_model.specs.declared.grammar.Grammar.TheVariants.{Version1, Ve
 use Rattle.origin_model.specs.frames.Frames.{End, BadFrame, HasFrame, IsItem, Item, Reads, Single, Whole, frame, item_bytes, single_frames}
 use Rattle.origin_model.specs.frames.Framings.{IsFraming, IsWritten, frames}
 use Rattle.origin_model.specs.taking.Taking.{Held}
-use Rattle.op_frame.specs.Courses.{IntakeOutcome, Comes}
+use Rattle.op_frame.specs.IntakeOutcomes.{IntakeOutcome, Comes}
 
 -- each item has one frame, each operation has one of its own, and no frame is a proper prefix of another
 pub record OneFrame (grammar : Grammar) : Type 0 where
@@ -37,8 +37,8 @@ pub record FramesAre : Type 0 where
 
 -- each stream comes to exactly one end
 pub record ComesOnce (grammar : Grammar) : Type 0 where
-  pub one : (hold most : ℕ) (start : Held) (limit : ℕ) (bytes : List ℕ) (ops others : List Op) (course other : IntakeOutcome)
-      → Comes grammar hold most start limit bytes ops course → Comes grammar hold most start limit bytes others other
-      → (ops ≡ others) × (course ≡ other)
+  pub one : (hold most : ℕ) (start : Held) (limit : ℕ) (bytes : List ℕ) (ops others : List Op) (outcome other : IntakeOutcome)
+      → Comes grammar hold most start limit bytes ops outcome → Comes grammar hold most start limit bytes others other
+      → (ops ≡ others) × (outcome ≡ other)
   pub some : (hold most : ℕ) (start : Held) (limit : ℕ) (bytes : List ℕ)
-      → (ops : List Op) × (course : IntakeOutcome) × Comes grammar hold most start limit bytes ops course
+      → (ops : List Op) × (outcome : IntakeOutcome) × Comes grammar hold most start limit bytes ops outcome

@@ -6,7 +6,7 @@ pub mod Windows
 pub mod Refills
 pub mod Readers
 pub mod Steps
-pub mod Courses
+pub mod IntakeOutcomes
 pub mod FrameFronts
 pub mod Headers
 pub mod Decoded

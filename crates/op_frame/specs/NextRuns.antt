@@ -52,7 +52,8 @@ NextsRun old new before after (Err e) text = Nexts old new before after (Err e) 
 
 -- these operations more were given, of whatever the reader gave before
 abbrev pub GaveMore : (old new : FrameReading) → (before after : Option (List ℕ)) → List Op → Type 0
-GaveMore old new before after more = (told : Option (List ℕ)) (ops : List Op) → Gave told ops old before → Gave told (ops ++ more) new after
+GaveMore old new before after more = (specified : Option (List ℕ)) (ops : List Op) → Gave specified ops old before
+    → Gave specified (ops ++ more) new after
 
 -- the place, less three for each operation held back, rises by three at least for each of so many
 abbrev pub RisesBy : FrameReading → FrameReading → ℕ → Type 0
@@ -169,7 +170,7 @@ TakesDelete target old new None = new ≡ old
 pub record IsRunFront (grammar : Grammar) (header : RunHeader) (len : ℕ) (bytes : List ℕ) : Type 0 where
   pub within : len ≤ length bytes
   pub is_frame : IsFrameOf grammar (take len bytes)
-  pub head_is : HeaderIs header (take len bytes)
+  pub header_is : HeaderIs header (take len bytes)
 
 -- the frame at the front is of Texts that go on with the run: their scalars went behind the text, and it was taken off
 pub record TakesTexts (grammar : Grammar) (start : RunStart) (old_text text old new : List ℕ) (len : ℕ) : Type 0 where

@@ -9,7 +9,7 @@ use Rattle.origin_model.specs.frames.Frames.{Framed, IsFrame, IsPartial, IsBad, 
 use Rattle.origin_model.specs.frames.Frames.{BadFrame as EndsInBadFrame, Reads}
 use Rattle.op_frame.specs.declared.fault.FrameFault.{FrameFault}
 use Rattle.op_frame.specs.declared.fault.FrameFault.TheVariants.{BadFrame, CutShort, ReadFault, TooLong, NoMemory}
-use Rattle.op_frame.specs.Courses.{EndsWholeOrCutShort}
+use Rattle.op_frame.specs.IntakeOutcomes.{EndsWholeOrCutShort}
 use Rattle.op_frame.specs.FrameFronts.{AsksMemory}
 
 -- a reader of frames over its source
@@ -33,7 +33,7 @@ pub record FrameReading : Type 0 where
 abbrev pub fresh_reading : Grammar → ℕ → FrameReading
 fresh_reading grammar limit = record { grammar = grammar; limit = limit; todo = []; unread = []; offset = 0; last = 0; fault = None }
 
--- the bytes that are still to be read, where they are told
+-- the bytes that are still to be read, where they are specified
 abbrev pub to_give : FrameReading → Option (List ℕ) → Option (List ℕ)
 to_give r left = prepend_known r.unread left
 
@@ -187,13 +187,13 @@ pub record GivesInOrder (old new : FrameReading) (before after : SourceView) (re
   pub over : result ≡ Ok None → IfSome after.left (λ left. left ≡ [])
   pub memory : IsErrOf result NoMemory → (old.todo ≡ []) × IfSome (to_give old before.left) AsksMemory
 
--- Of the bytes that were told the reader gave these operations. With those held back they are those of the frames at
+-- Of the bytes that were specified the reader gave these operations. With those held back they are those of the frames at
 -- the front, and it stands behind these frames.
-pub record Gave (told : Option (List ℕ)) (ops : List Op) (reader : FrameReading) (left : Option (List ℕ)) : Type 0 where
+pub record Gave (specified : Option (List ℕ)) (ops : List Op) (reader : FrameReading) (left : Option (List ℕ)) : Type 0 where
   pub found : List Framed
   pub are_frames : All (IsFrame reader.grammar) found
   pub ops_are : ops ++ reader.todo ≡ flat_map (λ framed. framed.ops) found
-  pub split : told ≡ prepend_known (flat_map (λ framed. framed.bytes) found) (to_give reader left)
+  pub split : specified ≡ prepend_known (flat_map (λ framed. framed.bytes) found) (to_give reader left)
   pub offset : reader.offset ≡ length (flat_map (λ framed. framed.bytes) found)
 
 -- the operations given until now, with that of the answer
@@ -214,14 +214,14 @@ EndsBy grammar limit ops (Err (BadFrame k)) bytes =
 EndsBy grammar limit ops (Err TooLong) bytes = (limit < length bytes) × EndsWholeOrCutShort grammar (take limit bytes) ops
 EndsBy grammar limit ops result bytes = Unit {0}
 
--- what an answer adds, behind operations that were given of the bytes that were told
-pub record Follows (told : Option (List ℕ)) (ops : List Op) (old new : FrameReading) (after : SourceView)
+-- what an answer adds, behind operations that were given of the bytes that were specified
+pub record Follows (specified : Option (List ℕ)) (ops : List Op) (old new : FrameReading) (after : SourceView)
     (result : Result (Option Op) FrameFault) : Type 0 where
-  pub gave : (IsErrOf result TooLong → ⊥) → Gave told (given_with ops result) new after.left
-  pub first : IfSome told (AreFirst old.grammar (given_with ops result))
-  pub ends : IfSome told (EndsBy old.grammar old.limit ops result)
+  pub gave : (IsErrOf result TooLong → ⊥) → Gave specified (given_with ops result) new after.left
+  pub first : IfSome specified (AreFirst old.grammar (given_with ops result))
+  pub ends : IfSome specified (EndsBy old.grammar old.limit ops result)
 
 -- the chain of a reader's answers
 abbrev pub Chains : (old new : FrameReading) (before after : SourceView) → Result (Option Op) FrameFault → Type 0
-Chains old new before after result = (told : Option (List ℕ)) (ops : List Op) → Gave told ops old before.left
-    → Follows told ops old new after result
+Chains old new before after result = (specified : Option (List ℕ)) (ops : List Op) → Gave specified ops old before.left
+    → Follows specified ops old new after result

@@ -25,7 +25,7 @@ Grew false old new room = new ≡ old
 -- how a call that takes more bytes ends: it answers false at the source's end
 pub record Refills (old new : List ℕ) (before after : SourceView) (room : ℕ) (result : Result Bool FrameFault) : Type 0 where
   pub grew : IfOk result (λ more. Grew more old new room)
-  pub told : OnOk result (prepend_known old before.left ≡ prepend_known new after.left)
+  pub split : OnOk result (prepend_known old before.left ≡ prepend_known new after.left)
   pub ends : IfOk result (λ more. more ≡ false → IfSome before.left (λ left. left ≡ []) × IfSome after.left (λ left. left ≡ []))
   pub faults : IfErr result (λ e. (e ≡ ReadFault) × (after.left ≡ before.left) ⊎ (e ≡ TooLong) × (room ≡ 0) × Drops before.left after.left)
   pub kept : OnErr result (new ≡ old)

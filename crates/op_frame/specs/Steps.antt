@@ -49,7 +49,7 @@ pub record TakesFirst (grammar : Grammar) (taken : Taken) (old new : List ℕ) (
   pub is_frame : IsFrame grammar framed
   pub ops_are : framed.ops ≡ taken.op ∷ held_ops taken.held new
   pub len : taken.len ≡ length framed.bytes
-  pub told : prepend_known old before ≡ prepend_known framed.bytes (prepend_known (behind_held taken.held new) after)
+  pub split : prepend_known old before ≡ prepend_known framed.bytes (prepend_known (behind_held taken.held new) after)
   pub held : IfSome taken.held (IsHeld new)
 
 -- how a call ends that takes the first frame off the bytes to read

@@ -12,7 +12,7 @@ pub record Window : Type 0 where
 
 -- a call that takes bytes from a source: what moved, and how it may fail
 pub record Filled {E : Type 0} (old new : List ℕ) (before after : SourceView) (most : ℕ) (result : Result ℕ E) : Type 0 where
-  pub told : prepend_known old before.left ≡ prepend_known new after.left
+  pub split : prepend_known old before.left ≡ prepend_known new after.left
   pub grew : IfOk result (λ n. (length new ≡ length old + n) × (n ≤ most))
   pub ends : IfOk result (λ n. n ≡ 0 → IfSome before.left (λ left. left ≡ []))
   pub stays : IfOk result (λ n. n ≡ 0 → new ≡ old)

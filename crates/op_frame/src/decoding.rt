@@ -1,3 +1,4 @@
+//! Decodes a whole frame of one operation, not of a run; only a title or a note's body is allocated.
 ghost use Rattle.std.specs.Prelude.{◌≡◌, IfOk, IsErr};
 ghost use Rattle.origin_model.specs.frames.Frames.{HasFrame, IsBody, IsTitle, body_bytes, frame as frame_of, title_bytes};
 ghost use Rattle.op_frame.specs.Firsts.{IsFrameBehind};

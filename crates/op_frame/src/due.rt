@@ -1,3 +1,4 @@
+//! The state of the frame parser: the fields still to come, and the result of checking bytes of the next.
 use origin_model::Grammar;
 
 /// What a frame still lacks: all of it, a run behind its first byte, or so many identifiers, then so many origins, and

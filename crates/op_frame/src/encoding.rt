@@ -1,3 +1,4 @@
+//! Encodes one operation, or a run of Texts, as one frame; how long a run and a frame may be.
 ghost use Rattle.std.specs.Prelude.{◌≡◌, ◌<◌, ◌≤◌, ◌+◌, ◌*◌, ◌^◌, ◌++◌, All, length, flat_map};
 ghost use Rattle.std.specs.Prelude.{vec_len, vec_capacity, OnOk, OnErr};
 ghost use Rattle.std.specs.Char.{IsScalar};
@@ -6,7 +7,7 @@ ghost use Rattle.origin_model.specs.frames.Frames.{body_bytes, id_bytes, names_b
 ghost use Rattle.origin_model.specs.frames.Framings.{frames};
 ghost use Rattle.fugue_ids.specs.Runs.{run_from};
 ghost use Rattle.fugue_ids.specs.declared.op.Op.TheVariants.{Note as NoteOp, Section as SectionOp};
-ghost use Rattle.op_frame.specs.Encoded.{AppendsInPlace};
+ghost use Rattle.op_frame.specs.Encoded.{AppendsKeepingCapacity};
 ghost use Rattle.op_frame.specs.OpenRuns.{run_of};
 
 use crate::framed::{has_frame, has_identifiers};
@@ -81,7 +82,7 @@ fn put_section(
     title: &Title,
 )
     requires { vec_len out.old + LONGEST_SINGLE ≤ vec_capacity out.old }
-    ensures { AppendsInPlace out.old out.new (frame (SectionOp id left right title.now)) }
+    ensures { AppendsKeepingCapacity out.old out.new (frame (SectionOp id left right title.now)) }
 {
     put(out, &[SECTION]);
     put_id(out, id);
@@ -92,7 +93,7 @@ fn put_section(
 
 fn put_note(out: &mut Vec<u8>, id: ElementId, names: &NoteNames, code: u8, body: &Body)
     requires { vec_len out.old + LONGEST_SINGLE ≤ vec_capacity out.old }
-    ensures { AppendsInPlace out.old out.new (frame (NoteOp id names.now code body.now)) }
+    ensures { AppendsKeepingCapacity out.old out.new (frame (NoteOp id names.now code body.now)) }
 {
     put(out, &[NOTE]);
     put_id(out, id);
@@ -143,7 +144,7 @@ fn encode_run(start: &RunStart, text: &[char], out: &mut Vec<u8>) -> Result<(), 
 /// Appends bytes for which there is room.
 fn put(out: &mut Vec<u8>, bytes: &[u8])
     requires { vec_len out.old + length bytes.now ≤ vec_capacity out.old }
-    ensures { AppendsInPlace out.old out.new bytes.now }
+    ensures { AppendsKeepingCapacity out.old out.new bytes.now }
 {
     if out.extend_from_slice(bytes).is_err() {
         unreachable!()
@@ -152,7 +153,7 @@ fn put(out: &mut Vec<u8>, bytes: &[u8])
 
 fn put_id(out: &mut Vec<u8>, id: ElementId)
     requires { vec_len out.old + 8 ≤ vec_capacity out.old }
-    ensures { AppendsInPlace out.old out.new (id_bytes id) }
+    ensures { AppendsKeepingCapacity out.old out.new (id_bytes id) }
 {
     put(out, &id.replica.to_be_bytes());
     put(out, &id.counter.to_be_bytes());
@@ -160,7 +161,7 @@ fn put_id(out: &mut Vec<u8>, id: ElementId)
 
 fn put_origin(out: &mut Vec<u8>, origin: Option<ElementId>)
     requires { vec_len out.old + 9 ≤ vec_capacity out.old }
-    ensures { AppendsInPlace out.old out.new (origin_bytes origin) }
+    ensures { AppendsKeepingCapacity out.old out.new (origin_bytes origin) }
 {
     match origin {
         None => put(out, &[0]),
@@ -173,7 +174,7 @@ fn put_origin(out: &mut Vec<u8>, origin: Option<ElementId>)
 
 fn put_title(out: &mut Vec<u8>, title: &Title)
     requires { vec_len out.old + 2 + LONGEST_TITLE ≤ vec_capacity out.old }
-    ensures { AppendsInPlace out.old out.new (title_bytes title.now) }
+    ensures { AppendsKeepingCapacity out.old out.new (title_bytes title.now) }
 {
     let text = title.as_str();
     put(out, &(text.len() as u16).to_be_bytes());
@@ -182,7 +183,7 @@ fn put_title(out: &mut Vec<u8>, title: &Title)
 
 fn put_names(out: &mut Vec<u8>, names: &NoteNames)
     requires { vec_len out.old + 1 + 8 * MOST_NAMES ≤ vec_capacity out.old }
-    ensures puts { AppendsInPlace out.old out.new (names_bytes names.now) }
+    ensures puts { AppendsKeepingCapacity out.old out.new (names_bytes names.now) }
     ensures few { length names.now ≤ MOST_NAMES }
 {
     let ids = names.as_slice();
@@ -192,7 +193,7 @@ fn put_names(out: &mut Vec<u8>, names: &NoteNames)
 
 fn put_ids(out: &mut Vec<u8>, ids: &[ElementId])
     requires { vec_len out.old + 8 * length ids.now ≤ vec_capacity out.old }
-    ensures { AppendsInPlace out.old out.new (flat_map id_bytes ids.now) }
+    ensures { AppendsKeepingCapacity out.old out.new (flat_map id_bytes ids.now) }
 {
     for id in ids {
         put_id(out, *id);
@@ -201,7 +202,7 @@ fn put_ids(out: &mut Vec<u8>, ids: &[ElementId])
 
 fn put_body(out: &mut Vec<u8>, body: &Body)
     requires { vec_len out.old + 2 + LONGEST_BODY ≤ vec_capacity out.old }
-    ensures { AppendsInPlace out.old out.new (body_bytes body.now) }
+    ensures { AppendsKeepingCapacity out.old out.new (body_bytes body.now) }
 {
     let bytes = body.as_slice();
     put(out, &(bytes.len() as u16).to_be_bytes());
@@ -210,7 +211,7 @@ fn put_body(out: &mut Vec<u8>, body: &Body)
 
 fn put_scalar(out: &mut Vec<u8>, ch: char)
     requires { vec_len out.old + 3 ≤ vec_capacity out.old }
-    ensures puts { AppendsInPlace out.old out.new (scalar_bytes ch) }
+    ensures puts { AppendsKeepingCapacity out.old out.new (scalar_bytes ch) }
     ensures scalar { IsScalar ch }
 {
     put(out, &(ch as u32).to_be_bytes()[1..]);
@@ -218,7 +219,7 @@ fn put_scalar(out: &mut Vec<u8>, ch: char)
 
 fn put_scalars(out: &mut Vec<u8>, text: &[char])
     requires { vec_len out.old + 3 * length text.now ≤ vec_capacity out.old }
-    ensures puts { AppendsInPlace out.old out.new (flat_map scalar_bytes text.now) }
+    ensures puts { AppendsKeepingCapacity out.old out.new (flat_map scalar_bytes text.now) }
     ensures scalars { All IsScalar text.now }
 {
     for ch in text {

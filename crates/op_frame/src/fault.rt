@@ -1,3 +1,4 @@
+//! Why no operation was read: a bad or truncated frame, a failed source, the limit, or out of memory.
 /// Why no operation was given. Offsets are counted from 0 in the stream.
 ///
 /// After any of these but `NoMemory` the reader answers the same for good.

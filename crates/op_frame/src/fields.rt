@@ -1,3 +1,4 @@
+//! Reads identifiers, origins, the identifiers that a note names, and scalars from the start of bytes.
 ghost use Rattle.std.specs.Prelude.{◌≡◌, ◌++◌, drop, IfNone, IfSome};
 ghost use Rattle.std.specs.Char.{IsScalar};
 ghost use Rattle.origin_model.specs.frames.Frames.{AreNames, IsIdentifier, IsFrameOrigin};
@@ -39,7 +40,7 @@ impl<'a> Fields<'a> {
         Some(ElementId { replica, counter })
     }
 
-    /// The origin at the front, where one stands there.
+    /// The origin at the front, where one stands there. At None `rest` is left without its first byte, if it had one.
     pub(crate) fn try_origin(&mut self) -> Option<Option<ElementId>>
         ensures none { IfNone result (StartsWith IsOriginBytes self.old.rest.now → ⊥) }
         ensures is { IfSome result IsFrameOrigin }

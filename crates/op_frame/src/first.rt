@@ -1,3 +1,4 @@
+//! The first frame in some bytes, decoded, or that the bytes are only a prefix of one, or begin none.
 ghost use Rattle.std.specs.Prelude.{IfOk, OnErr};
 ghost use Rattle.origin_model.specs.frames.Frames.{IsFrame};
 ghost use Rattle.origin_model.specs.declared.grammar.Grammar.TheVariants.{Version2 as WithRuns};

@@ -1,3 +1,4 @@
+//! A frame that arrives byte by byte, in a fixed array: each byte is checked with the field it is in.
 ghost use Rattle.std.specs.Prelude.{◌≡◌, ◌∷◌, ◌++◌, []};
 ghost use Rattle.op_frame.specs.FrameFronts.{IsFrameStage, grown_to};
 

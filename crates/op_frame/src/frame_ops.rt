@@ -1,3 +1,4 @@
+//! What a whole frame stands for, one operation or a run, and its operations given one by one.
 ghost use Rattle.std.specs.Prelude.{◌≡◌, IfOk, IsErr, IfSome, get_or};
 ghost use Rattle.origin_model.specs.frames.Frames.{IsFrame};
 ghost use Rattle.origin_model.specs.declared.grammar.Grammar.TheVariants.{Version2 as WithRuns};

@@ -1,6 +1,9 @@
+//! Functions without effect, whose contracts state that an operation or its fields can be encoded.
 ghost use Rattle.std.specs.Prelude.{All};
 ghost use Rattle.std.specs.Char.{IsScalar};
 ghost use Rattle.origin_model.specs.frames.Frames.{AreNames, HasFrame, IsBody, IsByte, IsIdentifier, IsFrameOrigin, IsTitle};
+ghost use Rattle.fugue_ids.specs.Runs.{text_by};
+ghost use Rattle.fugue_ids.specs.declared.op.Op.TheVariants.{Delete as DeleteOf};
 
 use fugue_ids::{Body, ElementId, NoteNames, Op, RunStart, Title};
 
@@ -46,6 +49,21 @@ pub(crate) fn has_frame(op: &Op)
             bounded(body);
         }
     }
+}
+
+/// A Text that says this has a frame: nothing is done.
+pub(crate) fn has_text_frame(next: &RunStart, ch: char)
+    ensures { HasFrame (text_by next.now ch) }
+{
+    has_identifiers(next);
+    scalar(ch);
+}
+
+/// A Delete has a frame: nothing is done.
+pub(crate) fn has_delete_frame(target: ElementId)
+    ensures { HasFrame (DeleteOf target) }
+{
+    identifier(target);
 }
 
 /// What the first Text of a run says can stand in a frame: nothing is done.

@@ -1,3 +1,4 @@
+//! Finds where the first frame in some bytes ends, or that they are only a prefix of one, or begin none.
 ghost use Rattle.op_frame.specs.Firsts.{FrontIs};
 
 use crate::due::{Due, Judged};
@@ -16,7 +17,7 @@ pub(crate) enum Front {
     Bad,
 }
 
-/// What stands at the front of the bytes, which are looked at field by field.
+/// What stands at the front of the bytes. They are judged field by field, but a run's scalars are passed in one loop.
 pub(crate) fn front_of(grammar: Grammar, bytes: &[u8]) -> Front
     ensures { FrontIs result grammar bytes.now }
 {

@@ -1,17 +1,17 @@
+//! Takes frames off the buffer that continue a run of Texts or a series of Deletes, to return all at once.
 ghost use Rattle.std.specs.Prelude.{◌≡◌, ◌<◌, ◌≤◌, ◌+◌, ◌^◌, IfSome, IsTrue, length, vec_capacity};
 ghost use Rattle.fugue_ids.specs.Runs.{id_behind, start_behind};
-ghost use Rattle.fugue_ids.specs.declared.op.Op.TheVariants.{Delete as DeleteOf};
 ghost use Rattle.op_frame.specs.Headers.{IsHeld};
-ghost use Rattle.op_frame.specs.NextRuns.{IsOpFront, IsRunFront, IsTextBehind, PutsScalars, TakesDelete, TakesFront, TakesHeld, start_in};
+ghost use Rattle.op_frame.specs.NextRuns.{IsRunFront, IsTextBehind, PutsScalars, TakesDelete, TakesFront, TakesHeld, start_in};
 
+use crate::expected::{expected_delete, expected_text};
 use crate::fields::first_scalar;
 use crate::frame_ops::run_header;
 use crate::front::{Front, front_of};
 use crate::header::RunHeader;
-use crate::letter::read_letter;
 use crate::protocol::RUN;
 use crate::unread::Unread;
-use fugue_ids::{ElementId, Op, RunStart, read_text};
+use fugue_ids::{ElementId, RunStart};
 use origin_model::Grammar;
 
 /// Takes the scalars of the Texts that are held back, if these go on with the run. After want of memory nothing is done.
@@ -68,21 +68,9 @@ pub(crate) fn target_behind(first: ElementId, count: u32) -> Option<ElementId>
 pub(crate) fn take_delete(target: ElementId, unread: &mut Unread) -> Option<usize>
     ensures { TakesDelete target unread.old.bytes unread.new.bytes result }
 {
-    let len = delete_front(target, unread.as_slice())?;
+    let len = expected_delete(target, unread.as_slice())?;
     unread.skip(len);
     Some(len)
-}
-
-/// The length of the frame at the front of the bytes, where it is whole and that of the Delete of this target.
-fn delete_front(target: ElementId, bytes: &[u8]) -> Option<usize>
-    ensures { IfSome result (λ len. IsOpFront (DeleteOf target) len bytes.now) }
-{
-    let (op, len) = read_letter(bytes)?;
-    if op == (Op::Delete { target }) {
-        Some(len)
-    } else {
-        None
-    }
 }
 
 /// The run whose frame stands at the front of the bytes, and the frame's length.
@@ -141,16 +129,15 @@ fn take_text(
 }
 
 /// The scalar and the length of the frame at the front of the bytes, where it is whole and that of the Text that goes on
-/// with the run.
+/// with the run. Behind the last counter there is none.
 fn text_behind(start: &RunStart, text: &Vec<char>, bytes: &[u8]) -> Option<(char, usize)>
     ensures { IfSome result (λ found. IsTextBehind start.now (length text.now.items) found.0 found.1 bytes.now) }
 {
-    let (op, len) = read_letter(bytes)?;
-    let (next, ch) = read_text(&op)?;
-    if !start.goes_on(text.as_slice().len(), &next) {
+    let count = text.as_slice().len();
+    if count > (u32::MAX - start.id.counter) as usize {
         return None;
     }
-    Some((ch, len))
+    expected_text(&start.nth(count), bytes)
 }
 
 /// Whether the Texts go on with the run.

@@ -1,3 +1,4 @@
+//! What bytes are with one more appended: a whole frame, a proper prefix of one, or neither.
 /// What bytes are with one more behind them.
 #[derive(Clone, Copy, Debug, PartialEq, Eq)]
 pub enum Grown {

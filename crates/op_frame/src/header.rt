@@ -1,3 +1,4 @@
+//! The fields of a run's frame before its scalars, and what they become as its Texts are returned in turn.
 ghost use Rattle.std.specs.Prelude.{◌≡◌, ◌<◌, ◌≤◌, ◌+◌, ◌^◌, ◌∷◌, drop};
 ghost use Rattle.op_frame.specs.FrameFronts.{IsRunBehind};
 ghost use Rattle.op_frame.specs.Headers.{GivesHeld, HeaderIs, IsHeld, IsNextHeader};

@@ -1,3 +1,4 @@
+//! The step of the frame parser: checks bytes against the next field, and says which fields follow.
 ghost use Rattle.std.specs.Prelude.{◌≡◌, ◌≤◌, ◌<◌, length, [], ◌∷◌, true, false};
 ghost use Rattle.op_frame.specs.FrameFronts.{IsJudged, IsSoundDue, field_size as due_size, grown_by as by_due};
 ghost use Rattle.op_frame.specs.FrameFronts.{last_size as due_last_size};
@@ -6,7 +7,7 @@ ghost use Rattle.op_frame.specs.declared.grown.Grown.TheVariants.{Frame as Whole
 
 use crate::due::{Due, Judged, Last};
 use crate::grown::Grown;
-use crate::note::{judge_body, judge_code, judge_length, judge_names};
+use crate::note_fields::{judge_body, judge_code, judge_length, judge_names};
 use crate::number::number;
 use crate::protocol::{DELETE, NOTE, RUN, SECTION, TEXT};
 use crate::run_fields::{judge_count, judge_first, judge_scalar};

@@ -1,3 +1,4 @@
+//! Theorems: the encoding is prefix-free and round-trips; bytes have one reading, and a stream has one end.
 ghost use Rattle.origin_model.specs.declared.grammar.Grammar.TheVariants.{Version1, Version2};
 ghost use Rattle.op_frame.specs.Laws.{ComesOnce, FramesAre, OneFrame, ReadsOnce};
 

@@ -1,3 +1,4 @@
+//! Reads the frame of a Text or a Delete, by far the most common ones, at once and without the parser.
 ghost use Rattle.std.specs.Prelude.{◌≡◌, ◌∷◌, ◌++◌, drop, IfNone, IfSome};
 ghost use Rattle.std.specs.Char.{IsScalar};
 ghost use Rattle.origin_model.specs.frames.Frames.{scalar_bytes};
@@ -10,8 +11,14 @@ use crate::number::scalar_of;
 use crate::protocol::{DELETE, TEXT};
 use fugue_ids::Op;
 
-/// The letter, a Text or a Delete, whose frame stands at the front of the bytes, and the frame's length. None is the
-/// answer where not all of one stands there.
+/// The length of a Delete's frame: its kind and its target.
+const DELETE_LEN: usize = 1 + 8;
+
+/// The length of a scalar, the last field of a Text's frame.
+pub(crate) const SCALAR_LEN: usize = 3;
+
+/// The Text or the Delete whose frame stands at the front of the bytes, and the frame's length; None if no whole frame
+/// of either stands there.
 pub(crate) fn read_letter(bytes: &[u8]) -> Option<(Op, usize)>
     ensures none { IfNone result (StartsWith IsLetterFrame bytes.now → ⊥) }
     ensures letter { IfSome result (λ found. IsLetter found.0) }
@@ -27,7 +34,7 @@ pub(crate) fn read_letter(bytes: &[u8]) -> Option<(Op, usize)>
     }
 }
 
-/// The Text of which the frame goes on so behind its first byte, and the frame's length.
+/// The Text whose frame, but for its first byte, stands at the front of the bytes, and the length of the whole frame.
 fn text(bytes: &[u8]) -> Option<(Op, usize)>
     ensures none { IfNone result (StartsWith IsLetterFrame (TEXT ∷ bytes.now) → ⊥) }
     ensures letter { IfSome result (λ found. IsLetter found.0) }
@@ -46,10 +53,10 @@ fn text(bytes: &[u8]) -> Option<(Op, usize)>
         left,
         right,
     };
-    Some((op, 1 + bytes.len() - fields.rest.len() + 3))
+    Some((op, 1 + bytes.len() - fields.rest.len() + SCALAR_LEN))
 }
 
-/// The Delete of which the frame goes on so behind its first byte, and the frame's length.
+/// The Delete whose frame, but for its first byte, stands at the front of the bytes, and the length of the whole frame.
 fn delete(bytes: &[u8]) -> Option<(Op, usize)>
     ensures none { IfNone result (StartsWith IsLetterFrame (DELETE ∷ bytes.now) → ⊥) }
     ensures letter { IfSome result (λ found. IsLetter found.0) }
@@ -57,16 +64,16 @@ fn delete(bytes: &[u8]) -> Option<(Op, usize)>
 {
     let mut fields = Fields { rest: bytes };
     let target = fields.try_identifier()?;
-    Some((Op::Delete { target }, 9))
+    Some((Op::Delete { target }, DELETE_LEN))
 }
 
 /// The scalar at the front of the bytes.
-fn scalar(bytes: &[u8]) -> Option<char>
+pub(crate) fn scalar(bytes: &[u8]) -> Option<char>
     ensures none { IfNone result (StartsWith IsScalarBytes bytes.now → ⊥) }
     ensures is { IfSome result IsScalar }
     ensures split { IfSome result (λ ch. bytes.now ≡ scalar_bytes ch ++ drop 3 bytes.now) }
 {
-    if bytes.len() < 3 {
+    if bytes.len() < SCALAR_LEN {
         return None;
     }
     scalar_of(bytes[0], bytes[1], bytes[2])

@@ -1,3 +1,4 @@
+//! What a reader returns at once: a run of Texts, Deletes in a row, or one other operation.
 use fugue_ids::{ElementId, Op, RunStart};
 
 /// The next operations of a stream.

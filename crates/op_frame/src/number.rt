@@ -1,3 +1,4 @@
+//! Big-endian numbers of two and four bytes, and scalars of three, read from bytes.
 ghost use Rattle.std.specs.Prelude.{◌≡◌, ◌≤◌, ◌<◌, ◌++◌, ◌∷◌, [], length, drop, get_or, SomeIff};
 ghost use Rattle.std.specs.Int.{to_be_bytes, w16, w32};
 ghost use Rattle.std.specs.Char.{IsScalar};

@@ -1,3 +1,4 @@
+//! The run being encoded: its Texts are buffered until the frame is full or an operation ends the run.
 ghost use Rattle.std.specs.Prelude.{◌≡◌, ◌↔◌, ◌<◌, ◌≤◌, ◌+◌, ◌++◌, ◌∷◌, ◌^◌, [], All, IfOk, IsTrue, None, OnErr, OnOk, length, take};
 ghost use Rattle.origin_model.specs.frames.Frames.{HasFrame};
 ghost use Rattle.origin_model.specs.frames.Framings.{frames};

@@ -1,3 +1,4 @@
+//! The tag bytes of the frames, and those that begin or end a session's text or the reply to it.
 /// The first bytes of the frames of one operation.
 pub(crate) const SECTION: u8 = 1;
 

@@ -1,3 +1,4 @@
+//! Reads the operations of a stream of limited length, one by one or many at once, with their offsets.
 ghost use Rattle.std.specs.Prelude.{◌≡◌, ◌≢◌, ◌<◌, ◌≤◌, ◌+◌, ◌^◌, ℕ, List, [], length, Option, None, IfErr, IfOk, IfSome, IsErrOf};
 ghost use Rattle.std.specs.Prelude.{vec_len, vec_capacity};
 ghost use Rattle.fugue_ids.specs.declared.limits.TheConstants.{BUFFER};

@@ -1,3 +1,4 @@
+//! Reads more bytes from the source into the buffer, and fails where the stream exceeds the limit.
 ghost use Rattle.std.specs.Prelude.{◌≡◌, ◌<◌, ◌≤◌, length};
 ghost use Rattle.op_frame.specs.Refills.{Refills, PastLimit};
 

@@ -1,3 +1,4 @@
+//! Checks the fields of a run's frame: its first identifier, the number of scalars, and the scalars.
 ghost use Rattle.std.specs.Prelude.{◌≡◌, ◌≤◌, ◌<◌, ◌-◌, ◌*◌, IsTrue, get_or, length, take};
 ghost use Rattle.std.specs.Char.{IsScalar};
 ghost use Rattle.op_frame.specs.FrameFronts.{IsJudged, IsSoundDue, LeavesDue, most_from as most_texts, scalar_of_bytes, scalars_due as due_scalars};

@@ -1,4 +1,5 @@
-ghost use Rattle.std.specs.Prelude.{◌≡◌, ◌≤◌, ◌≢◌, length, take, [], None, Some, IfOk, IfErr, IsErr};
+//! Takes the next frame from the buffer and the source: its first operation, and the rest of a run.
+ghost use Rattle.std.specs.Prelude.{◌≡◌, ◌≤◌, ◌≢◌, length, take, [], None, Some, IfOk, IfErr};
 ghost use Rattle.origin_model.specs.declared.grammar.Grammar.TheVariants.{Version2 as WithRuns};
 ghost use Rattle.op_frame.specs.Firsts.{IsLetter};
 ghost use Rattle.op_frame.specs.FrameFronts.{IsFrameOf};

@@ -1,3 +1,4 @@
+//! Checks a title's length and its text, also where only a prefix has arrived: UTF-8 without line ends.
 ghost use Rattle.std.specs.Prelude.{◌≡◌, ◌≤◌, ◌<◌, ◌∷◌, [], length};
 ghost use Rattle.op_frame.specs.FrameFronts.{IsJudged, text_due as due_text, width_of};
 ghost use Rattle.op_frame.specs.declared.due.Due.TheVariants.{Fields as FieldsDue};

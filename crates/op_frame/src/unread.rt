@@ -1,3 +1,4 @@
+//! A buffer of fixed size with the bytes that were read from a source and are not yet consumed.
 ghost use Rattle.std.specs.Prelude.{◌≡◌, ◌≤◌, ◌<◌, ◌-◌, length, drop, [], IfOk};
 ghost use Rattle.op_frame.specs.Windows.{Filled, ReadsIntoPart};
 

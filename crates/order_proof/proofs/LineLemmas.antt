@@ -9,8 +9,8 @@ use Rattle.order_proof.specs.declared.step.Reason.{Reason}
 use Rattle.order_proof.specs.declared.step.Reason.TheVariants.{End, Inner, Later, Prefix, Tie}
 use Rattle.order_proof.specs.declared.step.Step.{Step}
 use Rattle.order_proof.specs.Readings.{MemoryWasWanting, IsPossible, IsReadAs, sibling_lines}
-use Rattle.order_proof.specs.Texts.{IsNarrow, ProofLine, chain_lines, claim, down, ids_text, proof_line, proof_line_text, reason_line, right, step_lines, step_text, told_by}
-use Rattle.order_proof.specs.Texts.{told_step, word_with_ids}
+use Rattle.order_proof.specs.Texts.{IsNarrow, ProofLine, chain_lines, claim, down, ids_text, proof_line, proof_line_text, reason_line, right, step_lines, step_text, step_written_by}
+use Rattle.order_proof.specs.Texts.{written_step, word_with_ids}
 
 -- a fault is passed on
 pub passed_on : {U : Type 0} (r : Result U TextFault) (f : TextFault) (Q : U → Type 0) → ((x : TextFault) × (r ≡ Err x) × (x ≡ f)) → MemoryWasWanting f → IsReadAs r Q
@@ -131,12 +131,12 @@ four_fine s p =
     )
 
 -- a step that is not by Prefix tells all of itself
-pub sibling_told : (s : Step) (r : Reason) → r ≢ Prefix → told_by s r ≡ s
-sibling_told s Prefix n = absurd (n refl)
-sibling_told s Inner n = refl
-sibling_told s End n = refl
-sibling_told s (Later p q) n = refl
-sibling_told s Tie n = refl
+pub sibling_written : (s : Step) (r : Reason) → r ≢ Prefix → step_written_by s r ≡ s
+sibling_written s Prefix n = absurd (n refl)
+sibling_written s Inner n = refl
+sibling_written s End n = refl
+sibling_written s (Later p q) n = refl
+sibling_written s Tie n = refl
 
 -- the first lines of a step: its claim, and its first chain, with what stands behind them
 pub record IsStepText (s : Step) (text more : List ℕ) : Type 0 where
@@ -175,7 +175,7 @@ fine_prefix s e a b =
 
 -- what a text tells before its rest
 abbrev pub Tells : (text rest : List ℕ) → Step → Type 0
-Tells text rest s = (text ≡ step_text s ++ rest) × All IsFine (step_lines s) × (told_step s ≡ s)
+Tells text rest s = (text ≡ step_text s ++ rest) × All IsFine (step_lines s) × (written_step s ≡ s)
 
 pub step_from : (r : Result Step TextFault) (text behind rest : List ℕ) (x y : Identifier) (d : List Identifier)
     → text ≡ word_with_ids (codes "claim") (x ∷ y ∷ []) ++ (word_with_ids (codes "down") d ++ behind) → All IsPossible (x ∷ y ∷ []) → All IsPossible d
@@ -187,7 +187,7 @@ step_from (Ok s) text behind rest x y d e a b k =
     e ∙ (λ i. word_with_ids (codes "claim") (sym k.2 i ∷ sym k.3 i ∷ []) ++ (word_with_ids (codes "down") (sym k.4 i) ++ k.0 i)) in (
       whole ∙ sym (sibling_split s rest k.5),
       fine_sibling s k.5 (subst (λ z. All IsPossible (z ∷ s.y ∷ [])) (sym k.2) (subst (λ z. All IsPossible (x ∷ z ∷ [])) (sym k.3) a)) (subst (All IsPossible) (sym k.4) b) k.1,
-      sibling_told s s.reason k.5,
+      sibling_written s s.reason k.5,
     )
 
 unfoldable first_byte : List ℕ → ℕ

@@ -95,12 +95,12 @@ id_made (Some i) replica counter id none some r c k = λ j. Some (record { repli
 
 -- identifiers were read, and the rest of the text was not: all identifiers whose text it is begin with them
 pub record IsReadTo (text : List ℕ) (ids : List Identifier) (rest : List ℕ) : Type 0 where
-  pub told : text ≡ ids_text ids ++ rest
+  pub written : text ≡ ids_text ids ++ rest
   pub possible : All IsPossible ids
   pub every : (xs : List Identifier) → All IsPossible xs → text ≡ ids_text xs → (ys : List Identifier) × All IsPossible ys × (rest ≡ ids_text ys) × (xs ≡ ids ++ ys)
 
 pub read_none : (text : List ℕ) → IsReadTo text [] text
-read_none text = record { told = refl; possible = All-nil IsPossible; every = λ xs p e. (xs, p, e, refl) }
+read_none text = record { written = refl; possible = All-nil IsPossible; every = λ xs p e. (xs, p, e, refl) }
 
 -- what the first identifier of the rest is
 abbrev Begins : (rest : List ℕ) → Identifier → (behind : List ℕ) → Type 0
@@ -118,8 +118,8 @@ pub read_more : (text : List ℕ) (ids : List Identifier) (rest : List ℕ) (id 
     → IsPossible id
     → Begins rest id behind → IsReadTo text (ids ++ id ∷ []) behind
 read_more text ids rest id behind r b p f = record {
-  told =
-      r.told
+  written =
+      r.written
       ∙ ap (λ z. ids_text ids ++ z) b
       ∙ sym (append_assoc (ids_text ids) (32 ∷ id_text id) behind)
       ∙ ap (λ z. (ids_text ids ++ z) ++ behind) (sym (append-nil (32 ∷ id_text id)))

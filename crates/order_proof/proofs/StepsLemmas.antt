@@ -9,7 +9,7 @@ use Rattle.order_proof.specs.declared.step.Reason.TheVariants.{End, Inner, Later
 use Rattle.order_proof.specs.declared.step.Step.{Step}
 use Rattle.order_proof.specs.Certificates.{Certificate}
 use Rattle.order_proof.specs.Readings.{IsProofText}
-use Rattle.order_proof.specs.Texts.{ProofLine, chain_lines, proof_line_text, proof_lines, proof_text, reason_line, step_lines, step_text, told_step}
+use Rattle.order_proof.specs.Texts.{ProofLine, chain_lines, proof_line_text, proof_lines, proof_text, reason_line, step_lines, step_text, written_step}
 use Rattle.order_proof.proofs.LineLemmas.{IsFine, Tells}
 use Rattle.order_proof.proofs.WritingLemmas.{by_steps}
 
@@ -36,9 +36,9 @@ text-push c s rest =
     ap (λ z. z ++ rest) (sym (by_steps (c ++ s ∷ [])) ∙ flat_map-append step_text c (s ∷ []) ∙ (λ i. by_steps c i ++ append-nil (step_text s) i))
     ∙ append_assoc (proof_text c) (step_text s) rest
 
-map-push : (c : Certificate) (s : Step) → map told_step (c ++ s ∷ []) ≡ map told_step c ++ told_step s ∷ []
+map-push : (c : Certificate) (s : Step) → map written_step (c ++ s ∷ []) ≡ map written_step c ++ written_step s ∷ []
 map-push [] s = refl
-map-push (t ∷ c) s = ap (λ z. told_step t ∷ z) (map-push c s)
+map-push (t ∷ c) s = ap (λ z. written_step t ∷ z) (map-push c s)
 
 -- lines of a certificate, and of what follows
 front_fine : (ls ms : List ProofLine) → All IsFine (ls ++ ms) → All IsFine ls × All IsFine ms
@@ -49,32 +49,33 @@ front_fine (l ∷ ls) ms p =
 
 -- steps were read, and the rest of the text was not: each certificate whose text it is begins with them
 pub record IsReadSo (text rest : List ℕ) (c : Certificate) : Type 0 where
-  pub told : text ≡ proof_text c ++ rest
+  pub written : text ≡ proof_text c ++ rest
   pub fine : All IsFine (proof_lines c)
-  pub whole : map told_step c ≡ c
+  pub whole : map written_step c ≡ c
   pub every : (d : Certificate) → All IsFine (proof_lines d) → text ≡ proof_text d
-      → (e : Certificate) × All IsFine (proof_lines e) × (rest ≡ proof_text e) × (map told_step d ≡ c ++ map told_step e)
+      → (e : Certificate) × All IsFine (proof_lines e) × (rest ≡ proof_text e) × (map written_step d ≡ c ++ map written_step e)
 
 pub read_no_step : (text : List ℕ) → IsReadSo text text []
-read_no_step text = record { told = refl; fine = All-nil IsFine; whole = refl; every = λ d p e. (d, p, e, refl) }
+read_no_step text = record { written = refl; fine = All-nil IsFine; whole = refl; every = λ d p e. (d, p, e, refl) }
 
 -- what the first step of the rest is
 abbrev pub BeginsStep : (rest behind : List ℕ) → Step → Type 0
-BeginsStep rest behind s = (t : Step) (more : List ℕ) → All IsFine (step_lines t) → rest ≡ step_text t ++ more → (s ≡ told_step t) × (behind ≡ more)
+BeginsStep rest behind s = (t : Step) (more : List ℕ) → All IsFine (step_lines t) → rest ≡ step_text t ++ more → (s ≡ written_step t) × (behind ≡ more)
 
 next_of : (c : Certificate) (rest behind : List ℕ) (s : Step) → Tells rest behind s → BeginsStep rest behind s → (d e : Certificate) → All IsFine (proof_lines e)
     → rest ≡ proof_text e
-    → map told_step d ≡ c ++ map told_step e → (f : Certificate) × All IsFine (proof_lines f) × (behind ≡ proof_text f) × (map told_step d ≡ (c ++ s ∷ []) ++ map told_step f)
+    → map written_step d ≡ c ++ map written_step e → (f : Certificate) × All IsFine (proof_lines f) × (behind ≡ proof_text f)
+    × (map written_step d ≡ (c ++ s ∷ []) ++ map written_step f)
 next_of c rest behind s t b d [] p e k = absurd (omega (arith, ap length (sym t.0 ∙ e), some_text s behind))
 next_of c rest behind s t b d (u ∷ f) p e k =
     let parts = front_fine (step_lines u) (proof_lines f) p in
     let found = b u (proof_text f) parts.0 (e ∙ text-cons u f) in
-    (f, parts.1, found.1, k ∙ (λ i. c ++ sym found.0 i ∷ map told_step f) ∙ sym (append_assoc c (s ∷ []) (map told_step f)))
+    (f, parts.1, found.1, k ∙ (λ i. c ++ sym found.0 i ∷ map written_step f) ∙ sym (append_assoc c (s ∷ []) (map written_step f)))
 
 pub read_step_more : (text rest behind : List ℕ) (c : Certificate) (s : Step) → IsReadSo text rest c → Tells rest behind s → BeginsStep rest behind s
     → IsReadSo text behind (c ++ s ∷ [])
 read_step_more text rest behind c s r t b = record {
-  told = r.told ∙ ap (λ z. proof_text c ++ z) t.0 ∙ sym (text-push c s behind);
+  written = r.written ∙ ap (λ z. proof_text c ++ z) t.0 ∙ sym (text-push c s behind);
   fine = subst (All IsFine) (sym (lines-push c s)) (All-append IsFine (proof_lines c) (step_lines s) r.fine t.1);
   whole = map-push c s ∙ (λ i. r.whole i ++ t.2 i ∷ []);
   every = λ d p e. let k = r.every d p e in next_of c rest behind s t b d k.0 k.1 k.2 k.3;
@@ -95,20 +96,20 @@ none_left : (rest : List ℕ) (e : Certificate) → length rest ≤ 0 → rest �
 none_left rest [] l e = refl
 none_left rest (u ∷ f) l e = absurd (omega (arith, ap length (e ∙ text-cons u f), some_text u (proof_text f), l))
 
-pub read_all : (text rest : List ℕ) (c : Certificate) → IsReadSo text rest c → length rest ≤ 0 → 0 < length text → IsProofText text c × (map told_step c ≡ c)
+pub read_all : (text rest : List ℕ) (c : Certificate) → IsReadSo text rest c → length rest ≤ 0 → 0 < length text → IsProofText text c × (map written_step c ≡ c)
 read_all text rest c r l k =
     let none : rest ≡ [] = empty rest l in
-    let is : text ≡ proof_text c = r.told ∙ ap (λ z. proof_text c ++ z) none ∙ append-nil (proof_text c) in
+    let is : text ≡ proof_text c = r.written ∙ ap (λ z. proof_text c ++ z) none ∙ append-nil (proof_text c) in
     (record { text_is = is; has_step = λ e. omega (arith, ap length (is ∙ ap proof_text e), k); possible = r.fine }, r.whole)
   where
     empty : (xs : List ℕ) → length xs ≤ 0 → xs ≡ []
     empty [] l = refl
     empty (x ∷ xs) l = absurd (omega (arith, l))
 
-pub read_as : (text rest : List ℕ) (c : Certificate) → IsReadSo text rest c → length rest ≤ 0 → (d : Certificate) → IsProofText text d → c ≡ map told_step d
+pub read_as : (text rest : List ℕ) (c : Certificate) → IsReadSo text rest c → length rest ≤ 0 → (d : Certificate) → IsProofText text d → c ≡ map written_step d
 read_as text rest c r l d p =
     let k = r.every d p.possible p.text_is in
-    sym (append-nil c) ∙ ap (λ z. c ++ map told_step z) (sym (none_left rest k.0 l k.2)) ∙ sym k.3
+    sym (append-nil c) ∙ ap (λ z. c ++ map written_step z) (sym (none_left rest k.0 l k.2)) ∙ sym k.3
 
 -- no certificate has the empty text
 pub no_text : (text : List ℕ) → length text ≤ 0 → (d : Certificate) → IsProofText text d → ⊥

@@ -16,7 +16,7 @@ use Rattle.order_proof.specs.Certificates.{Certificate, HoldsBy, IsValid}
 use Rattle.order_proof.specs.Laws.{ReadsUniquely, ValidReadsUniquely}
 use Rattle.order_proof.specs.Readings.{HasNoByte}
 use Rattle.order_proof.specs.Texts.{IsNarrow, ProofLine, Word, chain_lines, reason_line, claim, down, end, id_text, ids_text, inner, later, proof_line_text, proof_lines, prefix}
-use Rattle.order_proof.specs.Texts.{right, tie, told_step, told_by, word_text}
+use Rattle.order_proof.specs.Texts.{right, tie, written_step, step_written_by, word_text}
 
 pub free-append : (k : ℕ) (a b : List ℕ) → HasNoByte k a → HasNoByte k b → HasNoByte k (a ++ b)
 free-append k [] b f g = g
@@ -46,7 +46,7 @@ some_piece : (k : ℕ) (x r : List ℕ) → [] ≡ (x ++ k ∷ []) ++ r → ⊥
 some_piece k [] r e = cc
 some_piece k (c ∷ x) r e = cc
 
--- the pieces are told by their text
+-- the pieces are fixed by their text
 pieces_once : (k : ℕ) (xs ys : List (List ℕ)) → HaveNoByte k xs → HaveNoByte k ys → marked k xs ≡ marked k ys → xs ≡ ys
 pieces_once k [] [] f g e = refl
 pieces_once k [] (y ∷ ys) f g e = absurd (some_piece k y (marked k ys) e)
@@ -64,7 +64,7 @@ digits_free k (c ∷ cs) l d = ((λ e. omega (arith, digit_from_value c d.0, e, 
 pub decimal_free : (k n : ℕ) → k < 48 → n < 2 ^ 32 → HasNoByte k (decimal n)
 decimal_free k n l h = digits_free k (decimal n) l (decimal_is_IsNumeral n (omega (arith, h))).0.1
 
--- an identifier is told by its text
+-- an identifier is fixed by its text
 pub id_free : (k : ℕ) (id : Identifier) → k < 46 → IsNarrow id → HasNoByte k (id_text id)
 id_free k id l n =
     free-append k (decimal id.replica) (46 ∷ decimal id.counter) (decimal_free k id.replica (omega (arith, l)) n.0)
@@ -89,7 +89,7 @@ ids_once (x ∷ xs) (y ∷ ys) m n e =
     let s = ids_once xs ys (All-tail IsNarrow x xs m) (All-tail IsNarrow y ys n) q in
     λ i. r i ∷ s i
 
--- a word is told by its first letter
+-- a word is fixed by its first letter
 abbrev word_by : ℕ → Word
 word_by n =
     if nat_eq n 99 then claim else if nat_eq n 100 then down else if nat_eq n 114 then right else if nat_eq n 112 then prefix
@@ -161,7 +161,7 @@ pieces_free : (ids : List Identifier) → All IsNarrow ids → HaveNoByte 32 (ma
 pieces_free [] n = tt
 pieces_free (i ∷ ids) n = (id_free 32 i (omega arith) (All-head IsNarrow i ids n), pieces_free ids (All-tail IsNarrow i ids n))
 
--- a line is told by its text
+-- a line is fixed by its text
 body_once : (l m : ProofLine) → All IsNarrow l.ids → All IsNarrow m.ids → body l ≡ body m → l ≡ m
 body_once l m f g e =
     let p : word_text l.word ∷ map id_text l.ids ≡ word_text m.word ∷ map id_text m.ids =
@@ -174,7 +174,7 @@ body_once l m f g e =
     let i = ids_once l.ids m.ids f g q in
     λ j. record { word = w j; ids = i j }
 
--- lines are told by their text
+-- lines are fixed by their text
 lines_marked : (ls : List ProofLine) → flat_map proof_line_text ls ≡ marked 10 (map body ls)
 lines_marked [] = refl
 lines_marked (l ∷ ls) = λ i. sym (append_assoc (word_text l.word) (flat_map (λ id. 32 ∷ id_text id) l.ids) (10 ∷ [])) i ++ lines_marked ls i
@@ -225,20 +225,20 @@ read_step (l ∷ more) = read_claim l.ids more
 read_step [] = (nothing, [])
 
 -- a step as its lines tell it
-abbrev told_with : Step → Reason → Step
-told_with s Prefix = record { x = s.x; y = s.y; down_x = []; down_y = s.down_y; right_x = []; right_y = []; reason = Prefix }
-told_with s r = record { x = s.x; y = s.y; down_x = s.down_x; down_y = s.down_y; right_x = s.right_x; right_y = s.right_y; reason = r }
+abbrev written_with : Step → Reason → Step
+written_with s Prefix = record { x = s.x; y = s.y; down_x = []; down_y = s.down_y; right_x = []; right_y = []; reason = Prefix }
+written_with s r = record { x = s.x; y = s.y; down_x = s.down_x; down_y = s.down_y; right_x = s.right_x; right_y = s.right_y; reason = r }
 
-step_read : (s : Step) (r : Reason) (more : List ProofLine) → read_step ((chain_lines s r ++ reason_line r ∷ []) ++ more) ≡ (told_with s r, more)
+step_read : (s : Step) (r : Reason) (more : List ProofLine) → read_step ((chain_lines s r ++ reason_line r ∷ []) ++ more) ≡ (written_with s r, more)
 step_read s Prefix more = refl
 step_read s Inner more = refl
 step_read s End more = refl
 step_read s (Later p q) more = refl
 step_read s Tie more = refl
 
-told-same : (s : Step) (r : Reason) → r ≡ s.reason → told_with s r ≡ told_by s r
-told-same s Prefix e = refl
-told-same s r e = λ i. record { x = s.x; y = s.y; down_x = s.down_x; down_y = s.down_y; right_x = s.right_x; right_y = s.right_y; reason = e i }
+written-same : (s : Step) (r : Reason) → r ≡ s.reason → written_with s r ≡ step_written_by s r
+written-same s Prefix e = refl
+written-same s r e = λ i. record { x = s.x; y = s.y; down_x = s.down_x; down_y = s.down_y; right_x = s.right_x; right_y = s.right_y; reason = e i }
 
 -- a step has lines
 some_lines : (s : Step) (r : Reason) (more : List ProofLine) → [] ≡ (chain_lines s r ++ reason_line r ∷ []) ++ more → ⊥
@@ -246,33 +246,33 @@ some_lines s Prefix more e = cc
 some_lines s r more e = cc
 
 -- lines tell the certificate
-lines_tell : (c d : Certificate) → proof_lines c ≡ proof_lines d → map told_step c ≡ map told_step d
+lines_tell : (c d : Certificate) → proof_lines c ≡ proof_lines d → map written_step c ≡ map written_step d
 lines_tell [] [] e = refl
 lines_tell [] (t ∷ d) e = absurd (some_lines t t.reason (proof_lines d) e)
 lines_tell (s ∷ c) [] e = absurd (some_lines s s.reason (proof_lines c) (sym e))
 lines_tell (s ∷ c) (t ∷ d) e =
-    let p : (told_with s s.reason, proof_lines c) ≡ (told_with t t.reason, proof_lines d) =
+    let p : (written_with s s.reason, proof_lines c) ≡ (written_with t t.reason, proof_lines d) =
     sym (step_read s s.reason (proof_lines c)) ∙ ap read_step e ∙ step_read t t.reason (proof_lines d) in
     let q = lines_tell c d (ap (λ (z : Step × List ProofLine). z.1) p) in
-    let r : told_step s ≡ told_step t = sym (told-same s s.reason refl) ∙ ap (λ (z : Step × List ProofLine). z.0) p ∙ told-same t t.reason refl in
+    let r : written_step s ≡ written_step t = sym (written-same s s.reason refl) ∙ ap (λ (z : Step × List ProofLine). z.0) p ∙ written-same t t.reason refl in
     λ i. r i ∷ q i
 
 pub reads_uniquely : ReadsUniquely
 reads_uniquely c d m n e = lines_tell c d (lines_once (proof_lines c) (proof_lines d) m n e)
 
 -- a step that holds has no chain that its text leaves out
-told-holds : (h : List Op) (s : Step) (r : Reason) → r ≡ s.reason → HoldsBy h s r → told_by s r ≡ s
-told-holds h s Prefix e t =
+written-holds : (h : List Op) (s : Step) (r : Reason) → r ≡ s.reason → HoldsBy h s r → step_written_by s r ≡ s
+written-holds h s Prefix e t =
     λ i. record { x = s.x; y = s.y; down_x = sym t.no_down_x i; down_y = s.down_y; right_x = sym t.no_right_x i; right_y = sym t.no_right_y i; reason = e i }
-told-holds h s r e t = refl
+written-holds h s r e t = refl
 
-pub told-valid : (h : List Op) (c : Certificate) → IsValid h c → map told_step c ≡ c
-told-valid h [] v = absurd v
-told-valid h (s ∷ []) v = ap (λ z. z ∷ []) (told-holds h s s.reason refl v.0.holds)
-told-valid h (s ∷ t ∷ more) v =
-    let p = told-holds h s s.reason refl v.0.holds in
-    let q = told-valid h (t ∷ more) v.2 in
+pub written-valid : (h : List Op) (c : Certificate) → IsValid h c → map written_step c ≡ c
+written-valid h [] v = absurd v
+written-valid h (s ∷ []) v = ap (λ z. z ∷ []) (written-holds h s s.reason refl v.0.holds)
+written-valid h (s ∷ t ∷ more) v =
+    let p = written-holds h s s.reason refl v.0.holds in
+    let q = written-valid h (t ∷ more) v.2 in
     λ i. p i ∷ q i
 
 pub valid_reads_uniquely : ValidReadsUniquely
-valid_reads_uniquely h g c d v w m n e = sym (told-valid h c v) ∙ reads_uniquely c d m n e ∙ told-valid g d w
+valid_reads_uniquely h g c d v w m n e = sym (written-valid h c v) ∙ reads_uniquely c d m n e ∙ written-valid g d w

@@ -7,7 +7,7 @@ use Rattle.origin_model.specs.operations.Verdict.{Lawful}
 use Rattle.origin_model.specs.order.Laws.{IsIn, IsPartOf}
 use Rattle.origin_model.specs.order.Order.{before}
 use Rattle.order_proof.specs.Certificates.{Certificate, Claims, IsValid}
-use Rattle.order_proof.specs.Texts.{AllNarrow, proof_text, told_step}
+use Rattle.order_proof.specs.Texts.{AllNarrow, proof_text, written_step}
 
 -- what a valid certificate claims of elements of a place holds
 abbrev pub ValidMeansBefore : Type 0
@@ -47,7 +47,7 @@ CertificatesInParts =
 
 -- a text tells the certificate, but for the chains that steps by Prefix leave out
 abbrev pub ReadsUniquely : Type 0
-ReadsUniquely = (c d : Certificate) → AllNarrow c → AllNarrow d → proof_text c ≡ proof_text d → map told_step c ≡ map told_step d
+ReadsUniquely = (c d : Certificate) → AllNarrow c → AllNarrow d → proof_text c ≡ proof_text d → map written_step c ≡ map written_step d
 
 -- valid certificates, of whatever histories, have different texts
 abbrev pub ValidReadsUniquely : Type 0

@@ -86,13 +86,13 @@ abbrev pub proof_text : Certificate → List ℕ
 proof_text c = flat_map proof_line_text (proof_lines c)
 
 -- a step without the chains that its text leaves out
-abbrev pub told_by : Step → Reason → Step
-told_by s Prefix = record { x = s.x; y = s.y; down_x = []; down_y = s.down_y; right_x = []; right_y = []; reason = Prefix }
-told_by s reason = s
+abbrev pub step_written_by : Step → Reason → Step
+step_written_by s Prefix = record { x = s.x; y = s.y; down_x = []; down_y = s.down_y; right_x = []; right_y = []; reason = Prefix }
+step_written_by s reason = s
 
 -- a step with the identifiers that its lines name
-abbrev pub told_step : Step → Step
-told_step s = told_by s s.reason
+abbrev pub written_step : Step → Step
+written_step s = step_written_by s s.reason
 
 -- both numbers are of 32 bits
 abbrev pub IsNarrow : Identifier → Type 0

@@ -1,3 +1,4 @@
+//! The type of a certificate that one element comes before another: a non-empty list of steps.
 ghost use Rattle.std.specs.Prelude.{◌≡◌, ◌≢◌, []};
 
 use crate::Step;

@@ -6,7 +6,7 @@ ghost use Rattle.order_proof.specs.declared.step.Reason.{Reason as AnyReason};
 ghost use Rattle.order_proof.specs.declared.step.Reason.TheVariants.{Prefix};
 ghost use Rattle.order_proof.specs.declared.step.Step.{Step as AnyStep};
 ghost use Rattle.order_proof.specs.Certificates.{Certificate};
-ghost use Rattle.order_proof.specs.Texts.{ProofLine as AnyLine, proof_line_text, reason_line, step_lines, step_text, told_step};
+ghost use Rattle.order_proof.specs.Texts.{ProofLine as AnyLine, proof_line_text, reason_line, step_lines, step_text, written_step};
 ghost use Rattle.order_proof.specs.Texts.{word_with_ids};
 ghost use Rattle.order_proof.specs.Readings.{sibling_lines};
 ghost use Rattle.order_proof.specs.Readings.{IsPossible, IsReadAs, IsProofText};
@@ -41,9 +41,9 @@ impl Proof {
     pub fn read(alloc: Global, text: &[u8]) -> Result<Option<Proof>, NoMemory>
         ensures none { IfOk result (λ found. IsNone found ↔ ((c : Certificate) → ¬ (IsProofText text.now c))) }
         ensures proof { IfOk result (λ found. IfSome found (λ proof.
-            IsProofText text.now proof × (map told_step proof ≡ proof))) }
+            IsProofText text.now proof × (map written_step proof ≡ proof))) }
         ensures every { (c : Certificate) → IsProofText text.now c
-            → IfOk result (λ found. found ≡ Some (map told_step c)) }
+            → IfOk result (λ found. found ≡ Some (map written_step c)) }
     {
         match read_steps(alloc, text) {
             Ok(steps) => Ok(Some(Proof::new(steps))),
@@ -55,8 +55,8 @@ impl Proof {
 
 /// Reads steps to the end of the text, one at least.
 fn read_steps(alloc: Global, text: &[u8]) -> Result<Vec<Step>, TextFault>
-    ensures steps { IfOk result (λ steps. IsProofText text.now steps.items × (map told_step steps.items ≡ steps.items)) }
-    ensures every { (c : Certificate) → IsProofText text.now c → IsReadAs result (λ steps. steps.items ≡ map told_step c) }
+    ensures steps { IfOk result (λ steps. IsProofText text.now steps.items × (map written_step steps.items ≡ steps.items)) }
+    ensures every { (c : Certificate) → IsProofText text.now c → IsReadAs result (λ steps. steps.items ≡ map written_step c) }
 {
     if text.is_empty() {
         return Err(TextFault::NoProof);
@@ -130,10 +130,10 @@ impl<'a> Unread<'a> {
     /// Reads the lines of a step.
     fn read_step(&mut self, alloc: Global) -> Result<Step, TextFault>
         ensures lines { IfOk result (λ step. (self.old.rest.now ≡ step_text step ++ self.new.rest.now)
-            × All (λ (l : AnyLine). All IsPossible l.ids) (step_lines step) × (told_step step ≡ step)) }
+            × All (λ (l : AnyLine). All IsPossible l.ids) (step_lines step) × (written_step step ≡ step)) }
         ensures every { (step : AnyStep) (more : List ℕ) → All (λ (l : AnyLine). All IsPossible l.ids) (step_lines step)
             → self.old.rest.now ≡ step_text step ++ more
-            → IsReadAs result (λ found. (found ≡ told_step step) × (self.new.rest.now ≡ more)) }
+            → IsReadAs result (λ found. (found ≡ written_step step) × (self.new.rest.now ≡ more)) }
     {
         let (x, y) = self.read_pair(alloc, b"claim")?;
         let down = self.read_chain(alloc, b"down")?;

@@ -13,8 +13,8 @@ pub record SourceView : Type 0 where
   pub sure : Bool
 
 -- it tells what is left
-abbrev pub SourceTells : SourceView → Type 0
-SourceTells source = IsSome source.left
+abbrev pub SourceIsSpecified : SourceView → Type 0
+SourceIsSpecified source = IsSome source.left
 
 -- What a call did to a source's count of faults: it never falls, a failure raised it, and a sure source counts none. Where
 -- the source tells, nothing but a failure raised it.
@@ -24,8 +24,8 @@ pub record KeepsCount (old new : SourceView) (failed : Type 0) : Type 0 where
   pub sure : new.sure ≡ old.sure
   pub succeeds : old.sure ≡ true → failed → ⊥
   pub counts_no_fault : old.sure ≡ true → new.faults ≡ old.faults
-  pub tells : SourceTells old → SourceTells new
-  pub specified_no_fault : SourceTells old → (failed → ⊥) → new.faults ≡ old.faults
+  pub tells : SourceIsSpecified old → SourceIsSpecified new
+  pub specified_no_fault : SourceIsSpecified old → (failed → ⊥) → new.faults ≡ old.faults
 
 -- one call: the next bytes that are left come, none only at the end or for an empty buffer; nothing at an error
 pub record ReadsSome {E : Type 0} (old new : SourceView) (result : Result ℕ E) (buf : List ℕ) : Type 0 where

@@ -23,7 +23,7 @@ pub enum MemStep {
     Gone(u32),
 }
 
-/// A call of `listen` that went well, and how many steps had been taken by then, where that is told.
+/// A call of `listen` that went well, and how many steps had been taken by then, where that is specified.
 #[derive(Clone, Copy, Debug, PartialEq, Eq)]
 pub struct Listening {
     pub port: u16,

@@ -8,7 +8,7 @@ use fugue_ids::{Failed, Out};
 use std::alloc::Global;
 use std::marker::Model;
 
-/// Keeps what is written, as much in each call as its piece allows. It fails at the calls that it is told to, and
+/// Keeps what is written, as much in each call as its piece allows. It fails at the calls that it is set to, and
 /// where memory is wanting.
 #[derive(Drop)]
 pub struct MemSink {

@@ -6,7 +6,7 @@ mod tcp_wire;
 use fugue_ids::Failed;
 pub use tcp_wire::TcpWire;
 
-/// A call of `dial` that went well, and how much had been written and was left to read by then, where that is told.
+/// A call of `dial` that went well, and how much had been written and was left to read by then, where that is specified.
 #[derive(Clone, Copy, Debug, PartialEq, Eq)]
 pub struct Dial {
     pub port: u16,

@@ -23,7 +23,7 @@ use Rattle.passage_remarks.proofs.RemarkLemmas.{found, found_apart}
 record IsPlacedBy (h : List Op) (op : Op) (p : PlacedComment) : Type 0 where
   comment : Comment
   says : comment_in op ≡ Some comment
-  stands : is_withdrawn h comment.id ≡ false
+  not_withdrawn : is_withdrawn h comment.id ≡ false
   in_section : commented_section h comment ≡ Some p.section
   is : p ≡ placed_comment h comment p.section
 
@@ -32,10 +32,10 @@ placed_by h op p e = by (comment_in op) refl e
   where
     at : (c : Comment) (o : Option Identifier) → comment_in op ≡ Some c → is_withdrawn h c.id ≡ false → commented_section h c ≡ o → option_map (placed_comment h c) o ≡ Some p
         → IsPlacedBy h op p
-    at c None says stands k e = cc
-    at c (Some s) says stands k e =
+    at c None says not_withdrawn k e = cc
+    at c (Some s) says not_withdrawn k e =
         let d : placed_comment h c s ≡ p = cc in
-        subst (IsPlacedBy h op) d (record { comment = c; says = says; stands = stands; in_section = k; is = refl })
+        subst (IsPlacedBy h op) d (record { comment = c; says = says; not_withdrawn = not_withdrawn; in_section = k; is = refl })
 
     by : (o : Option Comment) → comment_in op ≡ o → (elim o [ None ↦ None | Some c ↦ if is_withdrawn h c.id then None else placed_in_section h c ]) ≡ Some p → IsPlacedBy h op p
     by None says k = cc
@@ -48,9 +48,9 @@ placed_by h op p e = by (comment_in op) refl e
 -- and the comments that are placed
 places : (h : List Op) (op : Op) (c : Comment) (s : Identifier) → comment_in op ≡ Some c → is_withdrawn h c.id ≡ false → commented_section h c ≡ Some s
     → placed_in h op ≡ Some (placed_comment h c s)
-places h op c s says stands k =
+places h op c s says not_withdrawn k =
     ap (λ o. elim o [ None ↦ None | Some c ↦ if is_withdrawn h c.id then None else placed_in_section h c ]) says
-    ∙ ap (λ b. if b then None else placed_in_section h c) stands
+    ∙ ap (λ b. if b then None else placed_in_section h c) not_withdrawn
     ∙ ap (option_map (placed_comment h c)) k
 
 -- the remark of a comment
@@ -76,7 +76,8 @@ remark_is h r m =
       comment = b.comment;
       listed =
           subst (λ x. Contains (comments_in h x) b.comment) (sym s)
-          (to_comments h p.section b.comment (record { op = o.0; member = held; says = b.says; in_section = section_is h b.comment p.section b.in_section; stands = b.stands }));
+          (to_comments h p.section b.comment
+          (record { op = o.0; member = held; says = b.says; in_section = section_is h b.comment p.section b.in_section; not_withdrawn = b.not_withdrawn }));
       placed = ap (section_place h) s ∙ e.0;
       says = e.1 ∙ ap (λ (x : PlacedComment). remark_at x r.place) b.is ∙ ap (λ x. remark_at (placed_comment h b.comment x) r.place) (sym s);
     }
@@ -85,7 +86,7 @@ is_remark : (h : List Op) (r : Remark) → IsRemark h r → Contains (remarks h)
 is_remark h r i =
     let c = from_comments h r.section i.comment i.listed in
     let here : placed_in h c.op ≡ Some (placed_comment h i.comment r.section) =
-    places h c.op i.comment r.section c.says c.stands (has_section h i.comment r.section c.in_section) in
+    places h c.op i.comment r.section c.says c.not_withdrawn (has_section h i.comment r.section c.in_section) in
     let p : PlacedComment = placed_comment h i.comment r.section in
     let held : Contains (reverse h) c.op = Contains-permutation h (reverse h) c.op (IsPermutation-reverse h) c.member in
     in_order_in (found h) r
@@ -105,4 +106,4 @@ withdrawn_gone h x r m e =
     let o = said_from (placed_in g) (reverse g) k.0 k.1 in
     let b = placed_by g o.0 k.0 o.2 in
     let own : b.comment.id ≡ x = sym (ap (λ (p : PlacedComment). p.id) b.is) ∙ sym (ap (λ (q : Remark). q.id) (of_comment g k.0 r k.2).1) ∙ e in
-    true≢false (sym (ap (λ t. t || is_hidden h b.comment.id) (ap (λ y. id_eq y b.comment.id) (sym own) ∙ id_eq-refl b.comment.id)) ∙ b.stands)
+    true≢false (sym (ap (λ t. t || is_hidden h b.comment.id) (ap (λ y. id_eq y b.comment.id) (sym own) ∙ id_eq-refl b.comment.id)) ∙ b.not_withdrawn)

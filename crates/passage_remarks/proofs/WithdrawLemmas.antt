@@ -23,7 +23,7 @@ use Rattle.origin_model.proofs.SharedLemmas.{holds-older, holds-own, is_own-id, 
 use Rattle.origin_model.proofs.edits.EditIntakeLemmas.{not_waiting}
 use Rattle.origin_model.proofs.edits.FreshIdLemmas.{delete_unknown}
 use Rattle.origin_model.proofs.edits.UndecidedLemmas.{stays}
-use Rattle.replica_core.specs.Told.{Answers}
+use Rattle.replica_core.specs.Answering.{Answers}
 use Rattle.replica_core.specs.declared.replica.Taken.{Taken}
 use Rattle.replica_core.specs.declared.replica.Taken.TheVariants.{Accepted as TakenAccepted, Again as TakenAgain, Waits as TakenWaits}
 use Rattle.margin_notes.proofs.MemberLemmas.{comment_says, from_comments}
@@ -51,7 +51,7 @@ can_go h n r e =
     let i = remark_is h r (member (remarks h) (n - 1) r e) in
     let c = from_comments h r.section i.comment i.listed in
     let own : i.comment.id ≡ r.id = sym (ap (λ (x : Remark). x.id) i.says) in
-    subst (λ x. verdict h (Delete x) ≡ Ready) own (shown_can_go h i.comment.id (member_held h c.op i.comment.id c.member (comment_says c.op i.comment c.says).own) c.stands)
+    subst (λ x. verdict h (Delete x) ≡ Ready) own (shown_can_go h i.comment.id (member_held h c.op i.comment.id c.member (comment_says c.op i.comment c.says).own) c.not_withdrawn)
 
 -- a Delete that is Ready is accepted where there is room
 pub answered : (hold most : ℕ) (s : Held) (x : Identifier) → IsSettled s → verdict s.history (Delete x) ≡ Ready
@@ -64,10 +64,10 @@ answered hold most s x settled ready =
 
 -- so it was accepted where the answer is no refusal
 pub room_left : (hold most : ℕ) (op : Op) (a : Answer) (t : Taken) (full : Bool) → Answers hold most op a (Ok t) → a ≡ (if full then TooMany else Accepted) → full ≡ false
-room_left hold most op a t false told is = refl
-room_left hold most op a TakenAccepted true told is = let no_way : TooMany ≡ Accepted = sym is ∙ told in cc
-room_left hold most op a TakenWaits true told is = let no_way = sym is ∙ told in cc
-room_left hold most op a TakenAgain true told is = let no_way = sym is ∙ told in cc
+room_left hold most op a t false reported is = refl
+room_left hold most op a TakenAccepted true reported is = let no_way : TooMany ≡ Accepted = sym is ∙ reported in cc
+room_left hold most op a TakenWaits true reported is = let no_way = sym is ∙ reported in cc
+room_left hold most op a TakenAgain true reported is = let no_way = sym is ∙ reported in cc
 
 -- the remark whose comment was found
 pub numbered : (o : Option Remark) (x : Identifier) → Some x ≡ option_map (λ (r : Remark). r.id) o → (r : Remark) × (o ≡ Some r) × (r.id ≡ x)
@@ -93,11 +93,11 @@ pub is_accepted : (old new : State) (x : Identifier) (t : Taken) → length old.
     → Answers old.hold old.most (Delete x) (answer old.hold old.most old.held (Delete x)) (Ok t)
     → new ≡ record old { held = held_after (answer old.hold old.most old.held (Delete x)) old.held (Delete x) }
     → IsAccepted old new x
-is_accepted old new x t few settled ready told is =
+is_accepted old new x t few settled ready reported is =
     let h : List Op = old.held.history in
     let w : List Op = old.held.waiting in
     let a = answered old.hold old.most old.held x settled ready in
-    let full = room_left old.hold old.most (Delete x) (answer old.hold old.most old.held (Delete x)) t (nat_eq (length h + length w) old.most) told a in
+    let full = room_left old.hold old.most (Delete x) (answer old.hold old.most old.held (Delete x)) t (nat_eq (length h + length w) old.most) reported a in
     let ok : answer old.hold old.most old.held (Delete x) ≡ Accepted = a ∙ ap (λ (b : Bool). if b then TooMany else Accepted) full in
     let now : new ≡ with_ops old (Delete x ∷ []) = is ∙ ap (λ z. record old { held = held_after z old.held (Delete x) }) ok in
     record {
@@ -109,9 +109,9 @@ is_accepted old new x t few settled ready told is =
 -- where it was refused for want of room, there was none
 pub is_full : (old : State) (x : Identifier) → IsSettled old.held → verdict old.held.history (Delete x) ≡ Ready → answer old.hold old.most old.held (Delete x) ≡ TooMany
     → (refused_ops old 1 ≡ Some (edit.TooMany old.most)) × (held_count old ≡ old.most)
-is_full old x settled ready told =
+is_full old x settled ready reported =
     let count : ℕ = length old.held.history + length old.held.waiting in
-    let full : nat_eq count old.most ≡ true = by (nat_eq count old.most) (sym (answered old.hold old.most old.held x settled ready) ∙ told) in
+    let full : nat_eq count old.most ≡ true = by (nat_eq count old.most) (sym (answered old.hold old.most old.held x settled ready) ∙ reported) in
     let same : count ≡ old.most = eqb-true count old.most full in (
       ap (λ (b : Bool). if b then Some (edit.TooMany count) else None) (no_room count old.most full) ∙ ap (λ n. Some (edit.TooMany n)) same,
       same,
@@ -122,16 +122,16 @@ is_full old x settled ready told =
     by false e = cc
 
 pub withdrawn_ready : (h : List Op) (n : ℕ) (r : Remark) (x : Identifier) → remark_numbered h n ≡ Some r → r.id ≡ x → verdict h (Delete x) ≡ Ready
-withdrawn_ready h n r x told own = subst (λ i. verdict h (Delete i) ≡ Ready) own (can_go h n r told)
+withdrawn_ready h n r x reported own = subst (λ i. verdict h (Delete i) ≡ Ready) own (can_go h n r reported)
 
 abbrev pub gained_of : (old new : State) → Identifier → Type 0
 gained_of old new x = Gains old new (Delete x ∷ [])
 
 -- a remark whose comment can be withdrawn is refused for nothing
 pub not_refused : (s : State) (n : ℕ) (r : Remark) → remark_numbered s.held.history n ≡ Some r → refused_ops s 1 ≡ None → RefusesWithdrawal s n (Ok tt)
-not_refused s n r told room =
+not_refused s n r reported room =
     let none : withdraw_refusal s n ≡ None =
-    ap (λ o. elim o [ None ↦ Some NoComment | Some q ↦ option_map as_withdraw_fault (refused_ops s 1) ]) told ∙ ap (option_map as_withdraw_fault) room in
+    ap (λ o. elim o [ None ↦ Some NoComment | Some q ↦ option_map as_withdraw_fault (refused_ops s 1) ]) reported ∙ ap (option_map as_withdraw_fault) room in
     record {
       only = λ fault some e. cc;
       always = subst (λ o. IfSome o

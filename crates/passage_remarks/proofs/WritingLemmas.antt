@@ -11,16 +11,16 @@ use Rattle.catalogue_notes.specs.Arranged.{arranged}
 use Rattle.margin_notes.specs.Commenting.{clusters_of}
 use Rattle.passage_remarks.specs.Clusters.{borders_from, passage_cluster_count, cluster_ends, first_cluster, in_line, byte_in_line, cluster_starts}
 use Rattle.passage_remarks.specs.Listing.{IsRemarkPlaced, section_texts}
-use Rattle.passage_remarks.specs.Remarks.{Remark, remark_told, remarks_from}
+use Rattle.passage_remarks.specs.Remarks.{Remark, remark_text, remarks_from}
 
 module _ {X : Type 0} (h : List Op) (f : X → Remark) (xs : List X) where
-  -- what is told of remarks from one on is what is told of it, and of those behind it
+  -- what is reported of remarks from one on is what is reported of it, and of those behind it
   pub remarks_next : (i : ℕ) (x : X) → i < length xs → x ≡ get_or xs i x
-      → remarks_from h (suc i) (drop i (map f xs)) ≡ remark_told (clusters_of h (f x).section) (i + 1) (f x) ++ remarks_from h (suc (i + 1)) (drop (i + 1) (map f xs))
+      → remarks_from h (suc i) (drop i (map f xs)) ≡ remark_text (clusters_of h (f x).section) (i + 1) (f x) ++ remarks_from h (suc (i + 1)) (drop (i + 1) (map f xs))
   remarks_next i x below is =
       let one : suc i ≡ i + 1 = omega arith in
       ap (remarks_from h (suc i)) (drop-map f i xs ∙ ap (map f) (drop_more xs i x below ∙ ap (λ z. z ∷ drop (i + 1) xs) (sym is)) ∙ ap (λ l. f x ∷ l) (sym (drop-map f (i + 1) xs)))
-      ∙ ap (λ k. remark_told (clusters_of h (f x).section) k (f x) ++ remarks_from h (suc k) (drop (i + 1) (map f xs))) one
+      ∙ ap (λ k. remark_text (clusters_of h (f x).section) k (f x) ++ remarks_from h (suc k) (drop (i + 1) (map f xs))) one
 
   -- and nothing is behind the last one
   pub remarks_none : (i : ℕ) → length xs ≤ i → remarks_from h (suc i) (drop i (map f xs)) ≡ []
@@ -59,7 +59,8 @@ clusters_within cs from to =
     let q = count_by-le-length (λ start. nat_lt start to) (cluster_starts cs) in
     let ends_len : length (cluster_ends cs) ≡ length cs = omega (arith, length-drop 1 borders, borders_count 0 cs) in
     let starts_len : length (cluster_starts cs) ≡ length cs = length-take-le (length cs) borders (omega (arith, borders_count 0 cs)) in
-    elim (nat_lt from to) as (λ (b : Bool). first_cluster cs from + (if b then count_by (λ start. nat_lt start to) (cluster_starts cs) - first_cluster cs from else 0) ≤ length cs) [
+    elim (nat_lt from to) as (λ (b : Bool). first_cluster cs from +
+    (if b then count_by (λ start. nat_lt start to) (cluster_starts cs) - first_cluster cs from else 0) ≤ length cs) [
       | true ↦ omega (arith, p, q, ends_len, starts_len)
       | false ↦ omega (arith, p, ends_len)
     ]

@@ -28,8 +28,8 @@ abbrev pub passage_span : List Op → (passage : List ℕ) → Identifier × ℕ
 passage_span h passage place = clusters_spanned (clusters_of h place.0) place.1 (place.1 + length passage)
 
 -- how many there are, or the greatest number of 32 bits where they are more
-abbrev pub told_count : ℕ → ℕ
-told_count n = min n (2 ^ 32 - 1)
+abbrev pub reported_count : ℕ → ℕ
+reported_count n = min n (2 ^ 32 - 1)
 
 -- the place by the number of its section, and in clusters
 pub record IsPassageSpot (h : List Op) (passage : List ℕ) (place : Identifier × ℕ) (spot : Spot) : Type 0 where
@@ -40,14 +40,14 @@ pub record IsPassageSpot (h : List Op) (passage : List ℕ) (place : Identifier 
 abbrev pub AreFoundAt : List Op → (passage : List ℕ) → List (Identifier × ℕ) → Found → Type 0
 AreFoundAt h passage [] found = found ≡ Nowhere
 AreFoundAt h passage (place ∷ []) found = (spot : Spot) × (found ≡ Once spot) × IsPassageSpot h passage place spot
-AreFoundAt h passage (place ∷ next ∷ more) found = found ≡ Often (told_count (length (place ∷ next ∷ more)))
+AreFoundAt h passage (place ∷ next ∷ more) found = found ≡ Often (reported_count (length (place ∷ next ∷ more)))
 
 -- what is found in the text of the section with this number, by the places in it
 abbrev pub found_in_section : (section : ℕ) → (text passage : List ℕ) → List ℕ → Found
 found_in_section section text passage [] = Nowhere
 found_in_section section text passage (at ∷ []) =
     Once (record { section = section; span = clusters_spanned (clusters text) at (at + length passage) })
-found_in_section section text passage (at ∷ next ∷ more) = Often (told_count (length (at ∷ next ∷ more)))
+found_in_section section text passage (at ∷ next ∷ more) = Often (reported_count (length (at ∷ next ∷ more)))
 
 -- how many times a passage was found
 abbrev pub found_count : Found → ℕ
@@ -60,7 +60,7 @@ abbrev pub found_together : Found → Found → Found
 found_together Nowhere b = b
 found_together (Once spot) Nowhere = Once spot
 found_together (Often count) Nowhere = Often count
-found_together (Once spot) (Once next) = Often (told_count 2)
-found_together (Once spot) (Often more) = Often (told_count (1 + more))
-found_together (Often count) (Once next) = Often (told_count (count + 1))
-found_together (Often count) (Often more) = Often (told_count (count + more))
+found_together (Once spot) (Once next) = Often (reported_count 2)
+found_together (Once spot) (Often more) = Often (reported_count (1 + more))
+found_together (Often count) (Once next) = Often (reported_count (count + 1))
+found_together (Often count) (Often more) = Often (reported_count (count + more))

@@ -10,12 +10,12 @@ use Rattle.origin_model.specs.edits.State.{State}
 use Rattle.margin_notes.specs.Commenting.{IsCommentMade, IsCommented}
 use Rattle.margin_notes.specs.declared.commenting.CommentFault.{CommentFault}
 use Rattle.margin_notes.specs.declared.commenting.CommentFault.TheVariants as comment
-use Rattle.passage_remarks.specs.Finding.{IsPassageSpot, passage_places, passage_span, told_count}
+use Rattle.passage_remarks.specs.Finding.{IsPassageSpot, passage_places, passage_span, reported_count}
 use Rattle.passage_remarks.specs.declared.finding.Spot.{Spot}
 use Rattle.passage_remarks.specs.declared.remarking.RemarkFault.{RemarkFault}
 use Rattle.passage_remarks.specs.declared.remarking.RemarkFault.TheVariants.{NotFound, FoundOften, IdsSpent, TooMany, NoMemory}
 
--- a fault of a note, as a remark tells it
+-- the fault of a note as that of a remark; a note has neither NoSection nor OutOfRange
 abbrev pub as_remark_fault : EditFault → RemarkFault
 as_remark_fault (edit.IdsSpent greatest) = IdsSpent greatest
 as_remark_fault (edit.TooMany held) = TooMany held
@@ -23,11 +23,11 @@ as_remark_fault edit.NoSection = NoMemory
 as_remark_fault edit.OutOfRange = NoMemory
 as_remark_fault edit.NoMemory = NoMemory
 
--- why there is no comment, where those are the places of the passage: there is none, one note more is refused, or there are more
+-- why no comment is made, by the places of the passage: there is none, the note is refused, or there are several
 abbrev pub refusal_at : State → List (Identifier × ℕ) → Option RemarkFault
 refusal_at s [] = Some NotFound
 refusal_at s (place ∷ []) = option_map as_remark_fault (note_refusal s)
-refusal_at s (place ∷ next ∷ more) = Some (FoundOften (told_count (length (place ∷ next ∷ more))))
+refusal_at s (place ∷ next ∷ more) = Some (FoundOften (reported_count (length (place ∷ next ∷ more))))
 
 -- why no remark is made of the passage, if none is
 abbrev pub remark_refusal : State → (passage : List ℕ) → Option RemarkFault
@@ -44,7 +44,7 @@ pub record IsRemarked (old new : State) (passage body : List ℕ) : Type 0 where
   pub spanned : IsCommented old new section (passage_span old.held.history passage place).first
       (passage_span old.held.history passage place).count body
 
--- a refusal comes with its cause alone, and where there is a cause, its refusal comes, or want of memory
+-- a refusal comes only with its cause, and where there is a cause, its refusal comes, or memory runs out
 pub record Refuses (cause : Option RemarkFault) (result : Result (Unit {0}) RemarkFault) : Type 0 where
   pub only : (fault : RemarkFault) → fault ≢ NoMemory → result ≡ Err fault → cause ≡ Some fault
   pub always : IfSome cause (λ fault. (result ≡ Err fault) ⊎ (result ≡ Err NoMemory))
@@ -55,7 +55,7 @@ pub record IsOnly (h : List Op) (passage : List ℕ) (spot : Spot) : Type 0 wher
   pub once : passage_places h passage ≡ place ∷ []
   pub there : IsPassageSpot h passage place spot
 
--- a fault of a comment on clusters that are there, as a remark tells it
+-- the fault of a comment as that of a remark; on clusters that are there, neither NoSection nor OutOfRange occurs
 abbrev pub of_comment_fault : CommentFault → RemarkFault
 of_comment_fault (comment.IdsSpent greatest) = IdsSpent greatest
 of_comment_fault (comment.TooMany held) = TooMany held

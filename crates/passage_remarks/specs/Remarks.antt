@@ -54,30 +54,30 @@ abbrev pub quotation_line : (count : ℕ) → List ℕ → List ℕ
 quotation_line count passage = if nat_eq count 0 then [] else codes "  " ++ in_line passage ++ 10 ∷ []
 
 -- the number of the remark, a colon, the place of the section, the first cluster, how many there are, and `by`
-abbrev pub place_told : (number place first count : ℕ) → List ℕ
-place_told number place first count =
+abbrev pub place_text : (number place first count : ℕ) → List ℕ
+place_text number place first count =
     decimal number ++ codes ": " ++ decimal place ++ 32 ∷ decimal first ++ 32 ∷ decimal count ++ codes " by "
 
 -- the replica that made the comment, its text, LF
-abbrev pub text_told : (replica : ℕ) → List ℕ → List ℕ
-text_told replica text = decimal replica ++ 32 ∷ text ++ 10 ∷ []
+abbrev pub line_of_text : (replica : ℕ) → List ℕ → List ℕ
+line_of_text replica text = decimal replica ++ 32 ∷ text ++ 10 ∷ []
 
 -- the first line of a remark
 abbrev pub head_line : (number : ℕ) → Remark → (first count : ℕ) → List ℕ
-head_line number r first count = place_told number r.place first count ++ text_told r.id.replica r.text
+head_line number r first count = place_text number r.place first count ++ line_of_text r.id.replica r.text
 
--- what is told of a remark with this number, by the clusters of its section: its passage goes from the border before it
+-- what is reported of a remark with this number, by the clusters of its section: its passage goes from the border before it
 -- to the border behind it
-abbrev pub remark_told : List (List ℕ) → (number : ℕ) → Remark → List ℕ
-remark_told cs number r =
+abbrev pub remark_text : List (List ℕ) → (number : ℕ) → Remark → List ℕ
+remark_text cs number r =
     let first = first_cluster cs r.from in
     let count = passage_cluster_count cs r.from r.to in
     head_line number r first count ++ quotation_line count (cluster_text cs first count)
 
--- what is told of remarks, of which the first has the number
+-- what is reported of remarks, of which the first has the number
 abbrev pub remarks_from : List Op → (number : ℕ) → List Remark → List ℕ
 remarks_from h n [] = []
-remarks_from h n (r ∷ rs) = remark_told (clusters_of h r.section) n r ++ remarks_from h (suc n) rs
+remarks_from h n (r ∷ rs) = remark_text (clusters_of h r.section) n r ++ remarks_from h (suc n) rs
 
 -- the remarks, as they are printed
 abbrev pub remarks_text : List Op → List ℕ

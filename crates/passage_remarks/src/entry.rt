@@ -1,3 +1,4 @@
+//! `Entry`: a comment on an arranged section, ordered as a reader comes to the comments.
 ghost use Rattle.std.specs.Prelude.{◌≡◌, ℕ, List, option_map};
 ghost use Rattle.std.specs.BTreeMap.{get};
 ghost use Rattle.fugue_ids.specs.Identifiers.{id_cmp};

@@ -102,7 +102,7 @@ pub(crate) fn find_passage(
     requires some { passage.now ≢ [] }
     ensures found { IfOk result (AreFoundAt replica.now.held.history passage.now
         (passage_places replica.now.held.history passage.now)) }
-    ensures stands { IsSound replica.now }
+    ensures sound { IsSound replica.now }
 {
     let sections = outline(alloc, replica)?;
     find_in_sections(replica, sections.entries(), passage)

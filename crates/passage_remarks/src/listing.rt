@@ -60,7 +60,7 @@ pub(crate) fn remark_entries(
     requires { IsOutline replica.now.held.history sections.now }
     ensures entries { IfOk result (λ entries. map (entry_remark (reverse replica.now.held.history)) entries.items
         ≡ remarks replica.now.held.history) }
-    ensures stands { IsSound replica.now }
+    ensures sound { IsSound replica.now }
 {
     let comments = comment_places(alloc, replica)?;
     let places = places_of(alloc, sections)?;

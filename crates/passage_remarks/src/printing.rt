@@ -8,14 +8,14 @@ ghost use Rattle.cluster_text.specs.Clusters.{clusters};
 ghost use Rattle.margin_notes.specs.Listing.{body_of};
 ghost use Rattle.passage_remarks.specs.Clusters.{in_line, byte_in_line as spaced_byte};
 ghost use Rattle.passage_remarks.specs.Listing.{IsRemarkPlaced, entry_remark, section_texts};
-ghost use Rattle.passage_remarks.specs.Remarks.{head_line, quotation_line, place_told, remark_told, remarks};
-ghost use Rattle.passage_remarks.specs.Remarks.{remarks_from, remarks_text, text_told};
+ghost use Rattle.passage_remarks.specs.Remarks.{head_line, quotation_line, place_text, remark_text, remarks};
+ghost use Rattle.passage_remarks.specs.Remarks.{remarks_from, remarks_text, line_of_text};
 
 use crate::entry::Entry;
 use crate::listing::remark_entries;
 use crate::page::Page;
 use crate::pages::pages_of;
-use catalogue_notes::{ArrangeFault, outline, told};
+use catalogue_notes::{ArrangeFault, or_sink_fault, outline};
 use fugue_ids::{Failed, Gather, Out};
 use itoa::Buffer;
 use margin_notes::body_at;
@@ -68,7 +68,7 @@ fn put_place<O: Out>(
     count: usize,
 ) -> Result<(), Failed>
     ensures { GathersText (O.seen output.old) (O.seen output.new) gather.old gather.new result
-        (place_told number place first count) }
+        (place_text number place first count) }
 {
     let mut number_buffer = Buffer::new();
     let mut place_buffer = Buffer::new();
@@ -93,7 +93,7 @@ fn put_text<O: Out>(
     at: usize,
 ) -> Result<(), Failed>
     ensures { GathersText (O.seen output.old) (O.seen output.new) gather.old gather.new result
-        (text_told author (body_of (slice_get (reverse replica.now.held.history) at))) }
+        (line_of_text author (body_of (slice_get (reverse replica.now.held.history) at))) }
 {
     let mut buffer = Buffer::new();
     let author = buffer.format(author).as_bytes();
@@ -128,7 +128,7 @@ fn put_remark<O: Out>(
     entry: &Entry,
 ) -> Result<(), Failed>
     ensures { GathersText (O.seen output.old) (O.seen output.new) gather.old gather.new result
-        (remark_told (clusters page.now) number (entry_remark (reverse replica.now.held.history) entry.now)) }
+        (remark_text (clusters page.now) number (entry_remark (reverse replica.now.held.history) entry.now)) }
 {
     let first = page.first_cluster(entry.from);
     let count = page.cluster_count(entry.from, entry.to);
@@ -185,10 +185,10 @@ pub fn write_remarks<O: Sink>(
     output: &mut O,
 ) -> Result<(), ArrangeFault>
     ensures text { WritesText (O.seen output.old) (O.seen output.new) result (remarks_text replica.now.held.history) }
-    ensures stands { IsSound replica.now }
+    ensures sound { IsSound replica.now }
 {
     let sections = outline(alloc, replica)?;
     let entries = remark_entries(alloc, replica, sections.entries())?;
     let pages = pages_of(alloc, replica, sections.entries())?;
-    told(write_all(output, replica, pages.as_slice(), entries.as_slice()))
+    or_sink_fault(write_all(output, replica, pages.as_slice(), entries.as_slice()))
 }

@@ -57,7 +57,7 @@ fn one_spot(alloc: Global, replica: &Replica, passage: &[u8]) -> Result<Spot, Re
     requires { passage.now ≢ [] }
     ensures once { IfOk result (IsOnly replica.now.held.history passage.now) }
     ensures refused { IfErr result (λ fault. Refuses (remark_refusal replica.now passage.now) (Err fault)) }
-    ensures stands { IsSound replica.now }
+    ensures sound { IsSound replica.now }
 {
     match find_passage(alloc, replica, passage)? {
         Found::Nowhere => Err(RemarkFault::NotFound),
@@ -86,7 +86,7 @@ fn comment_at(replica: &mut Replica, spot: Spot, body: Body) -> Result<(), Remar
     ensures shown { ShowsAsBefore replica.old replica.new }
     ensures unmade { OnErr result (replica.new ≡ replica.old) }
     ensures settled { IsSettled replica.new.held }
-    ensures stands { IsSound replica.old → IsSound replica.new }
+    ensures sound { IsSound replica.old → IsSound replica.new }
 {
     let first = narrow(spot.span.first)?;
     let count = narrow(spot.span.count)?;
@@ -114,7 +114,7 @@ pub fn remark(
     ensures shown { ShowsAsBefore replica.old replica.new }
     ensures unmade { OnErr result (replica.new ≡ replica.old) }
     ensures settled { IsSettled replica.new.held }
-    ensures stands { IsSound replica.new }
+    ensures sound { IsSound replica.new }
 {
     let spot = one_spot(alloc, replica, passage)?;
     comment_at(replica, spot, body)

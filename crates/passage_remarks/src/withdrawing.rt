@@ -40,7 +40,7 @@ fn numbered_comment(
 ) -> Result<Option<ElementId>, NoMemory>
     ensures comment { IfOk result (λ found. found
         ≡ option_map (λ (r : Remark). r.id) (remark_numbered replica.now.held.history number)) }
-    ensures stands { IsSound replica.now }
+    ensures sound { IsSound replica.now }
 {
     let sections = outline(alloc, replica)?;
     let entries = remark_entries(alloc, replica, sections.entries())?;
@@ -58,7 +58,7 @@ pub fn withdraw(alloc: Global, replica: &mut Replica, number: u32) -> Result<(),
     ensures refused { RefusesWithdrawal replica.old number result }
     ensures unmade { OnErr result (replica.new ≡ replica.old) }
     ensures settled { IsSettled replica.new.held }
-    ensures stands { IsSound replica.new }
+    ensures sound { IsSound replica.new }
 {
     let Some(target) = numbered_comment(alloc, replica, number)? else {
         return Err(WithdrawFault::NoComment);

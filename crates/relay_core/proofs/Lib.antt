@@ -6,7 +6,7 @@ pub mod TakingLemmas
 pub mod PieceLemmas
 pub mod KindLemmas
 pub mod TextLemmas
-pub mod CourseLemmas
+pub mod SessionTextLemmas
 pub mod StoryLemmas
 pub mod TellingLemmas
 mod TextExamples

@@ -19,7 +19,7 @@ use Rattle.origin_model.specs.declared.relay.Reply.{Reply}
 use Rattle.origin_model.specs.frames.Frames.{HasFrame, IsFrame, IsItem, Item, Single, Typed, frame, item_ops}
 use Rattle.origin_model.specs.relay.Relay.{Relay, RelayRuns, RelaySteps, Sessions, StepsPiece, new_relay, session_opened}
 use Rattle.origin_model.specs.relay.Session.{Closes, Closing, Frame, Front, Goes, IsKind, Kind, Neither, Next, SessionReading, Taken, TakesAll, TakesByte, TakesOne, at_cursor}
-use Rattle.origin_model.specs.relay.Session.{greeting_read, greeting, is_logged, log_joined, session_goes_on, session_refused, told}
+use Rattle.origin_model.specs.relay.Session.{greeting_read, greeting, is_logged, log_joined, session_goes_on, session_refused, handled}
 use Rattle.op_frame.proofs.RunFrameLemmas.{run_frames}
 use Rattle.relay_core.specs.OpLogs.{IsLogOf, LogsAreOfOperations, LogsGrow, RepliesJoin}
 use Rattle.relay_core.specs.Texts.{with_op, log_with_ops}
@@ -161,18 +161,18 @@ greeted_log log (first ∷ number) =
     [ true ↦ read | false ↦ refl ]
 
 -- so does a kind of message, but for a frame
-told_grows : (limit cursor : ℕ) (log : List (List ℕ)) (bytes : List ℕ) (kind : Kind) → length log ≤ limit → IsKind kind bytes
-    → Grows limit log (told kind limit log cursor bytes).log
-told_grows limit cursor log bytes (Frame ops) room is = joined_grows limit cursor log ops room (frame_ops bytes ops is)
-told_grows limit cursor log bytes Closing room is = unchanged limit log log room refl
-told_grows limit cursor log bytes Front room is = unchanged limit log log room refl
-told_grows limit cursor log bytes Neither room is = unchanged limit log log room refl
+handled_grows : (limit cursor : ℕ) (log : List (List ℕ)) (bytes : List ℕ) (kind : Kind) → length log ≤ limit → IsKind kind bytes
+    → Grows limit log (handled kind limit log cursor bytes).log
+handled_grows limit cursor log bytes (Frame ops) room is = joined_grows limit cursor log ops room (frame_ops bytes ops is)
+handled_grows limit cursor log bytes Closing room is = unchanged limit log log room refl
+handled_grows limit cursor log bytes Front room is = unchanged limit log log room refl
+handled_grows limit cursor log bytes Neither room is = unchanged limit log log room refl
 
 byte_grows : (limit : ℕ) (log : List (List ℕ)) (cursor : Option ℕ) (bytes : List ℕ) (after : Taken) → length log ≤ limit → TakesByte limit log cursor bytes after
     → Grows limit log after.log
 byte_grows limit log None bytes after room t = unchanged limit log after.log room (ap (λ (r : Taken). r.log) t ∙ greeted_log log bytes)
 byte_grows limit log (Some cursor) bytes after room t =
-    subst (λ l. Grows limit log l) (sym (ap (λ (r : Taken). r.log) t.2)) (told_grows limit cursor log bytes t.0 room t.1)
+    subst (λ l. Grows limit log l) (sym (ap (λ (r : Taken). r.log) t.2)) (handled_grows limit cursor log bytes t.0 room t.1)
 
 one_grows : (limit byte : ℕ) (log : List (List ℕ)) (next : Next) (after : Taken) → length log ≤ limit → TakesOne limit byte log next after → Grows limit log after.log
 one_grows limit byte log (Goes reading) after room t = byte_grows limit log reading.cursor (reading.rest ++ byte ∷ []) after room t

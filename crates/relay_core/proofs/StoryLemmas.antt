@@ -12,9 +12,9 @@ use Rattle.origin_model.specs.relay.Session.{Closes, Goes, Next, SessionReading,
 use Rattle.origin_model.proofs.SharedLemmas.{all_once, bytes_of, length-run, ops_of, partly, takes-append}
 use Rattle.op_frame.proofs.CodeLemmas.{same_fronts}
 use Rattle.op_frame.proofs.ReadingLemmas.{frames_once, same_front}
-use Rattle.relay_core.specs.Texts.{Beyond, Closed, SessionText, Foreign, Greets, HasCome, IsCourse, IsGreetingFront, NoGreeting, OneTooMany, SaysCursor, Speaks, Unfinished}
+use Rattle.relay_core.specs.Texts.{Beyond, Closed, SessionText, Foreign, Greets, HasCome, IsSessionText, IsGreetingFront, NoGreeting, OneTooMany, SaysCursor, Speaks, Unfinished}
 use Rattle.relay_core.specs.Texts.{reply_to_text, log_behind, log_with_ops}
-use Rattle.relay_core.proofs.CourseLemmas.{course_found, course_takes, greeting_goes, reading_by, taken_by}
+use Rattle.relay_core.proofs.SessionTextLemmas.{outcome_found, outcome_takes, greeting_goes, reading_by, taken_by}
 use Rattle.relay_core.proofs.JoiningLemmas.{grown}
 use Rattle.relay_core.proofs.TextLemmas.{Reads, behind, front_goes, outcome, reads, rest_takes, starts_take}
 
@@ -130,9 +130,9 @@ front_not_said text cursor ops rest says front =
 pub record Read (limit : ℕ) (log : List (List ℕ)) (text bytes : List ℕ) (after : Taken) : Type 0 where
   pub before : List Op
   pub has_come : HasCome text before
-  pub course : SessionText
-  pub is_course : IsCourse course limit log before (text ++ bytes)
-  pub after_is : after ≡ taken_by course log (text ++ bytes)
+  pub session_text : SessionText
+  pub is_session_text : IsSessionText session_text limit log before (text ++ bytes)
+  pub after_is : after ≡ taken_by session_text log (text ++ bytes)
 
 pub read_on : (limit : ℕ) (log : List (List ℕ)) (text bytes : List ℕ) (reading : SessionReading) (after : Taken) → length log ≤ limit → ReadSo log text reading
     → TakesAll limit bytes (record { log = log; next = Goes reading }) after → Read limit log text bytes after
@@ -142,13 +142,13 @@ read_on limit log text bytes reading after room (inl front) h =
     let whole : TakesAll limit (text ++ bytes) start after
     = takes-append limit text bytes start before after (greeting_goes limit log text front.0)
     (subst (λ (r : SessionReading). TakesAll limit bytes (record { log = log; next = Goes r }) after) front.1 h) in
-    let found = course_found limit log (text ++ bytes) after room whole in
+    let found = outcome_found limit log (text ++ bytes) after room whole in
     record {
       before = [];
       has_come = inl (front.0, refl);
-      course = found.0;
-      is_course = found.1;
-      after_is = all_once frames_once limit (text ++ bytes) start after (taken_by found.0 log (text ++ bytes)) whole (course_takes found.0 limit log (text ++ bytes) found.1);
+      session_text = found.0;
+      is_session_text = found.1;
+      after_is = all_once frames_once limit (text ++ bytes) start after (taken_by found.0 log (text ++ bytes)) whole (outcome_takes found.0 limit log (text ++ bytes) found.1);
     }
 read_on limit log text bytes reading after room (inr s) h =
     let r : Reads limit s.cursor log (s.rest ++ bytes) after
@@ -157,15 +157,15 @@ read_on limit log text bytes reading after room (inr s) h =
     record {
       before = s.ops;
       has_come = inr (s.cursor, s.rest, s.says, s.partial);
-      course = Speaks s.cursor r.new r.rest r.follows;
-      is_course = (says_more text bytes s.cursor s.ops r.new s.rest r.rest s.says r.starts, s.within, r.room, r.stands);
+      session_text = Speaks s.cursor r.new r.rest r.follows;
+      is_session_text = (says_more text bytes s.cursor s.ops r.new s.rest r.rest s.says r.starts, s.within, r.room, r.stands);
       after_is = r.after_is;
     }
 
--- the machine comes to what the course says
-spoken_takes : (course : SessionText) (limit : ℕ) (log : List (List ℕ)) (text bytes : List ℕ) (reading : SessionReading) (before : List Op) (rest : List ℕ) (cursor : ℕ)
+-- the machine comes to what the form says
+spoken_takes : (session_text : SessionText) (limit : ℕ) (log : List (List ℕ)) (text bytes : List ℕ) (reading : SessionReading) (before : List Op) (rest : List ℕ) (cursor : ℕ)
     → Spoken log text reading → SaysCursor text cursor before rest → IsPartial Version2 rest
-    → IsCourse course limit log before (text ++ bytes) → TakesAll limit bytes (record { log = log; next = Goes reading }) (taken_by course log (text ++ bytes))
+    → IsSessionText session_text limit log before (text ++ bytes) → TakesAll limit bytes (record { log = log; next = Goes reading }) (taken_by session_text log (text ++ bytes))
 spoken_takes Greets limit log text bytes reading before rest cursor s says partial is = absurd (not_both text bytes cursor before rest says is)
 spoken_takes NoGreeting limit log text bytes reading before rest cursor s says partial is =
     let first : greeting ∷ (says.number ++ says.messages ++ bytes) ≡ is.0 ∷ is.1 = ap (λ (t : List ℕ). t ++ bytes) (sym says.text_is) ∙ is.3 in
@@ -187,22 +187,22 @@ spoken_takes (Speaks other new next follows) limit log text bytes reading before
     (ap (λ c. record { cursor = Some c; rest = s.rest }) same.cursor_is ∙ sym s.reading_is)
     (behind limit s.rest bytes (session_goes_on log other) (partly log other s.rest) after all (front_goes limit other log s.rest s.partial))
 
-pub read_takes : (limit : ℕ) (log : List (List ℕ)) (text bytes : List ℕ) (reading : SessionReading) (before : List Op) (course : SessionText) → ReadSo log text reading
+pub read_takes : (limit : ℕ) (log : List (List ℕ)) (text bytes : List ℕ) (reading : SessionReading) (before : List Op) (session_text : SessionText) → ReadSo log text reading
     → HasCome text before
-    → IsCourse course limit log before (text ++ bytes) → TakesAll limit bytes (record { log = log; next = Goes reading }) (taken_by course log (text ++ bytes))
-read_takes limit log text bytes reading before course (inl front) (inl come) is =
+    → IsSessionText session_text limit log before (text ++ bytes) → TakesAll limit bytes (record { log = log; next = Goes reading }) (taken_by session_text log (text ++ bytes))
+read_takes limit log text bytes reading before session_text (inl front) (inl come) is =
     let start : Taken = record { log = log; next = Goes unread } in
-    let is : IsCourse course limit log [] (text ++ bytes) = subst (λ (b : List Op). IsCourse course limit log b (text ++ bytes)) come.1 is in
-    subst (λ (r : SessionReading). TakesAll limit bytes (record { log = log; next = Goes r }) (taken_by course log (text ++ bytes))) (sym front.1)
-    (behind limit text bytes start (record { log = log; next = Goes (record { cursor = None; rest = text }) }) (taken_by course log (text ++ bytes))
-    (course_takes course limit log (text ++ bytes) is) (greeting_goes limit log text front.0))
-read_takes limit log text bytes reading before course (inl front) (inr said) is = absurd (front_not_said text said.0 before said.1 said.2 front.0)
-read_takes limit log text bytes reading before course (inr s) (inl come) is = absurd (front_not_said text s.cursor s.ops s.rest s.says come.0)
-read_takes limit log text bytes reading before course (inr s) (inr said) is = spoken_takes course limit log text bytes reading before said.1 said.0 s said.2 said.3 is
+    let is : IsSessionText session_text limit log [] (text ++ bytes) = subst (λ (b : List Op). IsSessionText session_text limit log b (text ++ bytes)) come.1 is in
+    subst (λ (r : SessionReading). TakesAll limit bytes (record { log = log; next = Goes r }) (taken_by session_text log (text ++ bytes))) (sym front.1)
+    (behind limit text bytes start (record { log = log; next = Goes (record { cursor = None; rest = text }) }) (taken_by session_text log (text ++ bytes))
+    (outcome_takes session_text limit log (text ++ bytes) is) (greeting_goes limit log text front.0))
+read_takes limit log text bytes reading before session_text (inl front) (inr said) is = absurd (front_not_said text said.0 before said.1 said.2 front.0)
+read_takes limit log text bytes reading before session_text (inr s) (inl come) is = absurd (front_not_said text s.cursor s.ops s.rest s.says come.0)
+read_takes limit log text bytes reading before session_text (inr s) (inr said) is = spoken_takes session_text limit log text bytes reading before said.1 said.0 s said.2 said.3 is
 
 -- a session that goes on was read so
-pub still_read : (course : SessionText) (limit : ℕ) (log : List (List ℕ)) (before : List Op) (text : List ℕ) → IsCourse course limit log before text
-    → reply_to_text course log ≡ None → ReadSo (log_behind course log) text (reading_by course text)
+pub still_read : (session_text : SessionText) (limit : ℕ) (log : List (List ℕ)) (before : List Op) (text : List ℕ) → IsSessionText session_text limit log before text
+    → reply_to_text session_text log ≡ None → ReadSo (log_behind session_text log) text (reading_by session_text text)
 still_read Greets limit log before text is none = inl (is, refl)
 still_read NoGreeting limit log before text is none = absurd (cc none)
 still_read Beyond limit log before text is none = absurd (cc none)

@@ -14,9 +14,10 @@ use Rattle.origin_model.specs.relay.Session.{SessionReading, Taken, unread}
 use Rattle.origin_model.proofs.SharedLemmas.{after_piece, piece_steps, unknown_steps}
 use Rattle.relay_core.specs.Laws.{SessionsByWholeTexts}
 use Rattle.relay_core.specs.Sessions.{becomes}
-use Rattle.relay_core.specs.Texts.{Beyond, Closed, FollowsFrames, Foreign, SessionText, Greets, HasCome, IsCourse, NoGreeting, OneTooMany, Speaks, StandsInText, Tells, TellsAll}
+use Rattle.relay_core.specs.Texts.{Beyond, Closed, FollowsFrames, Foreign, SessionText, Greets, HasCome, IsSessionText, NoGreeting}
+use Rattle.relay_core.specs.Texts.{OneTooMany, Speaks, StandsInText, Tells, TellsAll}
 use Rattle.relay_core.specs.Texts.{TellsTo, OpenTexts, LogWithTexts, Unfinished, joined_behind, reply_to_text, log_behind, reply_with, texts_behind, text_opened, log_with_ops}
-use Rattle.relay_core.proofs.CourseLemmas.{reading_by, taken_by}
+use Rattle.relay_core.proofs.SessionTextLemmas.{reading_by, taken_by}
 use Rattle.relay_core.proofs.StoryLemmas.{Read, ReadSo, read_on, read_takes, still_read}
 use Rattle.relay_core.proofs.JoiningLemmas.{grown}
 
@@ -85,12 +86,12 @@ opened_by limit log sessions texts n agrees None (Some reading) a = absurd a
 opened_by limit log sessions texts n agrees (Some text) None a = absurd a
 opened_by limit log sessions texts n agrees (Some text) (Some reading) a = agrees
 
--- the log behind a course
-course_grows : (course : SessionText) (log : List (List ℕ)) → length log ≤ length (log_behind course log)
-course_grows Greets log = omega arith
-course_grows NoGreeting log = omega arith
-course_grows Beyond log = omega arith
-course_grows (Speaks cursor new rest follows) log = omega (arith, grown log new, grown (log_with_ops log new) (joined_behind follows))
+-- the log behind a text of a form
+outcome_grows : (session_text : SessionText) (log : List (List ℕ)) → length log ≤ length (log_behind session_text log)
+outcome_grows Greets log = omega arith
+outcome_grows NoGreeting log = omega arith
+outcome_grows Beyond log = omega arith
+outcome_grows (Speaks cursor new rest follows) log = omega (arith, grown log new, grown (log_with_ops log new) (joined_behind follows))
 
 -- what joined of a frame with an operation too many fits
 follows_room : (follows : FollowsFrames) (limit : ℕ) (log : List (List ℕ)) (rest : List ℕ) → length log ≤ limit → StandsInText follows limit log rest
@@ -100,14 +101,15 @@ follows_room Closed limit log rest room s = room
 follows_room Foreign limit log rest room s = room
 follows_room (OneTooMany before) limit log rest room s = omega (arith, s.7)
 
-course_room : (course : SessionText) (limit : ℕ) (log : List (List ℕ)) (before : List Op) (text : List ℕ) → length log ≤ limit → IsCourse course limit log before text
-    → length (log_behind course log) ≤ limit
-course_room Greets limit log before text room is = room
-course_room NoGreeting limit log before text room is = room
-course_room Beyond limit log before text room is = room
-course_room (Speaks cursor new rest follows) limit log before text room is = follows_room follows limit (log_with_ops log new) rest is.2 is.3
+outcome_room : (session_text : SessionText) (limit : ℕ) (log : List (List ℕ)) (before : List Op) (text : List ℕ) → length log ≤ limit
+    → IsSessionText session_text limit log before text
+    → length (log_behind session_text log) ≤ limit
+outcome_room Greets limit log before text room is = room
+outcome_room NoGreeting limit log before text room is = room
+outcome_room Beyond limit log before text room is = room
+outcome_room (Speaks cursor new rest follows) limit log before text room is = follows_room follows limit (log_with_ops log new) rest is.2 is.3
 
--- the reply to what the course says
+-- the reply to what the form says
 replies_same : (n : ℕ) (answer : Option (List ℕ)) (reading : SessionReading) → reply_of n (becomes answer reading) ≡ reply_with n answer
 replies_same n None reading = refl
 replies_same n (Some bytes) reading = refl
@@ -115,8 +117,8 @@ replies_same n (Some bytes) reading = refl
 abbrev relay_of : ℕ → List (List ℕ) → Sessions → Relay
 relay_of limit log sessions = record { limit = limit; log = log; sessions = sessions }
 
-abbrev told_of : List (List ℕ) → OpenTexts → LogWithTexts
-told_of log texts = record { log = log; texts = texts }
+abbrev log_texts : List (List ℕ) → OpenTexts → LogWithTexts
+log_texts log texts = record { log = log; texts = texts }
 
 -- the same step on both sides
 record Both (limit : ℕ) (log : List (List ℕ)) (sessions : Sessions) (texts : OpenTexts) (event : Event) (reply : Option Reply) : Type 0 where
@@ -124,7 +126,7 @@ record Both (limit : ℕ) (log : List (List ℕ)) (sessions : Sessions) (texts :
   sessions_now : Sessions
   texts_now : OpenTexts
   steps : RelaySteps (relay_of limit log sessions) event (relay_of limit log_now sessions_now) reply
-  tells : Tells limit (told_of log texts) event (told_of log_now texts_now) reply
+  tells : Tells limit (log_texts log texts) event (log_texts log_now texts_now) reply
   agree : Agrees limit log_now sessions_now texts_now
 
 module _ (limit : ℕ) (log : List (List ℕ)) (sessions : Sessions) (texts : OpenTexts) (agrees : Agrees limit log sessions texts) where
@@ -154,112 +156,128 @@ module _ (limit : ℕ) (log : List (List ℕ)) (sessions : Sessions) (texts : Op
     sessions_now = sessions;
     texts_now = texts;
     steps = unknown_steps (relay_of limit log sessions) n bytes none;
-    tells = subst (λ (o : Option (List ℕ)). TellsTo limit (told_of log texts) n o bytes (told_of log texts) None) (sym absent) (refl, refl);
+    tells = subst (λ (o : Option (List ℕ)). TellsTo limit (log_texts log texts) n o bytes (log_texts log texts) None) (sym absent) (refl, refl);
     agree = agrees;
   }
 
-  abbrev piece_both : (n : ℕ) (bytes text : List ℕ) (reading : SessionReading) (before : List Op) (course : SessionText) → finite.get texts n ≡ Some text
+  abbrev piece_both : (n : ℕ) (bytes text : List ℕ) (reading : SessionReading) (before : List Op) (session_text : SessionText) → finite.get texts n ≡ Some text
       → finite.get sessions n ≡ Some reading → ReadSo log text reading
-      → (come : HasCome text before) → IsCourse course limit log before (text ++ bytes) → Both limit log sessions texts (Piece n bytes) (reply_with n (reply_to_text course log))
-  piece_both n bytes text reading before course some found so come is =
-      let answer : Option (List ℕ) = reply_to_text course log in
+      → (come : HasCome text before) → IsSessionText session_text limit log before (text ++ bytes)
+      → Both limit log sessions texts (Piece n bytes) (reply_with n (reply_to_text session_text log))
+  piece_both n bytes text reading before session_text some found so come is =
+      let answer : Option (List ℕ) = reply_to_text session_text log in
       let whole : List ℕ = text ++ bytes in
-      let taken : Taken = taken_by course log whole in
-      let now : List (List ℕ) = log_behind course log in
+      let taken : Taken = taken_by session_text log whole in
+      let now : List (List ℕ) = log_behind session_text log in
       record {
         log_now = now;
         sessions_now = sessions_after n sessions taken.next;
         texts_now = texts_behind n texts whole answer;
         steps = subst (RelaySteps (relay_of limit log sessions) (Piece n bytes) (after_piece (relay_of limit log sessions) n taken))
-            (replies_same n answer (reading_by course whole))
-            (piece_steps (relay_of limit log sessions) n reading bytes taken found (read_takes limit log text bytes reading before course so come is));
-        tells = subst (λ (o : Option (List ℕ)). TellsTo limit (told_of log texts) n o bytes (told_of now (texts_behind n texts whole answer)) (reply_with n answer)) (sym some)
+            (replies_same n answer (reading_by session_text whole))
+            (piece_steps (relay_of limit log sessions) n reading bytes taken found (read_takes limit log text bytes reading before session_text so come is));
+        tells = subst (λ (o : Option (List ℕ)). TellsTo limit (log_texts log texts) n o bytes (log_texts now (texts_behind n texts whole answer)) (reply_with n answer)) (sym some)
             (record {
               answer = answer;
-              comes = record { before = before; has_come = come; course = course; is_course = is; log_is = refl; answer_is = refl };
+              comes = record { before = before; has_come = come; session_text = session_text; is_session_text = is; log_is = refl; answer_is = refl };
               texts_are = refl;
               reply_is = refl;
             });
-        agree = piece_agrees limit log now sessions texts agrees (course_grows course log) (course_room course limit log before whole agrees.room is) n answer whole
-            (reading_by course whole)
-            (λ none. still_read course limit log before whole is none);
+        agree = piece_agrees limit log now sessions texts agrees (outcome_grows session_text log) (outcome_room session_text limit log before whole agrees.room is) n answer whole
+            (reading_by session_text whole)
+            (λ none. still_read session_text limit log before whole is none);
       }
 
 -- every step of a relay is told
-record StepTold (limit : ℕ) (log : List (List ℕ)) (sessions : Sessions) (texts : OpenTexts) (event : Event) (new : Relay) (reply : Option Reply) : Type 0 where
+record StepByTexts (limit : ℕ) (log : List (List ℕ)) (sessions : Sessions) (texts : OpenTexts) (event : Event) (new : Relay) (reply : Option Reply) : Type 0 where
   same_reply : Option Reply
   both : Both limit log sessions texts event same_reply
   reply_is : reply ≡ same_reply
   new_is : new ≡ relay_of limit both.log_now both.sessions_now
 
-step_told : (limit : ℕ) (log : List (List ℕ)) (sessions : Sessions) (texts : OpenTexts) → Agrees limit log sessions texts → (event : Event) (new : Relay) (reply : Option Reply)
+step_by_texts : (limit : ℕ) (log : List (List ℕ)) (sessions : Sessions) (texts : OpenTexts) → Agrees limit log sessions texts → (event : Event) (new : Relay) (reply : Option Reply)
     → RelaySteps (relay_of limit log sessions) event new reply
-    → StepTold limit log sessions texts event new reply
-step_told limit log sessions texts agrees (Opened n) new reply h = record { same_reply = None; both = open_both limit log sessions texts agrees n; reply_is = h.1; new_is = h.0 }
-step_told limit log sessions texts agrees (Gone n) new reply h = record { same_reply = None; both = gone_both limit log sessions texts agrees n; reply_is = h.1; new_is = h.0 }
-step_told limit log sessions texts agrees (Piece n bytes) new reply h = by (finite.get texts n) (finite.get sessions n) refl refl (agrees.each n) h
+    → StepByTexts limit log sessions texts event new reply
+step_by_texts limit log sessions texts agrees (Opened n) new reply h =
+    record { same_reply = None; both = open_both limit log sessions texts agrees n; reply_is = h.1; new_is = h.0 }
+step_by_texts limit log sessions texts agrees (Gone n) new reply h = record { same_reply = None; both = gone_both limit log sessions texts agrees n; reply_is = h.1; new_is = h.0 }
+step_by_texts limit log sessions texts agrees (Piece n bytes) new reply h = by (finite.get texts n) (finite.get sessions n) refl refl (agrees.each n) h
   where
     by : (text : Option (List ℕ)) (reading : Option SessionReading) → finite.get texts n ≡ text → finite.get sessions n ≡ reading → Alike log text reading
-        → StepsPiece (relay_of limit log sessions) n reading bytes new reply → StepTold limit log sessions texts (Piece n bytes) new reply
+        → StepsPiece (relay_of limit log sessions) n reading bytes new reply → StepByTexts limit log sessions texts (Piece n bytes) new reply
     by None None absent none a h = record { same_reply = None; both = unknown_both limit log sessions texts agrees n bytes absent none; reply_is = h.1; new_is = h.0 }
     by None (Some reading) absent none a h = absurd a
     by (Some text) None absent none a h = absurd a
     by (Some text) (Some reading) some found a h =
         let r : Read limit log text bytes h.taken = read_on limit log text bytes reading h.taken agrees.room a h.takes in
-        let answer : Option (List ℕ) = reply_to_text r.course log in
+        let answer : Option (List ℕ) = reply_to_text r.session_text log in
         record {
           same_reply = reply_with n answer;
-          both = piece_both limit log sessions texts agrees n bytes text reading r.before r.course some found a r.has_come r.is_course;
-          reply_is = h.reply_is ∙ ap (λ (t : Taken). reply_of n t.next) r.after_is ∙ replies_same n answer (reading_by r.course (text ++ bytes));
+          both = piece_both limit log sessions texts agrees n bytes text reading r.before r.session_text some found a r.has_come r.is_session_text;
+          reply_is = h.reply_is ∙ ap (λ (t : Taken). reply_of n t.next) r.after_is ∙ replies_same n answer (reading_by r.session_text (text ++ bytes));
           new_is = h.new_is ∙ ap (after_piece (relay_of limit log sessions) n) r.after_is;
         }
 
 -- and every step that is told is one of a relay
-record ToldStep (limit : ℕ) (log : List (List ℕ)) (sessions : Sessions) (texts : OpenTexts) (event : Event) (new : LogWithTexts) (reply : Option Reply) : Type 0 where
+record TextStep (limit : ℕ) (log : List (List ℕ)) (sessions : Sessions) (texts : OpenTexts) (event : Event) (new : LogWithTexts) (reply : Option Reply) : Type 0 where
   same_reply : Option Reply
   both : Both limit log sessions texts event same_reply
   reply_is : reply ≡ same_reply
-  new_is : new ≡ told_of both.log_now both.texts_now
+  new_is : new ≡ log_texts both.log_now both.texts_now
 
-told_step : (limit : ℕ) (log : List (List ℕ)) (sessions : Sessions) (texts : OpenTexts) → Agrees limit log sessions texts
-    → (event : Event) (new : LogWithTexts) (reply : Option Reply) → Tells limit (told_of log texts) event new reply
-    → ToldStep limit log sessions texts event new reply
-told_step limit log sessions texts agrees (Opened n) new reply h = record { same_reply = None; both = open_both limit log sessions texts agrees n; reply_is = h.1; new_is = h.0 }
-told_step limit log sessions texts agrees (Gone n) new reply h = record { same_reply = None; both = gone_both limit log sessions texts agrees n; reply_is = h.1; new_is = h.0 }
-told_step limit log sessions texts agrees (Piece n bytes) new reply h = by (finite.get texts n) (finite.get sessions n) refl refl (agrees.each n) h
+step_from_texts : (limit : ℕ) (log : List (List ℕ)) (sessions : Sessions) (texts : OpenTexts) → Agrees limit log sessions texts
+    → (event : Event) (new : LogWithTexts) (reply : Option Reply) → Tells limit (log_texts log texts) event new reply
+    → TextStep limit log sessions texts event new reply
+step_from_texts limit log sessions texts agrees (Opened n) new reply h =
+    record { same_reply = None; both = open_both limit log sessions texts agrees n; reply_is = h.1; new_is = h.0 }
+step_from_texts limit log sessions texts agrees (Gone n) new reply h =
+    record { same_reply = None; both = gone_both limit log sessions texts agrees n; reply_is = h.1; new_is = h.0 }
+step_from_texts limit log sessions texts agrees (Piece n bytes) new reply h = by (finite.get texts n) (finite.get sessions n) refl refl (agrees.each n) h
   where
     by : (text : Option (List ℕ)) (reading : Option SessionReading) → finite.get texts n ≡ text → finite.get sessions n ≡ reading → Alike log text reading
-        → TellsTo limit (told_of log texts) n text bytes new reply → ToldStep limit log sessions texts (Piece n bytes) new reply
+        → TellsTo limit (log_texts log texts) n text bytes new reply → TextStep limit log sessions texts (Piece n bytes) new reply
     by None None absent none a h = record { same_reply = None; both = unknown_both limit log sessions texts agrees n bytes absent none; reply_is = h.1; new_is = h.0 }
     by None (Some reading) absent none a h = absurd a
     by (Some text) None absent none a h = absurd a
     by (Some text) (Some reading) some found a h = record {
-      same_reply = reply_with n (reply_to_text h.comes.course log);
-      both = piece_both limit log sessions texts agrees n bytes text reading h.comes.before h.comes.course some found a h.comes.has_come h.comes.is_course;
+      same_reply = reply_with n (reply_to_text h.comes.session_text log);
+      both = piece_both limit log sessions texts agrees n bytes text reading h.comes.before h.comes.session_text some found a h.comes.has_come h.comes.is_session_text;
       reply_is = h.reply_is ∙ ap (reply_with n) h.comes.answer_is;
       new_is = λ i. record { log = h.comes.log_is i; texts = (h.texts_are ∙ ap (texts_behind n texts (text ++ bytes)) h.comes.answer_is) i };
     }
 
 -- a run of a relay is told
-told_run : (limit : ℕ) (log : List (List ℕ)) (sessions : Sessions) (texts : OpenTexts) → Agrees limit log sessions texts
+run_from_texts : (limit : ℕ) (log : List (List ℕ)) (sessions : Sessions) (texts : OpenTexts) → Agrees limit log sessions texts
     → (events : List Event) (new : Relay) (replies : List (Option Reply)) → RelayRuns (relay_of limit log sessions) events new replies
-    → (told : LogWithTexts) × TellsAll limit (told_of log texts) events told replies × (told.log ≡ new.log)
-told_run limit log sessions texts agrees [] new replies h = (told_of log texts, (refl, h.1), sym (ap (λ (r : Relay). r.log) h.0))
-told_run limit log sessions texts agrees (event ∷ events) new replies h =
-    let s = step_told limit log sessions texts agrees event h.0 h.1 h.3 in
+    → (handled : LogWithTexts) × TellsAll limit (log_texts log texts) events handled replies × (handled.log ≡ new.log)
+run_from_texts limit log sessions texts agrees [] new replies h = (log_texts log texts, (refl, h.1), sym (ap (λ (r : Relay). r.log) h.0))
+run_from_texts limit log sessions texts agrees (event ∷ events) new replies h =
+    let s = step_by_texts limit log sessions texts agrees event h.0 h.1 h.3 in
     let b = s.both in
-    let rest = told_run limit b.log_now b.sessions_now b.texts_now b.agree events new h.2 (subst (λ (r : Relay). RelayRuns r events new h.2) s.new_is h.4) in
-    (rest.0, (told_of b.log_now b.texts_now, h.1, h.2, subst (Tells limit (told_of log texts) event (told_of b.log_now b.texts_now)) (sym s.reply_is) b.tells, rest.1, h.5), rest.2)
+    let rest = run_from_texts limit b.log_now b.sessions_now b.texts_now b.agree events new h.2 (subst (λ (r : Relay). RelayRuns r events new h.2) s.new_is h.4) in (
+      rest.0,
+      (
+        log_texts b.log_now b.texts_now,
+        h.1,
+        h.2,
+        subst (Tells limit (log_texts log texts) event (log_texts b.log_now b.texts_now))
+            (sym s.reply_is) b.tells,
+        rest.1,
+        h.5,
+      ),
+      rest.2,
+    )
 
 -- and what is told is a run
-run_told : (limit : ℕ) (log : List (List ℕ)) (sessions : Sessions) (texts : OpenTexts) → Agrees limit log sessions texts
-    → (events : List Event) (told : LogWithTexts) (replies : List (Option Reply))
-    → TellsAll limit (told_of log texts) events told replies → (new : Relay) × RelayRuns (relay_of limit log sessions) events new replies × (new.log ≡ told.log)
-run_told limit log sessions texts agrees [] told replies h = (relay_of limit log sessions, (refl, h.1), sym (ap (λ (t : LogWithTexts). t.log) h.0))
-run_told limit log sessions texts agrees (event ∷ events) told replies h =
-    let s = told_step limit log sessions texts agrees event h.0 h.1 h.3 in
+run_by_texts : (limit : ℕ) (log : List (List ℕ)) (sessions : Sessions) (texts : OpenTexts) → Agrees limit log sessions texts
+    → (events : List Event) (handled : LogWithTexts) (replies : List (Option Reply))
+    → TellsAll limit (log_texts log texts) events handled replies → (new : Relay) × RelayRuns (relay_of limit log sessions) events new replies × (new.log ≡ handled.log)
+run_by_texts limit log sessions texts agrees [] handled replies h = (relay_of limit log sessions, (refl, h.1), sym (ap (λ (t : LogWithTexts). t.log) h.0))
+run_by_texts limit log sessions texts agrees (event ∷ events) handled replies h =
+    let s = step_from_texts limit log sessions texts agrees event h.0 h.1 h.3 in
     let b = s.both in
-    let rest = run_told limit b.log_now b.sessions_now b.texts_now b.agree events told h.2 (subst (λ (t : LogWithTexts). TellsAll limit t events told h.2) s.new_is h.4) in (
+    let rest = run_by_texts limit b.log_now b.sessions_now b.texts_now b.agree events handled h.2
+    (subst (λ (t : LogWithTexts). TellsAll limit t events handled h.2) s.new_is h.4) in (
       rest.0,
       (
         relay_of limit b.log_now b.sessions_now,
@@ -273,14 +291,14 @@ run_told limit log sessions texts agrees (event ∷ events) told replies h =
     )
 
 -- before any event
-none_told : (limit : ℕ) → Agrees limit [] finite.empty finite.empty
-none_told limit = record { room = omega arith; each = λ n. alike_by [] true None None None None _ _ (get-empty nat_cmp n) (get-empty nat_cmp n) tt tt }
+no_texts : (limit : ℕ) → Agrees limit [] finite.empty finite.empty
+no_texts limit = record { room = omega arith; each = λ n. alike_by [] true None None None None _ _ (get-empty nat_cmp n) (get-empty nat_cmp n) tt tt }
 
 -- what a relay does is what the whole texts say
 pub sessions_by_whole_texts : SessionsByWholeTexts
 sessions_by_whole_texts = record {
   exactly = λ limit events log replies. (
-    (λ h. let t = told_run limit [] finite.empty finite.empty (none_told limit) events h.0 replies h.1 in (t.0, t.1, t.2 ∙ h.2)),
-    (λ h. let r = run_told limit [] finite.empty finite.empty (none_told limit) events h.0 replies h.1 in (r.0, r.1, r.2 ∙ h.2)),
+    (λ h. let t = run_from_texts limit [] finite.empty finite.empty (no_texts limit) events h.0 replies h.1 in (t.0, t.1, t.2 ∙ h.2)),
+    (λ h. let r = run_by_texts limit [] finite.empty finite.empty (no_texts limit) events h.0 replies h.1 in (r.0, r.1, r.2 ∙ h.2)),
   );
 }

@@ -52,8 +52,8 @@ closes : ComesToText 1 [] (0x48 ∷ 0 ∷ []) (0 ∷ 0 ∷ 0 ∷ (frame A ++ clo
 closes = record {
   before = [];
   has_come = inl ((refl, omega arith), refl);
-  course = Speaks 0 (A ∷ []) closing Closed;
-  is_course = (says (frame A ++ closing) (A ∷ []) closing (starts_one (framed_of A) closing (framed_is Version2 A A_has)), omega arith, omega arith, ([], refl));
+  session_text = Speaks 0 (A ∷ []) closing Closed;
+  is_session_text = (says (frame A ++ closing) (A ∷ []) closing (starts_one (framed_of A) closing (framed_is Version2 A A_has)), omega arith, omega arith, ([], refl));
   log_is = refl;
   answer_is = refl;
 }
@@ -63,8 +63,8 @@ goes_beyond : ComesToText 1 [] (0x48 ∷ 0 ∷ 0 ∷ []) (0 ∷ 1 ∷ frame A) [
 goes_beyond = record {
   before = [];
   has_come = inl ((refl, omega arith), refl);
-  course = Beyond;
-  is_course = (
+  session_text = Beyond;
+  is_session_text = (
     1,
     frame A,
     record { number = 0 ∷ 0 ∷ 0 ∷ 1 ∷ []; four_bytes = refl; cursor_is = refl; messages = frame A; starts = none_starts (frame A); text_is = refl },
@@ -79,8 +79,8 @@ is_full : ComesToText 1 (frame A ∷ []) hello (frame A ++ (frame B ++ closing))
 is_full = record {
   before = [];
   has_come = inr (0, [], says [] [] [] (none_starts []), no_bytes_are_partial Version2);
-  course = Speaks 0 (A ∷ []) (frame B ++ closing) (OneTooMany []);
-  is_course = (
+  session_text = Speaks 0 (A ∷ []) (frame B ++ closing) (OneTooMany []);
+  is_session_text = (
     says (frame A ++ (frame B ++ closing)) (A ∷ []) (frame B ++ closing) (starts_one (framed_of A) (frame B ++ closing) (framed_is Version2 A A_has)),
     omega arith,
     omega arith,
@@ -95,8 +95,8 @@ no_greeting : ComesToText 1 [] [] (0x44 ∷ 0x48 ∷ []) [] (Some (0x58 ∷ 1 �
 no_greeting = record {
   before = [];
   has_come = inl (tt, refl);
-  course = NoGreeting;
-  is_course = (0x44, 0x48 ∷ [], (λ same. omega (arith, same)), refl);
+  session_text = NoGreeting;
+  is_session_text = (0x44, 0x48 ∷ [], (λ same. omega (arith, same)), refl);
   log_is = refl;
   answer_is = refl;
 }
@@ -150,8 +150,8 @@ three_stay : ComesToText 3 [] hello (run_frame letters ++ closing) (log_with_ops
 three_stay = record {
   before = [];
   has_come = inr (0, [], says [] [] [] (none_starts []), no_bytes_are_partial Version2);
-  course = Speaks 0 [] (run_frame letters ++ closing) (OneTooMany three);
-  is_course = (
+  session_text = Speaks 0 [] (run_frame letters ++ closing) (OneTooMany three);
+  is_session_text = (
     says (run_frame letters ++ closing) [] (run_frame letters ++ closing) (none_starts (run_frame letters ++ closing)),
     omega arith,
     omega arith,
@@ -171,8 +171,8 @@ both_halves : ComesToText 5 [] (hello ++ take 20 (run_frame letters)) (drop 20 (
 both_halves = record {
   before = [];
   has_come = inr (0, take 20 (run_frame letters), says (take 20 (run_frame letters)) [] (take 20 (run_frame letters)) (none_starts (take 20 (run_frame letters))), half);
-  course = Speaks 0 five closing Closed;
-  is_course = (says (run_frame letters ++ closing) five closing (starts_one letters_framed closing letters_are), omega arith, omega arith, ([], refl));
+  session_text = Speaks 0 five closing Closed;
+  is_session_text = (says (run_frame letters ++ closing) five closing (starts_one letters_framed closing letters_are), omega arith, omega arith, ([], refl));
   log_is = refl;
   answer_is = refl;
 }

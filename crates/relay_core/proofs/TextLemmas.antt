@@ -7,7 +7,7 @@ use Rattle.fugue_ids.specs.declared.op.Op.{Op}
 use Rattle.origin_model.specs.declared.grammar.Grammar.TheVariants.{Version2}
 use Rattle.origin_model.specs.frames.Frames.{Framed, IsFrame, IsPartial, Starts}
 use Rattle.origin_model.specs.relay.Session.{Closing, Frame, Front, IsKind, Kind, Neither, Taken, TakesAll, closing, session_goes_on, log_joined, refusal_message, session_refused}
-use Rattle.origin_model.specs.relay.Session.{reply_from, told}
+use Rattle.origin_model.specs.relay.Session.{reply_from, handled}
 use Rattle.origin_model.proofs.SharedLemmas.{all_once, bytes_of, closed_takes, closing_takes, frame_takes, front_takes, ops_of, partly, takes-append}
 use Rattle.op_frame.proofs.ReadingLemmas.{frames_once, no_bytes_are_partial}
 use Rattle.relay_core.specs.Sessions.{becomes}
@@ -158,11 +158,11 @@ module _ (limit cursor : ℕ) (after : Taken) where
   -- one byte more
   kind_reads : (log : List (List ℕ)) (rest : List ℕ) (byte : ℕ) (bytes : List ℕ) → length log ≤ limit → IsPartial Version2 rest → Further bytes → (kind : Kind)
       → IsKind kind (rest ++ byte ∷ [])
-      → TakesAll limit bytes (told kind limit log cursor (rest ++ byte ∷ [])) after → Reads limit cursor log ((rest ++ byte ∷ []) ++ bytes) after
+      → TakesAll limit bytes (handled kind limit log cursor (rest ++ byte ∷ [])) after → Reads limit cursor log ((rest ++ byte ∷ []) ++ bytes) after
   kind_reads log rest byte bytes room partial further (Frame ops) f h = frame_reads log (record { bytes = rest ++ byte ∷ []; ops = ops }) bytes f room further h
   kind_reads log rest byte bytes room partial further Closing f h =
       reads_none log ((rest ++ byte ∷ []) ++ bytes) Closed room (bytes, ap (λ (b : List ℕ). b ++ bytes) f)
-      (all_once frames_once limit bytes (told Closing limit log cursor closing) after (told Closing limit log cursor closing) h
+      (all_once frames_once limit bytes (handled Closing limit log cursor closing) after (handled Closing limit log cursor closing) h
       (closed_takes limit bytes log (reply_from log cursor)))
   kind_reads log rest byte bytes room partial further Front f h = further log (rest ++ byte ∷ []) room f h
   kind_reads log rest byte bytes room partial further Neither f h =

@@ -3,7 +3,7 @@ use Rattle.std.specs.Prelude.{◌≡◌, ◌↔◌, ℕ, Option, List}
 use Rattle.origin_model.specs.declared.relay.Event.{Event}
 use Rattle.origin_model.specs.declared.relay.Reply.{Reply}
 use Rattle.origin_model.specs.relay.Relay.{Relay, RelayRuns, RelaySteps, new_relay}
-use Rattle.relay_core.specs.Texts.{TellsAll, LogWithTexts, nothing_told}
+use Rattle.relay_core.specs.Texts.{TellsAll, LogWithTexts, no_log_texts}
 
 -- there is exactly one new state and one reply, for an event and for events one after another
 pub record EventsComeOnce : Type 0 where
@@ -21,4 +21,4 @@ pub record EventsComeOnce : Type 0 where
 pub record SessionsByWholeTexts : Type 0 where
   pub exactly : (limit : ℕ) (events : List Event) (log : List (List ℕ)) (replies : List (Option Reply))
       → ((relay : Relay) × RelayRuns (new_relay limit) events relay replies × (relay.log ≡ log))
-      ↔ ((told : LogWithTexts) × TellsAll limit nothing_told events told replies × (told.log ≡ log))
+      ↔ ((handled : LogWithTexts) × TellsAll limit no_log_texts events handled replies × (handled.log ≡ log))

@@ -72,11 +72,11 @@ pub data SessionText : Type 0 where
 
 -- The text has frames of the operations before, and of new ones that came to this log. Its cursor was compared with the
 -- log as its fourth byte came.
-abbrev pub IsCourse : SessionText → (limit : ℕ) → (log : List (List ℕ)) → (before : List Op) → (text : List ℕ) → Type 0
-IsCourse Greets limit log before text = IsGreetingFront text
-IsCourse NoGreeting limit log before text = (first : ℕ) × (behind : List ℕ) × (first ≢ greeting) × (text ≡ first ∷ behind)
-IsCourse Beyond limit log before text = (cursor : ℕ) × (behind : List ℕ) × SaysCursor text cursor [] behind × (length log < cursor)
-IsCourse (Speaks cursor new rest follows) limit log before text =
+abbrev pub IsSessionText : SessionText → (limit : ℕ) → (log : List (List ℕ)) → (before : List Op) → (text : List ℕ) → Type 0
+IsSessionText Greets limit log before text = IsGreetingFront text
+IsSessionText NoGreeting limit log before text = (first : ℕ) × (behind : List ℕ) × (first ≢ greeting) × (text ≡ first ∷ behind)
+IsSessionText Beyond limit log before text = (cursor : ℕ) × (behind : List ℕ) × SaysCursor text cursor [] behind × (length log < cursor)
+IsSessionText (Speaks cursor new rest follows) limit log before text =
     SaysCursor text cursor (before ++ new) rest × (cursor ≤ length log) × (length (log_with_ops log new) ≤ limit)
     × StandsInText follows limit (log_with_ops log new) rest
 
@@ -88,7 +88,7 @@ joined_behind follows = []
 -- the log gains the new operations
 abbrev pub log_behind : SessionText → List (List ℕ) → List (List ℕ)
 log_behind (Speaks cursor new rest follows) log = log_with_ops (log_with_ops log new) (joined_behind follows)
-log_behind course log = log
+log_behind session_text log = log
 
 -- the bytes with which a reply closes the session, where one does
 abbrev pub closing_bytes : FollowsFrames → List (List ℕ) → (cursor : ℕ) → Option (List ℕ)
@@ -114,10 +114,10 @@ pub record ComesToText (limit : ℕ) (log : List (List ℕ)) (text bytes : List 
     (answer : Option (List ℕ)) : Type 0 where
   pub before : List Op
   pub has_come : HasCome text before
-  pub course : SessionText
-  pub is_course : IsCourse course limit log before (text ++ bytes)
-  pub log_is : new_log ≡ log_behind course log
-  pub answer_is : answer ≡ reply_to_text course log
+  pub session_text : SessionText
+  pub is_session_text : IsSessionText session_text limit log before (text ++ bytes)
+  pub log_is : new_log ≡ log_behind session_text log
+  pub answer_is : answer ≡ reply_to_text session_text log
 
 -- the texts of the open sessions by their numbers
 abbrev pub OpenTexts : Type 0
@@ -129,8 +129,8 @@ pub record LogWithTexts : Type 0 where
   pub texts : OpenTexts
 
 -- before any event
-abbrev pub nothing_told : LogWithTexts
-nothing_told = record { log = []; texts = finite.empty }
+abbrev pub no_log_texts : LogWithTexts
+no_log_texts = record { log = []; texts = finite.empty }
 
 -- an open session stays as it is; any other begins an empty text
 abbrev pub text_opened : ℕ → OpenTexts → OpenTexts

@@ -1,3 +1,4 @@
+//! The greeting that opens a session's request, read byte by byte, and the cursor that it carries.
 ghost use Rattle.std.specs.Prelude.{◌≡◌, ◌≤◌, ◌<◌, ◌∷◌, ◌++◌, [], List, ℕ, length};
 ghost use Rattle.origin_model.specs.relay.Session.{greeting_read as greeted_as};
 ghost use Rattle.relay_core.specs.Greetings.{greets};

@@ -1,3 +1,4 @@
+//! Operations of a received frame appended to the log, unless it has them already or is full.
 ghost use Rattle.std.specs.Prelude.{◌≡◌, ◌≤◌, [], IfOk, None as Nothing, Some, length};
 ghost use Rattle.origin_model.specs.declared.grammar.Grammar.TheVariants.{Version2 as WithRuns};
 ghost use Rattle.origin_model.specs.relay.Session.{refusal_message as refusal_of};

@@ -1,3 +1,4 @@
+//! Theorems on relays: one outcome per event, however requests are split, and an append-only log.
 ghost use Rattle.relay_core.specs.Laws.{EventsComeOnce, SessionsByWholeTexts};
 ghost use Rattle.relay_core.specs.OpLogs.{LogsAreOfOperations, LogsGrow, RepliesJoin};
 

@@ -1,3 +1,4 @@
+//! The log of distinct operations, each as its own frame, and the reply with those from a cursor on.
 ghost use Rattle.std.specs.Prelude.{◌≡◌, ◌<◌, ◌^◌, ◌++◌, ◌∷◌, [], drop, flat_map, length, false, IfOk, OnErr, OnOk};
 ghost use Rattle.origin_model.specs.relay.Session.{is_logged, reply_from};
 ghost use Rattle.relay_core.specs.Logs.{frames_in};

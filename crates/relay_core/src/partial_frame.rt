@@ -1,3 +1,4 @@
+//! The prefix of a frame that a session has sent so far, extended byte by byte without allocation.
 ghost use Rattle.std.specs.Prelude.{◌≡◌, ◌∷◌, ◌++◌, []};
 ghost use Rattle.origin_model.specs.declared.grammar.Grammar.TheVariants.{Version2 as WithRuns};
 ghost use Rattle.op_frame.specs.FrameFronts.{IsFrameStage, grown_to};

@@ -1,3 +1,4 @@
+//! A piece of a session's request applied to the log and the sessions, or undone if memory runs out.
 ghost use Rattle.std.specs.Prelude.{◌≡◌, ◌≤◌, ◌<◌, ◌^◌, IfOk, OnErr, length, Option as Maybe};
 ghost use Rattle.std.specs.FinMap as finite;
 ghost use Rattle.origin_model.specs.declared.relay.Reply.{Reply as AnyReply};

@@ -1,3 +1,4 @@
+//! The relay as a state machine: its log and open sessions, changed by one event at a time.
 ghost use Rattle.std.specs.Prelude.{◌≡◌, ◌<◌, ◌≤◌, ◌∷◌, ◌++◌, [], length, List, IfErr, IfOk, OnErr, OnOk};
 ghost use Rattle.origin_model.specs.declared.relay.Event.{Event as AnyEvent};
 ghost use Rattle.origin_model.specs.relay.Relay.{IsRelayState, new_relay};

@@ -1,3 +1,4 @@
+//! The open sessions by number, each with how far its request has been parsed.
 ghost use Rattle.std.specs.FinMap as finite;
 ghost use Rattle.std.specs.Prelude.{◌≡◌, true, OnErr, OnOk, option_map};
 ghost use Rattle.origin_model.specs.relay.Relay.{session_opened};

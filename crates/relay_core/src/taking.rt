@@ -1,3 +1,4 @@
+//! The bytes of a session's request parsed one by one: greeting, frames, and the closing byte.
 ghost use Rattle.std.specs.Prelude.{◌≡◌, ◌≢◌, ◌≤◌, ◌<◌, ◌^◌, ◌++◌, ◌∷◌, [], IfOk, List, OnErr, Some, false, length};
 ghost use Rattle.std.specs.Prelude.{true, ℕ};
 ghost use Rattle.origin_model.specs.relay.Session.{Goes, TakesAll, TakesByte, TakesOne, at_cursor, closing};

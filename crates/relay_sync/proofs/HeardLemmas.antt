@@ -1,4 +1,4 @@
--- What was heard of a reply whose bytes are told is what these bytes come to.
+-- What was heard of a reply whose bytes are specified is what these bytes come to.
 use Rattle.std.proofs.Common.{[], List, ap, append_assoc, arith, length, length-append, refl, subst, sym, take, ℕ, ◌+◌, ◌++◌, ◌-◌, ◌<◌, ◌≤◌, ◌∙◌, ◌∷◌, ◌≡◌, ◌⊎◌, inl, inr}
 use Rattle.std.specs.Prelude.{All, Err, IfErr, IfOk, IfSome, None, Ok, Option, Result, Some}
 use Rattle.std.proofs.lemmas.List.{append-nil, take_all, take_at}
@@ -9,7 +9,7 @@ use Rattle.origin_model.specs.frames.Frames.{Framed, IsFrame}
 use Rattle.origin_model.specs.taking.Taking.{answer, held_from, kept_from, tally_from}
 use Rattle.origin_model.proofs.SharedLemmas.{bytes_of, ops_of}
 use Rattle.op_frame.proofs.FormatLemmas.{FallsShort, Reaches, two_fronts}
-use Rattle.op_frame.proofs.ToldLemmas.{shows, some_is, take_past}
+use Rattle.op_frame.proofs.SpecifiedLemmas.{shows, some_is, take_past}
 use Rattle.outer_ports.specs.wire.Wires.{WireView}
 use Rattle.replica_core.specs.Keeping.{TakesIn, OpsTaking}
 use Rattle.origin_model.specs.edits.State.{State}
@@ -158,22 +158,22 @@ reply_heard old new before after count h =
 pub reply_up_to : (fault : SyncFault) (old new : WireView) (before after : OpsTaking) → HearsPartly fault old new before after → HeardUpTo fault old.left before after
 reply_up_to fault old new before after h = by_fault fault h.stops
   where
-    told : (end : ReplyEnd) → ((more : List ℕ) → new.left ≡ Some more → HearsTo ((bytes_of h.found ++ h.bytes) ++ more) before after end) → HeardTo old.left before after end
-    told end comes = shows (λ (bytes : List ℕ). HearsTo bytes before after end) (bytes_of h.found ++ h.bytes) new.left old.left h.hears.heard comes
+    specified : (end : ReplyEnd) → ((more : List ℕ) → new.left ≡ Some more → HearsTo ((bytes_of h.found ++ h.bytes) ++ more) before after end) → HeardTo old.left before after end
+    specified end comes = shows (λ (bytes : List ℕ). HearsTo bytes before after end) (bytes_of h.found ++ h.bytes) new.left old.left h.hears.heard comes
 
     by_fault : (fault : SyncFault) → ReplyStopsFor fault old new h.middle after (length (bytes_of h.found)) h.bytes → HeardUpTo fault old.left before after
     by_fault WireFault s = tt
     by_fault NoMemory s = tt
     by_fault (RelayRefused code) s =
-        told (EndsRefused code) (λ more is. comes_to_refusal before h.middle after h.found h.are_frames h.takes h.bytes more s.2 s.0 code s.1)
+        specified (EndsRefused code) (λ more is. comes_to_refusal before h.middle after h.found h.are_frames h.takes h.bytes more s.2 s.0 code s.1)
     by_fault (TooMany most) s =
-        told EndsTooMany (λ more is. comes_to_many before h.middle after h.found h.are_frames h.takes h.bytes more s.1 most s.0)
+        specified EndsTooMany (λ more is. comes_to_many before h.middle after h.found h.are_frames h.takes h.bytes more s.1 most s.0)
     by_fault (BadReply at) s =
-        told (Bad at) (λ more is. comes_to_none before h.middle after h.found h.are_frames h.takes h.bytes more s.1.2 s.0 at s.1.0 s.1.1)
-    by_fault (CutShort at) s = told (Cut at) (λ more is.
+        specified (Bad at) (λ more is. comes_to_none before h.middle after h.found h.are_frames h.takes h.bytes more s.1.2 s.0 at s.1.0 s.1.1)
+    by_fault (CutShort at) s = specified (Cut at) (λ more is.
         comes_to_cut before h.middle after h.found h.are_frames h.takes h.bytes more s.1.3 s.0 at s.1.0 s.1.1 (some_is (λ (l : List ℕ). l ≡ []) new.left more s.1.2 is))
     by_fault TooLong s =
-        told EndsTooLong (λ more is. comes_to_long before h.middle after h.found h.are_frames h.takes s.0 h.bytes more s.1.0 s.1.1 s.1.2 s.1.3 s.1.4)
+        specified EndsTooLong (λ more is. comes_to_long before h.middle after h.found h.are_frames h.takes s.0 h.bytes more s.1.0 s.1.1 s.1.2 s.1.3 s.1.4)
 
 pub reply_same : (bytes : List ℕ) (before after others : OpsTaking) (end other : ReplyEnd) → HearsTo bytes before after end → HearsTo bytes before others other
     → (after ≡ others) × (end ≡ other)
@@ -190,16 +190,16 @@ reply_same bytes before after others end other p q =
 pub heard_behind : (said old new : WireView) (before after : OpsTaking) (count : ℕ) → old.left ≡ said.left → HearsReply old new before after count
     → HeardTo said.left before after (Ended count)
 heard_behind said old new before after count same h =
-    subst (λ (told : Option (List ℕ)). HeardTo told before after (Ended count)) same (reply_heard old new before after count h)
+    subst (λ (specified : Option (List ℕ)). HeardTo specified before after (Ended count)) same (reply_heard old new before after count h)
 
 pub up_to_behind : (fault : SyncFault) (said old new : WireView) (before after : OpsTaking) → old.left ≡ said.left → HearsPartly fault old new before after
     → HeardUpTo fault said.left before after
 up_to_behind fault said old new before after same h =
-    subst (λ (told : Option (List ℕ)). HeardUpTo fault told before after) same (reply_up_to fault old new before after h)
+    subst (λ (specified : Option (List ℕ)). HeardUpTo fault specified before after) same (reply_up_to fault old new before after h)
 
 -- an answer that the bytes tell comes exactly where they do
-told_exactly : (before : OpsTaking) (bytes : List ℕ) (result : Result Synced SyncFault) → AnswerIs before bytes result → AnswersByReply result before bytes
-told_exactly before bytes result p by answer is = (
+reported_exactly : (before : OpsTaking) (bytes : List ℕ) (result : Result Synced SyncFault) → AnswerIs before bytes result → AnswersByReply result before bytes
+reported_exactly before bytes result p by answer is = (
   λ same. subst (AnswerIs before bytes) same p,
   λ q.
       let same = reply_same bytes before p.after q.after p.end q.end p.comes q.comes in
@@ -207,7 +207,7 @@ told_exactly before bytes result p by answer is = (
 )
 
 -- where the bytes decide nothing
-pub undecided_exactly : (fault : SyncFault) (before : OpsTaking) (told : Option (List ℕ)) → (IsByReply (Err fault) → ⊥) → IfSome told (AnswersByReply (Err fault) before)
+pub undecided_exactly : (fault : SyncFault) (before : OpsTaking) (specified : Option (List ℕ)) → (IsByReply (Err fault) → ⊥) → IfSome specified (AnswersByReply (Err fault) before)
 undecided_exactly fault before None none = tt
 undecided_exactly fault before (Some bytes) none = λ by. absurd (none by)
 
@@ -225,24 +225,25 @@ fault_is (BadReply at) end old new middle after place bytes is s = ap (sync_answ
 fault_is (CutShort at) end old new middle after place bytes is s = ap (sync_answer after) (same_end is)
 fault_is TooLong end old new middle after place bytes is s = ap (sync_answer after) (same_end is)
 
-heard_exactly : (told : Option (List ℕ)) (before after : OpsTaking) (count : ℕ) → HeardTo told before after (Ended count)
-    → IfSome told (AnswersByReply (Ok (record { tally = after.counts; cursor = count })) before)
+heard_exactly : (specified : Option (List ℕ)) (before after : OpsTaking) (count : ℕ) → HeardTo specified before after (Ended count)
+    → IfSome specified (AnswersByReply (Ok (record { tally = after.counts; cursor = count })) before)
 heard_exactly None before after count h = tt
 heard_exactly (Some bytes) before after count h =
-    told_exactly before bytes (Ok (record { tally = after.counts; cursor = count })) (record { after = after; end = Ended count; comes = h; answer_is = refl })
+    reported_exactly before bytes (Ok (record { tally = after.counts; cursor = count })) (record { after = after; end = Ended count; comes = h; answer_is = refl })
 
-up_to_exactly : (told : Option (List ℕ)) (fault : SyncFault) (before after : OpsTaking) → HeardUpTo fault told before after
+up_to_exactly : (specified : Option (List ℕ)) (fault : SyncFault) (before after : OpsTaking) → HeardUpTo fault specified before after
     → ((end : ReplyEnd) → reply_end_of fault ≡ Some end → Err fault ≡ sync_answer after end)
-    → (reply_end_of fault ≡ None → IsByReply (Err fault) → ⊥) → IfSome told (AnswersByReply (Err fault) before)
-up_to_exactly told fault before after h is none = by (reply_end_of fault) refl h
+    → (reply_end_of fault ≡ None → IsByReply (Err fault) → ⊥) → IfSome specified (AnswersByReply (Err fault) before)
+up_to_exactly specified fault before after h is none = by (reply_end_of fault) refl h
   where
-    told_end : (told : Option (List ℕ)) (end : ReplyEnd) → reply_end_of fault ≡ Some end → HeardTo told before after end → IfSome told (AnswersByReply (Err fault) before)
-    told_end None end so h = tt
-    told_end (Some bytes) end so h = told_exactly before bytes (Err fault) (record { after = after; end = end; comes = h; answer_is = is end so })
+    reported_end : (specified : Option (List ℕ)) (end : ReplyEnd) → reply_end_of fault ≡ Some end → HeardTo specified before after end
+        → IfSome specified (AnswersByReply (Err fault) before)
+    reported_end None end so h = tt
+    reported_end (Some bytes) end so h = reported_exactly before bytes (Err fault) (record { after = after; end = end; comes = h; answer_is = is end so })
 
-    by : (end : Option ReplyEnd) → reply_end_of fault ≡ end → IfSome end (HeardTo told before after) → IfSome told (AnswersByReply (Err fault) before)
-    by None so h = undecided_exactly fault before told (none so)
-    by (Some end) so h = told_end told end so h
+    by : (end : Option ReplyEnd) → reply_end_of fault ≡ end → IfSome end (HeardTo specified before after) → IfSome specified (AnswersByReply (Err fault) before)
+    by None so h = undecided_exactly fault before specified (none so)
+    by (Some end) so h = reported_end specified end so h
 
 decides : (fault : SyncFault) → reply_end_of fault ≡ None → IsByReply (Err fault) → ⊥
 decides WireFault is by = by

@@ -13,7 +13,7 @@ use Rattle.origin_model.specs.relay.Session.{refusal_message}
 use Rattle.op_frame.specs.FrameFronts.{IsFrameStage}
 use Rattle.op_frame.specs.declared.grown.Grown.{Grown}
 use Rattle.op_frame.specs.declared.grown.Grown.TheVariants.{Bad}
-use Rattle.op_frame.proofs.ToldLemmas.{prepend_none}
+use Rattle.op_frame.proofs.SpecifiedLemmas.{prepend_none}
 use Rattle.outer_ports.specs.wire.Wires.{WireReads, WireView}
 use Rattle.relay_sync.specs.Replies.{End, HeardBytes, IsBroken, IsCode, IsMessage, IsMessageFront, Message, Operations, Refusal, StopsHearing, StopsIn, ending}
 use Rattle.relay_sync.specs.declared.syncing.SyncFault.{SyncFault}

@@ -12,10 +12,11 @@ use Rattle.origin_model.specs.frames.Frames.{End as StreamEnd, Whole as EndsWhol
 use Rattle.origin_model.specs.relay.Session.{refusal_message}
 use Rattle.origin_model.specs.taking.Taking.{MeetsNoLimit, Held}
 use Rattle.origin_model.proofs.SharedLemmas.{bytes_of, no_place_left, ops_of}
-use Rattle.op_frame.specs.Courses.{IntakeOutcome, MeetsTooMany, Comes as StreamComes, Whole as StreamWhole, CutShort as StreamCut, BadFrame as StreamBad, TooLong as StreamLong}
-use Rattle.op_frame.specs.Courses.{TooMany as StreamMany}
+use Rattle.op_frame.specs.IntakeOutcomes.{IntakeOutcome, MeetsTooMany, Comes as StreamComes, Whole as StreamWhole}
+use Rattle.op_frame.specs.IntakeOutcomes.{CutShort as StreamCut, BadFrame as StreamBad, TooLong as StreamLong}
+use Rattle.op_frame.specs.IntakeOutcomes.{TooMany as StreamMany}
 use Rattle.op_frame.proofs.CodeLemmas.{same_fronts}
-use Rattle.op_frame.proofs.CourseLemmas.{comes_once, comes_some}
+use Rattle.op_frame.proofs.ComesLemmas.{comes_once, comes_some}
 use Rattle.op_frame.proofs.FrontLemmas.{Front, bad_there, front_of, front_there as part_there, frame_there}
 use Rattle.op_frame.proofs.ReadingLemmas.{begins_not_partial, framed_some, same_front, starts_more}
 use Rattle.relay_sync.specs.Outcomes.{BeginsBytes, IsNoMessage, EndsReply, EndsTaking, ReadsReply, ReplyComes, ReplyEnd, Ended, Refused as EndsRefused, Bad, Cut, TooLong, TooMany}
@@ -312,15 +313,15 @@ module _ (hold most : ℕ) (start : Held) (bytes : List ℕ) where
 
   -- and to some end
   pub reply_comes_some : (ops : List Op) × (end : ReplyEnd) × ReplyComes hold most start bytes ops end
-  reply_comes_some = let c = comes_some Version2 hold most start STREAM_LIMIT bytes in by_course c.0 c.1 c.2
+  reply_comes_some = let c = comes_some Version2 hold most start STREAM_LIMIT bytes in by_outcome c.0 c.1 c.2
     where
       whole : (ops : List Op) (end : StreamEnd) → length bytes ≤ STREAM_LIMIT → Reads Version2 bytes ops end → Reads Version2 (take STREAM_LIMIT bytes) ops end
       whole ops end fits reads = subst (λ (b : List ℕ). Reads Version2 b ops end) (sym (take_all STREAM_LIMIT bytes fits)) reads
 
-      by_course : (ops : List Op) (course : IntakeOutcome) → StreamComes Version2 hold most start STREAM_LIMIT bytes ops course
+      by_outcome : (ops : List Op) (outcome : IntakeOutcome) → StreamComes Version2 hold most start STREAM_LIMIT bytes ops outcome
           → (ops : List Op) × (end : ReplyEnd) × ReplyComes hold most start bytes ops end
-      by_course ops StreamMany c = (ops, TooMany, record { has_place = c.has_place; ends = c.ends })
-      by_course ops StreamWhole c = plainly ops EndsWhole c.has_place (whole ops EndsWhole c.ends.0 c.ends.1)
-      by_course ops (StreamCut k) c = plainly ops (EndsCutShort k) c.has_place (whole ops (EndsCutShort k) c.ends.0 c.ends.1)
-      by_course ops (StreamBad k) c = plainly ops (EndsInBadFrame k) c.has_place c.ends
-      by_course ops StreamLong c = plainly ops c.ends.1.0 c.has_place c.ends.1.1
+      by_outcome ops StreamMany c = (ops, TooMany, record { has_place = c.has_place; ends = c.ends })
+      by_outcome ops StreamWhole c = plainly ops EndsWhole c.has_place (whole ops EndsWhole c.ends.0 c.ends.1)
+      by_outcome ops (StreamCut k) c = plainly ops (EndsCutShort k) c.has_place (whole ops (EndsCutShort k) c.ends.0 c.ends.1)
+      by_outcome ops (StreamBad k) c = plainly ops (EndsInBadFrame k) c.has_place c.ends
+      by_outcome ops StreamLong c = plainly ops c.ends.1.0 c.has_place c.ends.1.1

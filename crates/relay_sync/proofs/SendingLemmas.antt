@@ -40,9 +40,9 @@ sends_grow {E} {T} x u v w session piece at n s t = record {
   ends = t.ends ∙ s.ends;
 }
 
--- what is so of a number that is told
-pub sure_is : (P : ℕ → Type 0) (told : Option ℕ) (n : ℕ) → told ≡ Some n → IfSome told P → P n
-sure_is P told n is holds = subst (λ (o : Option ℕ). IfSome o P) is holds
+-- what is so of a number that is specified
+pub sure_is : (P : ℕ → Type 0) (specified : Option ℕ) (n : ℕ) → specified ≡ Some n → IfSome specified P → P n
+sure_is P specified n is holds = subst (λ (o : Option ℕ). IfSome o P) is holds
 
 pub ends_none : (ends : Option ℕ) → ends ≡ ends_behind [] ends
 ends_none None = refl

@@ -31,8 +31,8 @@ use Rattle.origin_model.specs.taking.Closure.{given_by, given_by_all, taker_stat
 use Rattle.origin_model.proofs.SharedLemmas.{bytes_of, has-append, hello, one_kind, ops_of}
 use Rattle.op_frame.proofs.CodeLemmas.{same_fronts}
 use Rattle.op_frame.proofs.ReadingLemmas.{begins_not_partial, framed_some, frames_once, same_front}
-use Rattle.relay_core.specs.Texts.{Beyond, Closed, FollowsFrames, Foreign, Greets, HasCome, IsCourse, IsGreetingFront, NoGreeting, OneTooMany, SaysCursor, SessionText, Speaks}
-use Rattle.relay_core.specs.Texts.{StandsInText, Tells, TellsAll, TellsPiece, TellsTo, OpenTexts, LogWithTexts, Unfinished, log_behind, nothing_told, reply_to_text, reply_with}
+use Rattle.relay_core.specs.Texts.{Beyond, Closed, FollowsFrames, Foreign, Greets, HasCome, IsSessionText, IsGreetingFront, NoGreeting, OneTooMany, SaysCursor, SessionText, Speaks}
+use Rattle.relay_core.specs.Texts.{StandsInText, Tells, TellsAll, TellsPiece, TellsTo, OpenTexts, LogWithTexts, Unfinished, log_behind, no_log_texts, reply_to_text, reply_with}
 use Rattle.relay_core.specs.Texts.{texts_behind, with_op, log_with_ops}
 use Rattle.relay_core.proofs.TellingLemmas.{sessions_by_whole_texts}
 use Rattle.relay_sync.specs.Exchanges.{AreInterleaved, IsHonestRequest, NoneRefused, Sending, beginners, events_of, gone_with, is_whole, session_of}
@@ -426,17 +426,17 @@ module _ (sendings : List Sending) (honest : All IsHonestRequest sendings) where
       taken = All-weaker (IsTaken log) (IsTaken log_now) (λ s t. taken_later log log_now s more t) done taken;
     })
 
-    course_comes : (course : SessionText) (limit : ℕ) → IsCourse course limit log before text → IsNoRefusal (reply_with n (reply_to_text course log))
-        → Comes n log text mine (log_behind course log) (reply_to_text course log)
-    course_comes Greets limit front good = record {
+    outcome_comes : (outcome : SessionText) (limit : ℕ) → IsSessionText outcome limit log before text → IsNoRefusal (reply_with n (reply_to_text outcome log))
+        → Comes n log text mine (log_behind outcome log) (reply_to_text outcome log)
+    outcome_comes Greets limit front good = record {
       along = goes_on log (λ own t. t) (omega (arith, ap length request, length-append text (to_say pieces now), long_request now w, front_short text front))
           (λ ops c. subst (All (IsLogged log)) (sym (same_come text ops [] c (inl (front, refl)))) (All-nil (IsLogged log)));
       more = λ own t. t;
       within = λ all. all;
     }
-    course_comes NoGreeting limit c good = absurd (good 1 refl)
-    course_comes Beyond limit c good = absurd (good 3 refl)
-    course_comes (Speaks cursor new rest follows) limit c good = by follows c.3 good
+    outcome_comes NoGreeting limit c good = absurd (good 1 refl)
+    outcome_comes Beyond limit c good = absurd (good 3 refl)
+    outcome_comes (Speaks cursor new rest follows) limit c good = by follows c.3 good
       where
         l : IsLeft (given_by now.replica) (before ++ new) rest (to_say pieces now)
         l = said_of now w text (to_say pieces now) cursor (before ++ new) rest request c.0
@@ -490,9 +490,9 @@ module _ (sendings : List Sending) (honest : All IsHonestRequest sendings) where
   of_session n events = filter (λ event. nat_eq (session_of event) n) events
 
   -- where a relay stands, with the events that are left
-  record IsOn (told : LogWithTexts) (events : List Event) : Type 0 where
-    along : (n : ℕ) → Along n told.log (finite.get told.texts n) (of_session n events)
-    within : All (IsOfSent sent) told.log
+  record IsOn (reported : LogWithTexts) (events : List Event) : Type 0 where
+    along : (n : ℕ) → Along n reported.log (finite.get reported.texts n) (of_session n events)
+    within : All (IsOfSent sent) reported.log
 
   -- only one session goes on
   module _ (old new : LogWithTexts) (event : Event) (events : List Event) (on : IsOn old (event ∷ events)) where
@@ -568,15 +568,17 @@ module _ (sendings : List Sending) (honest : All IsHonestRequest sendings) where
               (λ i. (same i ++ piece_is i) ++ to_say pieces b.now) ∙ append_assoc b.so_far piece (to_say pieces b.now)
               ∙ ap (λ t. b.so_far ++ t) (sym (append_assoc piece (joined_pieces pieces) b.now.unsent)) ∙ r in
               let logged : All (IsLogged old.log) h.comes.before = b.come h.comes.before (subst (λ t. HasCome t h.comes.before) same h.comes.has_come) in
-              let allowed : IsNoRefusal (reply_with n (reply_to_text h.comes.course old.log)) = subst IsNoRefusal (h.reply_is ∙ ap (reply_with n) h.comes.answer_is) good in
-              let c = course_comes n old.log text mine b.done b.now b.todo b.sessions bytes pieces rest asks b.taken h.comes.before logged h.comes.course limit h.comes.is_course
+              let allowed : IsNoRefusal (reply_with n (reply_to_text h.comes.session_text old.log)) = subst IsNoRefusal (h.reply_is ∙ ap (reply_with n) h.comes.answer_is) good in
+              let c = outcome_comes n old.log text mine b.done b.now b.todo b.sessions bytes pieces rest asks b.taken h.comes.before logged h.comes.session_text
+              limit h.comes.is_session_text
               allowed in
-              let log_is : log_behind h.comes.course old.log ≡ new.log = sym h.comes.log_is in
-              let left : finite.get new.texts n ≡ text_left (text ++ bytes) (reply_to_text h.comes.course old.log) =
+              let log_is : log_behind h.comes.session_text old.log ≡ new.log = sym h.comes.log_is in
+              let left : finite.get new.texts n ≡ text_left (text ++ bytes) (reply_to_text h.comes.session_text old.log) =
               ap (λ u. finite.get u n) h.texts_are ∙ behind_here old.texts n (text ++ bytes) h.answer ∙ ap (text_left (text ++ bytes)) h.comes.answer_is in
               others_on old new (Piece n bytes) events on (λ own l. ap (λ k. is_logged k own) (sym log_is) ∙ c.more own l) (subst (All (IsOfSent sent)) log_is (c.within on.within))
               (λ k other. ap (λ u. finite.get u k) h.texts_are ∙ behind_other old.texts n (text ++ bytes) h.answer k other)
-              (subst (λ l. Along n l (finite.get new.texts n) mine) log_is (subst (λ (o : Option (List ℕ)). Along n (log_behind h.comes.course old.log) o mine) (sym left) c.along))
+              (subst (λ l. Along n l (finite.get new.texts n) mine) log_is
+              (subst (λ (o : Option (List ℕ)). Along n (log_behind h.comes.session_text old.log) o mine) (sym left) c.along))
 
       by : (text : Option (List ℕ)) → finite.get old.texts n ≡ text → Along n old.log text (Piece n bytes ∷ mine) → TellsTo limit old n text bytes new reply → IsOn new events
       by None is (inl a) h =
@@ -640,7 +642,7 @@ module _ (sendings : List Sending) (honest : All IsHonestRequest sendings) where
       run_on limit t.0 new events t.2 t.4 (All-tail IsNoRefusal t.1 t.2 goods) (step_on limit old t.0 event events t.1 t.3 (All-head IsNoRefusal t.1 t.2 goods) on)
 
   -- before any event
-  begun_on : (events : List Event) → AreInterleaved sendings events → IsOn nothing_told events
+  begun_on : (events : List Event) → AreInterleaved sendings events → IsOn no_log_texts events
   begun_on events each = record {
     along = λ n. inl (record { none = get-empty nat_cmp n; done = []; todo = with_number n; sessions = refl; pieces = []; events_are = each n; taken = All-nil (IsTaken []) });
     within = All-nil (IsOfSent sent);
@@ -669,12 +671,12 @@ module _ (sendings : List Sending) (honest : All IsHonestRequest sendings) where
   pub gathered : (limit : ℕ) (events : List Event) (relay : Relay) (replies : List (Option Reply)) → AreInterleaved sendings events
       → RelayRuns (new_relay limit) events relay replies → NoneRefused replies → IsGathered relay.log
   gathered limit events relay replies each runs good =
-      let told = (sessions_by_whole_texts.exactly limit events relay.log replies).0 (relay, runs, refl) in
-      let on : IsOn told.0 [] = run_on limit nothing_told told.0 events replies told.1 good (begun_on events each) in
-      let own : All (λ (s : Sending). IsTaken told.0.log s) sendings =
-      all_weaker_at IsHonestRequest (IsTaken told.0.log) sendings (λ s among w.
-      All-contains (λ (x : Sending). nat_eq x.number s.number ≡ true → IsTaken told.0.log x) sendings s
-      (all_from_filter (λ (x : Sending). nat_eq x.number s.number) (IsTaken told.0.log) sendings
-      (all_done s.number told.0.log (finite.get told.0.texts s.number) (on.along s.number)))
+      let reported = (sessions_by_whole_texts.exactly limit events relay.log replies).0 (relay, runs, refl) in
+      let on : IsOn reported.0 [] = run_on limit no_log_texts reported.0 events replies reported.1 good (begun_on events each) in
+      let own : All (λ (s : Sending). IsTaken reported.0.log s) sendings =
+      all_weaker_at IsHonestRequest (IsTaken reported.0.log) sendings (λ s among w.
+      All-contains (λ (x : Sending). nat_eq x.number s.number ≡ true → IsTaken reported.0.log x) sendings s
+      (all_from_filter (λ (x : Sending). nat_eq x.number s.number) (IsTaken reported.0.log) sendings
+      (all_done s.number reported.0.log (finite.get reported.0.texts s.number) (on.along s.number)))
       among (eq-eqb s.number s.number refl)) honest in
-      record { taken = subst (λ l. All (IsTaken l) sendings) told.2 own; within = subst (All (IsOfSent sent)) told.2 on.within }
+      record { taken = subst (λ l. All (IsTaken l) sendings) reported.2 own; within = subst (All (IsOfSent sent)) reported.2 on.within }

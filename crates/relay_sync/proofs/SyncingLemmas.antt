@@ -14,7 +14,7 @@ use Rattle.origin_model.specs.taking.Taking.{Held, IsSettled, held_from, kept_fr
 use Rattle.origin_model.proofs.SharedLemmas.{bytes_of, frame_wide, held-append, kept-append, ops_of, places-append, tally-append}
 use Rattle.outer_ports.specs.wire.Wires.{WireView, out_of}
 use Rattle.replica_core.specs.Keeping.{LeavesUnkept, TakesIn, OpsTaking}
-use Rattle.replica_core.specs.Told.{StaysBelow}
+use Rattle.replica_core.specs.Answering.{StaysBelow}
 use Rattle.replica_core.specs.declared.keeping.FeedFault.{FeedFault}
 use Rattle.replica_core.specs.declared.keeping.FeedFault.TheVariants as feed_fault
 use Rattle.replica_core.proofs.KeepingLemmas.{same_taking, takes_none}
@@ -236,7 +236,7 @@ stops_before start now next frame given more op feed_fault.NoMemory is takes lef
   record { front = given; more = more; is_message = is; takes = takes },
   elim left.1 [
     | inl none ↦ inl (same_taking next now none.0 none.1 kept)
-    | inr partly ↦ inr (record { replica = left.0; stands = partly; kept = kept })
+    | inr partly ↦ inr (record { replica = left.0; partly = partly; kept = kept })
   ],
 )
 

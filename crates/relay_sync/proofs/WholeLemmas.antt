@@ -222,14 +222,14 @@ parts_joined start one other whole parts comes runs given =
         )
     by (inr used) = absurd (used.some refl)
 
--- steps that come one behind the other, and that steps stay told
+-- steps that come one behind the other, and that steps stay specified
 comes_split : (xs ys : List MemStep) (a c : Option (List MemStep)) → HaveCome a (xs ++ ys) c → (b : Option (List MemStep)) × HaveCome a xs b × HaveCome b ys c
 comes_split [] ys a c h = (a, refl, h)
 comes_split (x ∷ xs) ys a c h = let rest = comes_split xs ys h.0 c h.2 in (rest.0, (h.0, h.1, rest.1), rest.2)
 
-stays_told : (coming : List MemStep) (steps : List MemStep) (after : Option (List MemStep)) → HaveCome (Some coming) steps after → (left : List MemStep) × (after ≡ Some left)
-stays_told coming [] after h = (coming, h)
-stays_told coming (step ∷ steps) after h = by h.0 h.1 h.2 (λ m. stays_told m steps after)
+stays_reported : (coming : List MemStep) (steps : List MemStep) (after : Option (List MemStep)) → HaveCome (Some coming) steps after → (left : List MemStep) × (after ≡ Some left)
+stays_reported coming [] after h = (coming, h)
+stays_reported coming (step ∷ steps) after h = by h.0 h.1 h.2 (λ m. stays_reported m steps after)
   where
     by : (middle : Option (List MemStep)) → GivesSome (Some coming) middle step → HaveCome middle steps after
         → ((m : List MemStep) → HaveCome (Some m) steps after → (left : List MemStep) × (after ≡ Some left))
@@ -244,15 +244,15 @@ module _ (sessions : ℕ) (a : Relay) (x : DockView) (s : DockSuffices sessions 
   abbrev coming : List MemStep
   coming = steps_of s.turns ++ s.behind
 
-  told : (left : List MemStep) × (after ≡ Some left)
-  told = stays_told coming (steps_of turns) after (subst (λ c. HaveCome c (steps_of turns) after) s.coming comes)
+  reported : (left : List MemStep) × (after ≡ Some left)
+  reported = stays_reported coming (steps_of turns) after (subst (λ c. HaveCome c (steps_of turns) after) s.coming comes)
 
-  left_behind : Behind b s.last turns s.turns told.0 s.behind
+  left_behind : Behind b s.last turns s.turns reported.0 s.behind
   left_behind =
-      by (takes_turns s.last b s.behind turns a s.turns coming told.0 s.runs refl
-      (subst (λ c. HaveCome (Some coming) (steps_of turns) c) told.1 (subst (λ c. HaveCome c (steps_of turns) after) s.coming comes)) runs)
+      by (takes_turns s.last b s.behind turns a s.turns coming reported.0 s.runs refl
+      (subst (λ c. HaveCome (Some coming) (steps_of turns) c) reported.1 (subst (λ c. HaveCome c (steps_of turns) after) s.coming comes)) runs)
     where
-      by : Behind b s.last turns s.turns told.0 s.behind ⊎ UsedUp turns s.turns s.behind → Behind b s.last turns s.turns told.0 s.behind
+      by : Behind b s.last turns s.turns reported.0 s.behind ⊎ UsedUp turns s.turns s.behind → Behind b s.last turns s.turns reported.0 s.behind
       by (inl behind) = behind
       by (inr used) = absurd (omega (arith, s.over, none used.count used.below, ap length (used.over [])))
 
@@ -268,7 +268,7 @@ module _ (sessions : ℕ) (a : Relay) (x : DockView) (s : DockSuffices sessions 
   all_over : after ≡ Some [] → sessions ≤ count_over turns
   all_over is =
       let l = left_behind in
-      let none_left : steps_of l.rest ++ s.behind ≡ [] = cc (told.1, is, l.left_is) in
+      let none_left : steps_of l.rest ++ s.behind ≡ [] = cc (reported.1, is, l.left_is) in
       subst (λ o. sessions ≤ length o) (l.over [] ∙ ap (λ rest. over_after [] (turns ++ rest)) (no_turns l.rest s.behind none_left) ∙ ap (over_after []) (append-nil turns)) s.over
 
 -- what was served at a dock that suffices
@@ -289,7 +289,7 @@ module _ (sessions steps : ℕ) (a b : Relay) (x y : DockView) where
       let lasts = lasts_until DockFault h s in
       let spent : Spends DockFault h.partly.more x y = h.partly.counts_no_fault lasts in
       let same : y.coming ≡ split.0 = subst (λ more. HaveCome split.0 more y.coming) spent.0 split.2 in
-      let left = told sessions a x s b h.turns split.0 split.1 h.partly.runs h.none_after in
+      let left = reported sessions a x s b h.turns split.0 split.1 h.partly.runs h.none_after in
       let none : left.0 ≡ [] = subst (λ c. IfSome c (λ coming. coming ≡ [])) (same ∙ left.1) spent.1 in
       let enough = all_over sessions a x s b h.turns split.0 split.1 h.partly.runs h.none_after (left.1 ∙ ap Some none) in
       omega (arith, enough, h.not_over lasts refl)

@@ -5,7 +5,7 @@ use Rattle.fugue_ids.specs.declared.op.Op.{Op}
 use Rattle.origin_model.specs.declared.grammar.Grammar.TheVariants.{Version2}
 use Rattle.origin_model.specs.frames.Frames.{Framed, IsFrame}
 use Rattle.origin_model.specs.taking.Taking.{Held, MeetsNoLimit}
-use Rattle.op_frame.specs.Courses.{MeetsTooMany}
+use Rattle.op_frame.specs.IntakeOutcomes.{MeetsTooMany}
 use Rattle.outer_ports.specs.wire.Wires.{WireView}
 use Rattle.replica_core.specs.Keeping.{TakesIn, OpsTaking}
 use Rattle.relay_sync.specs.Replies.{End, IsMessage, IsMessageFront, Message, Refusal}
@@ -86,13 +86,13 @@ reply_end_of (sync_fault.TooMany most) = Some TooMany
 reply_end_of sync_fault.WireFault = None
 reply_end_of sync_fault.NoMemory = None
 
--- what was heard of bytes that are told
+-- what was heard of bytes that are specified
 abbrev pub HeardTo : Option (List ℕ) → (before after : OpsTaking) → ReplyEnd → Type 0
-HeardTo told before after end = IfSome told (λ bytes. HearsTo bytes before after end)
+HeardTo specified before after end = IfSome specified (λ bytes. HearsTo bytes before after end)
 
 -- the same up to a fault
 abbrev pub HeardUpTo : SyncFault → Option (List ℕ) → (before after : OpsTaking) → Type 0
-HeardUpTo fault told before after = IfSome (reply_end_of fault) (HeardTo told before after)
+HeardUpTo fault specified before after = IfSome (reply_end_of fault) (HeardTo specified before after)
 
 -- the answer of an exchange whose reply comes to an end, with what was taken in until then
 abbrev pub sync_answer : (after : OpsTaking) → ReplyEnd → Result Synced SyncFault

@@ -9,7 +9,7 @@ use Rattle.origin_model.specs.declared.grammar.Grammar.TheVariants.{Version2}
 use Rattle.origin_model.specs.frames.Frames.{IsFrame}
 use Rattle.origin_model.specs.relay.Session.{refusal_message}
 use Rattle.op_frame.specs.FrameFronts.{IsFrameOf}
-use Rattle.outer_ports.specs.wire.Wires.{WireTells, WireView}
+use Rattle.outer_ports.specs.wire.Wires.{WireIsSpecified, WireView}
 use Rattle.relay_sync.specs.declared.syncing.SyncFault.{SyncFault}
 use Rattle.relay_sync.specs.declared.syncing.SyncFault.TheVariants.{BadReply, CutShort, NoMemory, RelayRefused, TooLong, TooMany, WireFault}
 
@@ -105,11 +105,11 @@ pub record WholeFrame (frame : List ℕ) (old new : WireView) (place heard : ℕ
   pub count : heard ≡ place + length frame
   pub within : heard ≤ STREAM_LIMIT
 
--- On a wire that tells, the count of faults rises only where the wire is blamed: no call that failed is passed over,
--- and none is told as another fault.
+-- On a wire that is specified, the count of faults rises only where the wire is blamed: no call that failed is passed over,
+-- and none is reported as another fault.
 pub record WireRisesFor (blamed : Type 0) (old new : WireView) : Type 0 where
-  pub tells : WireTells old → WireTells new
-  pub specified_no_fault : WireTells old → (blamed → ⊥) → new.faults ≡ old.faults
+  pub tells : WireIsSpecified old → WireIsSpecified new
+  pub specified_no_fault : WireIsSpecified old → (blamed → ⊥) → new.faults ≡ old.faults
 
 -- the answer blames the wire
 abbrev pub IsWireFault : {T : Type 0} → Result T SyncFault → Type 0

@@ -22,7 +22,7 @@ pub record SaysText {E T : Type 0} (old new : WireView) (result : Result T E) (t
 abbrev pub SaysToNoOther : (old new : WireView) → (port : ℕ) → Type 0
 SaysToNoOther old new port = DialsOnce old new port ⊎ ((new.dials ≡ old.dials) × (new.said ≡ old.said))
 
--- the same to whoever listens on the port, who is dialled first, and once
+-- a text went out, whole or up to a fault, to whoever listens on the port, which was dialled once before that, and to no other
 pub record SaysTo {E T : Type 0} (old new : WireView) (result : Result T E) (port : ℕ) (text : List ℕ) : Type 0 where
   pub writes : WritesBytes (out_of old) (out_of new) result text
   pub dialled : OnOk result (DialsOnce old new port)

@@ -2,7 +2,7 @@
 use Rattle.std.specs.Prelude.{◌≡◌, ◌≢◌, ℕ, ◌≤◌, List, Result, Ok, Err, Option, option_map, ◌++◌}
 use Rattle.fugue_ids.specs.Outs.{Took, TookFront, WritesBytes}
 use Rattle.origin_model.specs.declared.relay.Reply.{Reply}
-use Rattle.outer_ports.specs.dock.Docks.{DockTells, DockView, SendsNothing, TakesNothing, out_to}
+use Rattle.outer_ports.specs.dock.Docks.{DockIsSpecified, DockView, SendsNothing, TakesNothing, out_to}
 use Rattle.outer_ports.specs.declared.dock.MemStep.{MemStep}
 use Rattle.relay_sync.specs.Serving.{EndedFront, GaveSteps, HasRoomFor, bytes_to, closed_by, ended_with, ends_behind}
 use Rattle.relay_sync.specs.declared.serving.ServeFault.{ServeFault}
@@ -54,11 +54,11 @@ pub record RepliedPartly (fault : ServeFault) (old new : DockView) (reply : Opti
   pub sure : LastsFor old reply → fault ≢ DockFault
   pub counts_no_fault : LastsFor old reply → new.faults ≡ old.faults
 
--- On a dock that tells, the count of faults rises only where the dock is blamed: no call that failed is passed over,
--- and none is told as another fault.
+-- On a dock that is specified, the count of faults rises only where the dock is blamed: no call that failed is passed over,
+-- and none is reported as another fault.
 pub record DockRisesFor (blamed : Type 0) (old new : DockView) : Type 0 where
-  pub tells : DockTells old → DockTells new
-  pub specified_no_fault : DockTells old → (blamed → ⊥) → new.faults ≡ old.faults
+  pub tells : DockIsSpecified old → DockIsSpecified new
+  pub specified_no_fault : DockIsSpecified old → (blamed → ⊥) → new.faults ≡ old.faults
 
 -- the answer blames the dock
 abbrev pub IsDockFault : {T : Type 0} → Result T ServeFault → Type 0

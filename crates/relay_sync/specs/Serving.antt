@@ -195,7 +195,7 @@ pub record DockSuffices (sessions : ℕ) (relay : Relay) (dock : DockView) : Typ
   pub over : sessions ≤ count_over turns
   pub lasts : Lasts dock turns
 
--- a dock that suffices counts no fault, and none is told
+-- a dock that suffices counts no fault, and none is reported
 pub record BlamesDock {T : Type 0} (sessions : ℕ) (relay : Relay) (old new : DockView) (result : Result T ServeFault) : Type 0 where
   pub counts_no_fault : DockSuffices sessions relay old → new.faults ≡ old.faults
   pub sure : DockSuffices sessions relay old → result ≢ Err DockFault

@@ -10,7 +10,7 @@ use Rattle.origin_model.specs.frames.Frames.{Framed, IsFrame}
 use Rattle.origin_model.specs.taking.Taking.{Held, IsSettled, TooMany as AnswersTooMany, answer}
 use Rattle.outer_ports.specs.wire.Wires.{DialsOnce, WireView, out_of}
 use Rattle.replica_core.specs.Keeping.{TakesIn, TakesPartly, OpsTaking}
-use Rattle.replica_core.specs.Told.{total}
+use Rattle.replica_core.specs.Answering.{total}
 use Rattle.replica_core.specs.declared.keeping.FeedFault.{FeedFault}
 use Rattle.replica_core.specs.declared.keeping.FeedFault.TheVariants as feed_fault
 use Rattle.relay_sync.specs.Replies.{End, HeardBytes, IsMessage, Operations, Refusal, StopsIn, Whole}

@@ -1,3 +1,4 @@
+//! One message of a relay's reply received byte by byte: a frame, the log's length, or a refusal code.
 ghost use Rattle.std.specs.Prelude.{◌≡◌, ◌≢◌, ◌+◌, ◌≤◌, ◌∷◌, [], IfErr, IfOk, List, OnOk, length, ℕ};
 ghost use Rattle.origin_model.specs.declared.grammar.Grammar.TheVariants.{Version2 as WithRuns};
 ghost use Rattle.relay_sync.specs.Replies.{End, HeardBytes, IsMessageFront, IsWireFault, Refusal, StopsHearing, Whole, WholeFrame};
@@ -17,7 +18,7 @@ pub(crate) fn next_byte<W: Wire>(wire: &mut W, heard: &mut u64, place: u64) -> R
     ensures err { IfErr result
         (λ fault. (before : List ℕ) → IsMessageFront before → place + length before ≡ heard.old
         → StopsHearing fault (W.seen wire.old) (W.seen wire.new) place before) }
-    ensures told { WireRisesFor (IsWireFault result) (W.seen wire.old) (W.seen wire.new) }
+    ensures reported { WireRisesFor (IsWireFault result) (W.seen wire.old) (W.seen wire.new) }
 {
     let mut buffer = [0];
     let Ok(count) = wire.read(&mut buffer) else {
@@ -44,7 +45,7 @@ pub(crate) fn next_number<W: Wire>(
     ensures ok { IfOk result (λ count. Whole (End count) (W.seen wire.old) (W.seen wire.new) place heard.new
         (END ∷ [])) }
     ensures err { IfErr result (λ fault. StopsHearing fault (W.seen wire.old) (W.seen wire.new) place (END ∷ [])) }
-    ensures told { WireRisesFor (IsWireFault result) (W.seen wire.old) (W.seen wire.new) }
+    ensures reported { WireRisesFor (IsWireFault result) (W.seen wire.old) (W.seen wire.new) }
 {
     let mut number = [0; 4];
     let mut came = 0;
@@ -63,7 +64,7 @@ pub(crate) fn next_code<W: Wire>(wire: &mut W, heard: &mut u64, place: u64) -> R
     ensures ok { IfOk result (λ code. Whole (Refusal code) (W.seen wire.old) (W.seen wire.new) place heard.new
         (REFUSAL ∷ [])) }
     ensures err { IfErr result (λ fault. StopsHearing fault (W.seen wire.old) (W.seen wire.new) place (REFUSAL ∷ [])) }
-    ensures told { WireRisesFor (IsWireFault result) (W.seen wire.old) (W.seen wire.new) }
+    ensures reported { WireRisesFor (IsWireFault result) (W.seen wire.old) (W.seen wire.new) }
 {
     let code = next_byte(wire, heard, place)?;
     if code == 0 || code > 3 {
@@ -89,7 +90,7 @@ pub(crate) fn next_frame<W: Wire>(
         (first ∷ [])) }
     ensures err { IfErr result (λ fault. StopsHearing fault (W.seen wire.old) (W.seen wire.new) place (first ∷ [])) }
     ensures grammar { front.new.grammar ≡ WithRuns }
-    ensures told { WireRisesFor (IsWireFault result) (W.seen wire.old) (W.seen wire.new) }
+    ensures reported { WireRisesFor (IsWireFault result) (W.seen wire.old) (W.seen wire.new) }
 {
     front.clear();
     let mut byte = first;

@@ -1,3 +1,4 @@
+//! Theorems on exchanges: each reply has one outcome, both ends agree, and replicas converge over a relay.
 ghost use Rattle.relay_sync.specs.Exchanges.{HearersConverge, HearersHaveTheClosure, LogsAreWhatWasSent};
 ghost use Rattle.relay_sync.specs.Outcomes.{RepliesComeOnce};
 ghost use Rattle.relay_sync.specs.Serving.{PartsCountAsJoined};

@@ -1,3 +1,4 @@
+//! One event taken from a listener (session opened, bytes received, session gone), its bytes copied.
 ghost use Rattle.std.specs.Prelude.{◌≡◌, ◌≢◌, ◌≤◌, ◌∷◌, [], Err, IfErr, IfOk, IfSome, List, OnOk, length};
 ghost use Rattle.fugue_ids.specs.Causes.{Faulted};
 ghost use Rattle.outer_ports.specs.declared.dock.MemStep.{MemStep as AnyStep};
@@ -19,7 +20,7 @@ pub(crate) fn next_step<D: Dock>(alloc: Global, dock: &mut D) -> Result<MemStep,
     ensures counts_no_fault { IfSome (D.seen dock.old).ends
         (λ ends. OnOk result ((D.seen dock.new).faults ≡ (D.seen dock.old).faults)) }
     ensures dock_fault { result ≡ Err DockFault → Faulted (D.seen dock.old).faults (D.seen dock.new).faults }
-    ensures told { DockRisesFor (IsDockFault result) (D.seen dock.old) (D.seen dock.new) }
+    ensures reported { DockRisesFor (IsDockFault result) (D.seen dock.old) (D.seen dock.new) }
     ensures not_long { result ≢ Err TooLong }
 {
     let mut buffer = [0; BUFFER];

@@ -1,3 +1,4 @@
+//! A replica's request to a relay, with its operations and a log cursor, encoded and sent.
 ghost use Rattle.std.specs.Prelude.{◌≡◌, IfOk, IsErr};
 ghost use Rattle.origin_model.specs.edits.State.{IsSound};
 ghost use Rattle.relay_sync.specs.Replies.{WireRisesFor};
@@ -13,7 +14,7 @@ use std::alloc::Global;
 /// What the replica says: all that it holds, and from where on it asks for the log.
 pub(crate) fn request_of(alloc: Global, replica: &Replica, cursor: u32) -> Result<Vec<u8>, NoMemory>
     ensures text { IfOk result (λ text. text.items ≡ request_for cursor replica.now.held) }
-    ensures stands { IsSound replica.now }
+    ensures sound { IsSound replica.now }
 {
     let accepted = replica.accepted();
     let mut text = Vec::new(alloc);
@@ -28,7 +29,7 @@ pub(crate) fn request_of(alloc: Global, replica: &Replica, cursor: u32) -> Resul
 /// Says the whole text to whoever listens on the port, or fails with a front of it said.
 pub(crate) fn say<W: Wire>(wire: &mut W, port: u16, text: &[u8]) -> Result<(), Failed>
     ensures says { SaysTo (W.seen wire.old) (W.seen wire.new) result port text.now }
-    ensures told { WireRisesFor (IsErr result) (W.seen wire.old) (W.seen wire.new) }
+    ensures reported { WireRisesFor (IsErr result) (W.seen wire.old) (W.seen wire.new) }
 {
     wire.dial(port)?;
     say_whole(wire, text)
@@ -37,7 +38,7 @@ pub(crate) fn say<W: Wire>(wire: &mut W, port: u16, text: &[u8]) -> Result<(), F
 /// Says the whole piece, or fails with a front of it said.
 fn say_whole<W: Wire>(wire: &mut W, piece: &[u8]) -> Result<(), Failed>
     ensures says { SaysText (W.seen wire.old) (W.seen wire.new) result piece.now }
-    ensures told { WireRisesFor (IsErr result) (W.seen wire.old) (W.seen wire.new) }
+    ensures reported { WireRisesFor (IsErr result) (W.seen wire.old) (W.seen wire.new) }
 {
     let mut at = 0;
     while at < piece.len() {

@@ -1,3 +1,4 @@
+//! The relay's loop: a listener's events go to the relay, replies to sessions, until enough are finished.
 ghost use Rattle.std.specs.Prelude.{◌≡◌, ◌≢◌, ◌<◌, ◌≤◌, ◌∷◌, [], Err, IfErr, List, OnOk, length, ℕ, Option as Maybe};
 ghost use Rattle.std.specs.Prelude.{OnErr, IsErr, Some};
 ghost use Rattle.fugue_ids.specs.Causes.{Faulted, HasCause};
@@ -48,7 +49,7 @@ pub fn serve<B: BuildHasher, D: Dock>(
     ensures partly { IfErr result
         (λ fault. ServingStops sessions steps fault relay.old relay.new (D.seen dock.old) (D.seen dock.new)) }
     ensures dock_fault { result ≡ Err AtDock → Faulted (D.seen dock.old).faults (D.seen dock.new).faults }
-    ensures told { DockRisesFor (IsDockFault result) (D.seen dock.old) (D.seen dock.new) }
+    ensures reported { DockRisesFor (IsDockFault result) (D.seen dock.old) (D.seen dock.new) }
     ensures dock { BlamesDock sessions relay.old (D.seen dock.old) (D.seen dock.new) result }
 {
     let mut over = BTreeSet::new(alloc);
@@ -74,7 +75,7 @@ fn serve_step<B: BuildHasher, D: Dock>(
         × ((sessions : List ℕ) → IsOver over.old sessions → IsOver over.new (over_after sessions (turn ∷ [])))) }
     ensures partly { IfErr result (λ fault. TurnStops fault relay.old relay.new (D.seen dock.old) (D.seen dock.new)) }
     ensures dock_fault { result ≡ Err AtDock → Faulted (D.seen dock.old).faults (D.seen dock.new).faults }
-    ensures told { DockRisesFor (IsDockFault result) (D.seen dock.old) (D.seen dock.new) }
+    ensures reported { DockRisesFor (IsDockFault result) (D.seen dock.old) (D.seen dock.new) }
     ensures not_long { result ≢ Err TakesTooLong }
 {
     let step = next_step(alloc, dock)?;
@@ -101,7 +102,7 @@ fn answer<D: Dock>(
     ensures partly { (reply : Maybe AnyReply) → replies.now ≡ reply_list reply
         → IfErr result (λ fault. RepliedPartly fault (D.seen dock.old) (D.seen dock.new) reply) }
     ensures dock_fault { result ≡ Err AtDock → Faulted (D.seen dock.old).faults (D.seen dock.new).faults }
-    ensures told { DockRisesFor (IsDockFault result) (D.seen dock.old) (D.seen dock.new) }
+    ensures reported { DockRisesFor (IsDockFault result) (D.seen dock.old) (D.seen dock.new) }
     ensures not_long { result ≢ Err TakesTooLong }
 {
     let [reply] = replies else {
@@ -162,7 +163,7 @@ pub(crate) fn note_gone(over: &mut BTreeSet<u32>, gone: Option<u32>) -> Result<(
 pub(crate) fn send_reply<D: Dock>(dock: &mut D, reply: &Reply) -> Result<(), Failed>
     ensures ok { OnOk result (Replied (D.seen dock.old) (D.seen dock.new) (Some reply.now)) }
     ensures err { OnErr result (RepliedPartly AtDock (D.seen dock.old) (D.seen dock.new) (Some reply.now)) }
-    ensures told { DockRisesFor (IsErr result) (D.seen dock.old) (D.seen dock.new) }
+    ensures reported { DockRisesFor (IsErr result) (D.seen dock.old) (D.seen dock.new) }
     ensures cause { HasCause (D.seen dock.old).faults (D.seen dock.new).faults result }
 {
     send_whole(dock, reply.session, reply.bytes.as_slice())?;

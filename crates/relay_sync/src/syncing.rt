@@ -1,3 +1,4 @@
+//! A replica's whole exchange with a relay: the request sent, the reply's operations delivered, the result.
 ghost use Rattle.std.specs.Prelude.{◌≡◌, ◌+◌, ◌*◌, ◌≤◌, IfErr, IfOk, IfSome, OnOk, length};
 ghost use Rattle.fugue_ids.specs.declared.limits.TheConstants.{GREATEST_HOLD};
 ghost use Rattle.origin_model.specs.declared.grammar.Grammar.TheVariants.{Version2 as WithRuns};
@@ -98,7 +99,7 @@ pub fn sync<W: Wire>(
         (record { replica = replica.new; counts = counts; kept = kept.new.items })) }
     ensures exactly { IfSome (W.seen wire.old).left
         (λ bytes. AnswersByReply result (taking_begun replica.old kept.old.items) bytes) }
-    ensures told { WireRisesFor (IsWireFault result) (W.seen wire.old) (W.seen wire.new) }
+    ensures reported { WireRisesFor (IsWireFault result) (W.seen wire.old) (W.seen wire.new) }
     ensures wire { BlamesWire (length (request_for cursor replica.old.held)) (W.seen wire.old)
         (W.seen wire.new) result }
 {
@@ -128,7 +129,7 @@ fn hear<W: Wire>(
         (λ fault. (counts : AnyTally)
         × HearsPartly fault (W.seen wire.old) (W.seen wire.new) (taking_begun replica.old kept.old.items)
         (record { replica = replica.new; counts = counts; kept = kept.new.items })) }
-    ensures told { WireRisesFor (IsWireFault result) (W.seen wire.old) (W.seen wire.new) }
+    ensures reported { WireRisesFor (IsWireFault result) (W.seen wire.old) (W.seen wire.new) }
 {
     let mut tally = Tally::default();
     let mut front = FrameFront::new(Grammar::Version2);
@@ -164,7 +165,7 @@ fn hear_one<W: Wire>(
         (record { replica = replica.old; counts = tally.old; kept = kept.old.items })
         (record { replica = replica.new; counts = tally.new; kept = kept.new.items }) heard.old) }
     ensures grammar { front.new.grammar ≡ WithRuns }
-    ensures told { WireRisesFor (IsWireFault result) (W.seen wire.old) (W.seen wire.new) }
+    ensures reported { WireRisesFor (IsWireFault result) (W.seen wire.old) (W.seen wire.new) }
 {
     let place = *heard;
     let first = next_byte(wire, heard, place)?;

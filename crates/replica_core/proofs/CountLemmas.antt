@@ -7,7 +7,7 @@ use Rattle.origin_model.specs.declared.taking.Tally.{Tally}
 use Rattle.origin_model.specs.taking.Taking.{Held, settle_step, count_joined, count_dropped, settling_counted}
 use Rattle.origin_model.specs.edits.State.{State, IsSound}
 use Rattle.replica_core.specs.Settling.{SettlesTo, Here, Step}
-use Rattle.replica_core.specs.Told.{IsTallied, Settles, SettlesOn}
+use Rattle.replica_core.specs.Answering.{IsTallied, Settles, SettlesOn}
 use Rattle.replica_core.specs.declared.replica.Settled.{Settled}
 use Rattle.replica_core.specs.declared.replica.Settled.TheVariants.{Accepted as SettledAccepted, DroppedStray}
 use Rattle.replica_core.proofs.StepLemmas.{step_moves, reaches_then}
@@ -67,7 +67,7 @@ counted_more s t u x r e =
 -- how far settling has come, and what its loop needs
 pub record IsSettling (start now : State) (before after : Tally) : Type 0 where
   pub way : SettlesOn start now before after
-  pub stands : IsSound now
+  pub sound : IsSound now
   pub few : length start.held.waiting ≤ GREATEST_HOLD
   pub accepted : before.accepted ≤ 2 ^ 31
   pub stray : before.stray < 2 ^ 31
@@ -78,10 +78,10 @@ settles_here s t = record { steps = Here s.held; counted = sym (counted-none s.h
 
 -- the same, where a loop begins
 pub settling_starts : (s : State) (t : Tally) → IsSound s → t.accepted ≤ 2 ^ 31 → t.stray < 2 ^ 31 → IsSettling s s t t
-settling_starts s t stands accepted stray = record {
+settling_starts s t sound accepted stray = record {
   way = settles_here s t;
-  stands = stands;
-  few = omega (arith, stands.few_wait, stands.hold_within.1);
+  sound = sound;
+  few = omega (arith, sound.few_wait, sound.hold_within.1);
   accepted = accepted;
   stray = stray;
 }
@@ -89,28 +89,28 @@ settling_starts s t stands accepted stray = record {
 -- one step more is counted in its turn
 pub settling_more : (start now next : State) (before after then : Tally) → IsSettling start now before after → IsTallied now.held next.held after then true
     → next ≡ record now { held = next.held } → IsSound next → IsSettling start next before then
-settling_more start now next before after then so step others stands = record {
+settling_more start now next before after then so step others sound = record {
   way = record {
     steps = reaches_then start.held now.held next.held so.way.steps step.0;
     counted = step.1 ∙ ap (settling_counted now.held next.held) so.way.counted ∙ counted_more start.held now.held next.held before so.way.steps step.0;
     others = others ∙ ap (λ (s : State). record s { held = next.held }) so.way.others;
   };
-  stands = stands;
+  sound = sound;
   few = so.few;
   accepted = so.accepted;
   stray = so.stray;
 }
 
--- a step that is told as one by which an operation joins
-pub told_joined : (s u : Held) (told : Option Settled) (op : Op) (t : Tally) → told ≡ Some (SettledAccepted op) → Settles s u told
+-- a step that is reported as one by which an operation joins
+pub answer_joined : (s u : Held) (told : Option Settled) (op : Op) (t : Tally) → told ≡ Some (SettledAccepted op) → Settles s u told
     → (settle_step s ≡ Some u) × (record t { accepted = t.accepted + 1 } ≡ settling_counted s u t)
-told_joined s u told op t is step =
+answer_joined s u told op t is step =
     let joined : Settles s u (Some (SettledAccepted op)) = subst (Settles s u) is step in
     (joined.0, counted_joined s u op t joined.0 joined.2)
 
--- a step that is told as one by which an operation is dropped
-pub told_dropped : (s u : Held) (told : Option Settled) (op : Op) (t : Tally) → told ≡ Some (DroppedStray op) → Settles s u told
+-- a step that is reported as one by which an operation is dropped
+pub answer_dropped : (s u : Held) (told : Option Settled) (op : Op) (t : Tally) → told ≡ Some (DroppedStray op) → Settles s u told
     → (settle_step s ≡ Some u) × (record t { stray = t.stray + 1 } ≡ settling_counted s u t)
-told_dropped s u told op t is step =
+answer_dropped s u told op t is step =
     let dropped : Settles s u (Some (DroppedStray op)) = subst (Settles s u) is step in
     (dropped.0, counted_dropped s u t dropped.0 dropped.2)

@@ -39,7 +39,7 @@ use Rattle.replica_core.specs.Deleting.{AreWithin, ids_from}
 use Rattle.replica_core.specs.Edits.{CanJoin}
 use Rattle.replica_core.specs.Feeding.{GoesAtOnce, StopsFeeding, StopsKeeping, TakesInAll}
 use Rattle.replica_core.specs.Keeping.{LeavesUnkept}
-use Rattle.replica_core.specs.Told.{LeavesAfterFault, total}
+use Rattle.replica_core.specs.Answering.{LeavesAfterFault, total}
 use Rattle.replica_core.specs.declared.keeping.FeedFault.{FeedFault}
 use Rattle.replica_core.specs.declared.keeping.FeedFault.TheVariants.{NoMemory as FedNoMemory, TooMany as FedTooMany}
 use Rattle.replica_core.proofs.DeletingLemmas.{can_rest, fewer_can}
@@ -55,25 +55,25 @@ use Rattle.replica_core.proofs.NotingLemmas.{back_again}
 -- the first Deletes were taken in
 pub record IsFeedingRow (s : State) (t : Tally) (x : Identifier) (count : ℕ) (now : State) (counts : Tally) (done : ℕ) : Type 0 where
   pub taken : TakesInAll s now (deletes_up x done) t counts
-  pub stands : IsSound now
+  pub sound : IsSound now
   pub within : done ≤ count
   pub few : total counts + length now.held.waiting + count ≤ 2 ^ 31 + done
 
 pub feeding_row : (s : State) (t : Tally) (x : Identifier) (count : ℕ) → IsSound s → IsSettled s.held → total t + length s.held.waiting + count ≤ 2 ^ 31
     → IsFeedingRow s t x count s t 0
-feeding_row s t x count stands settled few = record { taken = takes_none_in s t settled; stands = stands; within = omega arith; few = omega (arith, few) }
+feeding_row s t x count sound settled few = record { taken = takes_none_in s t settled; sound = sound; within = omega arith; few = omega (arith, few) }
 
 -- some more
 pub row_fed_on : (s now new : State) (t counts after : Tally) (x : Identifier) (count done n : ℕ) → IsFeedingRow s t x count now counts done → n ≤ count - done → done < count
     → TakesInAll now new (deletes_up (id_behind x done) n) counts after → IsSound new → IsFeedingRow s t x count new after (done + n)
-row_fed_on s now new t counts after x count done n f no_more less took stands =
+row_fed_on s now new t counts after x count done n f no_more less took sound =
     let few : total counts + length now.held.waiting + count ≤ 2 ^ 31 + done = f.few in
     let once : total after + length new.held.waiting ≡ total counts + length now.held.waiting + length (deletes_up (id_behind x done) n) = took.once in
     let long : length (deletes_up (id_behind x done) n) ≡ n = length-deletes false (id_behind x done) n in
     record {
       taken = subst (λ (z : List Op). TakesInAll s new z t after) (sym (deletes-append false x done n))
           (takes_on s now new (deletes_up x done) (deletes_up (id_behind x done) n) t counts after f.taken took);
-      stands = stands;
+      sound = sound;
       within = omega (arith, no_more, less);
       few = omega (arith, few, once, long);
     }
@@ -101,18 +101,18 @@ pub record IsKeepingRow (s : State) (t : Tally) (kept : List Op) (x : Identifier
 
 pub keeping_row : (s : State) (t : Tally) (kept : List Op) (x : Identifier) (count : ℕ) → IsSound s → IsSettled s.held → total t + length s.held.waiting + count ≤ 2 ^ 31
     → IsKeepingRow s t kept x count s t kept 0
-keeping_row s t kept x count stands settled few = record { feeds = feeding_row s t x count stands settled few; kept_are = sym (append-nil kept) }
+keeping_row s t kept x count sound settled few = record { feeds = feeding_row s t x count sound settled few; kept_are = sym (append-nil kept) }
 
 pub row_kept_on : (s now new : State) (t counts after : Tally) (kept kept_now kept_new : List Op) (x : Identifier) (count done n : ℕ)
     → IsKeepingRow s t kept x count now counts kept_now done → n ≤ count - done → done < count
     → TakesInAll now new (deletes_up (id_behind x done) n) counts after → IsSound new
     → kept_new ≡ kept_now ++ kept_from now.hold now.most now.held (deletes_up (id_behind x done) n)
     → IsKeepingRow s t kept x count new after kept_new (done + n)
-row_kept_on s now new t counts after kept kept_now kept_new x count done n k no_more less took stands more =
+row_kept_on s now new t counts after kept kept_now kept_new x count done n k no_more less took sound more =
     let front : List Op = deletes_up x done in
     let next : List Op = deletes_up (id_behind x done) n in
     record {
-      feeds = row_fed_on s now new t counts after x count done n k.feeds no_more less took stands;
+      feeds = row_fed_on s now new t counts after x count done n k.feeds no_more less took sound;
       kept_are = more ∙ ap (λ (z : List Op). z ++ kept_from now.hold now.most now.held next) k.kept_are
           ∙ append_assoc kept (kept_from s.hold s.most s.held front) (kept_from now.hold now.most now.held next)
           ∙ ap (λ (z : List Op). kept ++ z) (kept_behind s now front next k.feeds.taken.replica ∙ ap (kept_from s.hold s.most s.held) (sym (deletes-append false x done n)));
@@ -236,11 +236,11 @@ AreUndeleted s h x n = (k : ℕ) → k < n → IsUndeleted s h (id_behind x k)
 -- what is visible in a section's list is such an element
 visible_undeleted : (m : Contents) (h : List Op) (s : Identifier) (l : Listing) (x : Identifier) (n : ℕ) → Represents m h → Some l ≡ text_at m s
     → HaveCells (cells_shown l.cells) x n → AreUndeleted s h x n
-visible_undeleted m h s l x n stands is visible k less =
+visible_undeleted m h s l x n represents is visible k less =
     let y : Identifier = id_behind x k in
-    let place : IsOrderedPlace (within s) h l = (text_found m h s l stands is).place in
+    let place : IsOrderedPlace (within s) h l = (text_found m h s l represents is).place in
     let there = contains_filter_from (λ z. not (is_hidden h z)) (order (within s) h) y (subst (λ (xs : List Identifier). Contains xs y) place.visible (visible k less)) in
-    record { inside = ((order_total (within s) h stands.lawful).lists y).1 there.0; shown = not-true (is_hidden h y) there.1 }
+    record { inside = ((order_total (within s) h represents.lawful).lists y).1 there.0; shown = not-true (is_hidden h y) there.1 }
 
 -- each is Ready in its turn
 ready_row : (n : ℕ) (x s : Identifier) (h : List Op) → AreUndeleted s h x n → ReadyInTurn h (deletes_up x n)
@@ -268,7 +268,7 @@ undeleted_within (suc n) x s h each =
 
 pub row_within : (m : Contents) (h : List Op) (s : Identifier) (l : Listing) (x : Identifier) (n : ℕ) → Represents m h → Some l ≡ text_at m s → HaveCells (cells_shown l.cells) x n
     → AreWithin s h (ids_from x n)
-row_within m h s l x n stands is visible = undeleted_within n x s h (visible_undeleted m h s l x n stands is visible)
+row_within m h s l x n represents is visible = undeleted_within n x s h (visible_undeleted m h s l x n represents is visible)
 
 unknown_row : (n : ℕ) (x : Identifier) (w : List Op) → All (IsUnknown w) (deletes_up x n)
 unknown_row zero x w = All-nil (IsUnknown w)
@@ -276,11 +276,12 @@ unknown_row (suc n) x w = All-cons (IsUnknown w) (Delete x) (deletes_up (next_id
 
 pub row_can_go : (m : Contents) (s : State) (section : Identifier) (l : Listing) (x : Identifier) (n : ℕ) → IsSettled s.held → Represents m s.held.history
     → Some l ≡ text_at m section → HaveCells (cells_shown l.cells) x n → length s.held.history + length s.held.waiting + n ≤ s.most → CanJoin s (deletes_up x n)
-row_can_go m s section l x n settled stands is visible room =
+row_can_go m s section l x n settled represents is visible room =
     let h : List Op = s.held.history in
     record {
       settled = settled;
-      in_turn = comes (deletes_up x n) h s.held.waiting settled (ready_row n x section h (visible_undeleted m h section l x n stands is visible)) (unknown_row n x s.held.waiting);
+      in_turn = comes (deletes_up x n) h s.held.waiting settled (ready_row n x section h (visible_undeleted m h section l x n represents is visible))
+          (unknown_row n x s.held.waiting);
       room = omega (arith, room, length-deletes false x n);
     }
 

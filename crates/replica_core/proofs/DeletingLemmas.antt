@@ -77,16 +77,16 @@ hidden_each (suc k) x h ready =
 
 pub stands_deleted : (m new : Contents) (count k : ℕ) (x : Identifier) (h : List Op) → k ≤ count → ReadyInTurn h (deletes_up x count) → Represents m h → HidesAll m new x k
     → Represents new (history_with h (deletes_up x k))
-stands_deleted m new count k x h l ready stands hides = subst (Represents new) (hidden_each k x h (fewer_ready count k x h l ready)) (hides h stands)
+stands_deleted m new count k x h l ready represents hides = subst (Represents new) (hidden_each k x h (fewer_ready count k x h l ready)) (hides h represents)
 
 -- where the elements of a section stand
 pub placed_each : (k : ℕ) (x s : Identifier) (m : Contents) (h : List Op) → Represents m h → AreWithin s h (ids_from x k) → AnswersUpTo (place_at m) x k (Some (within s))
-placed_each zero x s m h stands all j less = absurd (omega (arith, less))
-placed_each (suc k) x s m h stands all zero less =
-    ap (place_at m) (none_behind x) ∙ stands.places x ∙ in_place (within s) h x (All-head (λ y. IsIn (within s) h y) x (ids_from (next_id x) k) all)
-placed_each (suc k) x s m h stands all (suc j) less =
+placed_each zero x s m h represents all j less = absurd (omega (arith, less))
+placed_each (suc k) x s m h represents all zero less =
+    ap (place_at m) (none_behind x) ∙ represents.places x ∙ in_place (within s) h x (All-head (λ y. IsIn (within s) h y) x (ids_from (next_id x) k) all)
+placed_each (suc k) x s m h represents all (suc j) less =
     ap (place_at m) (sym (one_behind x j))
-    ∙ placed_each k (next_id x) s m h stands (All-tail (λ y. IsIn (within s) h y) x (ids_from (next_id x) k) all) j (omega (arith, less))
+    ∙ placed_each k (next_id x) s m h represents (All-tail (λ y. IsIn (within s) h y) x (ids_from (next_id x) k) all) j (omega (arith, less))
 
 -- what is shown of a section are elements of it
 pub shown_within : (s : Identifier) (h : List Op) (at n : ℕ) (xs : List Identifier) → Lawful h → xs ≡ take n (drop at (shown (within s) h)) → AreWithin s h xs
@@ -165,7 +165,7 @@ fewer_can s x count k l can =
     can_front s (deletes_up x k) (deletes_up (id_behind x k) (count - k)) (subst (CanJoin s) (ap (deletes_up x) e ∙ deletes-append false x k (count - k)) can)
 
 -- some more joined, or only the first of them
-module _ (old now new : State) (ops front rest : List Op) (j : IsJoining old now ops (front ++ rest)) (is : new ≡ with_ops now front) (stands : IsSound new) where
+module _ (old now new : State) (ops front rest : List Op) (j : IsJoining old now ops (front ++ rest)) (is : new ≡ with_ops now front) (sound : IsSound new) where
   pub goes_on_all : IsJoining old new ops rest
   goes_on_all = record {
     done = j.done ++ front;
@@ -173,7 +173,7 @@ module _ (old now new : State) (ops front rest : List Op) (j : IsJoining old now
     others = is ∙ ap (λ s. with_ops s front) j.others
         ∙ ap (λ h. record old { held = record { history = h; waiting = old.held.waiting } }) (sym (extended-append old.held.history j.done front));
     can = subst (λ s. CanJoin s rest) (sym is) (can_rest now front rest j.can);
-    stands = stands;
+    sound = sound;
   }
 
   pub stops_behind : 0 < length rest → StopsPartly old new ops
@@ -195,7 +195,7 @@ tail_is xs a = take_all (length xs - a) (drop a xs) (omega (arith, length-drop a
 
 pub deleting_each : (s : Identifier) (old : State) (xs : List Identifier) → CanJoin old (deletes_of xs) → IsSound old → AreWithin s old.held.history xs
     → IsDeletingEach s old old xs 0
-deleting_each s old xs can stands inside = record { joining = begins old (deletes_of xs) can stands; within = inside; to = omega arith }
+deleting_each s old xs can sound inside = record { joining = begins old (deletes_of xs) can sound; within = inside; to = omega arith }
 
 module _ (s : Identifier) (old now : State) (xs : List Identifier) (at : ℕ) (d : IsDeletingEach s old now xs at) (x : Identifier) (less : at < length xs) (is : x ≡ get_or xs at x)
     (count : ℕ) (row : take count (drop (at + 1) xs) ≡ ids_from (next_id x) count) (few : count ≤ length (drop (at + 1) xs)) where
@@ -234,8 +234,8 @@ module _ (s : Identifier) (old now : State) (xs : List Identifier) (at : ℕ) (d
   long = omega (arith, length-drop (at + (count + 1)) xs, few, length-drop (at + 1) xs, less)
 
   pub row_deleted : (new : State) → new ≡ with_ops now (deletes_up x (count + 1)) → IsSound new → IsDeletingEach s old new xs (at + (count + 1))
-  row_deleted new joined stands = record {
-    joining = goes_on_all old now new (deletes_of xs) (deletes_up x (count + 1)) (deletes_of rest) deletes_parted_off joined stands;
+  row_deleted new joined sound = record {
+    joining = goes_on_all old now new (deletes_of xs) (deletes_up x (count + 1)) (deletes_of rest) deletes_parted_off joined sound;
     within = subst (λ (z : State). AreWithin s z.held.history rest) (sym joined)
         (subst (λ (row : List Op). AreWithin s (history_with now.held.history row) rest) (row_of (count + 1) x)
         (still_within (ids_from x (count + 1)) s now.held.history rest (all_behind (λ y. IsIn (within s) now.held.history y) (ids_from x (count + 1)) rest both_within)));
@@ -244,13 +244,13 @@ module _ (s : Identifier) (old now : State) (xs : List Identifier) (at : ℕ) (d
 
   -- fewer than the row
   pub row_stopped : (new : State) (done : ℕ) → done < count + 1 → new ≡ with_ops now (deletes_up x done) → IsSound new → StopsPartly old new (deletes_of xs)
-  row_stopped new done fewer joined stands =
+  row_stopped new done fewer joined sound =
       let e : count + 1 ≡ done + ((count + 1) - done) = omega (arith, fewer) in
       let more : List Op = deletes_up (id_behind x done) ((count + 1) - done) in
       let j = subst (IsJoining old now (deletes_of xs))
       (ap (λ ops. ops ++ deletes_of rest) (ap (deletes_up x) e ∙ deletes-append false x done ((count + 1) - done)) ∙ append_assoc (deletes_up x done) more (deletes_of rest))
       deletes_parted_off in
-      stops_behind old now new (deletes_of xs) (deletes_up x done) (more ++ deletes_of rest) j joined stands
+      stops_behind old now new (deletes_of xs) (deletes_up x done) (more ++ deletes_of rest) j joined sound
       (omega (arith, fewer, length-append more (deletes_of rest), length-deletes false (id_behind x done) ((count + 1) - done)))
 
 pub each_deleted : (s : Identifier) (old now : State) (xs : List Identifier) (at : ℕ) → IsDeletingEach s old now xs at → length xs ≤ at → Gains old now (deletes_of xs)

@@ -18,20 +18,20 @@ come_in_turn [] h w c = tt
 come_in_turn (op ∷ ops) h w c = (c.0, c.1, c.2, come_in_turn ops (op ∷ h) w c.3)
 
 pub made_can_join : (s : State) (command : Command) → IsSound s → IsSettled s.held → refusal_message s command ≡ None → CanJoin s (made_by s command)
-made_can_join s command stands settled e =
+made_can_join s command sound settled e =
     record {
       settled = settled;
       in_turn = come_in_turn (made_by s command) s.held.history s.held.waiting
-          (made_comes s.number s.held.history s.held.waiting command settled (made_ready command s stands.lawful e));
+          (made_comes s.number s.held.history s.held.waiting command settled (made_ready command s sound.lawful e));
       room = made_fits command s e;
     }
 
 pub note_can_join : (s : State) (named : List Identifier) (code : ℕ) (body : List ℕ) → IsSound s → IsSettled s.held → AreHeld s.held.history named → note_refusal s ≡ None
     → CanJoin s (note_by s named code body ∷ [])
-note_can_join s named code body stands settled held e =
+note_can_join s named code body sound settled held e =
     record {
       settled = settled;
       in_turn = come_in_turn (note_by s named code body ∷ []) s.held.history s.held.waiting
-          (noted_comes s.number s.held.history s.held.waiting named code body stands.lawful settled held);
+          (noted_comes s.number s.held.history s.held.waiting named code body sound.lawful settled held);
       room = note_fits s e;
     }

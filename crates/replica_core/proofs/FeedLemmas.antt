@@ -7,7 +7,7 @@ use Rattle.origin_model.specs.declared.taking.Tally.{Tally}
 use Rattle.origin_model.specs.taking.Taking.{Held, Answer, Accepted, Waits, answer, held_after, is_decided, is_kept, settle, intake, answer_counted, settling_counted}
 use Rattle.origin_model.specs.taking.Taking.{intake_counted, IsSettled}
 use Rattle.replica_core.specs.Settling.{SettlesTo}
-use Rattle.replica_core.specs.Told.{JoinsNext, StandsPartly, SettlesOn, LeavesAfterFault, total}
+use Rattle.replica_core.specs.Answering.{JoinsNext, StandsPartly, SettlesOn, LeavesAfterFault, total}
 use Rattle.origin_model.specs.edits.State.{State}
 use Rattle.replica_core.specs.declared.keeping.FeedFault.TheVariants.{NoMemory as FedNoMemory}
 use Rattle.replica_core.proofs.DecisionLemmas.{may_wait, waits_undecided}

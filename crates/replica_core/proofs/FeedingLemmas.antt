@@ -29,7 +29,7 @@ use Rattle.origin_model.proofs.edits.RunLemmas.{runs_go_in_whole}
 use Rattle.replica_core.specs.Edits.{CanJoin}
 use Rattle.replica_core.specs.Feeding.{AreUntouched, GoesAtOnce, StopsFeeding, StopsKeeping, TakesInAll, TakesInSome}
 use Rattle.replica_core.specs.Keeping.{LeavesUnkept}
-use Rattle.replica_core.specs.Told.{LeavesAfterFault, total}
+use Rattle.replica_core.specs.Answering.{LeavesAfterFault, total}
 use Rattle.replica_core.specs.declared.keeping.FeedFault.{FeedFault}
 use Rattle.replica_core.specs.declared.keeping.FeedFault.TheVariants.{NoMemory as FedNoMemory, TooMany as FedTooMany}
 use Rattle.replica_core.proofs.FeedLemmas.{fed_quietly}
@@ -144,14 +144,14 @@ pub record IsFeeding (s : State) (t : Tally) (ops : List Op) (now : State) (coun
   pub done : List Op
   pub parts : ops ≡ done ++ run_from next rest
   pub taken : TakesInAll s now done t counts
-  pub stands : IsSound now
+  pub sound : IsSound now
   pub counters : 0 < length rest → next.id.counter + length rest ≤ 2 ^ 32
   pub few : total counts + length now.held.waiting + length rest ≤ 2 ^ 31
 
 pub feeding : (s : State) (t : Tally) (start : RunStart) (text : List ℕ) → IsSound s → IsSettled s.held → start.id.counter + length text ≤ 2 ^ 32
     → total t + length s.held.waiting + length text ≤ 2 ^ 31
     → IsFeeding s t (run_from start text) s t start text
-feeding s t start text stands settled counters few = record { done = []; parts = refl; taken = takes_none_in s t settled; stands = stands; counters = λ some. counters; few = few }
+feeding s t start text sound settled counters few = record { done = []; parts = refl; taken = takes_none_in s t settled; sound = sound; counters = λ some. counters; few = few }
 
 pub length-front : (text : List ℕ) (n : ℕ) → n ≤ length text → length (take n text) ≡ n
 length-front text zero l = refl
@@ -171,7 +171,7 @@ pub fed_on : (s now new : State) (t counts after : Tally) (ops : List Op) (start
     → n ≤ length text → TakesInAll now new (run_from start (take n text)) counts after → IsSound new → front ≡ take n text → rest ≡ drop n text
     → run_from start text ≡ run_from start front ++ run_from next rest → (n < length text → next ≡ start_behind start n)
     → IsFeeding s t ops new after next rest
-fed_on s now new t counts after ops start next text front rest n f within took stands is others whole behind =
+fed_on s now new t counts after ops start next text front rest n f within took sound is others whole behind =
     let run : List Op = run_from start (take n text) in
     let few : total counts + length now.held.waiting + length text ≤ 2 ^ 31 = f.few in
     let once : total after + length new.held.waiting ≡ total counts + length now.held.waiting + length run = took.once in
@@ -182,7 +182,7 @@ fed_on s now new t counts after ops start next text front rest n f within took s
       parts = f.parts ∙ ap (λ (z : List Op). f.done ++ z) (whole ∙ ap (λ (z : List ℕ). run_from start z ++ run_from next rest) is)
           ∙ sym (append_assoc f.done run (run_from next rest));
       taken = takes_on s now new f.done run t counts after f.taken took;
-      stands = stands;
+      sound = sound;
       counters = λ left.
           let less : n < length text = omega (arith, left, back, ap length others) in
           let at : next.id.counter ≡ start.id.counter + n = ap (λ (r : RunStart). r.id.counter) (behind less) in
@@ -213,7 +213,7 @@ pub record IsKeeping (s : State) (t : Tally) (kept ops : List Op) (now : State) 
 pub keeping : (s : State) (t : Tally) (kept : List Op) (start : RunStart) (text : List ℕ) → IsSound s → IsSettled s.held → start.id.counter + length text ≤ 2 ^ 32
     → total t + length s.held.waiting + length text ≤ 2 ^ 31 → IsKeeping s t kept (run_from start text) s t kept start text
 unfolding feeding
-keeping s t kept start text stands settled counters few = record { feeds = feeding s t start text stands settled counters few; kept_are = sym (append-nil kept) }
+keeping s t kept start text sound settled counters few = record { feeds = feeding s t start text sound settled counters few; kept_are = sym (append-nil kept) }
 
 pub kept_on : (s now new : State) (t counts after : Tally) (kept kept_now kept_new ops : List Op) (start next : RunStart) (text front rest : List ℕ) (n : ℕ)
     → IsKeeping s t kept ops now counts kept_now start text
@@ -223,11 +223,11 @@ pub kept_on : (s now new : State) (t counts after : Tally) (kept kept_now kept_n
     → run_from start text ≡ run_from start front ++ run_from next rest → (n < length text → next ≡ start_behind start n)
     → IsKeeping s t kept ops new after kept_new next rest
 unfolding fed_on
-kept_on s now new t counts after kept kept_now kept_new ops start next text front rest n k within took stands more is others whole behind =
+kept_on s now new t counts after kept kept_now kept_new ops start next text front rest n k within took sound more is others whole behind =
     let run : List Op = run_from start (take n text) in
     let done : List Op = k.feeds.done in
     record {
-      feeds = fed_on s now new t counts after ops start next text front rest n k.feeds within took stands is others whole behind;
+      feeds = fed_on s now new t counts after ops start next text front rest n k.feeds within took sound is others whole behind;
       kept_are = more ∙ ap (λ (z : List Op). z ++ kept_from now.hold now.most now.held run) k.kept_are
           ∙ append_assoc kept (kept_from s.hold s.most s.held done) (kept_from now.hold now.most now.held run)
           ∙ ap (λ (z : List Op). kept ++ z) (kept_behind s now done run k.feeds.taken.replica);
@@ -297,12 +297,12 @@ unknown_run id s l r (c ∷ text) w each =
 at_once : (s : State) (start : RunStart) (ch : ℕ) (text : List ℕ) → IsSound s → IsSettled s.held → AreUntouched s.held start.id (length (ch ∷ text))
     → verdict s.held.history (text_by start ch) ≡ Ready
     → length s.held.history + length s.held.waiting + length (ch ∷ text) ≤ s.most → GoesAtOnce s (run_from start (ch ∷ text))
-at_once s start ch text stands settled u ready room =
+at_once s start ch text sound settled u ready room =
     let run : List Op = run_from start (ch ∷ text) in
     let none : (k : ℕ) → k < length (ch ∷ text) → Contains (flat_map mentioned_ids s.held.waiting) (id_behind start.id k)
     → ⊥ = λ k l m. u.unnamed (record { k = k; within = l; found = m }) in
     let goes : GoesIn s.hold s.most s.held start ch text = runs_go_in_whole s.hold s.most s.held start ch text (record {
-      lawful = stands.lawful;
+      lawful = sound.lawful;
       settled = settled;
       free = each_id (λ x. holds s.held.history x ≡ false) start.id (ch ∷ text) u.unheld;
       ready = ready;
@@ -336,12 +336,12 @@ first_of_text (c ∷ text) (suc n) ch some within is = ap (λ (z : ℕ). z ∷ t
 pub goes_at_once : (s : State) (start : RunStart) (text : List ℕ) (n ch : ℕ) → IsSound s → IsSettled s.held → 0 < n → n ≤ length text → ch ≡ get_or text 0 ch
     → AreUntouched s.held start.id n
     → verdict s.held.history (text_by start ch) ≡ Ready → length s.held.history + length s.held.waiting + n ≤ s.most → GoesAtOnce s (run_from start (take n text))
-goes_at_once s start text n ch stands settled some within is u ready room =
+goes_at_once s start text n ch sound settled some within is u ready room =
     let front : List ℕ = take n text in
     let split : front ≡ ch ∷ drop 1 front = first_of_text text n ch some within is in
     let many : length (ch ∷ drop 1 front) ≡ n = ap length (sym split) ∙ length-front text n within in
     subst (λ (z : List ℕ). GoesAtOnce s (run_from start z)) (sym split)
-    (at_once s start ch (drop 1 front) stands settled (subst (AreUntouched s.held start.id) (sym many) u) ready (omega (arith, room, many)))
+    (at_once s start ch (drop 1 front) sound settled (subst (AreUntouched s.held start.id) (sym many) u) ready (omega (arith, room, many)))
 
 -- it is taken in, and counted
 pub joins_all : (s new : State) (ops : List Op) (t u : Tally) (n : ℕ) → GoesAtOnce s ops → new ≡ with_ops s ops → n ≡ length ops → u ≡ record t { accepted = t.accepted + n }

@@ -24,7 +24,7 @@ can_be_accepted s op can =
 -- so the replica stands with it
 pub joined_stands : (s : State) (op : Op) (new : List Op) → CanJoin s (op ∷ []) → IsSound s → new ≡ op ∷ s.held.history
     → IsSound (record s { held = record { history = new; waiting = s.held.waiting } })
-joined_stands s op new can stands is = stands_by_accept s new op (can_be_accepted s op can) is stands
+joined_stands s op new can sound is = stands_by_accept s new op (can_be_accepted s op can) is sound
 
 -- nothing that waits is marked on either history
 same_marks : (h new w : List Op) → All (λ op. decided_on h op ≡ false) w → All (λ op. decided_on new op ≡ false) w → due_marks h w ≡ due_marks new w
@@ -44,10 +44,10 @@ pub record IsJoining (old now : State) (ops rest : List Op) : Type 0 where
   pub split : ops ≡ done ++ rest
   pub others : now ≡ with_ops old done
   pub can : CanJoin now rest
-  pub stands : IsSound now
+  pub sound : IsSound now
 
 pub begins : (s : State) (ops : List Op) → CanJoin s ops → IsSound s → IsJoining s s ops ops
-begins s ops can stands = record { done = []; split = refl; others = refl; can = can; stands = stands }
+begins s ops can sound = record { done = []; split = refl; others = refl; can = can; sound = sound }
 
 -- the first one can join alone
 pub first_can : (s : State) (op : Op) (rest : List Op) → CanJoin s (op ∷ rest) → CanJoin s (op ∷ [])

@@ -21,6 +21,6 @@ hides_grows old new x hides h s ready = subst (Represents new) (ap (λ b. if b t
 pub fits_by_place : (m : Contents) (h : List Op) (x : Identifier) (p : Place) (role : Role) (fit : Bool) → Represents m h → place_at m x ≡ Some p
     → ((op : Op) → place op ≡ Some p → fit ≡ fits role op)
     → Some fit ≡ option_map (fits role) (holder h x)
-fits_by_place m h x p role fit stands at told =
-    let o = has_holder p (holder h x) (sym (stands.places x) ∙ at) in
+fits_by_place m h x p role fit represents at told =
+    let o = has_holder p (holder h x) (sym (represents.places x) ∙ at) in
     ap Some (told o.0 o.2) ∙ sym (ap (option_map (fits role)) o.1)

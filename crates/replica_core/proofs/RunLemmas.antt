@@ -55,19 +55,19 @@ ready_in_turn (op ∷ ops) h w c = (c.0, ready_in_turn ops (op ∷ h) w c.3)
 
 -- what a replica is with all of them
 pub record AllJoined (s : State) (ops : List Op) : Type 0 where
-  pub stands : IsSound (with_ops s ops)
+  pub sound : IsSound (with_ops s ops)
   pub settled : IsSettled (with_ops s ops).held
   pub marks : due_marks s.held.history s.held.waiting ≡ due_marks (history_with s.held.history ops) s.held.waiting
 
 pub all_joined : (ops : List Op) (s : State) → CanJoin s ops → IsSound s → AllJoined s ops
-all_joined [] s can stands = record { stands = stands; settled = can.settled; marks = refl }
-all_joined (op ∷ ops) s can stands =
+all_joined [] s can sound = record { sound = sound; settled = can.settled; marks = refl }
+all_joined (op ∷ ops) s can sound =
     let one : CanJoin s (op ∷ []) = first_can s op ops can in
     let mid : State = with_ops s (op ∷ []) in
     let room : length s.held.history + length s.held.waiting + length (op ∷ ops) ≤ s.most = can.room in
     let rest : AllJoined mid ops =
-    all_joined ops mid (record { settled = can.in_turn.2; in_turn = can.in_turn.3; room = omega (arith, room) }) (joined_stands s op (op ∷ s.held.history) one stands refl) in
-    record { stands = rest.stands; settled = rest.settled; marks = joined_marks s op (op ∷ s.held.history) one refl ∙ rest.marks }
+    all_joined ops mid (record { settled = can.in_turn.2; in_turn = can.in_turn.3; room = omega (arith, room) }) (joined_stands s op (op ∷ s.held.history) one sound refl) in
+    record { sound = rest.sound; settled = rest.settled; marks = joined_marks s op (op ∷ s.held.history) one refl ∙ rest.marks }
 
 -- a text that is typed is a run
 pub typed_run : (number : ℕ) (spot : TextSpot) (id : Identifier) (cs letters : List ℕ) → id ≡ id_at number spot.counter → letters ≡ cs

@@ -8,7 +8,7 @@ use Rattle.origin_model.specs.declared.operations.Verdict.TheVariants.{Ready}
 use Rattle.origin_model.specs.taking.Taking.{Held, decided_on}
 use Rattle.causal_inbox.specs.Waiting.{OpenWaiting}
 use Rattle.origin_model.specs.edits.State.{State, IsSound}
-use Rattle.replica_core.specs.Told.{JoinsNext, Settles}
+use Rattle.replica_core.specs.Answering.{JoinsNext, Settles}
 use Rattle.replica_core.specs.declared.replica.Settled.{Settled}
 use Rattle.replica_core.specs.declared.replica.Settled.TheVariants.{Accepted, DroppedStray}
 use Rattle.replica_core.proofs.EarliestLemmas.{earliest_at}
@@ -18,7 +18,7 @@ use Rattle.replica_core.proofs.StepLemmas.{step_joined, step_dropped}
 -- a step of settling, and what is so after it
 pub record IsStep (s : State) (new : Held) (settled : Settled) : Type 0 where
   pub settles : Settles s.held new (Some settled)
-  pub stands : IsSound (record s { held = new })
+  pub sound : IsSound (record s { held = new })
 
 -- the Ready operation at the first position of a decided one was accepted and removed
 pub accepted_step : (s : State) (inbox new : OpenWaiting) (k : ℕ) (op removed : Op) (history : List Op)
@@ -26,7 +26,7 @@ pub accepted_step : (s : State) (inbox new : OpenWaiting) (k : ℕ) (op removed 
     → slice_get s.held.waiting k ≡ Some op → verdict s.held.history op ≡ Ready
     → history ≡ op ∷ s.held.history → slice_get s.held.waiting k ≡ Some removed → new.ops ≡ remove inbox.ops k → IsSound s
     → IsStep s (record { history = history; waiting = new.ops }) (Accepted removed)
-accepted_step s inbox new k op removed history same first there ready is_history out is_new stands =
+accepted_step s inbox new k op removed history same first there ready is_history out is_new sound =
     let w : List Op = s.held.waiting in
     let it : op ≡ removed = same_Some op removed (sym there ∙ out) in
     let ready_removed : verdict s.held.history removed ≡ Ready = ap (verdict s.held.history) (sym it) ∙ ready in
@@ -41,7 +41,7 @@ accepted_step s inbox new k op removed history same first there ready is_history
         step.1 ∙ ap (λ (ops : List Op). Some (removed, ops)) (sym rest),
         longer,
       );
-      stands = subst (λ (h : Held). IsSound (record s { held = h })) is_held (stands_joined s k removed stands out ready_removed);
+      sound = subst (λ (h : Held). IsSound (record s { held = h })) is_held (stands_joined s k removed sound out ready_removed);
     }
 
 -- the operation at the first position of a decided one was not Ready and was removed
@@ -50,7 +50,7 @@ pub dropped_step : (s : State) (inbox new : OpenWaiting) (k : ℕ) (op removed :
     → slice_get s.held.waiting k ≡ Some op → (verdict s.held.history op ≡ Ready → ⊥)
     → slice_get s.held.waiting k ≡ Some removed → new.ops ≡ remove inbox.ops k → IsSound s
     → IsStep s (record { history = s.held.history; waiting = new.ops }) (DroppedStray removed)
-dropped_step s inbox new k op removed same first there other out is_new stands =
+dropped_step s inbox new k op removed same first there other out is_new sound =
     let w : List Op = s.held.waiting in
     let it : op ≡ removed = same_Some op removed (sym there ∙ out) in
     let rest : new.ops ≡ remove w k = is_new ∙ ap (λ (ops : List Op). remove ops k) same in
@@ -64,7 +64,7 @@ dropped_step s inbox new k op removed same first there other out is_new stands =
         step.1 ∙ ap (λ (ops : List Op). Some (removed, ops)) (sym rest),
         refl,
       );
-      stands = subst (λ (h : Held). IsSound (record s { held = h })) is_held (stands_dropped s k stands below);
+      sound = subst (λ (h : Held). IsSound (record s { held = h })) is_held (stands_dropped s k sound below);
     }
 
 -- the Ready operation at the first position of a decided one is the next to leave

@@ -13,7 +13,7 @@ use Rattle.replica_core.specs.declared.keeping.FeedFault.{FeedFault}
 use Rattle.replica_core.specs.declared.keeping.FeedFault.TheVariants.{TooMany as FedTooMany}
 use Rattle.replica_core.specs.Edits.{CanJoin}
 use Rattle.replica_core.specs.Keeping.{LeavesUnkept}
-use Rattle.replica_core.specs.Told.{LeavesAfterFault, total}
+use Rattle.replica_core.specs.Answering.{LeavesAfterFault, total}
 
 -- none of the n identifiers from this one on is held
 abbrev pub AreUnheld : List Op → Identifier → ℕ → Type 0

@@ -7,7 +7,7 @@ use Rattle.origin_model.specs.taking.Taking.{no_counts, tally_from}
 use Rattle.replica_core.specs.declared.keeping.FeedFault.{FeedFault}
 use Rattle.replica_core.specs.declared.keeping.FeedFault.TheVariants.{TooMany as FedTooMany, NoMemory}
 use Rattle.origin_model.specs.edits.State.{State}
-use Rattle.replica_core.specs.Told.{StandsPartly, total}
+use Rattle.replica_core.specs.Answering.{StandsPartly, total}
 
 -- the operation was taken in and counted, and is behind the kept ones where it was kept
 pub record TakesInKeeping (old new : State) (op : Op) (before after : Tally) (kept kept_after : List Op) : Type 0 where
@@ -18,7 +18,7 @@ pub record TakesInKeeping (old new : State) (op : Op) (before after : Tally) (ke
   pub kept_are : kept_after ≡ kept ++ kept_from old.hold old.most old.held (op ∷ [])
 
 -- Nothing changed, or the operation stands and settling stopped on its way. Want of memory may come before it is known
--- what the answer is, but an operation that is one too many is never told as want of memory.
+-- what the answer is, but an operation that is one too many is never reported as want of memory.
 abbrev pub LeavesUnkept : (old new : State) → Op → (before after : Tally) → FeedFault → Type 0
 LeavesUnkept old new op before after (FedTooMany limit) =
     (limit ≡ old.most) × (answer old.hold old.most old.held op ≡ TooMany) × (new ≡ old) × (after ≡ before)
@@ -47,5 +47,5 @@ pub record TakesIn (old new : OpsTaking) (ops : List Op) : Type 0 where
 -- memory was wanting while the operation, which stands already, settled others
 pub record TakesPartly (old new : OpsTaking) (op : Op) : Type 0 where
   pub replica : new.replica ≡ record old.replica { held = new.replica.held }
-  pub stands : StandsPartly old.replica.hold old.replica.most old.replica.held new.replica.held op old.counts new.counts
+  pub partly : StandsPartly old.replica.hold old.replica.most old.replica.held new.replica.held op old.counts new.counts
   pub kept : new.kept ≡ old.kept

@@ -2,7 +2,7 @@ pub mod Due
 pub mod Replica
 pub mod Settling
 pub mod Decision
-pub mod Told
+pub mod Answering
 pub mod Index
 pub mod Keeping
 pub mod Feeding

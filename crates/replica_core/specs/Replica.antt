@@ -11,9 +11,9 @@ replica_state number hold most history inbox =
     record { number = number; hold = hold; most = most; held = record { history = history; waiting = inbox.ops } }
 
 -- as many may wait as the replica tells, and the marks are those of the operations that can leave
-pub record IsKept (s : State) (inbox : OpenWaiting) (due : List Bool) : Type 0 where
+pub record MatchesState (s : State) (inbox : OpenWaiting) (due : List Bool) : Type 0 where
   pub same_hold : inbox.hold ≡ s.hold
-  pub stands : IsSound s
+  pub sound : IsSound s
   pub marks : due ≡ due_marks s.held.history s.held.waiting
 
 -- a replica that takes operations in, and how many gaps its inbox has
@@ -23,5 +23,5 @@ pub record OpenState : Type 0 where
 
 -- what it keeps between two calls: the waiting operations lie in one slice too
 pub record IsAtRest (s : OpenState) : Type 0 where
-  pub stands : IsSound s.state
+  pub sound : IsSound s.state
   pub no_gap : s.gaps ≡ 0

@@ -21,7 +21,8 @@ abbrev pub HasWithdrawn : FinMap id_cmp Same → List Op → Type 0
 HasWithdrawn withdrawn history =
     (x : Identifier) → place_held (holder history x) ≡ None → is_some (get withdrawn x) ≡ is_hidden history x
 
--- the map has the withdrawn notes once more when a Delete of x has come to a history on which it was Ready
+-- of a history that m represents and on which the Delete of x is Ready: where the old map has its withdrawn notes, the new one has those
+-- of that history with the Delete
 abbrev pub WithdrawsBy : Contents → (old new : FinMap id_cmp Same) → Identifier → Type 0
 WithdrawsBy m old new x =
     (h : List Op) → Represents m h → verdict h (Delete x) ≡ Ready → HasWithdrawn old h → HasWithdrawn new (Delete x ∷ h)

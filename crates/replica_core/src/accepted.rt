@@ -1,3 +1,4 @@
+//! The applied operations, with the manuscript that they make and the notes that were deleted.
 ghost use Rattle.std.specs.Prelude.{◌≡◌, ◌<◌, ◌≤◌, ◌+◌, ◌^◌, ◌∷◌, [], drop, length, option_map, slice_get, All, IfErr, IfNone, IfSome, IsSome, None, IsTrue, OnErr, OnOk, take, true, ◌↔◌};
 ghost use Rattle.std.specs.FinMap.{get};
 ghost use Rattle.fugue_ids.specs.Outs.{WritesBytes};
@@ -34,7 +35,8 @@ use std::alloc::Global;
 use std::marker::Model;
 use stretch_map::{Same, StretchMap};
 
-/// What withdrawn notes have: the same, so that those with neighbouring identifiers are one entry.
+/// The value of each withdrawn note in their map: only whether there is one is read. It is the same for all, so that notes
+/// whose identifiers follow one another are one entry where they are withdrawn in that order.
 const MARK: Same = Same {
     of: ElementId {
         replica: 1,
@@ -62,7 +64,7 @@ impl Model for Accepted {
     ghost view = { λ accepted. accepted.history };
 
     ghost invariant = { λ accepted. record {
-      stands : Represents accepted.manuscript accepted.history;
+      represents : Represents accepted.manuscript accepted.history;
       withdrawn_are : HasWithdrawn accepted.withdrawn.values accepted.history;
     } };
 }

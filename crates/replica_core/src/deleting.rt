@@ -1,5 +1,5 @@
 //! Taking in Deletes of neighbours: they go in as one where nothing else is asked of them.
-ghost use Rattle.std.specs.Prelude.{◌≡◌, ◌<◌, ◌≤◌, ◌+◌, ◌^◌, ◌++◌, All, IfErr, IfNone, IfOk, IfSome, IsTrue, OnOk, length, true};
+ghost use Rattle.std.specs.Prelude.{◌≡◌, ◌<◌, ◌≤◌, ◌+◌, ◌^◌, ◌++◌, All, IfErr, IfNone, IfOk, IfSome, OnOk, length, true};
 ghost use Rattle.op_runs.specs.Deletions.{deletes_up};
 ghost use Rattle.origin_model.specs.edits.State.{IsSound};
 ghost use Rattle.origin_model.specs.operations.History.{has_op};
@@ -8,7 +8,7 @@ ghost use Rattle.origin_model.specs.taking.Taking.{IsSettled, kept_from};
 ghost use Rattle.replica_core.specs.Deleting.{AreWithin, ids_from};
 ghost use Rattle.replica_core.specs.Edits.{CanJoin};
 ghost use Rattle.replica_core.specs.Feeding.{StopsFeeding, StopsKeeping, TakesInAll};
-ghost use Rattle.replica_core.specs.Told.{total};
+ghost use Rattle.replica_core.specs.Answering.{total};
 ghost use Rattle.run_store.specs.Cells.{cells_shown};
 ghost use Rattle.run_store.specs.Hiding.{AreHidden, HaveCells};
 
@@ -37,7 +37,7 @@ impl Replica {
         ensures ok { OnOk result (TakesInAll self.old self.new (deletes_up first count) tally.old tally.new) }
         ensures err { IfErr result
             (λ fault. StopsFeeding (deletes_up first count) self.old self.new tally.old tally.new fault) }
-        ensures stands { IsSound self.new }
+        ensures sound { IsSound self.new }
     {
         let fed = self.inner.feed_deletes(first, count, tally);
         self.inner.close();
@@ -62,7 +62,7 @@ impl Replica {
         ensures err { IfErr result
             (λ fault. StopsKeeping (deletes_up first count) self.old self.new tally.old tally.new
             kept.old kept.new fault) }
-        ensures stands { IsSound self.new }
+        ensures sound { IsSound self.new }
     {
         let fed = self.inner.feed_deletes_keeping(first, count, tally, kept);
         self.inner.close();
@@ -83,7 +83,7 @@ impl OpenReplica {
         ensures ok { OnOk result (TakesInAll self.old.state self.new.state (deletes_up first count) tally.old tally.new) }
         ensures err { IfErr result
             (λ fault. StopsFeeding (deletes_up first count) self.old.state self.new.state tally.old tally.new fault) }
-        ensures stands { IsSound self.new.state }
+        ensures sound { IsSound self.new.state }
     {
         let _ = &self.alloc;
         let mut done = 0;
@@ -111,7 +111,7 @@ impl OpenReplica {
         ensures err { IfErr result
             (λ fault. StopsKeeping (deletes_up first count) self.old.state self.new.state tally.old tally.new
             kept.old kept.new fault) }
-        ensures stands { IsSound self.new.state }
+        ensures sound { IsSound self.new.state }
     {
         let _ = &self.alloc;
         let mut done = 0;
@@ -139,7 +139,7 @@ impl OpenReplica {
         ensures ok { IfOk result (λ n. TakesInAll self.old.state self.new.state (deletes_up first n) tally.old tally.new) }
         ensures err { IfErr result
             (λ fault. StopsFeeding (deletes_up first count) self.old.state self.new.state tally.old tally.new fault) }
-        ensures stands { IsSound self.new.state }
+        ensures sound { IsSound self.new.state }
     {
         let repeated = self.deleted(first, count);
         if repeated > 0 {
@@ -182,7 +182,7 @@ impl OpenReplica {
         ensures err { IfErr result
             (λ fault. StopsKeeping (deletes_up first count) self.old.state self.new.state tally.old tally.new
             kept.old kept.new fault) }
-        ensures stands { IsSound self.new.state }
+        ensures sound { IsSound self.new.state }
     {
         let repeated = self.deleted(first, count);
         if repeated > 0 {
@@ -212,7 +212,7 @@ impl OpenReplica {
         requires { first.counter + count ≤ 2 ^ 32 }
         ensures within { result ≤ count }
         ensures there { All (λ op. has_op self.now.state.held.history op ≡ true) (deletes_up first result) }
-        ensures stands { IsSound self.now.state }
+        ensures sound { IsSound self.now.state }
     {
         let _ = &self.alloc;
         // One Delete alone goes the way of all operations.
@@ -225,8 +225,9 @@ impl OpenReplica {
         hidden_row(list, first, count)
     }
 
-    /// How many Deletes at the front of a row go in at once, and the section of their targets: these are elements of it,
-    /// none is deleted, and there is room. A Delete decides nothing that waits.
+    /// How many Deletes at the front of a row go in at once, and the section of their targets: these are visible
+    /// elements of it that stand in this order with no other visible one between them, and there is room. A Delete decides
+    /// nothing that waits.
     fn deletable(&self, first: ElementId, count: u32) -> Option<(ElementId, u32)>
         requires settled { IsSettled self.now.state.held }
         requires counters { first.counter + count ≤ 2 ^ 32 }
@@ -235,7 +236,7 @@ impl OpenReplica {
         ensures can { IfSome result (λ found. CanJoin self.now.state (deletes_up first found.1)) }
         ensures placed { IfSome result
             (λ found. AreWithin found.0 self.now.state.held.history (ids_from first found.1)) }
-        ensures stands { IsSound self.now.state }
+        ensures sound { IsSound self.now.state }
     {
         // One Delete alone goes the way of all operations.
         let most = (count as usize).min(self.room()) as u32;
@@ -243,15 +244,9 @@ impl OpenReplica {
             return None;
         }
         let places = self.accepted.places();
-        let Some(place) = places.place_of(first) else {
-            return None;
-        };
-        let Some(section) = section_of(&place) else {
-            return None;
-        };
-        let Some(text) = places.section(section) else {
-            return None;
-        };
+        let place = places.place_of(first)?;
+        let section = section_of(&place)?;
+        let text = places.section(section)?;
         let row = visible_row(text, first, most);
         if row == 0 {
             return None;
@@ -273,8 +268,8 @@ fn hidden_row(list: &SectionList, first: ElementId, most: u32) -> u32
     row
 }
 
-/// How many identifiers, from this one on, are those of visible elements of the list that stand one behind the other. One
-/// walk finds them, where a look-up of each would be a search.
+/// How many identifiers, from this one on, are those of visible elements of the list that stand in this order with no
+/// other visible one between them. One walk finds them, where a look-up of each would be a search.
 fn visible_row(list: &SectionList, first: ElementId, most: u32) -> u32
     requires { first.counter + most ≤ 2 ^ 32 }
     ensures within { result ≤ most }

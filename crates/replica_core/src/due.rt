@@ -1,3 +1,4 @@
+//! Which pending operations can leave: a mark for each, in order of arrival, and the first that is set.
 ghost use Rattle.std.specs.Prelude.{◌≡◌, ◌<◌, ◌≤◌, ◌↔◌, ◌-◌, ◌++◌, ◌∷◌, [], false, if◌then◌else◌, count_by, length};
 ghost use Rattle.std.specs.Prelude.{position as first_position, set as with_mark, remove, min, OnOk, OnErr, IsTrue};
 ghost use Rattle.std.specs.Prelude.{All};

@@ -28,7 +28,7 @@ impl Replica {
         ensures unmade { IfErr result
             (λ fault. LeavesUnmade self.old self.new (Put section at (chars text.now)) fault) }
         ensures settled { IsSettled self.new.held }
-        ensures stands { IsSound self.new }
+        ensures sound { IsSound self.new }
     {
         match self.text_spot(section, at, text) {
             Ok(spot) => Ok(self.type_text(spot, text)?),
@@ -44,7 +44,7 @@ impl Replica {
         ensures refused { RefusesExactly self.old (Cut section at n) result }
         ensures unmade { IfErr result (λ fault. LeavesUnmade self.old self.new (Cut section at n) fault) }
         ensures settled { IsSettled self.new.held }
-        ensures stands { IsSound self.new }
+        ensures sound { IsSound self.new }
     {
         let targets = self.targets(section, at, n)?;
         self.delete_each(&targets.section, &targets.ids)?;
@@ -59,7 +59,7 @@ impl Replica {
         ensures refused { RefusesExactly self.old (Add at title) result }
         ensures unmade { IfErr result (λ fault. LeavesUnmade self.old self.new (Add at title) fault) }
         ensures settled { IsSettled self.new.held }
-        ensures stands { IsSound self.new }
+        ensures sound { IsSound self.new }
     {
         let op = self.section_op(at, title)?;
         self.join(op)?;
@@ -74,7 +74,7 @@ impl Replica {
         ensures refused { RefusesExactly self.old (DropSection section) result }
         ensures unmade { IfErr result (λ fault. LeavesUnmade self.old self.new (DropSection section) fault) }
         ensures settled { IsSettled self.new.held }
-        ensures stands { IsSound self.new }
+        ensures sound { IsSound self.new }
     {
         let op = self.drop_op(section)?;
         self.join(op)?;
@@ -92,7 +92,7 @@ impl Replica {
         ensures no_position { result ≢ Err EditFault.OutOfRange }
         ensures unmade { OnErr result (self.new ≡ self.old) }
         ensures settled { IsSettled self.new.held }
-        ensures stands { IsSound self.new }
+        ensures sound { IsSound self.new }
     {
         let op = self.note_op(names, code, body)?;
         self.join(op)?;

@@ -1,5 +1,5 @@
 //! Taking in a run: its letters go in as one where nothing else is asked of them.
-ghost use Rattle.std.specs.Prelude.{◌≡◌, ◌<◌, ◌≤◌, ◌+◌, ◌^◌, ◌++◌, IfErr, IfOk, IsTrue, OnErr, OnOk, length, take};
+ghost use Rattle.std.specs.Prelude.{◌≡◌, ◌<◌, ◌≤◌, ◌+◌, ◌^◌, ◌++◌, IfErr, IfOk, IsTrue, OnOk, length, take};
 ghost use Rattle.std.specs.Prelude.{All, true, ◌↔◌};
 ghost use Rattle.fugue_ids.specs.Runs.{run_from, text_by};
 ghost use Rattle.fugue_ids.specs.declared.limits.TheConstants.{MOST_OPERATIONS};
@@ -9,7 +9,7 @@ ghost use Rattle.origin_model.specs.operations.Verdict.{verdict as verdict_on};
 ghost use Rattle.origin_model.specs.declared.operations.Verdict.TheVariants.{Ready};
 ghost use Rattle.origin_model.specs.taking.Taking.{IsSettled, kept_from};
 ghost use Rattle.replica_core.specs.Feeding.{AreUntouched, GoesAtOnce, StopsFeeding, StopsKeeping, TakesInAll};
-ghost use Rattle.replica_core.specs.Told.{total};
+ghost use Rattle.replica_core.specs.Answering.{total};
 
 use crate::copies::push_letters;
 use crate::open_replica::OpenReplica;
@@ -35,7 +35,7 @@ impl Replica {
         ensures ok { OnOk result (TakesInAll self.old self.new (run_from start.now text.now) tally.old tally.new) }
         ensures err { IfErr result
             (λ fault. StopsFeeding (run_from start.now text.now) self.old self.new tally.old tally.new fault) }
-        ensures stands { IsSound self.new }
+        ensures sound { IsSound self.new }
     {
         let fed = self.inner.feed_run(start, text, tally);
         self.inner.close();
@@ -60,7 +60,7 @@ impl Replica {
         ensures err { IfErr result
             (λ fault. StopsKeeping (run_from start.now text.now) self.old self.new tally.old tally.new
             kept.old kept.new fault) }
-        ensures stands { IsSound self.new }
+        ensures sound { IsSound self.new }
     {
         let fed = self.inner.feed_run_keeping(start, text, tally, kept);
         self.inner.close();
@@ -83,7 +83,7 @@ impl OpenReplica {
         ensures err { IfErr result
             (λ fault. StopsFeeding (run_from start.now text.now) self.old.state self.new.state
             tally.old tally.new fault) }
-        ensures stands { IsSound self.new.state }
+        ensures sound { IsSound self.new.state }
     {
         let _ = &self.alloc;
         let mut next = *start;
@@ -114,7 +114,7 @@ impl OpenReplica {
         ensures err { IfErr result
             (λ fault. StopsKeeping (run_from start.now text.now) self.old.state self.new.state tally.old tally.new
             kept.old kept.new fault) }
-        ensures stands { IsSound self.new.state }
+        ensures sound { IsSound self.new.state }
     {
         let _ = &self.alloc;
         let mut next = *start;
@@ -147,7 +147,7 @@ impl OpenReplica {
         ensures err { IfErr result
             (λ fault. StopsFeeding (run_from start.now text.now) self.old.state self.new.state
             tally.old tally.new fault) }
-        ensures stands { IsSound self.new.state }
+        ensures sound { IsSound self.new.state }
     {
         let repeated = self.repeated(start, text);
         if repeated > 0 {
@@ -187,7 +187,7 @@ impl OpenReplica {
         ensures err { IfErr result
             (λ fault. StopsKeeping (run_from start.now text.now) self.old.state self.new.state tally.old tally.new
             kept.old kept.new fault) }
-        ensures stands { IsSound self.new.state }
+        ensures sound { IsSound self.new.state }
     {
         let repeated = self.repeated(start, text);
         if repeated > 0 {
@@ -214,7 +214,7 @@ impl OpenReplica {
         ensures within { result ≤ length text.now }
         ensures there { All (λ op. has_op self.now.state.held.history op ≡ true)
             (run_from start.now (take result text.now)) }
-        ensures stands { IsSound self.now.state }
+        ensures sound { IsSound self.now.state }
     {
         self.accepted.repeats(start, text)
     }
@@ -226,7 +226,7 @@ impl OpenReplica {
         requires counters { start.now.id.counter + length text.now ≤ 2 ^ 32 }
         ensures within { result ≤ length text.now }
         ensures at_once { 0 < result → GoesAtOnce self.now.state (run_from start.now (take result text.now)) }
-        ensures stands { IsSound self.now.state }
+        ensures sound { IsSound self.now.state }
     {
         // One Text alone goes the way of all operations.
         let most = text.len().min(self.room());
@@ -239,7 +239,7 @@ impl OpenReplica {
     /// Whether the Text is Ready.
     fn is_ready(&self, start: &RunStart, ch: char) -> bool
         ensures ready { IsTrue result ↔ (verdict_on self.now.state.held.history (text_by start.now ch) ≡ Ready) }
-        ensures stands { IsSound self.now.state }
+        ensures sound { IsSound self.now.state }
     {
         matches!(self.accepted.verdict(&start.text(ch)), Verdict::Ready)
     }
@@ -251,7 +251,7 @@ impl OpenReplica {
         requires few { count ≤ MOST_OPERATIONS }
         ensures within { result ≤ count }
         ensures untouched { AreUntouched self.now.state.held first result }
-        ensures stands { IsSound self.now.state }
+        ensures sound { IsSound self.now.state }
     {
         if self.are_untouched(first, count) {
             return count;
@@ -269,7 +269,7 @@ impl OpenReplica {
     fn are_untouched(&self, first: ElementId, count: u32) -> bool
         requires { first.counter + count ≤ 2 ^ 32 }
         ensures untouched { IsTrue result ↔ AreUntouched self.now.state.held first count }
-        ensures stands { IsSound self.now.state }
+        ensures sound { IsSound self.now.state }
     {
         self.accepted.is_free(first, count) && !self.inbox.concerns(first, count)
     }

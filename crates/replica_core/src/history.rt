@@ -1,3 +1,4 @@
+//! The log of applied operations, with an index by which one is found by its identifier.
 ghost use Rattle.std.specs.Prelude.{◌≡◌, ◌≢◌, ◌<◌, ◌≤◌, ◌+◌, ◌^◌, ◌∷◌, [], OnErr, OnOk, IfErr, IfNone, IfSome, IsSome, Some, drop, length};
 ghost use Rattle.std.specs.Prelude.{option_map, slice_get, All, IsTrue, take, true, ◌↔◌};
 ghost use Rattle.fugue_ids.specs.Ops.{op_eq};

@@ -1,3 +1,4 @@
+//! Positions in the log of applied operations, by identifier, and those of the Sections and Notes.
 ghost use Rattle.std.specs.Prelude.{◌≡◌, ◌<◌, ◌≤◌, ◌+◌, ◌^◌, ◌↔◌, ◌∷◌, ◌++◌, [], ℕ, List, length, option_map, IsTrue, OnOk, OnErr};
 ghost use Rattle.std.specs.FinMap.{get};
 ghost use Rattle.fugue_ids.specs.declared.op.Op.{Op as AnyOp};

@@ -2,7 +2,7 @@
 ghost use Rattle.std.specs.Prelude.{◌≡◌, ◌↔◌, Err, OnOk, OnErr, IfErr};
 ghost use Rattle.origin_model.specs.taking.Taking.{answer, TooMany, IsSettled};
 ghost use Rattle.origin_model.specs.edits.State.{IsSound};
-ghost use Rattle.replica_core.specs.Told.{StaysBelow};
+ghost use Rattle.replica_core.specs.Answering.{StaysBelow};
 ghost use Rattle.replica_core.specs.Keeping.{TakesInKeeping, LeavesUnkept};
 
 use crate::open_replica::OpenReplica;
@@ -34,7 +34,7 @@ impl Replica {
     /// Feeds the operation, and appends a copy of it to `kept` where it was accepted or waits.
     ///
     /// The copy is made first, but for where as many are held as may be: then nothing more is kept, and one that is too
-    /// many is told as that and not as want of memory. Want of memory is also the answer where `kept` is full, as a list
+    /// many is reported as that and not as want of memory. Want of memory is also the answer where `kept` is full, as a list
     /// of runs is with `MOST_LISTED` operations. After a fault `kept` is as before.
     pub fn feed_keeping<K: Copies>(
         &mut self,
@@ -49,7 +49,7 @@ impl Replica {
             ↔ (answer self.old.hold self.old.most self.old.held op ≡ TooMany) }
         ensures err { IfErr result (λ fault. LeavesUnkept self.old self.new op tally.old tally.new fault) }
         ensures unkept { OnErr result (K.ops kept.new ≡ K.ops kept.old) }
-        ensures stands { IsSound self.new }
+        ensures sound { IsSound self.new }
     {
         let fed = self.inner.feed_keeping(op, tally, kept);
         self.inner.close();
@@ -73,7 +73,7 @@ impl OpenReplica {
             ↔ (answer self.old.state.hold self.old.state.most self.old.state.held op ≡ TooMany) }
         ensures err { IfErr result (λ fault. LeavesUnkept self.old.state self.new.state op tally.old tally.new fault) }
         ensures unkept { OnErr result (K.ops kept.new ≡ K.ops kept.old) }
-        ensures stands { IsSound self.new.state }
+        ensures sound { IsSound self.new.state }
     {
         if self.room() == 0 {
             self.feed(op, tally)?;

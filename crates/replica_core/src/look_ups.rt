@@ -31,7 +31,7 @@ impl Replica {
     /// The sections, hidden ones too.
     pub(crate) fn catalogue(&self) -> &SectionList
         ensures catalogue { IsOrderedPlace catalogue self.now.held.history result.now }
-        ensures stands { IsSound self.now }
+        ensures sound { IsSound self.now }
     {
         self.inner.accepted.catalogue()
     }
@@ -40,7 +40,7 @@ impl Replica {
     pub(crate) fn shown_section(&self, section: usize) -> Option<ShownSection<'_>>
         ensures id { option_map (λ s. s.id) result ≡ section_shown self.now section }
         ensures text { IfSome result (λ s. IsTextOf s.id self.now.held.history s.text.now) }
-        ensures stands { IsSound self.now }
+        ensures sound { IsSound self.now }
     {
         self.inner.accepted.section(section)
     }
@@ -49,7 +49,7 @@ impl Replica {
     pub fn places(&self) -> &Manuscript
         ensures places { Represents result.now self.now.held.history }
         ensures lists { LookUpsAgree result.now self.now.held.history }
-        ensures stands { IsSound self.now }
+        ensures sound { IsSound self.now }
     {
         self.inner.accepted.places()
     }
@@ -57,7 +57,7 @@ impl Replica {
     /// Whether an accepted operation has the identifier.
     pub fn holds(&self, id: ElementId) -> bool
         ensures holds { result ≡ holds_on self.now.held.history id }
-        ensures stands { IsSound self.now }
+        ensures sound { IsSound self.now }
     {
         self.inner.accepted.holds(id)
     }
@@ -65,7 +65,7 @@ impl Replica {
     /// How many operations were accepted before the one that has the identifier.
     pub fn position(&self, id: ElementId) -> Option<usize>
         ensures position { result ≡ newest_position (is_own id) self.now.held.history }
-        ensures stands { IsSound self.now }
+        ensures sound { IsSound self.now }
     {
         self.inner.accepted.position(id)
     }
@@ -74,7 +74,7 @@ impl Replica {
     /// are few, all of them are found without a walk over the letters.
     pub fn sections_and_notes(&self) -> &[usize]
         ensures positions { result.now ≡ positions_in self.now.held.history }
-        ensures stands { IsSound self.now }
+        ensures sound { IsSound self.now }
     {
         self.inner.accepted.sections_and_notes()
     }
@@ -83,7 +83,7 @@ impl Replica {
     /// none.
     pub fn section_or_note(&self, position: usize) -> Option<&Op>
         ensures found { option_copied result ≡ section_or_note_at (accepted_list self.now.held.history) position }
-        ensures stands { IsSound self.now }
+        ensures sound { IsSound self.now }
     {
         match self.inner.accepted.get(position) {
             Some(OpRef::Whole(op)) => section_or_note(op),
@@ -94,7 +94,7 @@ impl Replica {
     /// The operation that was accepted behind so many others.
     pub fn operation(&self, position: usize) -> Option<OpRef<'_>>
         ensures operation { option_map op_of result ≡ slice_get (accepted_list self.now.held.history) position }
-        ensures stands { IsSound self.now }
+        ensures sound { IsSound self.now }
     {
         self.inner.accepted.get(position)
     }
@@ -102,7 +102,7 @@ impl Replica {
     /// The operations that were accepted behind so many others, in order.
     pub fn accepted_from(&self, position: usize) -> OpSlice<'_>
         ensures operations { result ≡ drop position (accepted_list self.now.held.history) }
-        ensures stands { IsSound self.now }
+        ensures sound { IsSound self.now }
     {
         self.inner.accepted.from(position)
     }
@@ -110,7 +110,7 @@ impl Replica {
     /// The accepted operation that has the identifier.
     pub fn holder(&self, id: ElementId) -> Option<OpRef<'_>>
         ensures holder { option_map op_of result ≡ holder_on self.now.held.history id }
-        ensures stands { IsSound self.now }
+        ensures sound { IsSound self.now }
     {
         self.inner.accepted.holder(id)
     }
@@ -118,7 +118,7 @@ impl Replica {
     /// Whether an accepted Delete names the note.
     pub fn is_withdrawn(&self, note: ElementId) -> bool
         ensures withdrawn { result ≡ withdrawn_in self.now.held.history note }
-        ensures stands { IsSound self.now }
+        ensures sound { IsSound self.now }
     {
         self.inner.accepted.has_delete(note)
     }
@@ -126,7 +126,7 @@ impl Replica {
     /// How many sections are shown.
     pub fn section_count(&self) -> usize
         ensures count { result ≡ length (shown catalogue self.now.held.history) }
-        ensures stands { IsSound self.now }
+        ensures sound { IsSound self.now }
     {
         self.inner.accepted.section_count()
     }
@@ -135,7 +135,7 @@ impl Replica {
     pub fn text_len(&self, section: usize) -> Option<usize>
         ensures len { result ≡ option_map (λ s. length (text_on self.now.held.history s))
             (section_shown self.now section) }
-        ensures stands { IsSound self.now }
+        ensures sound { IsSound self.now }
     {
         match self.shown_section(section) {
             Some(section) => Some(section.text.visible_count()),
@@ -147,7 +147,7 @@ impl Replica {
     pub fn scalar_at(&self, section: usize, at: usize) -> Option<ElementId>
         ensures scalar { result ≡ option_and_then (λ s. slice_get (shown (within s) self.now.held.history) at)
             (section_shown self.now section) }
-        ensures stands { IsSound self.now }
+        ensures sound { IsSound self.now }
     {
         match self.shown_section(section) {
             Some(section) => section.text.nth_visible(at),
@@ -160,7 +160,7 @@ impl Replica {
         ensures text { IfOk result (λ text. option_map (λ t. string_bytes t) text
             ≡ option_map (λ s. encode_utf8_all (text_on self.now.held.history s)) (section_shown self.now section)) }
         ensures none { section_shown self.now section ≡ None → result ≡ Ok None }
-        ensures stands { IsSound self.now }
+        ensures sound { IsSound self.now }
     {
         match self.shown_section(section) {
             Some(section) => Ok(Some(shown_text(self.inner.alloc, section.text)?)),

@@ -9,8 +9,8 @@ ghost use Rattle.origin_model.specs.taking.Taking.{answer, intake, intake_counte
 ghost use Rattle.replica_core.specs.Decision.{answer_by_decision};
 ghost use Rattle.replica_core.specs.Deleting.{AreWithin, ids_from};
 ghost use Rattle.replica_core.specs.Edits.{CanJoin};
-ghost use Rattle.replica_core.specs.Told.{Answers, IsTallied, JoinsNext, LeavesAfterFault, Settles, SettlesOrStops};
-ghost use Rattle.replica_core.specs.Told.{StaysBelow, total};
+ghost use Rattle.replica_core.specs.Answering.{Answers, IsTallied, JoinsNext, LeavesAfterFault, Settles, SettlesOrStops};
+ghost use Rattle.replica_core.specs.Answering.{StaysBelow, total};
 
 use crate::accepted::Accepted;
 use crate::due::Due;
@@ -37,7 +37,7 @@ pub(crate) struct OpenReplica {
 }
 
 impl Model for OpenReplica {
-    ghost use Rattle.replica_core.specs.Replica.{IsKept, OpenState, replica_state};
+    ghost use Rattle.replica_core.specs.Replica.{MatchesState, OpenState, replica_state};
 
     ghost Value = { OpenState };
 
@@ -47,7 +47,7 @@ impl Model for OpenReplica {
     } };
 
     ghost invariant = { λ replica.
-        IsKept (replica_state replica.number replica.hold replica.most replica.accepted replica.inbox)
+        MatchesState (replica_state replica.number replica.hold replica.most replica.accepted replica.inbox)
         replica.inbox replica.due };
 }
 
@@ -55,7 +55,7 @@ impl OpenReplica {
     /// No gap is left in the inbox. Where none is, nothing moves.
     pub fn close(&mut self)
         ensures closed { self.new ≡ record { state = self.old.state; gaps = 0 } }
-        ensures stands { IsSound self.new.state }
+        ensures sound { IsSound self.new.state }
     {
         self.inbox.close();
     }
@@ -67,7 +67,7 @@ impl OpenReplica {
         ensures others { self.new.state ≡ record self.old.state { held = self.new.state.held } }
         ensures err { OnErr result (self.new.state ≡ self.old.state) }
         ensures wanting { OnErr result (JoinsNext self.old.state.held) }
-        ensures stands { IsSound self.new.state }
+        ensures sound { IsSound self.new.state }
     {
         let Some(position) = self.due.first() else {
             return Ok(None);
@@ -92,11 +92,11 @@ impl OpenReplica {
 
     /// Settles to the end, or as far as memory lasts.
     fn settle(&mut self, tally: &mut Tally) -> Result<(), NoMemory>
-        requires stands { IsSound self.old.state }
+        requires sound { IsSound self.old.state }
         requires accepted { tally.old.accepted ≤ 2 ^ 31 }
         requires stray { tally.old.stray < 2 ^ 31 }
         ensures settles { SettlesOrStops self.old.state self.new.state tally.old tally.new result }
-        ensures stands { IsSound self.new.state }
+        ensures sound { IsSound self.new.state }
     {
         while self.settle_counted(tally)? {}
         Ok(())
@@ -111,7 +111,7 @@ impl OpenReplica {
         ensures others { self.new.state ≡ record self.old.state { held = self.new.state.held } }
         ensures err { OnErr result ((self.new.state ≡ self.old.state) × (tally.new ≡ tally.old)) }
         ensures stopped { OnErr result (JoinsNext self.new.state.held) }
-        ensures stands { IsSound self.new.state }
+        ensures sound { IsSound self.new.state }
     {
         match self.step()? {
             Some(Settled::Accepted(_op)) => {
@@ -129,7 +129,7 @@ impl OpenReplica {
     /// How many operations more may be accepted or wait.
     pub fn room(&self) -> usize
         ensures room { result + held_count self.now.state ≡ self.now.state.most }
-        ensures stands { IsSound self.now.state }
+        ensures sound { IsSound self.now.state }
     {
         self.most as usize - self.accepted.len() - self.inbox.len()
     }
@@ -140,7 +140,7 @@ impl OpenReplica {
         ensures ok { OnOk result (self.new.state ≡ with_ops self.old.state (op ∷ [])) }
         ensures err { OnErr result (self.new.state ≡ self.old.state) }
         ensures settled { IsSettled self.new.state.held }
-        ensures stands { IsSound self.new.state }
+        ensures sound { IsSound self.new.state }
     {
         let Ok(()) = self.accepted.accept(op) else {
             return Err(NoMemory);
@@ -157,7 +157,7 @@ impl OpenReplica {
         ensures ok { OnOk result (self.new.state ≡ with_ops self.old.state (run_from start.now text.now)) }
         ensures err { OnErr result (self.new.state ≡ self.old.state) }
         ensures settled { IsSettled self.new.state.held }
-        ensures stands { IsSound self.new.state }
+        ensures sound { IsSound self.new.state }
     {
         let Ok(()) = self.accepted.accept_run(start, text) else {
             return Err(NoMemory);
@@ -181,7 +181,7 @@ impl OpenReplica {
         ensures err { IfErr result (λ e. self.new.state ≡ with_ops self.old.state (deletes_up first e.done)) }
         ensures fewer { IfErr result (λ e. e.done < count) }
         ensures settled { IsSettled self.new.state.held }
-        ensures stands { IsSound self.new.state }
+        ensures sound { IsSound self.new.state }
     {
         self.accepted.accept_deletes(section, first, count)
     }
@@ -204,7 +204,7 @@ impl OpenReplica {
           held = held_after (answer self.old.state.hold self.old.state.most self.old.state.held op) self.old.state.held op;
         }) }
         ensures err { OnErr result (self.new.state ≡ self.old.state) }
-        ensures stands { IsSound self.new.state }
+        ensures sound { IsSound self.new.state }
     {
         match self.decision_on(&op) {
             Decision::Again => Ok(Taken::Again),
@@ -245,7 +245,7 @@ impl OpenReplica {
         ensures too_many { (result ≡ Err (FeedFault.TooMany self.old.state.most))
             ↔ (answer self.old.state.hold self.old.state.most self.old.state.held op ≡ TooMany) }
         ensures err { IfErr result (λ fault. LeavesAfterFault self.old.state self.new.state op tally.old tally.new fault) }
-        ensures stands { IsSound self.new.state }
+        ensures sound { IsSound self.new.state }
     {
         match self.deliver(op) {
             Ok(Taken::Accepted) => {

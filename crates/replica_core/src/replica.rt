@@ -1,3 +1,4 @@
+//! A replica at rest: delivery of operations, the answers and refusals, and what was applied or is pending.
 ghost use Rattle.std.specs.Prelude.{◌≡◌, ◌≢◌, ◌↔◌, ◌<◌, ◌≤◌, ◌+◌, ◌-◌, ◌^◌, ◌==◌, ◌∷◌, [], length, IsTrue, IfOk, OnOk};
 ghost use Rattle.std.specs.Prelude.{OnErr, IfErr, All, List, ℕ, ◌++◌};
 ghost use Rattle.fugue_ids.specs.Outs.{WritesBytes};
@@ -15,7 +16,7 @@ ghost use Rattle.origin_model.specs.edits.Effect.{with_ops};
 ghost use Rattle.replica_core.specs.Deleting.{AreWithin, ids_from};
 ghost use Rattle.replica_core.specs.Edits.{CanJoin};
 ghost use Rattle.replica_core.specs.Decision.{decision_of};
-ghost use Rattle.replica_core.specs.Told.{Answers, JoinsNext, LeavesAfterFault, Settles, StaysBelow, total};
+ghost use Rattle.replica_core.specs.Answering.{Answers, JoinsNext, LeavesAfterFault, Settles, StaysBelow, total};
 
 use crate::FeedFault;
 use crate::accepted::Accepted;
@@ -95,7 +96,7 @@ impl Replica {
     pub fn new(alloc: Global, replica: u32, hold: u32, most: u32) -> Result<Replica, NewFault>
         ensures ok { IfOk result (λ made. made
             ≡ record { number = replica; hold = hold; most = most; held = nothing_held }) }
-        ensures stands { IfOk result IsSound }
+        ensures sound { IfOk result IsSound }
         ensures zero_replica { (result ≡ Err NewFault.ZeroReplica) ↔ (replica ≡ 0) }
         ensures bad_hold { (result ≡ Err NewFault.BadHold) ↔ ((replica ≢ 0) × IsOutside GREATEST_HOLD hold) }
         ensures bad_most { (result ≡ Err NewFault.BadMost)
@@ -126,7 +127,7 @@ impl Replica {
     /// What an operation is against the accepted ones.
     pub fn verdict(&self, op: &Op) -> Verdict
         ensures verdict { result ≡ verdict_on self.now.held.history op.now }
-        ensures stands { IsSound self.now }
+        ensures sound { IsSound self.now }
     {
         self.inner.accepted.verdict(op)
     }
@@ -134,7 +135,7 @@ impl Replica {
     /// Whether nothing that waits can be accepted or is stray.
     pub fn is_settled(&self) -> bool
         ensures settled { IsTrue result ↔ IsSettled self.now.held }
-        ensures stands { IsSound self.now }
+        ensures sound { IsSound self.now }
     {
         self.inner.due.is_clear()
     }
@@ -142,7 +143,7 @@ impl Replica {
     /// The replica that the operations of its edits are of.
     pub fn number(&self) -> u32
         ensures number { result ≡ self.now.number }
-        ensures stands { IsSound self.now }
+        ensures sound { IsSound self.now }
     {
         self.inner.number
     }
@@ -150,7 +151,7 @@ impl Replica {
     /// How many may wait.
     pub fn hold(&self) -> u32
         ensures hold { result ≡ self.now.hold }
-        ensures stands { IsSound self.now }
+        ensures sound { IsSound self.now }
     {
         self.inner.hold
     }
@@ -158,7 +159,7 @@ impl Replica {
     /// The accepted operations, in the order in which they were accepted.
     pub fn accepted(&self) -> OpSlice<'_>
         ensures accepted { result ≡ accepted_list self.now.held.history }
-        ensures stands { IsSound self.now }
+        ensures sound { IsSound self.now }
     {
         self.inner.accepted.ops()
     }
@@ -167,7 +168,7 @@ impl Replica {
     pub fn waiting(&self) -> &[Op]
         ensures waiting { result.now ≡ self.now.held.waiting }
         ensures not_accepted { All (λ op. IsOpen (verdict_on self.now.held.history op)) self.now.held.waiting }
-        ensures stands { IsSound self.now }
+        ensures sound { IsSound self.now }
     {
         self.inner.inbox.ops()
     }
@@ -178,7 +179,7 @@ impl Replica {
     /// Writes the sections that are shown, each with its title and its text.
     pub fn write_manuscript<O: Sink>(&self, output: &mut O) -> Result<(), Failed>
         ensures text { WritesBytes (O.seen output.old) (O.seen output.new) result (manuscript self.now.held.history) }
-        ensures stands { IsSound self.now }
+        ensures sound { IsSound self.now }
     {
         self.inner.accepted.write_manuscript(output)
     }
@@ -187,7 +188,7 @@ impl Replica {
     /// or name.
     pub fn greatest_counter(&self) -> Option<u32>
         ensures greatest { IsGreatest (counters self.now.number (all_ops self.now.held)) result }
-        ensures stands { IsSound self.now }
+        ensures sound { IsSound self.now }
     {
         greater(
             self.inner.accepted.greatest(self.inner.number),
@@ -198,7 +199,7 @@ impl Replica {
     /// How many operations more may be accepted or wait.
     pub(crate) fn room(&self) -> usize
         ensures room { result + held_count self.now ≡ self.now.most }
-        ensures stands { IsSound self.now }
+        ensures sound { IsSound self.now }
     {
         self.inner.room()
     }
@@ -209,7 +210,7 @@ impl Replica {
         ensures ok { OnOk result (self.new ≡ with_ops self.old (op ∷ [])) }
         ensures err { OnErr result (self.new ≡ self.old) }
         ensures settled { IsSettled self.new.held }
-        ensures stands { IsSound self.new }
+        ensures sound { IsSound self.new }
     {
         let joined = self.inner.join(op);
         self.inner.close();
@@ -225,7 +226,7 @@ impl Replica {
         ensures ok { OnOk result (self.new ≡ with_ops self.old (run_from start.now text.now)) }
         ensures err { OnErr result (self.new ≡ self.old) }
         ensures settled { IsSettled self.new.held }
-        ensures stands { IsSound self.new }
+        ensures sound { IsSound self.new }
     {
         let joined = self.inner.join_run(start, text);
         self.inner.close();
@@ -248,7 +249,7 @@ impl Replica {
         ensures err { IfErr result (λ e. self.new ≡ with_ops self.old (deletes_up first e.done)) }
         ensures fewer { IfErr result (λ e. e.done < count) }
         ensures settled { IsSettled self.new.held }
-        ensures stands { IsSound self.new }
+        ensures sound { IsSound self.new }
     {
         let joined = self.inner.join_deletes(section, first, count);
         self.inner.close();
@@ -264,7 +265,7 @@ impl Replica {
           held = held_after (answer self.old.hold self.old.most self.old.held op) self.old.held op;
         }) }
         ensures err { OnErr result (self.new ≡ self.old) }
-        ensures stands { IsSound self.new }
+        ensures sound { IsSound self.new }
     {
         let taken = self.inner.deliver(op);
         self.inner.close();
@@ -278,7 +279,7 @@ impl Replica {
         ensures others { self.new ≡ record self.old { held = self.new.held } }
         ensures err { OnErr result (self.new ≡ self.old) }
         ensures wanting { OnErr result (JoinsNext self.old.held) }
-        ensures stands { IsSound self.new }
+        ensures sound { IsSound self.new }
     {
         let settled = self.inner.step();
         self.inner.close();
@@ -304,7 +305,7 @@ impl Replica {
         ensures too_many { (result ≡ Err (FeedFault.TooMany self.old.most))
             ↔ (answer self.old.hold self.old.most self.old.held op ≡ TooMany) }
         ensures err { IfErr result (λ fault. LeavesAfterFault self.old self.new op tally.old tally.new fault) }
-        ensures stands { IsSound self.new }
+        ensures sound { IsSound self.new }
     {
         let fed = self.inner.feed(op, tally);
         self.inner.close();

@@ -7,7 +7,7 @@ use Rattle.std.specs.Prelude.{◌↔◌, All, Some, None, Option, IfSome, Ok, Er
 use Rattle.std.proofs.lemmas.Option.{IfSome_then, get_or_from_slice_get}
 use Rattle.fugue_ids.specs.Causes.{Faulted}
 use Rattle.fugue_ids.specs.declared.op.Op.{Op}
-use Rattle.outer_ports.specs.disk.Disks.{DiskTells, DiskView, RoomView}
+use Rattle.outer_ports.specs.disk.Disks.{DiskIsSpecified, DiskView, RoomView}
 use Rattle.outer_ports.specs.disk.States.{DiskState, IsCrashImage, IsHonest}
 use Rattle.outer_ports.specs.disk.Moments.{History, LeavesOnly, LeavesOnlyTo}
 use Rattle.outer_ports.proofs.SharedLemmas.{image_at_rest, leaves_none}
@@ -238,7 +238,7 @@ module _ (end : End) (ops : List Op) (have : All HasFrame ops) (short : length (
 
     -- the batch was written, and its gate opened
     pub append_done : (last : End) → last ≡ next_end end ops → IsWithinReach end → new.past ≡ gate_opened end.at bytes old.past → new.room ≡ spent_opening bytes old.room
-        → IfSome old.past (λ h. OpenedTo h.last.seen end.at bytes new.past) → (DiskTells old → new.faults ≡ old.faults) → AppendMeets end ops old new (Ok last)
+        → IfSome old.past (λ h. OpenedTo h.last.seen end.at bytes new.past) → (DiskIsSpecified old → new.faults ≡ old.faults) → AppendMeets end ops old new (Ok last)
     append_done last last_is reach calls room opened specified_no_fault = record {
       none = λ is. absurd (some is);
       too_long = λ not. (λ is. cc is, λ long. absurd (fits long));

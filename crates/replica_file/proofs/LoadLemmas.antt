@@ -19,12 +19,12 @@ use Rattle.replica_file.specs.Loading.{CanTake}
 use Rattle.replica_file.specs.Looks.{LooksOnly, ReachesTo, ReadsNoFurther}
 use Rattle.replica_file.specs.Moments.{loaded_of}
 use Rattle.replica_file.proofs.OnceLemmas.{exact}
-use Rattle.replica_file.proofs.PartLemmas.{told_all, told_one}
+use Rattle.replica_file.proofs.PartLemmas.{specified_all, specified_one}
 
 -- a sync changes nothing of what a read gives
 pub seen_stays : (P : List ℕ → Type 0) (o p : Option History) → p ≡ past_after_step durable o → IfSome p (λ h. P h.last.seen) → IfSome o (λ h. P h.last.seen)
-seen_stays P None p is told = tt
-seen_stays P (Some h) p is told = subst (λ q. IfSome q (λ k. P k.last.seen)) is told
+seen_stays P None p is specified = tt
+seen_stays P (Some h) p is specified = subst (λ q. IfSome q (λ k. P k.last.seen)) is specified
 
 -- the gate that ends the meaning is there
 gate_inside : (bytes : List ℕ) (content : Content) → HasImage bytes (Holds content) → content.at + 1 ≤ length bytes
@@ -70,7 +70,7 @@ still_leaves o q same = subst (λ t. IfSome o (λ h. LeavesOnlyTo h t (MayLeave 
     stays None = tt
     stays (Some h) = leaves_none (MayLeave h) h
 
--- a disk that tells does so behind a sync
+-- a disk that is specified is so behind a sync
 pub tells_settled : (o q : Option History) → q ≡ past_after_step durable o → IsSome o → IsSome q
 tells_settled None q is tells = subst IsSome (sym is) tells
 tells_settled (Some h) q is tells = subst IsSome (sym is) refl
@@ -78,8 +78,8 @@ tells_settled (Some h) q is tells = subst IsSome (sym is) refl
 -- the sync failed
 pub sync_fails : {E T : Type 0} (most : ℕ) (old new : DiskView) (e : E) → Syncs {E = E} {T = T} old new (Err e) → LoadMeets most old new (Err DiskFault)
 sync_fails {E} {T} most old new e sync = record {
-  cause = told_all {P = λ h. Unit {0}} old.past (λ h. tt);
-  exactly = told_all {P = λ h. LoadAnswersBy (Err DiskFault) most h.last.seen} old.past (λ h by. absurd by);
+  cause = specified_all {P = λ h. Unit {0}} old.past (λ h. tt);
+  exactly = specified_all {P = λ h. LoadAnswersBy (Err DiskFault) most h.last.seen} old.past (λ h by. absurd by);
   loaded = tt;
   synced = inr (refl, sync.past, sync.same_room);
   moments = still_leaves old.past new.past sync.past;
@@ -135,7 +135,7 @@ module _ {E T M : Type 0} (most : ℕ) (old synced new : DiskView) (done : T) (s
       let caused = seen_stays (λ bytes. LoadAnswerIs most bytes (loaded_of result)) old.past synced.past sync.settled cause in
       record {
         cause = caused;
-        exactly = told_one old.past (λ h is. exact most h.last.seen (loaded_of result) is) caused;
+        exactly = specified_one old.past (λ h is. exact most h.last.seen (loaded_of result) is) caused;
         loaded = by_answer result caused ready reaches reach;
         synced = inl (settled_past, looks.room ∙ sync.room);
         moments = settled_leaves old.past new.past sync.honest settled_past;

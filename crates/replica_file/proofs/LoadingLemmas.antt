@@ -15,7 +15,7 @@ use Rattle.origin_model.specs.taking.Taking.{answers_from, held, held_from, inta
 use Rattle.origin_model.proofs.SharedLemmas.{answers-append, held-append, places-append, places-one}
 use Rattle.origin_model.specs.edits.State.{State, IsSound}
 use Rattle.replica_core.specs.Feeding.{StopsFeeding, TakesInAll}
-use Rattle.replica_core.specs.Told.{LeavesAfterFault}
+use Rattle.replica_core.specs.Answering.{LeavesAfterFault}
 use Rattle.replica_core.proofs.KeepingLemmas.{full_keeps_none}
 use Rattle.replica_core.proofs.StepLemmas.{step_moves}
 use Rattle.replica_core.specs.declared.keeping.FeedFault.{FeedFault}
@@ -138,10 +138,10 @@ same_held hold most s (op ∷ ops) few within place =
 -- more that find their place
 are_more : (r : State) (ops more : List Op) → IsSound r → MeetsNoLimit r.hold r.most r.held more → AreIn r ops
     → AreIn (record r { held = held_from r.hold r.most r.held more }) (ops ++ more)
-are_more r ops more stands place are = record {
+are_more r ops more sound place are = record {
   place = places-append r.hold r.most nothing_held ops more are.place (subst (λ (s : Held). MeetsNoLimit r.hold r.most s more) are.held_is place);
   held_is = ap (λ (s : Held). held_from r.hold r.most s more) are.held_is ∙ held-append r.hold r.most nothing_held ops more;
-  same = same_held r.hold r.most r.held more stands.few stands.most_within.1 place ∙ ap (λ (s : Held). held_from r.hold MOST_OPERATIONS s more) are.same
+  same = same_held r.hold r.most r.held more sound.few sound.most_within.1 place ∙ ap (λ (s : Held). held_from r.hold MOST_OPERATIONS s more) are.same
       ∙ held-append r.hold MOST_OPERATIONS nothing_held ops more;
 }
 
@@ -167,13 +167,13 @@ feeds_dropped was r ops is = subst (λ (b : Bool). Feeds b r b r ops) (sym is) (
 -- the operations found their place, one after another
 pub feeds_taken : (r new : State) (ops : List Op) → IsSound r → MeetsNoLimit r.hold r.most r.held ops → new ≡ record r { held = held_from r.hold r.most r.held ops }
     → Feeds true r true new ops
-feeds_taken r new ops stands place same = record { behind = λ before are. subst (λ (s : State). AreIn s (before ++ ops)) (sym same) (are_more r before ops stands place are) }
+feeds_taken r new ops sound place same = record { behind = λ before are. subst (λ (s : State). AreIn s (before ++ ops)) (sym same) (are_more r before ops sound place are) }
 
 -- the same of one
 pub feeds_one : (was : Bool) (r new : State) (op : Op) → was ≡ true → IsSound r → answer r.hold r.most r.held op ≢ AnswersTooMany
     → new ≡ record r { held = intake r.hold r.most r.held op } → Feeds was r was new (op ∷ [])
-feeds_one was r new op is stands other same =
-    subst (λ (b : Bool). Feeds b r b new (op ∷ [])) (sym is) (feeds_taken r new (op ∷ []) stands (places-one r.hold r.most r.held op other) same)
+feeds_one was r new op is sound other same =
+    subst (λ (b : Bool). Feeds b r b new (op ∷ [])) (sym is) (feeds_taken r new (op ∷ []) sound (places-one r.hold r.most r.held op other) same)
 
 pub feeds_refused : (was : Bool) (r new : State) (op : Op) → was ≡ true → answer r.hold r.most r.held op ≡ AnswersTooMany → new ≡ r → Feeds was r false new (op ∷ [])
 feeds_refused was r new op is many same =
@@ -219,7 +219,7 @@ wants_one was old new op before after fault found is leaves = record {
 module _ (old new : State) (ops : List Op) (before after : Tally) (ready : CanTake old) where
   -- operations that found their place, by one call
   pub run_feeds : (was : Bool) → was ≡ true → TakesInAll old new ops before after → Feeds was old was new ops
-  run_feeds was found taken = subst (λ (b : Bool). Feeds b old b new ops) (sym found) (feeds_taken old new ops ready.stands taken.has_place taken.replica)
+  run_feeds was found taken = subst (λ (b : Bool). Feeds b old b new ops) (sym found) (feeds_taken old new ops ready.sound taken.has_place taken.replica)
 
   pub run_same : TakesInAll old new ops before after → IsSameButHeld old new
   run_same taken = taken.replica ∙ ap (λ (s : State). record old { held = s.held }) (sym taken.replica)
@@ -229,7 +229,7 @@ module _ (old new : State) (ops : List Op) (before after : Tally) (ready : CanTa
     reached = stops.some.reached
 
     front_feeds : Feeds true old true reached stops.some.front
-    front_feeds = feeds_taken old reached stops.some.front ready.stands stops.some.taken.has_place stops.some.taken.replica
+    front_feeds = feeds_taken old reached stops.some.front ready.sound stops.some.taken.has_place stops.some.taken.replica
 
     front_same : IsSameButHeld old reached
     front_same = let taken = stops.some.taken in taken.replica ∙ ap (λ (s : State). record old { held = s.held }) (sym taken.replica)

@@ -241,18 +241,18 @@ frames_over grammar bytes at len taken a b r s within all one =
     }
 
 -- a fact on the bytes of a disk that was only looked at, from one and two others
-pub told_one : {P Q : History → Type 0} (o : Option History) → ((h : History) → P h → Q h) → IfSome o P → IfSome o Q
-told_one None join p = tt
-told_one (Some h) join p = join h p
+pub specified_one : {P Q : History → Type 0} (o : Option History) → ((h : History) → P h → Q h) → IfSome o P → IfSome o Q
+specified_one None join p = tt
+specified_one (Some h) join p = join h p
 
-pub told_two : {P Q R : History → Type 0} (o q : Option History) → q ≡ o → ((h : History) → P h → Q h → R h) → IfSome o P → IfSome q Q → IfSome o R
-told_two None q same join p r = tt
-told_two {Q = Q} (Some h) q same join p r = join h p (subst (λ s. IfSome s Q) same r)
+pub specified_two : {P Q R : History → Type 0} (o q : Option History) → q ≡ o → ((h : History) → P h → Q h → R h) → IfSome o P → IfSome q Q → IfSome o R
+specified_two None q same join p r = tt
+specified_two {Q = Q} (Some h) q same join p r = join h p (subst (λ s. IfSome s Q) same r)
 
-pub told_all : {P : History → Type 0} (o : Option History) → ((h : History) → P h) → IfSome o P
-told_all None all = tt
-told_all (Some h) all = all h
+pub specified_all : {P : History → Type 0} (o : Option History) → ((h : History) → P h) → IfSome o P
+specified_all None all = tt
+specified_all (Some h) all = all h
 
-pub told_three : {P Q R S : History → Type 0} (o q : Option History) → q ≡ o → ((h : History) → P h → Q h → R h → S h) → IfSome o P → IfSome o Q → IfSome q R → IfSome o S
-told_three None q same join p r s = tt
-told_three {R = R} (Some h) q same join p r s = join h p r (subst (λ t. IfSome t R) same s)
+pub specified_three : {P Q R S : History → Type 0} (o q : Option History) → q ≡ o → ((h : History) → P h → Q h → R h → S h) → IfSome o P → IfSome o Q → IfSome q R → IfSome o S
+specified_three None q same join p r s = tt
+specified_three {R = R} (Some h) q same join p r s = join h p r (subst (λ t. IfSome t R) same s)

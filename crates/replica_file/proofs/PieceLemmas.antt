@@ -111,9 +111,9 @@ module _ (bytes : List ℕ) (ops : List Op) (old new : FrameReading) (before aft
 
       by : (left : Option (List ℕ)) → Some bytes ≡ prepend_known (bytes_of reading.gave.found) left
           → IfSome left (AnswersBy old.grammar (Err frame_fault.NoMemory) old.offset (old.limit - old.offset)) → wants r was ops
-      by None told answer = absurd (let no : Some bytes ≡ None = told in cc no)
-      by (Some rest) told answer =
-          ForContent rest (record { found = reading.gave.found; are_frames = reading.gave.are_frames; ops_are = ops_are; split = same_Some _ _ told }) (answer.memory refl)
+      by None specified answer = absurd (let no : Some bytes ≡ None = specified in cc no)
+      by (Some rest) specified answer =
+          ForContent rest (record { found = reading.gave.found; are_frames = reading.gave.are_frames; ops_are = ops_are; split = same_Some _ _ specified }) (answer.memory refl)
 
   -- memory was wanting for one of the operations that were given
   pub operation : (r : State) (was : Bool) (more : List Op) → GivesMany old new before after more → WantsMemory was r more → LacksBehind old.grammar bytes ops was r
@@ -137,12 +137,12 @@ module _ (bytes : List ℕ) (ops : List Op) (old new : FrameReading) (before aft
 
       by : (left : Option (List ℕ)) → Some bytes ≡ prepend_known (bytes_of gave.found) left
           → IsWanting old.grammar (λ rest. rest ≡ bytes) bytes (ops ++ lacks.front) lacks.reached.hold lacks.reached.most lacks.reached.held (true ≡ true)
-      by None told = absurd (let no : Some bytes ≡ None = told in cc no)
-      by (Some rest) told = ForOperation lacks.op (lacks.more ++ new.todo) rest (record {
+      by None specified = absurd (let no : Some bytes ≡ None = specified in cc no)
+      by (Some rest) specified = ForOperation lacks.op (lacks.more ++ new.todo) rest (record {
         found = gave.found;
         are_frames = subst (λ (g : Grammar). All (IsFrame g) gave.found) gives.grammar gave.are_frames;
         ops_are = sym parts ∙ gave.ops_are;
-        split = same_Some _ _ told;
+        split = same_Some _ _ specified;
       }) refl lacks.kept
 
 -- memory was wanting for a piece, of which nothing was taken in yet

@@ -21,8 +21,8 @@ looks_then F a b c one two = record {
   faulted = λ failed. let up = two.faulted failed in let low = one.later in omega (arith, up, low);
   sure = both a.room b.room (⊥ → ⊥) (F → ⊥) (F → ⊥) one.room (λ p q. q) one.sure two.sure;
   counts_no_fault = both a.room b.room (b.faults ≡ a.faults) (c.faults ≡ b.faults) (c.faults ≡ a.faults) one.room (λ p q. q ∙ p) one.counts_no_fault two.counts_no_fault;
-  specified_no_fault = λ told counts_no_fault. two.specified_no_fault (subst (λ (o : Option History). IsSome o) (sym one.past) told) counts_no_fault
-      ∙ one.specified_no_fault told (λ none. none);
+  specified_no_fault = λ specified counts_no_fault. two.specified_no_fault (subst (λ (o : Option History). IsSome o) (sym one.past) specified) counts_no_fault
+      ∙ one.specified_no_fault specified (λ none. none);
 }
 
 -- a call that only looks, and went well
@@ -35,7 +35,7 @@ looked b c x looks sizes = record {
   faulted = λ failed. absurd failed;
   sure = never b.room;
   counts_no_fault = looks.count.counts_no_fault;
-  specified_no_fault = λ told counts_no_fault. looks.specified_no_fault told;
+  specified_no_fault = λ specified counts_no_fault. looks.specified_no_fault specified;
 }
   where
     never : (o : Option RoomView) → IfSome o (λ r. ⊥ → ⊥)
@@ -56,7 +56,7 @@ well F b c fine one = record {
   faulted = λ failed. absurd failed;
   sure = never b.room;
   counts_no_fault = one.counts_no_fault;
-  specified_no_fault = λ told counts_no_fault. one.specified_no_fault told fine;
+  specified_no_fault = λ specified counts_no_fault. one.specified_no_fault specified fine;
 }
   where
     never : (o : Option RoomView) → IfSome o (λ r. ⊥ → ⊥)
@@ -73,17 +73,18 @@ pub read_on : {E : Type 0} (a b c : DiskView) (at filled n : ℕ) (before after 
     → ReadsMore {E = E} b c (Ok n) at filled before after
     → IfSome a.past (λ h. (take filled before ≡ take filled (drop at h.last.seen)) × (filled ≤ length (drop at h.last.seen)))
     → IfSome a.past (λ h. (take (filled + n) after ≡ take (filled + n) (drop at h.last.seen)) × (filled + n ≤ length (drop at h.last.seen)))
-read_on a b c at filled n before after same within more told = by_told a.past told (subst (λ o. IfSome o (λ h. GivesAt h.last.seen (at + filled) n more.part)) same more.read.told)
+read_on a b c at filled n before after same within more specified =
+    by_specified a.past specified (subst (λ o. IfSome o (λ h. GivesAt h.last.seen (at + filled) n more.part)) same more.read.specified)
   where
-    by_told : (o : Option History) → IfSome o (λ h. (take filled before ≡ take filled (drop at h.last.seen)) × (filled ≤ length (drop at h.last.seen)))
+    by_specified : (o : Option History) → IfSome o (λ h. (take filled before ≡ take filled (drop at h.last.seen)) × (filled ≤ length (drop at h.last.seen)))
         → IfSome o (λ h. GivesAt h.last.seen (at + filled) n more.part)
         → IfSome o (λ h. (take (filled + n) after ≡ take (filled + n) (drop at h.last.seen)) × (filled + n ≤ length (drop at h.last.seen)))
-    by_told None told gives = tt
-    by_told (Some h) told gives =
+    by_specified None specified gives = tt
+    by_specified (Some h) specified gives =
         let seen : List ℕ = h.last.seen in
         let front : length (take filled before) ≡ filled = length-take-le filled before within in
         let left : take (filled + n) after ≡ take filled before ++ take n more.part =
         (λ i. take (sym front i + n) (more.items i)) ∙ take-append-add (take filled before) more.part n in
         let right : take (filled + n) (drop at seen) ≡ take filled (drop at seen) ++ take n (drop (at + filled) seen) =
         take-add filled n (drop at seen) ∙ ap (λ (l : List ℕ). take filled (drop at seen) ++ take n l) (drop_twice filled at seen) in
-        (left ∙ (λ i. told.0 i ++ gives.given i) ∙ sym right, omega (arith, told.1, gives.inside, length-drop at seen))
+        (left ∙ (λ i. specified.0 i ++ gives.given i) ∙ sym right, omega (arith, specified.1, gives.inside, length-drop at seen))

@@ -94,16 +94,16 @@ pub slot_ends : (o p q : Option History) (r : Result Gate Stop) (at : ℕ) (word
     → IfSome o (λ h. IsWord h.last.seen (at + 1) word)
     → word.len ≤ LONGEST_BATCH → IfSome p (λ h. TakesFrames word.grammar h.last.seen (at + 5) word.len was old now new) → IfOk r (λ gate. IfSome q (λ h. IsGate h.last.seen gate))
     → IfOk r (λ gate. gate.at ≡ at + 5 + word.len) → IfOk r (λ next. IfSome o (λ h. TakesSlot h.last.seen at next was old now new))
-slot_ends o p q (Err e) at word was now old new one two told short took gate is = tt
-slot_ends None p q (Ok g) at word was now old new one two told short took gate is = tt
-slot_ends (Some h) p q (Ok g) at word was now old new one two told short took gate is =
-    slot_took h.last.seen at word told g was now old new short (subst (λ s. IfSome s (λ k. TakesFrames word.grammar k.last.seen (at + 5) word.len was old now new)) one took)
+slot_ends o p q (Err e) at word was now old new one two specified short took gate is = tt
+slot_ends None p q (Ok g) at word was now old new one two specified short took gate is = tt
+slot_ends (Some h) p q (Ok g) at word was now old new one two specified short took gate is =
+    slot_took h.last.seen at word specified g was now old new short (subst (λ s. IfSome s (λ k. TakesFrames word.grammar k.last.seen (at + 5) word.len was old now new)) one took)
     (subst (λ s. IfSome s (λ k. IsGate k.last.seen g)) two gate) is
 
 pub no_gate : (o p q : Option History) (at : ℕ) (word : Word) (was now : Bool) (old new : State) → p ≡ o → q ≡ o → IfSome o (λ h. IsWord h.last.seen (at + 1) word)
     → IfSome p (λ h. TakesFrames word.grammar h.last.seen (at + 5) word.len was old now new) → IfSome q (λ h. length h.last.seen ≤ at + 5 + word.len)
     → IfSome o (λ h. (slot : ℕ) → IsNoBatch slot (drop (at + 1) h.last.seen))
-no_gate None p q at word was now old new one two told took ends = tt
-no_gate (Some h) p q at word was now old new one two told took ends =
+no_gate None p q at word was now old new one two specified took ends = tt
+no_gate (Some h) p q at word was now old new one two specified took ends =
     let frames = subst (λ s. IfSome s (λ k. TakesFrames word.grammar k.last.seen (at + 5) word.len was old now new)) one took in
-    bad_gate h.last.seen at word told frames.long (subst (λ s. IfSome s (λ k. length k.last.seen ≤ at + 5 + word.len)) two ends)
+    bad_gate h.last.seen at word specified frames.long (subst (λ s. IfSome s (λ k. length k.last.seen ≤ at + 5 + word.len)) two ends)

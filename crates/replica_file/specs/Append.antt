@@ -56,7 +56,7 @@ pub record IsAppended (end : End) (ops : List Op) (old new : DiskView) (last : E
   pub calls : new.past ≡ gate_opened end.at (behind_gate ops) old.past
   -- that took four calls
   pub room : new.room ≡ spent_opening (behind_gate ops) old.room
-  -- the file, where it is told, has the batch
+  -- the file, where it is specified, has the batch
   pub has : IfSome old.past (λ h. (content : Content) → Means h.last content → IfSome new.past (λ k. HasBatch content end ops k.last))
 
 -- an append to a file whose meaning ends there

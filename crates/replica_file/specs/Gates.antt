@@ -20,7 +20,7 @@ pub record IsOpened (before : List ℕ) (gate : ℕ) (bytes : List ℕ) (s : Dis
   pub opened : slice_get s.seen gate ≡ Some 1
   pub settled : s ≡ at_rest s.seen
 
--- the same, where the state is told
+-- the same, where the state is specified
 abbrev pub OpenedTo : List ℕ → ℕ → List ℕ → Option History → Type 0
 OpenedTo before gate bytes None = ⊥
 OpenedTo before gate bytes (Some h) = IsOpened before gate bytes h.last

@@ -10,5 +10,6 @@ pub mod Loading
 pub mod Loaded
 pub mod Pieces
 pub mod Slots
+pub mod Stops
 pub mod Moments
 pub mod Laws

@@ -17,16 +17,16 @@ use Rattle.replica_file.specs.declared.load_file.LoadFault.TheVariants.{DiskFaul
 pub record IsLoaded (old new : DiskView) (replica : State) (end : End) : Type 0 where
   -- it can take in one operation more
   pub ready : CanTake replica
-  -- the file, where it is told, ends there, whatever a crash leaves
+  -- the file, where it is specified, ends there, whatever a crash leaves
   pub ends : IfSome new.past (λ h. EndsAtGate h.last end)
-  -- and where it is not told, the slots can reach so far
+  -- and where it is not specified, the slots can reach so far
   pub reaches : IsWithinReach end
   -- no byte behind the gate at the end was asked for
   pub reach : ReadsNoFurther (end.at + 1) old new
 
 -- a load that may take in so many operations
 pub record LoadMeets (most : ℕ) (old new : DiskView) (result : Result (State × End) LoadFault) : Type 0 where
-  -- the bytes, where they are told, are the cause of the answer
+  -- the bytes, where they are specified, are the cause of the answer
   pub cause : IfSome old.past (λ h. LoadAnswerIs most h.last.seen result)
   -- and each answer comes exactly where they are, but for a fault of the disk and want of memory
   pub exactly : IfSome old.past (λ h. LoadAnswersBy result most h.last.seen)

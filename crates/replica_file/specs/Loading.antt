@@ -9,7 +9,7 @@ use Rattle.replica_file.specs.Load.{AreTooMany, FindPlace}
 -- one operation more can be taken in
 pub record CanTake (replica : State) : Type 0 where
   pub settled : IsSettled replica.held
-  pub stands : IsSound replica
+  pub sound : IsSound replica
 
 -- all operations found their place, and the replica holds what they leave
 pub record AreIn (replica : State) (ops : List Op) : Type 0 where

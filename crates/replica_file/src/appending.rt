@@ -1,3 +1,4 @@
+//! Appends operations to a file as one record, of which a crash leaves all or nothing.
 ghost use Rattle.std.specs.Prelude.{IfSome};
 ghost use Rattle.replica_file.specs.Append.{AppendMeets};
 ghost use Rattle.replica_file.specs.Ends.{EndsAtGate, IsWithinReach};

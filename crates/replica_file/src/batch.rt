@@ -1,3 +1,4 @@
+//! The bytes of a new record after its commit byte: length word, frames, and a clear commit byte.
 ghost use Rattle.std.specs.Prelude.{◌≡◌, ◌≢◌, ◌↔◌, ◌<◌, ◌≤◌, ◌++◌, ◌∷◌, [], length, drop, IfOk, OnOk, All};
 ghost use Rattle.std.specs.Int.{to_be_bytes, w32};
 ghost use Rattle.origin_model.specs.declared.files.TheConstants.{LONGEST_BATCH};

@@ -1,3 +1,4 @@
+//! Creates a file that has a header and no records, for a replica without operations.
 ghost use Rattle.std.specs.Prelude.{◌<◌, ◌≤◌};
 ghost use Rattle.fugue_ids.specs.declared.limits.TheConstants.{GREATEST_HOLD};
 ghost use Rattle.replica_file.specs.Create.{CreateMeets};

@@ -1,3 +1,4 @@
+//! Delivers the frames of one record, which are read from the disk in pieces of at most 64 KiB.
 ghost use Rattle.std.specs.Prelude.{◌≡◌, ◌+◌, ◌<◌, ◌≤◌, ◌^◌, min, List, IfSome, IfOk, OnOk};
 ghost use Rattle.fugue_ids.specs.declared.op.Op.{Op};
 ghost use Rattle.replica_file.specs.Loading.{CanTake, IsSameButHeld};

@@ -1,3 +1,4 @@
+//! The start of a file: its header and the first commit byte.
 ghost use Rattle.std.specs.Prelude.{◌≡◌, ◌≢◌, ◌<◌, ◌≤◌, false, IfSome, IfOk, IfErr, OnOk, ℕ};
 ghost use Rattle.origin_model.specs.files.Image.{has_header};
 ghost use Rattle.fugue_ids.specs.declared.limits.TheConstants.{GREATEST_HOLD};
@@ -20,7 +21,7 @@ pub(crate) struct Front {
 
 /// The front of a file.
 pub(crate) fn read_front<H: Disk>(disk: &mut H) -> Result<Front, LoadFault>
-    ensures told { IfOk result
+    ensures specified { IfOk result
         (λ front. IfSome (H.seen disk.old).past (λ h. IsFileFront h.last.seen front.header front.gate)) }
     ensures at { IfOk result (λ front. front.gate.at ≡ 13) }
     ensures within { IfOk result (λ front.
@@ -39,7 +40,7 @@ pub(crate) fn read_front<H: Disk>(disk: &mut H) -> Result<Front, LoadFault>
 }
 
 fn read_both<H: Disk>(disk: &mut H) -> Result<Front, Stop>
-    ensures told { IfOk result
+    ensures specified { IfOk result
         (λ front. IfSome (H.seen disk.old).past (λ h. IsFileFront h.last.seen front.header front.gate)) }
     ensures at { IfOk result (λ front. front.gate.at ≡ 13) }
     ensures within { IfOk result (λ front.

@@ -1,6 +1,7 @@
+//! The commit byte of a record, and the write that sets it once the record is durable.
 ghost use Rattle.std.specs.Prelude.{◌≡◌, ◌+◌, ◌<◌, ◌^◌, IfSome, OnOk, OnErr};
 ghost use Rattle.fugue_ids.specs.Causes.{HasCause};
-ghost use Rattle.outer_ports.specs.disk.Disks.{DiskTells};
+ghost use Rattle.outer_ports.specs.disk.Disks.{DiskIsSpecified};
 ghost use Rattle.outer_ports.specs.disk.Moments.{LeavesOnlyTo};
 ghost use Rattle.outer_ports.specs.disk.States.{IsHonest};
 ghost use Rattle.replica_file.specs.Ends.{Agrees};
@@ -38,7 +39,7 @@ pub(crate) fn write_behind<H: Disk>(disk: &mut H, gate: u64, bytes: &[u8]) -> Re
     ensures sure { IfSome (H.seen disk.old).room (λ room. LastsForCalls bytes.now room → OnErr result ⊥) }
     ensures counts_no_fault { IfSome (H.seen disk.old).room (λ room.
         LastsForCalls bytes.now room → (H.seen disk.new).faults ≡ (H.seen disk.old).faults) }
-    ensures specified_no_fault { DiskTells (H.seen disk.old)
+    ensures specified_no_fault { DiskIsSpecified (H.seen disk.old)
         → OnOk result ((H.seen disk.new).faults ≡ (H.seen disk.old).faults) }
 {
     disk.write_at(gate + 1, bytes)?;

@@ -1,3 +1,4 @@
+//! The header of a file: format version, replica id and pending capacity; encoded, read and checked.
 ghost use Rattle.std.specs.Prelude.{◌≡◌, ◌≢◌, ◌⊎◌, ◌↔◌, ◌+◌, ◌<◌, ◌≤◌, false, true, length, IfSome, IsSome, IfOk, OnOk};
 ghost use Rattle.fugue_ids.specs.declared.limits.TheConstants.{GREATEST_HOLD};
 ghost use Rattle.origin_model.specs.files.Image.{header_of, is_header, new_file as new_file_of, number_at};
@@ -38,7 +39,7 @@ pub(crate) fn new_file(replica: u32, hold: u32) -> [u8; 14]
 
 /// The header of a file, which is bad where there is none.
 pub(crate) fn read_header<H: Disk>(disk: &mut H) -> Result<Header, Stop>
-    ensures told { IfOk result (λ header. IfSome (H.seen disk.old).past (λ h. IsHeader h.last.seen header)) }
+    ensures specified { IfOk result (λ header. IfSome (H.seen disk.old).past (λ h. IsHeader h.last.seen header)) }
     ensures within { IfOk result (λ header. (0 < header.replica) × (0 < header.hold) × (header.hold ≤ GREATEST_HOLD)) }
     ensures bad { result ≡ Err Stop.Bad → IfSome (H.seen disk.old).past (λ h.
         (length (header_of h.last.seen) < 13) ⊎ (is_header (header_of h.last.seen) ≡ false)) }

@@ -20,3 +20,4 @@ mod stop;
 pub use appending::{AppendFault, append};
 pub use creating::{CreateFault, create};
 pub use load_file::{End, LoadFault, load, load_moments, moments_once, one_image};
+pub use reading::{ReadFault, read_piece};

@@ -1,3 +1,4 @@
+//! Loads the replica of a file, its revisions and the end of its records, or says why that fails.
 ghost use Rattle.std.specs.Prelude.{◌≡◌, ◌<◌, ◌≤◌, ◌+◌, IfSome, IfOk};
 ghost use Rattle.fugue_ids.specs.declared.limits.TheConstants.{MOST_OPERATIONS};
 ghost use Rattle.replica_file.specs.Ends.{IsWithinReach};

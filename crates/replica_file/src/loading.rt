@@ -1,3 +1,4 @@
+//! `Loading`: a replica to which the operations of a file are delivered, up to a limit on their number.
 ghost use Rattle.std.specs.Prelude.{◌≡◌, ◌<◌, ◌≤◌, ◌+◌, ◌^◌, ◌∷◌, [], true, length, OnOk, OnErr};
 ghost use Rattle.fugue_ids.specs.Runs.{run_from};
 ghost use Rattle.op_runs.specs.Deletions.{deletes_up};
@@ -152,7 +153,7 @@ fn new_replica(alloc: Global, header: Header, most: u32) -> Replica
       most = most;
       held = nothing_held;
     } }
-    ensures stands { IsSound result }
+    ensures sound { IsSound result }
 {
     match Replica::new(alloc, header.replica, header.hold, most) {
         Ok(replica) => replica,

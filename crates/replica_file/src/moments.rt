@@ -9,7 +9,7 @@ use replica_core::Replica;
 /// How many operations the replica has accepted.
 pub(crate) fn accepted_count(replica: &Replica) -> u32
     ensures count { result ≡ length replica.now.held.history }
-    ensures stands { IsSound replica.now }
+    ensures sound { IsSound replica.now }
 {
     replica.accepted().len() as u32
 }

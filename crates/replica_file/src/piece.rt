@@ -1,3 +1,4 @@
+//! A piece of a file in memory: decodes the whole frames at its start and delivers their operations.
 ghost use Rattle.std.specs.Prelude.{◌≡◌, ◌≢◌, ◌<◌, ◌≤◌, ◌+◌, ◌*◌, [], None, length, List, ℕ, IfOk, OnOk, vec_capacity};
 ghost use Rattle.fugue_ids.specs.declared.op.Op.{Op};
 ghost use Rattle.replica_file.specs.Loading.{CanTake, IsSameButHeld};
@@ -20,8 +21,8 @@ struct Piece {
     reader: FrameReader,
     source: SureSource,
     len: u64,
-    /// The scalars of the Texts that the reader gave at once. It has room for one from the start, so that reading on
-    /// wants no memory for it.
+    /// The scalars of the Texts that the reader gave at once. It has room for one from the start, so that no read
+    /// fails for lack of it.
     text: Vec<char>,
 }
 
@@ -48,7 +49,7 @@ impl Piece {
         })
     }
 
-    /// Takes in the next operations. Where no whole frame is left, the answer is how many bytes the frames until there
+    /// Delivers the next operations. Where no whole frame is left, it returns how many bytes the frames before that
     /// have.
     fn take_next(&mut self, loading: &mut Loading) -> Result<Option<u64>, Stop>
         requires no_fault { self.old.reader.fault ≡ None }
@@ -81,14 +82,14 @@ impl Piece {
             Err(FrameFault::CutShort(offset)) => Ok(Some(offset)),
             Err(FrameFault::NoMemory) => Err(Stop::NoMemory),
             Err(FrameFault::BadFrame(_)) => Err(Stop::Bad),
-            // The piece is in memory, and within the limit.
+            // Neither occurs: the piece is in memory, and within the limit.
             Err(FrameFault::ReadFault) => Err(Stop::Bad),
             Err(FrameFault::TooLong) => Err(Stop::Bad),
         }
     }
 }
 
-/// Takes the whole frames at the front of a piece in, and answers how many bytes they have.
+/// Delivers the whole frames at the front of a piece, and returns how many bytes they have.
 pub(crate) fn take_piece(
     alloc: Global,
     bytes: Vec<u8>,

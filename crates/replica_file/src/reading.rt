@@ -1,25 +1,55 @@
-ghost use Rattle.std.specs.Prelude.{◌≡◌, ◌+◌, ◌<◌, ◌≤◌, ◌^◌, ◌≢◌, length, take, drop, vec_len, IsErr, IfOk, OnOk, IfSome};
+//! Reads from a disk until the buffer is full or the file ends.
+ghost use Rattle.std.specs.Prelude.{◌≡◌, ◌+◌, ◌<◌, ◌≤◌, ◌^◌, length, take, drop, vec_len, IsErr, IfOk, OnOk, IfSome};
 ghost use Rattle.replica_file.specs.Looks.{LooksOnly, ReadsMore, ReadsNoFurther};
 
-use crate::stop::Stop;
 use fugue_ids::{Failed, NoMemory};
 use outer_ports::Disk;
 use std::alloc::Global;
 
-/// The bytes from an offset on: as many as are asked for, or as there are.
-pub(crate) fn read_piece<H: Disk>(
+/// Why a file's bytes were not read.
+#[derive(Clone, Copy)]
+pub enum ReadFault {
+    /// A read failed, and the disk's count of faults rose.
+    DiskFault,
+    /// Memory ran out, before anything was read.
+    NoMemory,
+}
+
+impl From<Failed> for ReadFault {
+    ghost use Rattle.std.specs.Prelude.{◌≡◌};
+    ghost use Rattle.replica_file.specs.declared.reading.ReadFault.TheVariants.{DiskFault};
+
+    ghost from_gives = { λ _ fault. fault ≡ DiskFault };
+
+    fn from(_: Failed) -> ReadFault {
+        ReadFault::DiskFault
+    }
+}
+
+impl From<NoMemory> for ReadFault {
+    ghost use Rattle.std.specs.Prelude.{◌≡◌};
+    ghost use Rattle.replica_file.specs.declared.reading.ReadFault.TheVariants.{NoMemory as NoMemoryFound};
+
+    ghost from_gives = { λ _ fault. fault ≡ NoMemoryFound };
+
+    fn from(_: NoMemory) -> ReadFault {
+        ReadFault::NoMemory
+    }
+}
+
+/// The bytes of a file from an offset on: as many as are asked for, or as there are.
+pub fn read_piece<H: Disk>(
     alloc: Global,
     disk: &mut H,
     at: u64,
     size: usize,
-) -> Result<Vec<u8>, Stop>
+) -> Result<Vec<u8>, ReadFault>
     requires { at + size < 2 ^ 64 }
-    ensures told { IfOk result (λ piece. IfSome (H.seen disk.old).past (λ h.
+    ensures specified { IfOk result (λ piece. IfSome (H.seen disk.old).past (λ h.
         piece.items ≡ take size (drop at h.last.seen))) }
     ensures bound { IfOk result (λ piece. vec_len piece ≤ size) }
-    ensures looks { LooksOnly (H.seen disk.old) (H.seen disk.new) (result ≡ Err Stop.Disk) }
+    ensures looks { LooksOnly (H.seen disk.old) (H.seen disk.new) (result ≡ Err ReadFault.DiskFault) }
     ensures reach { OnOk result (ReadsNoFurther (at + size) (H.seen disk.old) (H.seen disk.new)) }
-    ensures not_bad { result ≢ Err Stop.Bad }
 {
     let mut piece = zeros(alloc, size)?;
     let count = read_from(disk, at, &mut piece)?;
@@ -40,7 +70,7 @@ fn zeros(alloc: Global, size: usize) -> Result<Vec<u8>, NoMemory>
 pub(crate) fn read_from<H: Disk>(disk: &mut H, at: u64, buf: &mut [u8]) -> Result<usize, Failed>
     requires { at + length buf.old < 2 ^ 64 }
     ensures bound { IfOk result (λ n. n ≤ length buf.new) }
-    ensures told { IfOk result (λ n. IfSome (H.seen disk.old).past (λ h.
+    ensures specified { IfOk result (λ n. IfSome (H.seen disk.old).past (λ h.
         take n buf.new ≡ take (length buf.new) (drop at h.last.seen))) }
     ensures looks { LooksOnly (H.seen disk.old) (H.seen disk.new) (IsErr result) }
     ensures reach { OnOk result (ReadsNoFurther (at + length buf.new) (H.seen disk.old) (H.seen disk.new)) }

@@ -1,3 +1,4 @@
+//! One record of a file: reads its word, delivers the operations of its frames, reads the next commit byte.
 ghost use Rattle.std.specs.Prelude.{◌≡◌, ◌≢◌, ◌⊎◌, ◌↔◌, ◌+◌, ◌<◌, ◌≤◌, ◌^◌, ℕ, length, drop, vec_len, vec_capacity, IfSome, IfOk, OnOk, None};
 ghost use Rattle.origin_model.specs.declared.files.TheConstants.{LONGEST_BATCH};
 ghost use Rattle.origin_model.specs.declared.grammar.Grammar.{Grammar as AnyGrammar};
@@ -18,8 +19,8 @@ use origin_model::{Grammar, LONGEST_BATCH, TAG_UNIT};
 use outer_ports::Disk;
 use std::alloc::Global;
 
-/// Takes the open slot in whose gate stands at this offset, and finds the next gate. There is room for a moment more
-/// then.
+/// Delivers the operations of the open slot whose gate stands at this offset, and reads the next gate. Then `moments`
+/// has room for one more.
 pub(crate) fn take_slot<H: Disk>(
     alloc: Global,
     disk: &mut H,
@@ -45,23 +46,23 @@ pub(crate) fn take_slot<H: Disk>(
     ensures moments { OnOk result (moments.new.items ≡ moments.old.items) }
 {
     let word = read_word(disk, at + 1)?;
-    // A moment is noted where operations are accepted. There is room for it before the first one is read.
+    // If operations are accepted, a moment is recorded: its room is made before the first one is read.
     make_room(moments)?;
     take_frames(alloc, disk, at + 5, word, loading)?;
     read_gate(disk, at + 5 + word.len)
 }
 
-/// What a slot's word says: by which grammar its bytes are read, and how many they are.
+/// The word of a slot: the grammar of the frames of its batch, and how many bytes they have.
 #[derive(Clone, Copy)]
 pub(crate) struct Word {
     pub(crate) grammar: Grammar,
     pub(crate) len: u64,
 }
 
-/// The word of a slot.
+/// Reads the word of a slot.
 fn read_word<H: Disk>(disk: &mut H, at: u64) -> Result<Word, Stop>
     requires { at + 4 < 2 ^ 64 }
-    ensures told { IfOk result (λ word. IfSome (H.seen disk.old).past (λ h. IsWord h.last.seen at word)) }
+    ensures specified { IfOk result (λ word. IfSome (H.seen disk.old).past (λ h. IsWord h.last.seen at word)) }
     ensures short { IfOk result (λ word. word.len ≤ LONGEST_BATCH) }
     ensures bad { result ≡ Err Stop.Bad → IfSome (H.seen disk.old).past (λ h. HasNoWord h.last.seen at) }
     ensures no_memory { result ≢ Err Stop.NoMemory }
@@ -95,10 +96,10 @@ fn grammar_of(tag: u32) -> Option<Grammar>
     }
 }
 
-/// The gate at this offset.
+/// Reads the gate at this offset.
 pub(crate) fn read_gate<H: Disk>(disk: &mut H, at: u64) -> Result<Gate, Stop>
     requires { at + 1 < 2 ^ 64 }
-    ensures told { IfOk result (λ gate. IfSome (H.seen disk.old).past (λ h. IsGate h.last.seen gate)) }
+    ensures specified { IfOk result (λ gate. IfSome (H.seen disk.old).past (λ h. IsGate h.last.seen gate)) }
     ensures at { IfOk result (λ gate. gate.at ≡ at) }
     ensures bad { result ≡ Err Stop.Bad → IfSome (H.seen disk.old).past (λ h. length h.last.seen ≤ at) }
     ensures no_memory { result ≢ Err Stop.NoMemory }

@@ -1,3 +1,4 @@
+//! The loop over the records of a file, up to the first commit byte that is not set.
 ghost use Rattle.std.specs.Prelude.{◌≡◌, ◌+◌, ◌*◌, ◌<◌, ◌≤◌, true, IfSome, IfOk, IfErr, OnOk};
 ghost use Rattle.replica_file.specs.Ends.{IsWithinReach, farthest_gate};
 ghost use Rattle.replica_file.specs.Loading.{CanTake, IsSameButHeld};

@@ -1,3 +1,5 @@
+//! `Stop`: why a header or a record is not read: corrupt, disk failed, or out of memory.
+use crate::reading::ReadFault;
 use fugue_ids::{Failed, NoMemory};
 
 /// Why the slots of a file are not taken in any further.
@@ -28,5 +30,19 @@ impl From<NoMemory> for Stop {
 
     fn from(_: NoMemory) -> Stop {
         Stop::NoMemory
+    }
+}
+
+impl From<ReadFault> for Stop {
+    ghost use Rattle.std.specs.Prelude.{◌≡◌};
+    ghost use Rattle.replica_file.specs.Stops.{stop_of};
+
+    ghost from_gives = { λ fault stop. stop ≡ stop_of fault };
+
+    fn from(fault: ReadFault) -> Stop {
+        match fault {
+            ReadFault::DiskFault => Stop::Disk,
+            ReadFault::NoMemory => Stop::NoMemory,
+        }
     }
 }

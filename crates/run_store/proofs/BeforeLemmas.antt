@@ -12,7 +12,7 @@ use Rattle.std.proofs.lemmas.List.{map-append}
 use Rattle.std.proofs.lemmas.Option.{none-some}
 use Rattle.run_store.specs.Cells.{cell_of, cell_ids, keyed_cells}
 use Rattle.run_store.specs.NewCells.{cell_before}
-use Rattle.run_store.specs.Runs.{AreRuns, Kept, cells_in}
+use Rattle.run_store.specs.Runs.{AreRuns, RunsView, cells_in}
 use Rattle.run_store.specs.declared.cell.Cell.{Cell}
 use Rattle.run_store.proofs.CellLemmas.{cell-at, front-at, index-at, others-front}
 use Rattle.run_store.proofs.PlaceLemmas.{first-cells, key-there, last-keyed, value-there}
@@ -100,7 +100,7 @@ module _ (cs : List Cell) (d : AllPairs (λ x y. x ≢ y) (cell_ids cs)) (x : Id
       ]
 
 -- the first cell is the key of a run
-pub first-key : (r : Kept) → AreRuns r → (x : Identifier) → first_id (keyed_cells (cells_in r)) ≡ Some x → is_some (value_under x r.rope) ≡ true
+pub first-key : (r : RunsView) → AreRuns r → (x : Identifier) → first_id (keyed_cells (cells_in r)) ≡ Some x → is_some (value_under x r.rope) ≡ true
 first-key r s x e =
     let p = key-there r.rope 0 x (sym (first-cells r.letters r.count r.rope s.each) ∙ e) in
     ap is_some (value-there r s 0 x p.0 p.1)

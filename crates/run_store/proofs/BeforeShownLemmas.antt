@@ -13,7 +13,7 @@ use Rattle.node_rope.specs.Items.{value_under}
 use Rattle.node_rope.specs.Places.{StandsAt, weight_sum}
 use Rattle.run_store.specs.Cells.{cell_ids, cells_shown, shown_before}
 use Rattle.run_store.specs.Heads.{typed_cells}
-use Rattle.run_store.specs.Runs.{AreRuns, IsRun, IsCellSpot, Kept, all_cells, cells_in, first_of, letters_of, visible_weight}
+use Rattle.run_store.specs.Runs.{AreRuns, IsRun, IsCellSpot, RunsView, all_cells, cells_in, first_of, letters_of, visible_weight}
 use Rattle.run_store.specs.declared.cell.Cell.{Cell}
 use Rattle.run_store.specs.declared.run.Run.{Run}
 use Rattle.run_store.proofs.CellLemmas.{Others, index-at}
@@ -41,7 +41,7 @@ shown-few (c ∷ cs) = elim (cases_Bool c.hidden) [
 abbrev pub within : Run → ℕ → ℕ
 within run o = if run.hidden then 0 else o
 
-module _ (r : Kept) (s : AreRuns r) (x : Identifier) (run : Run) (o : ℕ) (spot : IsCellSpot r.rope x run o) (i : ℕ) (stands : StandsAt r.rope i run.id) where
+module _ (r : RunsView) (s : AreRuns r) (x : Identifier) (run : Run) (o : ℕ) (spot : IsCellSpot r.rope x run o) (i : ℕ) (stands : StandsAt r.rope i run.id) where
   pub shown_before-spot : shown_before (cells_in r) x ≡ weight_sum visible_weight (take i r.rope) + within run o
   shown_before-spot =
       let L = r.letters in
@@ -65,7 +65,7 @@ module _ (r : Kept) (s : AreRuns r) (x : Identifier) (run : Run) (o : ℕ) (spot
       ∙ (λ j. first j + own j)
 
 -- the runs before one show no more cells than there may be
-pub weight-few : (r : Kept) → AreRuns r → (run : Run) (i : ℕ) → StandsAt r.rope i run.id → value_under run.id r.rope ≡ Some run
+pub weight-few : (r : RunsView) → AreRuns r → (run : Run) (i : ℕ) → StandsAt r.rope i run.id → value_under run.id r.rope ≡ Some run
     → weight_sum visible_weight (take i r.rope) ≤ MOST_OPERATIONS
 weight-few r s run i stands held =
     let spot : IsCellSpot r.rope run.id run 0 = record {

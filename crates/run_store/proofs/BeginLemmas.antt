@@ -10,7 +10,7 @@ use Rattle.node_rope.specs.Items.{value_under}
 use Rattle.run_store.specs.Beginning.{CanBegin, begun_run, placed_at}
 use Rattle.run_store.specs.Growth.{AreGrown, MayComeTo, inserted_at}
 use Rattle.run_store.specs.Heads.{typed_cells}
-use Rattle.run_store.specs.Runs.{AreRuns, IsRun, Kept, all_cells, cells_in, cells_of}
+use Rattle.run_store.specs.Runs.{AreRuns, IsRun, RunsView, all_cells, cells_in, cells_of}
 use Rattle.run_store.specs.declared.insert.Beginning.{Beginning}
 use Rattle.run_store.specs.declared.insert.Beginning.TheVariants.{Before, Behind, First}
 use Rattle.run_store.specs.declared.cell.Head.{Head}
@@ -24,14 +24,14 @@ use Rattle.run_store.proofs.RopeLemmas.{after-at, before-at, found}
 use Rattle.run_store.proofs.RunsLemmas.{Item, cells-append, few-runs, kept-run, keys-apart}
 
 -- without cells there is no run
-pub no-runs : (r : Kept) → AreRuns r → cells_in r ≡ [] → r.rope ≡ []
+pub no-runs : (r : RunsView) → AreRuns r → cells_in r ≡ [] → r.rope ≡ []
 no-runs r s none = empty r.rope (omega (arith, few-runs r s, s.counted, ap length none))
   where
     empty : (xs : List Item) → length xs ≤ 0 → xs ≡ []
     empty [] l = refl
     empty (x ∷ xs) l = absurd (omega (arith, l))
 
-module _ (r : Kept) (s : AreRuns r) (h : Head) (text : List ℕ) (new : MayComeTo (cells_in r) h (length text)) (alone : Run)
+module _ (r : RunsView) (s : AreRuns r) (h : Head) (text : List ℕ) (new : MayComeTo (cells_in r) h (length text)) (alone : Run)
     (e : alone ≡ alone_run r s h text new) where
   abbrev new_letters : List (List ℕ)
   new_letters = letters_begun r s h text new
@@ -39,10 +39,10 @@ module _ (r : Kept) (s : AreRuns r) (h : Head) (text : List ℕ) (new : MayComeT
   abbrev new_item : Item
   new_item = (h.id, alone)
 
-  abbrev with_rope : List Item → Kept
+  abbrev with_rope : List Item → RunsView
   with_rope rope = record { rope = rope; letters = new_letters; count = r.count + length text }
 
-  abbrev pub begun_runs : Beginning → Kept
+  abbrev pub begun_runs : Beginning → RunsView
   begun_runs at = with_rope (placed_at at new_item r.rope)
 
   -- what the runs are once the new one begins there

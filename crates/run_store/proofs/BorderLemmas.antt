@@ -16,7 +16,7 @@ use Rattle.node_rope.specs.Places.{StandsAt}
 use Rattle.run_store.specs.Borders.{IsBorder, IsHiding, IsMove, IsTakenFirst, IsTakenLast, run_continues, last_shown, border_shifted, together}
 use Rattle.run_store.specs.Cells.{cells_hiding}
 use Rattle.run_store.specs.Heads.{head_behind, typed_cells}
-use Rattle.run_store.specs.Runs.{AreRuns, IsRun, Kept, all_cells, cells_in, first_of, run_behind, run_to}
+use Rattle.run_store.specs.Runs.{AreRuns, IsRun, RunsView, all_cells, cells_in, first_of, run_behind, run_to}
 use Rattle.run_store.specs.declared.cell.Cell.{Cell}
 use Rattle.run_store.specs.declared.run.Run.{Run}
 use Rattle.run_store.proofs.ContinueLemmas.{continued-is}
@@ -64,7 +64,7 @@ passage-is a b some t =
     ∙ ap (λ m. run_behind m (together a b)) n
 
 -- the next run of a rope, where it goes on from the one before it
-pub border-found : (r : Kept) → AreRuns r → (a b : Run) (k : Identifier) → value_under a.id r.rope ≡ Some a → (i : ℕ) × StandsAt r.rope i a.id × StandsAt r.rope (i + 1) k
+pub border-found : (r : RunsView) → AreRuns r → (a b : Run) (k : Identifier) → value_under a.id r.rope ≡ Some a → (i : ℕ) × StandsAt r.rope i a.id × StandsAt r.rope (i + 1) k
     → value_under k r.rope ≡ Some b → run_continues a b ≡ true → IsBorder r.rope a b
 border-found r s a b k held next v t =
     let i = next.0 in
@@ -79,7 +79,7 @@ border-found r s a b k held next v t =
       passage = passage-is a b (kept-run r s a.id a held).some t;
     }
 
-module _ (r : Kept) (s : AreRuns r) (a b : Run) (border : IsBorder r.rope a b) where
+module _ (r : RunsView) (s : AreRuns r) (a b : Run) (border : IsBorder r.rope a b) where
   abbrev whole : Run
   whole = together a b
 
@@ -187,7 +187,7 @@ module _ (r : Kept) (s : AreRuns r) (a b : Run) (border : IsBorder r.rope a b) w
         ap (put_under a.id (run_to n a)) rekeyed-is
         ∙ put-at a.id a (run_to n a) border.before (((rest n).id, rest n) ∷ border.behind) front-apart.0 (rest-other, front-apart.1.1)
 
-    abbrev pub shifted_runs : Kept
+    abbrev pub shifted_runs : RunsView
     shifted_runs = record { rope = border_shifted n a b r.rope; letters = r.letters; count = r.count }
 
     shifted-each : All P (border_shifted n a b r.rope)

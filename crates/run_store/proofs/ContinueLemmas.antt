@@ -10,7 +10,7 @@ use Rattle.run_store.specs.Cells.{cell_of_origin, cell_ids}
 use Rattle.run_store.specs.Growth.{MayComeTo}
 use Rattle.run_store.specs.Heads.{head_behind, cell_with_letter}
 use Rattle.run_store.specs.NewCells.{cell_depth, forest_beside, has_right, is_continued, shares_right}
-use Rattle.run_store.specs.Runs.{AreRuns, Kept, cells_in, first_of}
+use Rattle.run_store.specs.Runs.{AreRuns, RunsView, cells_in, first_of}
 use Rattle.run_store.specs.declared.cell.Head.{Head}
 use Rattle.run_store.specs.declared.run.Run.{Run}
 use Rattle.run_store.proofs.FindLemmas.{cell-found, spot-held}
@@ -41,7 +41,8 @@ continued-is last h ch t =
 pub next-by : (b : Bool) (last k h : Head) → b ≡ is_continued (Some (cell_with_letter last 0)) h.id h.left h.right → b ≡ true → last ≡ k → IsNext k h
 next-by b last k h e t same = subst (λ (j : Head). IsNext j h) same (continued-is last h 0 (sym e ∙ t))
 
-module _ (r : Kept) (s : AreRuns r) (run : Run) (o : ℕ) (v : value_under run.id r.rope ≡ Some run) (l : o < run.len) (h : Head) (count : ℕ) (new : MayComeTo (cells_in r) h count)
+module _ (r : RunsView) (s : AreRuns r) (run : Run) (o : ℕ) (v : value_under run.id r.rope ≡ Some run) (l : o < run.len) (h : Head) (count : ℕ)
+    (new : MayComeTo (cells_in r) h count)
     (n : IsNext (head_behind o (first_of run)) h) where
   abbrev last : Head
   last = head_behind o (first_of run)

@@ -10,7 +10,7 @@ use Rattle.node_rope.specs.Beside.{put_under}
 use Rattle.node_rope.specs.Items.{value_under}
 use Rattle.run_store.specs.Cells.{cell_ids}
 use Rattle.run_store.specs.Heads.{head_behind, typed_cells}
-use Rattle.run_store.specs.Runs.{AreRuns, IsRun, Kept, all_cells, cells_in, cells_of, first_of, rope_parted, parted_as, run_behind, run_to}
+use Rattle.run_store.specs.Runs.{AreRuns, IsRun, RunsView, all_cells, cells_in, cells_of, first_of, rope_parted, parted_as, run_behind, run_to}
 use Rattle.run_store.specs.Stored.{IsRaisedBy}
 use Rattle.run_store.specs.declared.run.Run.{Run}
 use Rattle.run_store.proofs.EitherLemmas.{either, kept-raised, one-raised, where-ok}
@@ -20,14 +20,14 @@ use Rattle.run_store.proofs.RopeLemmas.{after-at, found, keys-append, put-at, va
 use Rattle.run_store.proofs.RunsLemmas.{Item, cells-append, few-runs, kept-run, keys-apart, length-letters}
 
 -- the numbers of a cell of a run fit
-pub cell-fits : (r : Kept) → AreRuns r → (k : Identifier) (run : Run) (o : ℕ) → value_under k r.rope ≡ Some run → o < run.len
+pub cell-fits : (r : RunsView) → AreRuns r → (k : Identifier) (run : Run) (o : ℕ) → value_under k r.rope ≡ Some run → o < run.len
     → (run.id.counter + o < 2 ^ 32) × (run.key.depth + o < 2 ^ 32) × (run.start + o < 2 ^ 32)
 cell-fits r s k run o v l =
     let x = kept-run r s k run v in
     (omega (arith, x.counters, l), omega (arith, x.depths, l, s.few), omega (arith, x.ends, l, s.few))
 
 -- what a cut leaves, by its answer: the same cells, and the two parts of the run where it was made
-pub record IsCut {T E : Type 0} (res : Result T E) (run : Run) (at : ℕ) (old new : Kept) : Type 0 where
+pub record IsCut {T E : Type 0} (res : Result T E) (run : Run) (at : ℕ) (old new : RunsView) : Type 0 where
   pub cells : cells_in new ≡ cells_in old
   pub front : OnOk res (value_under run.id new.rope ≡ Some (run_to at run))
   pub raised : IsRaisedBy 1 (length old.rope) (length new.rope)
@@ -62,14 +62,14 @@ module _ (L : List (List ℕ)) (n : ℕ) (run : Run) (at : ℕ) (this : IsRun L 
         forests = omega (arith, f);
       }
 
-module _ (r : Kept) (s : AreRuns r) (run : Run) (at : ℕ) (v : value_under run.id r.rope ≡ Some run) (behind : 0 < at) (before : at < run.len) where
+module _ (r : RunsView) (s : AreRuns r) (run : Run) (at : ℕ) (v : value_under run.id r.rope ≡ Some run) (behind : 0 < at) (before : at < run.len) where
   abbrev pub rest_id : Identifier
   rest_id = (head_behind at (first_of run)).id
 
   abbrev pub cut_rope : List Item
   cut_rope = rope_parted at run r.rope
 
-  abbrev pub cut_runs : Kept
+  abbrev pub cut_runs : RunsView
   cut_runs = record { rope = rope_parted at run r.rope; letters = r.letters; count = r.count }
 
   this : IsRun r.letters r.count (run.id, run)
@@ -174,11 +174,11 @@ module _ (r : Kept) (s : AreRuns r) (run : Run) (at : ℕ) (v : value_under run.
       → AreRuns (record { rope = now; letters = r.letters; count = r.count })
   cut-left res now ok err = either (λ (xs : List Item). AreRuns (record { rope = xs; letters = r.letters; count = r.count })) res cut_rope r.rope now ok err cut-sound s
 
-  pub is-cut : {T E : Type 0} (res : Result T E) (now : Kept) → OnOk res (now ≡ cut_runs) → OnErr res (now ≡ r) → IsCut res run at r now
+  pub is-cut : {T E : Type 0} (res : Result T E) (now : RunsView) → OnOk res (now ≡ cut_runs) → OnErr res (now ≡ r) → IsCut res run at r now
   is-cut res now ok err = record {
-    cells = either (λ (n : Kept). cells_in n ≡ cells_in r) res cut_runs r now ok err cut-cells refl;
-    front = where-ok (λ (n : Kept). value_under run.id n.rope ≡ Some (run_to at run)) res cut_runs now ok front-held;
-    raised = either (λ (n : Kept). IsRaisedBy 1 (length r.rope) (length n.rope)) res cut_runs r now ok err
+    cells = either (λ (n : RunsView). cells_in n ≡ cells_in r) res cut_runs r now ok err cut-cells refl;
+    front = where-ok (λ (n : RunsView). value_under run.id n.rope ≡ Some (run_to at run)) res cut_runs now ok front-held;
+    raised = either (λ (n : RunsView). IsRaisedBy 1 (length r.rope) (length n.rope)) res cut_runs r now ok err
         (one-raised (length r.rope) (length cut_rope) cut-longer) (kept-raised 1 (length r.rope));
   }
 

@@ -8,7 +8,7 @@ use Rattle.fugue_ids.proofs.IdentifierLemmas.{id_eq-false, id_eq-true}
 use Rattle.node_rope.specs.Items.{value_under}
 use Rattle.run_store.specs.Cells.{cell_ids}
 use Rattle.run_store.specs.Heads.{head_behind}
-use Rattle.run_store.specs.Runs.{AreRuns, IsCellSpot, Kept, all_cells, cells_in, cells_of, first_of, letters_of}
+use Rattle.run_store.specs.Runs.{AreRuns, IsCellSpot, RunsView, all_cells, cells_in, cells_of, first_of, letters_of}
 use Rattle.run_store.specs.Standings.{cells_to}
 use Rattle.run_store.specs.declared.run.Run.{Run}
 use Rattle.run_store.proofs.HeadLemmas.{length-typed}
@@ -38,7 +38,7 @@ compared i j v w less more same = elim (cases_order i j) [
   ]
 ]
 
-module _ (r : Kept) (s : AreRuns r) where
+module _ (r : RunsView) (s : AreRuns r) where
   pub run-width : (i j : ℕ) (x : Item) → slice_get r.rope i ≡ Some x → i < j → cells_to r.letters r.rope i + x.1.len ≤ cells_to r.letters r.rope j
   run-width i j x e l =
       omega (

@@ -12,7 +12,7 @@ use Rattle.std.proofs.lemmas.List.{map-append}
 use Rattle.std.proofs.lemmas.Option.{none-some}
 use Rattle.run_store.specs.Cells.{cell_of, cell_ids}
 use Rattle.run_store.specs.Heads.{head_behind}
-use Rattle.run_store.specs.Runs.{AreRuns, IsCellSpot, Kept, cells_in, first_of}
+use Rattle.run_store.specs.Runs.{AreRuns, IsCellSpot, RunsView, cells_in, first_of}
 use Rattle.run_store.specs.declared.cell.Cell.{Cell}
 use Rattle.run_store.specs.declared.run.Run.{Run}
 use Rattle.run_store.proofs.CellLemmas.{cell-at, cell-none, others-absent}
@@ -21,7 +21,7 @@ use Rattle.run_store.proofs.HeadLemmas.{behind-depth, behind-id}
 use Rattle.run_store.proofs.CutLemmas.{cell-fits}
 use Rattle.run_store.proofs.RunsLemmas.{cell_there, cells_before, cells_behind, kept-run, located}
 
-module _ (r : Kept) (s : AreRuns r) (x : Identifier) where
+module _ (r : RunsView) (s : AreRuns r) (x : Identifier) where
   pub no-floor : IsFloor r.rope x None → Contains (cell_ids (cells_in r)) x → ⊥
   no-floor f c = let p = contains-run r.letters r.count r.rope x s.each c in none-some p.run.id (floor-is r s x None f p).0
 

@@ -15,7 +15,7 @@ use Rattle.node_rope.specs.Items.{value_under}
 use Rattle.node_rope.specs.Places.{IsFloor}
 use Rattle.run_store.specs.Cells.{cell_ids}
 use Rattle.run_store.specs.Heads.{head_behind, next_head, typed_cells}
-use Rattle.run_store.specs.Runs.{AreRuns, IsRun, Kept, all_cells, cells_of, first_of, letters_of}
+use Rattle.run_store.specs.Runs.{AreRuns, IsRun, RunsView, all_cells, cells_of, first_of, letters_of}
 use Rattle.run_store.specs.declared.cell.Cell.{Cell}
 use Rattle.run_store.specs.declared.cell.Head.{Head}
 use Rattle.run_store.specs.declared.run.Run.{Run}
@@ -70,7 +70,7 @@ between-cells h o f up low =
     (f.counter - h.id.counter, omega (arith, d), (λ i. record { replica = r i; counter = e i }) ∙ sym (behind-id (f.counter - h.id.counter) h))
 
 -- the key of the run of a cell is the floor of its identifier
-pub floor-is : (r : Kept) → AreRuns r → (x : Identifier) (f : Option Identifier) → IsFloor r.rope x f → (p : IsCellOf r.letters r.rope x)
+pub floor-is : (r : RunsView) → AreRuns r → (x : Identifier) (f : Option Identifier) → IsFloor r.rope x f → (p : IsCellOf r.letters r.rope x)
     → (f ≡ Some p.run.id) × (value_under p.run.id r.rope ≡ Some p.run)
 floor-is r s x f floor p = (by_floor f floor, there)
   where

@@ -6,7 +6,7 @@ use Rattle.fugue_ids.specs.Keys.{HasKey}
 use Rattle.fugue_ids.specs.Listed.{index_of}
 use Rattle.run_store.specs.Cells.{cell_ids, keyed_cells}
 use Rattle.run_store.specs.Heads.{head_behind}
-use Rattle.run_store.specs.Runs.{AreRuns, Kept, cells_in, first_of}
+use Rattle.run_store.specs.Runs.{AreRuns, RunsView, cells_in, first_of}
 use Rattle.run_store.specs.Standings.{BeginsBehind, EndsBefore, IsFoundCell, found_at, index_at}
 use Rattle.run_store.specs.declared.run.Run.{Run}
 use Rattle.run_store.specs.declared.standing.Found.{Found}
@@ -16,7 +16,7 @@ use Rattle.run_store.proofs.KeyLemmas.{has-key}
 use Rattle.run_store.proofs.PlaceLemmas.{value-there}
 use Rattle.run_store.proofs.RunsLemmas.{cell_there, kept-run}
 
-module _ (r : Kept) (s : AreRuns r) where
+module _ (r : RunsView) (s : AreRuns r) where
   -- a cell of the run at a place
   pub found-in : (run : Run) (i o : ℕ) (f : Found) → f ≡ found_at i o (head_behind o (first_of run)) → slice_get r.rope i ≡ Some (run.id, run) → o < run.len → IsFoundCell r.rope f
   found-in run i o f e at inside =

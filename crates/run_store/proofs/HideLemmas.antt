@@ -13,7 +13,7 @@ use Rattle.node_rope.specs.Items.{value_under}
 use Rattle.run_store.specs.Cells.{cell_hiding, cell_ids, cells_hiding, is_hidden_cell}
 use Rattle.run_store.specs.Changes.{HidesPart, MakesCells}
 use Rattle.run_store.specs.Heads.{head_behind, cell_with_letter, next_head, typed_cells}
-use Rattle.run_store.specs.Runs.{AreLetters, AreRuns, IsRun, IsCellSpot, Kept, all_cells, cells_in, first_of, letters_of, rope_parted}
+use Rattle.run_store.specs.Runs.{AreLetters, AreRuns, IsRun, IsCellSpot, RunsView, all_cells, cells_in, first_of, letters_of, rope_parted}
 use Rattle.run_store.specs.Stored.{IsRaisedBy}
 use Rattle.run_store.specs.declared.cell.Cell.{Cell}
 use Rattle.run_store.specs.declared.cell.Head.{Head}
@@ -52,7 +52,8 @@ hiding-more (suc m) n x cs =
     ∙ ap (λ k. cells_hiding x k cs) e
 
 -- a store whose cells are those of another one with some hidden
-pub marked-sound : (r : Kept) → AreRuns r → (x : Identifier) (n : ℕ) (now : Kept) → now.count ≡ r.count → now.letters ≡ r.letters → All (IsRun now.letters now.count) now.rope
+pub marked-sound : (r : RunsView) → AreRuns r → (x : Identifier) (n : ℕ) (now : RunsView) → now.count ≡ r.count → now.letters ≡ r.letters
+    → All (IsRun now.letters now.count) now.rope
     → cells_in now ≡ cells_hiding x n (cells_in r) → AreRuns now
 marked-sound r s x n now count letters each cells = record {
   each = each;
@@ -95,7 +96,7 @@ marked-run L n k run m this = record {
 }
 
 -- the mark of the cell at a spot is that of its run
-module _ (r : Kept) (s : AreRuns r) (x : Identifier) (run : Run) (o : ℕ) (spot : IsCellSpot r.rope x run o) where
+module _ (r : RunsView) (s : AreRuns r) (x : Identifier) (run : Run) (o : ℕ) (spot : IsCellSpot r.rope x run o) where
   pub spot-hidden : is_hidden_cell (cells_in r) x ≡ run.hidden
   spot-hidden =
       let l = located r s run o spot.held spot.inside in
@@ -136,11 +137,11 @@ module _ (r : Kept) (s : AreRuns r) (x : Identifier) (run : Run) (o : ℕ) (spot
       ∙ (λ i. cells_hiding (sym spot.is i) (there i) (cells_in r))
 
 -- a run, hidden
-module _ (r : Kept) (s : AreRuns r) (run : Run) (v : value_under run.id r.rope ≡ Some run) where
+module _ (r : RunsView) (s : AreRuns r) (run : Run) (v : value_under run.id r.rope ≡ Some run) where
   abbrev pub hidden_run : Run
   hidden_run = record run { hidden = true }
 
-  abbrev pub hidden_runs : Kept
+  abbrev pub hidden_runs : RunsView
   hidden_runs = record { rope = put_under run.id hidden_run r.rope; letters = r.letters; count = r.count }
 
   this : IsRun r.letters r.count (run.id, run)
@@ -179,18 +180,18 @@ module _ (r : Kept) (s : AreRuns r) (run : Run) (v : value_under run.id r.rope �
   hiding-length = length-map r.rope (λ (x : Item). (x.0, cond (id_eq x.0 run.id) hidden_run x.1))
 
 -- a part of a run, hidden
-module _ (r : Kept) (s : AreRuns r) (run : Run) (at : ℕ) (v : value_under run.id r.rope ≡ Some run) (behind : 0 < at) (before : at < run.len) (part : Run)
+module _ (r : RunsView) (s : AreRuns r) (run : Run) (at : ℕ) (v : value_under run.id r.rope ≡ Some run) (behind : 0 < at) (before : at < run.len) (part : Run)
     (held : value_under part.id (rope_parted at run r.rope) ≡ Some part) where
-  abbrev cut : Kept
+  abbrev cut : RunsView
   cut = cut_runs r s run at v behind before
 
   sound : AreRuns cut
   sound = cut-sound r s run at v behind before
 
-  abbrev to : Kept
+  abbrev to : RunsView
   to = hidden_runs cut sound part held
 
-  abbrev with_rope : List Item → Kept
+  abbrev with_rope : List Item → RunsView
   with_rope xs = record { rope = xs; letters = r.letters; count = r.count }
 
   -- what a call left that puts it so, or changes nothing for want of memory
@@ -209,15 +210,16 @@ module _ (r : Kept) (s : AreRuns r) (run : Run) (at : ℕ) (v : value_under run.
           (hiding-cells cut sound part held ∙ ap (cells_hiding part.id part.len) (cut-cells r s run at v behind before));
       raised = either (λ (xs : List Item). IsRaisedBy 1 (length r.rope) (length xs)) res to.rope r.rope now made err
           (one-raised (length r.rope) (length to.rope) (hiding-length cut sound part held ∙ cut-longer r s run at v behind before)) (kept-raised 1 (length r.rope));
-      err = where-err (λ (xs : List Item). ◌≡◌ {A = Kept} (with_rope xs) r) res r.rope now err refl;
+      err = where-err (λ (xs : List Item). ◌≡◌ {A = RunsView} (with_rope xs) r) res r.rope now err refl;
     }
 
 -- by at most one run more is by at most two
-pub hides-makes : {T E : Type 0} (res : Result T E) (old cut new : Kept) (x : Identifier) (n : ℕ) → cells_in cut ≡ cells_in old → IsRaisedBy 1 (length old.rope) (length cut.rope)
+pub hides-makes : {T E : Type 0} (res : Result T E) (old cut new : RunsView) (x : Identifier) (n : ℕ) → cells_in cut ≡ cells_in old
+    → IsRaisedBy 1 (length old.rope) (length cut.rope)
     → HidesPart res cut new x n → MakesCells res old new (cells_hiding x n (cells_in old))
 hides-makes res old cut new x n cells more h = record {
   ok = on-ok res (cells_in new ≡ cells_hiding x n (cells_in cut)) (cells_in new ≡ cells_hiding x n (cells_in old)) (λ q. q ∙ ap (cells_hiding x n) cells) h.ok;
-  err = where-err (λ (z : Kept). cells_in z ≡ cells_in old) res cut new h.err cells;
+  err = where-err (λ (z : RunsView). cells_in z ≡ cells_in old) res cut new h.err cells;
   raised = any-ok res (IsRaisedBy 2 (length old.rope) (length new.rope)) (raised-twice 1 1 (length old.rope) (length cut.rope) (length new.rope) more h.raised);
-  refused = where-err (λ (z : Kept). IsRaisedBy 1 (length old.rope) (length z.rope)) res cut new h.err more;
+  refused = where-err (λ (z : RunsView). IsRaisedBy 1 (length old.rope) (length z.rope)) res cut new h.err more;
 }

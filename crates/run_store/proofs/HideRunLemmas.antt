@@ -6,12 +6,12 @@ use Rattle.fugue_ids.specs.Runs.{id_behind}
 use Rattle.run_store.specs.Cells.{cell_ids, cells_hiding, is_hidden_cell}
 use Rattle.run_store.specs.Changes.{HidesSome, IsHiddenTo}
 use Rattle.run_store.specs.Hiding.{HaveCells, AreHidden}
-use Rattle.run_store.specs.Runs.{Kept, cells_in}
+use Rattle.run_store.specs.Runs.{RunsView, cells_in}
 use Rattle.run_store.proofs.HideLemmas.{hiding-ids, hiding-more}
 
-module _ (old : Kept) (x : Identifier) (count : ℕ) where
+module _ (old : RunsView) (x : Identifier) (count : ℕ) where
   -- the first are hidden; where all were, nothing has changed
-  pub record IsHidingRun (now : Kept) (done : ℕ) : Type 0 where
+  pub record IsHidingRun (now : RunsView) (done : ℕ) : Type 0 where
     pub within : done ≤ count
     pub hidden : IsHiddenTo old x done 0 now
     pub again : AreHidden (cells_in old) x count → now ≡ old
@@ -19,18 +19,18 @@ module _ (old : Kept) (x : Identifier) (count : ℕ) where
   pub hiding-none : IsHidingRun old 0
   hiding-none = record { within = omega arith; hidden = record { cells = refl; raised = record { kept = omega arith; bound = omega arith } }; again = λ a. refl }
 
-  pub hiding-all : (now : Kept) (done : ℕ) → IsHidingRun now done → count ≤ done → IsHiddenTo old x count 0 now
+  pub hiding-all : (now : RunsView) (done : ℕ) → IsHidingRun now done → count ≤ done → IsHiddenTo old x count 0 now
   hiding-all now done w all = let e : done ≡ count = omega (arith, w.within, all) in subst (λ n. IsHiddenTo old x n 0 now) e w.hidden
 
-  module _ (now : Kept) (done : ℕ) (w : IsHidingRun now done) (less : done < count) where
+  module _ (now : RunsView) (done : ℕ) (w : IsHidingRun now done) (less : done < count) where
     pub next-held : HaveCells (cells_in old) x count → Contains (cell_ids (cells_in now)) (id_behind x done)
     next-held held = subst (λ ids. Contains ids (id_behind x done)) (sym (ap cell_ids w.hidden.cells ∙ hiding-ids done x (cells_in old))) (held done less)
 
-    module _ (next : Kept) (again : is_hidden_cell (cells_in now) (id_behind x done) ≡ true → next ≡ now) where
+    module _ (next : RunsView) (again : is_hidden_cell (cells_in now) (id_behind x done) ≡ true → next ≡ now) where
       pub stays-hidden : AreHidden (cells_in old) x count → next ≡ old
       stays-hidden a =
           let same = w.again a in
-          again (subst (λ (z : Kept). is_hidden_cell (cells_in z) (id_behind x done) ≡ true) (sym same) (a done less)) ∙ same
+          again (subst (λ (z : RunsView). is_hidden_cell (cells_in z) (id_behind x done) ≡ true) (sym same) (a done less)) ∙ same
 
       pub hiding-next : {E : Type 0} (n : ℕ) → HidesSome {E = E} (Ok n) now next (id_behind x done) (count - done) → IsHidingRun next (done + n)
       hiding-next n h =
@@ -43,7 +43,7 @@ module _ (old : Kept) (x : Identifier) (count : ℕ) where
             again = stays-hidden;
           }
 
-    pub hiding-stopped : {E : Type 0} (e : E) (next : Kept) → HidesSome {E = E} (Err e) now next (id_behind x done) (count - done) → IsHiddenTo old x done 1 next
+    pub hiding-stopped : {E : Type 0} (e : E) (next : RunsView) → HidesSome {E = E} (Err e) now next (id_behind x done) (count - done) → IsHiddenTo old x done 1 next
     hiding-stopped e next h =
         record {
           cells = h.err ∙ w.hidden.cells;

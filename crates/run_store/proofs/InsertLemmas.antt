@@ -12,7 +12,7 @@ use Rattle.fugue_ids.proofs.ListLemmas.{all_from_contains, all_pairs_across, all
 use Rattle.run_store.specs.Cells.{cell_ids}
 use Rattle.run_store.specs.Growth.{AreFresh, MayComeTo, inserted_at}
 use Rattle.run_store.specs.Heads.{head_behind, next_head, typed_cells}
-use Rattle.run_store.specs.Runs.{AreLetters, AreRuns, IsRun, Kept, all_cells, cells_in, cells_of, first_of, letters_of}
+use Rattle.run_store.specs.Runs.{AreLetters, AreRuns, IsRun, RunsView, all_cells, cells_in, cells_of, first_of, letters_of}
 use Rattle.run_store.specs.declared.cell.Cell.{Cell}
 use Rattle.run_store.specs.declared.cell.Head.{Head}
 use Rattle.run_store.specs.declared.run.Run.{Run}
@@ -82,7 +82,7 @@ distinct-inserted cs k h text d fresh =
     ]))))
 
 -- the place of the cell at a place of a run
-pub index-placed : (r : Kept) (front : List Item) (run : Run) (o : ℕ) (back : List Item) → IsPlaced r front run o back → o < run.len
+pub index-placed : (r : RunsView) (front : List Item) (run : Run) (o : ℕ) (back : List Item) → IsPlaced r front run o back → o < run.len
     → index_of (cell_ids (cells_in r)) (head_behind o (first_of run)).id ≡ length (all_cells r.letters front) + o
 index-placed r front run o back p l =
     let x = (head_behind o (first_of run)).id in
@@ -104,8 +104,9 @@ pub fresh-first : (cs : List Cell) (h : Head) (n : ℕ) → MayComeTo cs h n →
 fresh-first cs h n new m = new.fresh 0 new.some (subst (Contains (cell_ids cs)) (sym (none_behind h.id)) m)
 
 -- a new store whose cells are the old ones with new ones
-module _ (r : Kept) (s : AreRuns r) (h : Head) (text : List ℕ) (new : MayComeTo (cells_in r) h (length text)) where
-  pub joined-sound : (now : Kept) (k : ℕ) → k ≤ length (cells_in r) → All (IsRun now.letters now.count) now.rope → cells_in now ≡ inserted_at k (typed_cells h text) (cells_in r)
+module _ (r : RunsView) (s : AreRuns r) (h : Head) (text : List ℕ) (new : MayComeTo (cells_in r) h (length text)) where
+  pub joined-sound : (now : RunsView) (k : ℕ) → k ≤ length (cells_in r) → All (IsRun now.letters now.count) now.rope
+      → cells_in now ≡ inserted_at k (typed_cells h text) (cells_in r)
       → now.count ≡ r.count + length text → AreLetters now.letters now.count → AreRuns now
   joined-sound now k within each cells count letters =
       let n = ap length cells ∙ length-inserted (cells_in r) (typed_cells h text) k within in

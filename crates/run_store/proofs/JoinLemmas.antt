@@ -12,7 +12,7 @@ use Rattle.node_rope.specs.Items.{value_under}
 use Rattle.run_store.specs.Cells.{cell_ids}
 use Rattle.run_store.specs.Growth.{HasMoreLetters, MayComeTo, cells_inserted_before, cells_inserted_behind, inserted_at, last_id_of_run}
 use Rattle.run_store.specs.Heads.{head_behind, typed_cells}
-use Rattle.run_store.specs.Runs.{AreRuns, IsRun, Kept, all_cells, cells_in, cells_of, first_of, letters_of}
+use Rattle.run_store.specs.Runs.{AreRuns, IsRun, RunsView, all_cells, cells_in, cells_of, first_of, letters_of}
 use Rattle.run_store.specs.declared.cell.Cell.{Cell}
 use Rattle.run_store.specs.declared.cell.Head.{Head}
 use Rattle.run_store.specs.declared.run.Run.{Run}
@@ -24,7 +24,7 @@ use Rattle.run_store.proofs.PartLemmas.{all-between}
 use Rattle.run_store.proofs.RopeLemmas.{found, put-at, value-none}
 use Rattle.run_store.proofs.RunsLemmas.{Item, cells-append, few-runs, kept-run, keys-apart, keys-other, length-letters, placed}
 
-module _ (r : Kept) (s : AreRuns r) where
+module _ (r : RunsView) (s : AreRuns r) where
   -- a run, and where it stands
   module _ (run : Run) (front back : List Item) (is : r.rope ≡ front ++ (run.id, run) ∷ back) (this : IsRun r.letters r.count (run.id, run)) where
     abbrev pub to_run : List Cell
@@ -82,7 +82,7 @@ module _ (r : Kept) (s : AreRuns r) where
     -- a run with more letters
     module _ (run : Run) (v : value_under run.id r.rope ≡ Some run) (next : h ≡ head_behind run.len (first_of run)) (M : List (List ℕ)) (longer : Run)
         (il : HasMoreLetters r.letters M run text longer) where
-      abbrev pub extended : Kept
+      abbrev pub extended : RunsView
       extended = record { rope = put_under run.id longer r.rope; letters = M; count = r.count + length text }
 
       this : IsRun r.letters r.count (run.id, run)

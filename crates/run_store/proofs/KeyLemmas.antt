@@ -14,7 +14,7 @@ use Rattle.fugue_ids.specs.declared.key.Key.{Key}
 use Rattle.fugue_ids.specs.declared.limits.TheConstants.{MOST_OPERATIONS}
 use Rattle.run_store.specs.Cells.{cell_of, cell_ids, keyed_cells}
 use Rattle.run_store.specs.Heads.{next_head, typed_cells}
-use Rattle.run_store.specs.Runs.{AreRuns, IsRun, Kept, all_cells, cells_in, cells_of, first_of, letters_of}
+use Rattle.run_store.specs.Runs.{AreRuns, IsRun, RunsView, all_cells, cells_in, cells_of, first_of, letters_of}
 use Rattle.run_store.specs.declared.cell.Cell.{Cell}
 use Rattle.run_store.specs.declared.cell.Head.{Head}
 use Rattle.run_store.proofs.RunsLemmas.{Item, length-letters}
@@ -41,7 +41,7 @@ fit-runs L n few (x ∷ xs) a =
     (fit-runs L n few xs (All-tail (IsRun L n) x xs a)))
 
 -- the keys fit
-pub all-fit : (r : Kept) → AreRuns r → All IsFit (keyed_cells (cells_in r))
+pub all-fit : (r : RunsView) → AreRuns r → All IsFit (keyed_cells (cells_in r))
 all-fit r s = fit-runs r.letters r.count s.few r.rope s.each
 
 -- what the test of an identifier leaves to show of a key

@@ -12,7 +12,7 @@ use Rattle.node_rope.specs.Low.{last_low as last_run}
 use Rattle.node_rope.specs.Places.{last_low_key}
 use Rattle.run_store.specs.Cells.{keyed_cells}
 use Rattle.run_store.specs.Heads.{head_behind, rank_of, typed_cells}
-use Rattle.run_store.specs.Runs.{AreRuns, IsRun, IsCellSpot, Kept, all_cells, cells_in, cells_of, first_of, letters_of}
+use Rattle.run_store.specs.Runs.{AreRuns, IsRun, IsCellSpot, RunsView, all_cells, cells_in, cells_of, first_of, letters_of}
 use Rattle.run_store.specs.declared.run.Run.{Run}
 use Rattle.run_store.proofs.LowLemmas.{first-front, first-past, last-back, last-none-back, last-run-low, last-runs, last_in, run_rank}
 use Rattle.run_store.proofs.PlaceLemmas.{placed-at, value-there}
@@ -35,7 +35,7 @@ keyed-none : (o : Option Item) → None ≡ option_map (λ (x : Item). x.0) o �
 keyed-none None e = refl
 keyed-none (Some x) e = cc
 
-module _ (r : Kept) (s : AreRuns r) (k : Key) (fits : k.forest < 2 ^ 32) where
+module _ (r : RunsView) (s : AreRuns r) (k : Key) (fits : k.forest < 2 ^ 32) where
   few : r.count < 2 ^ 32
   few = omega (arith, s.few)
 

@@ -13,7 +13,7 @@ use Rattle.fugue_ids.proofs.PartedLemmas.{Apart}
 use Rattle.fugue_ids.proofs.ListLemmas.{all_pairs_head, all_pairs_tail, contains_cases, contains_here, contains_none, contains_there}
 use Rattle.run_store.specs.Cells.{cell_ids, keyed_cells}
 use Rattle.run_store.specs.Standings.{IsStandingPart, IsMemberWithin, begin_index, end_index}
-use Rattle.run_store.specs.Runs.{AreRuns, Kept, cells_in}
+use Rattle.run_store.specs.Runs.{AreRuns, RunsView, cells_in}
 use Rattle.run_store.specs.declared.standing.Found.{Found}
 use Rattle.run_store.specs.declared.standing.Part.{Part}
 use Rattle.run_store.proofs.KeyLemmas.{keyed-ids}
@@ -82,7 +82,7 @@ no-ids : (es : List Keyed) → ids_of es ≡ [] → es ≡ []
 no-ids [] e = refl
 no-ids (x ∷ es) e = cc
 
-module _ (r : Kept) (s : AreRuns r) (from to : Option Identifier) (held : HoldsOrigin (cell_ids (cells_in r)) from)
+module _ (r : RunsView) (s : AreRuns r) (from to : Option Identifier) (held : HoldsOrigin (cell_ids (cells_in r)) from)
     (behind : HoldsOrigin (ids_of (rest_of from (keyed_cells (cells_in r)))) to) where
   abbrev xs : List Identifier
   xs = cell_ids (cells_in r)
@@ -143,11 +143,11 @@ module _ (r : Kept) (s : AreRuns r) (from to : Option Identifier) (held : HoldsO
     some-answers (Some m) some = one-between m.id (as_within m.id some)
 
 -- no cell comes twice
-pub cells-apart : (r : Kept) → AreRuns r → Apart (keyed_cells (cells_in r))
+pub cells-apart : (r : RunsView) → AreRuns r → Apart (keyed_cells (cells_in r))
 cells-apart r s = subst (AllPairs (λ x y. x ≢ y)) (sym (keyed-ids (cells_in r))) s.distinct
 
 -- the ends of a part are held
-module _ (r : Kept) (p : Part) (is : IsStandingPart r p) where
+module _ (r : RunsView) (p : Part) (is : IsStandingPart r p) where
   pub part-from : HoldsOrigin (cell_ids (cells_in r)) p.from
   part-from = subst (λ xs. HoldsOrigin xs p.from) (keyed-ids (cells_in r)) (low_held p.most (keyed_cells (cells_in r)) p.from is.from)
 

@@ -7,14 +7,14 @@ use Rattle.fugue_ids.specs.Keys.{Keyed, between}
 use Rattle.fugue_ids.specs.Passing.{Falls, IsTest, last_passing}
 use Rattle.fugue_ids.proofs.HalvesLemmas.{Halves, IsSearched, halves, search_before, search_begins, search_behind, search_ends}
 use Rattle.run_store.specs.Cells.{keyed_cells}
-use Rattle.run_store.specs.Runs.{AreRuns, Kept, cells_in}
+use Rattle.run_store.specs.Runs.{AreRuns, RunsView, cells_in}
 use Rattle.run_store.specs.Standings.{IsFoundCell, IsStandingPart, low_cells}
 use Rattle.run_store.specs.declared.standing.Found.{Found}
 use Rattle.run_store.specs.declared.standing.Part.{Part}
 use Rattle.run_store.proofs.FoundLemmas.{found-begin, found-end}
 use Rattle.run_store.proofs.MiddleLemmas.{cells-apart}
 
-module _ (r : Kept) (post : Identifier → Bool → Type 0) (whole : Part) where
+module _ (r : RunsView) (post : Identifier → Bool → Type 0) (whole : Part) where
   abbrev es : List Keyed
   es = keyed_cells (cells_in r)
 

@@ -12,7 +12,7 @@ use Rattle.node_rope.specs.Items.{value_under}
 use Rattle.node_rope.specs.Places.{StandsAt}
 use Rattle.run_store.specs.Cells.{keyed_cells}
 use Rattle.run_store.specs.Heads.{head_behind, cell_with_letter, next_head, typed_cells}
-use Rattle.run_store.specs.Runs.{AreRuns, IsRun, Kept, all_cells, first_of, letters_of}
+use Rattle.run_store.specs.Runs.{AreRuns, IsRun, RunsView, all_cells, first_of, letters_of}
 use Rattle.run_store.specs.declared.cell.Cell.{Cell}
 use Rattle.run_store.specs.declared.cell.Head.{Head}
 use Rattle.run_store.specs.declared.run.Run.{Run}
@@ -53,7 +53,7 @@ module _ {T : Type 0} where
   keys-get (x ∷ xs) zero = refl
   keys-get (x ∷ xs) (suc i) = keys-get xs i
 
-module _ (r : Kept) (s : AreRuns r) where
+module _ (r : RunsView) (s : AreRuns r) where
   -- the run at a place
   pub run-at : (i : ℕ) (k : Identifier) (run : Run) → slice_get r.rope i ≡ Some (k, run) → IsRun r.letters r.count (k, run)
   run-at i k run e =

@@ -11,7 +11,7 @@ use Rattle.fugue_ids.proofs.ListLemmas.{all_behind, all_before}
 use Rattle.node_rope.specs.Items.{value_under}
 use Rattle.run_store.specs.Cells.{cell_ids}
 use Rattle.run_store.specs.Heads.{head_behind, cell_with_letter, typed_cells}
-use Rattle.run_store.specs.Runs.{AreRuns, IsRun, Kept, all_cells, cells_in, cells_of, first_of, letters_of}
+use Rattle.run_store.specs.Runs.{AreRuns, IsRun, RunsView, all_cells, cells_in, cells_of, first_of, letters_of}
 use Rattle.run_store.specs.declared.cell.Cell.{Cell}
 use Rattle.run_store.specs.declared.run.Run.{Run}
 use Rattle.run_store.proofs.HeadLemmas.{length-typed, typed-at}
@@ -22,8 +22,8 @@ abbrev pub Item : Type 0
 Item = Identifier × Run
 
 -- a run that is held is among the fields
-pub held-in : {fields now : Kept} → fields ≡ now → (run : Run) → value_under run.id now.rope ≡ Some run → value_under run.id fields.rope ≡ Some run
-held-in is run held = ap (λ (z : Kept). value_under run.id z.rope) is ∙ held
+pub held-in : {fields now : RunsView} → fields ≡ now → (run : Run) → value_under run.id now.rope ≡ Some run → value_under run.id fields.rope ≡ Some run
+held-in is run held = ap (λ (z : RunsView). value_under run.id z.rope) is ∙ held
 
 module _ (L : List (List ℕ)) where
   -- a run has front many letters front its length says
@@ -81,14 +81,14 @@ module _ (L : List (List ℕ)) where
       ∙ sym (append_assoc (all_cells L front) t (cell_there run o ∷ (u ++ all_cells L back)))
 
 -- the cell at a place of a run, among all
-pub record IsPlaced (r : Kept) (front : List Item) (run : Run) (o : ℕ) (back : List Item) : Type 0 where
+pub record IsPlaced (r : RunsView) (front : List Item) (run : Run) (o : ℕ) (back : List Item) : Type 0 where
   pub rope_is : r.rope ≡ front ++ (run.id, run) ∷ back
   pub is_run : IsRun r.letters r.count (run.id, run)
   pub cells_is : cells_in r ≡ cells_before r.letters front run o ++ cell_there r.letters run o ∷ cells_behind r.letters run (suc o) back
   pub before : Others (head_behind o (first_of run)).id (cells_before r.letters front run o)
   pub behind : Others (head_behind o (first_of run)).id (cells_behind r.letters run (suc o) back)
 
-pub placed : (r : Kept) → AreRuns r → (front : List Item) (run : Run) (o : ℕ) (back : List Item) → r.rope ≡ front ++ (run.id, run) ∷ back → o < run.len
+pub placed : (r : RunsView) → AreRuns r → (front : List Item) (run : Run) (o : ℕ) (back : List Item) → r.rope ≡ front ++ (run.id, run) ∷ back → o < run.len
     → IsPlaced r front run o back
 placed r s front run o back is l =
     let runs : All (IsRun r.letters r.count) (front ++ (run.id, run) ∷ back) = subst (All (IsRun r.letters r.count)) is s.each in
@@ -104,7 +104,7 @@ placed r s front run o back is l =
     }
 
 -- the keys of the other runs are no cells of a run
-pub keys-apart : (r : Kept) → AreRuns r → (front : List Item) (run : Run) (o : ℕ) (back : List Item) → r.rope ≡ front ++ (run.id, run) ∷ back → o < run.len
+pub keys-apart : (r : RunsView) → AreRuns r → (front : List Item) (run : Run) (o : ℕ) (back : List Item) → r.rope ≡ front ++ (run.id, run) ∷ back → o < run.len
     → OtherKeys (head_behind o (first_of run)).id front × OtherKeys (head_behind o (first_of run)).id back
 keys-apart r s front run o back is l =
     let x = (head_behind o (first_of run)).id in
@@ -117,16 +117,16 @@ keys-apart r s front run o back is l =
           (others-tail r.letters x (typed_cells (head_behind (suc o) (first_of run)) (drop (suc o) (letters_of r.letters run))) (all_cells r.letters back) p.behind),
     )
 
-pub record IsLocated (r : Kept) (run : Run) (o : ℕ) : Type 0 where
+pub record IsLocated (r : RunsView) (run : Run) (o : ℕ) : Type 0 where
   pub front : List Item
   pub back : List Item
   pub place : IsPlaced r front run o back
 
-pub located : (r : Kept) → AreRuns r → (run : Run) (o : ℕ) → value_under run.id r.rope ≡ Some run → o < run.len → IsLocated r run o
+pub located : (r : RunsView) → AreRuns r → (run : Run) (o : ℕ) → value_under run.id r.rope ≡ Some run → o < run.len → IsLocated r run o
 located r s run o v l = let p = found run.id run r.rope v in record { front = p.front; back = p.back; place = placed r s p.front run o p.back p.is l }
 
 -- a run that is kept under a key
-pub kept-run : (r : Kept) → AreRuns r → (k : Identifier) (run : Run) → value_under k r.rope ≡ Some run → IsRun r.letters r.count (k, run)
+pub kept-run : (r : RunsView) → AreRuns r → (k : Identifier) (run : Run) → value_under k r.rope ≡ Some run → IsRun r.letters r.count (k, run)
 kept-run r s k run v =
     let p = found k run r.rope v in
     let runs : All (IsRun r.letters r.count) (p.front ++ (k, run) ∷ p.back) = subst (All (IsRun r.letters r.count)) p.is s.each in
@@ -146,5 +146,5 @@ runs-few L n (x ∷ xs) a =
       r.some,
     )
 
-pub few-runs : (r : Kept) → AreRuns r → length r.rope ≤ r.count
+pub few-runs : (r : RunsView) → AreRuns r → length r.rope ≤ r.count
 few-runs r s = omega (arith, runs-few r.letters r.count r.rope s.each, s.counted)

@@ -5,7 +5,7 @@ use Rattle.std.proofs.lemmas.List.{length-map, take_all}
 use Rattle.fugue_ids.specs.Identifiers.{Identifier}
 use Rattle.run_store.specs.Cells.{cell_ids}
 use Rattle.run_store.specs.Heads.{head_behind}
-use Rattle.run_store.specs.Runs.{AreRuns, Kept, all_cells, cells_in, cells_of, first_of, letters_of}
+use Rattle.run_store.specs.Runs.{AreRuns, RunsView, all_cells, cells_in, cells_of, first_of, letters_of}
 use Rattle.run_store.specs.Standings.{IsBegin, IsEndStanding, IsInRun, IsMemberWithin, cells_to, index_at}
 use Rattle.run_store.specs.declared.cell.Cell.{Cell}
 use Rattle.run_store.specs.declared.run.Run.{Run}
@@ -16,7 +16,7 @@ use Rattle.run_store.proofs.PlaceLemmas.{at-within, run-at, value-there}
 use Rattle.run_store.proofs.RunsLemmas.{Item, length-letters}
 use Rattle.std.proofs.lemmas.Bool.{cases_lt}
 
-module _ (r : Kept) (s : AreRuns r) where
+module _ (r : RunsView) (s : AreRuns r) where
   -- the end of all
   pub end-index : index_at r (length r.rope) 0 ≡ length (cell_ids (cells_in r))
   end-index =

@@ -9,7 +9,7 @@ use Rattle.fugue_ids.specs.Gathers.{GathersText}
 use Rattle.fugue_ids.specs.Outs.{OutView}
 use Rattle.run_store.specs.Cells.{cell_text, cells_shown}
 use Rattle.run_store.specs.Heads.{cell_with_letter, next_head, typed_cells}
-use Rattle.run_store.specs.Runs.{AreRuns, Kept, all_cells, cells_of}
+use Rattle.run_store.specs.Runs.{AreRuns, RunsView, all_cells, cells_of}
 use Rattle.run_store.specs.declared.cell.Cell.{Cell}
 use Rattle.run_store.specs.declared.cell.Head.{Head}
 use Rattle.run_store.specs.declared.run.Run.{Run}
@@ -56,7 +56,7 @@ pub record IsUnderWay (L : List (List ℕ)) (rope : List Item) (u v : OutView) (
   pub gathered : GathersText {T = Unit {0}} u v p q (Ok tt) (flat_map (run_text L) (take place rope))
 
 -- what comes first of a walk that has the runs from a place on
-pub next-run : (r : Kept) → AreRuns r → (walk : List Item) (i : ℕ) → walk ≡ drop i r.rope → (run : Run) → Some run ≡ option_map (λ (x : Item). x.1) (slice_get walk 0)
+pub next-run : (r : RunsView) → AreRuns r → (walk : List Item) (i : ℕ) → walk ≡ drop i r.rope → (run : Run) → Some run ≡ option_map (λ (x : Item). x.1) (slice_get walk 0)
     → slice_get r.rope i ≡ Some (run.id, run)
 next-run r s walk i left run first =
     run-named r s i run (sym (first ∙ ap (λ ys. option_map (λ (x : Item). x.1) (slice_get ys 0)) left ∙ ap (option_map (λ (x : Item). x.1)) (drop-first r.rope i)))

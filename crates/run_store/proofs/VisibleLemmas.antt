@@ -14,7 +14,7 @@ use Rattle.node_rope.specs.Items.{value_under}
 use Rattle.node_rope.specs.Places.{IsUnit, weight_sum}
 use Rattle.run_store.specs.Cells.{cell_ids, cells_shown}
 use Rattle.run_store.specs.Heads.{head_behind, cell_with_letter, next_head, typed_cells}
-use Rattle.run_store.specs.Runs.{AreRuns, IsRun, Kept, all_cells, cells_in, cells_of, first_of, letters_of, visible_weight}
+use Rattle.run_store.specs.Runs.{AreRuns, IsRun, RunsView, all_cells, cells_in, cells_of, first_of, letters_of, visible_weight}
 use Rattle.run_store.specs.Shown.{IsInHand}
 use Rattle.run_store.specs.declared.cell.Cell.{Cell}
 use Rattle.run_store.specs.declared.find.Spot.{Spot}
@@ -73,7 +73,7 @@ is-shown true m v l = absurd (omega (arith, l))
 is-shown false m v l = (refl, omega (arith, l))
 
 -- the visible cell of a unit of weight
-module _ (r : Kept) (s : AreRuns r) where
+module _ (r : RunsView) (s : AreRuns r) where
   pub visible-all : length (cells_shown (cells_in r)) ≡ weight_sum visible_weight r.rope
   visible-all = visible-weight r.letters r.count s.few r.rope s.each
 

@@ -13,13 +13,13 @@ use Rattle.node_rope.specs.Items.{value_under}
 use Rattle.node_rope.specs.Places.{StandsAt}
 use Rattle.run_store.specs.Cells.{keyed_cells}
 use Rattle.run_store.specs.Heads.{head_behind}
-use Rattle.run_store.specs.Runs.{AreRuns, IsRun, IsCellSpot, Kept, all_cells, cells_in, first_of, letters_of}
+use Rattle.run_store.specs.Runs.{AreRuns, IsRun, IsCellSpot, RunsView, all_cells, cells_in, first_of, letters_of}
 use Rattle.run_store.specs.declared.run.Run.{Run}
 use Rattle.run_store.proofs.CellLemmas.{front-at, rest-at}
 use Rattle.run_store.proofs.PlaceLemmas.{before-more, behind-all, cells-to, drop-first, first-cells, first-typed, keys-get, last-keyed, placed-at, run-at, stands-run}
 use Rattle.run_store.proofs.RunsLemmas.{IsPlaced, Item, cell_there, cells_before, cells_behind, length-letters, located}
 
-module _ (r : Kept) (s : AreRuns r) where
+module _ (r : RunsView) (s : AreRuns r) where
   abbrev P : Item → Type 0
   P = IsRun r.letters r.count
 

@@ -12,7 +12,7 @@ use Rattle.run_store.specs.declared.cell.Head.{Head}
 use Rattle.run_store.specs.declared.run.Run.{Run}
 
 -- runs in order, each under its first identifier, with the stretches of their letters, and how many cells they have
-pub record Kept : Type 0 where
+pub record RunsView : Type 0 where
   pub rope : List (Identifier × Run)
   pub letters : List (List ℕ)
   pub count : ℕ
@@ -34,7 +34,7 @@ abbrev pub all_cells : List (List ℕ) → List (Identifier × Run) → List Cel
 all_cells letters = flat_map (λ x. cells_of letters x.1)
 
 -- those of all runs
-abbrev pub cells_in : Kept → List Cell
+abbrev pub cells_in : RunsView → List Cell
 cells_in r = all_cells r.letters r.rope
 
 -- a run under its first identifier: it is not empty, it has its letters, and its numbers fit
@@ -55,7 +55,7 @@ pub record AreLetters (letters : List (List ℕ)) (count : ℕ) : Type 0 where
   pub others : length letters ≤ count + 1
 
 -- the runs keep distinct cells, and the count is theirs
-pub record AreRuns (r : Kept) : Type 0 where
+pub record AreRuns (r : RunsView) : Type 0 where
   pub each : All (IsRun r.letters r.count) r.rope
   pub distinct : AllPairs (λ x y. x ≢ y) (cell_ids (cells_in r))
   pub counted : r.count ≡ length (cells_in r)

@@ -5,7 +5,7 @@ use Rattle.fugue_ids.specs.Keys.{between, low_ids, rest_of}
 use Rattle.fugue_ids.specs.Listed.{HoldsOrigin, index_of}
 use Rattle.run_store.specs.Cells.{cell_ids, keyed_cells}
 use Rattle.run_store.specs.Heads.{head_behind}
-use Rattle.run_store.specs.Runs.{IsCellSpot, Kept, all_cells, cells_in, first_of}
+use Rattle.run_store.specs.Runs.{IsCellSpot, RunsView, all_cells, cells_in, first_of}
 use Rattle.run_store.specs.declared.cell.Head.{Head}
 use Rattle.run_store.specs.declared.standing.Found.{Found}
 use Rattle.run_store.specs.declared.standing.Part.{Part}
@@ -33,7 +33,7 @@ abbrev pub cells_to : List (List ℕ) → List (Identifier × Run) → ℕ → �
 cells_to letters rope runs = length (all_cells letters (take runs rope))
 
 -- the index of the cell at a place of the run that stands behind so many others
-abbrev pub index_at : Kept → ℕ → ℕ → ℕ
+abbrev pub index_at : RunsView → ℕ → ℕ → ℕ
 index_at r place offset = cells_to r.letters r.rope place + offset
 
 -- a standing from which on cells may stand: the beginning, one behind any number of the cells of a run
@@ -55,12 +55,12 @@ pub record IsInRun (rope : List (Identifier × Run)) (place low high : ℕ) (x :
   pub to : offset < high
 
 -- the standing from which on the cells behind an origin stand
-pub record BeginsBehind (r : Kept) (from : Option Identifier) (s : Standing) : Type 0 where
+pub record BeginsBehind (r : RunsView) (from : Option Identifier) (s : Standing) : Type 0 where
   pub stands : IsBegin r.rope s.place s.offset
   pub at : index_at r s.place s.offset ≡ begin_index (cell_ids (cells_in r)) from
 
 -- the standing before which those before an origin stand
-pub record EndsBefore (r : Kept) (to : Option Identifier) (s : Standing) : Type 0 where
+pub record EndsBefore (r : RunsView) (to : Option Identifier) (s : Standing) : Type 0 where
   pub stands : IsEndStanding r.rope s.place s.offset
   pub at : index_at r s.place s.offset ≡ end_index (cell_ids (cells_in r)) to
 
@@ -77,12 +77,12 @@ pub record IsFoundCell (rope : List (Identifier × Run)) (f : Found) : Type 0 wh
 
 -- a part of the cells that begins behind one whose key is at most that of the part, or at the beginning, and that ends
 -- before such a one, or at the end; its ends stand where it says
-pub record IsStandingPart (r : Kept) (p : Part) : Type 0 where
+pub record IsStandingPart (r : RunsView) (p : Part) : Type 0 where
   pub from : HoldsOrigin (low_ids p.most (keyed_cells (cells_in r))) p.from
   pub to : HoldsOrigin (low_ids p.most (rest_of p.from (keyed_cells (cells_in r)))) p.to
   pub begin : BeginsBehind r p.from p.begin
   pub end : EndsBefore r p.to p.end
 
 -- the cells of a part whose key is at most that of the part
-abbrev pub low_cells : Kept → Part → List Identifier
+abbrev pub low_cells : RunsView → Part → List Identifier
 low_cells r p = low_ids p.most (between p.from p.to (keyed_cells (cells_in r)))

@@ -1,4 +1,4 @@
-// The border between a hidden run and its neighbour moves over cells, which are so hidden without a run of their own.
+//! Deleting elements at an end of a run by moving the border to a deleted run beside it, without a new run.
 ghost use Rattle.std.specs.Prelude.{◌≡◌, ◌<◌, ◌≤◌, ◌+◌, ◌-◌, ◌^◌, IfSome, Some, OnErr, OnOk, ℕ};
 ghost use Rattle.fugue_ids.specs.Identifiers.{Identifier};
 ghost use Rattle.node_rope.specs.Items.{value_under};

@@ -1,3 +1,4 @@
+//! An element with its origins, tombstone mark, search key and scalar, and the same without the scalar.
 use fugue_ids::{ElementId, Key};
 
 /// What a cell says of itself but for its scalar.

@@ -1,4 +1,4 @@
-// Where a cell is kept.
+//! Finding an element by its identifier: its run and its offset there; the run used last is tried first.
 ghost use Rattle.std.specs.Prelude.{◌≡◌, ◌<◌, ◌≤◌, ◌+◌, ◌-◌, Contains, IfNone, IfSome, Some, length, option_map};
 ghost use Rattle.std.specs.Prelude.{slice_get};
 ghost use Rattle.fugue_ids.specs.Identifiers.{Identifier};

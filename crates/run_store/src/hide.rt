@@ -1,4 +1,4 @@
-// Cells are hidden.
+//! Marking a range of elements as deleted, run by run, and cutting runs in two where that needs it.
 ghost use Rattle.std.specs.Prelude.{◌≡◌, ◌<◌, ◌+◌, ◌-◌, ◌^◌, Some, Contains, IsNone, length, true, IfErr, OnErr, OnOk, ◌≤◌};
 ghost use Rattle.node_rope.specs.Items.{value_under};
 ghost use Rattle.run_store.specs.Changes.{HidesPart, HidesSome, IsHiddenTo, MakesCells};

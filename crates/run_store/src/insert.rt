@@ -1,5 +1,4 @@
-// New cells go in, each but the first behind the one before it: into the run behind which they were typed, or into one
-// of their own.
+//! Inserting new elements, each after the one before it: in the run they continue, or in one of their own.
 ghost use Rattle.std.specs.Prelude.{◌≡◌, ◌<◌, ◌≤◌, ◌+◌, ◌^◌, [], Some, IsNone, Contains, IfOk, length, suc, true};
 ghost use Rattle.std.specs.Prelude.{false, slice_index_or, OnErr, OnOk};
 ghost use Rattle.fugue_ids.specs.Listed.{index_of};

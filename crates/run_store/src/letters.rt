@@ -1,3 +1,4 @@
+//! The buffers with the scalars of all runs: the first is shared, the others begin as copies.
 ghost use Rattle.std.specs.Prelude.{◌≡◌, ◌<◌, ◌≤◌, ◌+◌, ◌^◌, [], ◌∷◌, ◌++◌, drop, length, map, take};
 ghost use Rattle.std.specs.Prelude.{slice_index_or, slice_set, OnErr, OnOk, IfOk};
 

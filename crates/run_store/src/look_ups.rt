@@ -1,4 +1,4 @@
-// Look-ups of a store. None of them takes memory.
+//! Look-ups of a store, none of which allocates: counts, origins, order, visible indices, and the text.
 ghost use Rattle.std.specs.Prelude.{◌≡◌, ◌≢◌, ◌↔◌, ◌≤◌, AllPairs, Contains, IfNone, IfSome, IsNone, IsTrue, None, drop, length};
 ghost use Rattle.std.specs.Prelude.{◌⊎◌, false, nat_lt, slice_get};
 ghost use Rattle.std.specs.Str.{encode_utf8_all};

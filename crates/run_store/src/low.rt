@@ -1,4 +1,4 @@
-// The nearest cell whose key is low enough. The keys of a run rise, so its first cell has its least one.
+//! The nearest element whose search key is low enough; keys rise in a run, so its first has the least.
 ghost use Rattle.std.specs.Prelude.{◌≡◌, ◌<◌, ◌≤◌, ◌+◌, ◌^◌, List, ℕ, drop, length, not, take};
 ghost use Rattle.fugue_ids.specs.Keys.{first_low as first_low_in, front_of, key_lt, last_low as last_low_in, rest_of};
 ghost use Rattle.fugue_ids.specs.Listed.{HoldsOrigin};

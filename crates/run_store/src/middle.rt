@@ -1,4 +1,4 @@
-// Where cells stand, and a cell in the middle of a part.
+//! Where elements stand among the runs, and an element in the middle of a range, for binary search.
 ghost use Rattle.std.specs.Prelude.{◌≡◌, ◌↔◌, ◌+◌, ◌≤◌, ◌<◌, ◌^◌, Contains, IfNone, IfSome, IsNone, Some, [], slice_get, ℕ};
 ghost use Rattle.std.specs.Prelude.{length};
 ghost use Rattle.fugue_ids.specs.Identifiers.{Identifier};

@@ -1,4 +1,4 @@
-// What a new cell is: its key, and whether it continues a run.
+//! What a new element's origins determine: its search key, and whether it continues the run before it.
 ghost use Rattle.std.specs.Prelude.{◌≡◌, ◌<◌, ◌≤◌, IfSome, Some, length, option_map, suc};
 ghost use Rattle.fugue_ids.specs.Identifiers.{id_eq};
 ghost use Rattle.fugue_ids.specs.Runs.{next_id};

@@ -1,4 +1,4 @@
-// Cells of a run, and parts of it as runs.
+//! Single elements of a run, and a prefix or a suffix of it as a run.
 ghost use Rattle.std.specs.Prelude.{◌≡◌, ◌+◌, ◌<◌, ◌≤◌, ◌^◌};
 ghost use Rattle.run_store.specs.Heads.{head_behind};
 ghost use Rattle.run_store.specs.Runs.{first_of, run_behind as rest_by, run_to as front_by};

@@ -1,5 +1,4 @@
-// The last cell of a part that passes a test. Of the cells whose key is low enough those that pass stand first, so it is
-// found by halves.
+//! Binary search for the last element of a range that passes a test, among those with a low enough key.
 ghost use Rattle.std.specs.Prelude.{◌≡◌, ◌↔◌, Bool, Contains, IfSome, IsNone, []};
 ghost use Rattle.fugue_ids.specs.Identifiers.{Identifier};
 ghost use Rattle.fugue_ids.specs.Keys.{between, first_low as first_low_of, ids as ids_of, last_low as last_low_of};

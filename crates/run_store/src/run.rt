@@ -1,3 +1,4 @@
+//! A run of elements as one compact record, and all runs of a sequence in a rope, with their letters.
 ghost use Rattle.std.specs.Prelude.{◌≡◌, ◌∷◌, [], length};
 ghost use Rattle.run_store.specs.Heads.{rank_of as number_of};
 ghost use Rattle.run_store.specs.Runs.{AreRuns, cells_in};
@@ -64,9 +65,9 @@ pub struct Runs {
 }
 
 impl Model for Runs {
-    ghost use Rattle.run_store.specs.Runs.{AreRuns, Kept};
+    ghost use Rattle.run_store.specs.Runs.{AreRuns, RunsView};
 
-    ghost Value = { Kept };
+    ghost Value = { RunsView };
 
     ghost view = { λ r. record { rope = r.rope; letters = r.letters; count = r.count } };
 

@@ -1,3 +1,4 @@
+//! A walk along the visible elements of a store; a step within a run needs no search.
 ghost use Rattle.std.specs.Prelude.{◌≡◌, ◌<◌, ◌^◌, IfNone, IfSome, None, drop, slice_get, suc};
 ghost use Rattle.run_store.specs.Cells.{cell_ids, cells_shown};
 ghost use Rattle.run_store.specs.Shown.{IsInHand};

@@ -1,3 +1,4 @@
+//! Positions by run index and offset, and an element or a range together with where it stands.
 use fugue_ids::{ElementId, Key};
 
 /// A place among the cells: in the run behind this many others, behind this many of its cells.

@@ -1,3 +1,4 @@
+//! The elements of a sequence, kept in runs: insertion, deletion, and the order that is searched by keys.
 ghost use Rattle.std.specs.Prelude.{◌≡◌, ◌≢◌, ◌↔◌, ◌<◌, ◌≤◌, ◌+◌, ◌^◌, ◌*◌, [], AllPairs, Contains, IsTrue, length, map, true, IfErr, OnErr};
 ghost use Rattle.std.specs.Prelude.{OnOk, slice_get};
 ghost use Rattle.std.specs.List.{insert};

@@ -1,4 +1,4 @@
-// The letters that are not hidden.
+//! The visible text, written run by run, and elements by their index among the visible ones.
 ghost use Rattle.std.specs.Prelude.{◌<◌, ◌≤◌, ◌+◌, ◌^◌, [], length, slice_index_or, ◌≡◌, Contains, IfNone, IfSome, None, Some, ℕ, if◌then◌else◌, take};
 ghost use Rattle.std.specs.Prelude.{slice_get};
 ghost use Rattle.std.specs.Str.{encode_utf8_all};

@@ -1,4 +1,4 @@
-// From a cell to its neighbours, and which of two stands before the other.
+//! The neighbours of an element, before and after it, and which of two elements stands before the other.
 ghost use Rattle.std.specs.Prelude.{◌≡◌, ◌≤◌, ◌⊎◌, Contains, Some, false, length, nat_lt, take};
 ghost use Rattle.fugue_ids.specs.Identifiers.{Identifier};
 ghost use Rattle.fugue_ids.specs.Keys.{first_id, front_of, last_id, rest_of};

@@ -82,7 +82,7 @@ held_at m h (within s) x k e =
 pub ready_here : (old now : Contents) (op o : Op) → old ≡ now → op ≡ o → IsReadyOn now op → IsReadyOn old o
 ready_here old now op o v e r = record {
   history = r.history;
-  stands = subst (λ m. Represents m r.history) (sym v) r.stands;
+  represents = subst (λ m. Represents m r.history) (sym v) r.represents;
   ready = subst (λ z. verdict r.history z ≡ Ready) e r.ready;
 }
 
@@ -93,19 +93,19 @@ module _ (m : Contents) (op : Op) (x : Identifier) (own : id_of op ≡ Some x) (
 
   -- its element has no section
   pub no_entry : section_at m x ≡ None
-  no_entry = not_there (section_at m x) (r.stands.titles x ∙ ap title_held (none_held (holder r.history x) unheld))
+  no_entry = not_there (section_at m x) (r.represents.titles x ∙ ap title_held (none_held (holder r.history x) unheld))
 
   -- nor a place
   pub no_place : place_at m x ≡ None
-  no_place = r.stands.places x ∙ ap place_held (none_held (holder r.history x) unheld)
+  no_place = r.represents.places x ∙ ap place_held (none_held (holder r.history x) unheld)
 
   -- and its node is new in its place
   pub new_in : (p : Place) (s : Listing) → place op ≡ Some p → Lists p r.history s → IsNew s.nodes (node_of op x)
-  new_in p s e l = is_new p op r.history x s (r.ready, r.stands.lawful) (stands_element p op e ∙ own) l
+  new_in p s e l = is_new p op r.history x s (r.ready, r.represents.lawful) (stands_element p op e ∙ own) l
 
 -- the section of a Text that is Ready is there
 pub section_of : (m : Contents) (id section : Identifier) (left right : Option Identifier) (ch : ℕ) → IsReadyOn m (Text id section left right ch) → IsSome (section_at m section)
-section_of m id section left right ch r = entry_there m r.history section r.stands (section_first r.history (Text id section left right ch) section r.ready refl)
+section_of m id section left right ch r = entry_there m r.history section r.represents (section_first r.history (Text id section left right ch) section r.ready refl)
 
 -- an operation with the target x is the Delete of x
 pub target_delete : (op : Op) (x : Identifier) → key_of op ≡ Target x → op ≡ Delete x

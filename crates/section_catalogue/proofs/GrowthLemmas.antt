@@ -36,8 +36,8 @@ module _ (op : Op) (h : List Op) (x : Identifier) (own : id_of op ≡ Some x) (w
   none_before = none_held (holder h x) unheld
 
   -- what is said of another element stays, and so does what is not said of one that is not held
-  told_before : {X : Type 0} (f : Option Op → X) → f (Some op) ≡ f None → (y : Identifier) → f (holder h y) ≡ f (holder (op ∷ h) y)
-  told_before f e y =
+  same_before : {X : Type 0} (f : Option Op → X) → f (Some op) ≡ f None → (y : Identifier) → f (holder h y) ≡ f (holder (op ∷ h) y)
+  same_before f e y =
       elim (cases_id y x) [
         | inl d ↦ ap f (ap (holder h) d ∙ none_before) ∙ sym e ∙ ap f (sym (holder-new op h x y own d))
         | inr n ↦ ap f (sym (holder-older op h x y own n))
@@ -115,7 +115,7 @@ text_stands old new h id section left right ch s ready c =
     record {
       lawful = w;
       sections = subst (Lists catalogue (op ∷ h)) (sym c.listed) (elsewhere op h id refl w catalogue old.catalogue (λ e. cc) s.sections);
-      titles = λ y. titles_stay (section_at old) (section_at new) section grow c.sections (λ t. refl) y ∙ s.titles y ∙ told_before op h id refl w title_held refl y;
+      titles = λ y. titles_stay (section_at old) (section_at new) section grow c.sections (λ t. refl) y ∙ s.titles y ∙ same_before op h id refl w title_held refl y;
       texts = each_text (section_at old) (section_at new) section grow c.sections (λ y t. Lists (within y) h t.text) (λ y t. Lists (within y) (op ∷ h) t.text)
           (λ t l. at_home op h id refl w (within section) ch t.text refl refl refl l)
           (λ y t n l. elsewhere op h id refl w (within y) t.text (λ e. let d : section ≡ y = cc in n (sym d)) l) s.texts;
@@ -131,8 +131,8 @@ note_stands m h id named code body s ready =
     record {
       lawful = w;
       sections = elsewhere op h id refl w catalogue m.catalogue (λ e. cc) s.sections;
-      titles = λ y. s.titles y ∙ told_before op h id refl w title_held refl y;
+      titles = λ y. s.titles y ∙ same_before op h id refl w title_held refl y;
       texts = λ y. if_some (section_at m y) (λ (t : Titled). Lists (within y) h t.text) (λ (t : Titled). Lists (within y) (op ∷ h) t.text)
           (λ t l. elsewhere op h id refl w (within y) t.text (λ e. cc) l) (s.texts y);
-      places = λ y. s.places y ∙ told_before op h id refl w place_held refl y;
+      places = λ y. s.places y ∙ same_before op h id refl w place_held refl y;
     }

@@ -71,14 +71,14 @@ rest_hides old mid new s x k one c = record {
 
 -- a manuscript stands for the history with a Delete of each, once they are hidden
 pub run_hidden : (k : ℕ) (old new : Contents) (s x : Identifier) → AnswersUpTo (place_at old) x k (Some (within s)) → HidesRun old new s x k → HidesAll old new x k
-run_hidden zero old new s x placed c h stands = still old new (nothing_hidden old new s x c) h stands
-run_hidden (suc k) old new s x placed c h stands =
+run_hidden zero old new s x placed c h represents = still old new (nothing_hidden old new s x c) h represents
+run_hidden (suc k) old new s x placed c h represents =
     let mid : Contents = with_first_hidden old s x in
     let one : HidesText old mid s x = first_hides old s x in
     let here : place_at old x ≡ Some (within s) = ap (place_at old) (sym (none_behind x)) ∙ placed 0 (omega arith) in
     let others : AnswersUpTo (place_at mid) (next_id x) k (Some (within s)) =
     λ j less. one.places (id_behind (next_id x) j) ∙ ap (place_at old) (one_behind x j) ∙ placed (suc j) (omega (arith, less)) in
-    run_hidden k mid new s (next_id x) others (rest_hides old mid new s x k one c) (once_hidden x h) (stands_hidden old mid (within s) x here one h stands)
+    run_hidden k mid new s (next_id x) others (rest_hides old mid new s x k one c) (once_hidden x h) (stands_hidden old mid (within s) x here one h represents)
 
 -- what hiding them asks of a manuscript
 pub record RunHeld (m : Contents) (s x : Identifier) (k : ℕ) : Type 0 where
@@ -86,9 +86,9 @@ pub record RunHeld (m : Contents) (s x : Identifier) (k : ℕ) : Type 0 where
   pub held : IfSome (section_at m s) (λ (t : Titled). AreAllNodes t.text.nodes x k)
 
 pub run_held : (m : Contents) (h : List Op) (s x : Identifier) (k : ℕ) → Represents m h → 0 < k → AnswersUpTo (place_at m) x k (Some (within s)) → RunHeld m s x k
-run_held m h s x k stands some placed = record {
-  there = (held_at m h (within s) (id_behind x 0) stands (placed 0 some)).there;
-  held = each (section_at m s) (λ j less. (held_at m h (within s) (id_behind x j) stands (placed j less)).held);
+run_held m h s x k represents some placed = record {
+  there = (held_at m h (within s) (id_behind x 0) represents (placed 0 some)).there;
+  held = each (section_at m s) (λ j less. (held_at m h (within s) (id_behind x j) represents (placed j less)).held);
 }
   where
     each : (o : Option Titled) → ((j : ℕ) → j < k → IfSome o (λ (t : Titled). has_node t.text.nodes (id_behind x j) ≡ true))

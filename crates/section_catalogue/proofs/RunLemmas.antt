@@ -177,10 +177,10 @@ unheld_node p h s x w l unheld =
     ]
 
 -- what a run asks of the manuscript to which it comes
-module _ (m : Contents) (h : List Op) (stands : Represents m h) (id section : Identifier) (left right : Option Identifier) (ch : ℕ) (text : List ℕ)
+module _ (m : Contents) (h : List Op) (represents : Represents m h) (id section : Identifier) (left right : Option Identifier) (ch : ℕ) (text : List ℕ)
     (ready : ReadyInTurn h (in_a_row id section left right (ch ∷ text))) where
   abbrev first_ready : IsReadyOn m (Text id section left right ch)
-  first_ready = record { history = h; stands = stands; ready = ready.0 }
+  first_ready = record { history = h; represents = represents; ready = ready.0 }
 
   pub run_there : IsSome (section_at m section)
   run_there = section_of m id section left right ch first_ready
@@ -188,7 +188,7 @@ module _ (m : Contents) (h : List Op) (stands : Represents m h) (id section : Id
   pub run_unplaced : AnswersUpTo (place_at m) id (length (ch ∷ text)) None
   run_unplaced j less =
       let x : Identifier = id_behind id j in
-      stands.places x ∙ ap place_held (none_held (holder h x) (run_unheld (ch ∷ text) h id section left right ready j less))
+      represents.places x ∙ ap place_held (none_held (holder h x) (run_unheld (ch ∷ text) h id section left right ready j less))
 
   pub run_new : IfSome (section_at m section) (λ (t : Titled). CanFollow t.text.nodes (first_node id left right) (length (ch ∷ text)))
   run_new =
@@ -196,11 +196,11 @@ module _ (m : Contents) (h : List Op) (stands : Represents m h) (id section : Id
       (λ t l.
       let new = new_in m (Text id section left right ch) id refl first_ready (within section) t.text refl l in
       record {
-        fresh = λ j less. unheld_node (within section) h t.text (id_behind id j) stands.lawful l (run_unheld (ch ∷ text) h id section left right ready j less);
+        fresh = λ j less. unheld_node (within section) h t.text (id_behind id j) represents.lawful l (run_unheld (ch ∷ text) h id section left right ready j less);
         left = new.left;
         right = new.right;
       })
-      (stands.texts section)
+      (represents.texts section)
 
 -- the same of a run of any letters
 pub record RunAsks (m : Contents) (n : Node) (section : Identifier) (count : ℕ) : Type 0 where
@@ -210,16 +210,16 @@ pub record RunAsks (m : Contents) (n : Node) (section : Identifier) (count : ℕ
 
 pub run_asks : (m : Contents) (h : List Op) → Represents m h → (id section : Identifier) (left right : Option Identifier) (text : List ℕ) → 0 < length text
     → ReadyInTurn h (in_a_row id section left right text) → RunAsks m (first_node id left right) section (length text)
-run_asks m h stands id section left right [] some ready = absurd (omega (arith, some))
-run_asks m h stands id section left right (ch ∷ text) some ready = record {
-  there = run_there m h stands id section left right ch text ready;
-  new = run_new m h stands id section left right ch text ready;
-  unplaced = run_unplaced m h stands id section left right ch text ready;
+run_asks m h represents id section left right [] some ready = absurd (omega (arith, some))
+run_asks m h represents id section left right (ch ∷ text) some ready = record {
+  there = run_there m h represents id section left right ch text ready;
+  new = run_new m h represents id section left right ch text ready;
+  unplaced = run_unplaced m h represents id section left right ch text ready;
 }
 
 -- the condition, of what the manuscript keeps
 pub all_ready_here : (old now : Contents) (ops : List Op) → old ≡ now → AreReadyOn now ops → AreReadyOn old ops
-all_ready_here old now ops v r = record { history = r.history; stands = subst (λ m. Represents m r.history) (sym v) r.stands; ready = r.ready }
+all_ready_here old now ops v r = record { history = r.history; represents = subst (λ m. Represents m r.history) (sym v) r.represents; ready = r.ready }
 
 -- room in a text that may be there
 pub room_in : (o : Option Titled) (n : ℕ) → listed_count (option_map (λ (e : Titled). e.text) o) + n ≤ MOST_OPERATIONS

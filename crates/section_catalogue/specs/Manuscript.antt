@@ -31,7 +31,7 @@ pub record Represents (m : Contents) (h : List Op) : Type 0 where
 -- it stands for some history
 pub record HasHistory (m : Contents) : Type 0 where
   pub history : List Op
-  pub stands : Represents m history
+  pub represents : Represents m history
 
 -- P holds of each history that it stands for
 abbrev pub OnEach : Contents → (List Op → Type 0) → Type 0
@@ -40,7 +40,7 @@ OnEach m P = (h : List Op) → Represents m h → P h
 -- the operation is Ready on a history that it stands for
 pub record IsReadyOn (m : Contents) (op : Op) : Type 0 where
   pub history : List Op
-  pub stands : Represents m history
+  pub represents : Represents m history
   pub ready : verdict history op ≡ Ready
 
 -- the operation came to each history on which it was Ready
@@ -50,7 +50,7 @@ GrowsBy old new op = (h : List Op) → Represents old h → verdict h op ≡ Rea
 -- each of the operations is Ready in its turn on a history that it stands for
 pub record AreReadyOn (m : Contents) (ops : List Op) : Type 0 where
   pub history : List Op
-  pub stands : Represents m history
+  pub represents : Represents m history
   pub ready : ReadyInTurn history ops
 
 -- the operations came, one after another, to each history on which each was Ready in its turn

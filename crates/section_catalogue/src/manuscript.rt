@@ -1,3 +1,4 @@
+//! All sequences of a manuscript: insertion, deletion, look-ups of sections and texts, and printing.
 ghost use Rattle.std.specs.Prelude.{◌≡◌, ◌<◌, ◌≤◌, ◌+◌, ◌^◌, [], length, slice_get, option_map, Some, IfErr, IsSome, OnErr, OnOk};
 ghost use Rattle.fugue_ids.specs.Outs.{WritesBytes};
 ghost use Rattle.origin_model.specs.operations.History.{place};
@@ -46,7 +47,7 @@ impl Manuscript {
     /// A manuscript without elements. It takes no memory.
     pub fn new(alloc: Global) -> Manuscript
         ensures nothing { result ≡ empty_contents }
-        ensures stands { Represents result [] }
+        ensures represents { Represents result [] }
         ensures has_history { HasHistory result }
     {
         Manuscript {

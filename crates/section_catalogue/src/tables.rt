@@ -1,3 +1,4 @@
+//! What a manuscript stores: the section list, titles and texts, and the sequence of each element.
 ghost use Rattle.std.specs.Prelude.{◌≡◌};
 ghost use Rattle.section_catalogue.specs.Contents.{contents_of};
 ghost use Rattle.section_catalogue.specs.Manuscript.{empty_contents};

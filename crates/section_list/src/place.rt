@@ -1,3 +1,4 @@
+//! One sequence: insertion where the origins say, deletion, look-ups by visible index, and its text.
 ghost use Rattle.std.specs.Prelude.{◌≡◌, ◌↔◌, ◌⊎◌, ◌<◌, ◌≤◌, ◌+◌, ◌^◌, ◌∷◌, [], false, true, drop, length, nat_lt, slice_get, IfSome};
 ghost use Rattle.std.specs.Prelude.{IfErr, IsNone, OnErr, OnOk};
 ghost use Rattle.std.specs.List.{Contains};

@@ -5,7 +5,7 @@ use Rattle.std.proofs.lemmas.Bool.{cases_eq}
 use Rattle.std.proofs.lemmas.Option.{slice_get_within}
 use Rattle.section_plan.specs.Alike.{AreServed, HasSectionTexts, IsServed, NoneAmong}
 use Rattle.section_plan.specs.Likeness.{alike}
-use Rattle.section_plan.specs.Matching.{AreKept, IsMatching, NoPairIsAlike, part_of, text_at_place}
+use Rattle.section_plan.specs.Matching.{KeepsPairs, IsMatching, NoPairIsAlike, part_of, text_at_place}
 use Rattle.section_plan.specs.declared.alike.Scalars.{Scalars}
 use Rattle.section_plan.specs.declared.pairs.Pairs.{Pairs}
 use Rattle.section_plan.specs.declared.part.Part.{Part}
@@ -65,7 +65,7 @@ served_empty p texts place text e none k s l at free = ap (alike s.list.items) e
 
 -- one part more is served
 pub served_more : (start mid new : Pairs) (sections parts : List Part) (texts : List Scalars) (place : ℕ) → IsMatching (length sections) (length parts) start
-    → AreServed start mid texts parts place → AreKept mid new
+    → AreServed start mid texts parts place → KeepsPairs mid new
     → IsServed new texts place (text_at_place parts place) → AreServed start new texts parts (place + 1)
 served_more start mid new sections parts texts place m to kept done = record {
   kept = kept_both start mid new to.kept kept;

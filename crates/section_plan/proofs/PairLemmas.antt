@@ -3,14 +3,14 @@ use Rattle.std.proofs.Common.{ℕ, ◌+◌, ◌<◌, List, refl, sym, ap, arith,
 use Rattle.std.specs.Prelude.{None}
 use Rattle.std.proofs.lemmas.Bool.{cases_eq}
 use Rattle.section_plan.specs.Completing.{AddsSamePart, HasKeysOfFree, IsCompletedTo, IsSettledPart}
-use Rattle.section_plan.specs.Matching.{AreKept, GainsPairs, HadText, IsMatching, HasPartWithText, NoneIsLeft, TextsAreMatched, key_at, part_at, part_of, section_of}
+use Rattle.section_plan.specs.Matching.{KeepsPairs, GainsPairs, HadText, IsMatching, HasPartWithText, NoneIsLeft, TextsAreMatched, key_at, part_at, part_of, section_of}
 use Rattle.section_plan.specs.declared.keys.Key.{Key}
 use Rattle.section_plan.specs.declared.keys.Key.TheVariants.{Text}
 use Rattle.section_plan.specs.declared.pairs.Pairs.{Pairs}
 use Rattle.section_plan.specs.declared.part.Part.{Part}
 
 -- a section that is free was free before
-pub free_before : (sections parts : ℕ) (old new : Pairs) → IsMatching sections parts old → AreKept old new → (i : ℕ) → part_of new i ≡ None → part_of old i ≡ None
+pub free_before : (sections parts : ℕ) (old new : Pairs) → IsMatching sections parts old → KeepsPairs old new → (i : ℕ) → part_of new i ≡ None → part_of old i ≡ None
 free_before sections parts old new m kept i free = by (part_of old i) refl
   where
     by : (o : Option ℕ) → part_of old i ≡ o → part_of old i ≡ None
@@ -18,25 +18,25 @@ free_before sections parts old new m kept i free = by (part_of old i) refl
     by (Some j) e = let there = (kept.matching sections parts m).inverse i j in let stays = there.0 (kept.stay i j ((m.inverse i j).1 e)) in cc
 
 -- and so was a part
-pub part_free_before : (old new : Pairs) → AreKept old new → (j : ℕ) → section_of new j ≡ None → section_of old j ≡ None
+pub part_free_before : (old new : Pairs) → KeepsPairs old new → (j : ℕ) → section_of new j ≡ None → section_of old j ≡ None
 part_free_before old new kept j free = by (section_of old j) refl
   where
     by : (o : Option ℕ) → section_of old j ≡ o → section_of old j ≡ None
     by None e = e
     by (Some i) e = let stays = kept.stay i j e in cc
 
-pub kept_both : (a b c : Pairs) → AreKept a b → AreKept b c → AreKept a c
+pub kept_both : (a b c : Pairs) → KeepsPairs a b → KeepsPairs b c → KeepsPairs a c
 kept_both a b c k l = record { matching = λ sections parts m. l.matching sections parts (k.matching sections parts m); stay = λ i j e. l.stay i j (k.stay i j e) }
 
 -- so the keys of those that are free now are among those of before
-pub keys_stay : (sections : List Part) (parts : ℕ) (old new : Pairs) (key : Key) (n : ℕ) → IsMatching (length sections) parts old → AreKept old new
+pub keys_stay : (sections : List Part) (parts : ℕ) (old new : Pairs) (key : Key) (n : ℕ) → IsMatching (length sections) parts old → KeepsPairs old new
     → (m : _) → HasKeysOfFree old sections key n m → HasKeysOfFree new sections key n m
 keys_stay sections parts old new key n matching kept m has i wanted l free =
     has i wanted l (record { within = free.within; free = free_before (length sections) parts old new matching kept i free.free; same = free.same })
 
 -- a part more is done
 pub completed_more : (start mid new : Pairs) (sections parts : List Part) (key : Key) (place : ℕ) → IsMatching (length sections) (length parts) start
-    → IsCompletedTo start mid sections parts key place → AreKept mid new
+    → IsCompletedTo start mid sections parts key place → KeepsPairs mid new
     → AddsSamePart mid new sections key place (key_at key parts place) → IsSettledPart new sections key place (part_at parts place)
     → IsCompletedTo start new sections parts key (place + 1)
 completed_more start mid new sections parts key place m to kept same done = record {
@@ -73,7 +73,7 @@ grows_both key sections parts a b c g h = record { kept = kept_both a b c g.kept
 -- where none was paired at first, and then those with the same text, texts are kept by what stays of these pairs
 pub texts_kept : (sections parts : List Part) (none mid new : Pairs) → IsMatching (length sections) (length parts) none → ((j : ℕ) → section_of none j ≡ None)
     → GainsPairs Text sections parts none mid
-    → NoneIsLeft mid sections parts Text → AreKept mid new → TextsAreMatched new sections parts
+    → NoneIsLeft mid sections parts Text → KeepsPairs mid new → TextsAreMatched new sections parts
 texts_kept sections parts none mid new m empty grows done kept i j li lj same keyed = by (part_of mid i) refl (section_of mid j) refl
   where
     mid_matching : IsMatching (length sections) (length parts) mid
@@ -94,7 +94,8 @@ texts_kept sections parts none mid new m empty grows done kept i j li lj same ke
     by None e None f = absurd (done i j li lj e f keyed same)
 
 -- where none is left, none is later
-pub left_still : (sections parts : List Part) (old new : Pairs) (key : Key) → IsMatching (length sections) (length parts) old → AreKept old new → NoneIsLeft old sections parts key
+pub left_still : (sections parts : List Part) (old new : Pairs) (key : Key) → IsMatching (length sections) (length parts) old → KeepsPairs old new
+    → NoneIsLeft old sections parts key
     → NoneIsLeft new sections parts key
 left_still sections parts old new key m kept none i j li lj free_i free_j keyed =
     none i j li lj (free_before (length sections) (length parts) old new m kept i free_i) (part_free_before old new kept j free_j) keyed

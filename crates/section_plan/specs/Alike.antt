@@ -2,7 +2,7 @@
 use Rattle.std.specs.Prelude.{◌≡◌, ◌≢◌, ℕ, ◌<◌, false, None, Some, List, [], length, slice_get}
 use Rattle.section_plan.specs.Likeness.{alike}
 use Rattle.section_plan.specs.Marks.{AreReversed}
-use Rattle.section_plan.specs.Matching.{AreKept, part_of, section_of, text_at_place}
+use Rattle.section_plan.specs.Matching.{KeepsPairs, part_of, section_of, text_at_place}
 use Rattle.section_plan.specs.declared.alike.Scalars.{Scalars}
 use Rattle.section_plan.specs.declared.pairs.Pairs.{Pairs}
 use Rattle.section_plan.specs.declared.part.Part.{Part}
@@ -33,5 +33,5 @@ IsServed p texts part text = section_of p part ≡ None → NoneAmong p texts (l
 
 -- so has each part in front of a place, while pairs stay
 pub record AreServed (start now : Pairs) (texts : List Scalars) (parts : List Part) (place : ℕ) : Type 0 where
-  pub kept : AreKept start now
+  pub kept : KeepsPairs start now
   pub served : (j : ℕ) → j < place → IsServed now texts j (text_at_place parts j)

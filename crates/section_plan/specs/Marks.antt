@@ -23,7 +23,7 @@ mark_from mark (c ∷ cs) = mark_from (next_mark mark c) cs
 abbrev pub mark_of_text : List ℕ → ℕ
 mark_of_text text = mark_from 0 text
 
--- of the marks from a place on the first one that is this one: None where there is none
+-- the first position from `from` on that has this mark: None where there is none
 abbrev pub IsFirst : (marks : List ℕ) → (from mark : ℕ) → Option ℕ → Type 0
 IsFirst marks from mark None = (j : ℕ) → from ≤ j → j < length marks → slice_index marks j ≡ mark → ⊥
 IsFirst marks from mark (Some k) =
@@ -58,7 +58,7 @@ earlier None other = other
 earlier (Some k) None = Some k
 earlier (Some k) (Some j) = Some (min k j)
 
--- none that has the mark of one of the first fronts of a list is alike
+-- no free section is alike whose text has the mark of a prefix of a list, of fewer scalars than `first`
 abbrev pub NoneFronted : Pairs → List Scalars → (marks : List ℕ) → (list : List ℕ) → (first : ℕ) → (text : List ℕ) → Type 0
 NoneFronted p sections marks list first text = (w : ℕ) → w < first → NoneMarked p sections marks (mark_of_text (take w list)) text
 

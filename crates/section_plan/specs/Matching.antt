@@ -22,7 +22,7 @@ pub record IsMatching (sections parts : ℕ) (p : Pairs) : Type 0 where
   pub inverse : (i j : ℕ) → (section_of p j ≡ Some i) ↔ (part_of p i ≡ Some j)
 
 -- each pair stays, and what is matched is so still
-pub record AreKept (old new : Pairs) : Type 0 where
+pub record KeepsPairs (old new : Pairs) : Type 0 where
   pub matching : (sections parts : ℕ) → IsMatching sections parts old → IsMatching sections parts new
   pub stay : (i j : ℕ) → section_of old j ≡ Some i → section_of new j ≡ Some i
 
@@ -78,7 +78,7 @@ NoPairIsAlike p sections parts = (i j : ℕ) → i < length sections → j < len
 
 -- pairs came, of sections and parts that have the same key, and none went
 pub record GainsPairs (key : Key) (sections parts : List Part) (old new : Pairs) : Type 0 where
-  pub kept : AreKept old new
+  pub kept : KeepsPairs old new
   pub same : AddsSame old new sections parts key
 
 -- a section has a part with its text; a part has a section with its text

@@ -5,7 +5,7 @@ ghost use Rattle.std.specs.Str.{chars};
 ghost use Rattle.section_plan.specs.Alike.{AreThere, HasSectionTexts, IsServed, NoneAmong};
 ghost use Rattle.section_plan.specs.Likeness.{alike};
 ghost use Rattle.section_plan.specs.Marks.{AreThirds, IsTextIndex, list_of, reversed_of};
-ghost use Rattle.section_plan.specs.Matching.{AreKept, IsMatching, NoPairIsAlike, part_of as part_in};
+ghost use Rattle.section_plan.specs.Matching.{KeepsPairs, IsMatching, NoPairIsAlike, part_of as part_in};
 
 use crate::likeness::are_alike;
 use crate::marks::{Marks, earlier, find_fronted, third_mark};
@@ -129,7 +129,7 @@ fn serve_part(
     requires part { place < length pairs.old.of_part.items }
     requires index { IsTextIndex index.now.texts.items index.now.front index.now.end }
     requires within { AreThere (length pairs.old.of_section.items) index.now.texts.items }
-    ensures kept { AreKept pairs.old pairs.new }
+    ensures kept { KeepsPairs pairs.old pairs.new }
     ensures served { OnOk result (IsServed pairs.new index.now.texts.items place (chars text.now)) }
 {
     if pairs.section_of(place).is_some() {
@@ -154,7 +154,7 @@ pub(crate) fn pair_alike(
     parts: &[Part<'_>],
 ) -> Result<(), NoMemory>
     requires { IsMatching (length sections.now) (length parts.now) pairs.old }
-    ensures kept { AreKept pairs.old pairs.new }
+    ensures kept { KeepsPairs pairs.old pairs.new }
     ensures done { OnOk result (NoPairIsAlike pairs.new sections.now parts.now) }
 {
     let index = index_of(alloc, pairs, sections)?;

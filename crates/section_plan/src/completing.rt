@@ -2,7 +2,7 @@
 
 ghost use Rattle.std.specs.Prelude.{◌≡◌, ◌↔◌, ℕ, ◌<◌, IfNone, IfOk, IfSome, IsSome, IsTrue, OnOk, length};
 ghost use Rattle.section_plan.specs.Completing.{AddsSamePart, HasKeysOfFree, found_for, IsSettledPart, IsFreeWith};
-ghost use Rattle.section_plan.specs.Matching.{AreKept, GainsPairs, IsMatching, NoneIsLeft, key_in};
+ghost use Rattle.section_plan.specs.Matching.{KeepsPairs, GainsPairs, IsMatching, NoneIsLeft, key_in};
 
 use crate::keys::{Key, has_key, key_of};
 use crate::pairs::Pairs;
@@ -68,7 +68,7 @@ fn complete_part(
     requires within { place < length pairs.old.of_part.items }
     requires sections { length pairs.old.of_section.items ≡ length sections.now }
     requires keys { HasKeysOfFree pairs.old sections.now key (length sections.now) keys.now }
-    ensures kept { AreKept pairs.old pairs.new }
+    ensures kept { KeepsPairs pairs.old pairs.new }
     ensures same { AddsSamePart pairs.old pairs.new sections.now key place (key_in key part.now) }
     ensures done { IsSettledPart pairs.new sections.now key place part.now }
 {

@@ -1,4 +1,4 @@
-//! Texts by a mark of their first third, by which those are found that may be alike.
+//! An index of texts by a hash of their first third, their mark: texts that may be alike are found by it.
 
 ghost use Rattle.std.specs.Prelude.{◌≡◌, ◌+◌, ◌*◌, ◌<◌, ◌≤◌, IfNone, IfOk, IfSome, None, Some, length, slice_get, slice_index_or};
 ghost use Rattle.std.specs.Ordering.{nat_cmp};
@@ -13,10 +13,10 @@ use fugue_ids::NoMemory;
 use std::alloc::Global;
 use std::collections::BTreeMap;
 
-/// What all marks are less than: a prime.
+/// The modulus of the marks, a prime.
 pub(crate) const MARKS: u64 = 4_294_967_291;
 
-/// Texts by their marks: of each mark the first text, and of each text the next one with the same mark.
+/// An index of texts by their marks: for each mark the first text, and for each text the next one with the same mark.
 #[derive(Drop)]
 pub(crate) struct Marks {
     marks: Vec<u64>,
@@ -43,6 +43,7 @@ pub(crate) fn third_mark(list: &[char]) -> u64
 }
 
 impl Marks {
+    /// The index of the texts with these marks.
     pub(crate) fn of(alloc: Global, marks: Vec<u64>) -> Result<Marks, NoMemory>
         ensures is { IfOk result (λ made. made.marks ≡ marks) }
         ensures marked { IfOk result (λ made. AreMarked marks.items 0 (get nat_cmp made.first) made.next.items) }
@@ -99,7 +100,7 @@ fn find_marked(
     None
 }
 
-/// The first one of two places, where there are any.
+/// The smaller of two positions, where there are any.
 pub(crate) fn earlier(one: Option<usize>, other: Option<usize>) -> Option<usize>
     ensures { result ≡ earlier_of one other }
 {
@@ -110,7 +111,7 @@ pub(crate) fn earlier(one: Option<usize>, other: Option<usize>) -> Option<usize>
     }
 }
 
-/// The first free section that is alike, of those whose texts have the mark of a front of this list.
+/// The first free section whose text is alike and has the mark of a prefix of this list.
 pub(crate) fn find_fronted(
     pairs: &Pairs,
     sections: &[Scalars],

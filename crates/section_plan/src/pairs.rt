@@ -1,7 +1,7 @@
 //! Pairs of sections and parts.
 
 ghost use Rattle.std.specs.Prelude.{◌≡◌, ◌<◌, ℕ, IfOk, None, Some, length};
-ghost use Rattle.section_plan.specs.Matching.{AddsPair, AreKept, IsMatching, part_of as part_in, section_of as section_in};
+ghost use Rattle.section_plan.specs.Matching.{AddsPair, KeepsPairs, IsMatching, part_of as part_in, section_of as section_in};
 
 use fugue_ids::NoMemory;
 use std::alloc::Global;
@@ -49,7 +49,7 @@ impl Pairs {
 
     /// Pairs a section and a part, where both are free.
     pub(crate) fn pair_free(&mut self, section: usize, part: usize)
-        ensures { AreKept self.old self.new }
+        ensures { KeepsPairs self.old self.new }
     {
         if section >= self.of_section.len() || part >= self.of_part.len() {
             return;
@@ -65,7 +65,7 @@ impl Pairs {
         requires part { part < length self.old.of_part.items }
         requires free_section { part_in self.old section ≡ None }
         requires free_part { section_in self.old part ≡ None }
-        ensures matching { AreKept self.old self.new }
+        ensures matching { KeepsPairs self.old self.new }
         ensures there { section_in self.new part ≡ Some section }
         ensures adds { AddsPair self.old self.new section part }
     {

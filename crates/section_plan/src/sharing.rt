@@ -1,6 +1,6 @@
 //! Pairs of sections and parts whose texts share most: by words, pairs of words and runs of five that few texts have.
 
-ghost use Rattle.section_plan.specs.Matching.{AreKept};
+ghost use Rattle.section_plan.specs.Matching.{KeepsPairs};
 
 use crate::pairing::{free_parts, free_sections};
 use crate::pairs::Pairs;
@@ -35,7 +35,7 @@ pub(crate) fn pair_by_words(
     sections: &[Part<'_>],
     parts: &[Part<'_>],
 ) -> Result<(), NoMemory>
-    ensures { AreKept pairs.old pairs.new }
+    ensures { KeepsPairs pairs.old pairs.new }
 {
     let candidates = candidates_of(alloc, pairs, sections, parts)?;
     'candidates: for candidate in candidates.as_slice() {

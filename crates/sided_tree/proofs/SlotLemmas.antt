@@ -19,7 +19,7 @@ use Rattle.origin_model.specs.declared.operations.node.Node.{Node}
 use Rattle.origin_model.specs.declared.sides.Slot.{Slot}
 use Rattle.origin_model.specs.declared.sides.Slot.TheVariants.{LeftOf, RightOf}
 use Rattle.origin_model.proofs.SharedLemmas.{key_found, keyed_ids, part_bounds, part_least, siblings_fall, slot_held}
-use Rattle.sided_tree.specs.Elders.{is_elder}
+use Rattle.sided_tree.specs.EarlierSiblings.{is_earlier_sibling}
 use Rattle.sided_tree.specs.SlotKeys.{IsSlotKey}
 use Rattle.fugue_ids.proofs.LowLemmas.{front_held, low_in}
 use Rattle.fugue_ids.proofs.PartedLemmas.{to_held}
@@ -76,7 +76,7 @@ module _ (n : Node) (ns : List Node) (es : List Keyed) (new : AreNodes (n ∷ ns
   own = slot_by (as_ops ns) n.left n.right
 
   abbrev first : Identifier → Bool
-  first = is_elder ns n
+  first = is_earlier_sibling ns n
 
   -- its element is listed
   pub element_held : HoldsElement (ids es) s
@@ -133,11 +133,11 @@ module _ (n : Node) (ns : List Node) (es : List Keyed) (new : AreNodes (n ∷ ns
         by_slot (LeftOf q) h fit g = fit (λ e. cc)
 
     -- the gap by the last that goes before
-    pub by_elder : (o : Option Identifier) → o ≡ last_passing first (siblings es s k) → gap_behind es s k o ≡ gap_by_keys es own (slot_key (as_ops ns) own) first
-    by_elder o e = ap (gap_behind es s k) e ∙ (λ i. gap_by_keys es (is i) (key_is i) first)
+    pub by_earlier : (o : Option Identifier) → o ≡ last_passing first (siblings es s k) → gap_behind es s k o ≡ gap_by_keys es own (slot_key (as_ops ns) own) first
+    by_earlier o e = ap (gap_behind es s k) e ∙ (λ i. gap_by_keys es (is i) (key_is i) first)
 
-    -- an elder is listed
-    pub elder_held : (e : Identifier) → last_passing first (siblings es s k) ≡ Some e → Contains (ids es) e
-    elder_held e found =
+    -- an earlier sibling is listed
+    pub earlier_held : (e : Identifier) → last_passing first (siblings es s k) ≡ Some e → Contains (ids es) e
+    earlier_held e found =
         let c : Contains (ids (slot_part es s k)) e = low_in (child_key s k) (slot_part es s k) e (passing_in first (siblings es s k) e found) in
         to_held es (part_from es s k) (Some e) (front_held (rest_of (part_from es s k) es) (part_to es s k) (Some e) c)

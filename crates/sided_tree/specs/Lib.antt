@@ -1,4 +1,4 @@
-pub mod Elders
+pub mod EarlierSiblings
 pub mod Nodes
 pub mod Rows
 pub mod Side

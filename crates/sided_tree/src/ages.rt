@@ -1,3 +1,4 @@
+//! The order of arrival of the nodes, which exists in proofs alone, and nodes that were typed in a row.
 ghost use Rattle.std.specs.Prelude.{◌≡◌, ◌∷◌, [], List};
 ghost use Rattle.std.specs.Borrow.{ftrue};
 ghost use Rattle.origin_model.specs.declared.operations.node.Node.{Node};

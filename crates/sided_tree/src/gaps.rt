@@ -1,19 +1,20 @@
+//! The insertion point of a new node, found from its two origins by searches for keys.
 ghost use Rattle.std.specs.Prelude.{◌≡◌, ◌↔◌, ◌∷◌, [], All, true, Contains};
 ghost use Rattle.fugue_ids.specs.Keys.{IsFit, first_id, ids, rest_of};
 ghost use Rattle.fugue_ids.specs.declared.key.Gap.TheVariants.{Alone};
 ghost use Rattle.origin_model.specs.sides.KeyLaws.{HoldsElement};
 ghost use Rattle.origin_model.specs.sides.KeyedGap.{before_all as before_all_in, gap_between as gap_between_in};
-ghost use Rattle.origin_model.specs.sides.KeyedGap.{gap_by_keys as gap_by_keys_in, no_elder_gap as no_elder_gap_in};
+ghost use Rattle.origin_model.specs.sides.KeyedGap.{gap_by_keys as gap_by_keys_in, no_earlier_gap as no_earlier_gap_in};
 ghost use Rattle.origin_model.specs.sides.KeyedGap.{slot_key as slot_key_of, block_end as block_end_in};
 ghost use Rattle.origin_model.specs.sides.KeyedGap.{block_start as block_start_in, widest as widest_of};
 ghost use Rattle.origin_model.specs.sides.Keys.{keyed_order};
 ghost use Rattle.origin_model.specs.sides.Node.{AreNodes, as_ops, node_order};
 ghost use Rattle.origin_model.specs.sides.Slot.{IsBeside, at_gap, slot_by};
-ghost use Rattle.sided_tree.specs.Elders.{is_elder};
+ghost use Rattle.sided_tree.specs.EarlierSiblings.{is_earlier_sibling};
 
 use crate::node_lookup::NodeLookup;
 use crate::siblings::find_slot;
-use crate::slots::{last_elder, slot_key, slot_part};
+use crate::slots::{last_earlier_sibling, slot_key, slot_part};
 use fugue_ids::{ElementId, Gap, Key, OrderOf};
 use origin_model::{Node, Slot};
 
@@ -41,24 +42,24 @@ fn gap_by_keys<N: NodeLookup, F: OrderOf>(nodes: &N, order: &F, node: &Node) -> 
         (slot_by (as_ops (N.nodes nodes.now)) node.now.left node.now.right)
         (slot_key_of (as_ops (N.nodes nodes.now))
         (slot_by (as_ops (N.nodes nodes.now)) node.now.left node.now.right))
-        (is_elder (N.nodes nodes.now) node.now) }
+        (is_earlier_sibling (N.nodes nodes.now) node.now) }
     ensures fit { All IsFit (F.listed order.now) }
 {
     let slot = find_slot(nodes, node.left, node.right);
     let key = slot_key(order, &slot);
     let Some(part) = slot_part(order, &slot, key) else {
-        return no_elder_gap(order, &slot, key);
+        return no_earlier_gap(order, &slot, key);
     };
-    match last_elder(nodes, order, node, &part) {
-        Some(elder) => Gap::After(block_end(order, part.key.depth, elder)),
-        None => no_elder_gap(order, &slot, key),
+    match last_earlier_sibling(nodes, order, node, &part) {
+        Some(earlier_sibling) => Gap::After(block_end(order, part.key.depth, earlier_sibling)),
+        None => no_earlier_gap(order, &slot, key),
     }
 }
 
 /// The gap of a new child of the slot, whose element has this key, where no sibling goes before it.
-fn no_elder_gap<F: OrderOf>(order: &F, slot: &Slot, key: Key) -> Gap
+fn no_earlier_gap<F: OrderOf>(order: &F, slot: &Slot, key: Key) -> Gap
     requires held { HoldsElement (ids (F.listed order.now)) slot.now }
-    ensures { result ≡ no_elder_gap_in (F.listed order.now) slot.now key }
+    ensures { result ≡ no_earlier_gap_in (F.listed order.now) slot.now key }
 {
     match slot {
         Slot::RightOf(None) => before_all(order.behind(None)),

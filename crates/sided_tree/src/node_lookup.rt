@@ -1,3 +1,4 @@
+//! What the search asks of a store of nodes: the node, with its two origins, that has an identifier.
 ghost use Rattle.std.specs.Prelude.{◌≡◌, List};
 ghost use Rattle.origin_model.specs.declared.operations.node.Node.{Node};
 ghost use Rattle.origin_model.specs.sides.Node.{find_node};

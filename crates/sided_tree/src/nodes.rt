@@ -1,3 +1,4 @@
+//! The nodes of one sequence in a map of ranges, where those that were typed in a row are one entry.
 ghost use Rattle.std.specs.Prelude.{◌≡◌, ◌∷◌, [], false, IsOk, OnErr, OnOk};
 ghost use Rattle.origin_model.specs.sides.Detached.{NoOrigin, without};
 ghost use Rattle.origin_model.specs.sides.Node.{has_node};

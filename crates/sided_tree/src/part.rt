@@ -1,3 +1,4 @@
+//! A range of an order in which the elements of one search key are looked for.
 use fugue_ids::{ElementId, Key};
 
 /// A part of an order, in which the elements of a key are looked for: none there has a lesser one.

@@ -1,3 +1,4 @@
+//! Which list of children a node with given origins belongs to, and which siblings go before a new one.
 ghost use Rattle.std.specs.Prelude.{◌≡◌, ◌∷◌};
 ghost use Rattle.fugue_ids.specs.Keys.{ids};
 ghost use Rattle.fugue_ids.specs.Listed.{HoldsOrigin};
@@ -5,7 +6,7 @@ ghost use Rattle.origin_model.specs.order.Order.{has_left as has_left_on, right_
 ghost use Rattle.origin_model.specs.sides.Keys.{keyed_order};
 ghost use Rattle.origin_model.specs.sides.Node.{AreNodes, as_ops};
 ghost use Rattle.origin_model.specs.sides.Slot.{slot_by};
-ghost use Rattle.sided_tree.specs.Elders.{is_elder};
+ghost use Rattle.sided_tree.specs.EarlierSiblings.{is_earlier_sibling};
 
 use crate::node_lookup::NodeLookup;
 use fugue_ids::{ElementId, OrderOf};
@@ -56,7 +57,7 @@ pub(crate) fn goes_before<N: NodeLookup, F: OrderOf>(
 ) -> bool
     requires new { AreNodes (node.now ∷ N.nodes nodes.now) }
     requires list { F.listed order.now ≡ keyed_order (N.nodes nodes.now) }
-    ensures { result ≡ is_elder (N.nodes nodes.now) node.now sibling }
+    ensures { result ≡ is_earlier_sibling (N.nodes nodes.now) node.now sibling }
 {
     let right = right_of(nodes, sibling);
     goes_first(order, right, node.right, sibling, node.id)

@@ -1,3 +1,4 @@
+//! Where in the order a list of children stands, and the last of them that goes before a new one.
 ghost use Rattle.std.specs.Prelude.{◌≡◌, ◌↔◌, ◌⊎◌, ◌≤◌, ◌^◌, ◌≢◌, All, IfSome, IsNone, None, ◌∷◌};
 ghost use Rattle.fugue_ids.specs.Keys.{IsFit, ids};
 ghost use Rattle.fugue_ids.specs.Passing.{Falls, last_passing};
@@ -7,7 +8,7 @@ ghost use Rattle.origin_model.specs.sides.KeyedGap.{child_key as child_key_of, p
 ghost use Rattle.sided_tree.specs.SlotKeys.{IsSlotKey};
 ghost use Rattle.origin_model.specs.sides.Keys.{keyed_order};
 ghost use Rattle.origin_model.specs.sides.Node.{AreNodes};
-ghost use Rattle.sided_tree.specs.Elders.{BeginsLow, EndsLow, is_elder, siblings_in};
+ghost use Rattle.sided_tree.specs.EarlierSiblings.{BeginsLow, EndsLow, is_earlier_sibling, siblings_in};
 
 use crate::gaps::widest;
 use crate::node_lookup::NodeLookup;
@@ -84,7 +85,7 @@ fn slot_ends<F: OrderOf>(order: &F, slot: &Slot, key: Key) -> (Option<ElementId>
 }
 
 /// The last of the siblings in a part that goes before a new node. Those that do stand first.
-pub(crate) fn last_elder<N: NodeLookup, F: OrderOf>(
+pub(crate) fn last_earlier_sibling<N: NodeLookup, F: OrderOf>(
     nodes: &N,
     order: &F,
     node: &Node,
@@ -95,15 +96,15 @@ pub(crate) fn last_elder<N: NodeLookup, F: OrderOf>(
     requires from { BeginsLow (F.listed order.now) part.now }
     requires to { EndsLow (F.listed order.now) part.now }
     requires falls { All IsFit (F.listed order.now)
-        → Falls (is_elder (N.nodes nodes.now) node.now) (siblings_in (F.listed order.now) part.now) }
-    ensures elder { result
-        ≡ last_passing (is_elder (N.nodes nodes.now) node.now) (siblings_in (F.listed order.now) part.now) }
+        → Falls (is_earlier_sibling (N.nodes nodes.now) node.now) (siblings_in (F.listed order.now) part.now) }
+    ensures earlier_sibling { result
+        ≡ last_passing (is_earlier_sibling (N.nodes nodes.now) node.now) (siblings_in (F.listed order.now) part.now) }
     ensures fit { All IsFit (F.listed order.now) }
 {
-    let elder = |sibling|
+    let earlier_sibling = |sibling|
         requires new { AreNodes (node.now ∷ N.nodes nodes.now) }
         requires list { F.listed order.now ≡ keyed_order (N.nodes nodes.now) }
-        ensures { result ≡ is_elder (N.nodes nodes.entry.now) node.entry.now sibling }
+        ensures { result ≡ is_earlier_sibling (N.nodes nodes.entry.now) node.entry.now sibling }
     { goes_before(nodes, order, sibling, node) };
-    order.last_passing(part.from, part.to, part.key, elder)
+    order.last_passing(part.from, part.to, part.key, earlier_sibling)
 }

@@ -1,3 +1,4 @@
+//! The tree of sides of one sequence, with a node store of its own; the program searches runs instead.
 ghost use Rattle.std.specs.Prelude.{◌≡◌, ◌↔◌, ◌∷◌, [], false, true, IsOk, OnErr, OnOk};
 ghost use Rattle.fugue_ids.specs.Keys.{ids};
 ghost use Rattle.fugue_ids.specs.declared.key.Gap.TheVariants.{Alone};
@@ -100,7 +101,7 @@ impl SidedTree {
     /// One node more. After want of memory the tree is as before. Of all calls, this one alone takes memory, and none
     /// for a node that was typed behind the one before it.
     ///
-    /// The order is not looked at: where the node stands is told by its key.
+    /// The order is not looked at: where the node stands is specified by its key.
     pub fn attach<F: OrderOf>(
         &mut self,
         id: ElementId,

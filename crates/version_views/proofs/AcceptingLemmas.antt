@@ -73,13 +73,13 @@ with_more s now new done more was is =
     is ∙ ap (λ (t : State). with_ops t more) was ∙ ap (λ h. record s { held = record { history = h; waiting = s.held.waiting } }) (sym (extended-append s.held.history done more))
 
 pub next_can : (s now : State) (ops done more rest : List Op) → CanAccept s ops → ops ≡ done ++ (more ++ rest) → now ≡ with_ops s done → IsSound now → CanAccept now more
-next_can s now ops done more rest can parts was stands =
+next_can s now ops done more rest can parts was sound =
     let h : List Op = s.held.history in
     let ready : ReadyInTurn h (done ++ (more ++ rest)) = subst (ReadyInTurn h) parts can.ready in
     let here : ReadyInTurn (history_with h done) more = ready_front (history_with h done) more rest (ready_behind h done (more ++ rest) ready) in
     let long : length ops ≡ length done + (length more + length rest) = ap length parts ∙ length-append done (more ++ rest) ∙ ap (λ k. length done + k) (length-append more rest) in
     record {
-      stands = stands;
+      sound = sound;
       quiet = ap (λ (t : State). t.held.waiting) was ∙ can.quiet;
       ready = subst (λ (t : State). ReadyInTurn t.held.history more) (sym was) here;
       room = omega (arith, can.room, long, ap (λ (t : State). length t.held.history) was, ap (λ (t : State). t.most) was, extended_length h done);
@@ -92,23 +92,23 @@ take-parts (suc n) [] ys = let e : suc n ≡ suc n - 0 = omega arith in ap (λ k
 take-parts (suc n) (x ∷ xs) ys = let e : n - length xs ≡ suc n - length (x ∷ xs) = omega arith in ap (λ z. x ∷ z) (take-parts n xs ys ∙ ap (λ k. take n xs ++ take k ys) e)
 
 pub begins : (s : State) (ops : List Op) (count : ℕ) → CanAccept s (take count ops) → IsAccepting s s (take count ops) ops count
-begins s ops count can = record { done = []; parts = refl; accepted = refl; stands = can.stands }
+begins s ops count can = record { done = []; parts = refl; accepted = refl; sound = can.sound }
 
 module _ (s now : State) (ops rest mid next : List Op) (left : ℕ) (can : CanAccept s ops) (at : IsAccepting s now ops rest left) (is : rest ≡ mid ++ next) where
   here : ops ≡ at.done ++ (take left mid ++ take (left - length mid) next)
   here = at.parts ∙ ap (λ z. at.done ++ z) (ap (take left) is ∙ take-parts left mid next)
 
   pub some_can : CanAccept now (take left mid)
-  some_can = next_can s now ops at.done (take left mid) (take (left - length mid) next) can here at.accepted at.stands
+  some_can = next_can s now ops at.done (take left mid) (take (left - length mid) next) can here at.accepted at.sound
 
   pub goes_on : (new : State) (count : ℕ) → count ≡ min (length mid) left → new ≡ with_ops now (take left mid) → IsSound new → IsAccepting s new ops next (left - count)
-  goes_on new count counted accepted stands =
+  goes_on new count counted accepted sound =
       let e : left - length mid ≡ left - count = omega (arith, counted) in
       record {
         done = at.done ++ take left mid;
         parts = here ∙ sym (append_assoc at.done (take left mid) (take (left - length mid) next)) ∙ ap (λ k. (at.done ++ take left mid) ++ take k next) e;
         accepted = with_more s now new at.done (take left mid) at.accepted accepted;
-        stands = stands;
+        sound = sound;
       }
 
 -- where none is left, or no operation is there, all are accepted

@@ -47,12 +47,12 @@ front_is n s begun new b e =
 -- the replica that holds nothing yet can accept them
 pub first_can : (n : ℕ) (s begun : State) → n ≤ length s.held.history → IsSound s → IsSound begun → begun ≡ record (replica_at n s) { held = nothing_held }
     → CanAccept begun (take n (reverse s.held.history))
-first_can n s begun l st stands b =
+first_can n s begun l st sound b =
     let first : List Op = take n (reverse s.held.history) in
     let lawful : Lawful (history_with [] first) = subst Lawful (sym (from_nothing first)) (first_lawful n s.held.history st.lawful) in
     let room : 0 + length first ≤ front_most n s = omega (arith, first_fit n s l st) in
     record {
-      stands = stands;
+      sound = sound;
       quiet = ap (λ (t : State). t.held.waiting) b;
       ready = subst (λ (t : State). ReadyInTurn t.held.history first) (sym b) (ready_of [] first lawful);
       room = subst (λ (t : State). length t.held.history + length first ≤ t.most) (sym b) room;

@@ -11,7 +11,7 @@ use Rattle.version_views.specs.Versions.{Version, is_withdrawn_version, name_giv
 -- an operation among the oldest ones names the version
 record Names (r : ℕ) (history ops : List Op) (v : Version) : Type 0 where
   op : Op
-  stands : op_behind ops v.count ≡ Some op
+  op_is : op_behind ops v.count ≡ Some op
   named : name_in r history op ≡ Some v.name
 
 -- the version of an operation that has n before it, by the name that it gives
@@ -41,8 +41,8 @@ names_it r history (op ∷ older) v c =
     elim (Contains-append_cases (versions_up_to r history older) (one (length older) (name_in r history op)) v c) [
       | inl k ↦
           let n : Names r history older v = names_it r history older v k in
-          let other : nat_eq (length older) v.count ≡ false = ne_eqb (length older) v.count (λ d. omega (arith, d, behind_within older v.count n.op n.stands)) in
-          record { op = n.op; stands = ap (step op older v.count) other ∙ n.stands; named = n.named }
+          let other : nat_eq (length older) v.count ≡ false = ne_eqb (length older) v.count (λ d. omega (arith, d, behind_within older v.count n.op n.op_is)) in
+          record { op = n.op; op_is = ap (step op older v.count) other ∙ n.op_is; named = n.named }
       | inr k ↦ newest (name_in r history op) refl k
     ]
   where
@@ -52,7 +52,7 @@ names_it r history (op ∷ older) v c =
         elim (contains_cases (record { name = name; count = length older }) [] v k) [
           | inl same ↦ record {
             op = op;
-            stands = ap (step op older v.count) (eq-eqb (length older) v.count (ap (λ (w : Version). w.count) same));
+            op_is = ap (step op older v.count) (eq-eqb (length older) v.count (ap (λ (w : Version). w.count) same));
             named = e ∙ ap (λ (w : Version). Some w.name) same;
           }
           | inr there ↦ absurd (contains_none v there)
@@ -60,27 +60,27 @@ names_it r history (op ∷ older) v c =
 
 -- and what an operation names is a version
 is_there : (r : ℕ) (history ops : List Op) (v : Version) → Names r history ops v → Contains (versions_up_to r history ops) v
-is_there r history [] v n = let e : None ≡ Some n.op = n.stands in cc
+is_there r history [] v n = let e : None ≡ Some n.op = n.op_is in cc
 is_there r history (op ∷ older) v n =
     elim (cases_Bool (nat_eq (length older) v.count)) [
       | inl k ↦
-          let is : Some op ≡ Some n.op = sym (ap (step op older v.count) k) ∙ n.stands in
+          let is : Some op ≡ Some n.op = sym (ap (step op older v.count) k) ∙ n.op_is in
           let same : op ≡ n.op = cc in
           let name : name_in r history op ≡ Some v.name = ap (name_in r history) same ∙ n.named in
           let here : Contains (one (length older) (Some v.name)) v =
           subst (λ m. Contains (record { name = v.name; count = m } ∷ []) v) (sym (eqb-true (length older) v.count k)) (contains_here v []) in
           Contains-append_right (versions_up_to r history older) (one (length older) (name_in r history op)) v (subst (λ o. Contains (one (length older) o) v) (sym name) here)
       | inr k ↦ Contains-append_left (versions_up_to r history older) (one (length older) (name_in r history op)) v
-          (is_there r history older v (record { op = n.op; stands = sym (ap (step op older v.count) k) ∙ n.stands; named = n.named }))
+          (is_there r history older v (record { op = n.op; op_is = sym (ap (step op older v.count) k) ∙ n.op_is; named = n.named }))
     ]
 
 pub versions_are_given : VersionsAreGiven
 versions_are_given h r v =
-    ((λ c. by_names (names_it r h h v c)), (λ g. is_there r h h v (record { op = g.op; stands = g.stands; named = ap (named_by r g.op) g.not_withdrawn ∙ g.gives })))
+    ((λ c. by_names (names_it r h h v c)), (λ g. is_there r h h v (record { op = g.op; op_is = g.op_is; named = ap (named_by r g.op) g.not_withdrawn ∙ g.gives })))
   where
     by_names : Names r h h v → GivesName h r v
     by_names n =
         elim (cases_Bool (is_withdrawn_version h n.op)) [
           | inl k ↦ let e : None ≡ Some v.name = sym (ap (named_by r n.op) k) ∙ n.named in cc
-          | inr k ↦ record { op = n.op; stands = n.stands; gives = sym (ap (named_by r n.op) k) ∙ n.named; not_withdrawn = k }
+          | inr k ↦ record { op = n.op; op_is = n.op_is; gives = sym (ap (named_by r n.op) k) ∙ n.named; not_withdrawn = k }
         ]

@@ -7,4 +7,3 @@ pub mod NamingLemmas
 pub mod LineLemmas
 pub mod AcceptingLemmas
 pub mod FrontMakingLemmas
-pub mod WalkLemmas

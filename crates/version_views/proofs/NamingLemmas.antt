@@ -30,8 +30,8 @@ counts h id name good w =
 
 pub named_counts : (old new : State) (name : List ℕ) → is_name name ≡ true → new ≡ with_ops old (note_by old [] VERSION_CODE name ∷ []) → IsSound new
     → version_with new.held.history new.number name ≡ Some (length old.held.history)
-named_counts old new name good is stands =
-    let after : IsSound (with_ops old (note_by old [] VERSION_CODE name ∷ [])) = subst IsSound is stands in
+named_counts old new name good is sound =
+    let after : IsSound (with_ops old (note_by old [] VERSION_CODE name ∷ [])) = subst IsSound is sound in
     subst (λ s. version_with s.held.history s.number name ≡ Some (length old.held.history)) (sym is) (counts old.held.history _ name good after.lawful)
 
 not_memory : (fault : VersionFault) → fault ≢ NoMemory → as_note_fault fault ≢ NoteNoMemory

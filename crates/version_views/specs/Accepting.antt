@@ -7,7 +7,7 @@ use Rattle.origin_model.specs.edits.State.{State, IsSound}
 
 -- the operations can be accepted, one after another
 pub record CanAccept (s : State) (ops : List Op) : Type 0 where
-  pub stands : IsSound s
+  pub sound : IsSound s
   pub quiet : s.held.waiting ≡ []
   pub ready : ReadyInTurn s.held.history ops
   pub room : length s.held.history + length ops ≤ s.most
@@ -17,4 +17,4 @@ pub record IsAccepting (begun now : State) (ops rest : List Op) (left : ℕ) : T
   pub done : List Op
   pub parts : ops ≡ done ++ take left rest
   pub accepted : now ≡ with_ops begun done
-  pub stands : IsSound now
+  pub sound : IsSound now

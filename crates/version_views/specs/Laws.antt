@@ -53,7 +53,7 @@ LaterOpsLeaveWritten = (r : ℕ) (name : List ℕ) (new h : List Op) → All (λ
 -- the operation that has so many before it gives the name in a file of the replica r, and no Delete names it
 pub record GivesName (h : List Op) (r : ℕ) (v : Version) : Type 0 where
   pub op : Op
-  pub stands : op_behind h v.count ≡ Some op
+  pub op_is : op_behind h v.count ≡ Some op
   pub gives : name_given r op ≡ Some v.name
   pub not_withdrawn : is_withdrawn_version h op ≡ false
 

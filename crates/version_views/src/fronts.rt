@@ -16,7 +16,7 @@ fn front_most(replica: &Replica, count: usize) -> u32
     ensures most { result ≡ front_most_of count replica.now }
     ensures some { 0 < result }
     ensures within { result ≤ most_operations }
-    ensures stands { IsSound replica.now }
+    ensures sound { IsSound replica.now }
 {
     let besides = replica.accepted().len() - count + replica.waiting().len();
     (MOST_OPERATIONS - besides as u32).max(1)
@@ -26,7 +26,7 @@ fn front_most(replica: &Replica, count: usize) -> u32
 fn new_front(alloc: Global, replica: &Replica, count: usize) -> Replica
     requires { count ≤ length replica.now.held.history }
     ensures new { result ≡ record (replica_at count replica.now) { held = nothing_held } }
-    ensures stands { IsSound result }
+    ensures sound { IsSound result }
 {
     let most = front_most(replica, count);
     match Replica::new(alloc, replica.number(), replica.hold(), most) {
@@ -40,7 +40,7 @@ pub(crate) fn front_of(alloc: Global, replica: &Replica, count: usize) -> Result
     requires { count ≤ length replica.now.held.history }
     ensures front { IfOk result (λ front. front ≡ replica_at count replica.now) }
     ensures front_stands { IfOk result IsSound }
-    ensures stands { IsSound replica.now }
+    ensures sound { IsSound replica.now }
 {
     let mut front = new_front(alloc, replica, count);
     match accept_all(alloc, &mut front, replica.accepted(), count) {
@@ -63,7 +63,7 @@ pub fn front(alloc: Global, replica: &Replica, count: usize) -> Result<Option<Re
     ensures within { IfOk result (λ front. IfSome front (λ f. count ≤ length replica.now.held.history)) }
     ensures settled { IfOk result (λ front. IfSome front (λ f. IsSettled f.held)) }
     ensures fronts_stand { IfOk result (λ front. IfSome front (λ f. IsSound f)) }
-    ensures stands { IsSound replica.now }
+    ensures sound { IsSound replica.now }
 {
     if replica.accepted().len() < count {
         return Ok(None);

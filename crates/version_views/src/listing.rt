@@ -1,3 +1,4 @@
+//! Which notes of a replica are named versions, and the last version with a given name.
 ghost use Rattle.std.specs.Prelude.{◌≡◌, option_map};
 ghost use Rattle.origin_model.specs.edits.State.{IsSound};
 ghost use Rattle.version_views.specs.Versions.{is_name as is_name_of, is_withdrawn_version as withdrawn_in};
@@ -83,7 +84,7 @@ fn is_named(replica: &Replica, count: usize, name: &str) -> bool
 /// How many operations the version with the name has: the last one of that name.
 pub fn find_version(replica: &Replica, name: &str) -> Option<usize>
     ensures version { result ≡ version_with replica.now.held.history replica.now.number name.now }
-    ensures stands { IsSound replica.now }
+    ensures sound { IsSound replica.now }
 {
     let mut found = None;
     'walk: for count in replica.sections_and_notes() {

@@ -1,3 +1,4 @@
+//! Naming a version: a note that marks the operations accepted so far, and why it may be refused.
 ghost use Rattle.std.specs.Prelude.{◌≡◌, [], Some, true, length, IfOk, OnErr, OnOk};
 ghost use Rattle.origin_model.specs.edits.Noting.{IsNoted, ShowsAsBefore};
 ghost use Rattle.origin_model.specs.edits.State.{IsSound};
@@ -30,7 +31,7 @@ pub fn name_version(replica: &mut Replica, name: Body) -> Result<u32, VersionFau
     ensures shown { ShowsAsBefore replica.old replica.new }
     ensures unmade { OnErr result (replica.new ≡ replica.old) }
     ensures settled { IsSettled replica.new.held }
-    ensures stands { IsSound replica.new }
+    ensures sound { IsSound replica.new }
 {
     let names = NoteNames::read(&[]).unwrap();
     match replica.note(names, VERSION_CODE, name) {

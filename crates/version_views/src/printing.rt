@@ -48,7 +48,7 @@ fn put_versions<O: Out>(
 ) -> Result<(), Failed>
     ensures text { GathersText (O.seen output.old) (O.seen output.new) gather.old gather.new result
         (versions_text replica.now.held.history replica.now.number) }
-    ensures stands { IsSound replica.now }
+    ensures sound { IsSound replica.now }
 {
     'walk: for count in replica.sections_and_notes() {
         put_version(gather, output, replica, *count)?;
@@ -62,7 +62,7 @@ fn put_versions<O: Out>(
 pub fn write_versions<O: Sink>(replica: &Replica, output: &mut O) -> Result<(), Failed>
     ensures text { WritesBytes (O.seen output.old) (O.seen output.new) result
         (versions_text replica.now.held.history replica.now.number) }
-    ensures stands { IsSound replica.now }
+    ensures sound { IsSound replica.now }
 {
     let mut gather = Gather::new();
     put_versions(&mut gather, output, replica)?;

@@ -1,7 +1,6 @@
 //! The manuscript of the operations that were accepted first.
 ghost use Rattle.std.specs.Prelude.{◌≤◌, length};
 ghost use Rattle.origin_model.specs.edits.State.{IsSound};
-ghost use Rattle.origin_model.specs.order.Printed.{manuscript};
 ghost use Rattle.version_views.specs.Views.{WritesView, view};
 
 use crate::fronts::front_of;
@@ -30,16 +29,6 @@ impl From<NoMemory> for ViewFault {
     }
 }
 
-/// Writes what the front shows. It takes no memory.
-fn write_front<O: Sink>(front: &Replica, output: &mut O) -> Result<(), ViewFault>
-    ensures { WritesView (O.seen output.old) (O.seen output.new) result (manuscript front.now.held.history) }
-{
-    match front.write_manuscript(output) {
-        Ok(()) => Ok(()),
-        Err(Failed) => Err(ViewFault::SinkFault),
-    }
-}
-
 /// Writes the manuscript of the first n operations, in the order in which they were accepted: that of a version, where
 /// n is its count. What takes memory is done before the first byte goes out.
 pub fn write_view<O: Sink>(
@@ -50,10 +39,13 @@ pub fn write_view<O: Sink>(
 ) -> Result<(), ViewFault>
     requires { n ≤ length replica.now.held.history }
     ensures text { WritesView (O.seen output.old) (O.seen output.new) result (view replica.now.held.history n) }
-    ensures stands { IsSound replica.now }
+    ensures sound { IsSound replica.now }
 {
     let front = front_of(alloc, replica, n)?;
-    let written = write_front(&front, output);
+    let written = front.write_manuscript(output);
     front.discard();
-    written
+    match written {
+        Ok(()) => Ok(()),
+        Err(Failed) => Err(ViewFault::SinkFault),
+    }
 }

@@ -129,7 +129,7 @@ const CALLED: &[(&str, &[u8], u32)] = &[
 /// A command on the saved file, what it writes, and in how many calls.
 const WRITING: &[(&str, &[u8], u32)] = &[("print F", PRINTED, 3), ("send F", FRAMES, 30)];
 
-/// Each call on the file and on the output may fail. The fault is told where a note can be made.
+/// Each call on the file and on the output may fail. The fault is reported where a note can be made.
 #[test]
 fn each_call_may_fail_while_a_file_is_printed(rt: HostRuntime) {
     for (words, file, least) in CALLED {

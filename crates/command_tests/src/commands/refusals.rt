@@ -1,4 +1,4 @@
-//! How a refusal is told.
+//! How a refusal is reported.
 
 use crate::assertions::holds_at;
 use manuscript_cli::{Refusal, Status, tell};
@@ -85,7 +85,7 @@ const REFUSALS: &[(Refusal, &str, Status)] = &[
 ];
 
 #[test]
-fn refusals_are_told_in_a_line(rt: HostRuntime) {
+fn refusals_are_reported_in_a_line(rt: HostRuntime) {
     for (refusal, text, status) in REFUSALS {
         let line = format!(in rt.alloc(); "{text}\n").expect(&rt, "memory");
         let mut notes = MemSink::new(rt.alloc(), 5, Vec::new(rt.alloc()));

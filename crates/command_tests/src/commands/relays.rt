@@ -1,3 +1,4 @@
+//! Tests of the command `relay`: replies to sessions, hostile sessions, and a failure of each call.
 use super::{Ends, Fails, NONE, run_line};
 use crate::assertions::{equal, equal_at};
 use crate::frames::{LOWER_A, REPLY, S};

@@ -1,3 +1,4 @@
+//! Tests of the command `sync`: exchanges by example, and a failure of each call in one.
 use super::taken::{Batch, EMPTY, File, sends, with_room_for};
 use super::{is_cut_off, run_line};
 use crate::assertions::{equal_at, holds_at};
@@ -183,13 +184,13 @@ fn left_without(rt: &(impl Abort + AllocGlobal), fails: [&[u32]; 3]) -> Left {
     let mut notes = MemSink::new(rt.alloc(), 64, list(rt, fails[1]));
     let mut home = MemDisk::new(rt.alloc(), list(rt, NEW), list(rt, fails[2]));
     let status = run_on(rt, ASKED.words, &mut notes, &mut home, &mut wire);
-    let is_told = is_cut_off(notes.written(), COUNTS.as_bytes());
+    let is_reported = is_cut_off(notes.written(), COUNTS.as_bytes());
     drop(notes);
     drop(wire);
     let is_kept = has_bytes(&mut home, NEW);
     let (is_saved, is_empty) = sends(rt, ASKED.saved, &mut home);
     drop(home);
-    (status, is_told, is_kept, is_saved || is_empty)
+    (status, is_reported, is_kept, is_saved || is_empty)
 }
 
 /// On the wire there are a dial, two writes, and a read for each of the 19 bytes of the reply; the counts and the cursor
@@ -216,12 +217,12 @@ fn each_call_of_an_exchange_may_fail(rt: HostRuntime) {
         equal_at(&rt, &call, left, (status, call < 2, false, true));
     }
     for call in 0..8 {
-        let (status, is_told, _, is_whole) = left_without(&rt, [&[], &[], &[call]]);
+        let (status, is_reported, _, is_whole) = left_without(&rt, [&[], &[], &[call]]);
         let wanted = if call < 7 {
             (Status::OutsideFault, true, true)
         } else {
             (Status::Done, false, true)
         };
-        equal_at(&rt, &call, (status, is_told, is_whole), wanted);
+        equal_at(&rt, &call, (status, is_reported, is_whole), wanted);
     }
 }

@@ -1,3 +1,4 @@
+//! Tests of `take` and `merge` with a failure of each call, and the files that such tests start from.
 use super::{gives, is_cut_off, run_offline};
 use crate::assertions::holds_at;
 use crate::frames::{BEHIND_A, NEW, S, stream};
@@ -88,12 +89,12 @@ fn takes(
         home,
         &mut guest,
     );
-    let is_told = is_cut_off(notes.written(), COUNTS);
+    let is_reported = is_cut_off(notes.written(), COUNTS);
     drop(output);
     drop(guest);
     drop(notes);
     drop(input);
-    (status, is_told)
+    (status, is_reported)
 }
 
 /// Runs where this call on the object fails, and answers the status, where the run left what it should: the fault is
@@ -112,7 +113,7 @@ fn status_without(
         Object::Home => ([&[], &[], &[]], call),
     };
     let mut home = MemDisk::new(rt.alloc(), list(rt, NEW), list(rt, home_fails));
-    let (status, is_told) = takes(rt, words, fails, &mut home);
+    let (status, is_reported) = takes(rt, words, fails, &mut home);
     let (is_saved, is_empty) = sends(rt, COMING, &mut home);
     drop(home);
     let is_left = match object {
@@ -120,7 +121,7 @@ fn status_without(
         Object::Notes => is_saved,
         Object::Home => is_empty || is_saved,
     };
-    (status != Status::OutsideFault || is_told && is_left).then_some(status)
+    (status != Status::OutsideFault || is_reported && is_left).then_some(status)
 }
 
 /// Whether a file sends these frames, and whether it sends nothing.

@@ -1,3 +1,4 @@
+//! Tests of relay replies with runs: delivered, cut at each byte, malformed, or over the limit.
 use super::syncs::{UNCOUNTED, exchanged, replied};
 use crate::assertions::{equal, equal_at};
 use crate::frames::{S, stream};

@@ -1,3 +1,4 @@
+//! Tests of a replica's exchange with a relay: what is sent, what a reply does, and how it fails.
 use crate::assertions::{equal_at, holds_at};
 use crate::frames::REPLY;
 use crate::memory::list;

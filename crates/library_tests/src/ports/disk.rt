@@ -1,3 +1,4 @@
+//! Tests of disks: states after a crash, a limited capacity, and real files with their locks.
 mod slow;
 
 use crate::assertions::{equal, equal_at, holds_at};

@@ -1,3 +1,4 @@
+//! Tests of listeners: in memory, with listed failures or a limited capacity, and over TCP.
 ghost use Rattle.std.specs.Prelude.{All, IfOk};
 ghost use Rattle.outer_ports.specs.dock.Steps.{BringsSome};
 

@@ -1,3 +1,4 @@
+//! Tests of connections in memory: partial reads and writes, listed failures, and a limited capacity.
 use crate::assertions::{equal, holds_at};
 use fugue_ids::Failed;
 use memory_ports::{MemWire, SureWire};

@@ -1,3 +1,4 @@
+//! The file behind both disks in memory: its bytes, its writes and syncs so far, and what a crash leaves.
 ghost use Rattle.std.specs.Prelude.{◌⊎◌, ◌≡◌, ◌≤◌, ◌<◌, ◌+◌, ◌-◌, ◌^◌, [], length, min, IfOk, OnOk, OnErr, vec_len};
 ghost use Rattle.std.specs.Prelude.{vec_capacity, true, false, if◌then◌else◌};
 ghost use Rattle.outer_ports.specs.disk.States.{at_rest, wrote, tried_state, durable, IsHonest, IsCrashImage, overwritten};

@@ -1,3 +1,4 @@
+//! A disk in memory whose listed calls fail, and the choice of the image that a crash leaves.
 ghost use Rattle.std.specs.Prelude.{◌≡◌, ◌≤◌, ◌-◌, [], length, min, Some, None, IfOk};
 ghost use Rattle.outer_ports.specs.disk.States.{IsHonest, IsCrashImage};
 ghost use Rattle.outer_ports.specs.Calls.{risen};
@@ -23,7 +24,7 @@ pub enum Pick {
     Fill(u8),
 }
 
-/// A file in memory. It fails at the calls that it is told to, and where memory is wanting.
+/// A file in memory. It fails at the calls that it is set to, and where memory is wanting.
 #[derive(Drop)]
 pub struct MemDisk {
     alloc: Global,

@@ -1,3 +1,4 @@
+//! The high-water mark of the reads of a disk, which both disks in memory keep.
 ghost use Rattle.std.specs.Prelude.{◌≡◌};
 ghost use Rattle.outer_ports.specs.disk.Disks.{reach_after};
 

@@ -1,3 +1,4 @@
+//! A disk in memory with reserved capacity: I/O calls never allocate, and fail only if it is exceeded.
 ghost use Rattle.std.specs.Prelude.{◌≡◌, ◌≤◌, ◌-◌, [], length, min, Ok, Some, IfOk};
 ghost use Rattle.outer_ports.specs.disk.States.{IsHonest, IsCrashImage, wrote, durable};
 ghost use Rattle.outer_ports.specs.disk.Moments.{history_after_step};

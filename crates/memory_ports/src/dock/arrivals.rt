@@ -1,3 +1,4 @@
+//! The predefined events that a listener in memory delivers piece by piece, and a record of those delivered.
 ghost use Rattle.std.specs.Prelude.{◌≡◌, ◌≤◌, ◌<◌, ◌+◌, ◌-◌, ◌^◌, ◌∷◌, ◌++◌, ◌↔◌, [], length, false, IsTrue, IfSome};
 ghost use Rattle.std.specs.Prelude.{◌⊎◌, OnOk, OnErr, All, None};
 ghost use Rattle.outer_ports.specs.dock.Steps.{Fits, BringsSome, Gives, with_bytes, given_part, calls_for, calls_for_all};

@@ -1,3 +1,4 @@
+//! A listener in memory that delivers predefined events, keeps what is sent, and fails at listed calls.
 ghost use Rattle.std.specs.Prelude.{◌≡◌, ◌≤◌, ◌<◌, [], length, All, Some, None, option_map};
 ghost use Rattle.outer_ports.specs.Latest.{never};
 ghost use Rattle.outer_ports.specs.dock.Steps.{BringsSome};
@@ -13,8 +14,8 @@ use outer_ports::{Calls, Dock, DockStep, Latest, Listening, MemStep};
 use std::alloc::Global;
 use std::marker::Model;
 
-/// Gives steps from memory and keeps what is sent, as much in each call as its piece allows. It fails at the calls that
-/// it is told to, where no step is left, and where memory is wanting.
+/// Gives steps from memory and keeps what is sent, at most `piece` bytes in each call. A call fails if it is listed, if
+/// no step is left, or if memory runs out.
 #[derive(Drop)]
 pub struct MemDock {
     alloc: Global,
@@ -22,7 +23,7 @@ pub struct MemDock {
     arrivals: Arrivals,
     transcripts: Transcripts,
     ended: Vec<u32>,
-    /// How many bytes each of these had been sent as it was ended.
+    /// How many bytes each of these had been sent when it was ended.
     ended_at: Vec<usize>,
     piece: usize,
     calls: Calls,
@@ -81,7 +82,7 @@ impl MemDock {
         }
     }
 
-    /// All that was sent to the session: nothing to one that was sent nothing.
+    /// All that was sent to the session; it is empty for one that is not known.
     pub fn sent(&self, session: u32) -> &[u8]
         ensures { result.now ≡ sent_by self.now.transcripts session }
     {

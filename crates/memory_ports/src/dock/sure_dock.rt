@@ -1,3 +1,4 @@
+//! A listener in memory with reserved capacity for what each session is sent; I/O calls never allocate.
 ghost use Rattle.std.specs.Prelude.{ℕ, ◌≡◌, ◌≤◌, ◌<◌, [], length, if◌then◌else◌, All, Ok, Some, IfOk, option_map};
 ghost use Rattle.outer_ports.specs.Latest.{never, once_more};
 ghost use Rattle.outer_ports.specs.dock.Steps.{BringsSome, opens_session};

@@ -1,3 +1,4 @@
+//! What was sent to each session of a listener in memory, and how much more is sure to fit.
 ghost use Rattle.std.specs.Prelude.{ℕ, ◌≡◌, ◌≢◌, ◌≤◌, ◌<◌, ◌-◌, ◌++◌, [], length, nat_eq, position, OnOk, OnErr, IfOk};
 ghost use Rattle.memory_ports.specs.dock.Transcripts.{SameTranscripts, sent_by, room_by};
 

@@ -1,3 +1,4 @@
+//! A connection in memory with a predefined reply, which keeps what is written and fails at listed calls.
 ghost use Rattle.std.specs.Prelude.{◌≡◌, ◌≤◌, [], Some, None, option_map};
 ghost use Rattle.outer_ports.specs.wire.Wires.{Dials, WireReads, WireWrites};
 ghost use Rattle.outer_ports.specs.Latest.{never};
@@ -9,7 +10,7 @@ use std::alloc::Global;
 use std::marker::Model;
 
 /// Gives a reply from memory and keeps what is written, as much in each call as its piece allows. It fails at the calls
-/// that it is told to, and where memory is wanting.
+/// that it is set to, and where memory is wanting.
 #[derive(Drop)]
 pub struct MemWire {
     dials: Latest<Dial>,

@@ -1,3 +1,4 @@
+//! A connection in memory with a predefined reply and reserved capacity; I/O calls never allocate.
 ghost use Rattle.std.specs.Prelude.{◌≡◌, ◌≤◌, [], Ok, Some, IfOk, option_map};
 ghost use Rattle.outer_ports.specs.wire.Wires.{Dials, WireReads, WireWrites};
 ghost use Rattle.outer_ports.specs.Latest.{never, once_more};
@@ -9,8 +10,8 @@ use outer_ports::{Dial, Latest, Source, SureSource, Wire};
 use std::alloc::Global;
 use std::marker::Model;
 
-/// Gives a reply from memory and keeps what is written, as much in each call as its piece allows, in room that was
-/// reserved. A call takes no memory, and only a write fails, where no room is left.
+/// Gives a reply from memory and keeps what is written, at most `piece` bytes in each call, in room that was reserved.
+/// No call allocates memory, and none fails but a write for which no room is left.
 #[derive(Drop)]
 pub struct SureWire {
     dials: Latest<Dial>,

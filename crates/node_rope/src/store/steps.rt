@@ -1,7 +1,7 @@
 // What a store does.
 ghost use Rattle.std.specs.Prelude.{◌≡◌, ◌<◌, ◌≤◌, ◌+◌, ◌-◌, ◌^◌, [], ◌∷◌, ◌++◌, length, slice_set, slice_index_or};
 ghost use Rattle.std.specs.Prelude.{MatchResult, IfOk, IfErr};
-ghost use Rattle.node_rope.specs.Made.{IsMade, IsKept, IsLess, IsMore, made_count, shapes_of, values_of};
+ghost use Rattle.node_rope.specs.Made.{IsMade, KeepsMade, IsLess, IsMore, made_count, shapes_of, values_of};
 ghost use Rattle.node_rope.specs.Shapes.{shape_at};
 ghost use Rattle.node_rope.specs.Filed.{IsFiled};
 ghost use Rattle.node_rope.specs.Rising.{more};
@@ -40,7 +40,7 @@ impl<T: Drop> Store<T> {
         ensures shapes { shapes_of self.new ≡ slice_set (shapes_of self.old) link.number shape }
         ensures values { values_of self.new ≡ values_of self.old }
         ensures count { made_count self.new ≡ made_count self.old }
-        ensures kept { IsKept self.old self.new }
+        ensures kept { KeepsMade self.old self.new }
     {
         self.pile.at_mut(link.spot, link.number as usize).shape = Packed::new(shape);
     }
@@ -55,7 +55,7 @@ impl<T: Drop> Store<T> {
             (more own (shape_at (shapes_of self.old) link.number)) }
         ensures values { values_of self.new ≡ values_of self.old }
         ensures count { made_count self.new ≡ made_count self.old }
-        ensures kept { IsKept self.old self.new }
+        ensures kept { KeepsMade self.old self.new }
     {
         let node = self.pile.at_mut(link.spot, link.number as usize);
         let up = node.shape.parent();
@@ -73,7 +73,7 @@ impl<T: Drop> Store<T> {
             (reweighed_node less more (shape_at (shapes_of self.old) link.number)) }
         ensures values { values_of self.new ≡ values_of self.old }
         ensures count { made_count self.new ≡ made_count self.old }
-        ensures kept { IsKept self.old self.new }
+        ensures kept { KeepsMade self.old self.new }
     {
         let node = self.pile.at_mut(link.spot, link.number as usize);
         let up = node.shape.parent();
@@ -93,7 +93,7 @@ impl<T: Drop> Store<T> {
         ensures shapes { shapes_of self.new ≡ shapes_of self.old }
         ensures values { values_of self.new ≡ slice_set (values_of self.old) link.number value }
         ensures result { result ≡ slice_index_or (values_of self.old) link.number result }
-        ensures kept { IsKept self.old self.new }
+        ensures kept { KeepsMade self.old self.new }
     {
         replace(
             &mut self.pile.at_mut(link.spot, link.number as usize).value,
@@ -107,7 +107,7 @@ impl<T: Drop> Store<T> {
         ensures made { IfOk result
             (IsMore self.old self.new (shapes_of self.old ++ (shape ∷ [])) value) }
         ensures refused { IfErr result (λ b. (b.value ≡ value) × (self.new ≡ self.old)) }
-        ensures kept { IsKept self.old self.new }
+        ensures kept { KeepsMade self.old self.new }
     {
         let node = Node {
             shape: Packed::new(shape),

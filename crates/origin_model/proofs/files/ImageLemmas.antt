@@ -1,4 +1,4 @@
--- The image of a file: one at most, told by its parts, and what a further batch makes of it.
+-- The image of a file: one at most, fixed by its parts, and what a further batch makes of it.
 use Rattle.origin_model.proofs.Words.{AllByRecursion, List, Op, [], ap, append_assoc, arith, drop, false≢true, length, length-append, refl, subst, suc, sym, take, ℕ, ◌++◌, ◌+◌}
 use Rattle.origin_model.proofs.Words.{◌<◌, ◌∙◌, ◌∷◌, ◌≡◌, ◌≢◌, ◌≤◌}
 use Rattle.std.proofs.Math.Seq.{take-append_seam}
@@ -54,7 +54,7 @@ slots_not_empty (b ∷ bs) rest n e = cc e
 first_slot : (b : Batch) (bs : List Batch) (rest : List ℕ) → open_slots (b ∷ bs) ++ rest ≡ open_slot b ++ (open_slots bs ++ rest)
 first_slot b bs rest = append_assoc (open_slot b) (open_slots bs) rest
 
--- open slots up to their end are told by the bytes
+-- open slots up to their end are fixed by the bytes
 same_slots : ReadOnce → (k m n : ℕ) (bs cs : List Batch) (r q : List ℕ) → AllByRecursion IsBatch bs → AllByRecursion IsBatch cs → open_slots bs ++ r ≡ open_slots cs ++ q
     → m ≡ k + length bs → n ≡ k + length cs → m ≤ last_slot → n ≤ last_slot → Ends m r → Ends n q → r ≢ [] → q ≢ [] → (bs ≡ cs) × (r ≡ q)
 same_slots once k m n [] [] r q a b e mk nk ml nl x y f g = (refl, e)

@@ -39,7 +39,7 @@ module _ (next : List Op → Op → Option Identifier) where
         | inr e ↦ subst (EndsIn x) (sym (chain-other op older x e)) (chain-ends older x (sym (holds-other op older x e) ∙ p))
       ]
 
-  -- an element is told by its chain
+  -- an element is fixed by its chain
   pub same_chain : (h : List Op) (a b : Identifier) → IsHeld h a → IsHeld h b → chain next h a ≡ chain next h b → a ≡ b
   same_chain h a b k j e =
       let p = chain-ends h a k in

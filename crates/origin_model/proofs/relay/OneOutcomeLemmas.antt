@@ -10,7 +10,7 @@ use Rattle.origin_model.specs.declared.grammar.Grammar.TheVariants.{Version2}
 use Rattle.origin_model.specs.frames.Frames.{Framed, IsFrame, IsPartial, Item, Single, Typed, item_bytes}
 use Rattle.origin_model.specs.relay.Relay.{Relay, RelayRuns, RelaySteps, StepsPiece, session_opened, reply_of, sessions_after}
 use Rattle.origin_model.specs.relay.Session.{Closes, Closing, Frame, Front, Goes, IsKind, Kind, Neither, Next, SessionReading, Taken, TakesAll, TakesByte, TakesOne, closing}
-use Rattle.origin_model.specs.relay.Session.{greeting_read, told}
+use Rattle.origin_model.specs.relay.Session.{greeting_read, handled}
 
 -- of frames at the front of the same bytes there is one
 abbrev pub FramesOnce : Type 0
@@ -73,7 +73,7 @@ byte_once : FramesOnce → (limit : ℕ) (log : List (List ℕ)) (cursor : Optio
     → TakesByte limit log cursor bytes b → a ≡ b
 byte_once one limit log None bytes a b h i = h ∙ sym i
 byte_once one limit log (Some cursor) bytes a b h i =
-    h.2 ∙ ap (λ (k : Kind). told k limit log cursor bytes) (one_kind one bytes h.0 i.0 h.1 i.1) ∙ sym i.2
+    h.2 ∙ ap (λ (k : Kind). handled k limit log cursor bytes) (one_kind one bytes h.0 i.0 h.1 i.1) ∙ sym i.2
 
 -- also where the session is closed
 one_once : FramesOnce → (limit byte : ℕ) (log : List (List ℕ)) (next : Next) (a b : Taken) → TakesOne limit byte log next a → TakesOne limit byte log next b → a ≡ b
@@ -119,7 +119,7 @@ SomeKind = (bytes : List ℕ) → (kind : Kind) × IsKind kind bytes
 -- one byte has an outcome
 byte_some : SomeKind → (limit : ℕ) (log : List (List ℕ)) (cursor : Option ℕ) (bytes : List ℕ) → (after : Taken) × TakesByte limit log cursor bytes after
 byte_some some limit log None bytes = (greeting_read log bytes, refl)
-byte_some some limit log (Some cursor) bytes = let k = some bytes in (told k.0 limit log cursor bytes, (k.0, k.1, refl))
+byte_some some limit log (Some cursor) bytes = let k = some bytes in (handled k.0 limit log cursor bytes, (k.0, k.1, refl))
 
 -- also where the session is closed
 one_some : SomeKind → (limit byte : ℕ) (log : List (List ℕ)) (next : Next) → (after : Taken) × TakesOne limit byte log next after

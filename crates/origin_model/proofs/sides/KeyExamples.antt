@@ -49,7 +49,7 @@ concurrent_keys :
 unfolding chain order
 concurrent_keys = refl
 
--- a letter at each end of the list; behind X, which has an elder sibling's place to itself; before D, behind the elder
+-- a letter at each end of the list; behind X, which has an earlier sibling's place to itself; before D, behind the earlier one
 -- sibling A and its block
 concurrent_gaps :
     (gap_of (node (id 4 0) None (at 1 1)) concurrent ≡ Before (id 1 1)) × (gap_of (node (id 4 0) (at 1 0) None) concurrent ≡ After (id 1 0))

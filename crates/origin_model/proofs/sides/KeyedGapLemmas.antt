@@ -10,9 +10,9 @@ use Rattle.fugue_ids.specs.declared.key.Gap.{Gap}
 use Rattle.origin_model.specs.declared.sides.Slot.{Slot}
 use Rattle.origin_model.specs.declared.sides.Slot.TheVariants.{LeftOf, RightOf}
 use Rattle.origin_model.specs.sides.KeyLaws.{AllFit, BlockEndByKeys, BlockStartByKeys, EndsBlock, GapByKeys, StandsAt}
-use Rattle.origin_model.specs.sides.KeyedGap.{before_all, block_end, gap_behind, gap_by_keys, no_elder_gap, siblings, slot_key}
+use Rattle.origin_model.specs.sides.KeyedGap.{before_all, block_end, gap_behind, gap_by_keys, no_earlier_gap, siblings, slot_key}
 use Rattle.origin_model.specs.sides.Keys.{with_keys}
-use Rattle.origin_model.specs.sides.Slot.{BeforeBlock, HasElder, IsChild, IsGap, NoElder, goes_before, slot_of}
+use Rattle.origin_model.specs.sides.Slot.{BeforeBlock, HasEarlierSibling, IsChild, IsGap, NoEarlierSibling, goes_before, slot_of}
 use Rattle.origin_model.proofs.edits.SplitLemmas.{end_none, end_split}
 use Rattle.origin_model.proofs.operations.LookupLemmas.{when_ready}
 use Rattle.origin_model.proofs.order.{IsIn-held, before_at, chain_above, chain_before-fork, first_before, first_of, fork_moved, heads, left_in, never_none, no_member, order-has}
@@ -101,8 +101,8 @@ module _ (p : Place) (h : List Op) (w : Lawful h) (fit : AllFit p h) where
             no_member (children (RightOf None)) r.root n ((has_table p h w).full (RightOf None) r.root r.is_child))
       ]) refl
 
-  -- at the start, without an elder sibling
-  at_start : (es : List Identifier) → order p h ≡ es → NoElder children (RightOf None) (children (RightOf None)) (before_all (first_id (with_keys h es)))
+  -- at the start, without an earlier sibling
+  at_start : (es : List Identifier) → order p h ≡ es → NoEarlierSibling children (RightOf None) (children (RightOf None)) (before_all (first_id (with_keys h es)))
   at_start [] c =
       elim (first_split (children (RightOf None))) [
         | inl e ↦ e
@@ -118,28 +118,28 @@ module _ (p : Place) (h : List Op) (w : Lawful h) (fit : AllFit p h) where
             let z = first_walk p h w children (has_table p h w) r.0 in
             let f = spine_first p h w children (has_table p h w) z.1.path r.0 z.0 (child-in p h (RightOf None) r.0 kv) z.1.below in
             let d : z.0 ≡ e = head_is z.0 e es c f.member (first_all r.0 z.0 r.1 r.2 z.1 e me) in
-            record { younger = r.0; rest = r.1; is_first = r.2; block = subst (BeforeBlock children r.0) d z.1 }
+            record { later_sibling = r.0; rest = r.1; is_first = r.2; block = subst (BeforeBlock children r.0) d z.1 }
       ]
 
-  -- the gap without an elder sibling
-  no_elder : (s : Slot) → StandsAt p h s → NoElder children s (children s) (no_elder_gap keys s (slot_key h s))
-  no_elder (RightOf None) m = at_start (order p h) refl
-  no_elder (RightOf (Some l)) m = refl
-  no_elder (LeftOf q) m = block_start_by_keys p h children q w fit (has_table p h w) m
+  -- the gap without an earlier sibling
+  no_earlier_sibling : (s : Slot) → StandsAt p h s → NoEarlierSibling children s (children s) (no_earlier_gap keys s (slot_key h s))
+  no_earlier_sibling (RightOf None) m = at_start (order p h) refl
+  no_earlier_sibling (RightOf (Some l)) m = refl
+  no_earlier_sibling (LeftOf q) m = block_start_by_keys p h children q w fit (has_table p h w) m
 
-  -- the gap with elder siblings
-  with_elders : (s : Slot) (es ys front : List Identifier) (e : Identifier) (g : Gap) → es ≡ front ++ e ∷ [] → HasElder children es g → IsGap children s es ys g
+  -- the gap with earlier siblings
+  with_elders : (s : Slot) (es ys front : List Identifier) (e : Identifier) (g : Gap) → es ≡ front ++ e ∷ [] → HasEarlierSibling children es g → IsGap children s es ys g
   with_elders s [] ys front e g i k = absurd (no_member [] e refl (subst (λ l. Contains l e) (sym i) (contains_middle front e [])))
   with_elders s (z ∷ zs) ys front e g i k = k
 
-  -- the gap, by the last elder sibling
+  -- the gap, by the last earlier sibling
   gap_by : (s : Slot) → StandsAt p h s → (es ys : List Identifier) → children s ≡ es ++ ys → IsGap children s es ys (gap_behind keys s (slot_key h s) (last_before es))
   gap_by s m es ys c =
       elim (cases_origin (last_before es)) [
         | inl l ↦
             let none : es ≡ [] = end_none es l in
-            let g : Gap = no_elder_gap keys s (slot_key h s) in
-            let here : NoElder children s ys g = subst (λ t. NoElder children s t g) (c ∙ ap (λ t. t ++ ys) none) (no_elder s m) in
+            let g : Gap = no_earlier_gap keys s (slot_key h s) in
+            let here : NoEarlierSibling children s ys g = subst (λ t. NoEarlierSibling children s t g) (c ∙ ap (λ t. t ++ ys) none) (no_earlier_sibling s m) in
             subst (λ o. IsGap children s es ys (gap_behind keys s (slot_key h s) o)) (sym l) (subst (λ t. IsGap children s t ys g) (sym none) here)
         | inr l ↦
             let t = has_table p h w in
@@ -151,7 +151,7 @@ module _ (p : Place) (h : List Op) (w : Lawful h) (fit : AllFit p h) where
             let at = subst (λ n. EndsBlock children e (block_end keys n e)) (child-depth p h w fit s e m ke) b in
             subst (λ o. IsGap children s es ys (gap_behind keys s (slot_key h s) o)) (sym l.1)
             (with_elders s es ys split.0 e (gap_behind keys s (slot_key h s) (Some e)) split.1
-            (record { front = split.0; elder = e; is_last = split.1; path = at.path; below = at.below }))
+            (record { front = split.0; earlier_sibling = e; is_last = split.1; path = at.path; below = at.below }))
       ]
 
 -- the slot of a Ready element is in the place, by whichever history its right origin is looked up in
@@ -193,8 +193,8 @@ gap_by_keys_is_place p op older x w at fit =
     let found : List Identifier = siblings (with_keys older o) s (slot_key older s) in
     let r = falls_apart g found (fall p op older x w at fit) in
     let same : found ≡ table_of p older s = siblings_by_keys p older (table_of p older) s w.1 fit t m in
-    let whole : table_of p older s ≡ r.elders ++ r.youngers = sym same ∙ r.whole in
-    gap_is_place p op older x (table_of p older) r.elders r.youngers (gap_by_keys (with_keys older o) s (slot_key older s) g) w at t
-    (record { whole = whole; elder = r.elder; younger = r.younger })
-    (subst (λ e. IsGap (table_of p older) s r.elders r.youngers (gap_behind (with_keys older o) s (slot_key older s) e)) (sym r.last)
-    (gap_by p older w.1 fit s m r.elders r.youngers whole))
+    let whole : table_of p older s ≡ r.earlier ++ r.later = sym same ∙ r.whole in
+    gap_is_place p op older x (table_of p older) r.earlier r.later (gap_by_keys (with_keys older o) s (slot_key older s) g) w at t
+    (record { whole = whole; earlier_sibling = r.earlier_sibling; later_sibling = r.later_sibling })
+    (subst (λ e. IsGap (table_of p older) s r.earlier r.later (gap_behind (with_keys older o) s (slot_key older s) e)) (sym r.last)
+    (gap_by p older w.1 fit s m r.earlier r.later whole))

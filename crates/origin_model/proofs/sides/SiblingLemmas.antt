@@ -24,26 +24,26 @@ module _ (p : Place) (op : Op) (older : List Op) (x : Identifier) (w : Lawful (o
   held_apart v k d = true≢false (sym (element_own p op x at) ∙ ap (λ z. is_own z op) (sym d) ∙ held_not_own op older v (when_ready older op w.0) k)
 
   -- siblings that are held, parted where x goes in
-  module _ (children elders youngers : List Identifier) (held : (v : Identifier) → Contains children v → IsHeld older v)
-      (c : IsParted (order p older) older op x children elders youngers) where
-    -- the elder ones are held
-    elder_held : (v : Identifier) → Contains elders v → IsHeld older v
-    elder_held v m = held v (subst (λ l. Contains l v) (sym c.whole) (Contains-append_left elders youngers v m))
+  module _ (children earlier later : List Identifier) (held : (v : Identifier) → Contains children v → IsHeld older v)
+      (c : IsParted (order p older) older op x children earlier later) where
+    -- the earlier ones are held
+    earlier_held : (v : Identifier) → Contains earlier v → IsHeld older v
+    earlier_held v m = held v (subst (λ l. Contains l v) (sym c.whole) (Contains-append_left earlier later v m))
 
-    -- the younger ones are held
-    younger_held : (v : Identifier) → Contains youngers v → IsHeld older v
-    younger_held v m = held v (subst (λ l. Contains l v) (sym c.whole) (Contains-append_right elders youngers v m))
+    -- the later ones are held
+    younger_held : (v : Identifier) → Contains later v → IsHeld older v
+    younger_held v m = held v (subst (λ l. Contains l v) (sym c.whole) (Contains-append_right earlier later v m))
 
-    -- the elder ones go before x
-    pub elders_first : All (λ v. fork v x ≡ true) elders
+    -- the earlier ones go before x
+    pub elders_first : All (λ v. fork v x ≡ true) earlier
     elders_first =
-        all_from_contains (λ v. fork v x ≡ true) elders
-        (λ v m. sym (goes-fork v (elder_held v m)) ∙ All-contains (λ z. goes_before (order p older) older op x z ≡ true) elders v c.elder m)
+        all_from_contains (λ v. fork v x ≡ true) earlier
+        (λ v m. sym (goes-fork v (earlier_held v m)) ∙ All-contains (λ z. goes_before (order p older) older op x z ≡ true) earlier v c.earlier_sibling m)
 
-    -- x goes before the younger ones
-    pub youngers_last : All (λ v. fork x v ≡ true) youngers
+    -- x goes before the later ones
+    pub youngers_last : All (λ v. fork x v ≡ true) later
     youngers_last =
-        all_from_contains (λ v. fork x v ≡ true) youngers (λ v m.
+        all_from_contains (λ v. fork x v ≡ true) later (λ v m.
         let k = younger_held v m in
         fork-total (order p older) (op ∷ older) v x (held_apart v k)
-        (sym (goes-fork v k) ∙ All-contains (λ z. goes_before (order p older) older op x z ≡ false) youngers v c.younger m))
+        (sym (goes-fork v k) ∙ All-contains (λ z. goes_before (order p older) older op x z ≡ false) later v c.later_sibling m))

@@ -7,7 +7,8 @@ use Rattle.origin_model.proofs.Words.{lefts, next_left, next_right, order, place
 use Rattle.origin_model.proofs.Words.{◌∙◌, ◌∷◌, ◌≡◌, ◌≢◌, ◌⊎◌}
 use Rattle.fugue_ids.specs.declared.key.Gap.{Gap}
 use Rattle.fugue_ids.specs.declared.key.Gap.TheVariants.{After, Alone, Before}
-use Rattle.origin_model.specs.sides.Slot.{BeforeBlock, BeforeFirst, BehindElder, FirstBelow, HasElder, IsBeside, IsChild, IsGap, IsParted, IsPlace, IsTable, NoElder, at_gap}
+use Rattle.origin_model.specs.sides.Slot.{BeforeBlock, BeforeFirst, AfterEarlierSibling, FirstBelow, HasEarlierSibling, IsBeside, IsChild, IsGap}
+use Rattle.origin_model.specs.sides.Slot.{IsParted, IsPlace, IsTable, NoEarlierSibling, at_gap}
 use Rattle.origin_model.specs.sides.Slot.{slot_by, slot_of}
 use Rattle.origin_model.specs.declared.sides.Slot.{Slot}
 use Rattle.origin_model.specs.declared.sides.Slot.TheVariants.{LeftOf, RightOf}
@@ -52,7 +53,7 @@ block_starts p h children w t (v ∷ vs) q y my mq k e =
 -- a new element x of the place, the tables of the older history, and the siblings of x, parted where x goes in
 module _ (p : Place) (op : Op) (older : List Op) (x : Identifier) (w : Lawful (op ∷ older)) (at : element_of p op ≡ Some x) (children : Slot → List Identifier)
     (t : IsTable p older children)
-    (elders youngers : List Identifier) (c : IsParted (order p older) older op x (children (slot_of older op)) elders youngers) where
+    (earlier later : List Identifier) (c : IsParted (order p older) older op x (children (slot_of older op)) earlier later) where
   -- the longer history
   abbrev h : List Op
   h = op ∷ older
@@ -154,25 +155,25 @@ module _ (p : Place) (op : Op) (older : List Op) (x : Identifier) (w : Lawful (o
   fork-old : (a b : Identifier) → IsHeld older a → IsHeld older b → F a b ≡ fork_before (order p older) older a b
   fork-old a b k j = λ i. precedes (index_of_origin (order p older) (right-older p op older w a k i)) (index_of_origin (order p older) (right-older p op older w b j i)) a b
 
-  -- a sibling of x is an elder or a younger one
-  in_slot : (z : Identifier) → IsChild p older slot z → Contains elders z ⊎ Contains youngers z
-  in_slot z k = Contains-append_cases elders youngers z (subst (λ l. Contains l z) c.whole (t.full slot z k))
+  -- a sibling of x is an earlier or a later one
+  in_slot : (z : Identifier) → IsChild p older slot z → Contains earlier z ⊎ Contains later z
+  in_slot z k = Contains-append_cases earlier later z (subst (λ l. Contains l z) c.whole (t.full slot z k))
 
   -- the siblings of x are held
   slot_held : (v : Identifier) → Contains (children slot) v → IsHeld older v
   slot_held v m = child-held p older slot v (t.sound slot v m)
 
-  -- an elder sibling goes before x
-  elder_first : (z : Identifier) → Contains elders z → F z x ≡ true
-  elder_first z m = All-contains (λ v. F v x ≡ true) elders z (elders_first p op older x w at (children slot) elders youngers slot_held c) m
+  -- an earlier sibling goes before x
+  earlier_first : (z : Identifier) → Contains earlier z → F z x ≡ true
+  earlier_first z m = All-contains (λ v. F v x ≡ true) earlier z (elders_first p op older x w at (children slot) earlier later slot_held c) m
 
-  -- x goes before a younger sibling
-  younger_first : (z : Identifier) → Contains youngers z → F x z ≡ true
-  younger_first z m = All-contains (λ v. F x v ≡ true) youngers z (youngers_last p op older x w at (children slot) elders youngers slot_held c) m
+  -- x goes before a later sibling
+  younger_first : (z : Identifier) → Contains later z → F x z ≡ true
+  younger_first z m = All-contains (λ v. F x v ≡ true) later z (youngers_last p op older x w at (children slot) earlier later slot_held c) m
 
-  -- where x has no elder sibling, it goes before all siblings
-  no_elder : elders ≡ [] → (z : Identifier) → IsChild p older slot z → F x z ≡ true
-  no_elder e z k = elim (in_slot z k) [ inl m ↦ absurd (no_member elders z e m) | inr m ↦ younger_first z m ]
+  -- where x has no earlier sibling, it goes before all siblings
+  no_earlier_sibling : earlier ≡ [] → (z : Identifier) → IsChild p older slot z → F x z ≡ true
+  no_earlier_sibling e z k = elim (in_slot z k) [ inl m ↦ absurd (no_member earlier z e m) | inr m ↦ younger_first z m ]
 
   -- x stands in no chain of left origins of an older element
   not_under : (e : Identifier) → IsIn p older e → Contains (lefts h e) x → ⊥
@@ -190,22 +191,22 @@ module _ (p : Place) (op : Op) (older : List Op) (x : Identifier) (w : Lawful (o
     pub goes : B x y ≡ true
     pub first : (e : Identifier) → IsIn p older e → B x e ≡ true → (e ≡ y) ⊎ (B y e ≡ true)
 
-  -- the last elder sibling stands behind all siblings that go before x
-  elders_last : (front : List Identifier) (s z : Identifier) → elders ≡ front ++ s ∷ [] → IsChild p older slot s → IsChild p older slot z → F z x ≡ true → (z ≡ s) ⊎ (F z s ≡ true)
+  -- the last earlier sibling stands behind all siblings that go before x
+  elders_last : (front : List Identifier) (s z : Identifier) → earlier ≡ front ++ s ∷ [] → IsChild p older slot s → IsChild p older slot z → F z x ≡ true → (z ≡ s) ⊎ (F z s ≡ true)
   elders_last front s z e ks kz k =
       elim (in_slot z kz) [
         | inr m ↦ absurd (loop z x k (younger_first z m))
         | inl m ↦
             let R : Identifier → Identifier → Bool = fork_before (order p older) older in
-            let o : IsOrderedBy R elders = all_pairs_before (λ a b. R a b ≡ true) elders youngers (subst (IsOrderedBy R) c.whole (t.sorted slot)) in
+            let o : IsOrderedBy R earlier = all_pairs_before (λ a b. R a b ≡ true) earlier later (subst (IsOrderedBy R) c.whole (t.sorted slot)) in
             elim (last_of R front s z (subst (IsOrderedBy R) e o) (subst (λ l. Contains l z) e m)) [
               | inl d ↦ inl d
               | inr j ↦ inr (fork-old z s (child-held p older slot z kz) (child-held p older slot s ks) ∙ j)
             ]
       ]
 
-  -- what goes before x among the elements of its left origin goes before the last elder sibling, or is it
-  sibs : (front : List Identifier) (s u : Identifier) → elders ≡ front ++ s ∷ [] → IsChild p older slot s → IsIn p older u → left_at older u ≡ left_of op → u ≢ s → S u x ≡ true
+  -- what goes before x among the elements of its left origin goes before the last earlier sibling, or is it
+  sibs : (front : List Identifier) (s u : Identifier) → earlier ≡ front ++ s ∷ [] → IsChild p older slot s → IsIn p older u → left_at older u ≡ left_of op → u ≢ s → S u x ≡ true
       → S u s ≡ true
   sibs front s u g ks m lu n k =
       let rs : rights h s ≡ O ++ s ∷ [] = child_rights s ks in
@@ -227,19 +228,19 @@ module _ (p : Place) (op : Op) (older : List Op) (x : Identifier) (w : Lawful (o
             ]
       ]
 
-  -- with an elder sibling: the last node below the last of them is the last before x
-  elder_case : (y : Identifier) → BehindElder children elders y → IsBehind y
-  elder_case y b =
-      let s : Identifier = b.elder in
-      let inel : Contains elders s = subst (λ l. Contains l s) (sym b.is_last) (contains_middle b.front s []) in
-      let ks : IsChild p older slot s = t.sound slot s (subst (λ l. Contains l s) (sym c.whole) (Contains-append_left elders youngers s inel)) in
+  -- with an earlier sibling: the last node below the last of them is the last before x
+  earlier_case : (y : Identifier) → AfterEarlierSibling children earlier y → IsBehind y
+  earlier_case y b =
+      let s : Identifier = b.earlier_sibling in
+      let inel : Contains earlier s = subst (λ l. Contains l s) (sym b.is_last) (contains_middle b.front s []) in
+      let ks : IsChild p older slot s = t.sound slot s (subst (λ l. Contains l s) (sym c.whole) (Contains-append_left earlier later s inel)) in
       let ms : IsIn p older s = child-in p older slot s ks in
       let l = spine_last p older w.1 children t b.path s y ms b.below in
       let m : List Identifier = l.under.0 in
       let ly : lefts h y ≡ A ++ s ∷ m = le y l.member ∙ l.under.1 ∙ ap (λ a. a ++ m) (child_chain s ks) ∙ append_assoc A (s ∷ []) m in
       let rs : rights h s ≡ O ++ s ∷ [] = child_rights s ks in
       let ns : s ≢ x = is_old s (child-held p older slot s ks) in
-      let sx : S s x ≡ true = (λ i. chain_before false F (rs i) (rx i)) ∙ common false F O (s ∷ []) (x ∷ []) ∙ chain_before-fork false F s x [] [] ns ∙ elder_first s inel in
+      let sx : S s x ≡ true = (λ i. chain_before false F (rs i) (rx i)) ∙ common false F O (s ∷ []) (x ∷ []) ∙ chain_before-fork false F s x [] [] ns ∙ earlier_first s inel in
       record {
         member = l.member;
         goes = (λ i. chain_before true S (ly i) (lx i)) ∙ common true S A (s ∷ m) (x ∷ []) ∙ chain_before-fork true S s x m [] ns ∙ sx;
@@ -258,8 +259,8 @@ module _ (p : Place) (op : Op) (older : List Op) (x : Identifier) (w : Lawful (o
         ];
       }
 
-  -- a left child without an elder sibling: the first node below its parent is the first behind x
-  left_case : (q y : Identifier) → slot ≡ LeftOf q → elders ≡ [] → BeforeBlock children q y → IsInFront y
+  -- a left child without an earlier sibling: the first node below its parent is the first behind x
+  left_case : (q y : Identifier) → slot ≡ LeftOf q → earlier ≡ [] → BeforeBlock children q y → IsInFront y
   left_case q y es none b =
       let par = left_parent older (left_of op) (right_of op) q es in
       let mq : IsIn p older q = right_in p op older x q (when_ready older op w.0) at par.0 in
@@ -275,7 +276,8 @@ module _ (p : Place) (op : Op) (older : List Op) (x : Identifier) (w : Lawful (o
         | inl e ↦ ap (chain_before false F (x ∷ [])) e
         | inr e ↦
             let kv : IsChild p older slot e.0 = subst (λ s. IsChild p older s e.0) (sym es) e.3 in
-            ap (chain_before false F (x ∷ [])) e.2 ∙ chain_before-fork false F x e.0 [] e.1 (λ d. is_old e.0 (child-held p older slot e.0 kv) (sym d)) ∙ no_elder none e.0 kv
+            ap (chain_before false F (x ∷ [])) e.2 ∙ chain_before-fork false F x e.0 [] e.1 (λ d. is_old e.0 (child-held p older slot e.0 kv) (sym d))
+            ∙ no_earlier_sibling none e.0 kv
       ] in
       let sxy : S x y ≡ true = (λ i. chain_before false F (rx i) (ry i)) ∙ common false F O (x ∷ []) my ∙ start in
       record {
@@ -321,13 +323,13 @@ module _ (p : Place) (op : Op) (older : List Op) (x : Identifier) (w : Lawful (o
   right_left l e = sym slot_left-is ∙ ap (slot_left older) e
 
   -- the first right child of the start: the first node below its next sibling is the first behind x
-  first_case : (y : Identifier) → slot ≡ RightOf None → elders ≡ [] → BeforeFirst children youngers y → IsInFront y
+  first_case : (y : Identifier) → slot ≡ RightOf None → earlier ≡ [] → BeforeFirst children later y → IsInFront y
   first_case y es none b =
       let l0 : left_of op ≡ None = right_left None es in
       let a0 : A ≡ [] = ap (chain_above next_left older) l0 in
       let o0 : O ≡ [] = ap (over older) es in
-      let v : Identifier = b.younger in
-      let whole : children slot ≡ v ∷ b.rest = c.whole ∙ ap (λ a. a ++ youngers) none ∙ b.is_first in
+      let v : Identifier = b.later_sibling in
+      let whole : children slot ≡ v ∷ b.rest = c.whole ∙ ap (λ a. a ++ later) none ∙ b.is_first in
       let kv : IsChild p older slot v = t.sound slot v (subst (λ l. Contains l v) (sym whole) (contains_here v b.rest)) in
       let f = spine_first p older w.1 children t b.block.path v y (child-in p older slot v kv) b.block.below in
       let lv : left_at older v ≡ None = child-left p older slot v kv ∙ slot_left-is ∙ l0 in
@@ -337,7 +339,8 @@ module _ (p : Place) (op : Op) (older : List Op) (x : Identifier) (w : Lawful (o
       let lx0 : lefts h x ≡ x ∷ [] = lx ∙ ap (λ a. a ++ x ∷ []) a0 in
       let rx0 : rights h x ≡ x ∷ [] = rx ∙ ap (λ a. a ++ x ∷ []) o0 in
       let sxy : S x y ≡ true =
-      (λ i. chain_before false F (rx0 i) (ry i)) ∙ chain_before-fork false F x v [] f.under.0 (λ d. is_old v (child-held p older slot v kv) (sym d)) ∙ no_elder none v kv in
+      (λ i. chain_before false F (rx0 i) (ry i)) ∙ chain_before-fork false F x v [] f.under.0 (λ d. is_old v (child-held p older slot v kv) (sym d))
+      ∙ no_earlier_sibling none v kv in
       record {
         member = f.member;
         goes = (λ i. chain_before true S (lx0 i) (ly i)) ∙ chain_before-fork true S x y [] [] (λ d. is_old y (IsIn-held p older y f.member) (sym d)) ∙ sxy;
@@ -366,8 +369,8 @@ module _ (p : Place) (op : Op) (older : List Op) (x : Identifier) (w : Lawful (o
             ];
       }
 
-  -- a right child without an elder sibling: its parent is the last before x
-  parent_case : (l : Identifier) → slot ≡ RightOf (Some l) → elders ≡ [] → IsBehind l
+  -- a right child without an earlier sibling: its parent is the last before x
+  parent_case : (l : Identifier) → slot ≡ RightOf (Some l) → earlier ≡ [] → IsBehind l
   parent_case l es none =
       let l0 : left_of op ≡ Some l = right_left (Some l) es in
       let a0 : A ≡ lefts older l = ap (chain_above next_left older) l0 in
@@ -391,13 +394,13 @@ module _ (p : Place) (op : Op) (older : List Op) (x : Identifier) (w : Lawful (o
                 let frx : F r.root x ≡ true =
                 sym ((λ i. chain_before false F ((re u d.member ∙ r.path) i) (rx0 i))
                 ∙ chain_before-fork false F r.root x r.below [] (is_old r.root (child-held p older slot r.root kr))) ∙ sux in
-                absurd (loop r.root x frx (no_elder none r.root kr)))
+                absurd (loop r.root x frx (no_earlier_sibling none r.root kr)))
           ]) z.1
         ];
       }
 
   -- the only right child of the start: there is no other element
-  alone_case : slot ≡ RightOf None → elders ≡ [] → youngers ≡ [] → order p older ≡ []
+  alone_case : slot ≡ RightOf None → earlier ≡ [] → later ≡ [] → order p older ≡ []
   alone_case es none no_younger =
       empty_from (order p older) (λ e i.
       let n : IsIn p older e = All-contains (IsIn p older) (order p older) e (order-in p older w.1) i in
@@ -405,7 +408,7 @@ module _ (p : Place) (op : Op) (older : List Op) (x : Identifier) (w : Lawful (o
       let d = under_left p older None e z.0 z.1 w.1 tt n z.2 in
       let r = rooted p older None z.0 w.1 tt d.member d.left_u in
       let kr : IsChild p older slot r.root = subst (λ s. IsChild p older s r.root) (sym es) r.is_child in
-      elim (in_slot r.root kr) [ inl m ↦ no_member elders r.root none m | inr m ↦ no_member youngers r.root no_younger m ])
+      elim (in_slot r.root kr) [ inl m ↦ no_member earlier r.root none m | inr m ↦ no_member later r.root no_younger m ])
 
   -- the finished order is in order with x too
   ordered : IsOrderedBy B (order p older)
@@ -449,29 +452,29 @@ module _ (p : Place) (op : Op) (older : List Op) (x : Identifier) (w : Lawful (o
     alone = ((λ d. e), (λ d. refl));
   }
 
-  -- the gap without an elder sibling
-  no_elder_gap : (s : Slot) (g : Gap) → slot ≡ s → elders ≡ [] → NoElder children s youngers g → IsPlace g x (order p older) (order p h)
-  no_elder_gap (RightOf None) Alone e n k = place_alone (alone_case e n k)
-  no_elder_gap (RightOf None) (Before y) e n k = place_in_front y (first_case y e n k)
-  no_elder_gap (RightOf (Some l)) (After y) e n k = subst (λ z. IsPlace (After z) x (order p older) (order p h)) k (place_behind l (parent_case l e n))
-  no_elder_gap (LeftOf q) (Before y) e n k = place_in_front y (left_case q y e n k)
-  no_elder_gap _ _ e n k = absurd k
+  -- the gap without an earlier sibling
+  no_earlier_gap : (s : Slot) (g : Gap) → slot ≡ s → earlier ≡ [] → NoEarlierSibling children s later g → IsPlace g x (order p older) (order p h)
+  no_earlier_gap (RightOf None) Alone e n k = place_alone (alone_case e n k)
+  no_earlier_gap (RightOf None) (Before y) e n k = place_in_front y (first_case y e n k)
+  no_earlier_gap (RightOf (Some l)) (After y) e n k = subst (λ z. IsPlace (After z) x (order p older) (order p h)) k (place_behind l (parent_case l e n))
+  no_earlier_gap (LeftOf q) (Before y) e n k = place_in_front y (left_case q y e n k)
+  no_earlier_gap _ _ e n k = absurd k
 
-  -- the gap with an elder sibling
-  elder_gap : (g : Gap) → HasElder children elders g → IsPlace g x (order p older) (order p h)
-  elder_gap (After y) k = place_behind y (elder_case y k)
-  elder_gap _ k = absurd k
+  -- the gap with an earlier sibling
+  earlier_gap : (g : Gap) → HasEarlierSibling children earlier g → IsPlace g x (order p older) (order p h)
+  earlier_gap (After y) k = place_behind y (earlier_case y k)
+  earlier_gap _ k = absurd k
 
-  -- the gap, by whether there is an elder sibling
-  gap_by : (es : List Identifier) (g : Gap) → elders ≡ es → IsGap children slot es youngers g → IsPlace g x (order p older) (order p h)
-  gap_by [] g e k = no_elder_gap slot g refl e k
-  gap_by (z ∷ zs) g e k = elder_gap g (subst (λ l. HasElder children l g) (sym e) k)
+  -- the gap, by whether there is an earlier sibling
+  gap_by : (es : List Identifier) (g : Gap) → earlier ≡ es → IsGap children slot es later g → IsPlace g x (order p older) (order p h)
+  gap_by [] g e k = no_earlier_gap slot g refl e k
+  gap_by (z ∷ zs) g e k = earlier_gap g (subst (λ l. HasEarlierSibling children l g) (sym e) k)
 
 -- the gap that the tree gives is the place of the order
 pub gap_is_place :
-    (p : Place) (op : Op) (older : List Op) (x : Identifier) (children : Slot → List Identifier) (elders youngers : List Identifier) (g : Gap)
+    (p : Place) (op : Op) (older : List Op) (x : Identifier) (children : Slot → List Identifier) (earlier later : List Identifier) (g : Gap)
     → Lawful (op ∷ older) → element_of p op ≡ Some x → IsTable p older children
-    → IsParted (order p older) older op x (children (slot_of older op)) elders youngers
-    → IsGap children (slot_of older op) elders youngers g
+    → IsParted (order p older) older op x (children (slot_of older op)) earlier later
+    → IsGap children (slot_of older op) earlier later g
     → IsPlace g x (order p older) (order p (op ∷ older))
-gap_is_place p op older x children elders youngers g w at t c k = gap_by p op older x w at children t elders youngers c elders g refl k
+gap_is_place p op older x children earlier later g w at t c k = gap_by p op older x w at children t earlier later c earlier g refl k

@@ -69,7 +69,7 @@ child-lefts p h s v w k = lefts-above h v w (child-held p h s v k) ∙ ap (λ l.
 pub child-rights : (p : Place) (h : List Op) (s : Slot) (v : Identifier) → Lawful h → IsChild p h s v → rights h v ≡ over h s ++ v ∷ []
 child-rights p h s v w k = rights-at h v k.op w k.held ∙ slot_by-over h v (left_of k.op) (right_of k.op) ∙ ap (λ s. over h s ++ v ∷ []) k.slot
 
--- a slot is told by the left origin and the right origins above
+-- a slot is fixed by the left origin and the right origins above
 same_slot : (h : List Op) (s : Slot) (l r : Option Identifier) → IsThere h s → l ≡ slot_left h s → ((q : Identifier) → r ≡ Some q → IsHeld h q) → over h (slot_by h l r) ≡ over h s
     → slot_by h l r ≡ s
 same_slot h (RightOf m) l None t e f o = ap RightOf e
@@ -85,7 +85,7 @@ same_slot h (LeftOf q) l (Some z) t e f o =
       | inr k ↦ absurd (never_none next_right h q t (sym o ∙ ap (over h) (slot-no h l z k)))
     ]
 
--- an origin is told by the chain above
+-- an origin is fixed by the chain above
 pub same_above : (h : List Op) (l m : Option Identifier) → ((r : Identifier) → l ≡ Some r → IsHeld h r) → IsThere h (RightOf m)
     → chain_above next_left h l ≡ chain_above next_left h m → l ≡ m
 same_above h None None f t e = refl

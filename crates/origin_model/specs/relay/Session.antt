@@ -93,16 +93,16 @@ IsKind Neither bytes = ((ops : List Op) → IsFrame Version2 (record { bytes = b
     × (bytes ≢ closing)
 
 -- and what they do
-abbrev pub told : Kind → (limit : ℕ) → List (List ℕ) → (cursor : ℕ) → List ℕ → Taken
-told (Frame ops) limit log cursor bytes = log_joined limit log cursor ops
-told Closing limit log cursor bytes = record { log = log; next = Closes (reply_from log cursor) }
-told Front limit log cursor bytes = record { log = log; next = Goes (record { cursor = Some cursor; rest = bytes }) }
-told Neither limit log cursor bytes = session_refused log 1
+abbrev pub handled : Kind → (limit : ℕ) → List (List ℕ) → (cursor : ℕ) → List ℕ → Taken
+handled (Frame ops) limit log cursor bytes = log_joined limit log cursor ops
+handled Closing limit log cursor bytes = record { log = log; next = Closes (reply_from log cursor) }
+handled Front limit log cursor bytes = record { log = log; next = Goes (record { cursor = Some cursor; rest = bytes }) }
+handled Neither limit log cursor bytes = session_refused log 1
 
 -- the bytes since the last whole message, with one that came
 abbrev pub TakesByte : (limit : ℕ) → List (List ℕ) → (cursor : Option ℕ) → List ℕ → Taken → Type 0
 TakesByte limit log None bytes after = after ≡ greeting_read log bytes
-TakesByte limit log (Some cursor) bytes after = (kind : Kind) × IsKind kind bytes × (after ≡ told kind limit log cursor bytes)
+TakesByte limit log (Some cursor) bytes after = (kind : Kind) × IsKind kind bytes × (after ≡ handled kind limit log cursor bytes)
 
 -- one byte more of a text; it counts for nothing behind the one that closed the session
 abbrev pub TakesOne : (limit byte : ℕ) → List (List ℕ) → Next → Taken → Type 0

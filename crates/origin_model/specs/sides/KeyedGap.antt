@@ -62,16 +62,16 @@ abbrev pub before_all : Option Identifier → Gap
 before_all None = Alone
 before_all (Some x) = Before x
 
--- the gap without an elder sibling: before all at the start, behind the parent of right children, and before the block
+-- the gap without an earlier sibling: before all at the start, behind the parent of right children, and before the block
 -- of the parent of left ones
-abbrev pub no_elder_gap : List Keyed → Slot → Key → Gap
-no_elder_gap es (RightOf None) k = before_all (first_id es)
-no_elder_gap es (RightOf (Some l)) k = After l
-no_elder_gap es (LeftOf q) k = Before (block_start es k q)
+abbrev pub no_earlier_gap : List Keyed → Slot → Key → Gap
+no_earlier_gap es (RightOf None) k = before_all (first_id es)
+no_earlier_gap es (RightOf (Some l)) k = After l
+no_earlier_gap es (LeftOf q) k = Before (block_start es k q)
 
--- the gap, by the last elder sibling: behind its block
+-- the gap, by the last earlier sibling: behind its block
 abbrev pub gap_behind : List Keyed → Slot → Key → Option Identifier → Gap
-gap_behind es s k None = no_elder_gap es s k
+gap_behind es s k None = no_earlier_gap es s k
 gap_behind es s k (Some e) = After (block_end es (child_key s k).depth e)
 
 -- the gap of a new child of the slot, whose element has key k, where g says which siblings go before it

@@ -50,49 +50,49 @@ goes_before finished older op x v = precedes (index_of_origin finished (right_at
 
 -- the children of a slot, parted where the new element x of the operation goes in
 pub record IsParted (finished : List Identifier) (older : List Op) (op : Op) (x : Identifier)
-    (children elders youngers : List Identifier) : Type 0 where
-  pub whole : children ≡ elders ++ youngers
-  pub elder : All (λ v. goes_before finished older op x v ≡ true) elders
-  pub younger : All (λ v. goes_before finished older op x v ≡ false) youngers
+    (children earlier later : List Identifier) : Type 0 where
+  pub whole : children ≡ earlier ++ later
+  pub earlier_sibling : All (λ v. goes_before finished older op x v ≡ true) earlier
+  pub later_sibling : All (λ v. goes_before finished older op x v ≡ false) later
 
--- y is the last node below the last of the elder siblings
-pub record BehindElder (children : Slot → List Identifier) (elders : List Identifier) (y : Identifier) : Type 0 where
+-- y is the last node below the last of the earlier siblings
+pub record AfterEarlierSibling (children : Slot → List Identifier) (earlier : List Identifier) (y : Identifier) : Type 0 where
   pub front : List Identifier
-  pub elder : Identifier
-  pub is_last : elders ≡ front ++ elder ∷ []
+  pub earlier_sibling : Identifier
+  pub is_last : earlier ≡ front ++ earlier_sibling ∷ []
   pub path : List Identifier
-  pub below : LastBelow children path elder y
+  pub below : LastBelow children path earlier_sibling y
 
 -- y is the first node below q
 pub record BeforeBlock (children : Slot → List Identifier) (q y : Identifier) : Type 0 where
   pub path : List Identifier
   pub below : FirstBelow children path q y
 
--- y is the first node below the first of the younger siblings
-pub record BeforeFirst (children : Slot → List Identifier) (youngers : List Identifier) (y : Identifier) : Type 0 where
-  pub younger : Identifier
+-- y is the first node below the first of the later siblings
+pub record BeforeFirst (children : Slot → List Identifier) (later : List Identifier) (y : Identifier) : Type 0 where
+  pub later_sibling : Identifier
   pub rest : List Identifier
-  pub is_first : youngers ≡ younger ∷ rest
-  pub block : BeforeBlock children younger y
+  pub is_first : later ≡ later_sibling ∷ rest
+  pub block : BeforeBlock children later_sibling y
 
--- the gap where x has no elder sibling: behind the parent of right children, before the first node below the parent of left children,
+-- the gap where x has no earlier sibling: behind the parent of right children, before the first node below the parent of left children,
 -- before all for the first right child of the start, and alone for its only one
-abbrev pub NoElder : (Slot → List Identifier) → Slot → List Identifier → Gap → Type 0
-NoElder children (RightOf (Some l)) youngers (After y) = l ≡ y
-NoElder children (LeftOf q) youngers (Before y) = BeforeBlock children q y
-NoElder children (RightOf None) youngers (Before y) = BeforeFirst children youngers y
-NoElder children (RightOf None) youngers Alone = youngers ≡ []
-NoElder _ _ _ _ = ⊥
+abbrev pub NoEarlierSibling : (Slot → List Identifier) → Slot → List Identifier → Gap → Type 0
+NoEarlierSibling children (RightOf (Some l)) later (After y) = l ≡ y
+NoEarlierSibling children (LeftOf q) later (Before y) = BeforeBlock children q y
+NoEarlierSibling children (RightOf None) later (Before y) = BeforeFirst children later y
+NoEarlierSibling children (RightOf None) later Alone = later ≡ []
+NoEarlierSibling _ _ _ _ = ⊥
 
--- the gap where x has elder siblings: behind the last node below the last of them
-abbrev pub HasElder : (Slot → List Identifier) → List Identifier → Gap → Type 0
-HasElder children elders (After y) = BehindElder children elders y
-HasElder _ _ _ = ⊥
+-- the gap where x has earlier siblings: behind the last node below the last of them
+abbrev pub HasEarlierSibling : (Slot → List Identifier) → List Identifier → Gap → Type 0
+HasEarlierSibling children earlier (After y) = AfterEarlierSibling children earlier y
+HasEarlierSibling _ _ _ = ⊥
 
--- the gap, by the slot of x and its elder and younger siblings there
+-- the gap, by the slot of x and its earlier and later siblings there
 abbrev pub IsGap : (Slot → List Identifier) → Slot → List Identifier → List Identifier → Gap → Type 0
-IsGap children s [] youngers g = NoElder children s youngers g
-IsGap children s (e ∷ es) youngers g = HasElder children (e ∷ es) g
+IsGap children s [] later g = NoEarlierSibling children s later g
+IsGap children s (e ∷ es) later g = HasEarlierSibling children (e ∷ es) g
 
 -- x inserted directly behind y, and at the end where there is no y
 abbrev pub inserted_behind : Identifier → Identifier → List Identifier → List Identifier

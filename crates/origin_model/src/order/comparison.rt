@@ -163,7 +163,7 @@ fn goes_first(finished: &[ElementId], ops: &[Op], a: ElementId, b: ElementId) ->
     there < here || (there == here && a < b)
 }
 
-fn elder_at(finished: &[ElementId], ops: &[Op], fork: Fork) -> bool
+fn earlier_at(finished: &[ElementId], ops: &[Op], fork: Fork) -> bool
     ensures { result ≡ by_fork false (fork_before finished.now (reverse ops.now)) fork }
 {
     match fork {
@@ -174,7 +174,7 @@ fn elder_at(finished: &[ElementId], ops: &[Op], fork: Fork) -> bool
 }
 
 /// Whether u stands before v, which has the same left origin.
-fn is_elder(
+fn is_earlier_sibling(
     alloc: Global,
     finished: &[ElementId],
     ops: &[Op],
@@ -186,7 +186,7 @@ fn is_elder(
     let first = rights_of(alloc, ops, u)?;
     let second = rights_of(alloc, ops, v)?;
     let fork = first_fork(first.as_slice(), second.as_slice());
-    Ok(elder_at(finished, ops, fork))
+    Ok(earlier_at(finished, ops, fork))
 }
 
 fn before_at(
@@ -200,7 +200,7 @@ fn before_at(
     match fork {
         Fork::Same | Fork::SecondEnds => Ok(false),
         Fork::FirstEnds => Ok(true),
-        Fork::At(a, b) => is_elder(alloc, finished, ops, a, b),
+        Fork::At(a, b) => is_earlier_sibling(alloc, finished, ops, a, b),
     }
 }
 

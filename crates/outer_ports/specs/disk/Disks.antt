@@ -28,8 +28,8 @@ pub record DiskView : Type 0 where
   pub reach : Option ℕ
 
 -- it tells its states
-abbrev pub DiskTells : DiskView → Type 0
-DiskTells disk = IsSome disk.past
+abbrev pub DiskIsSpecified : DiskView → Type 0
+DiskIsSpecified disk = IsSome disk.past
 
 -- the room that a call leaves which writes n bytes
 abbrev pub room_after_write : ℕ → Option RoomView → Option RoomView
@@ -51,7 +51,7 @@ pub record Looks {E T : Type 0} (old new : DiskView) (result : Result T E) : Typ
   pub past : new.past ≡ old.past
   pub room : new.room ≡ old.room
   pub count : FailsOnlyFor old.room (λ room. ⊥) old.faults new.faults result
-  pub specified_no_fault : DiskTells old → OnOk result (new.faults ≡ old.faults)
+  pub specified_no_fault : DiskIsSpecified old → OnOk result (new.faults ≡ old.faults)
 
 -- where calls are sure, a step that fits is taken, and one that does not fit fails and does nothing
 pub record IsSureStep {E T : Type 0} (room : RoomView) (n : ℕ) (old new : DiskView) (result : Result T E) : Type 0 where
@@ -62,7 +62,7 @@ pub record IsSureStep {E T : Type 0} (room : RoomView) (n : ℕ) (old new : Disk
 
 -- the length
 pub record Sizes {E : Type 0} (old new : DiskView) (result : Result ℕ E) : Type 0 where
-  pub told : IfOk result (λ n. IfSome old.past (λ h. n ≡ length h.last.seen))
+  pub specified : IfOk result (λ n. IfSome old.past (λ h. n ≡ length h.last.seen))
   pub looks : Looks old new result
   pub asked : OnOk result (new.sizes ≡ option_map risen old.sizes)
   pub unasked : OnErr result (new.sizes ≡ old.sizes)
@@ -77,7 +77,7 @@ pub record GivesAt (seen : List ℕ) (at n : ℕ) (buf : List ℕ) : Type 0 wher
 -- a read at a place: what it gives, and how it may fail
 pub record ReadsAt {E : Type 0} (old new : DiskView) (result : Result ℕ E) (at : ℕ) (buf : List ℕ) : Type 0 where
   pub bound : IfOk result (λ n. n ≤ length buf)
-  pub told : IfOk result (λ n. IfSome old.past (λ h. GivesAt h.last.seen at n buf))
+  pub specified : IfOk result (λ n. IfSome old.past (λ h. GivesAt h.last.seen at n buf))
   pub looks : Looks old new result
   pub asked : OnOk result (new.reach ≡ option_map (reach_after at (length buf)) old.reach)
   pub unasked : OnErr result (new.reach ≡ old.reach)
@@ -92,7 +92,7 @@ pub record WritesAt {E T : Type 0} (old new : DiskView) (result : Result T E) (a
   pub unread : IsUnread old new
   pub cause : HasCause old.faults new.faults result
   pub sure : IfSome old.room (λ room. IsSureStep room (length bytes) old new result)
-  pub specified_no_fault : DiskTells old → OnOk result (new.faults ≡ old.faults)
+  pub specified_no_fault : DiskIsSpecified old → OnOk result (new.faults ≡ old.faults)
 
 -- what a read gives was one of the images, and is now the only one
 pub record Syncs {E T : Type 0} (old new : DiskView) (result : Result T E) : Type 0 where
@@ -104,4 +104,4 @@ pub record Syncs {E T : Type 0} (old new : DiskView) (result : Result T E) : Typ
   pub unread : IsUnread old new
   pub cause : HasCause old.faults new.faults result
   pub sure : IfSome old.room (λ room. IsSureStep room 0 old new result)
-  pub specified_no_fault : DiskTells old → OnOk result (new.faults ≡ old.faults)
+  pub specified_no_fault : DiskIsSpecified old → OnOk result (new.faults ≡ old.faults)

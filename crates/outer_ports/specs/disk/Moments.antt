@@ -23,7 +23,7 @@ state_at h m = slice_index_or (moments h) (moment_number h - m) h.last
 abbrev pub history_after_step : (DiskState → DiskState) → History → History
 history_after_step f h = record { last = f h.last; before = h.last ∷ h.before }
 
--- a disk's states with one more, where they are told
+-- a disk's states with one more, where they are specified
 abbrev pub past_after_step : (DiskState → DiskState) → Option History → Option History
 past_after_step f None = None
 past_after_step f (Some h) = Some (history_after_step f h)
@@ -54,7 +54,7 @@ pub record LeavesOnly (old new : History) (P : List ℕ → Type 0) : Type 0 whe
   pub grows : moments new ≡ recent ++ moments old
   pub each : All (λ s. (image : List ℕ) → IsCrashImage s image → P image) recent
 
--- the same, to a later history where one is told
+-- the same, to a later history where one is specified
 abbrev pub LeavesOnlyTo : History → Option History → (List ℕ → Type 0) → Type 0
 LeavesOnlyTo old None P = ⊥
 LeavesOnlyTo old (Some new) P = LeavesOnly old new P

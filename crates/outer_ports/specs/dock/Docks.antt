@@ -11,7 +11,7 @@ use Rattle.outer_ports.specs.declared.dock.Listening.{Listening}
 use Rattle.outer_ports.specs.declared.latest.Latest.{Latest}
 use Rattle.outer_ports.specs.declared.dock.MemStep.{MemStep}
 
--- each told only by an object that tells it
+-- each given only by an object that specifies it
 pub record DockView : Type 0 where
   -- how often it listened, and the last time
   pub listens : Option (Latest Listening)
@@ -33,7 +33,7 @@ pub record DockView : Type 0 where
   pub ends : Option ℕ
 
 -- it tells when it listened, the steps, what was sent to each session, and which were ended, and when
-pub record DockTells (dock : DockView) : Type 0 where
+pub record DockIsSpecified (dock : DockView) : Type 0 where
   pub listens : IsSome dock.listens
   pub taken : IsSome dock.taken
   pub coming : IsSome dock.coming
@@ -80,7 +80,7 @@ pub record Listens {E T : Type 0} (old new : DockView) (result : Result T E) (po
   pub ended_at : new.ended_at ≡ old.ended_at
   pub ends : new.ends ≡ old.ends
   pub count : FailsOnlyFor old.ends (λ ends. ⊥) old.faults new.faults result
-  pub specified_no_fault : DockTells old → OnOk result (new.faults ≡ old.faults)
+  pub specified_no_fault : DockIsSpecified old → OnOk result (new.faults ≡ old.faults)
 
 -- a step is taken; nothing at an error, which a sure dock gives only where no step is left
 pub record Takes {E : Type 0} (old new : DockView) (result : Result DockStep E) (buf : List ℕ) : Type 0 where
@@ -94,7 +94,7 @@ pub record Takes {E : Type 0} (old new : DockView) (result : Result DockStep E) 
   pub ended_at : new.ended_at ≡ old.ended_at
   pub ends : new.ends ≡ old.ends
   pub count : FailsOnlyFor old.ends (λ ends. IfSome old.coming (λ coming. coming ≡ [])) old.faults new.faults result
-  pub specified_no_fault : DockTells old → OnOk result (new.faults ≡ old.faults)
+  pub specified_no_fault : DockIsSpecified old → OnOk result (new.faults ≡ old.faults)
 
 -- a session's bytes go out, as to a sink
 pub record Sends {E : Type 0} (old new : DockView) (result : Result ℕ E) (session : ℕ) (piece : List ℕ) : Type 0 where
@@ -119,5 +119,5 @@ pub record EndsSession {E T : Type 0} (old new : DockView) (result : Result T E)
   pub nothing_taken : TakesNothing old new
   pub listens : new.listens ≡ old.listens
   pub count : FailsOnlyFor old.ends (λ ends. ends ≡ 0) old.faults new.faults result
-  pub specified_no_fault : DockTells old → OnOk result (new.faults ≡ old.faults)
+  pub specified_no_fault : DockIsSpecified old → OnOk result (new.faults ≡ old.faults)
   pub within : IfSome old.ends (λ ends. OnOk result (0 < ends))

@@ -78,7 +78,7 @@ pub record Gives (most : ℕ) (old new : List MemStep) (step : MemStep) : Type 0
   pub given : step ≡ given_part most first
   pub left : new ≡ rest_after most first ++ others
 
--- the same with some number, where the steps are told
+-- the same with some number, where the steps are specified
 abbrev pub GivesSome : Option (List MemStep) → Option (List MemStep) → MemStep → Type 0
 GivesSome None None step = ⊤
 GivesSome None (Some new) step = ⊥

@@ -21,8 +21,8 @@ pub record WireView : Type 0 where
   pub room : Option ℕ
 
 -- it tells its dials, what is left and what was written
-abbrev pub WireTells : WireView → Type 0
-WireTells wire = IsSome wire.dials × IsSome wire.left × IsSome wire.said
+abbrev pub WireIsSpecified : WireView → Type 0
+WireIsSpecified wire = IsSome wire.dials × IsSome wire.left × IsSome wire.said
 
 -- a wire as what is read from
 abbrev pub source_of : WireView → SourceView

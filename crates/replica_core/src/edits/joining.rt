@@ -25,7 +25,7 @@ impl Replica {
     pub(crate) fn own_id(&self, counter: u64) -> ElementId
         requires { counter < 2 ^ 32 }
         ensures id { result ≡ id_at self.now.number counter }
-        ensures stands { IsSound self.now }
+        ensures sound { IsSound self.now }
     {
         ElementId {
             replica: self.number(),
@@ -36,7 +36,7 @@ impl Replica {
     /// Types a text, each scalar behind the one before it: all of it, or none after want of memory. The answer is how many
     /// there are.
     pub(crate) fn type_text(&mut self, spot: TextSpot, text: &str) -> Result<u32, NoMemory>
-        requires stands { IsSound self.old }
+        requires sound { IsSound self.old }
         requires can_join { CanJoin self.old (typed_at self.old.number spot (chars text.now)) }
         requires counted { spot.count ≡ length (chars text.now) }
         requires counters { spot.counter + length (chars text.now) ≤ 2 ^ 32 }
@@ -44,7 +44,7 @@ impl Replica {
         ensures ok { OnOk result (Gains self.old self.new (typed_at self.old.number spot (chars text.now))) }
         ensures err { OnErr result (StopsPartly self.old self.new (typed_at self.old.number spot (chars text.now))) }
         ensures settled { IsSettled self.new.held }
-        ensures stands { IsSound self.new }
+        ensures sound { IsSound self.new }
     {
         if spot.count == 0 {
             return Ok(0);
@@ -66,13 +66,13 @@ impl Replica {
         section: &ElementId,
         targets: &[ElementId],
     ) -> Result<(), NoMemory>
-        requires stands { IsSound self.old }
+        requires sound { IsSound self.old }
         requires can_join { CanJoin self.old (deletes_of targets.now) }
         requires within { AreWithin section.now self.old.held.history targets.now }
         ensures ok { OnOk result (Gains self.old self.new (deletes_of targets.now)) }
         ensures err { OnErr result (StopsPartly self.old self.new (deletes_of targets.now)) }
         ensures settled { IsSettled self.new.held }
-        ensures stands { IsSound self.new }
+        ensures sound { IsSound self.new }
     {
         let mut at = 0;
         'deleted: while at < targets.len() {

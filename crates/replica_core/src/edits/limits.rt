@@ -27,7 +27,7 @@ impl Replica {
         ensures ok { OnOk result (refused_ops self.now count ≡ None) }
         ensures few { OnOk result (count ≤ self.now.most) }
         ensures err { IfErr result (λ fault. refused_ops self.now count ≡ Some fault) }
-        ensures stands { IsSound self.now }
+        ensures sound { IsSound self.now }
     {
         let room = self.room();
         if count <= room {
@@ -44,7 +44,7 @@ impl Replica {
         ensures few { OnOk result (count ≤ self.now.most) }
         ensures may { OnOk result (refused_elements self.now count ≡ None) }
         ensures err { IfErr result (λ fault. refused_elements self.now count ≡ Some fault) }
-        ensures stands { IsSound self.now }
+        ensures sound { IsSound self.now }
     {
         let greatest = self.greatest_counter();
         let next = next_behind(greatest);

@@ -27,7 +27,7 @@ pub(crate) struct TextSpot {
     pub count: u32,
 }
 
-/// The elements of a section that go.
+/// The elements of a section that a cut deletes.
 #[derive(Drop)]
 pub(crate) struct Targets {
     pub section: ElementId,
@@ -42,7 +42,7 @@ fn scalar_count(text: &str) -> usize
 }
 
 impl Replica {
-    /// Where the text comes in.
+    /// Where a put inserts its text.
     pub(crate) fn text_spot(
         &self,
         section: usize,
@@ -55,7 +55,7 @@ impl Replica {
         ensures count { IfOk result (λ spot. spot.count ≡ length (chars text.now)) }
         ensures may { OnOk result (refusal_message self.now (Put section at (chars text.now)) ≡ None) }
         ensures err { IfErr result (λ fault. IsCauseOf fault self.now (Put section at (chars text.now))) }
-        ensures stands { IsSound self.now }
+        ensures sound { IsSound self.now }
     {
         let Some(section) = self.shown_section(section) else {
             return Err(EditFault::NoSection);
@@ -74,14 +74,14 @@ impl Replica {
         })
     }
 
-    /// The elements that go.
+    /// The elements that a cut deletes.
     pub(crate) fn targets(&self, section: usize, at: usize, n: usize) -> Result<Targets, EditFault>
         ensures ok { IfOk result (λ targets. made_by self.now (Cut section at n) ≡ deletes_of targets.ids.items) }
         ensures within { IfOk result
             (λ targets. AreWithin targets.section self.now.held.history targets.ids.items) }
         ensures may { OnOk result (refusal_message self.now (Cut section at n) ≡ None) }
         ensures err { IfErr result (λ fault. IsCauseOf fault self.now (Cut section at n)) }
-        ensures stands { IsSound self.now }
+        ensures sound { IsSound self.now }
     {
         let Some(section) = self.shown_section(section) else {
             return Err(EditFault::NoSection);
@@ -101,7 +101,7 @@ impl Replica {
         ensures ok { IfOk result (λ op. made_by self.now (Add at title) ≡ op ∷ []) }
         ensures may { OnOk result (refusal_message self.now (Add at title) ≡ None) }
         ensures err { IfErr result (λ fault. IsCauseOf fault self.now (Add at title)) }
-        ensures stands { IsSound self.now }
+        ensures sound { IsSound self.now }
     {
         let Some(origins) = origins_at(self.catalogue(), at) else {
             return Err(EditFault::OutOfRange);
@@ -120,7 +120,7 @@ impl Replica {
         ensures ok { IfOk result (λ op. made_by self.now (DropSection section) ≡ op ∷ []) }
         ensures may { OnOk result (refusal_message self.now (DropSection section) ≡ None) }
         ensures err { IfErr result (λ fault. IsCauseOf fault self.now (DropSection section)) }
-        ensures stands { IsSound self.now }
+        ensures sound { IsSound self.now }
     {
         let Some(section) = self.shown_section(section) else {
             return Err(EditFault::NoSection);
@@ -134,7 +134,7 @@ impl Replica {
         ensures ok { IfOk result (λ op. op ≡ note_by self.now names code body) }
         ensures may { OnOk result (note_refusal self.now ≡ None) }
         ensures err { IfErr result (λ fault. note_refusal self.now ≡ Some fault) }
-        ensures stands { IsSound self.now }
+        ensures sound { IsSound self.now }
     {
         let counter = self.check_elements(1)?;
         Ok(Op::Note {
@@ -146,7 +146,7 @@ impl Replica {
     }
 }
 
-/// Whether there are so many from the position on.
+/// Whether `n` of `count` members stand from the position on.
 pub(crate) fn has_part(count: usize, at: usize, n: usize) -> bool
     ensures { IsTrue result ↔ (at + n ≤ count) }
 {
@@ -156,7 +156,7 @@ pub(crate) fn has_part(count: usize, at: usize, n: usize) -> bool
     }
 }
 
-/// So many of the shown elements from the position on.
+/// The `n` shown elements from the position on.
 pub(crate) fn shown_part(
     alloc: Global,
     place: &SectionList,
@@ -171,7 +171,7 @@ pub(crate) fn shown_part(
     gather(alloc, &mut place.shown_from(at), n)
 }
 
-/// The next ones, so many.
+/// The next `count` shown elements.
 fn gather(alloc: Global, walk: &mut Shown, count: usize) -> Result<Vec<ElementId>, NoMemory>
     requires { count ≤ length walk.old }
     ensures part { IfOk result (λ part. part.items ≡ take count walk.old) }
@@ -184,7 +184,7 @@ fn gather(alloc: Global, walk: &mut Shown, count: usize) -> Result<Vec<ElementId
     Ok(part)
 }
 
-/// Where an element comes in: behind the left one and before the right one.
+/// The origins of a new element: it goes after the left one and before the right one.
 #[derive(Clone, Copy)]
 pub(crate) struct Origins {
     pub left: Option<ElementId>,

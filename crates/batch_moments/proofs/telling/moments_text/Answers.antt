@@ -2,7 +2,7 @@ use Rattle.std.proofs.Common.{List, ap, append-nil, append_assoc, arith, drop, l
 use Rattle.std.specs.Prelude.{flat_map, slice_index_or}
 use Rattle.std.proofs.lemmas.List.{drop_all}
 use Rattle.fugue_ids.specs.declared.op.Op.{Op}
-use Rattle.batch_moments.specs.Counts.{told_parts}
+use Rattle.batch_moments.specs.Counts.{reported_parts}
 use Rattle.batch_moments.specs.Lines.{ops_between, line_text, lines_of_moments, moments_text}
 use Rattle.batch_moments.proofs.LineLemmas.{lines_next}
 use Rattle.batch_moments.proofs.telling.moments_text.Goals as goal
@@ -16,11 +16,11 @@ moments-preserved c =
     let text = c.moments.text.items in
     let below : i < length moments = omega (arith, c.moments-test.true, c.moments.auto.moment-index-end) in
     let rest = flat_map line_text (lines_of_moments moment (drop (i + 1) moments) ops) in
-    let line = line_text (record { moment = moment; parts = told_parts (ops_between c.moments.from moment ops) }) in
+    let line = line_text (record { moment = moment; parts = reported_parts (ops_between c.moments.from moment ops) }) in
     let came : take c.saturating_sub.result c.moments.rest ≡ ops_between c.moments.from moment ops = λ k. take (c.saturating_sub.ensures k) (c.moments.invariant.rest k) in
     record {
       left =
-          ap (λ t. t ++ rest) (c.in_ok-put_line.ensures.line ∙ ap (λ (l : List Op). text ++ line_text (record { moment = moment; parts = told_parts l })) came)
+          ap (λ t. t ++ rest) (c.in_ok-put_line.ensures.line ∙ ap (λ (l : List Op). text ++ line_text (record { moment = moment; parts = reported_parts l })) came)
           ∙ append_assoc text line rest
           ∙ ap (λ l. text ++ flat_map line_text l) (sym (lines_next moments i moment below refl c.moments.from ops)) ∙ c.moments.invariant.left;
       rest = c.behind_moment-rest.ensures;

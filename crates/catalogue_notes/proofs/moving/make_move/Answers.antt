@@ -4,11 +4,11 @@ use Rattle.catalogue_notes.proofs.RefusalLemmas.{note_tells, refuses_note, stamp
 use Rattle.catalogue_notes.proofs.moving.make_move.Goals as goal
 
 pub make-requires-clause-held : goal.make-requires-clause-held
-make-requires-clause-held c = plan_held c.args.replica.now c.args.k c.args.j c.in_ok-plan.plan c.in_ok-plan.ensures.ok c.requires.stands
+make-requires-clause-held c = plan_held c.args.replica.now c.args.k c.args.j c.in_ok-plan.plan c.in_ok-plan.ensures.ok c.requires.sound
 
 pub returns-clause-made : goal.returns-clause-made
 returns-clause-made c =
-    made_by_plan c.args.replica.now c.make.new.replica c.args.k c.args.j c.in_ok-plan.plan c.make.result c.in_ok-plan.ensures.ok c.requires.stands c.make.ensures.made
+    made_by_plan c.args.replica.now c.make.new.replica c.args.k c.args.j c.in_ok-plan.plan c.make.result c.in_ok-plan.ensures.ok c.requires.sound c.make.ensures.made
 
 pub returns-clause-absent : goal.returns-clause-absent
 returns-clause-absent c = note_tells c.args.replica.now (place_cause c.args.replica.now c.args.k c.args.j) c.make.result c.requires.place c.make.ensures.refused

@@ -6,22 +6,22 @@ use Rattle.fugue_ids.specs.declared.op.Op.{Op}
 use Rattle.origin_model.specs.operations.Verdict.{Lawful}
 use Rattle.replica_core.proofs.WalkLemmas.{Walks, passed_all, passed_step, read_there, walk_begins, walk_comes, walk_ends, walk_goes_on}
 use Rattle.catalogue_notes.specs.Lift.{is_section, retitles}
-use Rattle.catalogue_notes.specs.Readings.{bid_of, known_retitle}
-use Rattle.catalogue_notes.specs.declared.reading.Bid.{Bid}
+use Rattle.catalogue_notes.specs.Readings.{candidate_of, known_retitle}
+use Rattle.catalogue_notes.specs.declared.reading.Candidate.{Candidate}
 use Rattle.catalogue_notes.proofs.LiftingLemmas.{Passed}
-use Rattle.catalogue_notes.proofs.RetitledLemmas.{bids_more, no_retitles, retitled_between, retitled_more}
+use Rattle.catalogue_notes.proofs.RetitledLemmas.{candidates_more, no_retitles, retitled_between, retitled_more}
 use Rattle.catalogue_notes.proofs.retitles.retitles_of.Goals as goal
 use Rattle.catalogue_notes.proofs.retitles.retitles_of.Goals.{in-Some+in_ok-push, in_default}
 
--- the bids are those of the retitles before a place of the list
-abbrev P : List Op → List Bid → ℕ → Type 0
-P ops bids i = reverse bids ≡ map bid_of (retitles (Passed ops i))
+-- the candidates are those of the retitles before a place of the list
+abbrev P : List Op → List Candidate → ℕ → Type 0
+P ops candidates i = reverse candidates ≡ map candidate_of (retitles (Passed ops i))
 
 pub walk-init : goal.walk-init
 walk-init c =
-    walk_begins (P (reverse c.args.replica.now.held.history) c.new-bids.result.items) c.args.replica.now.held.history
+    walk_begins (P (reverse c.args.replica.now.held.history) c.new-candidates.result.items) c.args.replica.now.held.history
     (reverse c.args.replica.now.held.history) c.sections_and_notes-at-items.result.now refl c.sections_and_notes-at-items.ensures.positions
-    (ap reverse c.new-bids.ensures.items ∙ sym (ap (map bid_of) no_retitles))
+    (ap reverse c.new-candidates.ensures.items ∙ sym (ap (map candidate_of) no_retitles))
 
 pub walk-preserved : goal.walk-preserved
 walk-preserved c =
@@ -32,30 +32,31 @@ walk-preserved c =
     let p : ℕ = get_or positions k 0 in
     let passed : List Op = Passed ops p in
     let e : reverse ops ≡ h = reverse-reverse h in
-    let old : List Bid = c.walk.bids.items in
+    let old : List Candidate = c.walk.candidates.items in
     let at = walk_comes (P ops old) ops (retitled_between ops old) positions k c.walk-test.true c.walk.invariant in
-    let adds = retitled_more ops p at.op (is_section h) (subst Lawful (sym e) c.sections_and_notes-at-items.ensures.stands.lawful)
+    let adds = retitled_more ops p at.op (is_section h) (subst Lawful (sym e) c.sections_and_notes-at-items.ensures.sound.lawful)
     (λ (s : Identifier). ap (λ z. is_section z s) (sym e)) at.below at.is in
     let read = read_there (known_retitle (is_section h)) ops p at.op c.retitle_at.result at.there c.retitle_at.ensures in
-    let goes = λ (bids : List Bid). λ (holds : reverse bids ≡ map bid_of (retitles (at.op ∷ passed))).
-    walk_goes_on (P ops old) (P ops bids) ops positions k p at (passed_step (λ z. reverse bids ≡ map bid_of (retitles z)) ops p at.op at.below at.is holds) in
+    let goes = λ (candidates : List Candidate). λ (holds : reverse candidates ≡ map candidate_of (retitles (at.op ∷ passed))).
+    walk_goes_on (P ops old) (P ops candidates) ops positions k p at (passed_step (λ z. reverse candidates ≡ map candidate_of (retitles z)) ops p at.op at.below at.is holds) in
     elim c.match-retitle_at.branch [
       | in-Some+in_ok-push w ↦
-          subst (λ z. Walks (P ops z.items) ops positions (k + 1)) (sym w.bids-is)
+          subst (λ z. Walks (P ops z.items) ops positions (k + 1)) (sym w.candidates-is)
           (goes w.push.new.self.items
           (ap reverse w.in_ok-push.ensures.items
-          ∙ bids_more old (Some w.in-Some.bid) passed (at.op ∷ passed) at.holds (adds ∙ ap (λ o. option_to_list o ++ map bid_of (retitles passed)) (read ∙ w.in-Some.is))))
+          ∙ candidates_more old (Some w.in-Some.candidate) passed (at.op ∷ passed) at.holds
+          (adds ∙ ap (λ o. option_to_list o ++ map candidate_of (retitles passed)) (read ∙ w.in-Some.is))))
       | in_default w ↦
-          subst (λ z. Walks (P ops z.items) ops positions (k + 1)) (sym w.bids-is)
+          subst (λ z. Walks (P ops z.items) ops positions (k + 1)) (sym w.candidates-is)
           (goes old
           (ap reverse (sym (append-nil old))
-          ∙ bids_more old None passed (at.op ∷ passed) at.holds (adds ∙ ap (λ o. option_to_list o ++ map bid_of (retitles passed)) (read ∙ w.in_default.is))))
+          ∙ candidates_more old None passed (at.op ∷ passed) at.holds (adds ∙ ap (λ o. option_to_list o ++ map candidate_of (retitles passed)) (read ∙ w.in_default.is))))
     ]
 
 pub returns-clause-retitles : goal.returns-clause-retitles
 returns-clause-retitles c =
     let h : List Op = c.args.replica.now.held.history in
     let ops : List Op = reverse h in
-    subst (λ z. reverse c.walk.bids.items ≡ map bid_of (retitles z)) (passed_all ops (length ops) (omega arith) ∙ reverse-reverse h)
-    (walk_ends (P ops c.walk.bids.items) ops (retitled_between ops c.walk.bids.items) c.sections_and_notes-at-items.result.now c.walk.at-index
+    subst (λ z. reverse c.walk.candidates.items ≡ map candidate_of (retitles z)) (passed_all ops (length ops) (omega arith) ∙ reverse-reverse h)
+    (walk_ends (P ops c.walk.candidates.items) ops (retitled_between ops c.walk.candidates.items) c.sections_and_notes-at-items.result.now c.walk.at-index
     (omega (arith, c.walk-test.false)) c.walk.invariant)

@@ -5,7 +5,7 @@ use Rattle.catalogue_notes.specs.Arranged.{arranged}
 use Rattle.change_marks.specs.Steps.{dropped_part}
 use Rattle.change_marks.proofs.changes.put_all_dropped.Given as goal
 
--- what is told of the sections that were passed is gathered
+-- what is reported of the sections that were passed is gathered
 abbrev pub invariant-walk : goal.invariant-walk
 invariant-walk g l =
     GathersText {T = Unit {0}} (g.O.Out.seen l.initial.output) (g.O.Out.seen l.output) l.initial.gather l.gather (Ok tt)

@@ -5,7 +5,7 @@ use Rattle.fugue_ids.specs.Gathers.{GathersText}
 use Rattle.fugue_ids.specs.Identifiers.{Identifier}
 use Rattle.fugue_ids.proofs.GatherLemmas.{gathers_none, gathers_parts_grow, gathers_parts_stop}
 use Rattle.catalogue_notes.specs.Arranged.{arranged}
-use Rattle.change_marks.specs.Changes.{section_told}
+use Rattle.change_marks.specs.Changes.{section_changes}
 use Rattle.catalogue_notes.proofs.RetitlingLemmas.{arranged_section}
 use Rattle.change_marks.proofs.LaterLemmas.{arranged_listed, arranged_member}
 use Rattle.change_marks.proofs.changes.put_sections.Goals as goal
@@ -15,7 +15,7 @@ walk-init g c = gathers_none tt _ _
 
 pub walk-preserved : goal.walk-preserved
 walk-preserved g c =
-    let f = section_told c.args.then.now c.args.now.now in
+    let f = section_changes c.args.then.now c.args.now.now in
     let xs : List Identifier = arranged c.args.now.now in
     let below : c.walk.section-index < length xs = omega (arith, c.walk-test.true, ap length c.sections-sections.ensures) in
     let is : c.section-item.result ≡ get_or xs c.walk.section-index c.section-item.result =
@@ -26,7 +26,7 @@ walk-preserved g c =
 
 pub returns-in_err-put_section : goal.returns-in_err-put_section
 returns-in_err-put_section g c =
-    let f = section_told c.args.then.now c.args.now.now in
+    let f = section_changes c.args.then.now c.args.now.now in
     let xs : List Identifier = arranged c.args.now.now in
     let below : c.walk.section-index < length xs = omega (arith, c.walk-test.true, ap length c.sections-sections.ensures) in
     let is : c.section-item.result ≡ get_or xs c.walk.section-index c.section-item.result =

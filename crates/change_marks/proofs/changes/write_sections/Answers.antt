@@ -6,14 +6,14 @@ use Rattle.fugue_ids.specs.Outs.{WritesBytes}
 use Rattle.fugue_ids.specs.declared.out.Failed.{Failed}
 use Rattle.fugue_ids.proofs.GatherLemmas.{flush_writes, gathers_join, gathers_stop, stop_writes}
 use Rattle.catalogue_notes.specs.Arranged.{arranged}
-use Rattle.change_marks.specs.Changes.{section_told}
+use Rattle.change_marks.specs.Changes.{section_changes}
 use Rattle.change_marks.specs.Steps.{dropped_part}
 use Rattle.change_marks.proofs.WritingLemmas.{changes_found}
 use Rattle.change_marks.proofs.changes.write_sections.Goals as goal
 
 pub returns-in_err-put_sections : goal.returns-in_err-put_sections
 returns-in_err-put_sections g c =
-    let first = flat_map (section_told c.args.then.now c.args.now.now) (arranged c.args.now.now) in
+    let first = flat_map (section_changes c.args.then.now c.args.now.now) (arranged c.args.now.now) in
     let last = flat_map (dropped_part c.args.then.now c.args.now.now) (arranged c.args.then.now) in
     let p = err_from_is_err_and c.from_residual.result c.from_residual.ensures.1 in
     rw p.1 (subst (WritesBytes {E = Failed} {T = Unit {0}} (g.O.Out.seen c.args.output.now) (g.O.Out.seen c.put_sections.new.output) (Err (record {})))
@@ -24,7 +24,7 @@ returns-in_err-put_sections g c =
 
 pub returns-in_err-put_all_dropped : goal.returns-in_err-put_all_dropped
 returns-in_err-put_all_dropped g c =
-    let first = flat_map (section_told c.args.then.now c.args.now.now) (arranged c.args.now.now) in
+    let first = flat_map (section_changes c.args.then.now c.args.now.now) (arranged c.args.now.now) in
     let last = flat_map (dropped_part c.args.then.now c.args.now.now) (arranged c.args.then.now) in
     let p = err_from_is_err_and c.from_residual-in_err-put_all_dropped.result c.from_residual-in_err-put_all_dropped.ensures.1 in
     rw p.1 (subst (WritesBytes {E = Failed} {T = Unit {0}} (g.O.Out.seen c.args.output.now) (g.O.Out.seen c.put_all_dropped.new.output) (Err (record {})))
@@ -36,7 +36,7 @@ returns-in_err-put_all_dropped g c =
 
 pub returns : goal.returns
 returns g c =
-    let first = flat_map (section_told c.args.then.now c.args.now.now) (arranged c.args.now.now) in
+    let first = flat_map (section_changes c.args.then.now c.args.now.now) (arranged c.args.now.now) in
     let last = flat_map (dropped_part c.args.then.now c.args.now.now) (arranged c.args.then.now) in
     subst (WritesBytes {E = Failed} {T = Unit {0}} (g.O.Out.seen c.args.output.now) (g.O.Out.seen c.flush.new.out) c.flush.result)
     (changes_found c.args.then.now c.args.now.now c.requires.lawful c.requires.later)

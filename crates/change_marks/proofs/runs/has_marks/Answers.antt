@@ -4,11 +4,11 @@ use Rattle.std.specs.List.{Contains, list_any}
 use Rattle.origin_model.specs.edits.Landing.{following}
 use Rattle.fugue_ids.specs.Identifiers.{Identifier}
 use Rattle.run_store.specs.Cells.{cell_ids}
-use Rattle.version_views.proofs.WalkLemmas.{follows_in, from_first, from_next, one_less, turn}
 use Rattle.change_marks.specs.Marks.{mark_of}
 use Rattle.change_marks.specs.Steps.{is_changed_element}
 use Rattle.change_marks.specs.declared.mark.Mark.{Mark}
 use Rattle.change_marks.proofs.RunLemmas.{marks_by_elements}
+use Rattle.change_marks.proofs.WalkLemmas.{follows_in, from_first, from_next, one_less, turn}
 use Rattle.change_marks.proofs.runs.has_marks.Goals as goal
 
 pub elements-init : goal.elements-init

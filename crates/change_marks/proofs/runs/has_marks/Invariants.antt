@@ -2,9 +2,9 @@ use Rattle.std.proofs.Common.{length, ◌≡◌}
 use Rattle.std.specs.Prelude.{IfSome}
 use Rattle.std.specs.List.{Contains, list_any}
 use Rattle.run_store.specs.Cells.{cell_ids}
-use Rattle.version_views.proofs.WalkLemmas.{from_next}
 use Rattle.change_marks.specs.Marks.{mark_of}
 use Rattle.change_marks.specs.Steps.{is_changed_element}
+use Rattle.change_marks.proofs.WalkLemmas.{from_next}
 use Rattle.change_marks.proofs.runs.has_marks.Given as goal
 
 -- the elements that were passed have no marks around them

@@ -6,18 +6,18 @@ use Rattle.fugue_ids.specs.Gathers.{GathersText}
 use Rattle.origin_model.specs.edits.Landing.{following}
 use Rattle.section_catalogue.proofs.PrintingLemmas.{IsUnderWay, under_way_grows, under_way_start, under_way_stops}
 use Rattle.run_store.specs.Cells.{cell_ids}
-use Rattle.version_views.proofs.WalkLemmas.{follows_in, from_first, from_next, one_less, turn}
-use Rattle.change_marks.specs.Marks.{told_mark}
+use Rattle.change_marks.specs.Marks.{printed_mark}
 use Rattle.change_marks.specs.Steps.{parts_from}
 use Rattle.change_marks.proofs.RunLemmas.{parts_marked}
 use Rattle.change_marks.proofs.WritingLemmas.{under_way_last}
+use Rattle.change_marks.proofs.WalkLemmas.{follows_in, from_first, from_next, one_less, turn}
 use Rattle.change_marks.proofs.runs.put_runs.Goals as goal
 
 pub elements-init : goal.elements-init
 elements-init g c =
     let ids = cell_ids c.args.list.now.cells in
     let h = c.args.replica.now.held.history in
-    let key = told_mark c.args.is_dropped c.args.front.now.held.history h in
+    let key = printed_mark c.args.is_dropped c.args.front.now.held.history h in
     let u = g.O.Out.seen c.args.output.now in
     let p = c.args.gather.now in
     let whole = parts_from h key None ids in
@@ -30,7 +30,7 @@ pub returns-in_err-put_element : goal.returns-in_err-put_element
 returns-in_err-put_element g c =
     let ids = cell_ids c.args.list.now.cells in
     let h = c.args.replica.now.held.history in
-    let key = told_mark c.args.is_dropped c.args.front.now.held.history h in
+    let key = printed_mark c.args.is_dropped c.args.front.now.held.history h in
     let p = err_from_is_err_and c.from_residual.result c.from_residual.ensures.1 in
     rw p.1 (subst (GathersText {T = Unit {0}} (g.O.Out.seen c.args.output.now) (g.O.Out.seen c.put_element.new.output) c.args.gather.now c.put_element.new.gather
     (Err (record {}))) (parts_marked h key ids)
@@ -47,7 +47,7 @@ pub elements-preserved : goal.elements-preserved
 elements-preserved g c =
     let ids = cell_ids c.args.list.now.cells in
     let h = c.args.replica.now.held.history in
-    let key = told_mark c.args.is_dropped c.args.front.now.held.history h in
+    let key = printed_mark c.args.is_dropped c.args.front.now.held.history h in
     let u = g.O.Out.seen c.args.output.now in
     let v = g.O.Out.seen c.put_element.new.output in
     let whole = parts_from h key None ids in
@@ -64,7 +64,7 @@ pub returns : goal.returns
 returns g c =
     let ids = cell_ids c.args.list.now.cells in
     let h = c.args.replica.now.held.history in
-    let key = told_mark c.args.is_dropped c.args.front.now.held.history h in
+    let key = printed_mark c.args.is_dropped c.args.front.now.held.history h in
     subst (GathersText {T = Unit {0}} (g.O.Out.seen c.args.output.now) (g.O.Out.seen c.put_closing.new.output) c.args.gather.now c.put_closing.new.gather c.put_closing.result)
     (parts_marked h key ids)
     (under_way_last c.put_closing.result _ _ _ _ _ _ _ _ _ c.elements.invariant.0

@@ -6,4 +6,4 @@ returns-in-Ok g c = created _ _ _ _ _ _ c.in-Ok.ensures
 
 pub returns-in-Err : goal.returns-in-Err
 returns-in-Err g c =
-    rw c.tell.ensures.status (rw c.from.ensures (not_created _ _ _ _ _ _ c.in-Err.fault c.in-Err.ensures (rw c.from.ensures at c.tell.ensures.told)))
+    rw c.tell.ensures.status (rw c.from.ensures (not_created _ _ _ _ _ _ c.in-Err.fault c.in-Err.ensures (rw c.from.ensures at c.tell.ensures.reported)))

@@ -14,7 +14,7 @@ returns-in_err-note-clause-given g c file holds =
     let p = err_from_is_err_and c.from_residual.result c.from_residual.ensures.1 in
     rw (p.1, p.2) (
       given.0,
-      given_none (g.T.Gives.giver c.args.giver.now file c.args.from.now c.give.new.from given.0) c.args.replica.now c.give.new.replica c.give.new.kept c.args.end
+      given_none (g.T.Gives.ops_source c.args.ops_source.now file c.args.from.now c.give.new.from given.0) c.args.replica.now c.give.new.replica c.give.new.kept c.args.end
           (change (g.H.Disk.seen c.args.home.now) (g.H.Disk.seen c.args.home.now)) c.in_err-note.field-0.0 refl given.1,
     )
 
@@ -24,14 +24,14 @@ returns-in_err-append-clause-given g c file holds =
     let p = err_from_is_err_and c.from_residual-in_err-append.result c.from_residual-in_err-append.ensures.1 in
     rw (p.1, p.2) (
       given.0,
-      given_unsaved (g.T.Gives.giver c.args.giver.now file c.args.from.now c.give.new.from given.0) c.args.replica.now c.give.new.replica c.give.new.kept c.args.end
+      given_unsaved (g.T.Gives.ops_source c.args.ops_source.now file c.args.from.now c.give.new.from given.0) c.args.replica.now c.give.new.replica c.give.new.kept c.args.end
           (change (g.H.Disk.seen c.args.home.now) (g.H.Disk.seen c.append.new.disk)) c.in_ok-note.note c.to_save.result c.in_err-append.field-0.0
           (c.to_save.ensures ∙ ap (λ k. to_save c.in_ok-note.note k c.give.new.replica c.give.new.kept) (c.len-before.ensures ∙ ap length c.accepted.ensures.accepted)) given.1
           c.in_err-append.ensures,
     )
 
-pub returns-in_err-append-clause-told : goal.returns-in_err-append-clause-told
-returns-in_err-append-clause-told g c tells inside =
+pub returns-in_err-append-clause-specified : goal.returns-in_err-append-clause-specified
+returns-in_err-append-clause-specified g c tells inside =
     let p = err_from_is_err_and c.from_residual-in_err-append.result c.from_residual-in_err-append.ensures.1 in
     c.in_err-append.ensures.faults.specified_no_fault tells (λ is. let failed : c.in_err-append.field-0.0 ≡ DiskFault = cc is in
     inside (p.1 ∙ ap Err (p.2 ∙ ap append_refusal failed)))
@@ -40,11 +40,11 @@ pub returns-clause-given : goal.returns-clause-given
 returns-clause-given g c file holds =
     let given = c.in_ok-note.ensures.gives file c.args.end holds in (
       given.0,
-      given_saved (g.T.Gives.giver c.args.giver.now file c.args.from.now c.give.new.from given.0) c.args.replica.now c.give.new.replica c.give.new.kept c.args.end
+      given_saved (g.T.Gives.ops_source c.args.ops_source.now file c.args.from.now c.give.new.from given.0) c.args.replica.now c.give.new.replica c.give.new.kept c.args.end
           (change (g.H.Disk.seen c.args.home.now) (g.H.Disk.seen c.append.new.disk)) c.in_ok-note.note c.to_save.result _
           (c.to_save.ensures ∙ ap (λ k. to_save c.in_ok-note.note k c.give.new.replica c.give.new.kept) (c.len-before.ensures ∙ ap length c.accepted.ensures.accepted)) given.1
           c.in_ok-append.ensures,
     )
 
-pub returns-clause-told : goal.returns-clause-told
-returns-clause-told g c tells inside = c.in_ok-append.ensures.faults.specified_no_fault tells (λ is. cc is)
+pub returns-clause-specified : goal.returns-clause-specified
+returns-clause-specified g c tells inside = c.in_ok-append.ensures.faults.specified_no_fault tells (λ is. cc is)

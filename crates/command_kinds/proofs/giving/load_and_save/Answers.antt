@@ -22,21 +22,21 @@ returns-in_err-replica-clause-saves g c =
     let p = err_from_is_err_and c.from_residual.result c.from_residual.ensures.1 in
     rw (p.1, p.2) (
       Refuses NoMemory,
-      load_stops (g.T.Gives.giver c.args.giver.now (g.H.Disk.seen c.args.home.now) c.args.from.now c.args.from.now (Refuses NoMemory))
+      load_stops (g.T.Gives.ops_source c.args.ops_source.now (g.H.Disk.seen c.args.home.now) c.args.from.now c.args.from.now (Refuses NoMemory))
           (change (g.H.Disk.seen c.args.home.now) (g.H.Disk.seen c.load.new.disk))
           c.in_err-replica.field-0.0 c.in_err-replica.ensures,
     )
 
 pub returns-clause-unused : goal.returns-clause-unused
-returns-clause-unused g c told why refuses = absurd (holds_or_refuses (g.H.Disk.seen c.args.home.now) told (_, _) why c.in_ok-replica.ensures.cause refuses)
+returns-clause-unused g c specified why refuses = absurd (holds_or_refuses (g.H.Disk.seen c.args.home.now) specified (_, _) why c.in_ok-replica.ensures.cause refuses)
 
-pub returns-clause-told : goal.returns-clause-told
-returns-clause-told g c tells inside =
-    c.give_and_save-saved.ensures.told (tells_settled _ _ (loaded_synced _ _ _ _ c.in_ok-replica.ensures).0 tells) inside
+pub returns-clause-specified : goal.returns-clause-specified
+returns-clause-specified g c tells inside =
+    c.give_and_save-saved.ensures.specified (tells_settled _ _ (loaded_synced _ _ _ _ c.in_ok-replica.ensures).0 tells) inside
     ∙ c.in_ok-replica.ensures.faults.specified_no_fault tells (λ is. cc is)
 
-pub returns-in_err-replica-clause-told : goal.returns-in_err-replica-clause-told
-returns-in_err-replica-clause-told g c tells inside =
+pub returns-in_err-replica-clause-specified : goal.returns-in_err-replica-clause-specified
+returns-in_err-replica-clause-specified g c tells inside =
     let p = err_from_is_err_and c.from_residual.result c.from_residual.ensures.1 in
     c.in_err-replica.ensures.faults.specified_no_fault tells (λ is. let failed : c.in_err-replica.field-0.0 ≡ DiskFault = cc is in
     inside (p.1 ∙ ap Err (p.2 ∙ ap load_refusal failed)))

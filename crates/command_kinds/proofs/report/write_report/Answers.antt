@@ -7,4 +7,4 @@ returns-in-Ok g c = report_written _ c.laws.ensures _ _ _ _ c.in-Ok.ensures _ _ 
 
 pub returns-in-Err : goal.returns-in-Err
 returns-in-Err g c =
-    rw c.tell.ensures.status (rw c.from.ensures (load_refused _ c.laws.ensures _ _ _ refl c.in-Err.fault c.in-Err.ensures (rw c.from.ensures at c.tell.ensures.told)))
+    rw c.tell.ensures.status (rw c.from.ensures (load_refused _ c.laws.ensures _ _ _ refl c.in-Err.fault c.in-Err.ensures (rw c.from.ensures at c.tell.ensures.reported)))

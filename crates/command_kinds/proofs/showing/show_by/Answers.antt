@@ -1,6 +1,6 @@
 use Rattle.std.proofs.Common.{◌≡◌, refl, ap}
 use Rattle.std.specs.Prelude.{Err}
-use Rattle.command_kinds.proofs.ActLemmas.{goes_blameless, performs_met_none, told_performs}
+use Rattle.command_kinds.proofs.ActLemmas.{goes_blameless, performs_met_none, reported_performs}
 use Rattle.command_kinds.proofs.ShowLemmas.{output_no_fault, printed_performs, refused_comes, shows}
 use Rattle.command_kinds.specs.Changes.{Streams, change}
 use Rattle.command_kinds.specs.Refusal.{status_of}
@@ -22,6 +22,6 @@ pub returns-in-Err : goal.returns-in-Err
 returns-in-Err g c =
     let stops = rw c.requires at c.in-Err.ensures.err in
     let came = refused_comes c.in-Err.why _ _ _ stops (λ is. c.in-Err.ensures.count.faulted (ap Err is)) (λ sure is. c.in-Err.ensures.count.succeeds sure (ap Err is)) refl in
-    let performs = told_performs (showing _ _ _) (change (g.N.Out.seen c.args.notes.now) (g.N.Out.seen c.tell.new.notes)) c.in-Err.why came c.tell.ensures.told in
-    rw c.tell.ensures.status (shows _ _ _ _ performs c.in-Err.ensures.count.counts_no_fault (λ told found is has. refl)
+    let performs = reported_performs (showing _ _ _) (change (g.N.Out.seen c.args.notes.now) (g.N.Out.seen c.tell.new.notes)) c.in-Err.why came c.tell.ensures.reported in
+    rw c.tell.ensures.status (shows _ _ _ _ performs c.in-Err.ensures.count.counts_no_fault (λ specified found is has. refl)
     (λ tells not. c.in-Err.ensures.count.specified_no_fault tells (λ is. let same : c.in-Err.why ≡ Outside = cc is in not (ap status_of same))) (λ tells not. refl))

@@ -27,7 +27,7 @@ returns-in_err-order-clause-shapes c =
 
 pub stays_of-requires : goal.stays_of-requires
 stays_of-requires c =
-    let is = arranged_order c.args.replica.now.held.history c.args.sections.now c.in_ok-order.order.items c.requires.stands.lawful c.requires.shown c.requires.once
+    let is = arranged_order c.args.replica.now.held.history c.args.sections.now c.in_ok-order.order.items c.requires.sound.lawful c.requires.shown c.requires.once
     c.in_ok-order.ensures.order in
     subst IsOrder (sym c.as_slice.ensures.value) is.0
 
@@ -39,10 +39,10 @@ returns-in_err-stays-clause-shapes c =
 pub parts-init : goal.parts-init
 parts-init c =
     let s = c.args.replica.now in
-    let is = arranged_order s.held.history c.args.sections.now c.in_ok-order.order.items c.requires.stands.lawful c.requires.shown c.requires.once c.in_ok-order.ensures.order in
+    let is = arranged_order s.held.history c.args.sections.now c.in_ok-order.order.items c.requires.sound.lawful c.requires.shown c.requires.once c.in_ok-order.ensures.order in
     record {
       settled = c.requires.settled;
-      stands = c.requires.stands;
+      sound = c.requires.sound;
       arranges = c.new-arranger.ensures.arranges s.held.history;
       shaped = shaped_none s;
       costs = shaping_none s _;
@@ -66,7 +66,7 @@ returns-in_err-made-clause-shapes c =
 pub overflow_add-made : goal.overflow_add-made
 overflow_add-made c =
     let more = shaped_join c.args.replica.now c.parts.replica c.move_next.new.replica c.parts.made c.in_ok-made.field-0 c.parts.invariant.shaped c.in_ok-made.ensures.shapes in
-    omega (arith, makes_few c.args.replica.now c.move_next.new.replica (c.parts.made + c.in_ok-made.field-0) more.makes c.in_ok-made.ensures.stands)
+    omega (arith, makes_few c.args.replica.now c.move_next.new.replica (c.parts.made + c.in_ok-made.field-0) more.makes c.in_ok-made.ensures.sound)
 
 pub parts-preserved : goal.parts-preserved
 parts-preserved c =
@@ -77,7 +77,7 @@ parts-preserved c =
     let next = sum_below_more (move_count c.in_ok-stays.stays.items) c.parts.part in
     record {
       settled = e.settled;
-      stands = e.stands;
+      sound = e.sound;
       arranges = c.move_next.ensures.arranges;
       shaped = shaped_join c.args.replica.now c.parts.replica c.move_next.new.replica c.parts.made c.in_ok-made.field-0 c.parts.invariant.shaped e.shapes;
       costs = shaping_join c.args.replica.now c.parts.replica c.move_next.new.replica (cost n n n) (cost one one one) (cost more more more) c.parts.made c.in_ok-made.field-0
@@ -89,7 +89,7 @@ parts-preserved c =
       of = e.arranged;
       few = few_more c.args.replica.now.held.history c.parts.replica.held.history c.move_next.new.replica.held.history c.in_ok-stays.stays.items c.args.sections.now c.parts.part
           c.requires.once
-          c.parts.invariant.stands.lawful c.parts.invariant.few
+          c.parts.invariant.sound.lawful c.parts.invariant.few
           (subst (λ v. MovesPart c.parts.replica.held.history c.move_next.new.replica.held.history v c.args.sections.now c.parts.part) c.as_slice-in-parts.ensures.value e.moved);
       long = e.long ∙ c.parts.invariant.long;
     }
@@ -103,7 +103,7 @@ returns-clause-arranged c =
 
 pub move_next-requires-clause-long : goal.move_next-requires-clause-long
 move_next-requires-clause-long c =
-    let is = arranged_order c.args.replica.now.held.history c.args.sections.now c.in_ok-order.order.items c.requires.stands.lawful c.requires.shown c.requires.once
+    let is = arranged_order c.args.replica.now.held.history c.args.sections.now c.in_ok-order.order.items c.requires.sound.lawful c.requires.shown c.requires.once
     c.in_ok-order.ensures.order in
     ap length c.as_slice-in-parts.ensures.value ∙ (c.in_ok-stays.ensures.long ∙ (ap length c.as_slice.ensures.value ∙ (is.1 ∙ sym c.parts.invariant.long)))
 
@@ -121,10 +121,10 @@ pub returns-in_err-made-clause-costs : goal.returns-in_err-made-clause-costs
 returns-in_err-made-clause-costs c =
     let p = err_from_is_err_and c.from_residual-in_err-made.result c.from_residual-in_err-made.ensures.1 in
     let h = c.args.replica.now.held.history in
-    let is = arranged_order h c.args.sections.now c.in_ok-order.order.items c.requires.stands.lawful c.requires.shown c.requires.once c.in_ok-order.ensures.order in
+    let is = arranged_order h c.args.sections.now c.in_ok-order.order.items c.requires.sound.lawful c.requires.shown c.requires.once c.in_ok-order.ensures.order in
     let staying = subst (λ o. AreStaying o c.args.pairs.now c.in_ok-stays.stays.items) c.as_slice.ensures.value c.in_ok-stays.ensures.staying in
     let long = c.in_ok-stays.ensures.long ∙ ap length c.as_slice.ensures.value in
-    let few = moves_no_more h c.args.pairs.now c.args.sections.now c.in_ok-order.order.items c.in_ok-stays.stays.items c.requires.stands.lawful is.0 c.in_ok-order.ensures.order
+    let few = moves_no_more h c.args.pairs.now c.args.sections.now c.in_ok-order.order.items c.in_ok-stays.stays.items c.requires.sound.lawful is.0 c.in_ok-order.ensures.order
     is.1 staying long in
     let f = move_count c.in_ok-stays.stays.items in
     let n = sum_below f c.parts.part in
@@ -146,10 +146,10 @@ returns-in_err-made-clause-costs c =
 pub returns-clause-costs : goal.returns-clause-costs
 returns-clause-costs c =
     let h = c.args.replica.now.held.history in
-    let is = arranged_order h c.args.sections.now c.in_ok-order.order.items c.requires.stands.lawful c.requires.shown c.requires.once c.in_ok-order.ensures.order in
+    let is = arranged_order h c.args.sections.now c.in_ok-order.order.items c.requires.sound.lawful c.requires.shown c.requires.once c.in_ok-order.ensures.order in
     let staying = subst (λ o. AreStaying o c.args.pairs.now c.in_ok-stays.stays.items) c.as_slice.ensures.value c.in_ok-stays.ensures.staying in
     let long = c.in_ok-stays.ensures.long ∙ ap length c.as_slice.ensures.value in
-    let few = moves_no_more h c.args.pairs.now c.args.sections.now c.in_ok-order.order.items c.in_ok-stays.stays.items c.requires.stands.lawful is.0 c.in_ok-order.ensures.order
+    let few = moves_no_more h c.args.pairs.now c.args.sections.now c.in_ok-order.order.items c.in_ok-stays.stays.items c.requires.sound.lawful is.0 c.in_ok-order.ensures.order
     is.1 staying long in
     let f = move_count c.in_ok-stays.stays.items in
     let n = sum_below f c.parts.part in
@@ -164,8 +164,8 @@ returns-clause-costs c =
 pub returns-clause-few : goal.returns-clause-few
 returns-clause-few c =
     let h = c.args.replica.now.held.history in
-    let is = arranged_order h c.args.sections.now c.in_ok-order.order.items c.requires.stands.lawful c.requires.shown c.requires.once c.in_ok-order.ensures.order in
+    let is = arranged_order h c.args.sections.now c.in_ok-order.order.items c.requires.sound.lawful c.requires.shown c.requires.once c.in_ok-order.ensures.order in
     let staying = subst (λ o. AreStaying o c.args.pairs.now c.in_ok-stays.stays.items) c.as_slice.ensures.value c.in_ok-stays.ensures.staying in
     let long = c.in_ok-stays.ensures.long ∙ ap length c.as_slice.ensures.value in
-    arranges_few h c.args.pairs.now c.args.sections.now c.in_ok-order.order.items c.in_ok-stays.stays.items c.requires.stands.lawful is.0 c.in_ok-order.ensures.order is.1
+    arranges_few h c.args.pairs.now c.args.sections.now c.in_ok-order.order.items c.in_ok-stays.stays.items c.requires.sound.lawful is.0 c.in_ok-order.ensures.order is.1
     staying long c.parts.replica.held.history c.parts.part c.parts.invariant.few (omega arith)

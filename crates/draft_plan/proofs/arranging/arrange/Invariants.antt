@@ -13,7 +13,7 @@ use Rattle.draft_plan.proofs.arranging.arrange.Given as goal
 abbrev pub invariant-parts : goal.invariant-parts
 invariant-parts l = record {
   settled : IsSettled l.replica.held;
-  stands : IsSound l.replica;
+  sound : IsSound l.replica;
   arranges : Arranges l.replica.held.history l.arranger;
   shaped : IsShaped l.fn.replica l.replica l.made;
   order : IsOrder l.order.items;

@@ -14,12 +14,12 @@ returns-in_err-move_section-clause-shapes c =
 pub returns-clause-shapes : goal.returns-clause-shapes
 returns-clause-shapes c =
     let e = c.in_ok-move_section.ensures in
-    move_shaped c.args.replica.now c.move_section.new.replica c.args.step.from c.args.step.to c.in_ok-move_section.field-0 c.requires.stands.lawful e.refused e.made e.shown
+    move_shaped c.args.replica.now c.move_section.new.replica c.args.step.from c.args.step.to c.in_ok-move_section.field-0 c.requires.sound.lawful e.refused e.made e.shown
 
 pub returns-in_err-move_section-clause-costs : goal.returns-in_err-move_section-clause-costs
 returns-in_err-move_section-clause-costs c =
     let p = err_from_is_err_and c.from_residual.result c.from_residual.ensures.1 in
-    rw (p.1, p.2) (move_lacks c.args.replica.now c.args.step.from c.args.step.to c.in_err-move_section.field-0.0 c.requires.stands c.in_err-move_section.ensures.refused)
+    rw (p.1, p.2) (move_lacks c.args.replica.now c.args.step.from c.args.step.to c.in_err-move_section.field-0.0 c.requires.sound c.in_err-move_section.ensures.refused)
 
 pub returns-clause-costs : goal.returns-clause-costs
 returns-clause-costs c =

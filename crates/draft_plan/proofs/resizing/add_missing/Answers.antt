@@ -29,7 +29,7 @@ parts-init c =
     let left = subst (λ n. AreLeft ys c.args.pairs.now n (shown catalogue s.held.history)) (sym long) c.requires.left in
     record {
       settled = c.requires.settled;
-      stands = c.requires.stands;
+      sound = c.requires.sound;
       shaped = shaped_none s;
       costs = shaping_none s (cost 0 0 0);
       places = places_none s.held.history;
@@ -56,7 +56,7 @@ returns-in_err-made-clause-shapes c =
 pub overflow_add-made : goal.overflow_add-made
 overflow_add-made c =
     let more = shaped_join c.args.replica.now c.parts.replica c.take_part.new.replica c.parts.made c.in_ok-made.field-0 c.parts.invariant.shaped c.in_ok-made.ensures.shapes in
-    omega (arith, makes_few c.args.replica.now c.take_part.new.replica (c.parts.made + c.in_ok-made.field-0) more.makes c.in_ok-made.ensures.stands)
+    omega (arith, makes_few c.args.replica.now c.take_part.new.replica (c.parts.made + c.in_ok-made.field-0) more.makes c.in_ok-made.ensures.sound)
 
 pub parts-preserved : goal.parts-preserved
 parts-preserved c =
@@ -73,7 +73,7 @@ parts-preserved c =
     let left = subst (λ n. AreLeft ys c.args.pairs.now n (shown catalogue s.held.history)) (sym long) c.requires.left in
     record {
       settled = e.settled;
-      stands = e.stands;
+      sound = e.sound;
       shaped = shaped_join s c.parts.replica c.take_part.new.replica c.parts.made c.in_ok-made.field-0 was.shaped e.shapes;
       costs = shaping_join s c.parts.replica c.take_part.new.replica (cost n n 0) (cost one one 0) (cost more more 0) c.parts.made c.in_ok-made.field-0
           (up (omega (arith, added_more c.args.pairs.now c.parts.place)) (omega (arith, added_more c.args.pairs.now c.parts.place)) (omega arith)) was.costs e.costs;
@@ -85,7 +85,7 @@ parts-preserved c =
           (seen_part (get_or ps c.parts.place _))
           (part_got (map seen_part ps) c.parts.place (seen_part (get_or ps c.parts.place _)) (part_is ps c.parts.place _ (omega arith)) (omega (arith, length-map ps seen_part)))
           c.parts.anchor c.parts.sections.items c.take_part.new.sections.items m c.requires.once
-          was.stands.lawful (matched_held s ys (length c.args.parts.now) c.args.pairs.now c.requires.stands.lawful m left) was.shaped.keeps.held was.targets e.taken;
+          was.sound.lawful (matched_held s ys (length c.args.parts.now) c.args.pairs.now c.requires.sound.lawful m left) was.shaped.keeps.held was.targets e.taken;
     }
 
 pub returns-clause-targets : goal.returns-clause-targets

@@ -13,7 +13,7 @@ use Rattle.draft_plan.proofs.resizing.add_missing.Given as goal
 abbrev pub invariant-parts : goal.invariant-parts
 invariant-parts l = record {
   settled : IsSettled l.replica.held;
-  stands : IsSound l.replica;
+  sound : IsSound l.replica;
   shaped : IsShaped l.fn.replica l.replica l.made;
   places : KeepsPlaces l.fn.replica.held.history l.replica.held.history;
   anchor : IfSome l.anchor (λ s. Contains l.sections.items s);

@@ -28,7 +28,7 @@ pub returns-in-Some-clause-added : goal.returns-in-Some-clause-added
 returns-in-Some-clause-added c =
     let e = c.in_ok-add.ensures in
     subst (λ t. IsAdded c.args.replica.now c.add.new.self c.args.number t c.in-Some.section) c.in_ok-title.ensures
-    (added c.args.replica.now c.add.new.self c.args.number c.in_ok-add.field-0 c.in_ok-title.title c.in-Some.section c.requires.stands.lawful c.requires.within e.refused e.made
+    (added c.args.replica.now c.add.new.self c.args.number c.in_ok-add.field-0 c.in_ok-title.title c.in-Some.section c.requires.sound.lawful c.requires.within e.refused e.made
     e.lands.splices.here
     (c.in-Some.ensures.section c.add.new.self.held.history c.places.ensures.places))
 
@@ -48,10 +48,10 @@ returns-in_err-title-clause-lacks c =
 pub returns-in_err-add-clause-lacks : goal.returns-in_err-add-clause-lacks
 returns-in_err-add-clause-lacks c =
     let p = err_from_is_err_and c.from_residual-in_err-add.result c.from_residual-in_err-add.ensures.1 in
-    rw (p.1, p.2) (edit_lacks (Add c.args.number c.in_ok-title.title) c.args.replica.now (cost 1 1 0) c.in_err-add.field-0.0 c.requires.stands (omega arith)
+    rw (p.1, p.2) (edit_lacks (Add c.args.number c.in_ok-title.title) c.args.replica.now (cost 1 1 0) c.in_err-add.field-0.0 c.requires.sound (omega arith)
     (omega arith) c.in_err-add.ensures.refused)
 
 pub returns-in-Some-clause-costs : goal.returns-in-Some-clause-costs
 returns-in-Some-clause-costs c =
     let e = c.in_ok-add.ensures in
-    add_costs c.args.replica.now c.add.new.self c.args.number c.in_ok-add.field-0 c.in_ok-title.title c.requires.stands.lawful e.refused e.made e.lands
+    add_costs c.args.replica.now c.add.new.self c.args.number c.in_ok-add.field-0 c.in_ok-title.title c.requires.sound.lawful e.refused e.made e.lands

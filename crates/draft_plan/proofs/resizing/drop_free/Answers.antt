@@ -23,11 +23,11 @@ entries-init c =
     let s = c.args.replica.now in
     record {
       settled = c.requires.settled;
-      stands = c.requires.stands;
+      sound = c.requires.sound;
       shaped = reshaped_none s;
       costs = shaping_none s (cost 0 0 0);
       places = places_none s.held.history;
-      left = left_start s.held.history c.args.entries.now c.args.pairs.now c.requires.stands.lawful c.requires.outline;
+      left = left_start s.held.history c.args.entries.now c.args.pairs.now c.requires.sound.lawful c.requires.outline;
     }
 
 pub drop_one-requires-clause-there : goal.drop_one-requires-clause-there
@@ -46,7 +46,7 @@ overflow_add-made c =
     let more = reshaped_join c.args.replica.now c.entries.replica c.drop_one.new.replica c.entries.made c.in_ok-made.field-0 c.entries.invariant.shaped c.in_ok-made.ensures.shapes
     (left_shown c.args.replica.now.held.history c.args.entries.now c.args.pairs.now c.entries.place
     (shown catalogue c.entries.replica.held.history) c.requires.outline c.entries.invariant.left) in
-    omega (arith, makes_few c.args.replica.now c.drop_one.new.replica (c.entries.made + c.in_ok-made.field-0) more.makes c.in_ok-made.ensures.stands)
+    omega (arith, makes_few c.args.replica.now c.drop_one.new.replica (c.entries.made + c.in_ok-made.field-0) more.makes c.in_ok-made.ensures.sound)
 
 pub entries-preserved : goal.entries-preserved
 entries-preserved c =
@@ -58,7 +58,7 @@ entries-preserved c =
           let e = w.in_ok-made.ensures in
           rw (w.replica-is, w.made-is) (record {
             settled = e.settled;
-            stands = e.stands;
+            sound = e.sound;
             shaped = reshaped_join c.args.replica.now c.entries.replica w.drop_one.new.replica c.entries.made w.in_ok-made.field-0 was.shaped e.shapes
                 (left_shown c.args.replica.now.held.history c.args.entries.now c.args.pairs.now c.entries.place
                 (shown catalogue c.entries.replica.held.history) c.requires.outline was.left);
@@ -68,12 +68,12 @@ entries-preserved c =
             places = places_join c.args.replica.now.held.history c.entries.replica.held.history w.drop_one.new.replica.held.history was.places e.places;
             left = left_goes ys c.args.pairs.now c.entries.place (shown catalogue c.entries.replica.held.history)
                 (shown catalogue w.drop_one.new.replica.held.history) c.index-entries-place.result.section
-                (entries_once c.args.replica.now.held.history c.args.entries.now c.requires.stands.lawful c.requires.outline) was.left at (grind (arith, common_steps)) e.gone;
+                (entries_once c.args.replica.now.held.history c.args.entries.now c.requires.sound.lawful c.requires.outline) was.left at (grind (arith, common_steps)) e.gone;
           })
       | else-is_none w ↦
           rw (w.replica-is, w.made-is) (record {
             settled = was.settled;
-            stands = was.stands;
+            sound = was.sound;
             shaped = was.shaped;
             costs = shaping_more c.args.replica.now c.entries.replica (cost (dropped_count c.args.pairs.now c.entries.place) 0 0)
                 (cost (dropped_count c.args.pairs.now (c.entries.place + 1)) 0 0) c.entries.made

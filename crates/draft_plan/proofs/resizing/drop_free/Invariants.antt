@@ -13,7 +13,7 @@ use Rattle.draft_plan.proofs.resizing.drop_free.Given as goal
 abbrev pub invariant-entries : goal.invariant-entries
 invariant-entries l = record {
   settled : IsSettled l.replica.held;
-  stands : IsSound l.replica;
+  sound : IsSound l.replica;
   shaped : IsReshaped l.fn.replica l.replica l.made;
   places : KeepsPlaces l.fn.replica.held.history l.replica.held.history;
   left : AreLeft (entry_sections l.entries) l.pairs l.place (shown catalogue l.replica.held.history);

@@ -21,27 +21,27 @@ pub returns-clause-shapes : goal.returns-clause-shapes
 returns-clause-shapes c =
     let e = c.in_ok-drop_section.ensures in
     let within = (got (shown catalogue c.args.replica.now.held.history) c.number_of-number.result c.args.section c.number_of-number.ensures).0 in
-    (drop_shaped c.args.replica.now c.drop_section.new.self c.number_of-number.result c.in_ok-drop_section.field-0 c.requires.stands.lawful within e.refused e.made).0
+    (drop_shaped c.args.replica.now c.drop_section.new.self c.number_of-number.result c.in_ok-drop_section.field-0 c.requires.sound.lawful within e.refused e.made).0
 
 pub returns-clause-gone : goal.returns-clause-gone
 returns-clause-gone c =
     let h = c.args.replica.now.held.history in
     rw c.in_ok-drop_section.ensures.lands.splices.here
-    (without_one (shown catalogue h) c.number_of-number.result c.args.section (shown_once h c.requires.stands.lawful) c.number_of-number.ensures)
+    (without_one (shown catalogue h) c.number_of-number.result c.args.section (shown_once h c.requires.sound.lawful) c.number_of-number.ensures)
 
 pub returns-in_err-drop_section-clause-costs : goal.returns-in_err-drop_section-clause-costs
 returns-in_err-drop_section-clause-costs c =
     let p = err_from_is_err_and c.from_residual.result c.from_residual.ensures.1 in
-    rw (p.1, p.2) (edit_lacks (DropSection c.number_of-number.result) c.args.replica.now (cost 1 0 0) c.in_err-drop_section.field-0.0 c.requires.stands (omega arith)
+    rw (p.1, p.2) (edit_lacks (DropSection c.number_of-number.result) c.args.replica.now (cost 1 0 0) c.in_err-drop_section.field-0.0 c.requires.sound (omega arith)
     (omega arith) c.in_err-drop_section.ensures.refused)
 
 pub returns-clause-costs : goal.returns-clause-costs
 returns-clause-costs c =
     let e = c.in_ok-drop_section.ensures in
-    drop_costs c.args.replica.now c.drop_section.new.self c.number_of-number.result c.in_ok-drop_section.field-0 c.requires.stands.lawful e.refused e.made e.lands
+    drop_costs c.args.replica.now c.drop_section.new.self c.number_of-number.result c.in_ok-drop_section.field-0 c.requires.sound.lawful e.refused e.made e.lands
 
 pub returns-clause-places : goal.returns-clause-places
 returns-clause-places c =
     let e = c.in_ok-drop_section.ensures in
     let within = (got (shown catalogue c.args.replica.now.held.history) c.number_of-number.result c.args.section c.number_of-number.ensures).0 in
-    (drop_shaped c.args.replica.now c.drop_section.new.self c.number_of-number.result c.in_ok-drop_section.field-0 c.requires.stands.lawful within e.refused e.made).2
+    (drop_shaped c.args.replica.now c.drop_section.new.self c.number_of-number.result c.in_ok-drop_section.field-0 c.requires.sound.lawful within e.refused e.made).2

@@ -15,7 +15,7 @@ returns-in-Some c =
     let h = c.args.replica.now.held.history in
     let s = c.args.section in
     let place = subst (IsOrderedPlace catalogue h) (sym c.catalogue.ensures.catalogue) c.places.ensures.lists.catalogue_is in
-    let apart = subst (AllPairs (λ x y. x ≢ y)) (sym place.all) (order_total catalogue h c.places.ensures.stands.lawful).once in
+    let apart = subst (AllPairs (λ x y. x ≢ y)) (sym place.all) (order_total catalogue h c.places.ensures.sound.lawful).once in
     let member = subst (λ l. Contains l s) (sym place.visible) c.requires in
     ap (slice_get (shown catalogue h)) c.in-Some.ensures.some
     ∙ (ap (λ l. slice_get l (shown_before c.catalogue.result.now.cells s)) (sym place.visible) ∙ visible_place c.catalogue.result.now.cells s apart member)

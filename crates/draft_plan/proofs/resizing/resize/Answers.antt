@@ -15,7 +15,7 @@ use Rattle.draft_plan.proofs.ShapeLemmas.{places_join, reshaped_shaped, stops_re
 use Rattle.draft_plan.proofs.resizing.resize.Goals as goal
 
 pub add_missing-requires-clause-once : goal.add_missing-requires-clause-once
-add_missing-requires-clause-once c = entries_once c.args.replica.now.held.history c.args.entries.now c.requires.stands.lawful c.requires.outline
+add_missing-requires-clause-once c = entries_once c.args.replica.now.held.history c.args.entries.now c.requires.sound.lawful c.requires.outline
 
 pub returns-in_err-added-clause-shapes : goal.returns-in_err-added-clause-shapes
 returns-in_err-added-clause-shapes c =

@@ -16,7 +16,7 @@ pub returns-in_err-cut-clause-limits : goal.returns-in_err-cut-clause-limits
 returns-in_err-cut-clause-limits c =
     let p = err_from_is_err_and c.from_residual-in_err-cut.result c.from_residual-in_err-cut.ensures.1 in
     rw (p.1, p.2)
-    (cut_limit c.args.replica.now c.args.section c.args.hunk.old_at c.args.hunk.old_len c.in_err-cut.field-0.0 c.requires.stands.lawful c.requires.old c.in_err-cut.ensures.refused)
+    (cut_limit c.args.replica.now c.args.section c.args.hunk.old_at c.args.hunk.old_len c.in_err-cut.field-0.0 c.requires.sound.lawful c.requires.old c.in_err-cut.ensures.refused)
 
 pub returns-in_err-put-clause-stops : goal.returns-in_err-put-clause-stops
 returns-in_err-put-clause-stops c =
@@ -31,7 +31,7 @@ returns-in_err-put-clause-limits c =
     let p = err_from_is_err_and c.from_residual-in_err-put.result c.from_residual-in_err-put.ensures.1 in
     rw (p.1, p.2)
     (put_behind_limit c.args.replica.now c.cut.new.self c.args.section c.args.hunk.old_at c.args.hunk.old_len c.in_ok-cut.cut (chars c.as_str.result.now) c.in_err-put.field-0.0
-    c.requires.stands.lawful c.requires.old c.in_ok-cut.ensures.refused c.in_ok-cut.ensures.made c.in_err-put.ensures.refused)
+    c.requires.sound.lawful c.requires.old c.in_ok-cut.ensures.refused c.in_ok-cut.ensures.made c.in_err-put.ensures.refused)
 
 -- the text that is put
 put_text : (at n : ℕ) (new bytes : List ℕ) → chars bytes ≡ take (at + n - at) (drop at new) → chars bytes ≡ take n (drop at new)
@@ -44,9 +44,9 @@ overflow_add-result c =
     let text = typed_whole c.as_str.result.now _ c.as_str.utf8 (c.as_str.ensures.value ∙ c.in_ok-text.ensures) in
     let made = hunk_made old c.cut.new.self c.put.new.self c.args.section c.in_ok-cut.cut c.in_ok-put.put h c.args.new.now (chars c.as_str.result.now) c.requires.old c.requires.new
     (put_text h.new_at h.new_len c.args.new.now c.as_str.result.now text)
-    (cut_and_put c.requires.stands.lawful c.in_ok-cut.ensures.stands.lawful c.in_ok-cut.ensures.refused c.in_ok-cut.ensures.made
+    (cut_and_put c.requires.sound.lawful c.in_ok-cut.ensures.sound.lawful c.in_ok-cut.ensures.refused c.in_ok-cut.ensures.made
     c.in_ok-put.ensures.refused c.in_ok-put.ensures.made) in
-    omega (arith, hunk_few old c.put.new.self c.args.section (c.in_ok-cut.cut + c.in_ok-put.put) h c.args.new.now made c.in_ok-put.ensures.stands)
+    omega (arith, hunk_few old c.put.new.self c.args.section (c.in_ok-cut.cut + c.in_ok-put.put) h c.args.new.now made c.in_ok-put.ensures.sound)
 
 pub returns-clause-made : goal.returns-clause-made
 returns-clause-made c =
@@ -55,7 +55,7 @@ returns-clause-made c =
     hunk_made c.args.replica.now c.cut.new.self c.put.new.self c.args.section c.in_ok-cut.cut c.in_ok-put.put h c.args.new.now
     (chars c.as_str.result.now) c.requires.old c.requires.new
     (put_text h.new_at h.new_len c.args.new.now c.as_str.result.now text)
-    (cut_and_put c.requires.stands.lawful c.in_ok-cut.ensures.stands.lawful c.in_ok-cut.ensures.refused c.in_ok-cut.ensures.made
+    (cut_and_put c.requires.sound.lawful c.in_ok-cut.ensures.sound.lawful c.in_ok-cut.ensures.refused c.in_ok-cut.ensures.made
     c.in_ok-put.ensures.refused c.in_ok-put.ensures.made)
 
 pub returns-in_err-text-clause-costs : goal.returns-in_err-text-clause-costs
@@ -66,18 +66,18 @@ returns-in_err-text-clause-costs c =
 pub returns-in_err-cut-clause-costs : goal.returns-in_err-cut-clause-costs
 returns-in_err-cut-clause-costs c =
     let p = err_from_is_err_and c.from_residual-in_err-cut.result c.from_residual-in_err-cut.ensures.1 in
-    rw (p.1, p.2) (cut_lacks c.args.replica.now c.args.section c.args.hunk c.in_err-cut.field-0.0 c.requires.stands c.in_err-cut.ensures.refused)
+    rw (p.1, p.2) (cut_lacks c.args.replica.now c.args.section c.args.hunk c.in_err-cut.field-0.0 c.requires.sound c.in_err-cut.ensures.refused)
 
 pub returns-in_err-put-clause-costs : goal.returns-in_err-put-clause-costs
 returns-in_err-put-clause-costs c =
     let h = c.args.hunk in
     let text = typed_whole c.as_str.result.now _ c.as_str.utf8 (c.as_str.ensures.value ∙ c.in_ok-text.ensures) in
     let long = put_long h.new_at h.new_len c.args.new.now (chars c.as_str.result.now) c.requires.new (put_text h.new_at h.new_len c.args.new.now c.as_str.result.now text) in
-    let first = cut_costs c.args.replica.now c.cut.new.self c.args.section c.in_ok-cut.cut h c.requires.stands.lawful c.in_ok-cut.ensures.refused c.in_ok-cut.ensures.made in
+    let first = cut_costs c.args.replica.now c.cut.new.self c.args.section c.in_ok-cut.cut h c.requires.sound.lawful c.in_ok-cut.ensures.refused c.in_ok-cut.ensures.made in
     let p = err_from_is_err_and c.from_residual-in_err-put.result c.from_residual-in_err-put.ensures.1 in
     rw (p.1, p.2)
     (put_lacks c.args.replica.now c.cut.new.self c.args.section c.in_ok-cut.cut h
-    (chars c.as_str.result.now) c.in_err-put.field-0.0 c.in_ok-cut.ensures.stands first long c.in_err-put.ensures.refused)
+    (chars c.as_str.result.now) c.in_err-put.field-0.0 c.in_ok-cut.ensures.sound first long c.in_err-put.ensures.refused)
 
 pub returns-clause-costs : goal.returns-clause-costs
 returns-clause-costs c =
@@ -85,5 +85,5 @@ returns-clause-costs c =
     let text = typed_whole c.as_str.result.now _ c.as_str.utf8 (c.as_str.ensures.value ∙ c.in_ok-text.ensures) in
     let long = put_long h.new_at h.new_len c.args.new.now (chars c.as_str.result.now) c.requires.new (put_text h.new_at h.new_len c.args.new.now c.as_str.result.now text) in
     hunk_costs c.args.replica.now c.cut.new.self c.put.new.self c.args.section c.in_ok-cut.cut c.in_ok-put.put h (chars c.as_str.result.now) long
-    (cut_and_put c.requires.stands.lawful c.in_ok-cut.ensures.stands.lawful c.in_ok-cut.ensures.refused c.in_ok-cut.ensures.made
+    (cut_and_put c.requires.sound.lawful c.in_ok-cut.ensures.sound.lawful c.in_ok-cut.ensures.refused c.in_ok-cut.ensures.made
     c.in_ok-put.ensures.refused c.in_ok-put.ensures.made)

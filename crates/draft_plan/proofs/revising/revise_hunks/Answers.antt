@@ -14,7 +14,7 @@ hunks-init c =
     record {
       within = omega arith;
       settled = c.requires.settled;
-      stands = c.requires.stands;
+      sound = c.requires.sound;
       made = hunks_none c.args.replica.now c.args.section (length hs) hs c.args.new.now c.requires.hunks (drop_all (length hs) hs (omega arith));
       costs = costs_none c.args.replica.now (hunks_cost (drop (length hs) hs));
     }
@@ -42,11 +42,11 @@ pub overflow_add-made : goal.overflow_add-made
 overflow_add-made c =
     let more = hunks_more c.args.replica.now c.hunks.replica c.args.section c.hunks.left c.hunks.made c.args.hunks.now c.args.new.now c.requires.hunks c.hunks.invariant.made
     c.hunks-test.true
-    c.hunks.invariant.within c.revise_hunk.new.replica c.in_ok-made.field-0 c.requires.stands.lawful c.in_ok-made.ensures.made in
+    c.hunks.invariant.within c.revise_hunk.new.replica c.in_ok-made.field-0 c.requires.sound.lawful c.in_ok-made.ensures.made in
     omega (
       arith,
       hunks_few c.args.replica.now c.revise_hunk.new.replica c.args.section (c.hunks.made + c.in_ok-made.field-0)
-          (drop (c.hunks.left - 1) c.args.hunks.now) c.args.new.now more c.in_ok-made.ensures.stands,
+          (drop (c.hunks.left - 1) c.args.hunks.now) c.args.new.now more c.in_ok-made.ensures.sound,
     )
 
 pub hunks-preserved : goal.hunks-preserved
@@ -55,10 +55,10 @@ hunks-preserved c = record {
   costs = costs_more c.args.replica.now c.hunks.replica c.args.hunks.now c.hunks.left c.hunks.made c.hunks-test.true c.hunks.invariant.within c.hunks.invariant.costs
       c.revise_hunk.new.replica c.in_ok-made.field-0 c.in_ok-made.ensures.costs;
   settled = c.in_ok-made.ensures.settled;
-  stands = c.in_ok-made.ensures.stands;
+  sound = c.in_ok-made.ensures.sound;
   made = hunks_more c.args.replica.now c.hunks.replica c.args.section c.hunks.left c.hunks.made c.args.hunks.now c.args.new.now c.requires.hunks c.hunks.invariant.made
       c.hunks-test.true
-      c.hunks.invariant.within c.revise_hunk.new.replica c.in_ok-made.field-0 c.requires.stands.lawful c.in_ok-made.ensures.made;
+      c.hunks.invariant.within c.revise_hunk.new.replica c.in_ok-made.field-0 c.requires.sound.lawful c.in_ok-made.ensures.made;
 }
 
 pub returns-in_err-made-clause-costs : goal.returns-in_err-made-clause-costs

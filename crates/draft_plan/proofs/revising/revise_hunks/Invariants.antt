@@ -11,7 +11,7 @@ abbrev pub invariant-hunks : goal.invariant-hunks
 invariant-hunks l = record {
   within : l.left ≤ length l.hunks;
   settled : IsSettled l.replica.held;
-  stands : IsSound l.replica;
+  sound : IsSound l.replica;
   made : OfSection l.fn.replica l.section (λ x. AreHunksMade l.fn.replica l.replica l.section x (drop l.left l.hunks) l.new l.made);
   costs : Costs l.fn.replica l.replica (hunks_cost (drop l.left l.hunks)) (Ok l.made);
 }

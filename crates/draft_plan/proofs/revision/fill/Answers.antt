@@ -16,7 +16,7 @@ use Rattle.draft_plan.proofs.revision.fill.Goals as goal
 pub parts-init : goal.parts-init
 parts-init c = record {
   settled = c.requires.settled;
-  stands = c.requires.stands;
+  sound = c.requires.sound;
   arranges = c.new-arranger.ensures.arranges c.args.replica.now.held.history;
   filled = filled_none c.args.replica.now (map seen_part c.args.parts.now);
   costs = ([], refl, no_hunks _ _ _, costs_none c.args.replica.now (filling 0 []));
@@ -49,8 +49,8 @@ overflow_add-made c =
     let ps = c.args.parts.now in
     let at = entry_at start.held.history c.args.entries.now c.parts.place c.index-entries-place.result c.requires.outline (omega arith) c.index-entries-place.is in
     let more = filled_more start c.parts.replica c.fill_section.new.replica (map seen_part ps) c.parts.place c.parts.made c.in_ok-made.field-0 c.index-entries-place.result.section
-    (seen_part (get_or ps c.parts.place _)) c.requires.stands.lawful c.parts.invariant.filled at.placed (part_is ps c.parts.place _ (omega arith)) c.in_ok-made.ensures.filled in
-    omega (arith, makes_few start c.fill_section.new.replica (c.parts.made + c.in_ok-made.field-0) more.makes c.in_ok-made.ensures.stands)
+    (seen_part (get_or ps c.parts.place _)) c.requires.sound.lawful c.parts.invariant.filled at.placed (part_is ps c.parts.place _ (omega arith)) c.in_ok-made.ensures.filled in
+    omega (arith, makes_few start c.fill_section.new.replica (c.parts.made + c.in_ok-made.field-0) more.makes c.in_ok-made.ensures.sound)
 
 pub parts-preserved : goal.parts-preserved
 parts-preserved c =
@@ -60,10 +60,10 @@ parts-preserved c =
     let same = (c.parts.invariant.filled.each c.parts.place c.index-entries-place.result.section at.placed).1 (omega arith) in
     record {
       settled = c.in_ok-made.ensures.settled;
-      stands = c.in_ok-made.ensures.stands;
+      sound = c.in_ok-made.ensures.sound;
       arranges = c.in_ok-made.ensures.arranges;
       filled = filled_more start c.parts.replica c.fill_section.new.replica (map seen_part ps) c.parts.place c.parts.made c.in_ok-made.field-0 c.index-entries-place.result.section
-          (seen_part (get_or ps c.parts.place _)) c.requires.stands.lawful c.parts.invariant.filled at.placed
+          (seen_part (get_or ps c.parts.place _)) c.requires.sound.lawful c.parts.invariant.filled at.placed
           (part_is ps c.parts.place _ (omega arith)) c.in_ok-made.ensures.filled;
       costs = filling_more start c.parts.replica (slice_get (arranged start.held.history)) (map seen_part ps) c.parts.place c.parts.made c.index-entries-place.result.section
           (seen_part (get_or ps c.parts.place _))
@@ -77,7 +77,7 @@ returns-clause-revised c =
     let start = c.args.replica.now in
     let ps = c.args.parts.now in
     let long = outline_long start.held.history c.args.entries.now c.requires.outline in
-    revised_all start c.parts.replica (map seen_part ps) c.parts.place c.parts.made c.requires.stands.lawful c.parts.invariant.filled (omega (arith, long))
+    revised_all start c.parts.replica (map seen_part ps) c.parts.place c.parts.made c.requires.sound.lawful c.parts.invariant.filled (omega (arith, long))
     (omega (arith, long, length-map ps seen_part))
 
 pub returns-clause-same : goal.returns-clause-same

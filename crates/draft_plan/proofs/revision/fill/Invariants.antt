@@ -11,7 +11,7 @@ use Rattle.draft_plan.proofs.revision.fill.Given as goal
 abbrev pub invariant-parts : goal.invariant-parts
 invariant-parts l = record {
   settled : IsSettled l.replica.held;
-  stands : IsSound l.replica;
+  sound : IsSound l.replica;
   arranges : Arranges l.replica.held.history l.arranger;
   filled : AreFilled l.fn.replica l.replica (map seen_part l.parts) l.place l.made;
   costs : FillsFirst l.fn.replica l.replica (slice_get (arranged l.fn.replica.held.history)) (map seen_part l.parts) l.place l.made;

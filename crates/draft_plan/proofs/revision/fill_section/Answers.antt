@@ -21,7 +21,7 @@ overflow_add-result c =
     let made = section_filled c.args.replica.now c.retitle_other.new.replica c.revise_text.new.replica c.args.entry.now.number c.in_ok-retitled.retitled c.in_ok-revised.revised
     c.args.entry.now.section c.args.title.now c.args.text.now c.requires.numbered c.in_ok-retitled.ensures.titled
     (record { utf8 = c.utf8.text; revised = e.revised; keeps = e.keeps; touches = e.touches; same = e.same }) in
-    omega (arith, makes_few c.args.replica.now c.revise_text.new.replica (c.in_ok-retitled.retitled + c.in_ok-revised.revised) made.makes e.stands)
+    omega (arith, makes_few c.args.replica.now c.revise_text.new.replica (c.in_ok-retitled.retitled + c.in_ok-revised.revised) made.makes e.sound)
 
 pub returns-clause-filled : goal.returns-clause-filled
 returns-clause-filled c =

@@ -31,7 +31,7 @@ returns-in_err-retitle-clause-stops c =
 pub returns-clause-titled : goal.returns-clause-titled
 returns-clause-titled c =
     let e = c.in_ok-retitle.ensures in
-    headed_by c.args.replica.now c.retitle.new.replica c.args.place c.in_ok-retitle.field-0 c.args.entry.now.section c.in_ok-title.title c.args.title.now c.requires.stands.lawful
+    headed_by c.args.replica.now c.retitle.new.replica c.args.place c.in_ok-retitle.field-0 c.args.entry.now.section c.in_ok-title.title c.args.title.now c.requires.sound.lawful
     c.requires.placed
     e.refused e.made e.shown c.in_ok-title.ensures (λ d. false≢true (sym c.if-has_title.false ∙ c.has_title.ensures.1 (c.requires.headed ∙ d)))
 
@@ -52,7 +52,7 @@ returns-in_err-retitle-clause-costs c =
     let r = retitle_count s.held.history (Some c.args.entry.now.section) (Some c.args.title.now) in
     let one = one_retitle s.held.history c.args.entry.now.section c.args.title.now (λ d. false≢true (sym c.if-has_title.false ∙ c.has_title.ensures.1 (c.requires.headed ∙ d))) in
     rw (p.1, p.2) (title_lacks s r (fault.Move c.in_err-retitle.field-0.0) one
-    (retitle_lacks s c.args.place c.in_err-retitle.field-0.0 c.requires.stands c.in_err-retitle.ensures.refused))
+    (retitle_lacks s c.args.place c.in_err-retitle.field-0.0 c.requires.sound c.in_err-retitle.ensures.refused))
 
 pub returns-clause-costs : goal.returns-clause-costs
 returns-clause-costs c =

@@ -55,14 +55,14 @@ returns-in_default-clause-costs c = costs_none c.args.replica.now (revision_cost
 pub returns-in_default-clause-needed : goal.returns-in_default-clause-needed
 returns-in_default-clause-needed c =
     let s = c.args.replica.now in
-    let w = c.in_ok-outline.ensures.stands.lawful in
+    let w = c.in_ok-outline.ensures.sound.lawful in
     none_needless s s w w (only_none (InRevision s.held.history s.held.history) s)
 
 pub returns-clause-needed : goal.returns-clause-needed
 returns-clause-needed c =
     let e = c.in_ok-filled.ensures in
-    let w = c.in_ok-outline.ensures.stands.lawful in
-    none_needless c.args.replica.now c.fill_shaped.new.replica w e.stands.lawful
+    let w = c.in_ok-outline.ensures.sound.lawful in
+    none_needless c.args.replica.now c.fill_shaped.new.replica w e.sound.lawful
     (touches_shaped c.args.replica.now c.shape.new.replica c.fill_shaped.new.replica c.in_ok-shaped.shaped w c.in_ok-shaped.ensures.shapes e.arranged e.touches)
 
 pub returns-in_err-filled-clause-stops : goal.returns-in_err-filled-clause-stops
@@ -75,14 +75,14 @@ returns-in_err-filled-clause-stops c =
 pub overflow_add-result : goal.overflow_add-result
 overflow_add-result c =
     let made = revised_shaped c.args.replica.now c.shape.new.replica c.fill_shaped.new.replica (map seen_part c.parts-parts.result.now) c.in_ok-shaped.shaped c.in_ok-filled.filled
-    c.in_ok-outline.ensures.stands.lawful c.in_ok-shaped.ensures.shapes c.in_ok-filled.ensures.revised in
-    omega (arith, makes_few c.args.replica.now c.fill_shaped.new.replica (c.in_ok-shaped.shaped + c.in_ok-filled.filled) made.makes c.in_ok-filled.ensures.stands)
+    c.in_ok-outline.ensures.sound.lawful c.in_ok-shaped.ensures.shapes c.in_ok-filled.ensures.revised in
+    omega (arith, makes_few c.args.replica.now c.fill_shaped.new.replica (c.in_ok-shaped.shaped + c.in_ok-filled.filled) made.makes c.in_ok-filled.ensures.sound)
 
 pub returns-clause-revised : goal.returns-clause-revised
 returns-clause-revised c =
     subst (λ (ps : List Part). IsRevision c.args.replica.now c.fill_shaped.new.replica ps (c.in_ok-shaped.shaped + c.in_ok-filled.filled)) c.parts-parts.ensures
     (revised_shaped c.args.replica.now c.shape.new.replica c.fill_shaped.new.replica (map seen_part c.parts-parts.result.now) c.in_ok-shaped.shaped c.in_ok-filled.filled
-    c.in_ok-outline.ensures.stands.lawful c.in_ok-shaped.ensures.shapes c.in_ok-filled.ensures.revised)
+    c.in_ok-outline.ensures.sound.lawful c.in_ok-shaped.ensures.shapes c.in_ok-filled.ensures.revised)
 
 pub returns-clause-keeps : goal.returns-clause-keeps
 returns-clause-keeps c =
@@ -92,7 +92,7 @@ returns-clause-keeps c =
     let matched = (subst (Matches h ps) c.in-Some.is c.in_ok-pairs.ensures).0 in
     let shaped = subst (λ m. AreSectionsOf h c.in-Some.pairs m (arranged c.shape.new.replica.held.history)) (length-map ps seen_part) c.in_ok-shaped.ensures.stand_as.sections in
     let stand = subst (AreSectionsOf h c.in-Some.pairs (length ps)) (sym c.in_ok-filled.ensures.arranged) shaped in
-    kept_sections h n ps c.in-Some.pairs matched stand (sym c.in_ok-filled.ensures.revised.reads) c.in_ok-outline.ensures.stands.lawful
+    kept_sections h n ps c.in-Some.pairs matched stand (sym c.in_ok-filled.ensures.revised.reads) c.in_ok-outline.ensures.sound.lawful
     (few_still h c.shape.new.replica.held.history n c.in_ok-filled.ensures.arranged c.in_ok-filled.ensures.moved c.in_ok-shaped.ensures.moves)
 
 pub returns-clause-same : goal.returns-clause-same
@@ -154,7 +154,7 @@ returns-in_err-filled-clause-costs c =
     let q = c.in_ok-shaped.ensures.costs in
     let coarse = costs_more s mid (shaping c.in-Some.pairs q.0 e m) (cost (e + 2 * m) (2 * m) m) (Ok c.in_ok-shaped.shaped)
     (shaping_within c.in-Some.pairs q.0 e m (moves_within s.held.history c.in-Some.pairs m q.0 q.1)) q.2.0 in
-    let fewer = letters_shaped s mid c.in_ok-shaped.shaped c.in_ok-outline.ensures.stands.lawful c.in_ok-shaped.ensures.stands.lawful c.in_ok-shaped.ensures.shapes
+    let fewer = letters_shaped s mid c.in_ok-shaped.shaped c.in_ok-outline.ensures.sound.lawful c.in_ok-shaped.ensures.sound.lawful c.in_ok-shaped.ensures.shapes
     c.in_ok-shaped.ensures.costs.2.1 in
     let p = err_from_is_err_and c.from_residual-in_err-filled.result c.from_residual-in_err-filled.ensures.1 in
     rw (p.1, p.2)
@@ -180,7 +180,7 @@ returns-clause-costs c =
     let q = c.in_ok-shaped.ensures.costs in
     let coarse = costs_more s mid (shaping c.in-Some.pairs q.0 e m) (cost (e + 2 * m) (2 * m) m) (Ok c.in_ok-shaped.shaped)
     (shaping_within c.in-Some.pairs q.0 e m (moves_within s.held.history c.in-Some.pairs m q.0 q.1)) q.2.0 in
-    let fewer = letters_shaped s mid c.in_ok-shaped.shaped c.in_ok-outline.ensures.stands.lawful c.in_ok-shaped.ensures.stands.lawful c.in_ok-shaped.ensures.shapes
+    let fewer = letters_shaped s mid c.in_ok-shaped.shaped c.in_ok-outline.ensures.sound.lawful c.in_ok-shaped.ensures.sound.lawful c.in_ok-shaped.ensures.shapes
     c.in_ok-shaped.ensures.costs.2.1 in
     revision_costs s c.args.draft.now mid.held.history (length c.entries-entries.result.now) count fewer mid last c.in_ok-shaped.shaped c.in_ok-filled.filled (rw parts coarse)
     (filling_within mid last (arranged mid.held.history) c.args.draft.now (Ok c.in_ok-filled.filled)
@@ -235,7 +235,7 @@ returns-in_err-filled-clause-planned c =
     let p = err_from_is_err_and c.from_residual-in_err-filled.result c.from_residual-in_err-filled.ensures.1 in
     rw (p.1, p.2)
     (filling_lacks_plan s mid c.in_ok-shaped.shaped read c.args.draft.now c.parts-parts.ensures pairs matched q.0
-    (subst (λ m. PlansMoves s.held.history pairs m q.0) (sym parts) q.1) c.in_ok-outline.ensures.stands.lawful c.in_ok-shaped.ensures.stands.lawful
+    (subst (λ m. PlansMoves s.held.history pairs m q.0) (sym parts) q.1) c.in_ok-outline.ensures.sound.lawful c.in_ok-shaped.ensures.sound.lawful
     c.in_ok-shaped.ensures.shapes
     q.2.1 stand (λ j i e. let l = matched_within (length matched.sections) (length read) pairs j i matched.matching e in omega (arith, l, sections)) c.fill_shaped.new.replica why
     first

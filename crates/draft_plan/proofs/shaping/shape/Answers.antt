@@ -61,7 +61,7 @@ returns-clause-stand_as c =
       };
       titled = λ j s p e f g.
           let at = ap (λ l. slice_get l j) (sym is) ∙ f in
-          let held = shown_holds mid s c.in_ok-resized.ensures.stands.lawful ((t.shown_are s).1 (get_in ts j s at)) in
+          let held = shown_holds mid s c.in_ok-resized.ensures.sound.lawful ((t.shown_are s).1 (get_in ts j s at)) in
           ap encode_utf8_all (c.in_ok-moved.ensures.shapes.keeps.same s held).headed ∙ t.titled j s p e at g;
     }
 
@@ -95,7 +95,7 @@ returns-in_err-moved-clause-costs c =
     inr (
       ts,
       record { long = t.long ∙ length-map c.args.parts.now seen_part; kept = t.kept; fresh = t.fresh },
-      plans_moves h mid c.args.pairs.now ts moved c.requires.stands.lawful c.in_ok-resized.ensures.stands.lawful c.in_ok-resized.ensures.places t.shown_are
+      plans_moves h mid c.args.pairs.now ts moved c.requires.sound.lawful c.in_ok-resized.ensures.sound.lawful c.in_ok-resized.ensures.places t.shown_are
           (subst (λ l. MovesNoMore mid c.args.pairs.now l moved) c.as_slice.ensures.value few),
     ) in
     let why = c.in_err-moved.field-0.0 in
@@ -125,7 +125,7 @@ returns-clause-costs c =
     inr (
       ts,
       record { long = t.long ∙ length-map c.args.parts.now seen_part; kept = t.kept; fresh = t.fresh },
-      plans_moves h mid c.args.pairs.now ts moved c.requires.stands.lawful c.in_ok-resized.ensures.stands.lawful c.in_ok-resized.ensures.places t.shown_are
+      plans_moves h mid c.args.pairs.now ts moved c.requires.sound.lawful c.in_ok-resized.ensures.sound.lawful c.in_ok-resized.ensures.places t.shown_are
           (subst (λ l. MovesNoMore mid c.args.pairs.now l moved) c.as_slice.ensures.value few),
     ) in
     let q = c.in_ok-moved.ensures.costs in (
@@ -145,7 +145,7 @@ returns-clause-moves c =
     let t = c.in_ok-resized.ensures.targets in
     let few = subst (ArrangesFew mid new c.args.pairs.now) c.as_slice.ensures.value c.in_ok-moved.ensures.few in
     let long = outline_long h c.args.entries.now c.requires.outline in
-    moves_few h mid new c.args.pairs.now ts c.requires.stands.lawful c.in_ok-resized.ensures.stands.lawful c.in_ok-resized.ensures.places few
+    moves_few h mid new c.args.pairs.now ts c.requires.sound.lawful c.in_ok-resized.ensures.sound.lawful c.in_ok-resized.ensures.places few
     (c.in_ok-moved.ensures.arranged ∙ c.as_slice.ensures.value)
     t.shown_are t.kept t.fresh (λ j i e. let l = matched_within (length c.args.entries.now) (length c.args.parts.now) c.args.pairs.now j i c.requires.matching e in
     omega (arith, l, long))

@@ -25,9 +25,9 @@ returns-in-DropSection-clause-unmade c =
     c.drop_section.ensures.refused c.drop_section.ensures.unmade
 
 pub returns-in-Add-clause-sections : goal.returns-in-Add-clause-sections
-returns-in-Add-clause-sections c = add_kept _ _ _ c.in-Add.at c.in-Add.title c.add.result c.add.ensures.stands.lawful c.add.ensures.refused c.add.ensures.made c.requires.sections
+returns-in-Add-clause-sections c = add_kept _ _ _ c.in-Add.at c.in-Add.title c.add.result c.add.ensures.sound.lawful c.add.ensures.refused c.add.ensures.made c.requires.sections
 
 pub returns-in-DropSection-clause-sections : goal.returns-in-DropSection-clause-sections
 returns-in-DropSection-clause-sections c =
-    drop_kept _ _ _ c.in-DropSection.section c.drop_section.result c.drop_section.ensures.stands.lawful c.drop_section.ensures.refused c.drop_section.ensures.made
+    drop_kept _ _ _ c.in-DropSection.section c.drop_section.result c.drop_section.ensures.sound.lawful c.drop_section.ensures.refused c.drop_section.ensures.made
     c.requires.sections

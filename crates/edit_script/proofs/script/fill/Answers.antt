@@ -16,7 +16,7 @@ reads-preserved g c =
     record {
       size = whole ∙ kept.size;
       bound = omega (arith, whole, placed.read.bound, placed.long, kept.bound);
-      told = kept.told ∙ ap (prepend_known front) placed.read.gave ∙ prepend_twice front (take c.in_ok-count.count placed.part) _
+      split = kept.split ∙ ap (prepend_known front) placed.read.gave ∙ prepend_twice front (take c.in_ok-count.count placed.part) _
           ∙ ap (λ (l : List ℕ). prepend_known l (g.S.Source.seen c.read_behind.new.source).left) (sym (placed_longer _ _ _ _ _ placed.items kept.bound));
       count = count_then _ kept.count (count_so _ _ placed.read.count (λ failed. absurd failed) (λ e. absurd (cc e)));
     }

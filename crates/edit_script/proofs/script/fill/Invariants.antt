@@ -7,7 +7,7 @@ abbrev pub invariant-reads : goal.invariant-reads
 invariant-reads g l = record {
   size : length l.buffer ≡ length l.initial.buffer;
   bound : l.len ≤ length l.buffer;
-  told : (g.S.Source.seen l.fn.source).left ≡ prepend_known (take l.len l.buffer) (g.S.Source.seen l.source).left;
+  split : (g.S.Source.seen l.fn.source).left ≡ prepend_known (take l.len l.buffer) (g.S.Source.seen l.source).left;
   count : KeepsCount (g.S.Source.seen l.fn.source) (g.S.Source.seen l.source) ⊥;
 }
 

@@ -9,5 +9,5 @@ returns g c =
     written_alone _ _ _ _ (record {
       result = c.gone_out.result;
       did = c.gone_out.ensures before after about_text c.write_pieces-written.ensures;
-      told = c.ended.ensures;
+      reported = c.ended.ensures;
     })

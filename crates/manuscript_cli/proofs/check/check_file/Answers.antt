@@ -4,7 +4,7 @@ use Rattle.command_kinds.proofs.CrashLemmas.{kept_never_torn}
 use Rattle.command_kinds.proofs.LoadedLemmas.{keeps_file}
 use Rattle.command_kinds.proofs.ReportLemmas.{load_refused, report_written}
 use Rattle.command_kinds.specs.Changes.{change}
-use Rattle.manuscript_cli.specs.Check.{check_tells, nothing_said}
+use Rattle.manuscript_cli.specs.Check.{check_reports, nothing_said}
 use Rattle.manuscript_cli.proofs.CheckLemmas.{check_once}
 use Rattle.manuscript_cli.proofs.check.check_file.Goals as goal
 
@@ -18,7 +18,7 @@ returns-in-Ok g c =
         read = k.read;
         count = k.count;
         loaded = (_, _, loaded.cause, k.writes);
-        reports = report_written (check_tells k.text) (check_once k.text) _ _ _ _ loaded _ _ k.writes;
+        reports = report_written (check_reports k.text) (check_once k.text) _ _ _ _ loaded _ _ k.writes;
       })
       | inr k ↦
           let keeps = keeps_file file _ loaded in
@@ -38,5 +38,5 @@ returns-in-Err g c =
     inr (inr (record {
       unread = refl;
       reports = rw c.tell.ensures.status (rw c.from.ensures
-          (load_refused nothing_said (λ replica lawful a b one two. absurd one) _ _ _ refl c.in-Err.fault c.in-Err.ensures (rw c.from.ensures at c.tell.ensures.told)));
+          (load_refused nothing_said (λ replica lawful a b one two. absurd one) _ _ _ refl c.in-Err.fault c.in-Err.ensures (rw c.from.ensures at c.tell.ensures.reported)));
     }))

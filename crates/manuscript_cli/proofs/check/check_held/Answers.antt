@@ -11,6 +11,6 @@ returns-in-Err g c =
       cause = c.in-Err.ensures.none;
       count = count_so _ (c.in-Err.why ≡ Outside) c.in-Err.ensures.count (λ is. ap Err is) (λ e. cc e);
       wrote = refl;
-      noted = c.tell.ensures.told;
+      noted = c.tell.ensures.reported;
       end_is = c.tell.ensures.status;
     })

@@ -6,7 +6,7 @@ use Rattle.manuscript_cli.proofs.check.read_text.Given as goal
 
 abbrev pub invariant-reads : goal.invariant-reads
 invariant-reads g l = record {
-  told : (g.S.Source.seen l.fn.source).left ≡ prepend_known l.text.items (g.S.Source.seen l.source).left;
+  split : (g.S.Source.seen l.fn.source).left ≡ prepend_known l.text.items (g.S.Source.seen l.source).left;
   bound : length l.text.items ≤ LONGEST_TEXT + 1;
   count : KeepsCount (g.S.Source.seen l.fn.source) (g.S.Source.seen l.source) ⊥;
 }

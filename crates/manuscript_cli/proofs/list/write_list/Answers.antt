@@ -15,7 +15,7 @@ returns-in_err-put_replica g c =
     let lines = flat_map (counted_line c.args.entries.now) c.args.counts.now in
     let p = err_from_is_err_and c.from_residual.result c.from_residual.ensures.1 in
     rw p.1 (subst (WritesBytes {E = Failed} {T = Unit {0}} (g.O.Out.seen c.args.output.now) (g.O.Out.seen c.put_replica.new.output) (Err (record {})))
-    (listed _ _ _ c.requires.stands c.requires.outline c.requires.counts)
+    (listed _ _ _ c.requires.sound c.requires.outline c.requires.counts)
     (stop_writes {T = Unit {0}} {S = Unit {0}} _ _ _ _ (gathers_stop {T = Unit {0}} {S = Unit {0}} _ _ _ _ first lines
     (subst (λ w. GathersText {T = Unit {0}} (g.O.Out.seen c.args.output.now) (g.O.Out.seen c.put_replica.new.output) w c.put_replica.new.gather (Err (record {})) first)
     c.new-gather.ensures c.in_err-put_replica.ensures))))
@@ -26,7 +26,7 @@ returns-in_err-put_all g c =
     let lines = flat_map (counted_line c.args.entries.now) c.args.counts.now in
     let p = err_from_is_err_and c.from_residual-in_err-put_all.result c.from_residual-in_err-put_all.ensures.1 in
     rw p.1 (subst (WritesBytes {E = Failed} {T = Unit {0}} (g.O.Out.seen c.args.output.now) (g.O.Out.seen c.put_all.new.output) (Err (record {})))
-    (listed _ _ _ c.requires.stands c.requires.outline c.requires.counts)
+    (listed _ _ _ c.requires.sound c.requires.outline c.requires.counts)
     (stop_writes {T = Unit {0}} {S = Unit {0}} _ _ _ _ (gathers_join {T = Unit {0}} {S = Unit {0}} tt (Err (record {})) _ _ _ _ _ _ first lines
     (subst (λ w. GathersText {T = Unit {0}} (g.O.Out.seen c.args.output.now) (g.O.Out.seen c.put_replica.new.output) w c.put_replica.new.gather (Ok tt) first) c.new-gather.ensures
     c.in_ok-put_replica.ensures)
@@ -37,7 +37,7 @@ returns g c =
     let first = replica_line c.args.replica.now in
     let lines = flat_map (counted_line c.args.entries.now) c.args.counts.now in
     subst (WritesBytes {E = Failed} {T = Unit {0}} (g.O.Out.seen c.args.output.now) (g.O.Out.seen c.flush.new.out) c.flush.result)
-    (listed _ _ _ c.requires.stands c.requires.outline c.requires.counts)
+    (listed _ _ _ c.requires.sound c.requires.outline c.requires.counts)
     (flush_writes {T = Unit {0}} {S = Unit {0}} tt c.flush.result _ _ _ _ _
     (gathers_join {T = Unit {0}} {S = Unit {0}} tt (Ok tt) _ _ _ _ _ _ first lines
     (subst (λ w. GathersText {T = Unit {0}} (g.O.Out.seen c.args.output.now) (g.O.Out.seen c.put_replica.new.output) w c.put_replica.new.gather (Ok tt) first) c.new-gather.ensures
@@ -46,7 +46,7 @@ returns g c =
     c.flush.ensures.text)
 
 pub put_all-requires-clause-places : goal.put_all-requires-clause-places
-put_all-requires-clause-places g c = few_entries c.args.replica.now c.requires.stands c.args.entries.now c.requires.outline
+put_all-requires-clause-places g c = few_entries c.args.replica.now c.requires.sound c.args.entries.now c.requires.outline
 
 pub put_all-requires-clause-numbers : goal.put_all-requires-clause-numbers
-put_all-requires-clause-numbers g c k d below = few_numbers c.args.replica.now c.requires.stands _ (c.requires.outline.each k d below)
+put_all-requires-clause-numbers g c k d below = few_numbers c.args.replica.now c.requires.sound _ (c.requires.outline.each k d below)

@@ -1,7 +1,7 @@
 use Rattle.std.proofs.Common.{refl}
 use Rattle.command_kinds.proofs.ReportLemmas.{load_refused, report_written}
-use Rattle.manuscript_cli.specs.Moments.{moments_tells}
-use Rattle.manuscript_cli.proofs.MomentsLemmas.{moments_of_some, moments_told_once}
+use Rattle.manuscript_cli.specs.Moments.{moments_reports}
+use Rattle.manuscript_cli.proofs.MomentsLemmas.{moments_of_some, moments_reported_once}
 use Rattle.manuscript_cli.proofs.moments.write_moments.Goals as goal
 
 pub returns-in-Ok : goal.returns-in-Ok
@@ -10,7 +10,7 @@ returns-in-Ok g c =
     record {
       moments = moments;
       are = λ replica end holds. c.in-Ok.ensures.moments;
-      reports = report_written (moments_tells moments) (moments_told_once moments) _ _ _ _ c.in-Ok.ensures.meets _ _ c.write_held-status.ensures;
+      reports = report_written (moments_reports moments) (moments_reported_once moments) _ _ _ _ c.in-Ok.ensures.meets _ _ c.write_held-status.ensures;
     }
 
 pub returns-in-Err : goal.returns-in-Err
@@ -20,5 +20,5 @@ returns-in-Err g c =
       moments = some.0;
       are = some.1;
       reports = rw c.tell.ensures.status (rw c.from.ensures
-          (load_refused (moments_tells some.0) (moments_told_once some.0) _ _ _ refl c.in-Err.fault c.in-Err.ensures.meets (rw c.from.ensures at c.tell.ensures.told)));
+          (load_refused (moments_reports some.0) (moments_reported_once some.0) _ _ _ refl c.in-Err.fault c.in-Err.ensures.meets (rw c.from.ensures at c.tell.ensures.reported)));
     }

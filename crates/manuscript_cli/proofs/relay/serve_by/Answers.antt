@@ -1,5 +1,5 @@
 use Rattle.std.proofs.Common.{refl}
-use Rattle.manuscript_cli.proofs.RelayLemmas.{all_served, not_all_served, served_blameless, stopped_blameless, stopped_told}
+use Rattle.manuscript_cli.proofs.RelayLemmas.{all_served, not_all_served, served_blameless, stopped_blameless, stopped_reported}
 use Rattle.manuscript_cli.proofs.relay.serve_by.Goals as goal
 
 pub returns-in-Ok-clause-meets : goal.returns-in-Ok-clause-meets
@@ -24,7 +24,7 @@ returns-in-Err-clause-dock g c =
     let opened = c.in_ok-open.ensures.meets in
     rw c.from.ensures (stopped_blameless _ _ _ _ _ opened.0 opened.1 opened.2 c.serve.new.relay c.in-Err.fault (rw c.requires at c.in-Err.ensures.dock))
 
-pub returns-in-Err-clause-told : goal.returns-in-Err-clause-told
-returns-in-Err-clause-told g c =
+pub returns-in-Err-clause-reported : goal.returns-in-Err-clause-reported
+returns-in-Err-clause-reported g c =
     let opened = c.in_ok-open.ensures in
-    rw c.from.ensures (stopped_told _ _ _ _ opened.meets.1 opened.told c.in-Err.fault c.in-Err.ensures.told)
+    rw c.from.ensures (stopped_reported _ _ _ _ opened.meets.1 opened.reported c.in-Err.fault c.in-Err.ensures.reported)

@@ -10,7 +10,7 @@ pub returns-then-is_empty-clause-drops : goal.returns-then-is_empty-clause-drops
 returns-then-is_empty-clause-drops c =
     let none : length c.parts.result.now ≡ 0 = grind (arith, common_steps) in
     let long = sym (ap length c.parts.ensures) ∙ length-map c.parts.result.now seen_part in
-    empties_some c.args.replica.now.held.history c.args.draft.now c.section_count-shown.result c.section_count-shown.ensures.stands.lawful
+    empties_some c.args.replica.now.held.history c.args.draft.now c.section_count-shown.result c.section_count-shown.ensures.sound.lawful
     (long ∙ none) c.section_count-shown.ensures.count
 
 pub returns-else-is_empty-clause-drops : goal.returns-else-is_empty-clause-drops

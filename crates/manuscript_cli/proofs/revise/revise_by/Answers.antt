@@ -40,7 +40,7 @@ returns-then-is_same-clause-gives g c kept =
     let read = subst (IsTextRead input) (sym c.as_slice-draft.ensures.value) c.in_ok-text.ensures.text in
     let same = c.is_same.ensures.0 c.if-is_same.true ∙ (c.written.ensures ∙ c.in_ok-shown.ensures.shown) in
     same_gives (change (g.G.Disk.seen c.args.base.now) (g.G.Disk.seen c.check_base.new.base)) input
-    c.args.replica.now ok.0 c.as_slice-draft.result.now kept ok.1 (text_left input _ read) ok.2 read.short same c.requires.ready.settled c.requires.ready.stands
+    c.args.replica.now ok.0 c.as_slice-draft.result.now kept ok.1 (text_left input _ read) ok.2 read.short same c.requires.ready.settled c.requires.ready.sound
 
 pub revise_to-requires-clause-other : goal.revise_to-requires-clause-other
 revise_to-requires-clause-other g c = λ e.

@@ -41,5 +41,5 @@ returns-clause-made c =
       fits,
       revised_to c.revise.result c.in_ok-made.made c.args.replica.now c.revise.new.replica c.in_ok-draft.draft is c.arranged_reads.ensures c.revise.ensures.revised
           c.revise.ensures.same c.revise.ensures.costs
-          c.revise.ensures.stands c.revise.ensures.settled,
+          c.revise.ensures.sound c.revise.ensures.settled,
     )

@@ -6,5 +6,5 @@ pub returns-in-Ok : goal.returns-in-Ok
 returns-in-Ok c =
     let seen = ap (λ (v : OutView). v.written) c.new-text.ensures.seen in
     let empty : c.new-text.result.written ≡ [] = cc seen in
-    let told = rw empty at c.in-Ok.ensures.text.ok.written in
-    cc told
+    let reported = rw empty at c.in-Ok.ensures.text.ok.written in
+    cc reported

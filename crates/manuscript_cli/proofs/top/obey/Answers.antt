@@ -30,7 +30,7 @@ returns-in-Edit-clause-meets g c =
       others = refl;
       does = c.save_given.ensures.saves.1;
       leaves = c.save_given.ensures.leaves;
-      unused = λ told why refuses. ap (λ x. record old { streams = record old.streams { input = g.S.Source.seen x } }) (c.save_given.ensures.unused told why refuses);
+      unused = λ specified why refuses. ap (λ x. record old { streams = record old.streams { input = g.S.Source.seen x } }) (c.save_given.ensures.unused specified why refuses);
     })
 
 pub returns-in-Take-clause-meets : goal.returns-in-Take-clause-meets
@@ -42,7 +42,8 @@ returns-in-Take-clause-meets g c =
       others = refl;
       does = c.save_given-in-Take.ensures.saves.1;
       leaves = c.save_given-in-Take.ensures.leaves;
-      unused = λ told why refuses. ap (λ x. record old { streams = record old.streams { input = g.S.Source.seen x } }) (c.save_given-in-Take.ensures.unused told why refuses);
+      unused = λ specified why refuses. ap (λ x. record old { streams = record old.streams { input = g.S.Source.seen x } })
+          (c.save_given-in-Take.ensures.unused specified why refuses);
     })
 
 pub returns-in-Merge-clause-meets : goal.returns-in-Merge-clause-meets
@@ -54,7 +55,7 @@ returns-in-Merge-clause-meets g c =
       others = refl;
       does = c.save_given-in-Merge.ensures.saves.1;
       leaves = c.save_given-in-Merge.ensures.leaves;
-      unused = λ told why refuses. ap (λ x. record old { guest = g.G.Disk.seen x }) (c.save_given-in-Merge.ensures.unused told why refuses);
+      unused = λ specified why refuses. ap (λ x. record old { guest = g.G.Disk.seen x }) (c.save_given-in-Merge.ensures.unused specified why refuses);
     })
 
 pub returns-in-Sync-clause-meets : goal.returns-in-Sync-clause-meets
@@ -66,7 +67,7 @@ returns-in-Sync-clause-meets g c =
       others = refl;
       does = c.save_given-in-Sync.ensures.saves.1;
       leaves = c.save_given-in-Sync.ensures.leaves;
-      unused = λ told why refuses. ap (λ x. record old { wire = g.W.Wire.seen x }) (c.save_given-in-Sync.ensures.unused told why refuses);
+      unused = λ specified why refuses. ap (λ x. record old { wire = g.W.Wire.seen x }) (c.save_given-in-Sync.ensures.unused specified why refuses);
     })
 
 pub returns-in-Revise-clause-meets : goal.returns-in-Revise-clause-meets
@@ -80,8 +81,8 @@ returns-in-Revise-clause-meets g c =
         others = refl;
         does = c.revise_file.ensures.saves.1;
         leaves = (c.revise_file.ensures.looks, c.revise_file.ensures.reads);
-        unused = λ told why refuses. let same =
-            c.revise_file.ensures.unused told why refuses in λ i. record old { streams = record old.streams { input = same.0 i }; guest = same.1 i };
+        unused = λ specified why refuses. let same =
+            c.revise_file.ensures.unused specified why refuses in λ i. record old { streams = record old.streams { input = same.0 i }; guest = same.1 i };
       },
     )
 
@@ -96,7 +97,7 @@ returns-in-ReviseSince-clause-meets g c =
         others = refl;
         does = c.revise_file_since.ensures.saves.1;
         leaves = (c.revise_file_since.ensures.looks, c.revise_file_since.ensures.reads, c.revise_file_since.ensures.moment);
-        unused = λ told why refuses. let same =
-            c.revise_file_since.ensures.unused told why refuses in λ i. record old { streams = record old.streams { input = same.0 i }; guest = same.1 i };
+        unused = λ specified why refuses. let same =
+            c.revise_file_since.ensures.unused specified why refuses in λ i. record old { streams = record old.streams { input = same.0 i }; guest = same.1 i };
       },
     )

@@ -24,7 +24,7 @@ returns-in-None-clause-arranged_by_set g c named = cc (c.in-None.ensures.only Ar
 
 pub returns-in-None-clause-blameless : goal.returns-in-None-clause-blameless
 returns-in-None-clause-blameless g c =
-    meets_blameless (map string_bytes c.args.words.now) _ _ _ None (record { end_is = c.tell.ensures.status; others = refl; notes = c.tell.ensures.told })
+    meets_blameless (map string_bytes c.args.words.now) _ _ _ None (record { end_is = c.tell.ensures.status; others = refl; notes = c.tell.ensures.reported })
 
 pub returns-in-Some-clause-blameless : goal.returns-in-Some-clause-blameless
 returns-in-Some-clause-blameless g c = meets_blameless (map string_bytes c.args.words.now) _ _ _ (Some _) c.obey.ensures.meets

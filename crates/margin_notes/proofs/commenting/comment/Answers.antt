@@ -9,7 +9,7 @@ use Rattle.margin_notes.proofs.RefusalLemmas.{refuses_fault, refuses_made, tells
 use Rattle.margin_notes.proofs.commenting.comment.Goals as goal
 
 pub note-requires-clause-held : goal.note-requires-clause-held
-note-requires-clause-held c = names_held c.args.replica.now c.args.section c.args.at c.args.n c.in_ok-names.names c.in_ok-names.ensures.found c.in_ok-names.ensures.stands.lawful
+note-requires-clause-held c = names_held c.args.replica.now c.args.section c.args.at c.args.n c.in_ok-names.names c.in_ok-names.ensures.found c.in_ok-names.ensures.sound.lawful
 
 pub returns-in-Ok-clause-made : goal.returns-in-Ok-clause-made
 returns-in-Ok-clause-made c =
@@ -18,7 +18,7 @@ returns-in-Ok-clause-made c =
 pub returns-in-Ok-clause-spanned : goal.returns-in-Ok-clause-spanned
 returns-in-Ok-clause-spanned c =
     stands_on c.args.replica.now c.note.new.self c.args.section c.args.at c.args.n c.in-Ok.made c.args.body c.in_ok-names.names c.requires.text c.in_ok-names.ensures.found
-    c.in-Ok.ensures.made c.in-Ok.ensures.shown c.in-Ok.ensures.stands
+    c.in-Ok.ensures.made c.in-Ok.ensures.shown c.in-Ok.ensures.sound
 
 pub returns-in-Ok-clause-no_section : goal.returns-in-Ok-clause-no_section
 returns-in-Ok-clause-no_section c =

@@ -8,7 +8,7 @@ use Rattle.margin_notes.proofs.commenting.find_names.Goals as goal
 pub overflow_add-start : goal.overflow_add-start
 overflow_add-start c =
     let r = c.in_ok-start.ensures.found in
-    let s = c.in_ok-start.ensures.stands in
+    let s = c.in_ok-start.ensures.sound in
     omega (arith, r.inside, shown_bounded (within r.section) c.args.replica.now.held.history, s.few, s.most_within.1)
 
 pub scalar_at-last-requires : goal.scalar_at-last-requires

@@ -7,7 +7,7 @@ pub returns-clause-found : goal.returns-clause-found
 returns-clause-found c =
     let found = text_there _ _ (string_bytes c.in-Some.text) (sym (ap (option_map string_bytes) c.in-Some.is) ∙ c.in_ok-text.ensures.text) in
     range_found _ _ _ _ c.as_str.result.now found.0 c.cluster_span.result _ _ c.ok_or.ensures.value found.1 (c.as_str.ensures.value ∙ found.2) c.as_str.utf8
-    c.in_ok-text.ensures.stands.lawful c.cluster_span.ensures.span c.cluster_span.ensures.none c.cluster_span.ensures.within
+    c.in_ok-text.ensures.sound.lawful c.cluster_span.ensures.span c.cluster_span.ensures.none c.cluster_span.ensures.within
 
 pub returns-clause-none : goal.returns-clause-none
 returns-clause-none c =

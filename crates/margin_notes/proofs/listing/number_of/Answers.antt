@@ -16,7 +16,7 @@ returns-in_err-before c = λ h st.
 pub overflow_add-result : goal.overflow_add-result
 overflow_add-result c =
     let cells = ap (λ l. shown_before l.cells c.args.section) c.catalogue-catalogue.ensures.catalogue in
-    omega (arith, c.in_ok-before.ensures.some, cells, few_sections c.args.places.now c.requires.history c.args.section c.requires.stands, c.requires.few)
+    omega (arith, c.in_ok-before.ensures.some, cells, few_sections c.args.places.now c.requires.history c.args.section c.requires.represents, c.requires.few)
 
 pub returns-then-is_hidden : goal.returns-then-is_hidden
 returns-then-is_hidden c = λ h st.

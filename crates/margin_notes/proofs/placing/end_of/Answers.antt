@@ -8,7 +8,7 @@ overflow_add-result c =
     omega (
       arith,
       c.in-Some-visible_before.ensures.some,
-      few_texts c.args.places.now c.requires.history c.args.section c.args.last c.in-Some.list.now c.requires.stands c.in-Some.ensures.text,
+      few_texts c.args.places.now c.requires.history c.args.section c.args.last c.in-Some.list.now c.requires.represents c.in-Some.ensures.text,
       c.requires.few,
     )
 

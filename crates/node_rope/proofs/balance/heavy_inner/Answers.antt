@@ -6,7 +6,7 @@ use Rattle.node_rope.specs.Sides.{facing_shape}
 use Rattle.node_rope.proofs.FaceLemmas.{faced-parent}
 use Rattle.node_rope.proofs.balance.heavy_inner.Goals as goal
 
--- what is told of a value that o, too, leads to
+-- what is reported of a value that o, too, leads to
 said : (P : Link → Type 0) (o from : Option Link) → IfSome o (λ m. from ≡ Some m) → ((m : Link) → from ≡ Some m → P m) → IfSome o P
 said P None from e h = tt
 said P (Some m) from e h = h m e

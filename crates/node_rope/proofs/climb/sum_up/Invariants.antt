@@ -1,5 +1,5 @@
 use Rattle.std.proofs.Common.{◌≡◌}
-use Rattle.node_rope.specs.Made.{IsKept, made_count, shapes_of, values_of}
+use Rattle.node_rope.specs.Made.{KeepsMade, made_count, shapes_of, values_of}
 use Rattle.node_rope.specs.Reweighed.{IsSoundBut, AreStill, SameOwns}
 use Rattle.node_rope.proofs.ReweighLemmas.{left_to_sum}
 use Rattle.node_rope.proofs.climb.sum_up.Given as goal
@@ -11,7 +11,7 @@ invariant-up g l = record {
   owns : SameOwns (shapes_of l.initial.store) (shapes_of l.store);
   values : values_of l.store ≡ values_of l.initial.store;
   count : made_count l.store ≡ made_count l.initial.store;
-  kept : IsKept l.initial.store l.store;
+  kept : KeepsMade l.initial.store l.store;
 }
 
 abbrev pub decreases-up : goal.decreases-up

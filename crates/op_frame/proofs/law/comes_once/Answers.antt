@@ -1,5 +1,5 @@
 use Rattle.origin_model.specs.declared.grammar.Grammar.TheVariants.{Version1, Version2}
-use Rattle.op_frame.proofs.CourseLemmas.{comes_once, comes_some}
+use Rattle.op_frame.proofs.ComesLemmas.{comes_once, comes_some}
 use Rattle.op_frame.proofs.law.comes_once.Goals as goal
 
 pub returns-clause-version_1 : goal.returns-clause-version_1

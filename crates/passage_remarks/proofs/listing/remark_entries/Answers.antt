@@ -15,7 +15,7 @@ use Rattle.passage_remarks.proofs.listing.remark_entries.Goals as goal
 pub places_of-requires : goal.places_of-requires
 places_of-requires c =
     let h : List Op = c.args.replica.now.held.history in
-    record { apart = subst (AllPairs (λ s t. s ≢ t)) (sym c.requires.listed) (arranged_once h c.in_ok-comments.ensures.stands.lawful) }
+    record { apart = subst (AllPairs (λ s t. s ≢ t)) (sym c.requires.listed) (arranged_once h c.in_ok-comments.ensures.sound.lawful) }
 
 pub returns-clause-entries : goal.returns-clause-entries
 returns-clause-entries c =
@@ -26,5 +26,5 @@ returns-clause-entries c =
     ∙ ap (flat_map (λ (p : PlacedComment). option_to_list (option_map (remark_at p) (places p.section))))
     (ap (map (comment_placed ops)) c.as_slice.ensures.value ∙ c.in_ok-comments.ensures.places)
     ∙ found_by h places (λ s. c.in_ok-places.ensures s ∙ ap (λ l. number_from 1 l s) c.requires.listed) in
-    sorted_remarks ops (found h) (found_apart h c.in_ok-comments.ensures.stands.lawful) c.in_ok-entries.entries.items c.sort_unstable.new.self.items are
+    sorted_remarks ops (found h) (found_apart h c.in_ok-comments.ensures.sound.lawful) c.in_ok-entries.entries.items c.sort_unstable.new.self.items are
     c.sort_unstable.ensures.permutation c.sort_unstable.ensures.sorted

@@ -9,7 +9,7 @@ use Rattle.section_catalogue.proofs.PrintingLemmas.{under_way_ends, under_way_gr
 use Rattle.cluster_text.specs.Clusters.{clusters}
 use Rattle.margin_notes.specs.Commenting.{clusters_of}
 use Rattle.passage_remarks.specs.Listing.{IsRemarkPlaced, entry_remark}
-use Rattle.passage_remarks.specs.Remarks.{remark_told}
+use Rattle.passage_remarks.specs.Remarks.{remark_text}
 use Rattle.passage_remarks.specs.declared.entry.Entry.{Entry}
 use Rattle.passage_remarks.proofs.WritingLemmas.{page_there, remarks_next, remarks_none}
 use Rattle.passage_remarks.proofs.printing.put_remarks.Goals as goal
@@ -35,10 +35,10 @@ bounds-pages-place g c =
     let p = entry_placed h c.args.entries.now c.remarks.at e c.requires.placed (omega (arith, c.remarks-test.true)) c.index-entries-at.is in
     (page_there h (entry_remark (reverse h) e) c.args.pages.now (encode_utf8_all (text h e.section)) c.requires.pages p).0
 
--- what was told of an entry, by its page
-told : (h : List Op) (page : List ℕ) (n : ℕ) (e : Entry) → page ≡ encode_utf8_all (text h e.section)
-    → remark_told (clusters page) n (entry_remark (reverse h) e) ≡ remark_told (clusters_of h e.section) n (entry_remark (reverse h) e)
-told h page n e p = ap (λ z. remark_told (clusters z) n (entry_remark (reverse h) e)) p
+-- what was reported of an entry, by its page
+reported : (h : List Op) (page : List ℕ) (n : ℕ) (e : Entry) → page ≡ encode_utf8_all (text h e.section)
+    → remark_text (clusters page) n (entry_remark (reverse h) e) ≡ remark_text (clusters_of h e.section) n (entry_remark (reverse h) e)
+reported h page n e p = ap (λ z. remark_text (clusters z) n (entry_remark (reverse h) e)) p
 
 pub remarks-preserved : goal.remarks-preserved
 remarks-preserved g c =
@@ -52,7 +52,7 @@ remarks-preserved g c =
     let page_is = c.index-pages-place.is ∙ (page_there h (entry_remark (reverse h) e) c.args.pages.now page c.requires.pages p).1 in
     under_way_grows _ _ _ _ _ _ _ _ _ _ c.remarks.invariant (remarks_next h (entry_remark (reverse h)) xs i e below c.index-entries-at.is)
     (subst (GathersText {T = Unit {0}} (g.O.Out.seen c.remarks.output) (g.O.Out.seen c.put_remark.new.output) c.remarks.gather c.put_remark.new.gather (Ok tt))
-    (told h page (i + 1) e page_is) c.in_ok-put_remark.ensures)
+    (reported h page (i + 1) e page_is) c.in_ok-put_remark.ensures)
 
 pub returns-in_err-put_remark : goal.returns-in_err-put_remark
 returns-in_err-put_remark g c =
@@ -67,7 +67,7 @@ returns-in_err-put_remark g c =
     let p = err_from_is_err_and c.from_residual.result c.from_residual.ensures.1 in
     rw p.1 (under_way_stops _ _ _ _ _ _ _ _ _ _ c.remarks.invariant (remarks_next h (entry_remark (reverse h)) xs i e below c.index-entries-at.is)
     (subst (GathersText {T = Unit {0}} (g.O.Out.seen c.remarks.output) (g.O.Out.seen c.put_remark.new.output) c.remarks.gather c.put_remark.new.gather (Err (record {})))
-    (told h page (i + 1) e page_is) c.in_err-put_remark.ensures))
+    (reported h page (i + 1) e page_is) c.in_err-put_remark.ensures))
 
 pub returns : goal.returns
 returns g c =

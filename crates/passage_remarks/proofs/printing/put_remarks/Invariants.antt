@@ -4,7 +4,7 @@ use Rattle.passage_remarks.specs.Listing.{entry_remark}
 use Rattle.passage_remarks.specs.Remarks.{remarks_from}
 use Rattle.passage_remarks.proofs.printing.put_remarks.Given as goal
 
--- what is told of the remarks that were passed is gathered, and the others are to come
+-- what is reported of the remarks that were passed is gathered, and the others are to come
 abbrev pub invariant-remarks : goal.invariant-remarks
 invariant-remarks g l =
     IsUnderWay (g.O.Out.seen l.initial.output) (g.O.Out.seen l.output) l.initial.gather l.gather

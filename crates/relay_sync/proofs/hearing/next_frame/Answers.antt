@@ -19,7 +19,7 @@ bytes-init g c =
       partial = subst IsMessageFront (sym none) no_bytes;
       count = omega (arith, c.requires.count);
       within = c.requires.within;
-      told = wire_still ⊥ _;
+      reported = wire_still ⊥ _;
     }
 
 pub returns-in-Frame-clause-ok : goal.returns-in-Frame-clause-ok
@@ -70,5 +70,5 @@ bytes-preserved g c =
       partial = subst IsMessageFront (sym grown) (frame_front _ (grown_in Front _ _ kept.grammar c.in-Front.ensures.is));
       count = omega (arith, kept.count, c.in_ok-byte-in-Front.ensures.count, length-append kept.bytes (next ∷ []));
       within = c.in_ok-byte-in-Front.ensures.within;
-      told = wire_on ⊥ _ _ _ kept.told c.in_ok-byte-in-Front.ensures.told;
+      reported = wire_on ⊥ _ _ _ kept.reported c.in_ok-byte-in-Front.ensures.reported;
     }

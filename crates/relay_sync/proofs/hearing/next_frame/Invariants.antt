@@ -14,7 +14,7 @@ invariant-bytes g l = record {
   partial : IsMessageFront l.front.bytes;
   count : l.heard ≡ l.place + length (l.first ∷ bytes);
   within : l.heard ≤ STREAM_LIMIT;
-  told : WireRisesFor ⊥ (g.W.Wire.seen l.fn.wire) (g.W.Wire.seen l.wire);
+  reported : WireRisesFor ⊥ (g.W.Wire.seen l.fn.wire) (g.W.Wire.seen l.wire);
 }
 
 abbrev pub decreases-bytes : goal.decreases-bytes

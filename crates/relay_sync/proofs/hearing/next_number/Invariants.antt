@@ -11,7 +11,7 @@ invariant-bytes g l = record {
   hears : HeardBytes (g.W.Wire.seen l.fn.wire) (g.W.Wire.seen l.wire) (take l.came l.number);
   count : l.heard ≡ l.place + 1 + l.came;
   within : l.heard ≤ STREAM_LIMIT;
-  told : WireRisesFor ⊥ (g.W.Wire.seen l.fn.wire) (g.W.Wire.seen l.wire);
+  reported : WireRisesFor ⊥ (g.W.Wire.seen l.fn.wire) (g.W.Wire.seen l.wire);
 }
 
 abbrev pub decreases-bytes : goal.decreases-bytes

@@ -7,5 +7,5 @@ pub loop-at-preserved : goal.loop-at-preserved
 loop-at-preserved g c = record {
   inside = omega (arith, c.in_ok-at.ensures.writes.bound);
   said = says_grow tt _ _ _ _ _ _ c.loop-at.invariant.said c.in_ok-at.ensures;
-  told = wire_on ⊥ _ _ _ c.loop-at.invariant.told (wire_went _ _ (write_rises _ _ _ _ c.in_ok-at.ensures));
+  reported = wire_on ⊥ _ _ _ c.loop-at.invariant.reported (wire_went _ _ (write_rises _ _ _ _ c.in_ok-at.ensures));
 }

@@ -9,7 +9,7 @@ abbrev pub invariant-loop-at : goal.invariant-loop-at
 invariant-loop-at g l = record {
   inside : l.at ≤ length l.piece;
   said : SaysText {E = Failed} {T = Unit {0}} (g.W.Wire.seen l.fn.wire) (g.W.Wire.seen l.wire) (Ok tt) (take l.at l.piece);
-  told : WireRisesFor ⊥ (g.W.Wire.seen l.fn.wire) (g.W.Wire.seen l.wire);
+  reported : WireRisesFor ⊥ (g.W.Wire.seen l.fn.wire) (g.W.Wire.seen l.wire);
 }
 
 abbrev pub decreases-loop-at : goal.decreases-loop-at

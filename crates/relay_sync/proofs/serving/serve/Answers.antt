@@ -8,7 +8,14 @@ use Rattle.relay_sync.proofs.OverLemmas.{is_over_none}
 use Rattle.relay_sync.proofs.serving.serve.Goals as goal
 
 pub steps-init : goal.steps-init
-steps-init g c = record { turns = []; serves = serves_none _ _; told = dock_still ⊥ _; over = is_over_none _ c.new-over.ensures.empty; none = none_before _; steps = omega arith }
+steps-init g c = record {
+  turns = [];
+  serves = serves_none _ _;
+  reported = dock_still ⊥ _;
+  over = is_over_none _ c.new-over.ensures.empty;
+  none = none_before _;
+  steps = omega arith;
+}
 
 pub returns-then-left-eq0-clause-partly : goal.returns-then-left-eq0-clause-partly
 returns-then-left-eq0-clause-partly g c =
@@ -22,7 +29,7 @@ steps-preserved g c =
     record {
       turns = i.turns ++ s.0 ∷ [];
       serves = serves-append _ _ _ _ _ _ i.turns (s.0 ∷ []) i.serves s.1;
-      told = dock_on ⊥ _ _ _ i.told c.in_ok-serve_step.ensures.told;
+      reported = dock_on ⊥ _ _ _ i.reported c.in_ok-serve_step.ensures.reported;
       over = rw (over-append i.turns (s.0 ∷ []) []) (s.2 (over_after [] i.turns) i.over);
       none = none_after c.args.sessions i.turns s.0 i.none (omega (arith, c.steps-test.true, c.len.ensures.len, i.over.count));
       steps = omega (arith, i.steps, c.if-left-eq0.false, length-append i.turns (s.0 ∷ []));

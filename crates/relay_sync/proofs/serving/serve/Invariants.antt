@@ -9,7 +9,7 @@ abbrev pub invariant-steps : goal.invariant-steps
 invariant-steps g l = record {
   turns : List ServedStep;
   serves : Serves l.fn.relay l.relay (g.D.Dock.seen l.fn.dock) (g.D.Dock.seen l.dock) turns;
-  told : DockRisesFor ⊥ (g.D.Dock.seen l.fn.dock) (g.D.Dock.seen l.dock);
+  reported : DockRisesFor ⊥ (g.D.Dock.seen l.fn.dock) (g.D.Dock.seen l.dock);
   over : IsOver l.over (over_after [] turns);
   none : NoneAfter l.sessions turns;
   steps : length turns + l.left ≡ l.steps;

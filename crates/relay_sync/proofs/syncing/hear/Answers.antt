@@ -19,6 +19,6 @@ messages-preserved g c =
     record {
       grammar = c.in_ok-end.ensures.grammar;
       goes = goes_on _ _ _ _ _ _ _ c.messages.invariant.goes _ one;
-      told = wire_on ⊥ _ _ _ c.messages.invariant.told c.in_ok-end.ensures.told;
+      reported = wire_on ⊥ _ _ _ c.messages.invariant.reported c.in_ok-end.ensures.reported;
       ready = one.ready;
     }

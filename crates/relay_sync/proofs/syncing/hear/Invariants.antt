@@ -12,7 +12,7 @@ invariant-messages g l = record {
   grammar : l.front.grammar ≡ Version2;
   goes : Goes (g.W.Wire.seen l.fn.wire) (g.W.Wire.seen l.wire) (taking_begun l.fn.replica l.fn.kept.items)
       (record { replica = l.replica; counts = l.tally; kept = l.kept.items }) l.heard;
-  told : WireRisesFor ⊥ (g.W.Wire.seen l.fn.wire) (g.W.Wire.seen l.wire);
+  reported : WireRisesFor ⊥ (g.W.Wire.seen l.fn.wire) (g.W.Wire.seen l.wire);
   ready : CanHear (record { replica = l.replica; counts = l.tally; kept = l.kept.items }) l.heard;
 }
 

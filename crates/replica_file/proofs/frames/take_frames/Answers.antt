@@ -1,7 +1,7 @@
 use Rattle.std.proofs.Common.{arith, ◌+◌, ◌-◌}
 use Rattle.std.proofs.lemmas.Result.{err_from_is_err_and}
 use Rattle.replica_file.proofs.LoadingLemmas.{same_then}
-use Rattle.replica_file.proofs.PartLemmas.{frames_bad, frames_lacks, frames_more, one_piece_more, told_three, told_two}
+use Rattle.replica_file.proofs.PartLemmas.{frames_bad, frames_lacks, frames_more, one_piece_more, specified_three, specified_two}
 use Rattle.replica_file.proofs.ReachLemmas.{reaches_then}
 use Rattle.replica_file.proofs.ReadingLemmas.{looks_then, well}
 use Rattle.replica_file.proofs.frames.take_frames.Goals as goal
@@ -10,7 +10,7 @@ pub returns-in_err-taken-clause-bad : goal.returns-in_err-taken-clause-bad
 returns-in_err-taken-clause-bad g c is =
     let kept = c.pieces.invariant in
     let p = err_from_is_err_and c.from_residual.result c.from_residual.ensures.1 in
-    told_two (g.H.Disk.seen c.args.disk.now).past (g.H.Disk.seen c.pieces.disk).past kept.looks.past
+    specified_two (g.H.Disk.seen c.args.disk.now).past (g.H.Disk.seen c.pieces.disk).past kept.looks.past
     (λ h one bad. frames_bad c.args.word.grammar h.last.seen c.args.at c.args.word.len c.pieces.taken kept.within _ _ _ _ one bad) kept.took
     (c.in_err-taken.ensures.bad (cc (is, p.1, p.2)))
 
@@ -18,7 +18,7 @@ pub returns-in_err-taken-clause-memory : goal.returns-in_err-taken-clause-memory
 returns-in_err-taken-clause-memory g c is =
     let kept = c.pieces.invariant in
     let p = err_from_is_err_and c.from_residual.result c.from_residual.ensures.1 in
-    told_three (g.H.Disk.seen c.args.disk.now).past (g.H.Disk.seen c.pieces.disk).past kept.looks.past
+    specified_three (g.H.Disk.seen c.args.disk.now).past (g.H.Disk.seen c.pieces.disk).past kept.looks.past
     (λ h one pieces lacks. frames_lacks c.args.word.grammar h.last.seen c.args.at c.args.word.len c.pieces.taken kept.within _ _ _ _ kept.same one pieces lacks)
     kept.took kept.pieces (c.in_err-taken.ensures.memory (cc (is, p.1, p.2)))
 
@@ -27,11 +27,11 @@ pieces-preserved g c =
     let kept = c.pieces.invariant in
     record {
       within = omega (arith, kept.within, c.in_ok-taken.ensures.within);
-      took = told_two (g.H.Disk.seen c.args.disk.now).past (g.H.Disk.seen c.pieces.disk).past kept.looks.past
+      took = specified_two (g.H.Disk.seen c.args.disk.now).past (g.H.Disk.seen c.pieces.disk).past kept.looks.past
           (λ h one two. frames_more c.args.word.grammar h.last.seen c.args.at c.args.word.len c.pieces.taken kept.within c.in_ok-taken.field-0 c.args.loading.now.finds_place
           c.pieces.loading.finds_place c.take_some.new.loading.finds_place
           c.args.loading.now.replica c.pieces.loading.replica c.take_some.new.loading.replica one two) kept.took c.in_ok-taken.ensures.took;
-      pieces = told_two (g.H.Disk.seen c.args.disk.now).past (g.H.Disk.seen c.pieces.disk).past kept.looks.past
+      pieces = specified_two (g.H.Disk.seen c.args.disk.now).past (g.H.Disk.seen c.pieces.disk).past kept.looks.past
           (λ h one two. one_piece_more c.args.word.grammar h.last.seen c.args.at c.args.word.len c.pieces.taken c.in_ok-taken.field-0 one two) kept.pieces
           c.in_ok-taken.ensures.whole;
       ready = c.in_ok-taken.ensures.ready;

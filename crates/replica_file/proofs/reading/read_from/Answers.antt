@@ -12,8 +12,8 @@ reads-preserved g c =
           (looked (g.H.Disk.seen c.reads.disk) (g.H.Disk.seen c.read_more.new.disk) c.in_ok-count.count c.in_ok-count.ensures.read.looks c.in_ok-count.ensures.read.sizes);
       reach = more_reaches (g.H.Disk.seen c.args.disk.now) (g.H.Disk.seen c.reads.disk)
           (g.H.Disk.seen c.read_more.new.disk) c.args.at c.reads.filled c.in_ok-count.count _ _ kept.within c.in_ok-count.ensures kept.reach;
-      told = read_on (g.H.Disk.seen c.args.disk.now) (g.H.Disk.seen c.reads.disk)
-          (g.H.Disk.seen c.read_more.new.disk) c.args.at c.reads.filled c.in_ok-count.count _ _ kept.looks.past kept.within c.in_ok-count.ensures kept.told;
+      specified = read_on (g.H.Disk.seen c.args.disk.now) (g.H.Disk.seen c.reads.disk)
+          (g.H.Disk.seen c.read_more.new.disk) c.args.at c.reads.filled c.in_ok-count.count _ _ kept.looks.past kept.within c.in_ok-count.ensures kept.specified;
     }
 
 pub returns-then-count-eq0-clause-reach : goal.returns-then-count-eq0-clause-reach

@@ -8,7 +8,7 @@ invariant-reads g l = record {
   within : l.filled ≤ length l.buf;
   looks : LooksOnly (g.H.Disk.seen l.fn.disk) (g.H.Disk.seen l.disk) ⊥;
   reach : ReadsNoFurther (l.fn.at + length l.buf) (g.H.Disk.seen l.fn.disk) (g.H.Disk.seen l.disk);
-  told : IfSome (g.H.Disk.seen l.fn.disk).past (λ h. (take l.filled l.buf ≡ take l.filled (drop l.fn.at h.last.seen)) × (l.filled ≤ length (drop l.fn.at h.last.seen)));
+  specified : IfSome (g.H.Disk.seen l.fn.disk).past (λ h. (take l.filled l.buf ≡ take l.filled (drop l.fn.at h.last.seen)) × (l.filled ≤ length (drop l.fn.at h.last.seen)));
 }
 
 abbrev pub decreases-reads : goal.decreases-reads

@@ -1,6 +1,6 @@
 use Rattle.std.proofs.Common.{◌+◌, ◌∙◌, arith}
 use Rattle.std.proofs.lemmas.Result.{err_from_is_err_and}
-use Rattle.replica_file.proofs.PartLemmas.{told_one, told_two}
+use Rattle.replica_file.proofs.PartLemmas.{specified_one, specified_two}
 use Rattle.replica_file.proofs.ReachLemmas.{gate_reaches, reaches_then}
 use Rattle.replica_file.proofs.SlotLemmas.{bad_frames, no_gate, slot_begins, slot_ends, slot_lacks}
 use Rattle.replica_file.proofs.slot.take_slot.Goals as goal
@@ -8,28 +8,28 @@ use Rattle.replica_file.proofs.slot.take_slot.Goals as goal
 pub returns-in_err-take_frames-clause-bad : goal.returns-in_err-take_frames-clause-bad
 returns-in_err-take_frames-clause-bad g c is =
     let p = err_from_is_err_and c.from_residual-in_err-take_frames.result c.from_residual-in_err-take_frames.ensures.1 in
-    told_two (g.H.Disk.seen c.args.disk.now).past (g.H.Disk.seen c.read_word.new.disk).past c.in_ok-word.ensures.looks.past
-    (λ h told bad. bad_frames h.last.seen c.args.at c.in_ok-word.word told bad) c.in_ok-word.ensures.told (c.in_err-take_frames.ensures.bad (cc (is, p.1, p.2)))
+    specified_two (g.H.Disk.seen c.args.disk.now).past (g.H.Disk.seen c.read_word.new.disk).past c.in_ok-word.ensures.looks.past
+    (λ h specified bad. bad_frames h.last.seen c.args.at c.in_ok-word.word specified bad) c.in_ok-word.ensures.specified (c.in_err-take_frames.ensures.bad (cc (is, p.1, p.2)))
 
 pub returns-clause-took : goal.returns-clause-took
 returns-clause-took g c =
     slot_ends (g.H.Disk.seen c.args.disk.now).past (g.H.Disk.seen c.read_word.new.disk).past
     (g.H.Disk.seen c.take_frames.new.disk).past c.read_gate.result c.args.at c.in_ok-word.word
     c.args.loading.now.finds_place c.take_frames.new.loading.finds_place c.args.loading.now.replica c.take_frames.new.loading.replica c.in_ok-word.ensures.looks.past
-    (c.in_ok-take_frames.ensures.looks.past ∙ c.in_ok-word.ensures.looks.past) c.in_ok-word.ensures.told c.in_ok-word.ensures.short c.in_ok-take_frames.ensures.took
-    c.read_gate.ensures.told c.read_gate.ensures.at
+    (c.in_ok-take_frames.ensures.looks.past ∙ c.in_ok-word.ensures.looks.past) c.in_ok-word.ensures.specified c.in_ok-word.ensures.short c.in_ok-take_frames.ensures.took
+    c.read_gate.ensures.specified c.read_gate.ensures.at
 
 pub returns-clause-bad : goal.returns-clause-bad
 returns-clause-bad g c is =
     no_gate (g.H.Disk.seen c.args.disk.now).past (g.H.Disk.seen c.read_word.new.disk).past (g.H.Disk.seen c.take_frames.new.disk).past c.args.at c.in_ok-word.word
     c.args.loading.now.finds_place c.take_frames.new.loading.finds_place c.args.loading.now.replica c.take_frames.new.loading.replica c.in_ok-word.ensures.looks.past
-    (c.in_ok-take_frames.ensures.looks.past ∙ c.in_ok-word.ensures.looks.past) c.in_ok-word.ensures.told c.in_ok-take_frames.ensures.took (c.read_gate.ensures.bad is)
+    (c.in_ok-take_frames.ensures.looks.past ∙ c.in_ok-word.ensures.looks.past) c.in_ok-word.ensures.specified c.in_ok-take_frames.ensures.took (c.read_gate.ensures.bad is)
 
 pub returns-in_err-take_frames-clause-memory : goal.returns-in_err-take_frames-clause-memory
 returns-in_err-take_frames-clause-memory g c is =
     let p = err_from_is_err_and c.from_residual-in_err-take_frames.result c.from_residual-in_err-take_frames.ensures.1 in
-    told_two (g.H.Disk.seen c.args.disk.now).past (g.H.Disk.seen c.read_word.new.disk).past c.in_ok-word.ensures.looks.past
-    (λ h told lacks. slot_lacks h.last.seen c.args.at c.in_ok-word.word told _ _ c.in_ok-word.ensures.short lacks) c.in_ok-word.ensures.told
+    specified_two (g.H.Disk.seen c.args.disk.now).past (g.H.Disk.seen c.read_word.new.disk).past c.in_ok-word.ensures.looks.past
+    (λ h specified lacks. slot_lacks h.last.seen c.args.at c.in_ok-word.word specified _ _ c.in_ok-word.ensures.short lacks) c.in_ok-word.ensures.specified
     (c.in_err-take_frames.ensures.memory (cc (is, p.1, p.2)))
 
 pub returns-clause-reach : goal.returns-clause-reach
@@ -43,6 +43,6 @@ returns-clause-reach g c =
 
 pub returns-in_err-make_room-clause-memory : goal.returns-in_err-make_room-clause-memory
 returns-in_err-make_room-clause-memory g c is =
-    told_one (g.H.Disk.seen c.args.disk.now).past
-    (λ h told. slot_begins h.last.seen c.args.at c.in_ok-word.word told c.args.loading.now.finds_place c.args.loading.now.replica c.in_ok-word.ensures.short)
-    c.in_ok-word.ensures.told
+    specified_one (g.H.Disk.seen c.args.disk.now).past
+    (λ h specified. slot_begins h.last.seen c.args.at c.in_ok-word.word specified c.args.loading.now.finds_place c.args.loading.now.replica c.in_ok-word.ensures.short)
+    c.in_ok-word.ensures.specified

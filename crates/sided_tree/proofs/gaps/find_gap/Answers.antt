@@ -7,7 +7,7 @@ use Rattle.origin_model.specs.sides.KeyedGap.{gap_by_keys, slot_key}
 use Rattle.origin_model.specs.sides.Node.{as_ops, node_order}
 use Rattle.origin_model.specs.sides.Slot.{IsPlace, slot_by}
 use Rattle.origin_model.proofs.SharedLemmas.{adjacent, gap_found}
-use Rattle.sided_tree.specs.Elders.{is_elder}
+use Rattle.sided_tree.specs.EarlierSiblings.{is_earlier_sibling}
 use Rattle.sided_tree.proofs.OrderLemmas.{gap_of}
 use Rattle.sided_tree.proofs.gaps.find_gap.Goals as goal
 
@@ -26,7 +26,7 @@ returns g c =
     let n = c.args.node.now in
     let es = g.F.OrderOf.listed c.args.order.now in
     let slot = slot_by (as_ops ns) n.left n.right in
-    let gap : List Keyed → Gap = λ l. gap_by_keys l slot (slot_key (as_ops ns) slot) (is_elder ns n) in
+    let gap : List Keyed → Gap = λ l. gap_by_keys l slot (slot_key (as_ops ns) slot) (is_earlier_sibling ns n) in
     let found = gap_found n ns c.requires.new (subst (All IsFit) c.requires.list c.gap_by_keys.ensures.fit) in
     let is : c.gap_by_keys.result ≡ gap (keyed_order ns) = c.gap_by_keys.ensures.gap ∙ ap gap c.requires.list in
     let p = gap_of n ns es c.gap_by_keys.result c.requires.new.1 c.requires.list (subst (λ z. IsPlace z n.id (node_order ns) (node_order (n ∷ ns))) (sym is) found) in

@@ -14,7 +14,7 @@ accept-requires c =
     subst (λ t. CanAccept c.deletes.front (Delete t ∷ [])) (sym c.nth-target.ensures)
     (next_can c.args.front.now c.deletes.front (deletes_by d.down d.target c.args.count) (deletes_by d.down d.target n) (Delete (target_by d.down d.target n) ∷ [])
     (deletes_by d.down (target_by d.down d.target (n + 1)) (c.args.count - (n + 1)))
-    c.requires.can (next_delete d.down d.target n c.args.count c.deletes-test.true) c.deletes.invariant.accepted c.deletes.invariant.stands)
+    c.requires.can (next_delete d.down d.target n c.args.count c.deletes-test.true) c.deletes.invariant.accepted c.deletes.invariant.sound)
 
 pub deletes-preserved : goal.deletes-preserved
 deletes-preserved c =
@@ -25,5 +25,5 @@ deletes-preserved c =
       accepted = with_more c.args.front.now c.deletes.front c.accept.new.front (deletes_by d.down d.target n)
           (Delete c.nth-target.result ∷ []) c.deletes.invariant.accepted c.in_ok-accept.ensures.ok
           ∙ ap (with_ops c.args.front.now) (ap (λ t. deletes_by d.down d.target n ++ Delete t ∷ []) c.nth-target.ensures ∙ sym (deletes_more d.down d.target n));
-      stands = c.in_ok-accept.ensures.stands;
+      sound = c.in_ok-accept.ensures.sound;
     }

@@ -9,7 +9,7 @@ abbrev pub invariant-deletes : goal.invariant-deletes
 invariant-deletes l = record {
   within : l.done ≤ l.count;
   accepted : l.front ≡ with_ops l.initial.front (deletes_by l.deletes.down l.deletes.target l.done);
-  stands : IsSound l.front;
+  sound : IsSound l.front;
 }
 
 abbrev pub decreases-deletes : goal.decreases-deletes

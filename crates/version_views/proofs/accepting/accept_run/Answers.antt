@@ -13,7 +13,7 @@ feed_run-requires-clause-counts_rise c =
     let can = c.requires.can in
     let long : length (run_from c.args.start.now c.args.text.now) ≡ length c.args.text.now =
     length-typed c.args.start.now.id c.args.start.now.section c.args.start.now.left c.args.start.now.right c.args.text.now in
-    omega (arith, zero.0, zero.1.0, zero.1.1.0, zero.1.1.1.0, zero.1.1.1.1, can.room, can.stands.most_within.1, long, ap length can.quiet)
+    omega (arith, zero.0, zero.1.0, zero.1.1.0, zero.1.1.1.0, zero.1.1.1.1, can.room, can.sound.most_within.1, long, ap length can.quiet)
 
 pub returns-in-Ok-clause-ok : goal.returns-in-Ok-clause-ok
 returns-in-Ok-clause-ok c = all_are c.args.front.now c.feed_run.new.self (run_from c.args.start.now c.args.text.now) c.requires.can c.in-Ok.ensures.ok.replica

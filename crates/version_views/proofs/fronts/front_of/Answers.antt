@@ -8,7 +8,7 @@ pub accept_all-requires : goal.accept_all-requires
 accept_all-requires c =
     let s = c.args.replica.now in
     subst (λ l. CanAccept c.new_front-front.result (take c.args.count l)) (sym c.accepted.ensures.accepted)
-    (first_can c.args.count s c.new_front-front.result c.requires c.accepted.ensures.stands c.new_front-front.ensures.stands c.new_front-front.ensures.new)
+    (first_can c.args.count s c.new_front-front.result c.requires c.accepted.ensures.sound c.new_front-front.ensures.sound c.new_front-front.ensures.new)
 
 pub returns-in-Ok-clause-front : goal.returns-in-Ok-clause-front
 returns-in-Ok-clause-front c =

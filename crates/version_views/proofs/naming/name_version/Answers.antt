@@ -12,7 +12,7 @@ returns-in-Ok-clause-named c =
     let empty : c.unwrap-names.result ≡ [] = subst (λ o. IfSome o (λ ns. ns ≡ [])) c.unwrap-names.ensures c.read.ensures.some in
     named_counts c.args.replica.now c.note.new.self c.args.name c.requires.name
     (subst (λ ns. c.note.new.self ≡ with_ops c.args.replica.now (note_by c.args.replica.now ns VERSION_CODE c.args.name ∷ [])) empty c.in-Ok.ensures.made.gained.others)
-    c.in-Ok.ensures.stands
+    c.in-Ok.ensures.sound
 
 pub returns-in-Ok-clause-refused : goal.returns-in-Ok-clause-refused
 returns-in-Ok-clause-refused c = refuses_made c.args.replica.now c.in-Ok.made c.in-Ok.ensures.refused

@@ -9,7 +9,7 @@ use Rattle.section_catalogue.specs.Manuscript.{IsOrderedPlace}
 use Rattle.run_store.specs.Cells.{cell_ids, cells_shown}
 use Rattle.catalogue_notes.specs.Arranged.{position}
 use Rattle.catalogue_notes.specs.Placing.{position_in}
-use Rattle.catalogue_notes.specs.Winning.{winning_bid}
+use Rattle.catalogue_notes.specs.Winning.{winning_candidate}
 use Rattle.catalogue_notes.proofs.PlacingLemmas.{arranged_by, placing_same, positions_apart, positions_are}
 use Rattle.catalogue_notes.proofs.arrangement.Arrangement.of.Goals as goal
 
@@ -17,8 +17,8 @@ pub placing_of-requires : goal.placing_of-requires
 placing_of-requires c =
     let h : List Op = c.args.replica.now.held.history in
     let listed : IsOrderedPlace catalogue h c.catalogue.result.now = subst (IsOrderedPlace catalogue h) (sym c.catalogue.ensures.catalogue) c.places.ensures.lists.catalogue_is in
-    let won = λ (s : Identifier). c.in_ok-winners.ensures s ∙ ap (λ z. winning_bid (λ x. not (is_withdrawn h x)) s (reverse z)) c.deref.ensures.value in
-    positions_apart h (cell_ids (cells_shown c.catalogue.result.now.cells)) (position_in (get id_cmp c.in_ok-winners.winners)) c.places.ensures.stands.lawful listed.visible
+    let won = λ (s : Identifier). c.in_ok-winners.ensures s ∙ ap (λ z. winning_candidate (λ x. not (is_withdrawn h x)) s (reverse z)) c.deref.ensures.value in
+    positions_apart h (cell_ids (cells_shown c.catalogue.result.now.cells)) (position_in (get id_cmp c.in_ok-winners.winners)) c.places.ensures.sound.lawful listed.visible
     (positions_are h c.in_ok-lifted.lifted.list c.in_ok-lifted.lifted.moves.items (get id_cmp c.in_ok-winners.winners) c.in_ok-lifted.ensures.lifted won)
 
 pub returns-clause-arranged : goal.returns-clause-arranged
@@ -28,14 +28,14 @@ returns-clause-arranged c =
     let at : Identifier → Identifier = position_in (get id_cmp c.in_ok-winners.winners) in
     let pos : (s : Identifier) → at s ≡ position h s =
     positions_are h c.in_ok-lifted.lifted.list c.in_ok-lifted.lifted.moves.items (get id_cmp c.in_ok-winners.winners) c.in_ok-lifted.ensures.lifted
-    (λ s. c.in_ok-winners.ensures s ∙ ap (λ z. winning_bid (λ x. not (is_withdrawn h x)) s (reverse z)) c.deref.ensures.value) in
+    (λ s. c.in_ok-winners.ensures s ∙ ap (λ z. winning_candidate (λ x. not (is_withdrawn h x)) s (reverse z)) c.deref.ensures.value) in
     record {
       sections =
           c.in_ok-sections.ensures
           ∙ ap (flat_map (λ x. option_to_list (get id_cmp c.in_ok-placing.placing x))) c.in_ok-lifted.ensures.lifted.visible
-          ∙ arranged_by h (get id_cmp c.in_ok-placing.placing) c.places.ensures.stands.lawful
+          ∙ arranged_by h (get id_cmp c.in_ok-placing.placing) c.places.ensures.sound.lawful
           (placing_same h (cell_ids (cells_shown c.catalogue.result.now.cells)) at (get id_cmp c.in_ok-placing.placing) listed.visible pos c.in_ok-placing.ensures);
       lifted = c.in_ok-lifted.ensures.lifted;
-      winners_are = λ s. c.in_ok-winners.ensures s ∙ ap (λ z. winning_bid (λ x. not (is_withdrawn h x)) s (reverse z)) c.deref.ensures.value;
+      winners_are = λ s. c.in_ok-winners.ensures s ∙ ap (λ z. winning_candidate (λ x. not (is_withdrawn h x)) s (reverse z)) c.deref.ensures.value;
       positions = pos;
     }

@@ -40,7 +40,7 @@ pub take-requires-clause-new : goal.take-requires-clause-new
 take-requires-clause-new c =
     let h : List Op = c.args.replica.now.held.history in
     let ops : List Op = reverse h in
-    let o = list_of h ops refl c.sections_and_notes-at-items.ensures.stands.lawful in
+    let o = list_of h ops refl c.sections_and_notes-at-items.ensures.sound.lawful in
     let at = next_at h ops c.sections_and_notes-at-items.result.now c.walk.lifted c.walk.at-index o c.walk-test.true c.walk.invariant in
     new_at ops (get_or c.sections_and_notes-at-items.result.now c.walk.at-index 0) at.op (is_section h) c.walk.lifted.list c.walk.lifted.moves.items c.in-Some.lift o.lawful o.tells
     at.below at.is at.holds
@@ -55,7 +55,7 @@ walk-preserved c =
     let old : Lifted = c.walk.lifted in
     let k : ℕ = c.walk.at-index in
     let p : ℕ = get_or positions k 0 in
-    let o = list_of h ops refl c.sections_and_notes-at-items.ensures.stands.lawful in
+    let o = list_of h ops refl c.sections_and_notes-at-items.ensures.sound.lawful in
     let at = next_at h ops positions old k o c.walk-test.true c.walk.invariant in
     let goes = λ (new : Lifted). λ (holds : IsLifting (at.op ∷ Passed ops p) new.list new.moves.items).
     walk_goes_on (P ops old) (P ops new) ops positions k p at (passed_step (λ z. IsLifting z new.list new.moves.items) ops p at.op at.below at.is holds) in
@@ -76,8 +76,8 @@ returns-clause-lifted c =
     let h : List Op = c.args.replica.now.held.history in
     let ops : List Op = reverse h in
     let lifted : Lifted = c.walk.lifted in
-    let o = list_of h ops refl c.sections_and_notes-at-items.ensures.stands.lawful in
-    lifting_all h lifted.list lifted.moves.items c.sections_and_notes-at-items.ensures.stands.lawful
+    let o = list_of h ops refl c.sections_and_notes-at-items.ensures.sound.lawful in
+    lifting_all h lifted.list lifted.moves.items c.sections_and_notes-at-items.ensures.sound.lawful
     (subst (λ z. IsLifting z lifted.list lifted.moves.items) (passed_all ops (length ops) (omega arith) ∙ o.is)
     (walk_ends (P ops lifted) ops (lifting_between ops (is_section h) lifted.list lifted.moves.items o.lawful o.tells)
     c.sections_and_notes-at-items.result.now c.walk.at-index (omega (arith, c.walk-test.false)) c.walk.invariant))

@@ -30,7 +30,7 @@ returns-in_err-made-clause-leaves g c home last holds end may =
 pub returns-clause-gives : goal.returns-clause-gives
 returns-clause-gives g c home last holds = (
   Refuses NoMemory,
-  script_gives (change (g.S.Source.seen c.args.from.now) (g.S.Source.seen c.run_script.new.source)) _ _ _ c.in_ok-made.ensures.ok c.requires.ready.stands
+  script_gives (change (g.S.Source.seen c.args.from.now) (g.S.Source.seen c.run_script.new.source)) _ _ _ c.in_ok-made.ensures.ok c.requires.ready.sound
       c.requires.ready.settled _,
 )
 

@@ -6,7 +6,7 @@ use Rattle.command_kinds.proofs.noting.NotingGivesUnit.give.Goals as goal
 
 pub returns-clause-gives : goal.returns-clause-gives
 returns-clause-gives g c home last holds =
-    (Refuses NoMemory, note_gives (g.T.MakesNote.note_on c.args.self.now.maker.now) _ _ c.in_ok-make.ensures.comes c.requires.ready.stands c.requires.ready.settled _)
+    (Refuses NoMemory, note_gives (g.T.MakesNote.note_on c.args.self.now.maker.now) _ _ c.in_ok-make.ensures.comes c.requires.ready.sound c.requires.ready.settled _)
 
 pub returns-in_err-make-clause-gives : goal.returns-in_err-make-clause-gives
 returns-in_err-make-clause-gives g c home last holds =

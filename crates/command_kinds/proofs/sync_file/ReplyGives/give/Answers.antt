@@ -35,7 +35,7 @@ returns-in_err-answered-clause-leaves g c home last holds end may =
             (taking_begun c.args.replica.now c.new-ops.result.items) _ _ e.wire.counts_no_fault
             c.in_err-answered.field-0.0 e.err.1 (unfinished _ _ end p.1 may),
       );
-      blameless = λ tells inside. e.told.specified_no_fault tells (λ blamed. inside (ends_outside _ _ _ end p.1 p.2 may (ap sync_refusal blamed)));
+      blameless = λ tells inside. e.reported.specified_no_fault tells (λ blamed. inside (ends_outside _ _ _ end p.1 p.2 may (ap sync_refusal blamed)));
     }
 
 pub returns-clause-gives : goal.returns-clause-gives
@@ -59,5 +59,5 @@ returns-clause-leaves g c home last holds end may =
         speaks_whole c.args.self.now.port c.args.self.now.cursor (g.W.Wire.seen c.args.from.now) (g.W.Wire.seen c.sync.new.wire)
             (taking_begun c.args.replica.now c.new-ops.result.items) _ _ e.wire.counts_no_fault _ e.ok,
       );
-      blameless = λ tells inside. e.told.specified_no_fault tells (λ never. never);
+      blameless = λ tells inside. e.reported.specified_no_fault tells (λ never. never);
     }

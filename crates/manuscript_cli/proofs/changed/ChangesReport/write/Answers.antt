@@ -7,8 +7,8 @@ use Rattle.command_kinds.specs.Findings.{Does}
 use Rattle.manuscript_cli.proofs.ChangedLemmas.{changes_within, front_is_earlier}
 use Rattle.manuscript_cli.proofs.changed.ChangesReport.write.Goals as goal
 
-pub put_changes-told-requires : goal.put_changes-told-requires
-put_changes-told-requires g c =
+pub put_changes-reported-requires : goal.put_changes-reported-requires
+put_changes-reported-requires g c =
     let s = c.args.replica.now in
     let n = c.args.self.now.count in
     front_is_earlier n s c.in-Some.then (subst (λ o. IfSome o (λ f. f ≡ replica_at n s)) c.in-Some.is c.in_ok-then.ensures.some)
@@ -22,5 +22,5 @@ returns g c =
     inl (
       changes_text c.in-Some.then.held.history s.held.history,
       ap (λ (t : State). Does (changes_text t.held.history s.held.history)) is ∙ sym (changes_within n s.held.history within),
-      c.put_changes-told.ensures,
+      c.put_changes-reported.ensures,
     )

@@ -16,5 +16,5 @@ returns g c =
     inl (
       arranged_text c.in-Some.past.held.history,
       ap (λ (t : State). Does (arranged_text t.held.history)) is ∙ sym (past_within n s.held.history within),
-      c.put_arrangement-told.ensures,
+      c.put_arrangement-reported.ensures,
     )

@@ -8,7 +8,7 @@ pub returns-in-Ok-clause-comes : goal.returns-in-Ok-clause-comes
 returns-in-Ok-clause-comes c =
     let old = c.args.replica.now in
     subst (λ name. MadeNote (version_on name old) old c.name_version.new.replica) c.in-Some.ensures.0
-    (version_comes c.in-Some.name old c.name_version.new.replica c.in-Ok.field-0 c.requires.stands.lawful c.in-Ok.ensures.made c.in-Ok.ensures.refused)
+    (version_comes c.in-Some.name old c.name_version.new.replica c.in-Ok.field-0 c.requires.sound.lawful c.in-Ok.ensures.made c.in-Ok.ensures.refused)
 
 pub returns-in-Err-clause-comes : goal.returns-in-Err-clause-comes
 returns-in-Err-clause-comes c =

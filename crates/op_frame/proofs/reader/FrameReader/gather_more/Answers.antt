@@ -3,7 +3,7 @@ use Rattle.op_frame.specs.Headers.{IsHeld}
 use Rattle.op_frame.specs.Readers.{FrameReading}
 use Rattle.op_frame.proofs.GatherLemmas.{GathersSome, gathers_frame_at, gathers_held_at}
 use Rattle.op_frame.proofs.ReaderLemmas.{reading_at}
-use Rattle.op_frame.proofs.ToldLemmas.{some_is}
+use Rattle.op_frame.proofs.SpecifiedLemmas.{some_is}
 use Rattle.op_frame.proofs.reader.FrameReader.gather_more.Goals as goal
 
 pub returns-else-not-take_held_texts-clause-gathers : goal.returns-else-not-take_held_texts-clause-gathers

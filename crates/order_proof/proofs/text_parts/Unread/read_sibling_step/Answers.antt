@@ -60,9 +60,9 @@ returns-clause-lines c =
     let three = c.in_ok-right_y.ensures.line in
     let four = c.in_ok-reason.ensures.line in
     let rest : List ℕ = c.read_reason.new.self.rest.now in
-    let told = one.0 ∙ ap (λ z. word_with_ids (codes "down") s.down_y ++ z)
+    let written = one.0 ∙ ap (λ z. word_with_ids (codes "down") s.down_y ++ z)
     (two.0 ∙ ap (λ z. word_with_ids (codes "right") s.right_x ++ z) (three.0 ∙ ap (λ z. word_with_ids (codes "right") s.right_y ++ z) four.0)) ∙ sym (siblings_split s rest) in
-    (told, fine_four s one.1 two.1 three.1 four.1, refl, refl, refl, four.2)
+    (written, fine_four s one.1 two.1 three.1 four.1, refl, refl, refl, four.2)
 
 pub returns-clause-every : goal.returns-clause-every
 returns-clause-every c s more p x y d n e =

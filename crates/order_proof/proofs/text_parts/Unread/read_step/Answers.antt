@@ -5,8 +5,8 @@ use Rattle.std.proofs.lemmas.Result.{err_from_is_err_and}
 use Rattle.order_proof.specs.declared.step.Reason.TheVariants.{Prefix}
 use Rattle.order_proof.specs.declared.step.Step.{Step}
 use Rattle.order_proof.specs.Readings.{IsReadAs, sibling_lines}
-use Rattle.order_proof.specs.Texts.{proof_line_text, told_by, word_with_ids}
-use Rattle.order_proof.proofs.LineLemmas.{Tells, first_lines, fine_prefix, no_prefix, passed_on, prefix_split, sibling_told, step_from}
+use Rattle.order_proof.specs.Texts.{proof_line_text, step_written_by, word_with_ids}
+use Rattle.order_proof.proofs.LineLemmas.{Tells, first_lines, fine_prefix, no_prefix, passed_on, prefix_split, sibling_written, step_from}
 use Rattle.order_proof.proofs.text_parts.Unread.read_step.Goals as goal
 
 pub returns-in_err-x-clause-every : goal.returns-in_err-x-clause-every
@@ -27,10 +27,10 @@ returns-then-takes-clause-lines c =
     let s : Step = record { x = c.in_ok-x.x; y = c.in_ok-x.y; down_x = []; down_y = c.in_ok-down.down; right_x = []; right_y = []; reason = Prefix } in
     let one = c.in_ok-x.ensures.line in
     let two = c.in_ok-down.ensures.line in
-    let told = one.0 ∙ ap (λ z. word_with_ids (codes "claim") (s.x ∷ s.y ∷ []) ++ z)
+    let written = one.0 ∙ ap (λ z. word_with_ids (codes "claim") (s.x ∷ s.y ∷ []) ++ z)
     (two.0 ∙ ap (λ z. word_with_ids (codes "down") s.down_y ++ z) (c.takes.ensures.yes c.if-takes.true))
     ∙ sym (prefix_split s c.takes.new.self.rest.now refl) in
-    subst (Tells c.args.self.now.rest.now c.takes.new.self.rest.now) (sym c.by_prefix.ensures) (told, fine_prefix s refl one.1 two.1, refl)
+    subst (Tells c.args.self.now.rest.now c.takes.new.self.rest.now) (sym c.by_prefix.ensures) (written, fine_prefix s refl one.1 two.1, refl)
 
 pub returns-then-takes-clause-every : goal.returns-then-takes-clause-every
 returns-then-takes-clause-every c s more p e =
@@ -42,7 +42,7 @@ returns-then-takes-clause-every c s more p e =
           let three = c.takes.ensures.every more (two.1 ∙ b.2) in (
             c.by_prefix.ensures
                 ∙ (λ i. record { x = one.0 i; y = one.1 i; down_x = []; down_y = (two.0 ∙ b.1) i; right_x = []; right_y = []; reason = Prefix })
-                ∙ ap (told_by s) (sym b.0),
+                ∙ ap (step_written_by s) (sym b.0),
             three.1,
           )
       | inr b ↦
@@ -68,6 +68,6 @@ returns-clause-every c s more p e =
       | inl b ↦ absurd (true≢false (sym (c.takes.ensures.every more (two.1 ∙ b.2)).0 ∙ c.if-takes.false))
       | inr b ↦
           let same = c.takes.ensures.no c.if-takes.false ∙ two.1 ∙ b.3 in
-          subst (λ z. IsReadAs c.read_sibling_step.result (λ found. (found ≡ z) × (c.read_sibling_step.new.self.rest.now ≡ more))) (sym (sibling_told s s.reason b.0))
+          subst (λ z. IsReadAs c.read_sibling_step.result (λ found. (found ≡ z) × (c.read_sibling_step.new.self.rest.now ≡ more))) (sym (sibling_written s s.reason b.0))
           (c.read_sibling_step.ensures.every s more b.2 (sym one.0) (sym one.1) (sym (two.0 ∙ b.1)) b.0 same)
     ]

@@ -19,9 +19,9 @@ halving-preserved-then-branch c =
     let h = reverse c.args.ops.now in
     let m = c.halving.low + (c.halving.high - c.halving.low) / 2 in
     let below = within c.halving.low c.halving.high (length o) c.halving-test.true c.halving.invariant.within in
-    let told = compared o h c.args.x c.index-finished-middle.result m c.as_slice.result.now c.in_ok-is_before.field-0 c.index-finished-middle.is
+    let compared_is = compared o h c.args.x c.index-finished-middle.result m c.as_slice.result.now c.in_ok-is_before.field-0 c.index-finished-middle.is
     (c.as_slice.ensures.value ∙ c.in_ok-chain.ensures) c.in_ok-is_before.ensures in
-    let n = stands_before o h c.args.x c.index-finished-middle.result m c.requires below (told ∙ c.if-branch.true) in
+    let n = stands_before o h c.args.x c.index-finished-middle.result m c.requires below (compared_is ∙ c.if-branch.true) in
     record { low = omega (arith, n); high = c.halving.invariant.high; within = c.halving.invariant.within }
 
 pub halving-preserved : goal.halving-preserved
@@ -29,7 +29,7 @@ halving-preserved c =
     let e = c.index-finished-middle.result in
     let m = c.halving.low + (c.halving.high - c.halving.low) / 2 in
     let below = within c.halving.low c.halving.high (length c.args.finished.now) c.halving-test.true c.halving.invariant.within in
-    let told = compared c.args.finished.now (reverse c.args.ops.now) c.args.x e m c.as_slice.result.now c.in_ok-is_before.field-0 c.index-finished-middle.is
+    let compared_is = compared c.args.finished.now (reverse c.args.ops.now) c.args.x e m c.as_slice.result.now c.in_ok-is_before.field-0 c.index-finished-middle.is
     (c.as_slice.ensures.value ∙ c.in_ok-chain.ensures) c.in_ok-is_before.ensures in
-    let n = stands_behind c.args.finished.now (reverse c.args.ops.now) c.args.x e m c.requires below (told ∙ c.if-branch.false) in
+    let n = stands_behind c.args.finished.now (reverse c.args.ops.now) c.args.x e m c.requires below (compared_is ∙ c.if-branch.false) in
     record { low = c.halving.invariant.low; high = n; within = omega (arith, below) }

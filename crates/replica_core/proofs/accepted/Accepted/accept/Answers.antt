@@ -16,15 +16,15 @@ invariant_of-self c =
     let w = i.withdrawn.values in
     let note = Note c.in-Note.id c.in-Note.names c.in-Note.code c.in-Note.body in
     let ready : verdict h note ≡ Ready = (λ i. verdict (c.self.view_is i) (sym c.in-Note.is i)) ∙ c.requires.ready in
-    let stands : Represents i.manuscript (note ∷ h) =
-    note_stands i.manuscript h c.in-Note.id c.in-Note.names c.in-Note.code c.in-Note.body c.self.invariant.stands ready in
+    let represents : Represents i.manuscript (note ∷ h) =
+    note_stands i.manuscript h c.in-Note.id c.in-Note.names c.in-Note.code c.in-Note.body c.self.invariant.represents ready in
     let withdrawn : HasWithdrawn w (note ∷ h) = stays_withdrawn w note h ready (λ x none. refl) c.self.invariant.withdrawn_are in
     either c.push.result (c.push.new.self ≡ c.args.op ∷ h) (c.push.new.self ≡ h) _ c.push.ensures.ok c.push.ensures.err
     (λ ok. record {
-      stands = subst (Represents i.manuscript) (sym ok) (subst (λ o. Represents i.manuscript (o ∷ h)) (sym c.in-Note.is) stands);
+      represents = subst (Represents i.manuscript) (sym ok) (subst (λ o. Represents i.manuscript (o ∷ h)) (sym c.in-Note.is) represents);
       withdrawn_are = subst (HasWithdrawn w) (sym ok) (subst (λ o. HasWithdrawn w (o ∷ h)) (sym c.in-Note.is) withdrawn);
     })
     (λ err. record {
-      stands = subst (Represents i.manuscript) (sym err) c.self.invariant.stands;
+      represents = subst (Represents i.manuscript) (sym err) c.self.invariant.represents;
       withdrawn_are = subst (HasWithdrawn w) (sym err) c.self.invariant.withdrawn_are;
     })

@@ -10,4 +10,4 @@ take_in_delete-requires-clause-free c none =
     let x = c.args.target in
     let h = c.self.inside.history in
     let ready : verdict h (Delete x) ≡ Ready = ap (λ z. verdict z (Delete x)) c.self.view_is ∙ c.requires.ready in
-    withdrawn_free c.self.inside.withdrawn.values h x c.self.invariant.withdrawn_are ready (sym (c.self.invariant.stands.places x) ∙ none)
+    withdrawn_free c.self.inside.withdrawn.values h x c.self.invariant.withdrawn_are ready (sym (c.self.invariant.represents.places x) ∙ none)

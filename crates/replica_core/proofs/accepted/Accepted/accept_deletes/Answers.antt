@@ -12,7 +12,7 @@ use Rattle.replica_core.proofs.accepted.Accepted.accept_deletes.Goals as goal
 
 pub hide_run-requires-clause-placed : goal.hide_run-requires-clause-placed
 hide_run-requires-clause-placed c =
-    placed_each c.args.count c.args.first c.args.section.now c.self.inside.manuscript c.self.inside.history c.self.invariant.stands
+    placed_each c.args.count c.args.first c.args.section.now c.self.inside.manuscript c.self.inside.history c.self.invariant.represents
     (subst (λ h. AreWithin c.args.section.now h (ids_from c.args.first c.args.count)) (sym c.self.view_is) c.requires.within)
 
 pub pop_all-requires : goal.pop_all-requires
@@ -43,7 +43,8 @@ invariant_of-self-in-Err c =
     let inside = subst (λ z. AreWithin c.args.section.now z (ids_from x n)) (sym c.self.view_is) c.requires.within in
     let same = ap (λ z. history_with z (deletes_up x done)) c.self.view_is ∙ sym (returns-in-Err-clause-err c) in
     record {
-      stands = subst (Represents c.hide_run.new.self) same (stands_deleted i.manuscript c.hide_run.new.self n done x h l ready c.self.invariant.stands c.in-Err.ensures.err);
+      represents = subst (Represents c.hide_run.new.self) same
+          (stands_deleted i.manuscript c.hide_run.new.self n done x h l ready c.self.invariant.represents c.in-Err.ensures.err);
       withdrawn_are = subst (HasWithdrawn i.withdrawn.values) same (front_withdrawn i.withdrawn.values n done x c.args.section.now h l ready inside c.self.invariant.withdrawn_are);
     }
 
@@ -57,8 +58,8 @@ invariant_of-self-in-Ok-hide_run c =
     let inside = subst (λ z. AreWithin c.args.section.now z (ids_from x n)) (sym c.self.view_is) c.requires.within in
     let same = sym c.in-Ok.ensures.ok in
     record {
-      stands = subst (Represents c.hide_run.new.self) same
-          (stands_deleted i.manuscript c.hide_run.new.self n n x h (omega arith) ready c.self.invariant.stands c.in-Ok-hide_run.ensures.ok);
+      represents = subst (Represents c.hide_run.new.self) same
+          (stands_deleted i.manuscript c.hide_run.new.self n n x h (omega arith) ready c.self.invariant.represents c.in-Ok-hide_run.ensures.ok);
       withdrawn_are = subst (HasWithdrawn i.withdrawn.values) same
           (front_withdrawn i.withdrawn.values n n x c.args.section.now h (omega arith) ready inside c.self.invariant.withdrawn_are);
     }

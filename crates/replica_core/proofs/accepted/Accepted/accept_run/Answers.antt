@@ -13,7 +13,7 @@ use Rattle.replica_core.proofs.accepted.Accepted.accept_run.Goals as goal
 pub insert_run-requires-clause-room : goal.insert_run-requires-clause-room
 insert_run-requires-clause-room c =
     let start = c.args.start.now in
-    let bound = places_bounded c.self.inside.manuscript c.self.inside.history (Text start.id start.section start.left start.right 0) c.self.invariant.stands in
+    let bound = places_bounded c.self.inside.manuscript c.self.inside.history (Text start.id start.section start.left start.right 0) c.self.invariant.represents in
     omega (arith, bound, c.requires.room, ap length c.self.view_is)
 
 pub pop_all-requires : goal.pop_all-requires
@@ -37,7 +37,7 @@ pub invariant_of-self-in-Err : goal.invariant_of-self-in-Err
 invariant_of-self-in-Err c =
     let same = c.self.view_is ∙ sym (returns-in-Err-clause-err c) in
     record {
-      stands = subst (Represents c.insert_run.new.self) same ((c.in-Err.ensures.err c.self.inside.history).0 c.self.invariant.stands);
+      represents = subst (Represents c.insert_run.new.self) same ((c.in-Err.ensures.err c.self.inside.history).0 c.self.invariant.represents);
       withdrawn_are = subst (HasWithdrawn c.self.inside.withdrawn.values) same c.self.invariant.withdrawn_are;
     }
 
@@ -48,7 +48,7 @@ invariant_of-self-in-Ok c =
     let h = c.self.inside.history in
     let ready = subst (λ z. ReadyInTurn z (run_from start text)) (sym c.self.view_is) c.requires.ready in
     record {
-      stands = subst (Represents c.insert_run.new.self) (sym c.in_ok-push_run.ensures.ok) (c.in-Ok.ensures.ok h c.self.invariant.stands ready);
+      represents = subst (Represents c.insert_run.new.self) (sym c.in_ok-push_run.ensures.ok) (c.in-Ok.ensures.ok h c.self.invariant.represents ready);
       withdrawn_are = subst (HasWithdrawn c.self.inside.withdrawn.values) (sym c.in_ok-push_run.ensures.ok)
           (run_withdrawn text c.self.inside.withdrawn.values start.id start.section start.left start.right h ready c.self.invariant.withdrawn_are);
     }

@@ -13,7 +13,7 @@ returns-in-Catalogue-clause-some c =
     let x = c.args.id in
     let at : place_at m x ≡ Some catalogue = sym c.place_of.ensures.place ∙ c.in_ok-place_of.was ∙ ap (λ p. Some p) c.in-Catalogue.is in
     subst (λ z. StandsIn z x c.catalogue.result.now) c.self.view_is
-    (subst (StandsIn h x) (sym c.catalogue.ensures.catalogue) (stands_in_catalogue m h x c.self.invariant.stands at))
+    (subst (StandsIn h x) (sym c.catalogue.ensures.catalogue) (stands_in_catalogue m h x c.self.invariant.represents at))
 
 pub returns-in-Section-clause-some : goal.returns-in-Section-clause-some
 returns-in-Section-clause-some c =
@@ -23,7 +23,7 @@ returns-in-Section-clause-some c =
     let s = c.in-Section.section in
     let at : place_at m x ≡ Some (within s) = sym c.place_of.ensures.place ∙ c.in_ok-place_of.was ∙ ap (λ p. Some p) c.in-Section.is in
     subst (λ z. IfSome c.section.result (λ list. StandsIn z x list.now)) c.self.view_is
-    (stands_in_section m h x s (λ list. list.now) c.self.invariant.stands at c.section.result c.section.ensures.text)
+    (stands_in_section m h x s (λ list. list.now) c.self.invariant.represents at c.section.result c.section.ensures.text)
 
 pub returns-in-Section-clause-none : goal.returns-in-Section-clause-none
 returns-in-Section-clause-none c =
@@ -31,4 +31,4 @@ returns-in-Section-clause-none c =
     let x = c.args.id in
     let s = c.in-Section.section in
     let at : place_at m x ≡ Some (within s) = sym c.place_of.ensures.place ∙ c.in_ok-place_of.was ∙ ap (λ p. Some p) c.in-Section.is in
-    never_without m c.self.inside.history x s (λ list. list.now) c.self.invariant.stands at _ c.section.result c.section.ensures.text
+    never_without m c.self.inside.history x s (λ list. list.now) c.self.invariant.represents at _ c.section.result c.section.ensures.text

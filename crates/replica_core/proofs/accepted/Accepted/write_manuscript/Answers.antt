@@ -7,4 +7,4 @@ use Rattle.replica_core.proofs.accepted.Accepted.write_manuscript.Goals as goal
 pub returns : goal.returns
 returns g c =
     subst (λ h. WritesBytes {E = Failed} {T = Unit {0}} (g.O.Out.seen c.args.output.now) (g.O.Out.seen c.write_all.new.output) c.write_all.result (manuscript_on h)) c.self.view_is
-    (c.write_all.ensures.text c.self.inside.history c.self.invariant.stands)
+    (c.write_all.ensures.text c.self.inside.history c.self.invariant.represents)

@@ -8,8 +8,8 @@ use Rattle.replica_core.proofs.accepted.AcceptedLookup.has_delete.Goals as goal
 
 pub returns-in-Some : goal.returns-in-Some
 returns-in-Some c =
-    let stands = c.in-Some.ensures.some in
-    c.is_hidden.ensures ∙ stands.listed.hidden c.args.target stands.inside ∙ hidden-has c.args.self.now c.args.target
+    let found = c.in-Some.ensures.some in
+    c.is_hidden.ensures ∙ found.listed.hidden c.args.target found.inside ∙ hidden-has c.args.self.now c.args.target
 
 pub returns-in-None : goal.returns-in-None
 returns-in-None c =

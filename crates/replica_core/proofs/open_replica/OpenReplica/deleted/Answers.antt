@@ -10,6 +10,6 @@ pub returns-clause-there : goal.returns-clause-there
 returns-clause-there c =
     let n = c.hidden_row.result in
     let x = c.args.first in
-    let stands = c.in-Some.ensures.some in
+    let sound = c.in-Some.ensures.some in
     subst (λ h. All (λ op. has_op h op ≡ true) (deletes_up x n)) (ap (λ (r : OpenState). r.state.held.history) c.self.view_is)
-    (hidden_deleted n c.self.inside.accepted stands.place c.in-Some.list.now x c.self.invariant.stands.lawful stands.listed c.hidden_row.ensures.hidden)
+    (hidden_deleted n c.self.inside.accepted sound.place c.in-Some.list.now x c.self.invariant.sound.lawful sound.listed c.hidden_row.ensures.hidden)

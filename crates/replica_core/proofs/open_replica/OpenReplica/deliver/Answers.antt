@@ -15,9 +15,9 @@ use Rattle.replica_core.proofs.open_replica.OpenReplica.deliver.Goals.{in-Ok-wai
 -- what is so after `accept`
 accepts : (s now : State) (new : List Op) (op : Op) → s ≡ now → answer now.hold now.most now.held op ≡ Accepted → new ≡ op ∷ s.held.history → IsSound s
     → IsSound (record s { held = record { history = new; waiting = s.held.waiting } })
-accepts s now new op same answered is stands =
+accepts s now new op same answered is sound =
     let IsAccepted : State → Type 0 = λ x. answer x.hold x.most x.held op ≡ Accepted in
-    stands_by_accept s new op (subst IsAccepted (sym same) answered) is stands
+    stands_by_accept s new op (subst IsAccepted (sym same) answered) is sound
 
 pub accept-requires-clause-ready : goal.accept-requires-clause-ready
 accept-requires-clause-ready c =
@@ -28,27 +28,27 @@ accept-requires-clause-ready c =
 
 pub wake-requires-clause-once : goal.wake-requires-clause-once
 wake-requires-clause-once c =
-    (accepts _ c.args.self.now.state c.accept.new.self c.args.op (ap (λ x. x.state) c.self.view_is) c.in-Ready.ensures c.in-Ok.ensures.ok c.self.invariant.stands).once
+    (accepts _ c.args.self.now.state c.accept.new.self c.args.op (ap (λ x. x.state) c.self.view_is) c.in-Ready.ensures c.in-Ok.ensures.ok c.self.invariant.sound).once
 
 pub wake-requires-clause-own_ids : goal.wake-requires-clause-own_ids
 wake-requires-clause-own_ids c =
-    (accepts _ c.args.self.now.state c.accept.new.self c.args.op (ap (λ x. x.state) c.self.view_is) c.in-Ready.ensures c.in-Ok.ensures.ok c.self.invariant.stands).own_ids
+    (accepts _ c.args.self.now.state c.accept.new.self c.args.op (ap (λ x. x.state) c.self.view_is) c.in-Ready.ensures c.in-Ok.ensures.ok c.self.invariant.sound).own_ids
 
 pub invariant_of-self : goal.invariant_of-self
 invariant_of-self c = record {
   same_hold = c.self.invariant.same_hold;
-  stands = accepts _ c.args.self.now.state c.accept.new.self c.args.op (ap (λ x. x.state) c.self.view_is) c.in-Ready.ensures c.in-Ok.ensures.ok c.self.invariant.stands;
+  sound = accepts _ c.args.self.now.state c.accept.new.self c.args.op (ap (λ x. x.state) c.self.view_is) c.in-Ready.ensures c.in-Ok.ensures.ok c.self.invariant.sound;
   marks = c.wake.ensures;
 }
 
-pub returns-in-Ok-clause-stands : goal.returns-in-Ok-clause-stands
-returns-in-Ok-clause-stands c =
-    accepts _ c.args.self.now.state c.accept.new.self c.args.op (ap (λ x. x.state) c.self.view_is) c.in-Ready.ensures c.in-Ok.ensures.ok c.self.invariant.stands
+pub returns-in-Ok-clause-sound : goal.returns-in-Ok-clause-sound
+returns-in-Ok-clause-sound c =
+    accepts _ c.args.self.now.state c.accept.new.self c.args.op (ap (λ x. x.state) c.self.view_is) c.in-Ready.ensures c.in-Ok.ensures.ok c.self.invariant.sound
 
 -- what is so after `wait`
 record Waited (s : State) (inbox : OpenWaiting) (marks : List Bool) : Type 0 where
   same_hold : inbox.hold ≡ s.hold
-  stands : IsSound (record s { held = record { history = s.held.history; waiting = inbox.ops } })
+  sound : IsSound (record s { held = record { history = s.held.history; waiting = inbox.ops } })
   marks_right : marks ≡ due_marks s.held.history inbox.ops
 
 waited : (c : goal.Joined-wait) → Waited
@@ -65,14 +65,14 @@ waited c =
     let same : c.wait.new.inbox.ops ≡ w → c.wait.new.due ≡ c.self.inside.due → Waited s c.wait.new.inbox c.wait.new.due =
     λ e d. record {
       same_hold = c.wait.ensures.hold ∙ c.self.invariant.same_hold;
-      stands = stands_same s (record { history = h; waiting = c.wait.new.inbox.ops }) (ap (λ (ops : List Op). record { history = h; waiting = ops }) e) c.self.invariant.stands;
+      sound = stands_same s (record { history = h; waiting = c.wait.new.inbox.ops }) (ap (λ (ops : List Op). record { history = h; waiting = ops }) e) c.self.invariant.sound;
       marks_right = d ∙ c.self.invariant.marks ∙ ap (due_marks h) (sym e);
     } in
     elim c.match-wait.branch [
       | in-Ok-wait v ↦ record {
         same_hold = ap hold_of v.in-Ok-wait.ensures.ok ∙ c.self.invariant.same_hold;
-        stands = stands_by_push s c.self.inside.inbox c.wait.new.inbox c.args.op refl c.self.invariant.same_hold comes
-            v.in-Ok-wait.ensures.ok c.wait.ensures.within c.self.invariant.stands;
+        sound = stands_by_push s c.self.inside.inbox c.wait.new.inbox c.args.op refl c.self.invariant.same_hold comes
+            v.in-Ok-wait.ensures.ok c.wait.ensures.within c.self.invariant.sound;
         marks_right = v.in-Ok-wait.ensures.mark
             ∙ ap (λ (l : List Bool). l ++ false ∷ []) c.self.invariant.marks
             ∙ marks_pushed h w c.args.op (waits_undecided s.hold s.most s.held c.args.op (ap may_wait comes ∙ may_wait-decided (nat_eq (length w) s.hold)))
@@ -83,7 +83,7 @@ waited c =
     ]
 
 pub invariant_of-self-in-Missing : goal.invariant_of-self-in-Missing
-invariant_of-self-in-Missing c = let p = waited c in record { same_hold = p.same_hold; stands = p.stands; marks = p.marks_right }
+invariant_of-self-in-Missing c = let p = waited c in record { same_hold = p.same_hold; sound = p.sound; marks = p.marks_right }
 
-pub returns-after-wait-clause-stands : goal.returns-after-wait-clause-stands
-returns-after-wait-clause-stands c = (waited c).stands
+pub returns-after-wait-clause-sound : goal.returns-after-wait-clause-sound
+returns-after-wait-clause-sound c = (waited c).sound

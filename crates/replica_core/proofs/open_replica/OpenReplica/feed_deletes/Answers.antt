@@ -24,7 +24,7 @@ fronts-preserved c =
     c.fronts.invariant c.in_ok-fed.ensures.within c.fronts-test.true
     (subst (λ (y : Identifier). TakesInAll c.fronts.self.state c.feed_deletes_front.new.self.state (deletes_up y c.in_ok-fed.fed) c.fronts.tally c.feed_deletes_front.new.tally)
     c.behind-next.ensures c.in_ok-fed.ensures.ok)
-    c.feed_deletes_front.ensures.stands
+    c.feed_deletes_front.ensures.sound
 
 pub returns-clause-ok : goal.returns-clause-ok
 returns-clause-ok c = row_fed_all c.args.self.now.state c.fronts.self.state c.args.tally.now c.fronts.tally c.args.first c.args.count c.fronts.done c.fronts.invariant

@@ -11,7 +11,7 @@ use Rattle.replica_core.proofs.open_replica.OpenReplica.feed_deletes_keeping.Goa
 
 pub fronts-init : goal.fronts-init
 fronts-init c = keeping_row c.args.self.now.state c.args.tally.now c.args.kept.now c.args.first c.args.count
-    (subst (λ (r : OpenState). IsSound r.state) c.self.view_is c.self.invariant.stands) c.requires.settled c.requires.counts_rise
+    (subst (λ (r : OpenState). IsSound r.state) c.self.view_is c.self.invariant.sound) c.requires.settled c.requires.counts_rise
 
 pub returns-in_err-fed-clause-err : goal.returns-in_err-fed-clause-err
 returns-in_err-fed-clause-err c =
@@ -33,7 +33,7 @@ fronts-preserved c =
     c.args.count c.fronts.done n
     c.fronts.invariant c.in_ok-fed.ensures.within c.fronts-test.true
     (subst (λ (y : Identifier). TakesInAll c.fronts.self.state fed.new.self.state (deletes_up y n) c.fronts.tally fed.new.tally) c.behind-next.ensures c.in_ok-fed.ensures.ok)
-    fed.ensures.stands
+    fed.ensures.sound
     (subst (λ (y : Identifier). fed.new.kept ≡ c.fronts.kept ++ kept_from c.fronts.self.state.hold c.fronts.self.state.most c.fronts.self.state.held (deletes_up y n))
     c.behind-next.ensures c.in_ok-fed.ensures.kept)
 

@@ -14,5 +14,5 @@ pub fronts-preserved : goal.fronts-preserved
 fronts-preserved c =
     fed_on c.args.self.now.state c.fronts.self.state c.feed_front.new.self.state c.args.tally.now c.fronts.tally c.feed_front.new.tally (run_from c.args.start.now c.args.text.now)
     c.fronts.next c.split_at-behind.result.1 c.fronts.rest.now c.split_at-behind.result.0.now c.split_at-behind.result.2.now c.in_ok-count.count c.fronts.invariant
-    c.in_ok-count.ensures.within c.in_ok-count.ensures.ok c.feed_front.ensures.stands c.split_at-behind.ensures.front c.split_at-behind.ensures.rest c.split_at-behind.ensures.whole
+    c.in_ok-count.ensures.within c.in_ok-count.ensures.ok c.feed_front.ensures.sound c.split_at-behind.ensures.front c.split_at-behind.ensures.rest c.split_at-behind.ensures.whole
     c.split_at-behind.ensures.next

@@ -8,7 +8,7 @@ use Rattle.replica_core.proofs.open_replica.OpenReplica.feed_run_keeping.Goals a
 pub fronts-init : goal.fronts-init
 fronts-init c =
     keeping c.args.self.now.state c.args.tally.now c.args.kept.now c.args.start.now c.args.text.now
-    (subst IsSound (ap (λ x. x.state) c.self.view_is) c.self.invariant.stands) c.requires.settled c.requires.counters c.requires.counts_rise
+    (subst IsSound (ap (λ x. x.state) c.self.view_is) c.self.invariant.sound) c.requires.settled c.requires.counters c.requires.counts_rise
 
 pub returns-in_err-count-clause-err : goal.returns-in_err-count-clause-err
 returns-in_err-count-clause-err c =
@@ -24,6 +24,6 @@ fronts-preserved c =
     c.fronts.kept
     c.feed_front_keeping.new.kept (run_from c.args.start.now c.args.text.now)
     c.fronts.next c.split_at-behind.result.1 c.fronts.rest.now c.split_at-behind.result.0.now c.split_at-behind.result.2.now c.in_ok-count.count c.fronts.invariant
-    c.in_ok-count.ensures.within c.in_ok-count.ensures.ok c.feed_front_keeping.ensures.stands c.in_ok-count.ensures.kept c.split_at-behind.ensures.front
+    c.in_ok-count.ensures.within c.in_ok-count.ensures.ok c.feed_front_keeping.ensures.sound c.in_ok-count.ensures.kept c.split_at-behind.ensures.front
     c.split_at-behind.ensures.rest c.split_at-behind.ensures.whole
     c.split_at-behind.ensures.next

@@ -12,13 +12,13 @@ invariant_of-self-2 c =
     let can : CanJoin s (c.args.op ∷ []) = subst (λ s. CanJoin s (c.args.op ∷ [])) (sym (ap (λ x. x.state) c.self.view_is)) c.requires in
     record {
       same_hold = c.self.invariant.same_hold;
-      stands = joined_stands s c.args.op c.accept.new.self can c.self.invariant.stands c.in-Ok.ensures.ok;
+      sound = joined_stands s c.args.op c.accept.new.self can c.self.invariant.sound c.in-Ok.ensures.ok;
       marks = c.self.invariant.marks ∙ joined_marks s c.args.op c.accept.new.self can c.in-Ok.ensures.ok;
     }
 
-pub returns-clause-stands : goal.returns-clause-stands
-returns-clause-stands c =
+pub returns-clause-sound : goal.returns-clause-sound
+returns-clause-sound c =
     let i = c.self.inside in
     let s : State = replica_state i.number i.hold i.most i.accepted i.inbox in
     let can : CanJoin s (c.args.op ∷ []) = subst (λ s. CanJoin s (c.args.op ∷ [])) (sym (ap (λ x. x.state) c.self.view_is)) c.requires in
-    joined_stands s c.args.op c.accept.new.self can c.self.invariant.stands c.in-Ok.ensures.ok
+    joined_stands s c.args.op c.accept.new.self can c.self.invariant.sound c.in-Ok.ensures.ok

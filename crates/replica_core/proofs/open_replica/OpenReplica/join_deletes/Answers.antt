@@ -38,10 +38,10 @@ invariant_of-self c =
     however c.accept_deletes.result n (λ e. e.done)
     (λ k. now ≡ history_with i.accepted (deletes_up x k)) _ c.accept_deletes.ensures.ok c.accept_deletes.ensures.err c.accept_deletes.ensures.fewer
     (λ k l is.
-    let all = all_joined (deletes_up x k) s (fewer_can s x n k l can) c.self.invariant.stands in
+    let all = all_joined (deletes_up x k) s (fewer_can s x n k l can) c.self.invariant.sound in
     record {
       same_hold = c.self.invariant.same_hold;
-      stands = subst (λ h. IsSound (replica_state i.number i.hold i.most h i.inbox)) (sym is) all.stands;
+      sound = subst (λ h. IsSound (replica_state i.number i.hold i.most h i.inbox)) (sym is) all.sound;
       marks = c.self.invariant.marks ∙ all.marks ∙ ap (λ h. due_marks h s.held.waiting) (sym is);
     })
 
@@ -56,10 +56,10 @@ returns-clause-settled c =
     however c.accept_deletes.result n (λ e. e.done) (λ k. now ≡ history_with i.accepted (deletes_up x k)) (IsSettled (record { history = now; waiting = i.inbox.ops }))
     c.accept_deletes.ensures.ok c.accept_deletes.ensures.err c.accept_deletes.ensures.fewer
     (λ k l is. subst (λ h. IsSettled (record { history = h; waiting = i.inbox.ops })) (sym is)
-    (all_joined (deletes_up x k) s (fewer_can s x n k l can) c.self.invariant.stands).settled)
+    (all_joined (deletes_up x k) s (fewer_can s x n k l can) c.self.invariant.sound).settled)
 
-pub returns-clause-stands : goal.returns-clause-stands
-returns-clause-stands c =
+pub returns-clause-sound : goal.returns-clause-sound
+returns-clause-sound c =
     let i = c.self.inside in
     let x = c.args.first in
     let n = c.args.count in
@@ -69,7 +69,7 @@ returns-clause-stands c =
     however c.accept_deletes.result n (λ e. e.done) (λ k. now ≡ history_with i.accepted (deletes_up x k)) (IsSound (replica_state i.number i.hold i.most now i.inbox))
     c.accept_deletes.ensures.ok c.accept_deletes.ensures.err c.accept_deletes.ensures.fewer
     (λ k l is. subst (λ h. IsSound (replica_state i.number i.hold i.most h i.inbox)) (sym is)
-    (all_joined (deletes_up x k) s (fewer_can s x n k l can) c.self.invariant.stands).stands)
+    (all_joined (deletes_up x k) s (fewer_can s x n k l can) c.self.invariant.sound).sound)
 
 pub accept_deletes-requires-clause-room : goal.accept_deletes-requires-clause-room
 accept_deletes-requires-clause-room c =
@@ -78,4 +78,4 @@ accept_deletes-requires-clause-room c =
     let s : State = replica_state i.number i.hold i.most i.accepted i.inbox in
     let can : CanJoin s ops = subst (λ s. CanJoin s ops) (sym (ap (λ x. x.state) c.self.view_is)) c.requires.can in
     let room : length i.accepted + length i.inbox.ops + length ops ≤ i.most = can.room in
-    omega (arith, room, c.self.invariant.stands.most_within.1, length-deletes false c.args.first c.args.count)
+    omega (arith, room, c.self.invariant.sound.most_within.1, length-deletes false c.args.first c.args.count)

@@ -15,10 +15,10 @@ invariant_of-self-2 c =
     let ops = run_from c.args.start.now c.args.text.now in
     let s : State = replica_state i.number i.hold i.most i.accepted i.inbox in
     let can : CanJoin s ops = subst (λ s. CanJoin s ops) (sym (ap (λ x. x.state) c.self.view_is)) c.requires.can in
-    let all = all_joined ops s can c.self.invariant.stands in
+    let all = all_joined ops s can c.self.invariant.sound in
     record {
       same_hold = c.self.invariant.same_hold;
-      stands = subst (λ h. IsSound (replica_state i.number i.hold i.most h i.inbox)) (sym c.in-Ok.ensures.ok) all.stands;
+      sound = subst (λ h. IsSound (replica_state i.number i.hold i.most h i.inbox)) (sym c.in-Ok.ensures.ok) all.sound;
       marks = c.self.invariant.marks ∙ all.marks ∙ ap (λ h. due_marks h s.held.waiting) (sym c.in-Ok.ensures.ok);
     }
 
@@ -38,7 +38,7 @@ accept_run-requires-clause-room c =
     let s : State = replica_state i.number i.hold i.most i.accepted i.inbox in
     let can : CanJoin s ops = subst (λ s. CanJoin s ops) (sym (ap (λ x. x.state) c.self.view_is)) c.requires.can in
     let room : length i.accepted + length i.inbox.ops + length ops ≤ i.most = can.room in
-    omega (arith, room, c.self.invariant.stands.most_within.1, length-typed start.id start.section start.left start.right c.args.text.now)
+    omega (arith, room, c.self.invariant.sound.most_within.1, length-typed start.id start.section start.left start.right c.args.text.now)
 
 pub returns-clause-settled : goal.returns-clause-settled
 returns-clause-settled c =
@@ -46,12 +46,12 @@ returns-clause-settled c =
     let ops = run_from c.args.start.now c.args.text.now in
     let s : State = replica_state i.number i.hold i.most i.accepted i.inbox in
     let can : CanJoin s ops = subst (λ s. CanJoin s ops) (sym (ap (λ x. x.state) c.self.view_is)) c.requires.can in
-    subst (λ h. IsSettled (record { history = h; waiting = i.inbox.ops })) (sym c.in-Ok.ensures.ok) (all_joined ops s can c.self.invariant.stands).settled
+    subst (λ h. IsSettled (record { history = h; waiting = i.inbox.ops })) (sym c.in-Ok.ensures.ok) (all_joined ops s can c.self.invariant.sound).settled
 
-pub returns-clause-stands : goal.returns-clause-stands
-returns-clause-stands c =
+pub returns-clause-sound : goal.returns-clause-sound
+returns-clause-sound c =
     let i = c.self.inside in
     let ops = run_from c.args.start.now c.args.text.now in
     let s : State = replica_state i.number i.hold i.most i.accepted i.inbox in
     let can : CanJoin s ops = subst (λ s. CanJoin s ops) (sym (ap (λ x. x.state) c.self.view_is)) c.requires.can in
-    subst (λ h. IsSound (replica_state i.number i.hold i.most h i.inbox)) (sym c.in-Ok.ensures.ok) (all_joined ops s can c.self.invariant.stands).stands
+    subst (λ h. IsSound (replica_state i.number i.hold i.most h i.inbox)) (sym c.in-Ok.ensures.ok) (all_joined ops s can c.self.invariant.sound).sound

@@ -4,7 +4,7 @@ use Rattle.fugue_ids.specs.declared.op.Op.{Op}
 use Rattle.origin_model.specs.taking.Taking.{Held, IsSettled}
 use Rattle.origin_model.specs.edits.State.{State}
 use Rattle.replica_core.specs.Replica.{replica_state}
-use Rattle.replica_core.specs.Told.{JoinsNext, Settles}
+use Rattle.replica_core.specs.Answering.{JoinsNext, Settles}
 use Rattle.replica_core.specs.declared.replica.Settled.TheVariants.{Accepted, DroppedStray}
 use Rattle.replica_core.proofs.MarkLemmas.{first_due, due_position, marks_left}
 use Rattle.replica_core.proofs.StepLemmas.{none_left}
@@ -55,7 +55,7 @@ joins c =
     accepted_step s c.self.inside.inbox c.leave-op.new.inbox c.in-Some.position c.op_at-op.result.now c.leave-op.result c.accept.new.self
     refl (due_position h w c.self.inside.due c.first.result c.in-Some.position c.self.invariant.marks c.first.ensures.first c.in-Some.is) c.op_at-op.ensures
     (sym c.verdict.ensures ∙ c.in-Ready.is)
-    (c.in-Ok.ensures.ok ∙ ap (λ (o : Op). o ∷ h) c.in_ok-copy-in-Ready.ensures) c.leave-op.ensures.op c.leave-op.ensures.rest c.self.invariant.stands
+    (c.in-Ok.ensures.ok ∙ ap (λ (o : Op). o ∷ h) c.in_ok-copy-in-Ready.ensures) c.leave-op.ensures.op c.leave-op.ensures.rest c.self.invariant.sound
 
 pub wake-requires-clause-marks : goal.wake-requires-clause-marks
 wake-requires-clause-marks c =
@@ -63,10 +63,10 @@ wake-requires-clause-marks c =
     (c.first.ensures.same ∙ c.self.invariant.marks) c.leave-op.ensures.mark (ap (λ (l : List Op). drop 1 l) c.in-Ok.ensures.ok) c.leave-op.ensures.rest
 
 pub wake-requires-clause-once : goal.wake-requires-clause-once
-wake-requires-clause-once c = (joins c).stands.once
+wake-requires-clause-once c = (joins c).sound.once
 
 pub wake-requires-clause-own_ids : goal.wake-requires-clause-own_ids
-wake-requires-clause-own_ids c = (joins c).stands.own_ids
+wake-requires-clause-own_ids c = (joins c).sound.own_ids
 
 -- the step of an operation that was Ready
 joined : (c : goal.After-wake) → IsStep
@@ -79,12 +79,12 @@ joined c =
     accepted_step s c.self.inside.inbox c.leave-op.new.inbox c.in-Some.position c.op_at-op.result.now c.leave-op.result c.accept.new.self
     refl position c.op_at-op.ensures
     (sym c.verdict.ensures ∙ c.in-Ready.is)
-    (c.in-Ok.ensures.ok ∙ ap (λ (o : Op). o ∷ c.self.inside.accepted) c.in_ok-copy-in-Ready.ensures) c.leave-op.ensures.op c.leave-op.ensures.rest c.self.invariant.stands
+    (c.in-Ok.ensures.ok ∙ ap (λ (o : Op). o ∷ c.self.inside.accepted) c.in_ok-copy-in-Ready.ensures) c.leave-op.ensures.op c.leave-op.ensures.rest c.self.invariant.sound
 
 pub invariant_of-self-in-Ready : goal.invariant_of-self-in-Ready
 invariant_of-self-in-Ready c = record {
   same_hold = c.leave-op.ensures.hold ∙ c.self.invariant.same_hold;
-  stands = (joined c).stands;
+  sound = (joined c).sound;
   marks = c.wake.ensures;
 }
 
@@ -93,8 +93,8 @@ returns-in-Ok-clause-step c =
     let Steps : State → Type 0 = λ s. Settles s.held (record { history = c.accept.new.self; waiting = c.leave-op.new.inbox.ops }) (Some (Accepted c.leave-op.result)) in
     subst Steps (ap (λ x. x.state) c.self.view_is) (joined c).settles
 
-pub returns-in-Ok-clause-stands : goal.returns-in-Ok-clause-stands
-returns-in-Ok-clause-stands c = (joined c).stands
+pub returns-in-Ok-clause-sound : goal.returns-in-Ok-clause-sound
+returns-in-Ok-clause-sound c = (joined c).sound
 
 -- the step of an operation that was stray
 dropped : (c : goal.After-leave-op-in_default-verdict) → IsStep
@@ -107,12 +107,12 @@ dropped c =
     dropped_step s c.self.inside.inbox c.leave-op-in_default-verdict.new.inbox c.in-Some.position c.op_at-op.result.now c.leave-op-in_default-verdict.result
     refl (due_position h w c.self.inside.due c.first.result c.in-Some.position c.self.invariant.marks c.first.ensures.first c.in-Some.is) c.op_at-op.ensures
     (λ ready. c.in_default-verdict.not-Ready (c.verdict.ensures ∙ ready))
-    c.leave-op-in_default-verdict.ensures.op c.leave-op-in_default-verdict.ensures.rest c.self.invariant.stands
+    c.leave-op-in_default-verdict.ensures.op c.leave-op-in_default-verdict.ensures.rest c.self.invariant.sound
 
 pub invariant_of-self-in_default-verdict : goal.invariant_of-self-in_default-verdict
 invariant_of-self-in_default-verdict c = record {
   same_hold = c.leave-op-in_default-verdict.ensures.hold ∙ c.self.invariant.same_hold;
-  stands = (dropped c).stands;
+  sound = (dropped c).sound;
   marks = marks_left c.self.inside.accepted c.self.inside.inbox.ops c.self.inside.accepted c.leave-op-in_default-verdict.new.inbox.ops c.in-Some.position c.first.new.self
       c.leave-op-in_default-verdict.new.due (c.first.ensures.same ∙ c.self.invariant.marks) c.leave-op-in_default-verdict.ensures.mark refl
       c.leave-op-in_default-verdict.ensures.rest;
@@ -127,5 +127,5 @@ returns-in_default-verdict c =
       others = ap (λ (s : State). record s { held = held }) (ap (λ x. x.state) c.self.view_is);
       err = tt;
       wanting = tt;
-      stands = (dropped c).stands;
+      sound = (dropped c).sound;
     }

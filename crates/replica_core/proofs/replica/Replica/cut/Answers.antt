@@ -11,7 +11,7 @@ pub delete_each-requires-clause-can_join : goal.delete_each-requires-clause-can_
 delete_each-requires-clause-can_join c =
     rw c.deref.ensures.value
     (subst (CanJoin c.args.self.now) c.in_ok-targets.ensures.ok
-    (made_can_join c.args.self.now (Cut c.args.section c.args.at c.args.n) c.in_ok-targets.ensures.stands c.requires c.in_ok-targets.ensures.may))
+    (made_can_join c.args.self.now (Cut c.args.section c.args.at c.args.n) c.in_ok-targets.ensures.sound c.requires c.in_ok-targets.ensures.may))
 
 pub delete_each-requires-clause-within : goal.delete_each-requires-clause-within
 delete_each-requires-clause-within c =
@@ -19,5 +19,5 @@ delete_each-requires-clause-within c =
 
 pub returns-clause-lands : goal.returns-clause-lands
 returns-clause-lands c =
-    edit_lands (Cut c.args.section c.args.at c.args.n) c.args.self.now c.delete_each.new.self c.in_ok-targets.ensures.stands.lawful c.in_ok-targets.ensures.may
+    edit_lands (Cut c.args.section c.args.at c.args.n) c.args.self.now c.delete_each.new.self c.in_ok-targets.ensures.sound.lawful c.in_ok-targets.ensures.may
     (c.in_ok-delete_each.ensures.ok.others ∙ ap (with_ops c.args.self.now) (ap deletes_of c.deref.ensures.value ∙ sym c.in_ok-targets.ensures.ok))

@@ -3,7 +3,7 @@ use Rattle.replica_core.proofs.DeletingLemmas.{deleting_each, each_deleted, row_
 use Rattle.replica_core.proofs.replica.Replica.delete_each.Goals as goal
 
 pub deleted-init : goal.deleted-init
-deleted-init c = deleting_each c.args.section.now c.args.self.now c.args.targets.now c.requires.can_join c.requires.stands c.requires.within
+deleted-init c = deleting_each c.args.section.now c.args.self.now c.args.targets.now c.requires.can_join c.requires.sound c.requires.within
 
 pub join_deletes-requires-clause-can : goal.join_deletes-requires-clause-can
 join_deletes-requires-clause-can c =
@@ -35,7 +35,7 @@ returns-in_default-clause-err c =
     let few = subst (λ ys. n ≤ length ys) tail c.followers-count.ensures.within in
     let stopped = c.in_default.ensures in
     row_stopped c.args.section.now c.args.self.now c.deleted.self xs at c.deleted.invariant c.index-targets-at.result c.deleted-test.true c.index-targets-at.is n row few
-    c.join_deletes.new.self c.in_default.field-0.done stopped.fewer stopped.err stopped.stands
+    c.join_deletes.new.self c.in_default.field-0.done stopped.fewer stopped.err stopped.sound
 
 pub deleted-preserved : goal.deleted-preserved
 deleted-preserved c =
@@ -46,7 +46,7 @@ deleted-preserved c =
     let row = ap (take n) (sym tail) ∙ c.followers-count.ensures.row in
     let few = subst (λ ys. n ≤ length ys) tail c.followers-count.ensures.within in
     row_deleted c.args.section.now c.args.self.now c.deleted.self xs at c.deleted.invariant c.index-targets-at.result c.deleted-test.true c.index-targets-at.is n row few
-    c.join_deletes.new.self c.in-Ok.ensures.ok c.in-Ok.ensures.stands
+    c.join_deletes.new.self c.in-Ok.ensures.ok c.in-Ok.ensures.sound
 
 pub returns-clause-ok : goal.returns-clause-ok
 returns-clause-ok c = each_deleted c.args.section.now c.args.self.now c.deleted.self c.args.targets.now c.deleted.at c.deleted.invariant c.deleted-test.false

@@ -8,9 +8,9 @@ use Rattle.replica_core.proofs.replica.Replica.drop_section.Goals as goal
 
 pub join-requires : goal.join-requires
 join-requires c =
-    subst (CanJoin c.args.self.now) c.in_ok-op.ensures.ok (made_can_join c.args.self.now (DropSection c.args.section) c.in_ok-op.ensures.stands c.requires c.in_ok-op.ensures.may)
+    subst (CanJoin c.args.self.now) c.in_ok-op.ensures.ok (made_can_join c.args.self.now (DropSection c.args.section) c.in_ok-op.ensures.sound c.requires c.in_ok-op.ensures.may)
 
 pub returns-clause-lands : goal.returns-clause-lands
 returns-clause-lands c =
-    edit_lands (DropSection c.args.section) c.args.self.now c.join.new.self c.in_ok-op.ensures.stands.lawful c.in_ok-op.ensures.may
+    edit_lands (DropSection c.args.section) c.args.self.now c.join.new.self c.in_ok-op.ensures.sound.lawful c.in_ok-op.ensures.may
     (c.in_ok-join.ensures.ok ∙ ap (with_ops c.args.self.now) (sym c.in_ok-op.ensures.ok))

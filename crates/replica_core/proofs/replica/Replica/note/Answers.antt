@@ -8,7 +8,7 @@ use Rattle.replica_core.proofs.replica.Replica.note.Goals as goal
 pub join-requires : goal.join-requires
 join-requires c =
     subst (λ op. CanJoin c.args.self.now (op ∷ [])) (sym c.in_ok-op.ensures.ok)
-    (note_can_join c.args.self.now c.args.names c.args.code c.args.body c.in_ok-op.ensures.stands c.requires.settled c.requires.held c.in_ok-op.ensures.may)
+    (note_can_join c.args.self.now c.args.names c.args.code c.args.body c.in_ok-op.ensures.sound c.requires.settled c.requires.held c.in_ok-op.ensures.may)
 
 pub returns-clause-shown : goal.returns-clause-shown
 returns-clause-shown c =

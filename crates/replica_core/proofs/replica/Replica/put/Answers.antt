@@ -10,7 +10,7 @@ use Rattle.replica_core.proofs.replica.Replica.put.Goals as goal
 pub type_text-requires-clause-can_join : goal.type_text-requires-clause-can_join
 type_text-requires-clause-can_join c =
     subst (CanJoin c.args.self.now) c.in-Ok.ensures.ok
-    (made_can_join c.args.self.now (Put c.args.section c.args.at (chars c.args.text.now)) c.in-Ok.ensures.stands c.requires c.in-Ok.ensures.may)
+    (made_can_join c.args.self.now (Put c.args.section c.args.at (chars c.args.text.now)) c.in-Ok.ensures.sound c.requires c.in-Ok.ensures.may)
 
 pub returns-in_ok-type_text-in-Ok-clause-made : goal.returns-in_ok-type_text-in-Ok-clause-made
 returns-in_ok-type_text-in-Ok-clause-made c =
@@ -21,5 +21,5 @@ returns-in_ok-type_text-in-Ok-clause-made c =
 
 pub returns-in_ok-type_text-in-Ok-clause-lands : goal.returns-in_ok-type_text-in-Ok-clause-lands
 returns-in_ok-type_text-in-Ok-clause-lands c =
-    edit_lands (Put c.args.section c.args.at (chars c.args.text.now)) c.args.self.now c.type_text.new.self c.in-Ok.ensures.stands.lawful c.in-Ok.ensures.may
+    edit_lands (Put c.args.section c.args.at (chars c.args.text.now)) c.args.self.now c.type_text.new.self c.in-Ok.ensures.sound.lawful c.in-Ok.ensures.may
     (c.in_ok-type_text-in-Ok.ensures.ok.others ∙ ap (with_ops c.args.self.now) (sym c.in-Ok.ensures.ok))

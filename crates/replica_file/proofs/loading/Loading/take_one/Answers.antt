@@ -7,7 +7,7 @@ returns-then-not-self-clause-feeds c = feeds_dropped _ _ (c.args.op ∷ []) c.if
 
 pub returns-in-Ok-clause-feeds : goal.returns-in-Ok-clause-feeds
 returns-in-Ok-clause-feeds c =
-    feeds_one _ _ _ c.args.op c.if-not-self.false c.requires.stands (λ many. let no = c.in-Ok.ensures.too_many.1 many in cc no) c.in-Ok.ensures.held
+    feeds_one _ _ _ c.args.op c.if-not-self.false c.requires.sound (λ many. let no = c.in-Ok.ensures.too_many.1 many in cc no) c.in-Ok.ensures.held
 
 pub returns-in-Err-TooMany-clause-feeds : goal.returns-in-Err-TooMany-clause-feeds
 returns-in-Err-TooMany-clause-feeds c =

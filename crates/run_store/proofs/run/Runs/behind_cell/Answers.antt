@@ -3,7 +3,7 @@ use Rattle.std.specs.Prelude.{Some}
 use Rattle.fugue_ids.specs.Keys.{first_id, rest_of}
 use Rattle.run_store.specs.Cells.{keyed_cells}
 use Rattle.run_store.specs.Heads.{head_behind}
-use Rattle.run_store.specs.Runs.{IsCellSpot, Kept, cells_in, first_of}
+use Rattle.run_store.specs.Runs.{IsCellSpot, RunsView, cells_in, first_of}
 use Rattle.run_store.specs.declared.cell.Head.{Head}
 use Rattle.run_store.proofs.CellLemmas.{others-absent, rest-none}
 use Rattle.run_store.proofs.CutLemmas.{cell-fits}
@@ -38,6 +38,6 @@ pub returns-else-spot : goal.returns-else-spot
 returns-else-spot c =
     let spot = c.in_ok-spot.spot in
     let l : spot.run.len ≤ suc spot.offset = omega (arith, c.if-spot.false) in
-    let at = subst (λ (z : Kept). IsCellSpot z.rope c.args.id spot.run spot.offset) (sym c.self.view_is) c.in_ok-spot.ensures.some in
+    let at = subst (λ (z : RunsView). IsCellSpot z.rope c.args.id spot.run spot.offset) (sym c.self.view_is) c.in_ok-spot.ensures.some in
     next-is _ c.self.invariant c.args.id spot.run spot.offset at c.next.result c.next.ensures.some c.next.ensures.none l
-    ∙ ap (λ (z : Kept). first_id (rest_of (Some c.args.id) (keyed_cells (cells_in z)))) c.self.view_is
+    ∙ ap (λ (z : RunsView). first_id (rest_of (Some c.args.id) (keyed_cells (cells_in z)))) c.self.view_is

@@ -4,7 +4,7 @@ use Rattle.fugue_ids.specs.Keys.{first_low}
 use Rattle.node_rope.specs.Places.{first_low_key}
 use Rattle.run_store.specs.Cells.{keyed_cells}
 use Rattle.run_store.specs.Heads.{rank_of}
-use Rattle.run_store.specs.Runs.{IsRun, Kept, all_cells}
+use Rattle.run_store.specs.Runs.{IsRun, RunsView, all_cells}
 use Rattle.run_store.specs.declared.run.Run.{Run}
 use Rattle.run_store.proofs.LowLemmas.{first-runs}
 use Rattle.run_store.proofs.run.Runs.first_low_from.Goals as goal
@@ -16,4 +16,4 @@ returns c =
     c.first_low.ensures
     ∙ ap (λ m. first_low_key (λ (z : Run). rank_of z.key) m (drop c.args.runs r.rope)) c.rank_of.ensures
     ∙ sym (first-runs c.args.most r.letters r.count (omega arith) (omega (arith, s.few)) (drop c.args.runs r.rope) (All-drop (IsRun r.letters r.count) c.args.runs r.rope s.each))
-    ∙ ap (λ (z : Kept). first_low c.args.most (keyed_cells (all_cells z.letters (drop c.args.runs z.rope)))) c.self.view_is
+    ∙ ap (λ (z : RunsView). first_low c.args.most (keyed_cells (all_cells z.letters (drop c.args.runs z.rope)))) c.self.view_is

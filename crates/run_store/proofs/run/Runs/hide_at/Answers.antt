@@ -1,7 +1,7 @@
 use Rattle.std.proofs.Common.{◌≡◌, length, refl, subst, sym}
 use Rattle.run_store.specs.Cells.{cells_hiding}
 use Rattle.run_store.specs.Heads.{head_behind}
-use Rattle.run_store.specs.Runs.{Kept, cells_in, first_of}
+use Rattle.run_store.specs.Runs.{RunsView, cells_in, first_of}
 use Rattle.run_store.specs.Stored.{IsRaisedBy}
 use Rattle.run_store.proofs.BorderLemmas.{shifted-length, shifted_runs, taken-cells}
 use Rattle.run_store.proofs.EitherLemmas.{kept-raised, where-err, where-ok}
@@ -22,10 +22,10 @@ returns-in-Some c =
     let new = c.shift.new.self in
     let n = length r.rope in
     record {
-      ok = where-ok (λ (a : Kept). cells_in a ≡ cells_hiding x k (cells_in r)) c.shift.result moved new c.shift.ensures.ok
+      ok = where-ok (λ (a : RunsView). cells_in a ≡ cells_hiding x k (cells_in r)) c.shift.result moved new c.shift.ensures.ok
           (taken-cells r s b.front b.back h.border x k b.at h.move h.taken);
-      err = where-err (λ (a : Kept). cells_in a ≡ cells_in r) c.shift.result r new c.shift.ensures.err refl;
-      raised = where-ok (λ (a : Kept). IsRaisedBy 2 n (length a.rope)) c.shift.result moved new c.shift.ensures.ok
+      err = where-err (λ (a : RunsView). cells_in a ≡ cells_in r) c.shift.result r new c.shift.ensures.err refl;
+      raised = where-ok (λ (a : RunsView). IsRaisedBy 2 n (length a.rope)) c.shift.result moved new c.shift.ensures.ok
           (subst (IsRaisedBy 2 n) (sym (shifted-length r s b.front b.back h.border b.at h.move)) (kept-raised 2 n));
-      refused = where-err (λ (a : Kept). IsRaisedBy 1 n (length a.rope)) c.shift.result r new c.shift.ensures.err (kept-raised 1 n);
+      refused = where-err (λ (a : RunsView). IsRaisedBy 1 n (length a.rope)) c.shift.result r new c.shift.ensures.err (kept-raised 1 n);
     }

@@ -2,7 +2,7 @@ use Rattle.std.proofs.Common.{ap, subst, true, ◌∙◌}
 use Rattle.std.specs.Prelude.{is_some}
 use Rattle.node_rope.specs.Items.{value_under}
 use Rattle.run_store.specs.Changes.{HidesPart}
-use Rattle.run_store.specs.Runs.{Kept, parted_as, run_to}
+use Rattle.run_store.specs.Runs.{RunsView, parted_as, run_to}
 use Rattle.run_store.specs.declared.run.Run.{Run}
 use Rattle.run_store.proofs.CutLemmas.{cell-fits, cut-room, front-held, front-marked, rest-fresh}
 use Rattle.run_store.proofs.HideLemmas.{hides-part, hides-sound}
@@ -60,7 +60,7 @@ returns c =
     let more = c.requires.more in
     let held = held-in c.self.view_is run c.requires.held in
     let front = c.hidden.ensures ∙ (λ i. record (c.run_to.ensures i) { hidden = true }) in
-    subst (λ (z : Kept). HidesPart c.part.result z (record { rope = c.part.new.rope; letters = c.self.inside.letters; count = c.self.inside.count }) run.id n) c.self.view_is
+    subst (λ (z : RunsView). HidesPart c.part.result z (record { rope = c.part.new.rope; letters = c.self.inside.letters; count = c.self.inside.count }) run.id n) c.self.view_is
     (hides-part _ s run n held some more (run_to n run) (front-held _ s run n held some more) c.part.result c.part.new.rope
     (parted_as run.id c.hidden.result c.run_behind.result c.self.inside.rope)
     ((λ i. parted_as run.id (front i) (c.run_behind.ensures i) c.self.inside.rope) ∙ front-marked _ s run n held some more true) c.part.ensures.ok c.part.ensures.err)

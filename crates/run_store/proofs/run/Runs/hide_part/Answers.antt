@@ -1,6 +1,6 @@
 use Rattle.std.proofs.Common.{ap, length, subst, sym, ◌∙◌}
 use Rattle.std.proofs.lemmas.Bool.{true≢false}
-use Rattle.run_store.specs.Runs.{Kept, cells_in}
+use Rattle.run_store.specs.Runs.{RunsView, cells_in}
 use Rattle.run_store.specs.Stored.{IsRaisedBy}
 use Rattle.run_store.proofs.EitherLemmas.{kept-raised}
 use Rattle.run_store.proofs.HideLemmas.{hidden-again, spot-hidden}
@@ -16,7 +16,7 @@ returns-then-spot-clause-part c =
       bound = n.bound;
       ok = ap cells_in same ∙ hidden-again r c.sound.ensures c.args.id c.in-Some.spot.run c.in-Some.spot.offset c.in-Some.ensures.some c.part_len-n.result n.within c.if-spot.true;
       err = tt;
-      raised = subst (λ (z : Kept). IsRaisedBy 2 (length r.rope) (length z.rope)) (sym same) (kept-raised 2 (length r.rope));
+      raised = subst (λ (z : RunsView). IsRaisedBy 2 (length r.rope) (length z.rope)) (sym same) (kept-raised 2 (length r.rope));
       refused = tt;
     }
 

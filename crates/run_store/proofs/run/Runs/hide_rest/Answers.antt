@@ -5,7 +5,7 @@ use Rattle.node_rope.specs.Items.{value_under}
 use Rattle.run_store.specs.Cells.{cells_hiding}
 use Rattle.run_store.specs.Changes.{HidesPart}
 use Rattle.run_store.specs.Heads.{head_behind}
-use Rattle.run_store.specs.Runs.{AreRuns, Kept, cells_in, first_of, parted_as, run_behind}
+use Rattle.run_store.specs.Runs.{AreRuns, RunsView, cells_in, first_of, parted_as, run_behind}
 use Rattle.run_store.specs.Stored.{IsRaisedBy}
 use Rattle.run_store.specs.declared.run.Run.{Run}
 use Rattle.run_store.proofs.CutLemmas.{back-held, cell-fits, cut-room, rest-fresh, rest-marked}
@@ -66,7 +66,7 @@ returns-then-offset-gt0 c =
     let inside = c.requires.inside in
     let held = held-in c.self.view_is run c.requires.held in
     let back = c.hidden.ensures ∙ (λ i. record (c.run_behind.ensures i) { hidden = true }) in
-    subst (λ (z : Kept). HidesPart c.part.result z (record { rope = c.part.new.rope; letters = c.self.inside.letters; count = c.self.inside.count }) (run_behind o run).id
+    subst (λ (z : RunsView). HidesPart c.part.result z (record { rope = c.part.new.rope; letters = c.self.inside.letters; count = c.self.inside.count }) (run_behind o run).id
     (run_behind o run).len) c.self.view_is
     (hides-part _ s run o held some inside (run_behind o run) (back-held _ s run o held some inside) c.part.result c.part.new.rope
     (parted_as run.id c.run_to.result c.hidden.result c.self.inside.rope)
@@ -95,11 +95,11 @@ returns c =
     let all : run.len ≡ run.len - c.args.offset = omega (arith, z) in
     let now = hidden_runs _ s run held in
     let put : c.put.new.self ≡ now.rope = c.put.ensures.put ∙ (λ j. put_under (c.key_of.ensures j) (c.hidden-2.ensures j) i.rope) in
-    let is : ◌≡◌ {A = Kept} (record { rope = c.put.new.self; letters = i.letters; count = i.count }) now = λ j. record { rope = put j; letters = i.letters; count = i.count } in
+    let is : ◌≡◌ {A = RunsView} (record { rope = c.put.new.self; letters = i.letters; count = i.count }) now = λ j. record { rope = put j; letters = i.letters; count = i.count } in
     record {
       ok = ap cells_in is ∙ hiding-cells _ s run held
           ∙ (λ j. cells_hiding (head_behind (z j) (first_of run)).id (all j) (cells_in (c.self.view_is j)));
-      raised = subst (λ (r : Kept). IsRaisedBy 1 (length r.rope) (length c.put.new.self)) c.self.view_is
+      raised = subst (λ (r : RunsView). IsRaisedBy 1 (length r.rope) (length c.put.new.self)) c.self.view_is
           (subst (IsRaisedBy 1 (length i.rope)) (sym (ap length put ∙ hiding-length _ s run held)) (kept-raised 1 (length i.rope)));
       err = tt;
     }

@@ -2,7 +2,7 @@ use Rattle.std.proofs.Common.{arith, length, refl, subst, sym, ◌-◌, ◌≡�
 use Rattle.std.specs.Prelude.{OnOk}
 use Rattle.run_store.specs.Growth.{cells_inserted_behind}
 use Rattle.run_store.specs.Heads.{head_behind, typed_cells}
-use Rattle.run_store.specs.Runs.{Kept, cells_in, first_of}
+use Rattle.run_store.specs.Runs.{RunsView, cells_in, first_of}
 use Rattle.run_store.specs.Stored.{IsRaisedBy}
 use Rattle.run_store.proofs.ContinueLemmas.{next-by, next-is, next-last}
 use Rattle.run_store.proofs.CutLemmas.{cell-fits}
@@ -37,10 +37,11 @@ returns-then-is_continued c =
         ok = subst (λ n. OnOk c.extend.result
             (cells_in c.extend.new.self ≡ cells_inserted_behind (head_behind n (first_of run)).id (typed_cells c.args.head.now c.args.text.now) (cells_in r)))
             e c.extend.ensures.ok;
-        err = where-err (λ (n : Kept). cells_in n ≡ cells_in r) c.extend.result r c.extend.new.self c.extend.ensures.err refl;
+        err = where-err (λ (n : RunsView). cells_in n ≡ cells_in r) c.extend.result r c.extend.new.self c.extend.ensures.err refl;
         raised = on-ok c.extend.result (length c.extend.new.self.rope ≡ length r.rope) (IsRaisedBy 2 (length r.rope) (length c.extend.new.self.rope))
             (λ k. subst (IsRaisedBy 2 (length r.rope)) (sym k) (kept-raised 2 (length r.rope))) c.extend.ensures.kept;
-        refused = where-err (λ (n : Kept). IsRaisedBy 1 (length r.rope) (length n.rope)) c.extend.result r c.extend.new.self c.extend.ensures.err (kept-raised 1 (length r.rope));
+        refused = where-err (λ (n : RunsView). IsRaisedBy 1 (length r.rope) (length n.rope)) c.extend.result r c.extend.new.self c.extend.ensures.err
+            (kept-raised 1 (length r.rope));
       };
       continued = on-ok c.extend.result (length c.extend.new.self.rope ≡ length r.rope) _ (λ k t. k) c.extend.ensures.kept;
     }

@@ -7,7 +7,7 @@ use Rattle.run_store.specs.Changes.{MakesCells}
 use Rattle.run_store.specs.Growth.{inserted_at}
 use Rattle.run_store.specs.Heads.{typed_cells}
 use Rattle.run_store.specs.NewCells.{cell_before, is_continued}
-use Rattle.run_store.specs.Runs.{Kept, cells_in}
+use Rattle.run_store.specs.Runs.{RunsView, cells_in}
 use Rattle.run_store.specs.Stored.{IsRaisedBy}
 use Rattle.run_store.specs.declared.cell.Cell.{Cell}
 use Rattle.run_store.proofs.BeforeLemmas.{first-key, is-behind, is-first}
@@ -37,10 +37,10 @@ returns-in-None-clause-makes c =
     let begun = c.begin.ensures in
     record {
       ok = begun.ok;
-      err = where-err (λ (r : Kept). cells_in r ≡ cells_in old) c.begin.result old new begun.err refl;
+      err = where-err (λ (r : RunsView). cells_in r ≡ cells_in old) c.begin.result old new begun.err refl;
       raised = on-ok c.begin.result (length new.rope ≡ n + 1) (IsRaisedBy 2 n (length new.rope))
           (λ more. raised-more 1 2 n (length new.rope) (omega arith) (one-raised n (length new.rope) more)) begun.raised;
-      refused = where-err (λ (r : Kept). IsRaisedBy 1 n (length r.rope)) c.begin.result old new begun.err (kept-raised 1 n);
+      refused = where-err (λ (r : RunsView). IsRaisedBy 1 n (length r.rope)) c.begin.result old new begun.err (kept-raised 1 n);
     }
 
 pub returns-in-Some-clause-continued : goal.returns-in-Some-clause-continued

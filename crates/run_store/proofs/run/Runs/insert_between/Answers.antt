@@ -3,7 +3,7 @@ use Rattle.std.specs.Prelude.{OnOk}
 use Rattle.fugue_ids.specs.Identifiers.{Identifier}
 use Rattle.run_store.specs.Growth.{cells_inserted_behind, last_id_of_run}
 use Rattle.run_store.specs.Heads.{head_behind, typed_cells}
-use Rattle.run_store.specs.Runs.{Kept, cells_in, first_of}
+use Rattle.run_store.specs.Runs.{RunsView, cells_in, first_of}
 use Rattle.run_store.specs.Stored.{IsRaisedBy}
 use Rattle.run_store.specs.declared.cell.Cell.{Cell}
 use Rattle.run_store.proofs.EitherLemmas.{on-ok, one-raised, raised-twice, where-err}
@@ -31,8 +31,8 @@ returns c =
     record {
       ok = subst (λ (p : Identifier × List Cell). OnOk c.begin.result (cells_in new ≡ cells_inserted_behind p.0 (typed_cells c.args.head.now c.args.text.now) p.1))
           (λ i. (id i, cut.cells i)) begun.ok;
-      err = where-err (λ (r : Kept). cells_in r ≡ cells_in old) c.begin.result parted new begun.err cut.cells;
+      err = where-err (λ (r : RunsView). cells_in r ≡ cells_in old) c.begin.result parted new begun.err cut.cells;
       raised = on-ok c.begin.result (length new.rope ≡ length parted.rope + 1) (IsRaisedBy 2 n (length new.rope))
           (λ more. raised-twice 1 1 n (length parted.rope) (length new.rope) cut.raised (one-raised (length parted.rope) (length new.rope) more)) begun.raised;
-      refused = where-err (λ (r : Kept). IsRaisedBy 1 n (length r.rope)) c.begin.result parted new begun.err cut.raised;
+      refused = where-err (λ (r : RunsView). IsRaisedBy 1 n (length r.rope)) c.begin.result parted new begun.err cut.raised;
     }

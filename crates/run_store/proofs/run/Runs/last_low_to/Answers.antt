@@ -1,7 +1,7 @@
 use Rattle.std.proofs.Common.{ap, arith, sym, take, ◌∙◌}
 use Rattle.fugue_ids.specs.Keys.{last_low}
 use Rattle.run_store.specs.Cells.{keyed_cells}
-use Rattle.run_store.specs.Runs.{Kept, all_cells, letters_of}
+use Rattle.run_store.specs.Runs.{RunsView, all_cells, letters_of}
 use Rattle.run_store.proofs.LowPlaceLemmas.{low-told, none-told}
 use Rattle.run_store.proofs.RunsLemmas.{kept-run, length-letters}
 use Rattle.run_store.proofs.run.Runs.last_low_to.Goals as goal
@@ -22,9 +22,9 @@ returns-in-Some c =
     let k = kept-run _ s y run c.in-Some.ensures.value in
     c.last_low_of.ensures (letters_of r.letters run) (length-letters r.letters r.count (y, run) k)
     ∙ sym (low-told _ s c.args.most (omega arith) c.args.runs c.rank_of.result c.rank_of.ensures y c.in-Some.ensures.low run (sym c.in-Some.ensures.value))
-    ∙ ap (λ (z : Kept). last_low c.args.most (keyed_cells (all_cells z.letters (take c.args.runs z.rope)))) c.self.view_is
+    ∙ ap (λ (z : RunsView). last_low c.args.most (keyed_cells (all_cells z.letters (take c.args.runs z.rope)))) c.self.view_is
 
 pub returns-in-None : goal.returns-in-None
 returns-in-None c =
     sym (none-told _ c.self.invariant c.args.most (omega arith) c.args.runs c.rank_of.result c.rank_of.ensures c.in-None.ensures.low)
-    ∙ ap (λ (z : Kept). last_low c.args.most (keyed_cells (all_cells z.letters (take c.args.runs z.rope)))) c.self.view_is
+    ∙ ap (λ (z : RunsView). last_low c.args.most (keyed_cells (all_cells z.letters (take c.args.runs z.rope)))) c.self.view_is

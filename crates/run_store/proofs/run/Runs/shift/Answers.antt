@@ -3,7 +3,7 @@ use Rattle.std.specs.Prelude.{is_some}
 use Rattle.node_rope.specs.Beside.{put_under, items_rekeyed}
 use Rattle.node_rope.specs.Items.{value_under}
 use Rattle.run_store.specs.Borders.{IsHiding, border_shifted}
-use Rattle.run_store.specs.Runs.{AreRuns, Kept, run_behind, run_to}
+use Rattle.run_store.specs.Runs.{AreRuns, RunsView, run_behind, run_to}
 use Rattle.run_store.specs.declared.run.Run.{Run}
 use Rattle.run_store.proofs.BorderLemmas.{back-held, rest-new, still-held, taken-sound, whole-is}
 use Rattle.run_store.proofs.run.Runs.shift.Goals as goal
@@ -29,13 +29,13 @@ run_behind-rest-requires-clause-fits c =
 pub rekey-requires-clause-held : goal.rekey-requires-clause-held
 rekey-requires-clause-held c =
     let b = c.args.border.now in
-    let hiding = subst (λ (z : Kept). IsHiding z.rope c.requires.0 c.requires.1 b.front b.back b.at) (sym c.self.view_is) c.requires.2 in
+    let hiding = subst (λ (z : RunsView). IsHiding z.rope c.requires.0 c.requires.1 b.front b.back b.at) (sym c.self.view_is) c.requires.2 in
     ap (λ k. is_some (value_under k c.self.inside.rope)) c.key_of.ensures ∙ ap is_some (back-held _ c.self.invariant b.front b.back hiding.border)
 
 pub rekey-requires-clause-fresh : goal.rekey-requires-clause-fresh
 rekey-requires-clause-fresh c =
     let b = c.args.border.now in
-    let hiding = subst (λ (z : Kept). IsHiding z.rope c.requires.0 c.requires.1 b.front b.back b.at) (sym c.self.view_is) c.requires.2 in
+    let hiding = subst (λ (z : RunsView). IsHiding z.rope c.requires.0 c.requires.1 b.front b.back b.at) (sym c.self.view_is) c.requires.2 in
     let rest = c.run_behind-rest.ensures ∙ ap (run_behind b.at) c.together.ensures in
     ap (λ k. is_some (value_under k c.self.inside.rope)) (c.key_of-2.ensures ∙ ap (λ (z : Run). z.id) rest)
     ∙ ap is_some (rest-new _ c.self.invariant b.front b.back hiding.border b.at hiding.move)
@@ -43,7 +43,7 @@ rekey-requires-clause-fresh c =
 pub put-requires : goal.put-requires
 put-requires c =
     let b = c.args.border.now in
-    let hiding = subst (λ (z : Kept). IsHiding z.rope c.requires.0 c.requires.1 b.front b.back b.at) (sym c.self.view_is) c.requires.2 in
+    let hiding = subst (λ (z : RunsView). IsHiding z.rope c.requires.0 c.requires.1 b.front b.back b.at) (sym c.self.view_is) c.requires.2 in
     let rest = c.run_behind-rest.ensures ∙ ap (run_behind b.at) c.together.ensures in
     let key = c.key_of-2.ensures ∙ ap (λ (z : Run). z.id) rest in
     ap (λ k. is_some (value_under k c.rekey.new.self)) c.key_of-in-Ok.ensures
@@ -54,7 +54,7 @@ pub invariant_of-self : goal.invariant_of-self
 invariant_of-self c =
     let i = c.self.inside in
     let b = c.args.border.now in
-    let hiding = subst (λ (z : Kept). IsHiding z.rope c.requires.0 c.requires.1 b.front b.back b.at) (sym c.self.view_is) c.requires.2 in
+    let hiding = subst (λ (z : RunsView). IsHiding z.rope c.requires.0 c.requires.1 b.front b.back b.at) (sym c.self.view_is) c.requires.2 in
     let rest = c.run_behind-rest.ensures ∙ ap (run_behind b.at) c.together.ensures in
     let key = c.key_of-2.ensures ∙ ap (λ (z : Run). z.id) rest in
     let put : c.put.new.self ≡ border_shifted b.at b.front b.back i.rope = c.put.ensures.put
@@ -74,6 +74,6 @@ returns-in-Ok c =
     ∙ (λ j. put_under b.front.id (run_to b.at b.front) (items_rekeyed (c.key_of.ensures j) (key j, rest j) i.rope)) in
     record {
       ok = (λ j. record { rope = put j; letters = i.letters; count = i.count })
-          ∙ ap (λ (z : Kept). record { rope = border_shifted b.at b.front b.back z.rope; letters = z.letters; count = z.count }) c.self.view_is;
+          ∙ ap (λ (z : RunsView). record { rope = border_shifted b.at b.front b.back z.rope; letters = z.letters; count = z.count }) c.self.view_is;
       err = tt;
     }

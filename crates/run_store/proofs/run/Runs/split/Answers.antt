@@ -1,7 +1,7 @@
 use Rattle.std.proofs.Common.{List, ap, ◌∙◌, ◌≡◌}
 use Rattle.std.specs.Prelude.{is_some}
 use Rattle.node_rope.specs.Items.{value_under}
-use Rattle.run_store.specs.Runs.{Kept, rope_parted, parted_as}
+use Rattle.run_store.specs.Runs.{RunsView, rope_parted, parted_as}
 use Rattle.run_store.specs.declared.run.Run.{Run}
 use Rattle.run_store.proofs.CutLemmas.{cell-fits, cut-left, cut-room, rest-fresh}
 use Rattle.run_store.proofs.EitherLemmas.{on-err, on-ok}
@@ -53,10 +53,10 @@ returns c =
     let run = c.args.run.now in
     let i = c.self.inside in
     let now = c.part.new.rope in
-    let with_rope : List Item → Kept = λ xs. record { rope = xs; letters = i.letters; count = i.count } in
+    let with_rope : List Item → RunsView = λ xs. record { rope = xs; letters = i.letters; count = i.count } in
     record {
       ok = on-ok c.part.result (now ≡ parted_as run.id c.run_to.result c.run_behind.result i.rope) _
           (λ q. ap with_rope (q ∙ (λ j. parted_as run.id (c.run_to.ensures j) (c.run_behind.ensures j) i.rope))
-          ∙ ap (λ (z : Kept). record { rope = rope_parted c.args.at run z.rope; letters = z.letters; count = z.count }) c.self.view_is) c.part.ensures.ok;
+          ∙ ap (λ (z : RunsView). record { rope = rope_parted c.args.at run z.rope; letters = z.letters; count = z.count }) c.self.view_is) c.part.ensures.ok;
       err = on-err c.part.result (now ≡ i.rope) _ (λ q. ap with_rope q ∙ c.self.view_is) c.part.ensures.err;
     }

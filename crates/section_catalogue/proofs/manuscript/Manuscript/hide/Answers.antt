@@ -9,7 +9,8 @@ use Rattle.section_catalogue.proofs.UnchangedLemmas.{either, stays, still}
 use Rattle.section_catalogue.proofs.manuscript.Manuscript.hide.Goals as goal
 
 pub hide_at-requires : goal.hide_at-requires
-hide_at-requires c = held_at (contents_of c.self.inside.tables) c.self.invariant.history c.in-Some.place c.args.id c.self.invariant.stands (sym c.home_of.ensures ∙ c.in-Some.is)
+hide_at-requires c = held_at (contents_of c.self.inside.tables) c.self.invariant.history c.in-Some.place c.args.id c.self.invariant.represents
+    (sym c.home_of.ensures ∙ c.in-Some.is)
 
 pub invariant_of-self : goal.invariant_of-self
 invariant_of-self c =
@@ -17,8 +18,11 @@ invariant_of-self c =
     let new = contents_of c.hide_at.new.tables in
     let h = c.self.invariant.history in
     either c.hide_at.result (HidesAt old new c.in-Some.place c.args.id) (IsUnchanged old new) (HasHistory new) c.hide_at.ensures.ok c.hide_at.ensures.err
-    (λ k. record { history = once_hidden c.args.id h; stands = stands_hidden old new c.in-Some.place c.args.id (sym c.home_of.ensures ∙ c.in-Some.is) k h c.self.invariant.stands })
-    (λ u. record { history = h; stands = still old new u h c.self.invariant.stands })
+    (λ k. record {
+      history = once_hidden c.args.id h;
+      represents = stands_hidden old new c.in-Some.place c.args.id (sym c.home_of.ensures ∙ c.in-Some.is) k h c.self.invariant.represents;
+    })
+    (λ u. record { history = h; represents = still old new u h c.self.invariant.represents })
 
 pub returns-in-Some-clause-has_history : goal.returns-in-Some-clause-has_history
 returns-in-Some-clause-has_history c = invariant_of-self c

@@ -17,7 +17,7 @@ hide_run-requires c =
     let m = contents_of c.self.inside.tables in
     let s = c.args.section.now in
     let placed = placed_here m c.args.self.now s c.args.first c.args.count c.self.view_is c.requires.placed in
-    let r = run_held m c.self.invariant.history s c.args.first c.args.count c.self.invariant.stands c.requires.some placed in
+    let r = run_held m c.self.invariant.history s c.args.first c.args.count c.self.invariant.represents c.requires.some placed in
     record { counters = c.requires.counters; there = r.there; held = r.held }
 
 pub invariant_of-self : goal.invariant_of-self
@@ -29,7 +29,7 @@ invariant_of-self c =
     let placed = placed_here m c.args.self.now s x c.args.count c.self.view_is c.requires.placed in
     let h = c.self.invariant.history in
     however c.hide_run.result c.args.count (λ e. e.done) (HidesRun m new s x) (HasHistory new) c.hide_run.ensures.ok c.hide_run.ensures.err c.hide_run.ensures.fewer
-    (λ k l hides. record { history = each_hidden x k h; stands = run_hidden k m new s x (fewer_placed m s x c.args.count k l placed) hides h c.self.invariant.stands })
+    (λ k l hides. record { history = each_hidden x k h; represents = run_hidden k m new s x (fewer_placed m s x c.args.count k l placed) hides h c.self.invariant.represents })
 
 pub returns-clause-has_history : goal.returns-clause-has_history
 returns-clause-has_history c = invariant_of-self c

@@ -19,7 +19,7 @@ add_section-requires c =
     let r = ready_here m c.args.self.now c.args.op.now op c.self.view_is c.in-Section.is c.requires.ready in
     record {
       room = search rules;
-      new = new_in m op c.in-Section.id refl r catalogue m.catalogue refl r.stands.sections;
+      new = new_in m op c.in-Section.id refl r catalogue m.catalogue refl r.represents.sections;
       untitled = no_entry m op c.in-Section.id refl r;
       unplaced = no_place m op c.in-Section.id refl r;
     }
@@ -32,8 +32,11 @@ invariant_of-self c =
     let new = contents_of c.add_section.new.tables in
     either c.add_section.result (AddsSection m new (record { id = c.in-Section.id; left = c.in-Section.left; right = c.in-Section.right }) c.in-Section.title) (IsUnchanged m new)
     (HasHistory new) c.add_section.ensures.ok c.add_section.ensures.err
-    (λ k. record { history = op ∷ r.history; stands = section_stands m new r.history c.in-Section.id c.in-Section.left c.in-Section.right c.in-Section.title r.stands r.ready k })
-    (λ u. record { history = r.history; stands = still m new u r.history r.stands })
+    (λ k. record {
+      history = op ∷ r.history;
+      represents = section_stands m new r.history c.in-Section.id c.in-Section.left c.in-Section.right c.in-Section.title r.represents r.ready k;
+    })
+    (λ u. record { history = r.history; represents = still m new u r.history r.represents })
 
 pub returns-in-Section-clause-has_history : goal.returns-in-Section-clause-has_history
 returns-in-Section-clause-has_history c = invariant_of-self c
@@ -57,7 +60,7 @@ add_run-requires c =
     let m = contents_of c.self.inside.tables in
     let op = Text c.in-Text.id c.in-Text.section c.in-Text.left c.in-Text.right c.in-Text.ch in
     let r = ready_here m c.args.self.now c.args.op.now op c.self.view_is c.in-Text.is c.requires.ready in
-    let asks = run_asks m r.history r.stands c.in-Text.id c.in-Text.section c.in-Text.left c.in-Text.right (c.in-Text.ch ∷ []) (omega arith) (r.ready, tt) in
+    let asks = run_asks m r.history r.represents c.in-Text.id c.in-Text.section c.in-Text.left c.in-Text.right (c.in-Text.ch ∷ []) (omega arith) (r.ready, tt) in
     let counted : place_count m op < MOST_OPERATIONS =
     subst (λ z. place_count z op < MOST_OPERATIONS) (sym c.self.view_is) (subst (λ o. place_count c.args.self.now o < MOST_OPERATIONS) c.in-Text.is c.requires.room) in
     record {
@@ -80,10 +83,10 @@ invariant_of-self-in-Text c =
     (IsUnchanged m new) (HasHistory new) c.add_run.ensures.ok c.add_run.ensures.err
     (λ k. record {
       history = op ∷ r.history;
-      stands = run_stands (c.in-Text.ch ∷ []) m new r.history c.in-Text.id c.in-Text.section c.in-Text.left c.in-Text.right r.stands
+      represents = run_stands (c.in-Text.ch ∷ []) m new r.history c.in-Text.id c.in-Text.section c.in-Text.left c.in-Text.right r.represents
           (r.ready, tt) k;
     })
-    (λ u. record { history = r.history; stands = still m new u r.history r.stands })
+    (λ u. record { history = r.history; represents = still m new u r.history r.represents })
 
 pub returns-in-Text-clause-has_history : goal.returns-in-Text-clause-has_history
 returns-in-Text-clause-has_history c = invariant_of-self-in-Text c

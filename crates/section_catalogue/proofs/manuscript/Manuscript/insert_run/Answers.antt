@@ -17,7 +17,7 @@ add_run-requires c =
     let start = c.args.start.now in
     let text = c.args.text.now in
     let r = all_ready_here m c.args.self.now (run_from start text) c.self.view_is c.requires.ready in
-    let asks = run_asks m r.history r.stands start.id start.section start.left start.right text c.requires.some r.ready in
+    let asks = run_asks m r.history r.represents start.id start.section start.left start.right text c.requires.some r.ready in
     let room : section_count_at m (within start.section) + length text ≤ MOST_OPERATIONS =
     subst (λ (z : Contents). section_count_at z (within start.section) + length text ≤ MOST_OPERATIONS) (sym c.self.view_is) c.requires.room in
     record {
@@ -41,9 +41,9 @@ invariant_of-self c =
     (HasHistory new) c.add_run.ensures.ok c.add_run.ensures.err
     (λ k. record {
       history = history_with r.history (run_from start text);
-      stands = run_stands text m new r.history start.id start.section start.left start.right r.stands r.ready k;
+      represents = run_stands text m new r.history start.id start.section start.left start.right r.represents r.ready k;
     })
-    (λ u. record { history = r.history; stands = still m new u r.history r.stands })
+    (λ u. record { history = r.history; represents = still m new u r.history r.represents })
 
 pub returns-clause-has_history : goal.returns-clause-has_history
 returns-clause-has_history c = invariant_of-self c

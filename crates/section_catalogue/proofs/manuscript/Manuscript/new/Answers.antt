@@ -7,9 +7,9 @@ use Rattle.section_catalogue.specs.Manuscript.{HasHistory, Represents, empty_con
 use Rattle.section_catalogue.proofs.manuscript.Manuscript.new.Goals as goal
 
 -- without elements, it stands for the history of none
-stands : Represents empty_contents []
+represents : Represents empty_contents []
 unfolding order
-stands = record {
+represents = record {
   lawful = tt;
   sections = record {
     in_order = record { are_nodes = tt; in_order = refl; each = All-nil (IsOfNode []) };
@@ -23,7 +23,7 @@ stands = record {
 }
 
 pub invariant_of-result : goal.invariant_of-result
-invariant_of-result c = subst HasHistory (sym c.new.ensures) (record { history = []; stands = stands })
+invariant_of-result c = subst HasHistory (sym c.new.ensures) (record { history = []; represents = represents })
 
 pub returns-clause-has_history : goal.returns-clause-has_history
 returns-clause-has_history c = invariant_of-result c

@@ -1,5 +1,0 @@
-use Rattle.op_frame.proofs.NoteLemmas.{names_done}
-use Rattle.op_frame.proofs.note.judge_names.Goals as goal
-
-pub returns : goal.returns
-returns c = names_done c.args.count c.if-count-gt-MOST_NAMES.false
